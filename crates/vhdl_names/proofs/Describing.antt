@@ -16,7 +16,7 @@ use Rattle.vhdl_names.specs.steps.Outlines.{names_of, one_described, described_o
 abbrev Entry : Type 0
 Entry = Vec ℕ Global × Described
 
-among : (n : Name) (es : List Entry) → is_some (lookup (λ k. bytes_eq n k.items) es) ≡ is_among n (names_of (map keyed_view es))
+pub among : (n : Name) (es : List Entry) → is_some (lookup (λ k. bytes_eq n k.items) es) ≡ is_among n (names_of (map keyed_view es))
 among n [] = refl
 among n (e ∷ es) = by (bytes_eq n e.0.items) (among n es)
   where

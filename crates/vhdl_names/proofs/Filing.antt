@@ -25,7 +25,7 @@ use Rattle.vhdl_names.proofs.Tabling.{names_in}
 
 -- ---- architectures by name
 
-found_keyed : (n : Name) (as' : List (List ContextItem × t.Architecture)) → described_of n (map keyed as') ≡ find (λ a. bytes_eq n a.1.entity.text) as'
+pub found_keyed : (n : Name) (as' : List (List ContextItem × t.Architecture)) → described_of n (map keyed as') ≡ find (λ a. bytes_eq n a.1.entity.text) as'
 found_keyed n [] = refl
 found_keyed n (a ∷ as') = by (bytes_eq n a.1.entity.text) (found_keyed n as')
   where
@@ -43,7 +43,7 @@ each_same f g h (x ∷ xs) =
 
 -- ---- entities
 
-entity_name : (items : List ContextItem) (e : t.Entity) (a : Option Name) (v : EntityView) → entity items e a ≡ Some v → v.name ≡ e.name.text
+pub entity_name : (items : List ContextItem) (e : t.Entity) (a : Option Name) (v : EntityView) → entity items e a ≡ Some v → v.name ≡ e.name.text
 unfolding entity
 entity_name items e a v h =
     let c = comes (context no_context items) _ v h in

@@ -1,7 +1,14 @@
 pub mod Behind
+pub mod Bodies
+pub mod Described
 pub mod Describing
+pub mod Entering
+pub mod Filed
 pub mod Filing
+pub mod Labels
 pub mod Outlining
+pub mod Passing
+pub mod Past
 pub mod Seeing
 pub mod Tabling
 pub mod Walking

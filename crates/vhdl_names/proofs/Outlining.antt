@@ -19,16 +19,16 @@ use Rattle.vhdl_names.specs.steps.Outlines.{keyed, names_of, one_described, with
 -- ---- architectures after their entities
 
 -- architectures are of names that stand before them
-abbrev placed : List Name → List DesignUnit → Bool
+abbrev pub placed : List Name → List DesignUnit → Bool
 placed ns [] = true
 placed ns (d ∷ ds) = list_all (λ n. is_among n ns) (described_names (d ∷ [])) && placed (ns ++ entity_names (d ∷ [])) ds
 
-names-append : (ds es : List DesignUnit) → entity_names (ds ++ es) ≡ entity_names ds ++ entity_names es
+pub names-append : (ds es : List DesignUnit) → entity_names (ds ++ es) ≡ entity_names ds ++ entity_names es
 names-append ds es =
     ap (map (λ (e : List ContextItem × t.Entity). e.1.name.text)) (filter_map-append as_entity ds es)
     ∙ map-append (λ (e : List ContextItem × t.Entity). e.1.name.text) (entities_of ds) (entities_of es)
 
-placed_from : (before ds : List DesignUnit) → list_all (stands_after (before ++ ds)) (enumerate_from (length before) ds) ≡ placed (entity_names before) ds
+pub placed_from : (before ds : List DesignUnit) → list_all (stands_after (before ++ ds)) (enumerate_from (length before) ds) ≡ placed (entity_names before) ds
 placed_from before [] = refl
 placed_from before (d ∷ ds) =
     ap (λ l. list_all (λ n. is_among n (entity_names l)) (described_names (d ∷ [])) && list_all (stands_after (before ++ d ∷ ds)) (enumerate_from (length before + 1) ds))

@@ -1,2 +1,3 @@
+pub mod Breaking
 pub mod Views
 pub mod steps

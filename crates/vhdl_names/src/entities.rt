@@ -1,12 +1,16 @@
 //! The entities of a file (IEEE 1076-2008, 3.2 and 13.1).
 
-ghost use Rattle.std.specs.Prelude.{◌≡◌, [], map, option_map};
+ghost use Rattle.std.specs.Prelude.{◌≡◌, ◌≢◌, IfErr, [], map, option_map};
 ghost use Rattle.vhdl_names_labels.specs.Lists.{in_turn};
+ghost use Rattle.vhdl_names.specs.Breaking as breaking;
 ghost use Rattle.vhdl_names.specs.Views.{architectures_view};
 ghost use Rattle.vhdl_names.specs.steps.Entities as steps;
 ghost use Rattle.vhdl_names.specs.steps.Outlines.{described_of};
 ghost use Rattle.vhdl_names_interfaces.specs.Views.{entities_view};
+ghost use Rattle.vhdl_names_problems.specs.Broken.{Tells};
 ghost use Rattle.vhdl_names_rules.specs.Gives.{Gives};
+ghost use Rattle.vhdl_names_rules.specs.declared.fault.NameFault.TheVariants.{NoMemory};
+ghost use Rattle.vhdl_tree.specs.Tree as t;
 ghost use Rattle.vhdl_tree.specs.View as view;
 
 use crate::outline::{Outline, architecture_of};
@@ -35,8 +39,11 @@ fn add_viewed<'a>(
     items: &[ContextItem],
     tree: &'a Entity,
 ) -> Result<(), NameFault>
-    ensures { Gives (λ _. entities_view entities.new) (steps.with_entity (architectures_view outline.now.architectures) (entities_view entities.old)
+    ensures given { Gives (λ _. entities_view entities.new) (steps.with_entity (architectures_view outline.now.architectures) (entities_view entities.old)
         (map view.context_view items.now) (view.entity_view tree.now)) result }
+    ensures told { IfErr result (Tells (breaking.one_entity (entities_view entities.old) (map view.context_view items.now)
+        (t.LibraryUnit.entity (view.entity_view tree.now)))) }
+    ensures kept { IfErr result (λ f. f ≢ NoMemory → entities_view entities.new ≡ entities_view entities.old) }
 {
     let architecture = architecture_name(outline, &tree.name.text);
     let viewed = entity(alloc, items, tree, architecture)?;
@@ -50,8 +57,10 @@ pub fn add_unit<'a>(
     outline: &Outline<'a>,
     unit: &'a DesignUnit,
 ) -> Result<(), NameFault>
-    ensures { Gives (λ _. entities_view entities.new)
+    ensures given { Gives (λ _. entities_view entities.new)
         (steps.with_unit (architectures_view outline.now.architectures) (entities_view entities.old) (view.unit_view unit.now)) result }
+    ensures told { IfErr result (Tells (breaking.one_entity (entities_view entities.old) (view.unit_view unit.now).context (view.unit_view unit.now).unit)) }
+    ensures kept { IfErr result (λ f. f ≢ NoMemory → entities_view entities.new ≡ entities_view entities.old) }
 {
     match &unit.unit {
         LibraryUnit::Entity(tree) => add_viewed(alloc, entities, outline, &unit.context, tree),
@@ -66,7 +75,8 @@ pub fn entities_of<'a>(
     file: &'a File,
     outline: &Outline<'a>,
 ) -> Result<Entities<'a>, NameFault>
-    ensures { Gives entities_view (in_turn (steps.with_unit (architectures_view outline.now.architectures)) [] (view.units_view file.now.units)) result }
+    ensures given { Gives entities_view (in_turn (steps.with_unit (architectures_view outline.now.architectures)) [] (view.units_view file.now.units)) result }
+    ensures told { IfErr result (Tells (breaking.entities (view.units_view file.now.units))) }
 {
     let mut entities = IndexMap::new(alloc);
     for unit in &file.units {

@@ -1,12 +1,16 @@
 //! The entities and architectures of a file, before they are analysed (IEEE 1076-2008, 3.2, 3.3 and 13.1).
 
-ghost use Rattle.std.specs.Prelude.{◌≡◌, map, option_map, bytes_eq, find};
+ghost use Rattle.std.specs.Prelude.{◌≡◌, IfErr, OnErr, not, map, option_map, bytes_eq, find};
 ghost use Rattle.vhdl_names_labels.specs.Lists.{in_turn};
 ghost use Rattle.vhdl_names_labels.specs.Once.{names_view};
+ghost use Rattle.vhdl_names.specs.Breaking as breaking;
 ghost use Rattle.vhdl_names.specs.Views.{described_view, outline_view, architectures_view};
 ghost use Rattle.vhdl_names.specs.steps.Outlines as steps;
+ghost use Rattle.vhdl_names_problems.specs.Broken.{Tells, unless};
 ghost use Rattle.vhdl_names_rules.specs.Gives.{Gives};
 ghost use Rattle.vhdl_names_rules.specs.Visibility.{is_among};
+ghost use Rattle.vhdl_names_rules.specs.declared.fault.NameProblem.TheVariants.{SecondArchitecture};
+ghost use Rattle.vhdl_tree.specs.Tree as t;
 ghost use Rattle.vhdl_tree.specs.View as view;
 
 use indexmap::{IndexMap, IndexSet};
@@ -38,7 +42,10 @@ fn add_described<'a>(
     architectures: &mut Architectures<'a>,
     described: Described<'a>,
 ) -> Result<(), NameFault>
-    ensures { Gives (λ _. architectures_view architectures.new) (steps.one_described (architectures_view architectures.old) (described_view described.entry)) result }
+    ensures given { Gives (λ _. architectures_view architectures.new) (steps.one_described (architectures_view architectures.old) (described_view described.entry)) result }
+    ensures told { IfErr result (Tells (unless SecondArchitecture (not (is_among (described_view described.entry).1.entity.text
+        (steps.names_of (architectures_view architectures.old)))))) }
+    ensures kept { OnErr result (architectures_view architectures.new ≡ architectures_view architectures.old) }
 {
     let entity = &described.tree.entity;
     if architectures.contains_key(entity.text.as_slice()) {
@@ -58,7 +65,9 @@ fn has_name(names: &Names, name: &[u8]) -> bool
 
 /// One more entity, whose name none before it has.
 fn add_entity(alloc: Global, outline: &mut Outline<'_>, tree: &Entity) -> Result<(), NameFault>
-    ensures { Gives (λ _. outline_view outline.new) (steps.with_entity (outline_view outline.old) (view.entity_view tree.now)) result }
+    ensures given { Gives (λ _. outline_view outline.new) (steps.with_entity (outline_view outline.old) (view.entity_view tree.now)) result }
+    ensures told { IfErr result (Tells (breaking.one_unit (outline_view outline.old) (t.LibraryUnit.entity (view.entity_view tree.now)))) }
+    ensures kept { OnErr result (outline_view outline.new ≡ outline_view outline.old) }
 {
     add_name(alloc, &mut outline.entities, &tree.name.text, tree.name.at)
 }
@@ -70,8 +79,10 @@ fn add_architecture<'a>(
     items: &'a [ContextItem],
     tree: &'a Architecture,
 ) -> Result<(), NameFault>
-    ensures { Gives (λ _. outline_view outline.new)
+    ensures given { Gives (λ _. outline_view outline.new)
         (steps.with_architecture (outline_view outline.old) (map view.context_view items.entry.now) (view.architecture_view tree.entry.now)) result }
+    ensures told { IfErr result (Tells (breaking.one_unit (outline_view outline.old) (t.architecture (view.architecture_view tree.entry.now)))) }
+    ensures kept { OnErr result (outline_view outline.new ≡ outline_view outline.old) }
 {
     if !has_name(&outline.entities, &tree.entity.text) {
         return Err(NameProblem::Undeclared.at(tree.entity.at));
@@ -85,7 +96,9 @@ pub fn add_unit<'a>(
     outline: &mut Outline<'a>,
     unit: &'a DesignUnit,
 ) -> Result<(), NameFault>
-    ensures { Gives (λ _. outline_view outline.new) (steps.with_unit (outline_view outline.old) (view.unit_view unit.now)) result }
+    ensures given { Gives (λ _. outline_view outline.new) (steps.with_unit (outline_view outline.old) (view.unit_view unit.now)) result }
+    ensures told { IfErr result (Tells (breaking.one_unit (outline_view outline.old) (view.unit_view unit.now).unit)) }
+    ensures kept { OnErr result (outline_view outline.new ≡ outline_view outline.old) }
 {
     match &unit.unit {
         LibraryUnit::Entity(tree) => add_entity(alloc, outline, tree),
@@ -95,7 +108,8 @@ pub fn add_unit<'a>(
 
 /// The units of a file one after another.
 fn outline_in_turn<'a>(alloc: Global, file: &'a File) -> Result<Outline<'a>, NameFault>
-    ensures { Gives outline_view (in_turn steps.with_unit steps.no_outline (view.units_view file.now.units)) result }
+    ensures given { Gives outline_view (in_turn steps.with_unit steps.no_outline (view.units_view file.now.units)) result }
+    ensures told { IfErr result (Tells (breaking.outline (view.units_view file.now.units))) }
 {
     let mut outline = Outline {
         entities: IndexSet::new(alloc),
@@ -112,7 +126,8 @@ fn outline_in_turn<'a>(alloc: Global, file: &'a File) -> Result<Outline<'a>, Nam
 /// not hold. It takes the memory of the names.
 #[tactic(auto, using(crate::proofs::Outlining::outlined_in_turn))]
 pub fn outline_of<'a>(alloc: Global, file: &'a File) -> Result<Outline<'a>, NameFault>
-    ensures { Gives outline_view (steps.outlined (view.units_view file.now.units)) result }
+    ensures given { Gives outline_view (steps.outlined (view.units_view file.now.units)) result }
+    ensures told { IfErr result (Tells (breaking.outline (view.units_view file.now.units))) }
 {
     outline_in_turn(alloc, file)
 }

@@ -1,13 +1,17 @@
 //! The units of a file (IEEE 1076-2008, clause 13).
 
-ghost use Rattle.std.specs.Prelude.{◌≡◌, IfOk, drop, map, option_map};
+ghost use Rattle.std.specs.Prelude.{◌≡◌, IfOk, IfErr, List, drop, map, option_map};
 ghost use Rattle.std.specs.Vec.Iter.{into_iter_items};
 ghost use Rattle.vhdl_names.specs.Views.{architectures_view};
 ghost use Rattle.vhdl_names.specs.steps.Architectures.{options_view};
+ghost use Rattle.vhdl_names.specs.steps.Outlines.{keyed};
 ghost use Rattle.vhdl_names.specs.steps.Units as steps;
 ghost use Rattle.vhdl_names_interfaces.specs.Views.{entities_view, named_view};
+ghost use Rattle.vhdl_names_problems.specs.Broken.{Tells, any_of};
+ghost use Rattle.vhdl_names_problems.specs.Files as broken;
 ghost use Rattle.vhdl_names_rules.specs.Files.{units_of};
 ghost use Rattle.vhdl_names_rules.specs.Gives.{Gives};
+ghost use Rattle.vhdl_tree.specs.Tree as t;
 ghost use Rattle.vhdl_tree.specs.View.{file_view};
 ghost use Rattle.vhdl_names_units.specs.views.Units as views;
 
@@ -76,7 +80,9 @@ fn units(
     entities: Entities<'_>,
     outline: &Outline<'_>,
 ) -> Result<Vec<Entity>, NameFault>
-    ensures { Gives (λ v. map views.entity_view v.items) (steps.units (entities_view entities.entry) (architectures_view outline.now.architectures)) result }
+    ensures given { Gives (λ v. map views.entity_view v.items) (steps.units (entities_view entities.entry) (architectures_view outline.now.architectures)) result }
+    ensures told { (all : List (List t.ContextItem × t.Architecture)) → architectures_view outline.now.architectures ≡ map keyed all
+        → IfErr result (Tells (any_of (broken.described (entities_view entities.entry)) all)) }
 {
     let formals = table(alloc, &entities)?;
     let architectures = architectures_of(alloc, &entities, &formals, outline)?;
@@ -87,7 +93,8 @@ fn units(
 /// first rule that is broken in this order is told.
 #[tactic(auto, using(crate::proofs::Filing::in_order))]
 fn units_in_turn(alloc: Global, file: &File) -> Result<Units, NameFault>
-    ensures { Gives views.units_view (units_of (file_view file.now)) result }
+    ensures given { Gives views.units_view (units_of (file_view file.now)) result }
+    ensures told { IfErr result (Tells (broken.file (file_view file.now))) }
 {
     let outline = outline_of(alloc, file)?;
     let entities = entities_of(alloc, file, &outline)?;
@@ -103,7 +110,8 @@ fn units_in_turn(alloc: Global, file: &File) -> Result<Units, NameFault>
 /// where the entity is at fault. It takes memory for what is declared in the file and analysed of
 /// it; a file that is refused is read twice.
 pub fn analyse(alloc: Global, file: &File) -> Result<Units, NameFault>
-    ensures { Gives views.units_view (units_of (file_view file.now)) result }
+    ensures given { Gives views.units_view (units_of (file_view file.now)) result }
+    ensures told { IfErr result (Tells (broken.file (file_view file.now))) }
 {
     match units_in_turn(alloc, file) {
         Ok(units) => Ok(units),

@@ -1,4 +1,6 @@
 pub mod Alike
 pub mod Chained
 pub mod Forms
+pub mod Naming
+pub mod Telling
 pub mod Standing

@@ -1,6 +1,6 @@
 //! Components (IEEE 1076-2008, 6.8).
 
-ghost use Rattle.std.specs.Prelude.{◌≡◌, ◌&&◌, [], OnOk, IfErr};
+ghost use Rattle.std.specs.Prelude.{◌≡◌, ◌&&◌, ◌∷◌, [], OnOk, IfErr};
 ghost use Rattle.vhdl_names_components.specs.Components as spec;
 ghost use Rattle.vhdl_names_declarations.specs.Entered.{entering};
 ghost use Rattle.vhdl_names_interfaces.specs.Views.{entities_view};
@@ -12,6 +12,9 @@ ghost use Rattle.vhdl_names_rules.specs.declared.fault.NameFault.TheVariants.{At
 ghost use Rattle.vhdl_names_rules.specs.declared.fault.NameProblem.TheVariants.{Twice, WrongKind};
 ghost use Rattle.vhdl_tree.specs.View.{component_view, option_generics_view, option_ports_view};
 ghost use Rattle.vhdl_names_types.specs.Views.{region_view, sight_view};
+ghost use Rattle.vhdl_names_problems.specs.Broken.{Tells, ◌∪◌, is_of, unless};
+ghost use Rattle.vhdl_names_problems.specs.Interfaces as broken;
+ghost use Rattle.vhdl_names_declarations.specs.Standing.{standing_twice};
 
 use crate::interfaces::has_interface;
 use std::alloc::Global;
@@ -26,6 +29,7 @@ use vhdl_tree::{Component, Entity, Identifier};
 fn is_new(region: &Region, name: &Identifier) -> Result<(), NameFault>
     ensures given { Gives (λ x. x) (spec.is_new (region_view region.now) name.now.text.items) result }
     ensures fault { IfErr result (λ f. f ≡ At Twice name.now.at) }
+    ensures told { IfErr result (Tells (is_of (Twice ∷ []))) }
 {
     let _apart = region.len();
     if region.contains_key(name.text.as_slice()) {
@@ -40,6 +44,8 @@ fn is_entity(component: &Component, entity: &Entity) -> Result<(), NameFault>
     ensures given { Gives (λ x. x) (rule WrongKind (same_generics (option_generics_view component.now.generics) (option_generics_view entity.now.generics)
         && same_ports (option_ports_view component.now.ports) (option_ports_view entity.now.ports))) result }
     ensures fault { IfErr result (λ f. f ≡ At WrongKind component.now.name.at) }
+    ensures told { IfErr result (Tells (unless WrongKind (same_generics (option_generics_view component.now.generics) (option_generics_view entity.now.generics)
+        && same_ports (option_ports_view component.now.ports) (option_ports_view entity.now.ports)))) }
 {
     if has_interface(component, entity) {
         Ok(())
@@ -55,6 +61,7 @@ fn own_region(alloc: Global, sight: &mut Sight, component: &Component) -> Result
     ensures given { Gives (λ x. x) (spec.has_interface (sight_view sight.old) (component_view component.now)) result }
     ensures kept { OnOk result (sight_view sight.new ≡ sight_view sight.old) }
     ensures outermost { OnOk result (region_view sight.new.enclosing ≡ []) }
+    ensures told { IfErr result (Tells (broken.interface (spec.inner (sight_view sight.old)) (component_view component.now).generics (component_view component.now).ports)) }
 {
     mem::swap(&mut sight.region, &mut sight.enclosing);
     let _interface = interface_of(alloc, sight, &component.generics, &component.ports)?;
@@ -77,6 +84,8 @@ pub fn component(
     ensures given { Gives (λ _. (sight_view sight.new, []))
         (entering (rules.component (entities_view entities.now)) (sight_view sight.old) (component_view component.now)) result }
     ensures outermost { OnOk result (region_view sight.new.enclosing ≡ []) }
+    ensures told { IfErr result (Tells (broken.component (entities_view entities.now) (sight_view sight.old) (component_view component.now)
+        ∪ standing_twice (sight_view sight.old).region ((component_view component.now).name.text ∷ []))) }
 {
     let name = &component.name;
     is_new(&sight.region, name)?;

@@ -19,6 +19,12 @@ use Rattle.vhdl_names_labels.proofs.Lists.{bound}
 use Rattle.vhdl_names_concurrent.specs.steps.Concurrents as steps
 use Rattle.vhdl_names_concurrent.specs.steps.Concurrents.{in_generate}
 
+pub generate_is : (g : Generate) → tree.concurrent_view (c.Generate g)
+    ≡ t.generated (tree.ident_view (out-Generate g).label) (out-Generate g).at (tree.scheme_view (out-Generate g).scheme) (out-Generate g).begin_word
+    (t.concurrents_of (tree.concurrents_view (out-Generate g).statements)) (tree.option_ident_view (out-Generate g).end_label)
+generate_is g =
+    view_generate (out-Generate g).label (out-Generate g).at (out-Generate g).scheme (out-Generate g).begin_word (out-Generate g).statements (out-Generate g).end_label
+
 module _ (f : Sight → Ident → t.Instance → Option u.Instance) where
   each_statement : (sight : Sight) (cs : List t.Concurrent) → steps.concurrents f sight (t.concurrents_of cs) ≡ option_map concurrents_of (steps.all f sight cs)
   each_statement sight [] = refl
@@ -51,12 +57,6 @@ module _ (f : Sight → Ident → t.Instance → Option u.Instance) where
       go false true None = refl
       go false true (Some xs) = refl
       go false false o = refl
-
-  generate_is : (g : Generate) → tree.concurrent_view (c.Generate g)
-      ≡ t.generated (tree.ident_view (out-Generate g).label) (out-Generate g).at (tree.scheme_view (out-Generate g).scheme) (out-Generate g).begin_word
-      (t.concurrents_of (tree.concurrents_view (out-Generate g).statements)) (tree.option_ident_view (out-Generate g).end_label)
-  generate_is g =
-      view_generate (out-Generate g).label (out-Generate g).at (out-Generate g).scheme (out-Generate g).begin_word (out-Generate g).statements (out-Generate g).end_label
 
   pub generate_gives : (sight : Sight) (g : Generate) → steps.concurrent f sight (tree.concurrent_view (c.Generate g))
       ≡ steps.generate f sight (tree.ident_view (out-Generate g).label) (tree.scheme_view (out-Generate g).scheme) (tree.concurrents_view (out-Generate g).statements)

@@ -2,3 +2,4 @@ pub mod Generating
 pub mod Labelling
 pub mod Resuming
 pub mod Running
+pub mod Told

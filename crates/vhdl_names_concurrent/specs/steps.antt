@@ -1,3 +1,4 @@
 pub mod Concurrents
 pub mod Labels
 pub mod Processes
+pub mod Told

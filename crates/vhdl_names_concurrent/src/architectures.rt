@@ -1,10 +1,13 @@
 //! Concurrent statements (IEEE 1076-2008, clause 11).
 
-ghost use Rattle.std.specs.Prelude.{◌≡◌, List, [], map, Some, OnOk, OnErr};
+ghost use Rattle.std.specs.Prelude.{◌≡◌, List, [], map, IfErr, Some, OnOk, OnErr};
 ghost use Rattle.vhdl_names_instances.specs.Table.{AreEntities, seens_view};
 ghost use Rattle.vhdl_names_concurrent.specs.steps.Concurrents as steps;
 ghost use Rattle.vhdl_names_instances.specs.steps.Instances.{instance as instance_of};
 ghost use Rattle.vhdl_names_labels.specs.Once.{names_view};
+ghost use Rattle.vhdl_names_concurrent.specs.steps.Told as told;
+ghost use Rattle.vhdl_names_problems.specs.Broken.{Tells, nothing};
+ghost use Rattle.vhdl_names_problems.specs.Concurrent as broken;
 ghost use Rattle.vhdl_names_rules.specs.Concurrent as rules;
 ghost use Rattle.vhdl_names_rules.specs.Gives.{Gives};
 ghost use Rattle.vhdl_names_rules.specs.Interfaces.{EntityView};
@@ -34,7 +37,8 @@ fn enter_parameter(
     sight: &mut Sight,
     parameter: &Identifier,
 ) -> Result<(), NameFault>
-    ensures { Gives (λ _. sight_view sight.new) (Some (visibility.within_generate (sight_view sight.old) (tree.ident_view parameter.now))) result }
+    ensures given { Gives (λ _. sight_view sight.new) (Some (visibility.within_generate (sight_view sight.old) (tree.ident_view parameter.now))) result }
+    ensures told { IfErr result (Tells (nothing)) }
 {
     let meaning = Meaning::GenerateParameter(sight.generates.len());
     let name = parameter.text.to_vec(alloc)?;
@@ -48,7 +52,8 @@ fn enter_generate(
     sight: &mut Sight,
     scheme: &syntax::Scheme,
 ) -> Result<(), NameFault>
-    ensures { Gives (λ _. sight_view sight.new) (Some (rules.sight_within (sight_view sight.old) (tree.scheme_view scheme.now))) result }
+    ensures given { Gives (λ _. sight_view sight.new) (Some (rules.sight_within (sight_view sight.old) (tree.scheme_view scheme.now))) result }
+    ensures told { IfErr result (Tells (nothing)) }
 {
     match scheme {
         syntax::Scheme::For { parameter, .. } => enter_parameter(alloc, sight, parameter),
@@ -86,6 +91,8 @@ fn statements(
     ensures given { Gives views.concurrents_view (steps.all (instance_of (names_view entities.now.names) (seens_view entities.now.formals))
         (sight_view sight.old) (map tree.concurrent_view list.now)) result }
     ensures kept { OnOk result (sight_view sight.new ≡ sight_view sight.old) }
+    ensures told { (all : List EntityView) → AreEntities entities.now all
+        → IfErr result (Tells (broken.concurrents all (sight_view sight.old) (t.concurrents_of (map tree.concurrent_view list.now)))) }
 {
     let mut all = Vec::new(alloc);
     for item in list {
@@ -97,6 +104,7 @@ fn statements(
 
 /// A statement.
 #[cycle(concurrent)]
+#[tactic(auto, unfolding(vhdl_names_problems::specs::Concurrent::concurrent))]
 fn statement(
     alloc: Global,
     entities: &InstanceEntities,
@@ -107,6 +115,8 @@ fn statement(
     ensures given { Gives views.concurrent_view (steps.concurrent (instance_of (names_view entities.now.names) (seens_view entities.now.formals))
         (sight_view sight.old) (tree.concurrent_view item.now)) result }
     ensures kept { OnOk result (sight_view sight.new ≡ sight_view sight.old) }
+    ensures told { (all : List EntityView) → AreEntities entities.now all
+        → IfErr result (Tells (broken.concurrent all (sight_view sight.old) (tree.concurrent_view item.now))) }
 {
     match item {
         syntax::Concurrent::Assignment(written) => {
@@ -140,6 +150,8 @@ fn labelled(
     ensures given { Gives views.concurrents_view (steps.labelled (instance_of (names_view entities.now.names) (seens_view entities.now.formals))
         (sight_view sight.old) (map tree.concurrent_view list.now)) result }
     ensures kept { OnOk result (sight_view sight.new ≡ sight_view sight.old) }
+    ensures told { (all : List EntityView) → AreEntities entities.now all
+        → IfErr result (Tells (told.labelled all (sight_view sight.old) (map tree.concurrent_view list.now))) }
 {
     let all = statements(alloc, entities, sight, list);
     match labels_are_distinct(alloc, list) {
@@ -161,6 +173,9 @@ fn generate(
         (sight_view sight.old) (tree.ident_view (out-Generate written.now).label) (tree.scheme_view (out-Generate written.now).scheme)
         (tree.concurrents_view (out-Generate written.now).statements) (tree.option_ident_view (out-Generate written.now).end_label)) result }
     ensures kept { OnOk result (sight_view sight.new ≡ sight_view sight.old) }
+    ensures told { (all : List EntityView) → AreEntities entities.now all
+        → IfErr result (Tells (told.generate all (sight_view sight.old) (tree.ident_view (out-Generate written.now).label) (tree.scheme_view (out-Generate written.now).scheme)
+        (tree.concurrents_view (out-Generate written.now).statements) (tree.option_ident_view (out-Generate written.now).end_label))) }
 {
     let by = scheme(alloc, sight, &written.scheme)?;
     enter_generate(alloc, sight, &written.scheme)?;
@@ -184,6 +199,8 @@ pub fn concurrents(
     ensures given { (all : List EntityView) → AreEntities entities.now all
         → Gives steps.body_view (rules.concurrents all (sight_view sight.old) (t.concurrents_of (map tree.concurrent_view list.now))) result }
     ensures kept { OnOk result (sight_view sight.new ≡ sight_view sight.old) }
+    ensures told { (all : List EntityView) → AreEntities entities.now all
+        → IfErr result (Tells (broken.concurrents all (sight_view sight.old) (t.concurrents_of (map tree.concurrent_view list.now)))) }
 {
     statements(alloc, entities, sight, list)
 }

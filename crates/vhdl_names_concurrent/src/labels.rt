@@ -1,9 +1,10 @@
 //! The labels inside a process, however deep they stand (IEEE 1076-2008, 10.1).
 
-ghost use Rattle.std.specs.Prelude.{◌≡◌, map};
+ghost use Rattle.std.specs.Prelude.{◌≡◌, ◌∷◌, [], IfErr, map};
 ghost use Rattle.vhdl_names_concurrent.specs.steps.Labels as steps;
 ghost use Rattle.vhdl_names_labels.specs.Lists.{in_turn};
 ghost use Rattle.vhdl_names_labels.specs.Once.{names_view, one_name};
+ghost use Rattle.vhdl_names_problems.specs.Broken.{Tells, is_of, unless};
 ghost use Rattle.vhdl_names_rules.specs.Gives.{Gives};
 ghost use Rattle.vhdl_names_rules.specs.declared.fault.NameProblem.TheVariants.{Twice};
 ghost use Rattle.vhdl_names_rules.specs.Rules.{rule};
@@ -24,7 +25,8 @@ use vhdl_tree::Identifier;
 
 /// A label, if there is one, which none before it is.
 fn label(alloc: Global, taken: &mut Names, label: &Option<Identifier>) -> Result<(), NameFault>
-    ensures { Gives (λ _. names_view taken.new) (in_turn one_name (names_view taken.old) (rules.label_names (tree.option_ident_view label.now))) result }
+    ensures given { Gives (λ _. names_view taken.new) (in_turn one_name (names_view taken.old) (rules.label_names (tree.option_ident_view label.now))) result }
+    ensures told { IfErr result (Tells (is_of (Twice ∷ []))) }
 {
     match label {
         None => Ok(()),
@@ -39,7 +41,8 @@ fn of_statements(
     taken: &mut Names,
     list: &[syntax::Sequential],
 ) -> Result<(), NameFault>
-    ensures { Gives (λ _. names_view taken.new) (steps.with_statements (names_view taken.old) (map tree.sequential_view list.now)) result }
+    ensures given { Gives (λ _. names_view taken.new) (steps.with_statements (names_view taken.old) (map tree.sequential_view list.now)) result }
+    ensures told { IfErr result (Tells (is_of (Twice ∷ []))) }
 {
     for item in list {
         of_statement(alloc, taken, item)?;
@@ -55,7 +58,8 @@ fn of_statement(
     taken: &mut Names,
     item: &syntax::Sequential,
 ) -> Result<(), NameFault>
-    ensures { Gives (λ _. names_view taken.new) (steps.with_statement (names_view taken.old) (tree.sequential_view item.now)) result }
+    ensures given { Gives (λ _. names_view taken.new) (steps.with_statement (names_view taken.old) (tree.sequential_view item.now)) result }
+    ensures told { IfErr result (Tells (is_of (Twice ∷ []))) }
 {
     label(alloc, taken, &item.label)?;
     inside(alloc, taken, &item.statement)
@@ -64,7 +68,8 @@ fn of_statement(
 /// The labels inside a statement.
 #[cycle(labels)]
 fn inside(alloc: Global, taken: &mut Names, statement: &syntax::Statement) -> Result<(), NameFault>
-    ensures { Gives (λ _. names_view taken.new) (in_turn one_name (names_view taken.old) (rules.inner_labels (tree.statement_view statement.now))) result }
+    ensures given { Gives (λ _. names_view taken.new) (in_turn one_name (names_view taken.old) (rules.inner_labels (tree.statement_view statement.now))) result }
+    ensures told { IfErr result (Tells (is_of (Twice ∷ []))) }
 {
     match statement {
         syntax::Statement::Null { .. } => Ok(()),
@@ -79,8 +84,9 @@ fn inside(alloc: Global, taken: &mut Names, statement: &syntax::Statement) -> Re
 /// The labels inside an if statement.
 #[cycle(labels)]
 fn of_if(alloc: Global, taken: &mut Names, conditional: &syntax::If) -> Result<(), NameFault>
-    ensures { Gives (λ _. names_view taken.new) (steps.with_if (names_view taken.old)
+    ensures given { Gives (λ _. names_view taken.new) (steps.with_if (names_view taken.old)
         (tree.conditionals_view (out-If conditional.now).branches) (tree.option_sequentials_view (out-If conditional.now).otherwise)) result }
+    ensures told { IfErr result (Tells (is_of (Twice ∷ []))) }
 {
     of_branches(alloc, taken, &conditional.branches)?;
     match &conditional.otherwise {
@@ -96,7 +102,8 @@ fn of_branches(
     taken: &mut Names,
     list: &[syntax::Conditional],
 ) -> Result<(), NameFault>
-    ensures { Gives (λ _. names_view taken.new) (in_turn steps.with_branch (names_view taken.old) (map tree.conditional_view list.now)) result }
+    ensures given { Gives (λ _. names_view taken.new) (in_turn steps.with_branch (names_view taken.old) (map tree.conditional_view list.now)) result }
+    ensures told { IfErr result (Tells (is_of (Twice ∷ []))) }
 {
     for item in list {
         of_statements(alloc, taken, &item.statements)?;
@@ -107,8 +114,9 @@ fn of_branches(
 /// The labels inside a case statement.
 #[cycle(labels)]
 fn of_case(alloc: Global, taken: &mut Names, case: &syntax::Case) -> Result<(), NameFault>
-    ensures { Gives (λ _. names_view taken.new) (in_turn steps.with_alternative (names_view taken.old)
+    ensures given { Gives (λ _. names_view taken.new) (in_turn steps.with_alternative (names_view taken.old)
         (tree.alternatives_view (out-Case case.now).alternatives)) result }
+    ensures told { IfErr result (Tells (is_of (Twice ∷ []))) }
 {
     for item in &case.alternatives {
         of_statements(alloc, taken, &item.statements)?;
@@ -119,7 +127,8 @@ fn of_case(alloc: Global, taken: &mut Names, case: &syntax::Case) -> Result<(), 
 /// The labels inside a loop.
 #[cycle(labels)]
 fn of_loop(alloc: Global, taken: &mut Names, repeated: &syntax::For) -> Result<(), NameFault>
-    ensures { Gives (λ _. names_view taken.new) (steps.with_statements (names_view taken.old) (tree.sequentials_view (out-For repeated.now).statements)) result }
+    ensures given { Gives (λ _. names_view taken.new) (steps.with_statements (names_view taken.old) (tree.sequentials_view (out-For repeated.now).statements)) result }
+    ensures told { IfErr result (Tells (is_of (Twice ∷ []))) }
 {
     of_statements(alloc, taken, &repeated.statements)
 }
@@ -131,7 +140,8 @@ pub fn statement_labels_are_distinct(
     alloc: Global,
     list: &[syntax::Sequential],
 ) -> Result<(), NameFault>
-    ensures { Gives (λ _. tt) (rule Twice (are_distinct (rules.statement_labels (statements_of (map tree.sequential_view list.now))))) result }
+    ensures given { Gives (λ _. tt) (rule Twice (are_distinct (rules.statement_labels (statements_of (map tree.sequential_view list.now))))) result }
+    ensures told { IfErr result (Tells (unless Twice (are_distinct (rules.statement_labels (statements_of (map tree.sequential_view list.now)))))) }
 {
     let mut taken: Names = IndexSet::new(alloc);
     of_statements(alloc, &mut taken, list)?;

@@ -1,8 +1,12 @@
 //! Processes (IEEE 1076-2008, 11.3).
 
-ghost use Rattle.std.specs.Prelude.{◌≡◌, List, [], map, OnOk};
+ghost use Rattle.std.specs.Prelude.{◌≡◌, List, [], map, IfErr, OnOk};
 ghost use Rattle.vhdl_names_concurrent.specs.Views.{all_places_view};
 ghost use Rattle.vhdl_names_concurrent.specs.steps.Processes as steps;
+ghost use Rattle.vhdl_names_concurrent.specs.steps.Told as told;
+ghost use Rattle.vhdl_names_problems.specs.Broken.{Tells, any_of};
+ghost use Rattle.vhdl_names_problems.specs.Concurrent as broken;
+ghost use Rattle.vhdl_names_problems.specs.Statements as statements;
 ghost use Rattle.vhdl_names_rules.specs.Concurrent as rules;
 ghost use Rattle.vhdl_names_rules.specs.Gives.{Gives};
 ghost use Rattle.vhdl_names_rules.specs.Rules.{each};
@@ -32,7 +36,8 @@ fn places(
     sight: &Sight,
     names: &[syntax::Name],
 ) -> Result<Vec<SignalPart>, NameFault>
-    ensures { Gives all_places_view (each (steps.place_of (sight_view sight.now)) (map tree.name_view names.now)) result }
+    ensures given { Gives all_places_view (each (steps.place_of (sight_view sight.now)) (map tree.name_view names.now)) result }
+    ensures told { IfErr result (Tells (any_of (statements.signal (sight_view sight.now)) (map tree.name_view names.now))) }
 {
     let mut all = Vec::new(alloc);
     for name in names {
@@ -51,7 +56,8 @@ fn sensitivity(
     at: usize,
     list: &syntax::Sensitivity,
 ) -> Result<Sensitivity, NameFault>
-    ensures { Gives sensitivity_view (rules.sensitivity (sight_view sight.now) (tree.sensitivity_view list.now)) result }
+    ensures given { Gives sensitivity_view (rules.sensitivity (sight_view sight.now) (tree.sensitivity_view list.now)) result }
+    ensures told { IfErr result (Tells (broken.sensitivity (sight_view sight.now) (tree.sensitivity_view list.now))) }
 {
     match list {
         syntax::Sensitivity::Absent => Err(NameProblem::NoSensitivity.at(at)),
@@ -71,6 +77,7 @@ fn body(
 ) -> Result<Vec<Statement>, NameFault>
     ensures given { Gives body_view (steps.body (sight_view sight.old) (map tree.sequential_view list.now)) result }
     ensures kept { sight_view sight.new ≡ sight_view sight.old }
+    ensures told { IfErr result (Tells (told.body (sight_view sight.old) (map tree.sequential_view list.now))) }
 {
     let statements = analysed(alloc, sight, list);
     match statement_labels_are_distinct(alloc, list) {
@@ -96,6 +103,7 @@ fn process_in_turn(
     requires outside { (sight_view sight.old).variables ≡ [] }
     ensures given { Gives process_view (steps.process (sight_view sight.old) (tree.option_ident_view label.now) (tree.process_view process.now)) result }
     ensures kept { OnOk result (sight_view sight.new ≡ sight_view sight.old) }
+    ensures told { IfErr result (Tells (broken.process (sight_view sight.old) (tree.option_ident_view label.now) (tree.process_view process.now))) }
 {
     let sensitivity = sensitivity(alloc, sight, process.at, &process.sensitivity)?;
     let variables = variables(alloc, sight, &process.variables)?;
@@ -123,6 +131,7 @@ pub fn process(
     requires outside { (sight_view sight.old).variables ≡ [] }
     ensures given { Gives process_view (rules.process (sight_view sight.old) (tree.option_ident_view label.now) (tree.process_view process.now)) result }
     ensures kept { OnOk result (sight_view sight.new ≡ sight_view sight.old) }
+    ensures told { IfErr result (Tells (broken.process (sight_view sight.old) (tree.option_ident_view label.now) (tree.process_view process.now))) }
 {
     process_in_turn(alloc, sight, label, process)
 }

@@ -1,6 +1,8 @@
 //! What generates go by (IEEE 1076-2008, 11.9).
 
-ghost use Rattle.std.specs.Prelude.{List, ℕ};
+ghost use Rattle.std.specs.Prelude.{List, ℕ, IfErr};
+ghost use Rattle.vhdl_names_problems.specs.Broken.{Tells};
+ghost use Rattle.vhdl_names_problems.specs.Concurrent as broken;
 ghost use Rattle.vhdl_names_rules.specs.Concurrent as rules;
 ghost use Rattle.vhdl_names_rules.specs.Gives.{Gives};
 ghost use Rattle.vhdl_names_rules.specs.units.Units as u;
@@ -17,8 +19,9 @@ use vhdl_tree as syntax;
 
 /// A parameter's range, or a condition over static integers.
 pub fn scheme(alloc: Global, sight: &Sight, scheme: &syntax::Scheme) -> Result<Scheme, NameFault>
-    ensures { (label : List ℕ) (body : u.Concurrents) → Gives (generated label body)
+    ensures given { (label : List ℕ) (body : u.Concurrents) → Gives (generated label body)
         (rules.generated (sight_view sight.now) label (scheme_view scheme.now) body) result }
+    ensures told { IfErr result (Tells (broken.scheme (sight_view sight.now) (scheme_view scheme.now))) }
 {
     match scheme {
         syntax::Scheme::For { range, .. } => Ok(Scheme::For(static_range(alloc, sight, range)?)),

@@ -12,6 +12,10 @@ use Rattle.vhdl_tree.specs.View.{ident_view}
 use Rattle.vhdl_names_rules.specs.declared.operator.IntegerType.{IntegerType}
 use Rattle.vhdl_names_rules.specs.units.Expressions.{Static}
 use Rattle.vhdl_names_rules.specs.units.Units as u
+use Rattle.vhdl_names_rules.specs.declared.fault.NameFault.TheVariants.{At}
+use Rattle.vhdl_names_rules.specs.declared.fault.NameProblem.TheVariants.{LeftOut}
+use Rattle.vhdl_names_problems.specs.Broken.{Tells}
+use Rattle.vhdl_names_problems.specs.Declarations as broken
 use Rattle.vhdl_names_rules.specs.Rules.{◌>>=◌, met, if_any}
 use Rattle.vhdl_names_rules.specs.Visibility as visibility
 use Rattle.vhdl_names_rules.specs.Visibility.{Name, Meaning, Declared, Sight, Declares, declare, meaning, names_of, count_of, with_declared, are_distinct, numbered}
@@ -69,6 +73,9 @@ next_literal ds e count i names n lt is =
 pub too_many : (s : Sight) (d : t.Enumeration) → 256 < length d.literals → entering enumeration s d ≡ None
 unfolding enumeration
 too_many s d h = let t : nat_le (length d.literals) 256 ≡ false = grind (arith, nat_tests) in rw t refl
+
+pub too_many_told : (d : t.Enumeration) (at : ℕ) → 256 < length d.literals → Tells (broken.enumeration d) (At LeftOut at)
+too_many_told d at h = let t : nat_le (length d.literals) 256 ≡ false = grind (arith, nat_tests) in rw t refl
 
 abbrev pub in_region : Sight → List Declared → Option (Sight × List u.Declaration)
 in_region s r = Some (record s { region = r }, [])

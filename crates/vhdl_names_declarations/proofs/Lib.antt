@@ -1,8 +1,11 @@
+pub mod Breaking
 pub mod Counting
 pub mod Declaring
 pub mod Labelling
 pub mod Listed
 pub mod Classes
+pub mod Clauses
+pub mod Naming
 pub mod Orders
 pub mod Regions
 pub mod Turns

@@ -35,7 +35,7 @@ same_names f k ds ns =
     names-append ds (numbered f k ns) ∙ ap (λ l. declared_names ds ++ l) (names-numbered f k ns ∙ sym (names-all visibility.unfinished ns))
     ∙ sym (names-append ds (all_declared visibility.unfinished ns))
 
-not_more : (ds es : List Declared) → more ds es ≡ None → are_distinct (declared_names (ds ++ es)) ≡ false
+pub not_more : (ds es : List Declared) → more ds es ≡ None → are_distinct (declared_names (ds ++ es)) ≡ false
 not_more ds es h = go (are_distinct (declared_names (ds ++ es))) h
   where
     go : (b : Bool) → (met b >>= λ _. Some (ds ++ es)) ≡ None → b ≡ false

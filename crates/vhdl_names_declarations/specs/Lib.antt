@@ -4,4 +4,5 @@ pub mod Counts
 pub mod Entered
 pub mod Rows
 pub mod Settled
+pub mod Standing
 pub mod Typed

@@ -1,6 +1,6 @@
 //! Constants of an architecture (IEEE 1076-2008, 6.4.2.2).
 
-ghost use Rattle.std.specs.Prelude.{◌≡◌, map, option_map, IfOk, OnOk};
+ghost use Rattle.std.specs.Prelude.{◌≡◌, map, option_map, IfOk, OnOk, IfErr};
 ghost use Rattle.vhdl_names_declarations.specs.Constants as typed;
 ghost use Rattle.vhdl_names_declarations.specs.Entered.{entering};
 ghost use Rattle.vhdl_names_declarations.specs.Settled.{class_view};
@@ -12,6 +12,11 @@ ghost use Rattle.vhdl_tree.specs.View as tree;
 ghost use Rattle.vhdl_names_types.specs.Views.{meaning_view, sight_view};
 ghost use Rattle.vhdl_names_units.specs.views.Answers.{fixed_view};
 ghost use Rattle.vhdl_names_units.specs.views.Declarations.{declaration_view};
+ghost use Rattle.vhdl_names_problems.specs.Broken.{Tells, ◌∪◌, is_of};
+ghost use Rattle.vhdl_names_problems.specs.Declarations as broken;
+ghost use Rattle.vhdl_names_problems.specs.Expressions as expressions_broken;
+ghost use Rattle.vhdl_names_rules.specs.Visibility.{names_of};
+ghost use Rattle.vhdl_names_declarations.specs.Standing.{standing_twice, constants_broken};
 
 use crate::class::ObjectClass;
 use crate::names::copied_names;
@@ -34,7 +39,8 @@ pub enum Constant {
 
 /// The value of an integer constant is one expression; `(others => e)` is a TypeMismatch.
 fn single_expression(value: &Value) -> Result<&Expr, NameFault>
-    ensures { Gives (λ e. tree.view e.now) (rules.single_expression (tree.value_view value.now)) result }
+    ensures given { Gives (λ e. tree.view e.now) (rules.single_expression (tree.value_view value.now)) result }
+    ensures told { IfErr result (Tells (is_of expressions_broken.mismatch)) }
 {
     match value {
         Value::Expr(e) => Ok(e),
@@ -49,7 +55,8 @@ fn integer(
     integer_type: IntegerType,
     declaration: &Constants,
 ) -> Result<Constant, NameFault>
-    ensures { Gives typed.constant_view (typed.integer (sight_view sight.now) integer_type (tree.constants_view declaration.now)) result }
+    ensures given { Gives typed.constant_view (typed.integer (sight_view sight.now) integer_type (tree.constants_view declaration.now)) result }
+    ensures told { IfErr result (Tells (broken.integer_constants (sight_view sight.now) (tree.constants_view declaration.now))) }
 {
     if declaration.subtype.range.is_some() {
         return Err(NameProblem::LeftOut.at(declaration.subtype.mark.at));
@@ -61,7 +68,8 @@ fn integer(
 
 /// Constants of the nine values.
 fn other(alloc: Global, sight: &Sight, declaration: &Constants) -> Result<Constant, NameFault>
-    ensures { Gives typed.constant_view (typed.other (sight_view sight.now) (tree.constants_view declaration.now)) result }
+    ensures given { Gives typed.constant_view (typed.other (sight_view sight.now) (tree.constants_view declaration.now)) result }
+    ensures told { IfErr result (Tells (broken.other_constants (sight_view sight.now) (tree.constants_view declaration.now))) }
 {
     let subtype = subtype(alloc, sight, &declaration.subtype)?;
     let kind = kind_of(subtype.object_type, declaration.subtype.mark.at)?;
@@ -85,7 +93,8 @@ fn typed_constant(
     sight: &Sight,
     declaration: &Constants,
 ) -> Result<Constant, NameFault>
-    ensures { Gives typed.constant_view (typed.constant (sight_view sight.now) (tree.constants_view declaration.now)) result }
+    ensures given { Gives typed.constant_view (typed.constant (sight_view sight.now) (tree.constants_view declaration.now)) result }
+    ensures told { IfErr result (Tells (constants_broken (sight_view sight.now) (tree.constants_view declaration.now))) }
 {
     let mark = meaning_of(sight, &declaration.subtype.mark)?;
     match as_integer_type(mark) {
@@ -155,6 +164,8 @@ pub fn constants(
     ensures given { Gives (λ o. (sight_view sight.new, declaration_view o))
         (entering rules.constants (sight_view sight.old) (tree.constants_view declaration.now)) result }
     ensures kept { OnOk result (sight.new ≡ record sight.old { region = sight.new.region }) }
+    ensures told { IfErr result (Tells (broken.constants (sight_view sight.old) (tree.constants_view declaration.now)
+        ∪ standing_twice (sight_view sight.old).region (names_of (tree.constants_view declaration.now).names))) }
 {
     let first = sight.region.len();
     hide(alloc, &mut sight.region, &declaration.names)?;

@@ -1,12 +1,16 @@
 //! What context clauses bring in sight (IEEE 1076-2008, 12.4 and 13.4).
 
-ghost use Rattle.std.specs.Prelude.{◌≡◌, ◌≢◌, ◌||◌, ◌∷◌, [], map};
-ghost use Rattle.std.specs.List.{list_any};
+ghost use Rattle.std.specs.Prelude.{◌≡◌, ◌≢◌, false, ◌&&◌, ◌||◌, ◌∷◌, [], map, IfErr};
+ghost use Rattle.std.specs.List.{list_any, list_all};
 ghost use Rattle.vhdl_names_declarations.specs.Contexts.{context_view, libraries_named, packages_used};
 ghost use Rattle.vhdl_names_rules.specs.Gives.{Gives};
 ghost use Rattle.vhdl_names_rules.specs.declared.fault.NameFault.TheVariants.{NoMemory};
 ghost use Rattle.vhdl_names_rules.specs.Packages as rules;
 ghost use Rattle.vhdl_tree.specs.View.{ident_view, selected_view, context_view as item_view};
+ghost use Rattle.vhdl_names_problems.specs.Broken.{Tells, unless};
+ghost use Rattle.vhdl_names_problems.specs.Declarations as broken;
+ghost use Rattle.vhdl_names_rules.specs.declared.fault.NameProblem.TheVariants.{LeftOut};
+ghost use Rattle.vhdl_names_declarations.specs.Standing.{used};
 
 use vhdl_names_rules::{NameFault, NameProblem};
 use vhdl_tree::{ContextItem, Identifier, Selected};
@@ -96,7 +100,8 @@ fn either(one: bool, other: bool) -> bool
 
 /// The libraries of a clause. Another than ieee, work and std is left out.
 fn libraries(before: Context, names: &[Identifier]) -> Result<Context, NameFault>
-    ensures { Gives context_view (libraries_named (context_view before) (map ident_view names.now)) result }
+    ensures given { Gives context_view (libraries_named (context_view before) (map ident_view names.now)) result }
+    ensures told { IfErr result (Tells (unless LeftOut (list_all rules.is_library (map ident_view names.now)))) }
 {
     for name in names {
         if !is_library(name) {
@@ -111,7 +116,9 @@ fn libraries(before: Context, names: &[Identifier]) -> Result<Context, NameFault
 
 /// Why a use clause names no package that is offered.
 fn use_fault(before: Context, selected: &Selected) -> NameFault
-    ensures { result ≢ NoMemory }
+    ensures given { result ≢ NoMemory }
+    ensures told { (before.has_ieee && (rules.is_logic (selected_view selected.now) || rules.is_numbers (selected_view selected.now))) ≡ false
+        → Tells (used (context_view before) (selected_view selected.now ∷ [])) result }
 {
     if !is_ieee(&selected.library) {
         return NameProblem::LeftOut.at(selected.library.at);
@@ -125,7 +132,8 @@ fn use_fault(before: Context, selected: &Selected) -> NameFault
 /// The packages of a use clause: of library ieee, which a clause names before it, the two that are
 /// offered. Without that clause ieee is Undeclared; any other package is left out.
 fn uses(before: Context, all: &[Selected]) -> Result<Context, NameFault>
-    ensures { Gives context_view (packages_used (context_view before) (map selected_view all.now)) result }
+    ensures given { Gives context_view (packages_used (context_view before) (map selected_view all.now)) result }
+    ensures told { IfErr result (Tells (used (context_view before) (map selected_view all.now))) }
 {
     for selected in all {
         let is_offered = either(is_logic(selected), is_numbers(selected));
@@ -144,7 +152,8 @@ fn uses(before: Context, all: &[Selected]) -> Result<Context, NameFault>
 }
 
 fn context_item(before: Context, item: &ContextItem) -> Result<Context, NameFault>
-    ensures { Gives context_view (rules.context (context_view before) (item_view item.now ∷ [])) result }
+    ensures given { Gives context_view (rules.context (context_view before) (item_view item.now ∷ [])) result }
+    ensures told { IfErr result (Tells (broken.context (context_view before) (item_view item.now ∷ []))) }
 {
     match item {
         ContextItem::Library(names) => libraries(before, names),
@@ -154,7 +163,8 @@ fn context_item(before: Context, item: &ContextItem) -> Result<Context, NameFaul
 
 /// What context items bring in sight, after what stands before them.
 pub fn context_after(before: Context, items: &[ContextItem]) -> Result<Context, NameFault>
-    ensures { Gives context_view (rules.context (context_view before) (map item_view items.now)) result }
+    ensures given { Gives context_view (rules.context (context_view before) (map item_view items.now)) result }
+    ensures told { IfErr result (Tells (broken.context (context_view before) (map item_view items.now))) }
 {
     let mut now = before;
     for item in items {

@@ -1,6 +1,6 @@
 //! The labels that stand directly among concurrent statements (IEEE 1076-2008, 11.1 and 12.1).
 
-ghost use Rattle.std.specs.Prelude.{◌≡◌, map, option_map};
+ghost use Rattle.std.specs.Prelude.{◌≡◌, ◌≢◌, ◌∷◌, [], map, option_map, IfErr};
 ghost use Rattle.std.specs.Option.{option_copied};
 ghost use Rattle.vhdl_names_declarations.specs.Entered.{more};
 ghost use Rattle.vhdl_names_rules.specs.Concurrent as rules;
@@ -13,6 +13,9 @@ ghost use Rattle.vhdl_names_rules.specs.Visibility.{are_distinct};
 ghost use Rattle.vhdl_tree.specs.Tree.{concurrents_of};
 ghost use Rattle.vhdl_tree.specs.View.{ident_view, option_ident_view, concurrent_view};
 ghost use Rattle.vhdl_names_types.specs.Views.{region_view};
+ghost use Rattle.vhdl_names_rules.specs.declared.fault.NameFault.TheVariants.{NoMemory};
+ghost use Rattle.vhdl_names_problems.specs.Broken.{Tells, is_of, unless};
+ghost use Rattle.vhdl_names_declarations.specs.Standing.{standing_twice};
 
 use crate::region::declare;
 use indexmap::IndexMap;
@@ -27,7 +30,9 @@ fn declare_if_any(
     region: &mut Region,
     label: &Option<Identifier>,
 ) -> Result<(), NameFault>
-    ensures { Gives (λ _. region_view region.new) (more (region_view region.old) (labelled (label_names (option_ident_view label.now)))) result }
+    ensures given { Gives (λ _. region_view region.new) (more (region_view region.old) (labelled (label_names (option_ident_view label.now)))) result }
+    ensures told { IfErr result (Tells (is_of (Twice ∷ []))) }
+    ensures kept { IfErr result (λ f. f ≢ NoMemory → region_view region.new ≡ region_view region.old) }
 {
     let _apart = region.len();
     match label {
@@ -36,13 +41,16 @@ fn declare_if_any(
     }
 }
 
-/// The label of a statement, if it has one.
-fn declare_label(
+/// The label of a statement, if it has one, declared in a region. It takes the memory of the label and
+/// its entry.
+pub fn declare_label(
     alloc: Global,
     region: &mut Region,
     statement: &Concurrent,
 ) -> Result<(), NameFault>
-    ensures { Gives (λ _. region_view region.new) (more (region_view region.old) (labelled (rules.concurrent_label (concurrent_view statement.now)))) result }
+    ensures given { Gives (λ _. region_view region.new) (more (region_view region.old) (labelled (rules.concurrent_label (concurrent_view statement.now)))) result }
+    ensures told { IfErr result (Tells (is_of (Twice ∷ []))) }
+    ensures kept { IfErr result (λ f. f ≢ NoMemory → region_view region.new ≡ region_view region.old) }
 {
     match statement {
         Concurrent::Assignment(assignment) => declare_if_any(alloc, region, &assignment.label),
@@ -62,8 +70,9 @@ pub fn declare_labels(
     region: &mut Region,
     statements: &[Concurrent],
 ) -> Result<(), NameFault>
-    ensures { Gives (λ _. region_view region.new)
+    ensures given { Gives (λ _. region_view region.new)
         (more (region_view region.old) (labelled (rules.concurrent_labels (concurrents_of (map concurrent_view statements.now))))) result }
+    ensures told { IfErr result (Tells (standing_twice (region_view region.old) (rules.concurrent_labels (concurrents_of (map concurrent_view statements.now))))) }
 {
     let _apart = region.len();
     for statement in statements {
@@ -76,7 +85,8 @@ pub fn declare_labels(
 /// No label stands twice directly among statements, as those of a generate; else it is Twice. It
 /// takes the memory of the labels and their entries.
 pub fn labels_are_distinct(alloc: Global, statements: &[Concurrent]) -> Result<(), NameFault>
-    ensures { Gives (λ x. x) (rule Twice (are_distinct (rules.concurrent_labels (concurrents_of (map concurrent_view statements.now))))) result }
+    ensures given { Gives (λ x. x) (rule Twice (are_distinct (rules.concurrent_labels (concurrents_of (map concurrent_view statements.now))))) result }
+    ensures told { IfErr result (Tells (unless Twice (are_distinct (rules.concurrent_labels (concurrents_of (map concurrent_view statements.now)))))) }
 {
     let mut region: Region = IndexMap::new(alloc);
     declare_labels(alloc, &mut region, statements)?;

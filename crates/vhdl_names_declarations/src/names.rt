@@ -1,11 +1,12 @@
 //! Names of one declaration, and names that stand at its end.
 
-ghost use Rattle.std.specs.Prelude.{◌≡◌, map, option_map, IfOk};
+ghost use Rattle.std.specs.Prelude.{◌≡◌, map, option_map, IfOk, IfErr};
 ghost use Rattle.vhdl_names_rules.specs.Gives.{Gives};
 ghost use Rattle.vhdl_names_rules.specs.declared.fault.NameProblem.TheVariants.{WrongKind};
 ghost use Rattle.vhdl_names_rules.specs.Rules.{rule};
 ghost use Rattle.vhdl_names_rules.specs.Visibility as visibility;
 ghost use Rattle.vhdl_tree.specs.View.{ident_view, idents_view, option_ident_view};
+ghost use Rattle.vhdl_names_problems.specs.Broken.{Tells, unless};
 
 use std::alloc::{AllocError, Global};
 use vhdl_names_rules::{NameFault, NameProblem};
@@ -34,7 +35,8 @@ pub fn copied_names(alloc: Global, names: &[Identifier]) -> Result<Vec<Identifie
 
 /// An end name, if there is one, repeats the name at the beginning; else it is of WrongKind.
 pub fn ends(name: &Identifier, end: &Option<Identifier>) -> Result<(), NameFault>
-    ensures { Gives (λ x. x) (rule WrongKind (visibility.ends name.now.text.items (option_ident_view end.now))) result }
+    ensures given { Gives (λ x. x) (rule WrongKind (visibility.ends name.now.text.items (option_ident_view end.now))) result }
+    ensures told { IfErr result (Tells (unless WrongKind (visibility.ends name.now.text.items (option_ident_view end.now)))) }
 {
     match end {
         None => Ok(()),

@@ -1,7 +1,7 @@
 //! Objects of one type: signals of an architecture and variables of a process (IEEE 1076-2008, 6.4.2), and what ports share with
 //! them.
 
-ghost use Rattle.std.specs.Prelude.{◌≡◌, map, option_map, IfOk, OnOk};
+ghost use Rattle.std.specs.Prelude.{◌≡◌, map, option_map, IfOk, OnOk, IfErr};
 ghost use Rattle.vhdl_names_declarations.specs.Entered.{entering, entering_variables};
 ghost use Rattle.vhdl_names_declarations.specs.Typed.{typed_object};
 ghost use Rattle.vhdl_names_rules.specs.Declarations as rules;
@@ -13,6 +13,11 @@ ghost use Rattle.vhdl_tree.specs.View as tree;
 ghost use Rattle.vhdl_names_types.specs.Views.{sight_view};
 ghost use Rattle.vhdl_names_units.specs.views.Answers.{subtype_view, fixed_view};
 ghost use Rattle.vhdl_names_units.specs.views.Declarations.{declaration_view, object_view, objects_view};
+ghost use Rattle.vhdl_names_problems.specs.Broken.{Tells, ◌∪◌, of_any};
+ghost use Rattle.vhdl_names_problems.specs.Declarations as broken;
+ghost use Rattle.vhdl_names_problems.specs.Subtypes as subtypes_broken;
+ghost use Rattle.vhdl_names_rules.specs.Visibility.{names_of};
+ghost use Rattle.vhdl_names_declarations.specs.Standing.{standing_twice, variables_broken};
 
 use crate::class::ObjectClass;
 use crate::counts::Counts;
@@ -32,7 +37,8 @@ pub fn fixed_if_any(
     object_type: ObjectType,
     value: &Option<Value>,
 ) -> Result<Option<Fixed>, NameFault>
-    ensures { Gives (option_map fixed_view) (if_any (types.fixed_value (sight_view sight.now) object_type) (tree.option_value_view value.now)) result }
+    ensures given { Gives (option_map fixed_view) (if_any (types.fixed_value (sight_view sight.now) object_type) (tree.option_value_view value.now)) result }
+    ensures told { IfErr result (Tells (of_any (subtypes_broken.fixed_value (sight_view sight.now) object_type) (tree.option_value_view value.now))) }
 {
     match value {
         None => Ok(None),
@@ -47,8 +53,9 @@ pub fn object_type(
     indication: &TreeSubtype,
     value: &Option<Value>,
 ) -> Result<(Subtype, Option<Fixed>), NameFault>
-    ensures { Gives (λ x. (subtype_view x.0, option_map fixed_view x.1))
+    ensures given { Gives (λ x. (subtype_view x.0, option_map fixed_view x.1))
         (typed_object (sight_view sight.now) (tree.subtype_view indication.now) (tree.option_value_view value.now)) result }
+    ensures told { IfErr result (Tells (broken.object (sight_view sight.now) (tree.subtype_view indication.now) (tree.option_value_view value.now))) }
 {
     let subtype = subtype(alloc, sight, indication)?;
     let default = fixed_if_any(alloc, sight, subtype.object_type, value)?;
@@ -85,6 +92,8 @@ pub fn signals(
     ensures given { Gives (λ o. (sight_view sight.new, declaration_view o))
         (entering rules.signals (sight_view sight.old) (tree.signals_view declaration.now)) result }
     ensures kept { OnOk result (sight.new ≡ record sight.old { region = sight.new.region }) }
+    ensures told { IfErr result (Tells (broken.signals (sight_view sight.old) (tree.signals_view declaration.now)
+        ∪ standing_twice (sight_view sight.old).region (names_of (tree.signals_view declaration.now).names))) }
 {
     let first = sight.region.len();
     hide(alloc, &mut sight.region, &declaration.names)?;
@@ -103,8 +112,10 @@ fn variables_of_one(
     declaration: &Variables,
 ) -> Result<Objects, NameFault>
     requires { number ≡ count_of is_variable (sight_view sight.old).variables }
-    ensures { Gives (λ o. (sight_view sight.new, object_view o))
+    ensures given { Gives (λ o. (sight_view sight.new, object_view o))
         (entering_variables rules.variables (sight_view sight.old) (tree.variables_view declaration.now)) result }
+    ensures told { IfErr result (Tells (broken.variables (sight_view sight.old) (tree.variables_view declaration.now)
+        ∪ standing_twice (sight_view sight.old).variables (names_of (tree.variables_view declaration.now).names))) }
 {
     let first = sight.variables.len();
     hide(alloc, &mut sight.variables, &declaration.names)?;
@@ -122,8 +133,9 @@ pub fn variables(
     sight: &mut Sight,
     all: &[Variables],
 ) -> Result<Vec<Objects>, NameFault>
-    ensures { Gives (λ v. (sight_view sight.new, objects_view v))
+    ensures given { Gives (λ v. (sight_view sight.new, objects_view v))
         (entering_variables (rules.in_order with_variables rules.variables) (sight_view sight.old) (map tree.variables_view all.now)) result }
+    ensures told { IfErr result (Tells (variables_broken (sight_view sight.old) (map tree.variables_view all.now))) }
 {
     let mut done = Vec::new(alloc);
     let _apart = sight.variables.len();

@@ -1,12 +1,14 @@
 //! What the packages declare (IEEE 1076-2008, 16.3, 16.7 and 16.8).
 
-ghost use Rattle.std.specs.Prelude.{◌≡◌, Some, [], map, if◌then◌else◌, IfOk};
+ghost use Rattle.std.specs.Prelude.{◌≡◌, Some, ◌∷◌, [], map, if◌then◌else◌, IfOk, IfErr};
 ghost use Rattle.vhdl_names_declarations.specs.Contexts.{context_view};
 ghost use Rattle.vhdl_names_declarations.specs.Entered.{more};
 ghost use Rattle.vhdl_names_declarations.specs.Rows.{builtin_view, row_view};
 ghost use Rattle.vhdl_names_rules.specs.Gives.{Gives};
 ghost use Rattle.vhdl_names_rules.specs.Packages as rules;
 ghost use Rattle.vhdl_names_types.specs.Views.{meaning_view, region_view, sight_view};
+ghost use Rattle.vhdl_names_problems.specs.Broken.{Tells, is_of, nothing};
+ghost use Rattle.vhdl_names_rules.specs.declared.fault.NameProblem.TheVariants.{Twice};
 
 use crate::context::Context;
 use crate::region::declare_name;
@@ -117,7 +119,8 @@ impl Builtin {
 
 /// The declarations of a package.
 fn add_rows(alloc: Global, region: &mut Region, rows: &[Row]) -> Result<(), NameFault>
-    ensures { Gives (λ _. region_view region.new) (more (region_view region.old) (map row_view rows.now)) result }
+    ensures given { Gives (λ _. region_view region.new) (more (region_view region.old) (map row_view rows.now)) result }
+    ensures told { IfErr result (Tells (is_of (Twice ∷ []))) }
 {
     let _apart = region.len();
     for row in rows {
@@ -134,7 +137,8 @@ fn add_used(
     is_used: bool,
     rows: &[Row],
 ) -> Result<(), NameFault>
-    ensures { Gives (λ _. region_view region.new) (more (region_view region.old) (if is_used then map row_view rows.now else [])) result }
+    ensures given { Gives (λ _. region_view region.new) (more (region_view region.old) (if is_used then map row_view rows.now else [])) result }
+    ensures told { IfErr result (Tells (is_of (Twice ∷ []))) }
 {
     if is_used {
         add_rows(alloc, region, rows)
@@ -145,7 +149,8 @@ fn add_used(
 
 /// The packages' declarations that are in sight. It takes the memory of their names.
 pub fn visible(alloc: Global, context: Context) -> Result<Region, NameFault>
-    ensures { Gives region_view (Some (rules.visible (context_view context))) result }
+    ensures given { Gives region_view (Some (rules.visible (context_view context))) result }
+    ensures told { IfErr result (Tells (nothing)) }
 {
     let mut region = IndexMap::new(alloc);
     add_used(alloc, &mut region, context.has_numbers, &NUMERIC_STD)?;
@@ -159,6 +164,7 @@ pub fn visible(alloc: Global, context: Context) -> Result<Region, NameFault>
 pub fn sight_of(alloc: Global, context: Context, region: Region) -> Result<Sight, NameFault>
     ensures sight { Gives sight_view (Some (rules.sight_of (context_view context) (region_view region))) result }
     ensures enclosing { IfOk result (λ s. region_view s.enclosing ≡ []) }
+    ensures told { IfErr result (Tells (nothing)) }
 {
     let packages = visible(alloc, context)?;
     Ok(Sight {

@@ -1,6 +1,6 @@
 //! Regions, in which no name is declared twice (IEEE 1076-2008, 12.1). Look-ups and declarations don't walk lists.
 
-ghost use Rattle.std.specs.Prelude.{◌≡◌, ◌≤◌, ◌∷◌, [], map, OnOk};
+ghost use Rattle.std.specs.Prelude.{◌≡◌, ◌≢◌, ◌≤◌, ◌∷◌, [], map, OnOk, IfErr};
 ghost use Rattle.indexmap.specs.IndexMap.{index_map_len};
 ghost use Rattle.vhdl_names_declarations.specs.Entered.{more};
 ghost use Rattle.vhdl_names_declarations.specs.Settled.{class_view, settled};
@@ -9,6 +9,9 @@ ghost use Rattle.vhdl_names_rules.specs.Visibility as visibility;
 ghost use Rattle.vhdl_names_rules.specs.Visibility.{all_declared, names_of};
 ghost use Rattle.vhdl_tree.specs.View.{ident_view};
 ghost use Rattle.vhdl_names_types.specs.Views.{meaning_view, region_view};
+ghost use Rattle.vhdl_names_rules.specs.declared.fault.NameFault.TheVariants.{NoMemory};
+ghost use Rattle.vhdl_names_problems.specs.Broken.{Tells, is_of};
+ghost use Rattle.vhdl_names_rules.specs.declared.fault.NameProblem.TheVariants.{Twice};
 
 use crate::class::ObjectClass;
 use std::alloc::{AllocError, Global};
@@ -25,7 +28,9 @@ pub fn declare_name(
     at: usize,
     meaning: Meaning,
 ) -> Result<(), NameFault>
-    ensures { Gives (λ _. region_view region.new) (more (region_view region.old) (visibility.declare name.now (meaning_view meaning) ∷ [])) result }
+    ensures given { Gives (λ _. region_view region.new) (more (region_view region.old) (visibility.declare name.now (meaning_view meaning) ∷ [])) result }
+    ensures told { IfErr result (Tells (is_of (Twice ∷ []))) }
+    ensures kept { IfErr result (λ f. f ≢ NoMemory → region_view region.new ≡ region_view region.old) }
 {
     let _apart = region.len();
     if region.contains_key(name) {
@@ -44,8 +49,10 @@ pub fn declare(
     name: &Identifier,
     meaning: Meaning,
 ) -> Result<(), NameFault>
-    ensures { Gives (λ _. region_view region.new)
+    ensures given { Gives (λ _. region_view region.new)
         (more (region_view region.old) (visibility.declare name.now.text.items (meaning_view meaning) ∷ [])) result }
+    ensures told { IfErr result (Tells (is_of (Twice ∷ []))) }
+    ensures kept { IfErr result (λ f. f ≢ NoMemory → region_view region.new ≡ region_view region.old) }
 {
     declare_name(alloc, region, &name.text, name.at, meaning)
 }
@@ -53,8 +60,9 @@ pub fn declare(
 /// Names of one declaration, which hide outer ones and mean nothing yet. It takes the memory of the
 /// names and their entries.
 pub fn hide(alloc: Global, region: &mut Region, names: &[Identifier]) -> Result<(), NameFault>
-    ensures { Gives (λ _. region_view region.new)
+    ensures given { Gives (λ _. region_view region.new)
         (more (region_view region.old) (all_declared visibility.unfinished (names_of (map ident_view names.now)))) result }
+    ensures told { IfErr result (Tells (is_of (Twice ∷ []))) }
 {
     let _apart = region.len();
     for name in names {

@@ -25,7 +25,7 @@ use Rattle.vhdl_names_expressions.specs.Steps.{is_parens, enclosed_if, linked, a
 
 -- ---- chains
 
-beside_if : (x : t.Expr) (y : Typed) → beside x y ≡ enclosed_if (is_parens x) y
+pub beside_if : (x : t.Expr) (y : Typed) → beside x y ≡ enclosed_if (is_parens x) y
 beside_if (t.integer at s) y = refl
 beside_if (t.character at s) y = refl
 beside_if (t.string at s) y = refl
@@ -36,7 +36,7 @@ beside_if (t.negation at e) y = refl
 beside_if (t.signed sign at e) y = refl
 beside_if (t.binary b op at d e) y = refl
 
-linked_typed : (sight : Sight) (b : Bool) (x : t.Expr) (l : Link) →
+pub linked_typed : (sight : Sight) (b : Bool) (x : t.Expr) (l : Link) →
     typed sight (t.binary b l.operator l.at x (view l.operand)) ≡ linked sight (is_parens x) (typed sight x) l
 unfolding typed
 linked_typed sight b x l = go (typed sight x)
@@ -75,6 +75,13 @@ pub link_fails : (sight : Sight) (whole : Option Typed) (v : Typed) (ls : List L
 link_fails sight whole v ls i l h lt e f =
     h ∙ ap (all_linked sight (Some v)) (drop-cons ls i l lt) ∙ ap (λ k. all_linked sight (linked sight false (Some v) k) (drop (suc i) ls)) (sym e)
     ∙ ap (λ o. all_linked sight o (drop (suc i) ls)) f ∙ all_linked_none sight (drop (suc i) ls)
+
+-- a link that gives something leaves the links behind it
+pub link_goes : (sight : Sight) (v w : Typed) (ls : List Link) (i j : ℕ) (l : Link) → i < length ls → l ≡ get_or ls i l → suc i ≡ j →
+    linked sight false (Some v) l ≡ Some w → all_linked sight (Some v) (drop i ls) ≡ all_linked sight (Some w) (drop j ls)
+link_goes sight v w ls i j l lt e next gives =
+    ap (all_linked sight (Some v)) (drop-cons ls i l lt) ∙ ap (λ k. all_linked sight (linked sight false (Some v) k) (drop (suc i) ls)) (sym e)
+    ∙ ap (λ o. all_linked sight o (drop (suc i) ls)) gives ∙ ap (λ k. all_linked sight (Some w) (drop k ls)) next
 
 -- ---- names
 

@@ -4,3 +4,6 @@ pub mod Choosing
 pub mod Each
 pub mod Fixing
 pub mod Marks
+pub mod Breaking
+pub mod BreakingChoices
+pub mod BreakingValues

@@ -1,6 +1,10 @@
 //! Choices of case statements and selected assignments (IEEE 1076-2008, 10.9, 11.6).
 
-ghost use Rattle.std.specs.Prelude.{◌≡◌, ◌∷◌, [], map};
+ghost use Rattle.std.specs.Prelude.{◌≡◌, ◌∷◌, [], map, true, IfErr};
+ghost use Rattle.vhdl_names_problems.specs.Broken.{Tells, is_of, any_of};
+ghost use Rattle.vhdl_names_problems.specs.Choices as broken;
+ghost use Rattle.vhdl_names_problems.specs.Subtypes.{value_problems};
+ghost use Rattle.vhdl_names_rules.specs.declared.fault.NameProblem.TheVariants.{TypeMismatch, LeftOut};
 ghost use Rattle.vhdl_names_rules.specs.Choices as rules;
 ghost use Rattle.vhdl_names_rules.specs.Gives.{Gives};
 ghost use Rattle.vhdl_names_rules.specs.Rules.{each};
@@ -20,7 +24,9 @@ use vhdl_names_units::Choice;
 use vhdl_tree::{Choice as TreeChoice, Expr, Name, Suffix};
 
 /// What is wrong with a name of this meaning as a choice.
-fn choice_problem(meaning: &Meaning) -> NameProblem {
+fn choice_problem(meaning: &Meaning) -> NameProblem
+    ensures { is_of (value_problems (meaning_view meaning.now)) result ≡ true }
+{
     match meaning {
         Meaning::Unfinished => NameProblem::Undeclared,
         Meaning::Literal { .. } | Meaning::Constant(_, _, Some(_)) => NameProblem::TypeMismatch,
@@ -31,7 +37,8 @@ fn choice_problem(meaning: &Meaning) -> NameProblem {
 
 /// The choice that a constant of this kind is, which a literal declares; its name is at byte `at`.
 fn constant_choice(kind: ElementKind, meaning: &Meaning, at: usize) -> Result<Choice, NameFault>
-    ensures { Gives choice_view (rules.named_choice (Elements kind) (meaning_view meaning.now)) result }
+    ensures given { Gives choice_view (rules.named_choice (Elements kind) (meaning_view meaning.now)) result }
+    ensures told { IfErr result (Tells (is_of (value_problems (meaning_view meaning.now)))) }
 {
     match (kind, meaning) {
         (ElementKind::Element, Meaning::Constant(_, ElementKind::Element, Some(values)))
@@ -50,7 +57,8 @@ fn position_choice(
     meaning: &Meaning,
     at: usize,
 ) -> Result<Choice, NameFault>
-    ensures { Gives choice_view (rules.named_choice (Enumeration number count) (meaning_view meaning.now)) result }
+    ensures given { Gives choice_view (rules.named_choice (Enumeration number count) (meaning_view meaning.now)) result }
+    ensures told { IfErr result (Tells (is_of (value_problems (meaning_view meaning.now)))) }
 {
     match meaning {
         Meaning::Literal {
@@ -65,7 +73,8 @@ fn position_choice(
 /// The choice that a literal of an enumeration is, or a constant that a literal declares; the name is
 /// at byte `at`.
 fn named_choice(object_type: ObjectType, meaning: &Meaning, at: usize) -> Result<Choice, NameFault>
-    ensures { Gives choice_view (rules.named_choice object_type (meaning_view meaning.now)) result }
+    ensures given { Gives choice_view (rules.named_choice object_type (meaning_view meaning.now)) result }
+    ensures told { IfErr result (Tells (is_of (value_problems (meaning_view meaning.now)))) }
 {
     match object_type {
         ObjectType::Elements(kind) => constant_choice(kind, meaning, at),
@@ -91,7 +100,8 @@ fn is_bare_name(name: &Name) -> bool
 /// A name as a choice, with nothing behind it.
 #[tactic(auto, using(crate::proofs::Choosing::chosen_named))]
 fn chosen_name(sight: &Sight, object_type: ObjectType, name: &Name) -> Result<Choice, NameFault>
-    ensures { Gives choice_view (rules.chosen (sight_view sight.now) object_type (t.named (ident_view name.now.identifier) (suffix_view name.now.suffix) (option_ident_view name.now.attribute))) result }
+    ensures given { Gives choice_view (rules.chosen (sight_view sight.now) object_type (t.named (ident_view name.now.identifier) (suffix_view name.now.suffix) (option_ident_view name.now.attribute))) result }
+    ensures told { IfErr result (Tells (broken.chosen (sight_view sight.now) object_type (t.named (ident_view name.now.identifier) (suffix_view name.now.suffix) (option_ident_view name.now.attribute)))) }
 {
     let meaning = meaning_of(sight, &name.identifier)?;
     if !is_bare_name(name) {
@@ -102,7 +112,8 @@ fn chosen_name(sight: &Sight, object_type: ObjectType, name: &Name) -> Result<Ch
 
 /// A literal as it stands, as a choice of a type.
 fn literal_choice(alloc: Global, object_type: ObjectType, e: &Expr) -> Result<Choice, NameFault>
-    ensures { Gives choice_view (rules.literal_choice object_type (view e.now)) result }
+    ensures given { Gives choice_view (rules.literal_choice object_type (view e.now)) result }
+    ensures told { IfErr result (Tells (is_of (TypeMismatch ∷ LeftOut ∷ []))) }
 {
     match object_type {
         ObjectType::Elements(kind) => {
@@ -120,7 +131,8 @@ fn chosen(
     object_type: ObjectType,
     e: &Expr,
 ) -> Result<Choice, NameFault>
-    ensures { Gives choice_view (rules.chosen (sight_view sight.now) object_type (view e.now)) result }
+    ensures given { Gives choice_view (rules.chosen (sight_view sight.now) object_type (view e.now)) result }
+    ensures told { IfErr result (Tells (broken.chosen (sight_view sight.now) object_type (view e.now))) }
 {
     match name_of(e) {
         Some(name) => chosen_name(sight, object_type, name),
@@ -135,7 +147,8 @@ fn choice(
     object_type: ObjectType,
     choice: &TreeChoice,
 ) -> Result<Choice, NameFault>
-    ensures { Gives choice_view (rules.choice (sight_view sight.now) object_type (tree_choice_view choice.now)) result }
+    ensures given { Gives choice_view (rules.choice (sight_view sight.now) object_type (tree_choice_view choice.now)) result }
+    ensures told { IfErr result (Tells (broken.choice (sight_view sight.now) object_type (tree_choice_view choice.now))) }
 {
     match choice {
         TreeChoice::Expr(e) => chosen(alloc, sight, object_type, e),
@@ -150,7 +163,8 @@ fn each_choice(
     object_type: ObjectType,
     all: &[TreeChoice],
 ) -> Result<Vec<Choice>, NameFault>
-    ensures { Gives choices_view (each (rules.choice (sight_view sight.now) object_type) (map tree_choice_view all.now)) result }
+    ensures given { Gives choices_view (each (rules.choice (sight_view sight.now) object_type) (map tree_choice_view all.now)) result }
+    ensures told { IfErr result (Tells (any_of (broken.choice (sight_view sight.now) object_type) (map tree_choice_view all.now))) }
 {
     let mut done = Vec::new(alloc);
     for one in all {
@@ -191,7 +205,8 @@ pub fn choices(
     object_type: ObjectType,
     all: &[TreeChoice],
 ) -> Result<Vec<Choice>, NameFault>
-    ensures { Gives choices_view (rules.choices (sight_view sight.now) object_type (map tree_choice_view all.now)) result }
+    ensures given { Gives choices_view (rules.choices (sight_view sight.now) object_type (map tree_choice_view all.now)) result }
+    ensures told { IfErr result (Tells (broken.choices (sight_view sight.now) object_type (map tree_choice_view all.now))) }
 {
     if are_others(all) {
         return Ok(Vec::new(alloc));

@@ -1,7 +1,11 @@
 //! What statements ask of an expression: a condition (IEEE 1076-2008, 9.2.9), a value of a type (9.3.3, 10.5) and what a case
 //! selects by (10.9). Each takes memory for what is analysed, and fails at the first byte where a rule is broken.
 
-ghost use Rattle.std.specs.Prelude.{◌≡◌};
+ghost use Rattle.std.specs.Prelude.{◌≡◌, IfErr, ◌∷◌, []};
+ghost use Rattle.vhdl_names_problems.specs.Broken.{Tells, is_of};
+ghost use Rattle.vhdl_names_problems.specs.Choices as choices;
+ghost use Rattle.vhdl_names_problems.specs.Expressions as broken;
+ghost use Rattle.vhdl_names_rules.specs.declared.fault.NameProblem.TheVariants.{TypeMismatch};
 ghost use Rattle.vhdl_names_rules.specs.Choices.{selector as selector_of};
 ghost use Rattle.vhdl_names_rules.specs.Expressions as rules;
 ghost use Rattle.vhdl_names_rules.specs.Gives.{Gives};
@@ -21,7 +25,8 @@ use vhdl_tree::{Expr, Value as TreeValue};
 
 /// The truth that an operand is, which starts at byte `at`; one element is one.
 fn as_test(operand: Typed, at: usize) -> Result<Test, NameFault>
-    ensures { Gives test_view (rules.as_test (typed_view operand)) result }
+    ensures given { Gives test_view (rules.as_test (typed_view operand)) result }
+    ensures told { IfErr result (Tells (is_of (TypeMismatch ∷ []))) }
 {
     match operand {
         Typed::Truth(test) => Ok(test),
@@ -37,7 +42,8 @@ fn as_test(operand: Typed, at: usize) -> Result<Test, NameFault>
 /// A condition: a truth, or one element (9.2.9).
 #[tactic(auto, using(crate::proofs::Asking::condition_is))]
 pub fn condition(alloc: Global, sight: &Sight, e: &Expr) -> Result<Test, NameFault>
-    ensures { Gives test_view (rules.condition (sight_view sight.now) (trees.view e.now)) result }
+    ensures given { Gives test_view (rules.condition (sight_view sight.now) (trees.view e.now)) result }
+    ensures told { IfErr result (Tells (broken.condition (sight_view sight.now) (trees.view e.now))) }
 {
     let value = typed(alloc, sight, e)?;
     as_test(value, start(e))
@@ -46,7 +52,8 @@ pub fn condition(alloc: Global, sight: &Sight, e: &Expr) -> Result<Test, NameFau
 /// The truth over static integers alone that an operand is, which starts at byte `at`.
 #[tactic(auto, using(crate::proofs::Asking::not_static))]
 fn as_static_test(operand: Typed, at: usize) -> Result<StaticTest, NameFault>
-    ensures { Gives static_test_view (rules.as_static_test (typed_view operand)) result }
+    ensures given { Gives static_test_view (rules.as_static_test (typed_view operand)) result }
+    ensures told { IfErr result (Tells (is_of (TypeMismatch ∷ []))) }
 {
     match operand {
         Typed::Truth(test) => match test.as_fixed() {
@@ -59,7 +66,8 @@ fn as_static_test(operand: Typed, at: usize) -> Result<StaticTest, NameFault>
 
 /// A generate's condition, which is over static integers alone.
 pub fn static_condition(alloc: Global, sight: &Sight, e: &Expr) -> Result<StaticTest, NameFault>
-    ensures { Gives static_test_view (static_condition_of (sight_view sight.now) (trees.view e.now)) result }
+    ensures given { Gives static_test_view (static_condition_of (sight_view sight.now) (trees.view e.now)) result }
+    ensures told { IfErr result (Tells (broken.static_condition (sight_view sight.now) (trees.view e.now))) }
 {
     let value = typed(alloc, sight, e)?;
     as_static_test(value, start(e))
@@ -67,7 +75,8 @@ pub fn static_condition(alloc: Global, sight: &Sight, e: &Expr) -> Result<Static
 
 /// The value of a kind that an operand is, which starts at byte `at`.
 fn as_elements(kind: ElementKind, operand: Typed, at: usize) -> Result<Given, NameFault>
-    ensures { Gives given_view (rules.as_value (Elements kind) (typed_view operand)) result }
+    ensures given { Gives given_view (rules.as_value (Elements kind) (typed_view operand)) result }
+    ensures told { IfErr result (Tells (is_of (TypeMismatch ∷ []))) }
 {
     if let Typed::Elements(own, vector) = operand {
         if kind.fits(own) {
@@ -79,7 +88,8 @@ fn as_elements(kind: ElementKind, operand: Typed, at: usize) -> Result<Given, Na
 
 /// The value of an enumeration that an operand is, which starts at byte `at`.
 fn as_state(number: usize, count: usize, operand: Typed, at: usize) -> Result<Given, NameFault>
-    ensures { Gives given_view (rules.as_value (Enumeration number count) (typed_view operand)) result }
+    ensures given { Gives given_view (rules.as_value (Enumeration number count) (typed_view operand)) result }
+    ensures told { IfErr result (Tells (is_of (TypeMismatch ∷ []))) }
 {
     match operand {
         Typed::Enumerated {
@@ -93,7 +103,8 @@ fn as_state(number: usize, count: usize, operand: Typed, at: usize) -> Result<Gi
 
 /// The value of a type that an operand is, which starts at byte `at`.
 fn as_value(object_type: ObjectType, operand: Typed, at: usize) -> Result<Given, NameFault>
-    ensures { Gives given_view (rules.as_value object_type (typed_view operand)) result }
+    ensures given { Gives given_view (rules.as_value object_type (typed_view operand)) result }
+    ensures told { IfErr result (Tells (is_of (TypeMismatch ∷ []))) }
 {
     match object_type {
         ObjectType::Elements(kind) => as_elements(kind, operand, at),
@@ -110,7 +121,8 @@ fn as_filled(
     at: usize,
     element_at: usize,
 ) -> Result<Given, NameFault>
-    ensures { Gives given_view (rules.as_filled object_type (typed_view operand)) result }
+    ensures given { Gives given_view (rules.as_filled object_type (typed_view operand)) result }
+    ensures told { IfErr result (Tells (is_of (TypeMismatch ∷ []))) }
 {
     match object_type {
         ObjectType::Elements(kind) if kind.is_vector() => match operand {
@@ -135,7 +147,8 @@ pub fn given(
     object_type: ObjectType,
     value: &TreeValue,
 ) -> Result<Given, NameFault>
-    ensures { Gives given_view (rules.value_given (sight_view sight.now) object_type (trees.value_view value.now)) result }
+    ensures given { Gives given_view (rules.value_given (sight_view sight.now) object_type (trees.value_view value.now)) result }
+    ensures told { IfErr result (Tells (broken.value_given (sight_view sight.now) object_type (trees.value_view value.now))) }
 {
     match value {
         TreeValue::Expr(e) => {
@@ -151,7 +164,8 @@ pub fn given(
 
 /// The type and the value that a case selects by, of an operand which starts at byte `at`.
 fn as_selector(operand: Typed, at: usize) -> Result<(ObjectType, Value), NameFault>
-    ensures { Gives selector_view (selector_of (typed_view operand)) result }
+    ensures given { Gives selector_view (selector_of (typed_view operand)) result }
+    ensures told { IfErr result (Tells (is_of (TypeMismatch ∷ []))) }
 {
     match operand {
         Typed::Elements(ElementKind::OpenVector, vector) => Ok((
@@ -173,7 +187,8 @@ fn as_selector(operand: Typed, at: usize) -> Result<(ObjectType, Value), NameFau
 /// The type and the value that a case selects by: elements of the nine values, or an enumeration
 /// (10.9).
 pub fn selector(alloc: Global, sight: &Sight, e: &Expr) -> Result<(ObjectType, Value), NameFault>
-    ensures { Gives selector_view (selected_by (sight_view sight.now) (trees.view e.now)) result }
+    ensures given { Gives selector_view (selected_by (sight_view sight.now) (trees.view e.now)) result }
+    ensures told { IfErr result (Tells (choices.selected_by (sight_view sight.now) (trees.view e.now))) }
 {
     let value = typed(alloc, sight, e)?;
     as_selector(value, start(e))

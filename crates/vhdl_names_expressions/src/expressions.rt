@@ -1,16 +1,20 @@
 //! The types of expressions (IEEE 1076-2008, clause 9). Faults are told in order of the text, those
 //! of operands before those of their operator.
 
-ghost use Rattle.std.specs.Prelude.{◌≡◌, ◌≢◌, Some, map, option_map};
+ghost use Rattle.std.specs.Prelude.{◌≡◌, ◌≢◌, Some, map, option_map, IfErr, ◌∷◌, []};
+ghost use Rattle.vhdl_names_problems.specs.Broken.{Broken, Tells, is_of, ◌∪◌};
+ghost use Rattle.vhdl_names_problems.specs.Expressions as broken;
 ghost use Rattle.vhdl_names_rules.specs.Expressions as rules;
 ghost use Rattle.vhdl_names_rules.specs.Gives.{Gives};
 ghost use Rattle.vhdl_names_rules.specs.Names.{denoted as denoted_of};
 ghost use Rattle.vhdl_names_rules.specs.declared.fault.NameFault.TheVariants.{NoMemory};
+ghost use Rattle.vhdl_names_rules.specs.declared.fault.NameProblem.TheVariants.{TypeMismatch};
 ghost use Rattle.vhdl_names_rules.specs.views.Integers.{static_view, range_view};
 ghost use Rattle.vhdl_tree.specs.Tree as t;
 ghost use Rattle.vhdl_tree.specs.View.{view, suffix_view, ident_view, range_view as tree_range_view};
 ghost use Rattle.vhdl_names_expressions.specs.Chosen.{is_name, arguments_of, started, links_of};
 ghost use Rattle.vhdl_names_expressions.specs.Steps.{is_parens, enclosed_if, linked, all_linked};
+ghost use Rattle.vhdl_names_expressions.specs.Breaking.{link_breaks, all_break, started_breaks};
 ghost use Rattle.vhdl_names_types.specs.Views.{meaning_view, sight_view, typed_view, typed_suffix_view};
 
 use std::alloc::Global;
@@ -38,7 +42,8 @@ pub fn start(e: &Expr) -> usize {
 
 /// The static integer that an operand is, which starts at byte `at`.
 pub fn as_integer(operand: Typed, at: usize) -> Result<Static, NameFault>
-    ensures { Gives static_view (rules.as_integer (typed_view operand)) result }
+    ensures given { Gives static_view (rules.as_integer (typed_view operand)) result }
+    ensures told { IfErr result (Tells (is_of (TypeMismatch ∷ []))) }
 {
     match operand {
         Typed::Integer(integer) => Ok(integer),
@@ -109,7 +114,8 @@ fn is_one_name(arguments: &[Expr]) -> bool
 #[cycle(typed)]
 #[tactic(auto, unfolding(vhdl_names_rules::specs::Expressions::typed))]
 pub fn typed(alloc: Global, sight: &Sight, e: &Expr) -> Result<Typed, NameFault>
-    ensures { Gives typed_view (rules.typed (sight_view sight.now) (view e.now)) result }
+    ensures given { Gives typed_view (rules.typed (sight_view sight.now) (view e.now)) result }
+    ensures told { IfErr result (Tells (broken.typed (sight_view sight.now) (view e.now))) }
 {
     match e {
         Expr::Integer(literal) => integer_literal(literal),
@@ -139,7 +145,8 @@ pub fn typed(alloc: Global, sight: &Sight, e: &Expr) -> Result<Typed, NameFault>
 /// A chain's first operand and its first operator with the right operand.
 #[cycle(typed)]
 fn begun(alloc: Global, sight: &Sight, chain: &Chain) -> Result<Typed, NameFault>
-    ensures { Gives typed_view (started (sight_view sight.now) chain.now) result }
+    ensures given { Gives typed_view (started (sight_view sight.now) chain.now) result }
+    ensures told { IfErr result (Tells (started_breaks (sight_view sight.now) chain.now)) }
 {
     let first = typed(alloc, sight, &chain.first)?;
     let after_parens = stands_in_parens(&chain.first);
@@ -149,7 +156,8 @@ fn begun(alloc: Global, sight: &Sight, chain: &Chain) -> Result<Typed, NameFault
 /// A chain's further operators, on what stands before them.
 #[cycle(typed)]
 fn further(alloc: Global, sight: &Sight, chain: &Chain, before: Typed) -> Result<Typed, NameFault>
-    ensures { Gives typed_view (all_linked (sight_view sight.now) (Some (typed_view before)) (links_of chain.now)) result }
+    ensures given { Gives typed_view (all_linked (sight_view sight.now) (Some (typed_view before)) (links_of chain.now)) result }
+    ensures told { IfErr result (Tells (all_break (sight_view sight.now) (Some (typed_view before)) (links_of chain.now))) }
 {
     links(alloc, sight, &chain.rest, before)
 }
@@ -163,7 +171,8 @@ fn link(
     after_parens: bool,
     first: Typed,
 ) -> Result<Typed, NameFault>
-    ensures { Gives typed_view (linked (sight_view sight.now) after_parens (Some (typed_view first)) link.now) result }
+    ensures given { Gives typed_view (linked (sight_view sight.now) after_parens (Some (typed_view first)) link.now) result }
+    ensures told { IfErr result (Tells (link_breaks (sight_view sight.now) after_parens (Some (typed_view first)) link.now)) }
 {
     let operand = typed(alloc, sight, &link.operand)?;
     let operand = beside(after_parens, operand);
@@ -181,7 +190,8 @@ fn link(
 #[cycle(typed)]
 #[tactic(auto, using(crate::proofs::Chains::all_linked_none))]
 fn links(alloc: Global, sight: &Sight, links: &[Link], first: Typed) -> Result<Typed, NameFault>
-    ensures { Gives typed_view (all_linked (sight_view sight.now) (Some (typed_view first)) links.now) result }
+    ensures given { Gives typed_view (all_linked (sight_view sight.now) (Some (typed_view first)) links.now) result }
+    ensures told { IfErr result (Tells (all_break (sight_view sight.now) (Some (typed_view first)) links.now)) }
 {
     let mut done = first;
     for next in links {
@@ -206,7 +216,8 @@ fn is_no_value(meaning: &Meaning, suffix: &Suffix) -> bool {
 /// What is told of a name that is no value: its attribute, if it has one, is left out, as each is but
 /// 'event.
 fn attribute_fault(meaning: &Meaning, name: &Name, fault: NameFault) -> NameFault
-    ensures { result ≢ NoMemory → fault ≢ NoMemory }
+    ensures given { result ≢ NoMemory → fault ≢ NoMemory }
+    ensures told { (b : Broken) → Tells b fault → Tells (b ∪ broken.attribute (option_map ident_view name.now.attribute)) result }
 {
     match (fault, &name.attribute) {
         (NameFault::At { .. }, Some(attribute)) => {
@@ -228,7 +239,8 @@ fn denoted_name(
     suffix: TypedSuffix,
     name: &Name,
 ) -> Result<Typed, NameFault>
-    ensures { Gives typed_view (denoted_of (meaning_view meaning.now) (typed_suffix_view suffix)) result }
+    ensures given { Gives typed_view (denoted_of (meaning_view meaning.now) (typed_suffix_view suffix)) result }
+    ensures told { IfErr result (Tells (is_of (broken.name_problems (meaning_view meaning.now)) ∪ broken.attribute (option_map ident_view name.now.attribute))) }
 {
     match denoted(alloc, meaning, suffix, name.identifier.at) {
         Ok(value) => Ok(value),
@@ -240,7 +252,8 @@ fn denoted_name(
 #[cycle(typed)]
 #[tactic(auto, using(crate::proofs::Chains::named_in_turn))]
 fn named(alloc: Global, sight: &Sight, name: &Name) -> Result<Typed, NameFault>
-    ensures { Gives typed_view (rules.typed (sight_view sight.now) (t.named (ident_view name.now.identifier) (suffix_view name.now.suffix) (option_map ident_view name.now.attribute))) result }
+    ensures given { Gives typed_view (rules.typed (sight_view sight.now) (t.named (ident_view name.now.identifier) (suffix_view name.now.suffix) (option_map ident_view name.now.attribute))) result }
+    ensures told { IfErr result (Tells (broken.typed (sight_view sight.now) (t.named (ident_view name.now.identifier) (suffix_view name.now.suffix) (option_map ident_view name.now.attribute)))) }
 {
     let at = name.identifier.at;
     let meaning = meaning_of(sight, &name.identifier)?;
@@ -254,7 +267,8 @@ fn named(alloc: Global, sight: &Sight, name: &Name) -> Result<Typed, NameFault>
 #[cycle(typed)]
 #[tactic(auto, using(crate::proofs::Chains::sliced_is), unfolding(vhdl_names_rules::specs::Expressions::typed_suffix))]
 pub fn typed_suffix(alloc: Global, sight: &Sight, suffix: &Suffix) -> Result<TypedSuffix, NameFault>
-    ensures { Gives typed_suffix_view (rules.typed_suffix (sight_view sight.now) (suffix_view suffix.now)) result }
+    ensures given { Gives typed_suffix_view (rules.typed_suffix (sight_view sight.now) (suffix_view suffix.now)) result }
+    ensures told { IfErr result (Tells (broken.typed_suffix (sight_view sight.now) (suffix_view suffix.now))) }
 {
     match suffix {
         Suffix::Plain => Ok(TypedSuffix::Plain),
@@ -269,7 +283,8 @@ pub fn typed_suffix(alloc: Global, sight: &Sight, suffix: &Suffix) -> Result<Typ
 /// Indices or arguments.
 #[cycle(typed)]
 fn arguments(alloc: Global, sight: &Sight, all: &[Expr]) -> Result<TypedSuffix, NameFault>
-    ensures { Gives typed_suffix_view (arguments_of (sight_view sight.now) (t.exprs_of (map view all.now))) result }
+    ensures given { Gives typed_suffix_view (arguments_of (sight_view sight.now) (t.exprs_of (map view all.now))) result }
+    ensures told { IfErr result (Tells (broken.typed_each (sight_view sight.now) (t.exprs_of (map view all.now)))) }
 {
     let typed = typed_each(alloc, sight, all)?;
     Ok(TypedSuffix::Arguments(is_one_name(all), typed))
@@ -279,7 +294,8 @@ fn arguments(alloc: Global, sight: &Sight, all: &[Expr]) -> Result<TypedSuffix, 
 #[cycle(typed)]
 #[tactic(auto, using(crate::proofs::Chains::static_is))]
 pub fn static_integer(alloc: Global, sight: &Sight, e: &Expr) -> Result<Static, NameFault>
-    ensures { Gives static_view (rules.static (sight_view sight.now) (view e.now)) result }
+    ensures given { Gives static_view (rules.static (sight_view sight.now) (view e.now)) result }
+    ensures told { IfErr result (Tells (broken.static (sight_view sight.now) (view e.now))) }
 {
     let value = typed(alloc, sight, e)?;
     as_integer(value, start(e))
@@ -288,7 +304,8 @@ pub fn static_integer(alloc: Global, sight: &Sight, e: &Expr) -> Result<Static, 
 /// A range of static integers. It takes memory for what is analysed.
 #[cycle(typed)]
 pub fn static_range(alloc: Global, sight: &Sight, range: &Range) -> Result<StaticRange, NameFault>
-    ensures { Gives range_view (rules.static_range (sight_view sight.now) (tree_range_view range.now)) result }
+    ensures given { Gives range_view (rules.static_range (sight_view sight.now) (tree_range_view range.now)) result }
+    ensures told { IfErr result (Tells (broken.static_range (sight_view sight.now) (tree_range_view range.now))) }
 {
     let left = static_integer(alloc, sight, &range.left)?;
     let right = static_integer(alloc, sight, &range.right)?;
@@ -302,7 +319,8 @@ pub fn static_range(alloc: Global, sight: &Sight, range: &Range) -> Result<Stati
 /// Arguments with their types. It takes memory for what is analysed.
 #[cycle(typed)]
 pub fn typed_each(alloc: Global, sight: &Sight, arguments: &[Expr]) -> Result<Vec<Typed>, NameFault>
-    ensures { Gives (λ v. map typed_view v.items) (rules.typed_each (sight_view sight.now) (t.exprs_of (map view arguments.now))) result }
+    ensures given { Gives (λ v. map typed_view v.items) (rules.typed_each (sight_view sight.now) (t.exprs_of (map view arguments.now))) result }
+    ensures told { IfErr result (Tells (broken.typed_each (sight_view sight.now) (t.exprs_of (map view arguments.now)))) }
 {
     let mut done = Vec::new(alloc);
     for argument in arguments {

@@ -1,6 +1,10 @@
 //! The values of constants that are no integers, and of defaults (IEEE 1076-2008, 6.4.2.2, 9.4).
 
-ghost use Rattle.std.specs.Prelude.{◌≡◌, map, option_map};
+ghost use Rattle.std.specs.Prelude.{◌≡◌, map, option_map, true, IfErr, ◌∷◌, []};
+ghost use Rattle.vhdl_names_problems.specs.Broken.{Tells, is_of};
+ghost use Rattle.vhdl_names_problems.specs.Subtypes as broken;
+ghost use Rattle.vhdl_names_problems.specs.Subtypes.{value_problems, suffixed_problems};
+ghost use Rattle.vhdl_names_rules.specs.declared.fault.NameProblem.TheVariants.{TypeMismatch, LeftOut};
 ghost use Rattle.vhdl_names_rules.specs.Gives.{Gives};
 ghost use Rattle.vhdl_names_rules.specs.Subtypes as rules;
 ghost use Rattle.vhdl_names_rules.specs.declared.kind.ObjectType.TheVariants.{Elements, Enumeration};
@@ -20,7 +24,9 @@ use vhdl_names_units::Fixed;
 use vhdl_tree::{Expr, Name, Value as TreeValue};
 
 /// What is wrong with a name of this meaning as the value of a constant.
-fn value_problem(meaning: &Meaning) -> NameProblem {
+fn value_problem(meaning: &Meaning) -> NameProblem
+    ensures { is_of (value_problems (meaning_view meaning.now)) result ≡ true }
+{
     match meaning {
         Meaning::Unfinished => NameProblem::Undeclared,
         Meaning::Literal { .. } | Meaning::Constant(..) => NameProblem::TypeMismatch,
@@ -31,7 +37,8 @@ fn value_problem(meaning: &Meaning) -> NameProblem {
 
 /// The value that a constant of this kind is; its name is at byte `at`.
 fn constant_value(kind: ElementKind, meaning: &Meaning, at: usize) -> Result<Fixed, NameFault>
-    ensures { Gives fixed_view (rules.named_value (Elements kind) (meaning_view meaning.now)) result }
+    ensures given { Gives fixed_view (rules.named_value (Elements kind) (meaning_view meaning.now)) result }
+    ensures told { IfErr result (Tells (is_of (value_problems (meaning_view meaning.now)))) }
 {
     match (kind, meaning) {
         (ElementKind::Element, Meaning::Constant(k, ElementKind::Element, _))
@@ -50,7 +57,8 @@ fn position_value(
     meaning: &Meaning,
     at: usize,
 ) -> Result<Fixed, NameFault>
-    ensures { Gives fixed_view (rules.named_value (Enumeration number count) (meaning_view meaning.now)) result }
+    ensures given { Gives fixed_view (rules.named_value (Enumeration number count) (meaning_view meaning.now)) result }
+    ensures told { IfErr result (Tells (is_of (value_problems (meaning_view meaning.now)))) }
 {
     match meaning {
         Meaning::Literal {
@@ -64,7 +72,8 @@ fn position_value(
 
 /// The value that a constant or a literal of an enumeration is; its name is at byte `at`.
 fn named_value(object_type: ObjectType, meaning: &Meaning, at: usize) -> Result<Fixed, NameFault>
-    ensures { Gives fixed_view (rules.named_value object_type (meaning_view meaning.now)) result }
+    ensures given { Gives fixed_view (rules.named_value object_type (meaning_view meaning.now)) result }
+    ensures told { IfErr result (Tells (is_of (value_problems (meaning_view meaning.now)))) }
 {
     match object_type {
         ObjectType::Elements(kind) => constant_value(kind, meaning, at),
@@ -74,7 +83,8 @@ fn named_value(object_type: ObjectType, meaning: &Meaning, at: usize) -> Result<
 
 /// to_unsigned of a number and a size; its name is at byte `at`.
 fn encoded(arguments: Option<(Typed, Typed)>, at: usize) -> Result<Fixed, NameFault>
-    ensures { Gives fixed_view (encoded_fixed (option_map (λ p. (typed_view p.0, typed_view p.1)) arguments)) result }
+    ensures given { Gives fixed_view (encoded_fixed (option_map (λ p. (typed_view p.0, typed_view p.1)) arguments)) result }
+    ensures told { IfErr result (Tells (is_of (TypeMismatch ∷ []))) }
 {
     let Some((first, second)) = arguments else {
         return Err(NameProblem::TypeMismatch.at(at));
@@ -93,7 +103,8 @@ fn encoded_value(
     arguments: Vec<Typed>,
     at: usize,
 ) -> Result<Fixed, NameFault>
-    ensures { Gives fixed_view (rules.encoded_value object_type (meaning_view meaning.now) (map typed_view arguments.items)) result }
+    ensures given { Gives fixed_view (rules.encoded_value object_type (meaning_view meaning.now) (map typed_view arguments.items)) result }
+    ensures told { IfErr result (Tells (is_of (value_problems (meaning_view meaning.now)))) }
 {
     match (object_type, meaning) {
         (ObjectType::Elements(ElementKind::Unsigned), Meaning::Function(Function::ToUnsigned)) => {
@@ -110,7 +121,8 @@ fn suffixed(
     suffix: TypedSuffix,
     at: usize,
 ) -> Result<Fixed, NameFault>
-    ensures { Gives fixed_view (suffixed_value object_type (meaning_view meaning.now) (typed_suffix_view suffix)) result }
+    ensures given { Gives fixed_view (suffixed_value object_type (meaning_view meaning.now) (typed_suffix_view suffix)) result }
+    ensures told { IfErr result (Tells (is_of (suffixed_problems (meaning_view meaning.now) (typed_suffix_view suffix)))) }
 {
     match suffix {
         TypedSuffix::Plain => named_value(object_type, meaning, at),
@@ -127,7 +139,8 @@ fn fixed_name(
     object_type: ObjectType,
     name: &Name,
 ) -> Result<Fixed, NameFault>
-    ensures { Gives fixed_view (rules.fixed (sight_view sight.now) object_type (t.named (ident_view name.now.identifier) (suffix_view name.now.suffix) (option_ident_view name.now.attribute))) result }
+    ensures given { Gives fixed_view (rules.fixed (sight_view sight.now) object_type (t.named (ident_view name.now.identifier) (suffix_view name.now.suffix) (option_ident_view name.now.attribute))) result }
+    ensures told { IfErr result (Tells (broken.fixed (sight_view sight.now) object_type (t.named (ident_view name.now.identifier) (suffix_view name.now.suffix) (option_ident_view name.now.attribute)))) }
 {
     let meaning = meaning_of(sight, &name.identifier)?;
     let suffix = typed_suffix(alloc, sight, &name.suffix)?;
@@ -139,7 +152,8 @@ fn fixed_name(
 
 /// A literal as it stands, as the value of a type.
 fn literal_value(alloc: Global, object_type: ObjectType, e: &Expr) -> Result<Fixed, NameFault>
-    ensures { Gives fixed_view (rules.literal_value object_type (view e.now)) result }
+    ensures given { Gives fixed_view (rules.literal_value object_type (view e.now)) result }
+    ensures told { IfErr result (Tells (is_of (TypeMismatch ∷ LeftOut ∷ []))) }
 {
     match object_type {
         ObjectType::Elements(kind) => {
@@ -157,7 +171,8 @@ fn fixed(
     object_type: ObjectType,
     e: &Expr,
 ) -> Result<Fixed, NameFault>
-    ensures { Gives fixed_view (rules.fixed (sight_view sight.now) object_type (view e.now)) result }
+    ensures given { Gives fixed_view (rules.fixed (sight_view sight.now) object_type (view e.now)) result }
+    ensures told { IfErr result (Tells (broken.fixed (sight_view sight.now) object_type (view e.now))) }
 {
     match name_of(e) {
         Some(name) => fixed_name(alloc, sight, object_type, name),
@@ -191,7 +206,8 @@ fn filled(
     at: usize,
     element_at: usize,
 ) -> Result<Fixed, NameFault>
-    ensures { Gives fixed_view (filled_with object_type code) result }
+    ensures given { Gives fixed_view (filled_with object_type code) result }
+    ensures told { IfErr result (Tells (is_of (TypeMismatch ∷ LeftOut ∷ []))) }
 {
     let Some(code) = code else {
         return Err(NameProblem::LeftOut.at(element_at));
@@ -215,7 +231,8 @@ pub fn fixed_value(
     object_type: ObjectType,
     value: &TreeValue,
 ) -> Result<Fixed, NameFault>
-    ensures { Gives fixed_view (rules.fixed_value (sight_view sight.now) object_type (tree_value_view value.now)) result }
+    ensures given { Gives fixed_view (rules.fixed_value (sight_view sight.now) object_type (tree_value_view value.now)) result }
+    ensures told { IfErr result (Tells (broken.fixed_value (sight_view sight.now) object_type (tree_value_view value.now))) }
 {
     match value {
         TreeValue::Expr(e) => fixed(alloc, sight, object_type, e),

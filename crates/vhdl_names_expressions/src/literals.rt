@@ -1,7 +1,9 @@
 //! Literals as they stand, which constants, defaults and choices ask for (IEEE 1076-2008, 9.3.2), and
 //! expressions that are one name.
 
-ghost use Rattle.std.specs.Prelude.{◌≡◌, option_map, option_copied};
+ghost use Rattle.std.specs.Prelude.{◌≡◌, option_map, option_copied, true, IfErr, ◌∷◌, []};
+ghost use Rattle.vhdl_names_problems.specs.Broken.{Tells, is_of};
+ghost use Rattle.vhdl_names_rules.specs.declared.fault.NameProblem.TheVariants.{TypeMismatch, LeftOut};
 ghost use Rattle.vhdl_names_rules.specs.Gives.{Gives};
 ghost use Rattle.vhdl_names_rules.specs.Subtypes as subtypes;
 ghost use Rattle.vhdl_tree.specs.View.{view, name_view};
@@ -39,7 +41,8 @@ fn character_values(
     code: u8,
     at: usize,
 ) -> Result<Vec<Nine>, NameFault>
-    ensures { Gives (λ v. v.items) (character_values_of kind code) result }
+    ensures given { Gives (λ v. v.items) (character_values_of kind code) result }
+    ensures told { IfErr result (Tells (is_of (TypeMismatch ∷ []))) }
 {
     match (kind, nine_of(code)) {
         (ElementKind::Element, Some(value)) => {
@@ -53,7 +56,9 @@ fn character_values(
 
 /// What is wrong with an expression, which is no name, as a value of an enumeration: a literal is of
 /// another type, and any other form is left out.
-pub(crate) fn literal_problem(e: &Expr) -> NameProblem {
+pub(crate) fn literal_problem(e: &Expr) -> NameProblem
+    ensures { is_of (TypeMismatch ∷ LeftOut ∷ []) result ≡ true }
+{
     match e {
         Expr::Character { .. } | Expr::StringLiteral(_) | Expr::BitString(_) => {
             NameProblem::TypeMismatch
@@ -70,7 +75,8 @@ pub(crate) fn literal_values(
     kind: ElementKind,
     e: &Expr,
 ) -> Result<Vec<Nine>, NameFault>
-    ensures { Gives (λ v. v.items) (subtypes.literal_values kind (view e.now)) result }
+    ensures given { Gives (λ v. v.items) (subtypes.literal_values kind (view e.now)) result }
+    ensures told { IfErr result (Tells (is_of (TypeMismatch ∷ LeftOut ∷ []))) }
 {
     match e {
         Expr::Character { at, code } => character_values(alloc, kind, *code, *at),

@@ -1,7 +1,10 @@
 //! Names of signals, targets and variables (IEEE 1076-2008, 8.1, 10.5, 10.6). Each takes memory for
 //! what is analysed.
 
-ghost use Rattle.std.specs.Prelude.{◌≡◌};
+ghost use Rattle.std.specs.Prelude.{◌≡◌, true, IfErr};
+ghost use Rattle.vhdl_names_problems.specs.Broken.{Tells, is_of};
+ghost use Rattle.vhdl_names_problems.specs.Expressions.{name_problems};
+ghost use Rattle.vhdl_names_problems.specs.Statements as broken;
 ghost use Rattle.vhdl_names_rules.specs.Gives.{Gives};
 ghost use Rattle.vhdl_names_rules.specs.Statements as rules;
 ghost use Rattle.vhdl_tree.specs.View.{name_view};
@@ -16,7 +19,9 @@ use vhdl_names_units::{SignalName, VariableName};
 use vhdl_tree::{Mode, Name};
 
 /// What is wrong with a name of this meaning where an object is wanted.
-fn object_problem(meaning: &Meaning) -> NameProblem {
+fn object_problem(meaning: &Meaning) -> NameProblem
+    ensures { is_of (name_problems (meaning_view meaning.now)) result ≡ true }
+{
     match meaning {
         Meaning::Unfinished => NameProblem::Undeclared,
         _ => NameProblem::WrongKind,
@@ -25,7 +30,8 @@ fn object_problem(meaning: &Meaning) -> NameProblem {
 
 /// The signal or port that a name at byte `at` is, or the part of one.
 fn as_signal(meaning: &Meaning, suffix: TypedSuffix, at: usize) -> Result<SignalName, NameFault>
-    ensures { Gives signal_name_view (rules.as_signal (meaning_view meaning.now) (typed_suffix_view suffix)) result }
+    ensures given { Gives signal_name_view (rules.as_signal (meaning_view meaning.now) (typed_suffix_view suffix)) result }
+    ensures told { IfErr result (Tells (is_of (name_problems (meaning_view meaning.now)))) }
 {
     let (signal, mode, object_type) = match meaning {
         Meaning::Port(k, mode, kind) => {
@@ -45,7 +51,8 @@ fn as_signal(meaning: &Meaning, suffix: TypedSuffix, at: usize) -> Result<Signal
 /// The signal that a name is.
 #[tactic(auto, using(crate::proofs::Asking::signal_in_turn))]
 pub fn signal(alloc: Global, sight: &Sight, name: &Name) -> Result<SignalName, NameFault>
-    ensures { Gives signal_name_view (rules.signal (sight_view sight.now) (name_view name.now)) result }
+    ensures given { Gives signal_name_view (rules.signal (sight_view sight.now) (name_view name.now)) result }
+    ensures told { IfErr result (Tells (broken.signal (sight_view sight.now) (name_view name.now))) }
 {
     let meaning = meaning_of(sight, &name.identifier)?;
     let suffix = typed_suffix(alloc, sight, &name.suffix)?;
@@ -58,7 +65,8 @@ pub fn signal(alloc: Global, sight: &Sight, name: &Name) -> Result<SignalName, N
 /// The target of a signal assignment: a signal that is no in port.
 #[tactic(auto, using(crate::proofs::Asking::target_is))]
 pub fn target(alloc: Global, sight: &Sight, name: &Name) -> Result<SignalName, NameFault>
-    ensures { Gives signal_name_view (rules.target (sight_view sight.now) (name_view name.now)) result }
+    ensures given { Gives signal_name_view (rules.target (sight_view sight.now) (name_view name.now)) result }
+    ensures told { IfErr result (Tells (broken.target (sight_view sight.now) (name_view name.now))) }
 {
     let target = signal(alloc, sight, name)?;
     match target.mode {
@@ -69,7 +77,8 @@ pub fn target(alloc: Global, sight: &Sight, name: &Name) -> Result<SignalName, N
 
 /// The variable that a name at byte `at` is, or the part of one.
 fn as_variable(meaning: &Meaning, suffix: TypedSuffix, at: usize) -> Result<VariableName, NameFault>
-    ensures { Gives variable_name_view (rules.as_variable (meaning_view meaning.now) (typed_suffix_view suffix)) result }
+    ensures given { Gives variable_name_view (rules.as_variable (meaning_view meaning.now) (typed_suffix_view suffix)) result }
+    ensures told { IfErr result (Tells (is_of (name_problems (meaning_view meaning.now)))) }
 {
     match meaning {
         Meaning::Variable(number, object_type) => {
@@ -88,7 +97,8 @@ fn as_variable(meaning: &Meaning, suffix: TypedSuffix, at: usize) -> Result<Vari
 /// The target of a variable assignment: a variable.
 #[tactic(auto, using(crate::proofs::Asking::variable_in_turn))]
 pub fn variable(alloc: Global, sight: &Sight, name: &Name) -> Result<VariableName, NameFault>
-    ensures { Gives variable_name_view (rules.variable (sight_view sight.now) (name_view name.now)) result }
+    ensures given { Gives variable_name_view (rules.variable (sight_view sight.now) (name_view name.now)) result }
+    ensures told { IfErr result (Tells (broken.variable (sight_view sight.now) (name_view name.now))) }
 {
     let meaning = meaning_of(sight, &name.identifier)?;
     let suffix = typed_suffix(alloc, sight, &name.suffix)?;

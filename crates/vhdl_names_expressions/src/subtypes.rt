@@ -1,6 +1,9 @@
 //! Subtype indications (IEEE 1076-2008, 6.3).
 
-ghost use Rattle.std.specs.Prelude.{◌≡◌, None};
+ghost use Rattle.std.specs.Prelude.{◌≡◌, Some, None, IfErr};
+ghost use Rattle.vhdl_names_problems.specs.Broken.{Tells, ◌∪◌, unless};
+ghost use Rattle.vhdl_names_problems.specs.Expressions.{static_range as range_breaks};
+ghost use Rattle.vhdl_names_problems.specs.Subtypes as broken;
 ghost use Rattle.vhdl_names_rules.specs.Gives.{Gives};
 ghost use Rattle.vhdl_names_rules.specs.Expressions as expressions;
 ghost use Rattle.vhdl_names_rules.specs.Subtypes as rules;
@@ -17,7 +20,9 @@ use vhdl_names_units::{Form, Subtype};
 use vhdl_tree::{Range, Subtype as TreeSubtype};
 
 /// What is wrong with a type mark: it is no type, or its range is missing or too much.
-fn mark_problem(meaning: &Meaning) -> NameProblem {
+fn mark_problem(meaning: &Meaning) -> NameProblem
+    ensures { result ≡ broken.mark_problem (meaning_view meaning.now) }
+{
     match meaning {
         Meaning::IntegerType(_)
         | Meaning::ElementType { .. }
@@ -30,7 +35,8 @@ fn mark_problem(meaning: &Meaning) -> NameProblem {
 
 /// What objects of a type mark without a range are, where the mark is at byte `at`.
 fn marked(meaning: &Meaning, at: usize) -> Result<Subtype, NameFault>
-    ensures { Gives subtype_view (rules.marked (meaning_view meaning.now) None) result }
+    ensures given { Gives subtype_view (rules.marked (meaning_view meaning.now) None) result }
+    ensures told { IfErr result (Tells (unless (broken.mark_problem (meaning_view meaning.now)) (broken.is_marked (meaning_view meaning.now) None))) }
 {
     match meaning {
         Meaning::ElementType { is_resolved } => Ok(Subtype {
@@ -59,7 +65,8 @@ fn ranged(
     range: &Range,
     at: usize,
 ) -> Result<Subtype, NameFault>
-    ensures { Gives subtype_view (with_range (meaning_view meaning.now) (expressions.static_range (sight_view sight.now) (trees.range_view range.now))) result }
+    ensures given { Gives subtype_view (with_range (meaning_view meaning.now) (expressions.static_range (sight_view sight.now) (trees.range_view range.now))) result }
+    ensures told { IfErr result (Tells (range_breaks (sight_view sight.now) (trees.range_view range.now) ∪ unless (broken.mark_problem (meaning_view meaning.now)) (broken.is_marked (meaning_view meaning.now) (Some (trees.range_view range.now))))) }
 {
     match meaning {
         Meaning::VectorType(kind, is_resolved) => {
@@ -79,7 +86,8 @@ fn ranged(
 /// byte where a rule is broken.
 #[tactic(auto, using(crate::proofs::Marks::subtype_alone, crate::proofs::Marks::subtype_ranged))]
 pub fn subtype(alloc: Global, sight: &Sight, indication: &TreeSubtype) -> Result<Subtype, NameFault>
-    ensures { Gives subtype_view (rules.subtype (sight_view sight.now) (trees.subtype_view indication.now)) result }
+    ensures given { Gives subtype_view (rules.subtype (sight_view sight.now) (trees.subtype_view indication.now)) result }
+    ensures told { IfErr result (Tells (broken.subtype (sight_view sight.now) (trees.subtype_view indication.now))) }
 {
     let meaning = meaning_of(sight, &indication.mark)?;
     match &indication.range {

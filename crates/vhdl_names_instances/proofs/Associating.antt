@@ -30,11 +30,11 @@ by_place [] (suc k) = refl
 by_place (n ∷ ns) zero = refl
 by_place (n ∷ ns) (suc k) = by_place ns k
 
-by_either : (ns : List Name) (k : ℕ) (o : Option Ident) → formal_of (drop k ns) o ≡ formal_at ns k o
+pub by_either : (ns : List Name) (k : ℕ) (o : Option Ident) → formal_of (drop k ns) o ≡ formal_at ns k o
 by_either ns k (Some i) = refl
 by_either ns k None = by_place ns k
 
-next_drop : {A : Type 0} (ns : List A) (k : ℕ) → drop 1 (drop k ns) ≡ drop (suc k) ns
+pub next_drop : {A : Type 0} (ns : List A) (k : ℕ) → drop 1 (drop k ns) ≡ drop (suc k) ns
 next_drop [] zero = refl
 next_drop [] (suc k) = refl
 next_drop (n ∷ ns) zero = refl

@@ -30,20 +30,20 @@ from_map f p i (x ∷ xs) = ap (λ o. if p (f x) then Some i else o) (from_map f
 pub named_place : (n : Name) (ks : List (Vec ℕ Global)) (o : Option ℕ) → o ≡ position (λ k. bytes_eq n k.items) ks → position_from (bytes_eq n) 0 (map items ks) ≡ o
 named_place n ks o e = from_map items (bytes_eq n) 0 ks ∙ sym (e ∙ position_from-zero (λ k. bytes_eq n k.items) ks)
 
-first_at : {A : Type 0} (xs : List A) (i : ℕ) (y : A) (ys : List A) → drop i xs ≡ y ∷ ys → slice_get xs i ≡ Some y
+pub first_at : {A : Type 0} (xs : List A) (i : ℕ) (y : A) (ys : List A) → drop i xs ≡ y ∷ ys → slice_get xs i ≡ Some y
 first_at [] zero y ys h = cc
 first_at [] (suc i) y ys h = cc
 first_at (x ∷ xs) zero y ys h = let q : x ≡ y = cc in ap Some q
 first_at (x ∷ xs) (suc i) y ys h = first_at xs i y ys h
 
-rest_at : {A : Type 0} (xs : List A) (i : ℕ) (y : A) (ys : List A) → drop i xs ≡ y ∷ ys → drop (suc i) xs ≡ ys
+pub rest_at : {A : Type 0} (xs : List A) (i : ℕ) (y : A) (ys : List A) → drop i xs ≡ y ∷ ys → drop (suc i) xs ≡ ys
 rest_at [] zero y ys h = cc
 rest_at [] (suc i) y ys h = cc
 rest_at (x ∷ xs) zero y ys h = cc
 rest_at (x ∷ xs) (suc i) y ys h = rest_at xs i y ys h
 
 -- an entity with its number
-abbrev beside : ℕ → EntityView → Option (ℕ × EntityView)
+abbrev pub beside : ℕ → EntityView → Option (ℕ × EntityView)
 beside k e = Some (k, e)
 
 found_from : (p : EntityView → Bool) (all : List EntityView) (i : ℕ) (es : List EntityView) → drop i all ≡ es
@@ -77,7 +77,7 @@ instance_seen names seens sight label i k e p q =
     ∙ ap (λ o. o >>= λ e. steps.with_formals sight label k e (all_of i.generics) (all_of i.ports)) (sym q)
 
 module _ (es : List EntityView) where
-  found : (n : Name) → entity_named es n ≡ (position_from (bytes_eq n) 0 (map (λ (e : EntityView). e.name) es) >>= λ j. slice_get es j >>= beside j)
+  pub found : (n : Name) → entity_named es n ≡ (position_from (bytes_eq n) 0 (map (λ (e : EntityView). e.name) es) >>= λ j. slice_get es j >>= beside j)
   found n =
       found_from (λ e. bytes_eq n e.name) es 0 es refl
       ∙ ap (λ o. o >>= λ j. slice_get es j >>= beside j) (sym (from_map (λ (e : EntityView). e.name) (bytes_eq n) 0 es))
@@ -101,7 +101,7 @@ module _ (es : List EntityView) where
       go None = refl
       go (Some j) = at j (slice_get es j) (slice_get (map seen es) j) (slice_get-map seen es j)
 
-  instantiated_by : (sight : Sight) (i : t.Instantiated)
+  pub instantiated_by : (sight : Sight) (i : t.Instantiated)
       → rules.instantiated es sight i ≡ steps.instantiated (map (λ (e : EntityView). e.name) es) (map seen es) sight i
   unfolding rules.instantiated
   instantiated_by sight (t.entity_unit library n a) = entity_by library n a sight

@@ -1,4 +1,10 @@
 pub mod Actual
 pub mod Associating
+pub mod Instanced
 pub mod Instancing
+pub mod Mapping
+pub mod Porting
 pub mod Tabling
+pub mod Taking
+pub mod Told
+pub mod Typing

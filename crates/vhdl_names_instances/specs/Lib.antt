@@ -1,3 +1,5 @@
+pub mod Breaking
 pub mod Table
+pub mod Taken
 pub mod Views
 pub mod steps

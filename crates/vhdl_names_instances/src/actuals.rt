@@ -1,14 +1,20 @@
 //! The actuals of generics and ports (IEEE 1076-2008, 6.5.7.2 and 6.5.7.3).
 
-ghost use Rattle.std.specs.Prelude.{◌≡◌, ◌≢◌, map, option_map, slice_get};
+ghost use Rattle.std.specs.Prelude.{◌≡◌, ◌≢◌, IfErr, [], ◌∷◌, map, option_map, slice_get};
+ghost use Rattle.vhdl_names_instances.specs.Breaking as breaking;
 ghost use Rattle.vhdl_names_instances.specs.Views.{actual_view, places_view, statics_view};
 ghost use Rattle.vhdl_names_instances.specs.steps.Actuals as steps;
+ghost use Rattle.vhdl_names_problems.specs.Broken.{Broken, Tells, ◌∪◌, is_of, lacking, any_of, of_any};
+ghost use Rattle.vhdl_names_problems.specs.Expressions.{static as broken_static};
+ghost use Rattle.vhdl_names_problems.specs.Instances as broken;
+ghost use Rattle.vhdl_names_problems.specs.Statements.{signal as broken_signal};
 ghost use Rattle.vhdl_names_rules.specs.Expressions.{static as static_of};
 ghost use Rattle.vhdl_names_rules.specs.Gives.{Gives};
 ghost use Rattle.vhdl_names_rules.specs.Instances as rules;
 ghost use Rattle.vhdl_names_rules.specs.Rules.{each, if_any};
 ghost use Rattle.vhdl_names_rules.specs.Statements.{signal as signal_of};
 ghost use Rattle.vhdl_names_rules.specs.declared.fault.NameFault.TheVariants.{NoMemory};
+ghost use Rattle.vhdl_names_rules.specs.declared.fault.NameProblem.TheVariants.{LeftOut};
 ghost use Rattle.vhdl_names_rules.specs.views.Integers.{static_view};
 ghost use Rattle.vhdl_names_rules.specs.views.Vectors.{place_view};
 ghost use Rattle.vhdl_tree.specs.View.{view, name_view};
@@ -83,7 +89,8 @@ fn is_value(meaning: &Meaning, suffix: &Suffix) -> bool {
 /// Why a name is no actual of a port: an expression that is no signal's name is left out, and a name
 /// of another kind is no expression.
 fn actual_fault(sight: &Sight, name: &Name, fault: NameFault) -> NameFault
-    ensures { result ≢ NoMemory → fault ≢ NoMemory }
+    ensures given { result ≢ NoMemory → fault ≢ NoMemory }
+    ensures told { (b : Broken) → Tells b fault → Tells (b ∪ is_of (LeftOut ∷ [])) result }
 {
     let NameFault::At {
         problem: NameProblem::WrongKind,
@@ -102,7 +109,9 @@ fn actual_fault(sight: &Sight, name: &Name, fault: NameFault) -> NameFault
 
 /// The signal that an actual is.
 fn actual_signal(alloc: Global, sight: &Sight, name: &Name) -> Result<SignalName, NameFault>
-    ensures { Gives signal_name_view (signal_of (sight_view sight.now) (name_view name.now)) result }
+    ensures given { Gives signal_name_view (signal_of (sight_view sight.now) (name_view name.now)) result }
+    ensures told { IfErr result (Tells (broken_signal (sight_view sight.now) (name_view name.now)
+        ∪ lacking (LeftOut ∷ []) (signal_of (sight_view sight.now) (name_view name.now)))) }
 {
     match signal(alloc, sight, name) {
         Ok(actual) => Ok(actual),
@@ -118,7 +127,8 @@ fn port_actual(
     port: PortType,
     e: &Expr,
 ) -> Result<SignalPart, NameFault>
-    ensures { Gives place_view (rules.port_actual (sight_view sight.now) (steps.formal port) (view e.now)) result }
+    ensures given { Gives place_view (rules.port_actual (sight_view sight.now) (steps.formal port) (view e.now)) result }
+    ensures told { IfErr result (Tells (broken.port_actual (sight_view sight.now) (steps.formal port) (view e.now))) }
 {
     match as_name(e) {
         None => Err(NameProblem::LeftOut.at(start(e))),
@@ -142,7 +152,8 @@ fn port_entry(
     port: PortType,
     actual: &Option<&Expr>,
 ) -> Result<Option<SignalPart>, NameFault>
-    ensures { Gives (option_map place_view) (steps.port_entry (sight_view sight.now) port (actual_view actual.now)) result }
+    ensures given { Gives (option_map place_view) (steps.port_entry (sight_view sight.now) port (actual_view actual.now)) result }
+    ensures told { IfErr result (Tells (of_any (broken.port_actual (sight_view sight.now) (steps.formal port)) (actual_view actual.now))) }
 {
     match actual {
         None => Ok(None),
@@ -179,7 +190,8 @@ fn entry(
     actuals: &[Option<&Expr>],
     index: usize,
 ) -> Result<Option<Option<SignalPart>>, NameFault>
-    ensures { Gives (option_map (option_map place_view)) (steps.entry (sight_view sight.now) ports.now (map actual_view actuals.now) index) result }
+    ensures given { Gives (option_map (option_map place_view)) (steps.entry (sight_view sight.now) ports.now (map actual_view actuals.now) index) result }
+    ensures told { IfErr result (Tells (breaking.entry (sight_view sight.now) (slice_get ports.now index) (slice_get (map actual_view actuals.now) index))) }
 {
     match port_at(ports, index) {
         None => Ok(None),
@@ -197,7 +209,8 @@ pub fn port_actuals(
     ports: &[PortType],
     actuals: &[Option<&Expr>],
 ) -> Result<Vec<Option<SignalPart>>, NameFault>
-    ensures { Gives places_view (steps.port_actuals (sight_view sight.now) ports.now (map actual_view actuals.now)) result }
+    ensures given { Gives places_view (steps.port_actuals (sight_view sight.now) ports.now (map actual_view actuals.now)) result }
+    ensures told { IfErr result (Tells (breaking.port_actuals (sight_view sight.now) ports.now (map actual_view actuals.now))) }
 {
     let mut all = Vec::new(alloc);
     for index in 0..ports.len() {
@@ -215,7 +228,8 @@ fn generic_entry(
     sight: &Sight,
     actual: &Option<&Expr>,
 ) -> Result<Option<Static>, NameFault>
-    ensures { Gives (option_map static_view) (if_any (static_of (sight_view sight.now)) (actual_view actual.now)) result }
+    ensures given { Gives (option_map static_view) (if_any (static_of (sight_view sight.now)) (actual_view actual.now)) result }
+    ensures told { IfErr result (Tells (of_any (broken_static (sight_view sight.now)) (actual_view actual.now))) }
 {
     match actual {
         None => Ok(None),
@@ -230,7 +244,8 @@ pub fn generic_actuals(
     sight: &Sight,
     actuals: &[Option<&Expr>],
 ) -> Result<Vec<Option<Static>>, NameFault>
-    ensures { Gives statics_view (each (if_any (static_of (sight_view sight.now))) (map actual_view actuals.now)) result }
+    ensures given { Gives statics_view (each (if_any (static_of (sight_view sight.now))) (map actual_view actuals.now)) result }
+    ensures told { IfErr result (Tells (any_of (of_any (broken_static (sight_view sight.now))) (map actual_view actuals.now))) }
 {
     let mut all = Vec::new(alloc);
     for actual in actuals {

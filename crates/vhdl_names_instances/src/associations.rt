@@ -1,11 +1,16 @@
 //! Which formal each association is for (IEEE 1076-2008, 6.5.7).
 
-ghost use Rattle.std.specs.Prelude.{◌≡◌, IfOk, false, map, option_map, Some};
+ghost use Rattle.std.specs.Prelude.{◌≡◌, IfOk, IfErr, OnErr, false, not, [], ◌∷◌, map, option_map, Some};
+ghost use Rattle.vhdl_names_instances.specs.Breaking as breaking;
+ghost use Rattle.vhdl_names_instances.specs.Taken.{AreTaken};
 ghost use Rattle.vhdl_names_instances.specs.steps.Associations as steps;
 ghost use Rattle.vhdl_names_instances.specs.Views.{actuals_view};
 ghost use Rattle.vhdl_names_labels.specs.Once.{names_view};
+ghost use Rattle.vhdl_names_problems.specs.Broken.{Tells, lacking, unless};
+ghost use Rattle.vhdl_names_problems.specs.Instances as broken;
 ghost use Rattle.vhdl_names_rules.specs.Gives.{Gives};
 ghost use Rattle.vhdl_names_rules.specs.Instances as rules;
+ghost use Rattle.vhdl_names_rules.specs.declared.fault.NameProblem.TheVariants.{Twice, WrongKind};
 ghost use Rattle.vhdl_tree.specs.View.{view, option_ident_view, association_view};
 
 use indexmap::IndexSet;
@@ -43,7 +48,8 @@ fn formal_at<'a>(
     index: usize,
     association: &'a Association,
 ) -> Result<&'a [u8], NameFault>
-    ensures { Gives (λ n. n.now) (steps.formal_at (names_view formals.now) index (option_ident_view association.now.formal)) result }
+    ensures given { Gives (λ n. n.now) (steps.formal_at (names_view formals.now) index (option_ident_view association.now.formal)) result }
+    ensures told { IfErr result (Tells (lacking (WrongKind ∷ []) (steps.formal_at (names_view formals.now) index (option_ident_view association.now.formal)))) }
 {
     match &association.formal {
         Some(formal) => Ok(formal.text.as_slice()),
@@ -63,7 +69,9 @@ fn copied(alloc: Global, name: &[u8]) -> Result<Vec<u8>, AllocError>
 
 /// One more name, which none before it is. It stands at byte `at`.
 pub fn add_name(alloc: Global, taken: &mut Names, name: &[u8], at: usize) -> Result<(), NameFault>
-    ensures { Gives (λ _. names_view taken.new) (steps.one_name (names_view taken.old) name.now) result }
+    ensures given { Gives (λ _. names_view taken.new) (steps.one_name (names_view taken.old) name.now) result }
+    ensures told { IfErr result (Tells (unless Twice (not (steps.is_among name.now (names_view taken.old))))) }
+    ensures kept { OnErr result (names_view taken.new ≡ names_view taken.old) }
 {
     let name = copied(alloc, name)?;
     if taken.insert(name)? {
@@ -89,8 +97,10 @@ fn take(
     is_behind_named: bool,
     association: &Association,
 ) -> Result<(), NameFault>
-    ensures { Gives (λ _. names_view taken.new)
+    ensures given { Gives (λ _. names_view taken.new)
         (steps.one_taken (names_view formals.now) index is_behind_named (names_view taken.old) (association_view association.now)) result }
+    ensures told { IfErr result (Tells (breaking.one_association (names_view formals.now) index is_behind_named (names_view taken.old) (association_view association.now))) }
+    ensures kept { OnErr result (names_view taken.new ≡ names_view taken.old) }
 {
     if is_behind_named && !is_named(association) {
         return Err(NameProblem::WrongKind.at(place(association)));
@@ -110,7 +120,9 @@ pub(crate) fn take_all(
     taken: &mut Names,
     list: &[Association],
 ) -> Result<(), NameFault>
-    ensures { Gives (λ _. names_view taken.new) (steps.taking (names_view formals.now) 0 false (names_view taken.old) (map association_view list.now)) result }
+    ensures given { Gives (λ _. names_view taken.new) (steps.taking (names_view formals.now) 0 false (names_view taken.old) (map association_view list.now)) result }
+    ensures told { names_view taken.old ≡ [] → IfErr result (Tells (broken.associated (names_view formals.now) (map association_view list.now))) }
+    ensures kept { names_view taken.old ≡ [] → AreTaken (names_view formals.now) (map association_view list.now) (names_view taken.new) }
 {
     let mut is_behind_named = false;
     for (index, association) in list.iter().enumerate() {
@@ -170,7 +182,8 @@ pub fn associated<'a>(
     formals: &Names,
     list: &'a [Association],
 ) -> Result<Vec<Option<&'a Expr>>, NameFault>
-    ensures { Gives actuals_view (rules.associated (names_view formals.now) (map association_view list.now)) result }
+    ensures given { Gives actuals_view (rules.associated (names_view formals.now) (map association_view list.now)) result }
+    ensures told { IfErr result (Tells (broken.associated (names_view formals.now) (map association_view list.now))) }
 {
     let mut taken = IndexSet::new(alloc);
     take_all(alloc, formals, &mut taken, list)?;

@@ -1,14 +1,18 @@
 //! Instances (IEEE 1076-2008, 11.7).
 
-ghost use Rattle.std.specs.Prelude.{◌≡◌, List, bytes_eq, map, option_map, slice_get};
+ghost use Rattle.std.specs.Prelude.{◌≡◌, IfErr, List, [], ◌∷◌, bytes_eq, map, option_map, slice_get};
 ghost use Rattle.std.specs.List.{position_from};
-ghost use Rattle.vhdl_names_instances.specs.Table.{AreEntities, seen_view, seens_view};
+ghost use Rattle.vhdl_names_instances.specs.Breaking as breaking;
+ghost use Rattle.vhdl_names_instances.specs.Table.{AreEntities, seen, seen_view, seens_view};
 ghost use Rattle.vhdl_names_instances.specs.steps.Instances as steps;
 ghost use Rattle.vhdl_names_labels.specs.Once.{names_view};
+ghost use Rattle.vhdl_names_problems.specs.Broken.{Tells, lacking};
+ghost use Rattle.vhdl_names_problems.specs.Instances as broken;
 ghost use Rattle.vhdl_names_rules.specs.Gives.{Gives};
 ghost use Rattle.vhdl_names_rules.specs.Instances as rules;
 ghost use Rattle.vhdl_names_rules.specs.Interfaces.{EntityView};
 ghost use Rattle.vhdl_names_rules.specs.Rules.{all_of};
+ghost use Rattle.vhdl_names_rules.specs.declared.fault.NameProblem.TheVariants.{WrongKind};
 ghost use Rattle.vhdl_tree.specs.View as tree;
 ghost use Rattle.vhdl_names_types.specs.Views.{sight_view, meaning_view};
 ghost use Rattle.vhdl_names_units.specs.views.Concurrent.{instance_view};
@@ -93,7 +97,8 @@ fn with_architecture(
     architecture: &Option<Identifier>,
     at: usize,
 ) -> Result<usize, NameFault>
-    ensures { Gives (λ k. k) (steps.with_architecture (seens_view entities.now.formals) (option_map tree.ident_view architecture.now) number) result }
+    ensures given { Gives (λ k. k) (steps.with_architecture (seens_view entities.now.formals) (option_map tree.ident_view architecture.now) number) result }
+    ensures told { IfErr result (Tells (breaking.with_architecture (seens_view entities.now.formals) (option_map tree.ident_view architecture.now) number)) }
 {
     match formals_at(entities, number) {
         None => Err(NameProblem::Undeclared.at(at)),
@@ -114,8 +119,10 @@ fn entity_of(
     name: &Identifier,
     architecture: &Option<Identifier>,
 ) -> Result<usize, NameFault>
-    ensures { Gives (λ k. k) (steps.entity_of (names_view entities.now.names) (seens_view entities.now.formals)
+    ensures given { Gives (λ k. k) (steps.entity_of (names_view entities.now.names) (seens_view entities.now.formals)
         (tree.ident_view library.now) (tree.ident_view name.now) (option_map tree.ident_view architecture.now)) result }
+    ensures told { IfErr result (Tells (breaking.entity_of (names_view entities.now.names) (seens_view entities.now.formals)
+        (tree.ident_view library.now) (tree.ident_view name.now) (option_map tree.ident_view architecture.now))) }
 {
     if !is_text(&library.text, b"work") {
         return Err(NameProblem::Undeclared.at(library.at));
@@ -128,7 +135,8 @@ fn entity_of(
 
 /// The entity that a component at byte `at` is.
 fn as_component(meaning: &Meaning, at: usize) -> Result<usize, NameFault>
-    ensures { Gives (λ k. k) (rules.as_component (meaning_view meaning.now)) result }
+    ensures given { Gives (λ k. k) (rules.as_component (meaning_view meaning.now)) result }
+    ensures told { IfErr result (Tells (lacking (WrongKind ∷ []) (rules.as_component (meaning_view meaning.now)))) }
 {
     match meaning {
         Meaning::Component(number) => Ok(*number),
@@ -142,8 +150,10 @@ fn instantiated(
     sight: &Sight,
     unit: &Instantiated,
 ) -> Result<usize, NameFault>
-    ensures { Gives (λ k. k) (steps.instantiated (names_view entities.now.names) (seens_view entities.now.formals)
+    ensures given { Gives (λ k. k) (steps.instantiated (names_view entities.now.names) (seens_view entities.now.formals)
         (sight_view sight.now) (tree.instantiated_view unit.now)) result }
+    ensures told { (views : List EntityView) → AreEntities entities.now views
+        → IfErr result (Tells (broken.instantiated views (sight_view sight.now) (tree.instantiated_view unit.now))) }
 {
     match unit {
         Instantiated::Entity {
@@ -167,13 +177,15 @@ fn by_formals(
     formals: &Formals,
     instance: &syntax::Instance,
 ) -> Result<Instance, NameFault>
-    ensures { Gives instance_view (steps.with_formals (sight_view sight.now) (tree.ident_view label.now) unit (seen_view formals.now)
+    ensures given { Gives instance_view (steps.with_formals (sight_view sight.now) (tree.ident_view label.now) unit (seen_view formals.now)
         (all_of (option_map tree.associations_view instance.now.generics)) (all_of (option_map tree.associations_view instance.now.ports))) result }
+    ensures told { (seen_of : EntityView) → seen_view formals.now ≡ seen seen_of
+        → IfErr result (Tells (broken.maps (sight_view sight.now) seen_of (tree.instance_view instance.now))) }
 {
-    let actuals = associated(alloc, &formals.generics, listed(&instance.generics))?;
-    let generics = generic_actuals(alloc, sight, &actuals)?;
-    let actuals = associated(alloc, &formals.ports, listed(&instance.ports))?;
-    let ports = port_actuals(alloc, sight, &formals.port_types, &actuals)?;
+    let of_generics = associated(alloc, &formals.generics, listed(&instance.generics))?;
+    let generics = generic_actuals(alloc, sight, &of_generics)?;
+    let of_ports = associated(alloc, &formals.ports, listed(&instance.ports))?;
+    let ports = port_actuals(alloc, sight, &formals.port_types, &of_ports)?;
     let label = copied(alloc, label)?;
     Ok(Instance {
         label,
@@ -193,8 +205,10 @@ fn with_formals(
     formals: &Formals,
     instance: &syntax::Instance,
 ) -> Result<Instance, NameFault>
-    ensures { Gives instance_view (steps.with_formals (sight_view sight.now) (tree.ident_view label.now) unit (seen_view formals.now)
+    ensures given { Gives instance_view (steps.with_formals (sight_view sight.now) (tree.ident_view label.now) unit (seen_view formals.now)
         (all_of (option_map tree.associations_view instance.now.generics)) (all_of (option_map tree.associations_view instance.now.ports))) result }
+    ensures told { (seen_of : EntityView) → seen_view formals.now ≡ seen seen_of
+        → IfErr result (Tells (broken.maps (sight_view sight.now) seen_of (tree.instance_view instance.now))) }
 {
     match by_formals(alloc, sight, label, unit, formals, instance) {
         Ok(instance) => Ok(instance),
@@ -210,8 +224,10 @@ pub fn instance_in_turn(
     label: &Identifier,
     instance: &syntax::Instance,
 ) -> Result<Instance, NameFault>
-    ensures { Gives instance_view (steps.instance (names_view entities.now.names) (seens_view entities.now.formals)
+    ensures given { Gives instance_view (steps.instance (names_view entities.now.names) (seens_view entities.now.formals)
         (sight_view sight.now) (tree.ident_view label.now) (tree.instance_view instance.now)) result }
+    ensures told { (views : List EntityView) → AreEntities entities.now views
+        → IfErr result (Tells (broken.instance views (sight_view sight.now) (tree.instance_view instance.now))) }
 {
     let unit = instantiated(entities, sight, &instance.unit)?;
     match formals_at(entities, unit) {
@@ -230,8 +246,10 @@ pub fn instance(
     label: &Identifier,
     instance: &syntax::Instance,
 ) -> Result<Instance, NameFault>
-    ensures { (views : List EntityView) → AreEntities entities.now views
+    ensures given { (views : List EntityView) → AreEntities entities.now views
         → Gives instance_view (rules.instance views (sight_view sight.now) (tree.ident_view label.now) (tree.instance_view instance.now)) result }
+    ensures told { (views : List EntityView) → AreEntities entities.now views
+        → IfErr result (Tells (broken.instance views (sight_view sight.now) (tree.instance_view instance.now))) }
 {
     instance_in_turn(alloc, entities, sight, label, instance)
 }

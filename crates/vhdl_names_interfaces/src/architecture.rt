@@ -1,12 +1,15 @@
 //! What is in sight where an architecture begins (IEEE 1076-2008, 3.3 and 12.4).
 
-ghost use Rattle.std.specs.Prelude.{◌≡◌, ◌∷◌, [], map, Some, IfOk};
+ghost use Rattle.std.specs.Prelude.{◌≡◌, ◌∷◌, [], map, Some, IfOk, IfErr};
 ghost use Rattle.vhdl_names_declarations.specs.Entered.{more};
 ghost use Rattle.vhdl_names_rules.specs.Visibility.{declare};
 ghost use Rattle.vhdl_names_interfaces.specs.Views.{entity_view, sight_behind};
 ghost use Rattle.vhdl_names_rules.specs.Gives.{Gives};
 ghost use Rattle.vhdl_tree.specs.View as view;
 ghost use Rattle.vhdl_names_types.specs.Views.{meaning_view, region_view, sight_view};
+ghost use Rattle.vhdl_names_problems.specs.Broken.{Tells, is_of, nothing};
+ghost use Rattle.vhdl_names_problems.specs.Declarations as broken;
+ghost use Rattle.vhdl_names_rules.specs.declared.fault.NameProblem.TheVariants.{Twice};
 
 use crate::interface::EntityInterface;
 use indexmap::IndexMap;
@@ -64,7 +67,8 @@ fn copy_one(
     name: &[u8],
     meaning: &Meaning,
 ) -> Result<(), NameFault>
-    ensures { Gives (λ _. region_view copy.new) (more (region_view copy.old) (declare name.now (meaning_view meaning.now) ∷ [])) result }
+    ensures given { Gives (λ _. region_view copy.new) (more (region_view copy.old) (declare name.now (meaning_view meaning.now) ∷ [])) result }
+    ensures told { IfErr result (Tells (is_of (Twice ∷ []))) }
 {
     let meaning = copied_meaning(alloc, meaning)?;
     declare_name(alloc, copy, name, 0, meaning)?;
@@ -73,7 +77,8 @@ fn copy_one(
 
 /// A copy of a region. It takes the memory of its names and entries.
 fn copied_region(alloc: Global, region: &Region) -> Result<Region, NameFault>
-    ensures { Gives region_view (Some (region_view region.now)) result }
+    ensures given { Gives region_view (Some (region_view region.now)) result }
+    ensures told { IfErr result (Tells (nothing)) }
 {
     let _apart = region.len();
     let mut copy: Region = IndexMap::new(alloc);
@@ -95,6 +100,7 @@ pub fn architecture_sight(
 ) -> Result<Sight, NameFault>
     ensures given { Gives sight_view (sight_behind (entity_view entity.now) (map view.context_view items.now)) result }
     ensures outermost { IfOk result (λ s. region_view s.enclosing ≡ []) }
+    ensures told { IfErr result (Tells (broken.context (entity_view entity.now).context (map view.context_view items.now))) }
 {
     let context = context_after(entity.context, items)?;
     let region = copied_region(alloc, &entity.region)?;

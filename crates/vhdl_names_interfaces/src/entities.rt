@@ -1,9 +1,12 @@
 //! The entities of a file, by name (IEEE 1076-2008, 13.1).
 
-ghost use Rattle.std.specs.Prelude.{◌≡◌, ◌++◌, ◌∷◌, [], map, not};
+ghost use Rattle.std.specs.Prelude.{◌≡◌, ◌≢◌, ◌++◌, ◌∷◌, [], map, not, IfErr};
 ghost use Rattle.vhdl_names_interfaces.specs.Views.{entity_view, entities_view, named_view, one_more};
 ghost use Rattle.vhdl_names_rules.specs.Gives.{Gives};
 ghost use Rattle.vhdl_names_rules.specs.Interfaces as rules;
+ghost use Rattle.vhdl_names_problems.specs.Broken.{Tells, is_of};
+ghost use Rattle.vhdl_names_rules.specs.declared.fault.NameFault.TheVariants.{NoMemory};
+ghost use Rattle.vhdl_names_rules.specs.declared.fault.NameProblem.TheVariants.{Undeclared, Twice};
 
 use crate::interface::EntityInterface;
 use indexmap::IndexMap;
@@ -21,7 +24,9 @@ pub fn add_entity<'a>(
     entities: &mut Entities<'a>,
     entity: EntityInterface<'a>,
 ) -> Result<(), NameFault>
-    ensures { Gives (λ _. entities_view entities.new) (one_more (entities_view entities.old) (entity_view entity.entry)) result }
+    ensures given { Gives (λ _. entities_view entities.new) (one_more (entities_view entities.old) (entity_view entity.entry)) result }
+    ensures told { IfErr result (Tells (is_of (Twice ∷ []))) }
+    ensures kept { IfErr result (λ f. f ≢ NoMemory → entities_view entities.new ≡ entities_view entities.old) }
 {
     let name = &entity.tree.name;
     if entities.contains_key(name.text.as_slice()) {
@@ -37,7 +42,8 @@ pub fn entity_named<'e, 'a>(
     entities: &'e Entities<'a>,
     name: &Identifier,
 ) -> Result<(usize, &'e EntityInterface<'a>), NameFault>
-    ensures { Gives (λ x. (x.0, named_view name.now.text.items x.1.now)) (rules.entity_named (entities_view entities.now) name.now.text.items) result }
+    ensures given { Gives (λ x. (x.0, named_view name.now.text.items x.1.now)) (rules.entity_named (entities_view entities.now) name.now.text.items) result }
+    ensures told { IfErr result (Tells (is_of (Undeclared ∷ []))) }
 {
     match entities.get_full(name.text.as_slice()) {
         Some((number, _, entity)) => Ok((number, entity)),

@@ -1,6 +1,6 @@
 //! Interfaces of entities and components (IEEE 1076-2008, 3.2, 6.5.6 and 6.8).
 
-ghost use Rattle.std.specs.Prelude.{◌≡◌, [], map, option_map, OnOk, IfOk};
+ghost use Rattle.std.specs.Prelude.{◌≡◌, [], map, option_map, OnOk, IfOk, IfErr};
 ghost use Rattle.vhdl_names_declarations.specs.Contexts.{context_view};
 ghost use Rattle.vhdl_names_declarations.specs.Entered.{entering};
 ghost use Rattle.vhdl_names_interfaces.specs.Views.{interface_in, entity_view};
@@ -12,6 +12,9 @@ ghost use Rattle.vhdl_names_rules.specs.Visibility.{with_declared};
 ghost use Rattle.vhdl_tree.specs.View as view;
 ghost use Rattle.vhdl_names_types.specs.Views.{sight_view, region_view};
 ghost use Rattle.vhdl_names_units.specs.views.Declarations.{all_generics_view, all_ports_view};
+ghost use Rattle.vhdl_names_problems.specs.Broken.{Tells};
+ghost use Rattle.vhdl_names_problems.specs.Interfaces as broken;
+ghost use Rattle.vhdl_names_declarations.specs.Standing.{generics_broken, ports_broken};
 
 use indexmap::IndexMap;
 use std::alloc::Global;
@@ -47,6 +50,7 @@ fn generics_if_any(
     ensures given { Gives (λ v. (sight_view sight.new, all_generics_view v))
         (entering (in_order with_declared generic) (sight_view sight.old) (all_of (view.option_generics_view all.now))) result }
     ensures kept { OnOk result (sight.new ≡ record sight.old { region = sight.new.region }) }
+    ensures told { IfErr result (Tells (generics_broken (sight_view sight.old) (all_of (view.option_generics_view all.now)))) }
 {
     match all {
         Some(all) => generics(alloc, sight, all),
@@ -63,6 +67,7 @@ fn ports_if_any(
     ensures given { Gives (λ v. (sight_view sight.new, all_ports_view v))
         (entering (in_order with_declared port) (sight_view sight.old) (all_of (view.option_ports_view all.now))) result }
     ensures kept { OnOk result (sight.new ≡ record sight.old { region = sight.new.region }) }
+    ensures told { IfErr result (Tells (ports_broken (sight_view sight.old) (all_of (view.option_ports_view all.now)))) }
 {
     match all {
         Some(all) => ports(alloc, sight, all),
@@ -83,6 +88,7 @@ pub fn interface_of(
     ensures given { Gives (λ x. interface_in (sight_view sight.new).region x)
         (rules.interface (sight_view sight.old) (view.option_generics_view generics.now) (view.option_ports_view ports.now)) result }
     ensures kept { OnOk result (sight.new ≡ record sight.old { region = sight.new.region }) }
+    ensures told { IfErr result (Tells (broken.interface (sight_view sight.old) (view.option_generics_view generics.now) (view.option_ports_view ports.now))) }
 {
     let generics = generics_if_any(alloc, sight, generics)?;
     let ports = ports_if_any(alloc, sight, ports)?;
@@ -97,8 +103,9 @@ pub fn entity<'a>(
     tree: &'a Entity,
     architecture: Option<&'a Identifier>,
 ) -> Result<EntityInterface<'a>, NameFault>
-    ensures { Gives entity_view
+    ensures given { Gives entity_view
         (rules.entity (map view.context_view items.now) (view.entity_view tree.now) (option_map (λ i. i.now.text.items) architecture.entry)) result }
+    ensures told { IfErr result (Tells (broken.entity (map view.context_view items.now) (view.entity_view tree.now))) }
 {
     let context = context_after(Context::NONE, items)?;
     let mut sight = sight_of(alloc, context, IndexMap::new(alloc))?;

@@ -1,15 +1,17 @@
 //! Which of several faults is told: the first in order of the text.
 
-ghost use Rattle.std.specs.Prelude.{◌≡◌, ◌≢◌};
+ghost use Rattle.std.specs.Prelude.{◌≡◌, ◌≢◌, IfErr};
 ghost use Rattle.vhdl_names_labels.specs.Faults as rules;
+ghost use Rattle.vhdl_names_problems.specs.Broken.{Broken, Tells};
 ghost use Rattle.vhdl_names_rules.specs.declared.fault.NameFault.TheVariants.{NoMemory};
 
 use vhdl_names_rules::NameFault;
 
 /// The earlier of two faults, the first of two at one byte; want of memory comes before all.
 pub fn earlier(fault: NameFault, other: NameFault) -> NameFault
-    ensures told { result ≡ rules.earlier fault other }
+    ensures first { result ≡ rules.earlier fault other }
     ensures memory { result ≢ NoMemory → (fault ≢ NoMemory) × (other ≢ NoMemory) }
+    ensures told { (b : Broken) → Tells b fault → Tells b other → Tells b result }
 {
     match (fault, other) {
         (NameFault::At { at, .. }, NameFault::At { at: place, .. }) => {
@@ -21,7 +23,9 @@ pub fn earlier(fault: NameFault, other: NameFault) -> NameFault
 
 /// The earlier of a fault and that of an answer, if it is refused.
 pub fn earlier_in<T: Drop>(fault: NameFault, answer: Result<T, NameFault>) -> NameFault
-    ensures { result ≢ NoMemory → fault ≢ NoMemory }
+    ensures given { result ≢ NoMemory → fault ≢ NoMemory }
+    ensures other { IfErr answer (λ other. result ≢ NoMemory → other ≢ NoMemory) }
+    ensures told { (b : Broken) → Tells b fault → IfErr answer (Tells b) → Tells b result }
 {
     match answer {
         Ok(_) => fault,

@@ -21,3 +21,5 @@ pub mod Labels
 pub mod Named
 pub mod Spelled
 pub mod Texts
+pub mod kept
+pub mod given

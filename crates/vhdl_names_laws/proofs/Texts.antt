@@ -1,7 +1,6 @@
 -- A component is the text of its entity: trees that are the same are spelled by the same pieces, but for places and case.
 use denote.Enum.Bare.{same_true}
 use Rattle.std.proofs.Common.{rules, ◌≡◌, ℕ, Bool, true, false, ◌&&◌, List, [], ◌∷◌, ◌++◌, map, Option, Some, None, refl, ap, sym, ◌∙◌}
-use Rattle.std.specs.Prelude.{bytes_eq}
 use Rattle.std.specs.Char.{to_ascii_lowercase}
 use Rattle.std.proofs.lemmas.Bool.{eqb-true}
 use Rattle.std.proofs.lemmas.List.{map-append}
@@ -19,13 +18,11 @@ use Rattle.vhdl_tree.specs.Pieces.{Piece, spell_ident, spell_idents, spell_word,
 use Rattle.vhdl_tree.specs.grammar.Expressions.{kind_of, sign_kind, direction_kind, spell, spell_attribute, spell_suffix, spell_exprs, spell_more, spell_value, spell_range}
 use Rattle.vhdl_tree.specs.grammar.Subtypes.{spell_constraint, spell_subtype, spell_default}
 use Rattle.vhdl_tree.specs.grammar.Declarations.{spell_generic_default, spell_mode, spell_generic, spell_generics, spell_port, spell_ports}
-use Rattle.vhdl_names_rules.specs.units.Units as u
-use Rattle.vhdl_names_rules.specs.Visibility.{Sight, Declares}
-use Rattle.vhdl_names_rules.specs.Interfaces.{EntityView, entity_named, component}
+use Rattle.vhdl_names_rules.specs.Interfaces.{entity_named, component}
 use Rattle.vhdl_names_rules.specs.SameText.{same_word, same_name, same_bytes, same_option, same_each, same_expr, same_suffix, same_exprs, same_value, same_range, same_subtype, same_mode, same_generic, same_port, same_generics, same_ports}
 use Rattle.vhdl_names_rules.proofs.laws.Rules.{comes, kept, both}
 use Rattle.vhdl_names_laws.specs.Words.{small}
-use Rattle.vhdl_names_laws.specs.Texts.{unplaced, AreSameText, IsTextOfEntity}
+use Rattle.vhdl_names_laws.specs.Texts.{unplaced, AreSameText}
 use Rattle.vhdl_names_laws.specs.Laws.{ComponentsAreTexts}
 
 -- ---- pieces

@@ -1,6 +1,6 @@
 //! Laws of soundness (`specs/Laws`), each the contract of a function that does nothing.
 
-ghost use Rattle.vhdl_names_laws.specs.Laws.{ExpressionsFit, StatementsFit, UnitsAreSound, PortsAreDistinct, UnitsAreNamed, SmallPortsAreDistinct, SpelledFilesHaveWords, ComponentsAreTexts};
+ghost use Rattle.vhdl_names_laws.specs.Laws.{ExpressionsFit, StatementsFit, UnitsAreSound, PortsAreDistinct, UnitsAreNamed, SmallPortsAreDistinct, SpelledFilesHaveWords, ComponentsAreTexts, WellTypedFilesBreakNoRule, IllTypedFilesBreakARule};
 
 /// Each expression is what its type says: integers are in range, vectors have the shape of their kind, literals of an
 /// enumeration are below its count, and tests compare values of one shape.
@@ -41,4 +41,14 @@ pub fn spelled_files_have_words()
 /// stands in both.
 pub fn components_are_texts()
     ensures { ComponentsAreTexts }
+{}
+
+/// A well-typed file breaks no rule of `vhdl_names_problems`: none of them asks for more than the language does.
+pub fn well_typed_files_break_no_rule()
+    ensures { WellTypedFilesBreakNoRule }
+{}
+
+/// A file that isn't well typed breaks a rule of `vhdl_names_problems`: no rule of the language is left out there.
+pub fn ill_typed_files_break_a_rule()
+    ensures { IllTypedFilesBreakARule }
 {}

@@ -1,3 +1,4 @@
 pub mod Cases
 pub mod Concurrent
 pub mod Sequential
+pub mod Told

@@ -1,6 +1,9 @@
 //! How concurrent assignments are analysed (IEEE 1076-2008, 11.6).
 
-ghost use Rattle.std.specs.Prelude.{◌≡◌, ◌∷◌, [], map, option_map, IfOk};
+ghost use Rattle.std.specs.Prelude.{◌≡◌, ◌∷◌, [], map, option_map, IfErr, IfOk};
+ghost use Rattle.vhdl_names_problems.specs.Broken.{Tells, any_of, of_any};
+ghost use Rattle.vhdl_names_problems.specs.Concurrent as problems;
+ghost use Rattle.vhdl_names_problems.specs.Statements as broken;
 ghost use Rattle.vhdl_names_rules.specs.Concurrent as rules;
 ghost use Rattle.vhdl_names_rules.specs.Rules.{each, if_any};
 ghost use Rattle.vhdl_names_rules.specs.Gives.{Gives};
@@ -9,6 +12,7 @@ ghost use Rattle.vhdl_names_types.specs.Views.{sight_view};
 ghost use Rattle.vhdl_names_statements.specs.steps.Cases as cases;
 ghost use Rattle.vhdl_names_statements.specs.steps.Concurrent as steps;
 ghost use Rattle.vhdl_names_statements.specs.steps.Sequential as sequential;
+ghost use Rattle.vhdl_names_statements.specs.steps.Told as told;
 ghost use Rattle.vhdl_names_units.specs.views.Concurrent.{one_process};
 ghost use Rattle.vhdl_names_units.specs.views.Sequential as views;
 
@@ -59,7 +63,8 @@ fn alone(
     target: &syntax::Name,
     value: &syntax::Value,
 ) -> Result<Vec<Statement>, NameFault>
-    ensures { Gives views.statements_view (steps.alone (sight_view sight.now) (tree.name_view target.now) (tree.value_view value.now)) result }
+    ensures given { Gives views.statements_view (steps.alone (sight_view sight.now) (tree.name_view target.now) (tree.value_view value.now)) result }
+    ensures told { IfErr result (Tells (broken.assigned (sight_view sight.now) (tree.name_view target.now) (tree.value_view value.now))) }
 {
     let statement = assigned(alloc, sight, target, value)?;
     Ok(single(alloc, statement)?)
@@ -72,7 +77,8 @@ fn waveform(
     target: &syntax::Name,
     item: &syntax::Branch,
 ) -> Result<Branch, NameFault>
-    ensures { Gives views.branch_view (steps.waveform (sight_view sight.now) (tree.name_view target.now) (tree.branch_view item.now)) result }
+    ensures given { Gives views.branch_view (steps.waveform (sight_view sight.now) (tree.name_view target.now) (tree.branch_view item.now)) result }
+    ensures told { IfErr result (Tells (told.waveform (sight_view sight.now) (tree.name_view target.now) (tree.branch_view item.now))) }
 {
     let statements = alone(alloc, sight, target, &item.value)?;
     let condition = condition(alloc, sight, &item.condition)?;
@@ -87,7 +93,8 @@ fn waveforms(
     target: &syntax::Name,
     list: &[syntax::Branch],
 ) -> Result<Vec<Branch>, NameFault>
-    ensures { Gives views.branches_view (each (steps.waveform (sight_view sight.now) (tree.name_view target.now)) (map tree.branch_view list.now)) result }
+    ensures given { Gives views.branches_view (each (steps.waveform (sight_view sight.now) (tree.name_view target.now)) (map tree.branch_view list.now)) result }
+    ensures told { IfErr result (Tells (any_of (told.waveform (sight_view sight.now) (tree.name_view target.now)) (map tree.branch_view list.now))) }
 {
     let mut all = Vec::new(alloc);
     for item in list {
@@ -104,8 +111,9 @@ fn otherwise(
     target: &syntax::Name,
     value: &Option<syntax::Value>,
 ) -> Result<Option<Vec<Statement>>, NameFault>
-    ensures { Gives views.option_statements_view
+    ensures given { Gives views.option_statements_view
         (if_any (steps.alone (sight_view sight.now) (tree.name_view target.now)) (option_map tree.value_view value.now)) result }
+    ensures told { IfErr result (Tells (of_any (broken.assigned (sight_view sight.now) (tree.name_view target.now)) (option_map tree.value_view value.now))) }
 {
     match value {
         None => Ok(None),
@@ -121,8 +129,9 @@ fn conditional(
     list: &[syntax::Branch],
     value: &Option<syntax::Value>,
 ) -> Result<Statement, NameFault>
-    ensures { Gives views.statement_view (steps.conditional (sight_view sight.now) (tree.name_view target.now)
+    ensures given { Gives views.statement_view (steps.conditional (sight_view sight.now) (tree.name_view target.now)
         (map tree.branch_view list.now) (option_map tree.value_view value.now)) result }
+    ensures told { IfErr result (Tells (told.conditional (sight_view sight.now) (tree.name_view target.now) (map tree.branch_view list.now) (option_map tree.value_view value.now))) }
 {
     let branches = waveforms(alloc, sight, target, list)?;
     let otherwise = otherwise(alloc, sight, target, value)?;
@@ -137,8 +146,9 @@ fn body(
     list: &[syntax::Branch],
     value: &Option<syntax::Value>,
 ) -> Result<Statement, NameFault>
-    ensures { Gives views.statement_view (steps.body (sight_view sight.now) (tree.name_view target.now)
+    ensures given { Gives views.statement_view (steps.body (sight_view sight.now) (tree.name_view target.now)
         (map tree.branch_view list.now) (option_map tree.value_view value.now)) result }
+    ensures told { IfErr result (Tells (told.conditional (sight_view sight.now) (tree.name_view target.now) (map tree.branch_view list.now) (option_map tree.value_view value.now))) }
 {
     match (list, value) {
         ([], Some(value)) => assigned(alloc, sight, target, value),
@@ -152,7 +162,8 @@ fn assignment_in_turn(
     sight: &Sight,
     assignment: &syntax::Assignment,
 ) -> Result<Process, NameFault>
-    ensures { Gives one_process (steps.assignment (sight_view sight.now) (tree.assignment_view assignment.now)) result }
+    ensures given { Gives one_process (steps.assignment (sight_view sight.now) (tree.assignment_view assignment.now)) result }
+    ensures told { IfErr result (Tells (problems.assignment (sight_view sight.now) (tree.assignment_view assignment.now))) }
 {
     let _ = target(alloc, sight, &assignment.target)?;
     let statement = body(
@@ -174,7 +185,8 @@ fn chosen(
     target: &syntax::Name,
     item: &syntax::Waveform,
 ) -> Result<Alternative, NameFault>
-    ensures { Gives views.alternative_view (steps.chosen (sight_view sight.now) selected (tree.name_view target.now) (tree.waveform_view item.now)) result }
+    ensures given { Gives views.alternative_view (steps.chosen (sight_view sight.now) selected (tree.name_view target.now) (tree.waveform_view item.now)) result }
+    ensures told { IfErr result (Tells (told.chosen (sight_view sight.now) selected (tree.name_view target.now) (tree.waveform_view item.now))) }
 {
     let statements = alone(alloc, sight, target, &item.value)?;
     let choices = choices(alloc, sight, selected, &item.choices)?;
@@ -190,8 +202,9 @@ fn all_chosen(
     target: &syntax::Name,
     list: &[syntax::Waveform],
 ) -> Result<Vec<Alternative>, NameFault>
-    ensures { Gives views.alternatives_view
+    ensures given { Gives views.alternatives_view
         (each (steps.chosen (sight_view sight.now) selected (tree.name_view target.now)) (map tree.waveform_view list.now)) result }
+    ensures told { IfErr result (Tells (any_of (told.chosen (sight_view sight.now) selected (tree.name_view target.now)) (map tree.waveform_view list.now))) }
 {
     let mut all = Vec::new(alloc);
     for item in list {
@@ -222,8 +235,9 @@ fn selected_parts(
     by: ObjectType,
     assignment: &syntax::SelectedAssignment,
 ) -> Result<(Vec<Alternative>, Vec<Statement>), NameFault>
-    ensures { Gives (λ p. cases.divided (views.alternatives_view p.0) (views.statements_view p.1))
+    ensures given { Gives (λ p. cases.divided (views.alternatives_view p.0) (views.statements_view p.1))
         (steps.parts (sight_view sight.now) by (tree.selected_assignment_view assignment.now)) result }
+    ensures told { IfErr result (Tells (told.selected (sight_view sight.now) by (tree.selected_assignment_view assignment.now))) }
 {
     let _ = target(alloc, sight, &assignment.target)?;
     let lists = choice_lists(alloc, &assignment.waveforms)?;
@@ -241,8 +255,9 @@ fn selected_in_turn(
     label: &Option<Identifier>,
     assignment: &syntax::SelectedAssignment,
 ) -> Result<Process, NameFault>
-    ensures { Gives one_process
+    ensures given { Gives one_process
         (steps.selected (sight_view sight.now) (option_map tree.ident_view label.now) (tree.selected_assignment_view assignment.now)) result }
+    ensures told { IfErr result (Tells (problems.selected (sight_view sight.now) (tree.selected_assignment_view assignment.now))) }
 {
     let (by, value) = selector(alloc, sight, &assignment.selector)?;
     let (alternatives, others) = selected_parts(alloc, sight, by, assignment)?;
@@ -258,7 +273,8 @@ pub fn assignment(
     sight: &Sight,
     assignment: &syntax::Assignment,
 ) -> Result<Process, NameFault>
-    ensures { Gives one_process (rules.assignment (sight_view sight.now) (tree.assignment_view assignment.now)) result }
+    ensures given { Gives one_process (rules.assignment (sight_view sight.now) (tree.assignment_view assignment.now)) result }
+    ensures told { IfErr result (Tells (problems.assignment (sight_view sight.now) (tree.assignment_view assignment.now))) }
 {
     assignment_in_turn(alloc, sight, assignment)
 }
@@ -272,8 +288,9 @@ pub fn selected(
     label: &Option<Identifier>,
     assignment: &syntax::SelectedAssignment,
 ) -> Result<Process, NameFault>
-    ensures { Gives one_process
+    ensures given { Gives one_process
         (rules.selected (sight_view sight.now) (option_map tree.ident_view label.now) (tree.selected_assignment_view assignment.now)) result }
+    ensures told { IfErr result (Tells (problems.selected (sight_view sight.now) (tree.selected_assignment_view assignment.now))) }
 {
     selected_in_turn(alloc, sight, label, assignment)
 }

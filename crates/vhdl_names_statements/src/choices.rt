@@ -1,16 +1,20 @@
 //! What the choices of a case cover (IEEE 1076-2008, 10.9).
 
-ghost use Rattle.std.specs.Prelude.{◌≡◌, ◌≢◌, ◌||◌, ◌∷◌, [], map, IfOk, Some};
+ghost use Rattle.std.specs.Prelude.{◌≡◌, ◌≢◌, ◌||◌, ◌∷◌, [], map, IfErr, IfOk, Some};
 ghost use Rattle.std.specs.List.{list_all, list_any, range_with_len};
 ghost use Rattle.vhdl_names_rules.specs.Choices as rules;
-ghost use Rattle.vhdl_names_rules.specs.declared.fault.NameProblem.TheVariants.{WrongKind};
+ghost use Rattle.vhdl_names_problems.specs.Broken.{Broken, Tells, ◌∪◌, is_of, lacking, unless};
+ghost use Rattle.vhdl_names_problems.specs.Choices as broken;
+ghost use Rattle.vhdl_names_rules.specs.declared.fault.NameProblem.TheVariants.{ChoiceTwice, LeftOut, WrongKind};
 ghost use Rattle.vhdl_names_rules.specs.Rules.{rule};
 ghost use Rattle.vhdl_names_rules.specs.Visibility.{is_among};
 ghost use Rattle.vhdl_names_rules.specs.Gives.{Gives};
 ghost use Rattle.vhdl_names_rules.specs.declared.fault.NameFault.TheVariants.{NoMemory};
 ghost use Rattle.vhdl_tree.specs.View as tree;
 ghost use Rattle.vhdl_names_units.specs.views.Answers.{choice_view};
+ghost use Rattle.vhdl_names_types.specs.Views.{sight_view};
 ghost use Rattle.vhdl_names_statements.specs.steps.Cases as steps;
+ghost use Rattle.vhdl_names_statements.specs.steps.Told as told;
 ghost use Rattle.vhdl_names_labels.specs.Lists.{in_turn};
 ghost use Rattle.vhdl_names_labels.specs.Once.{one_name, names_view, key_of};
 ghost use Rattle.vhdl_names_units.specs.views.Sequential as views;
@@ -42,7 +46,8 @@ fn key(alloc: Global, choice: &Choice) -> Result<Vec<usize>, AllocError>
 
 /// One more choice, which none before it is. It stands at byte `at`.
 fn add_choice(alloc: Global, keys: &mut Keys, choice: &Choice, at: usize) -> Result<(), NameFault>
-    ensures { Gives (λ _. names_view keys.new) (one_name (names_view keys.old) (key_of (choice_view choice.now))) result }
+    ensures given { Gives (λ _. names_view keys.new) (one_name (names_view keys.old) (key_of (choice_view choice.now))) result }
+    ensures told { IfErr result (Tells (is_of (ChoiceTwice ∷ []))) }
 {
     let key = key(alloc, choice)?;
     if keys.insert(key)? {
@@ -68,7 +73,8 @@ fn add_choices(
     choices: &[Choice],
     written: &[syntax::Choice],
 ) -> Result<(), NameFault>
-    ensures { Gives (λ _. names_view keys.new) (in_turn one_name (names_view keys.old) (map key_of (map choice_view choices.now))) result }
+    ensures given { Gives (λ _. names_view keys.new) (in_turn one_name (names_view keys.old) (map key_of (map choice_view choices.now))) result }
+    ensures told { IfErr result (Tells (is_of (ChoiceTwice ∷ []))) }
 {
     for (index, choice) in choices.iter().enumerate() {
         add_choice(alloc, keys, choice, place(written, index))?;
@@ -82,7 +88,8 @@ fn told_apart(
     alternatives: &[Alternative],
     lists: &[&[syntax::Choice]],
 ) -> Result<Keys, NameFault>
-    ensures { Gives names_view (in_turn steps.with_choices [] (map views.alternative_view alternatives.now)) result }
+    ensures given { Gives names_view (in_turn steps.with_choices [] (map views.alternative_view alternatives.now)) result }
+    ensures told { IfErr result (Tells (is_of (ChoiceTwice ∷ []))) }
 {
     let mut keys = IndexSet::new(alloc);
     for (index, alternative) in alternatives.iter().enumerate() {
@@ -124,7 +131,8 @@ fn others_place(lists: &[&[syntax::Choice]]) -> usize {
 
 /// `others` stands in no alternative but the last.
 fn others_last(lists: &[&[syntax::Choice]]) -> Result<(), NameFault>
-    ensures { Gives (λ _. tt) (rule WrongKind (rules.only_last_others (steps.all_lists lists.now))) result }
+    ensures given { Gives (λ _. tt) (rule WrongKind (rules.only_last_others (steps.all_lists lists.now))) result }
+    ensures told { IfErr result (Tells (unless WrongKind (rules.only_last_others (steps.all_lists lists.now)))) }
 {
     match lists.split_last() {
         None => Ok(()),
@@ -185,7 +193,10 @@ fn add_written(
     selected: ObjectType,
     keys: &mut Keys,
     written: &[syntax::Choice],
-) -> Result<(), NameFault> {
+) -> Result<(), NameFault>
+    ensures added { IfOk result (λ _. told.with_list (sight_view sight.now) selected (names_view keys.old) (map tree.choice_view written.now) ≡ Some (names_view keys.new)) }
+    ensures told { IfErr result (Tells (told.written (sight_view sight.now) selected (names_view keys.old) (map tree.choice_view written.now))) }
+{
     for index in 0..written.len() {
         let one = &written[index..index + 1];
         let analysed = choices(alloc, sight, selected, one)?;
@@ -203,7 +214,8 @@ pub(crate) fn first_fault(
     lists: &[&[syntax::Choice]],
     fault: NameFault,
 ) -> NameFault
-    ensures { result ≢ NoMemory → fault ≢ NoMemory }
+    ensures given { result ≢ NoMemory → fault ≢ NoMemory }
+    ensures told { (b : Broken) → Tells b fault → Tells (b ∪ broken.covered (sight_view sight.now) selected (steps.all_lists lists.now)) result }
 {
     let first = earlier_in(fault, others_last(lists));
     let mut keys = IndexSet::new(alloc);
@@ -224,7 +236,8 @@ fn cover(
     lists: &[&[syntax::Choice]],
     alternatives: &[Alternative],
 ) -> Result<(), NameFault>
-    ensures { Gives (λ _. tt) (steps.cover selected (steps.all_lists lists.now) (steps.all_choices (map views.alternative_view alternatives.now))) result }
+    ensures given { Gives (λ _. tt) (steps.cover selected (steps.all_lists lists.now) (steps.all_choices (map views.alternative_view alternatives.now))) result }
+    ensures told { IfErr result (Tells (told.uncovered selected (steps.all_lists lists.now) (steps.all_choices (map views.alternative_view alternatives.now)))) }
 {
     let keys = match told_apart(alloc, alternatives, lists) {
         Ok(keys) => keys,
@@ -248,6 +261,7 @@ pub(crate) fn covered(
 ) -> Result<Vec<Alternative>, NameFault>
     ensures same { IfOk result (λ all. all ≡ alternatives) }
     ensures asked { Gives (λ _. tt) (steps.cover selected (steps.all_lists lists.now) (steps.all_choices (views.alternatives_view alternatives))) result }
+    ensures told { IfErr result (Tells (told.uncovered selected (steps.all_lists lists.now) (steps.all_choices (views.alternatives_view alternatives)))) }
 {
     cover(alloc, selected, at, lists, &alternatives)?;
     Ok(alternatives)
@@ -258,7 +272,8 @@ pub(crate) fn but_last(
     at: usize,
     alternatives: Vec<Alternative>,
 ) -> Result<(Vec<Alternative>, Vec<Statement>), NameFault>
-    ensures { Gives (λ p. steps.divided (views.alternatives_view p.0) (views.statements_view p.1)) (steps.but_last (views.alternatives_view alternatives)) result }
+    ensures given { Gives (λ p. steps.divided (views.alternatives_view p.0) (views.statements_view p.1)) (steps.but_last (views.alternatives_view alternatives)) result }
+    ensures told { IfErr result (Tells (lacking (LeftOut ∷ []) (steps.but_last (views.alternatives_view alternatives)))) }
 {
     let mut rest = alternatives;
     match rest.pop() {

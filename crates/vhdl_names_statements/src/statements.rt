@@ -1,6 +1,8 @@
 //! How sequential statements are analysed (IEEE 1076-2008, clause 10).
 
-ghost use Rattle.std.specs.Prelude.{◌≡◌, map, option_map, OnErr, Some};
+ghost use Rattle.std.specs.Prelude.{◌≡◌, map, option_map, IfErr, OnErr, Some};
+ghost use Rattle.vhdl_names_problems.specs.Broken.{Tells, nothing};
+ghost use Rattle.vhdl_names_problems.specs.Statements as broken;
 ghost use Rattle.vhdl_names_rules.specs.Rules.{each, if_any};
 ghost use Rattle.vhdl_names_rules.specs.Statements as rules;
 ghost use Rattle.vhdl_names_rules.specs.Visibility as visibility;
@@ -14,6 +16,7 @@ ghost use Rattle.vhdl_names_types.specs.Views.{sight_view};
 ghost use Rattle.vhdl_names_units.specs.views.Sequential as views;
 ghost use Rattle.vhdl_names_statements.specs.steps.Cases as cases;
 ghost use Rattle.vhdl_names_statements.specs.steps.Sequential as steps;
+ghost use Rattle.vhdl_names_statements.specs.steps.Told as told;
 
 use crate::choices::{but_last, choice_lists, covered, first_fault};
 use crate::held::ended;
@@ -32,7 +35,8 @@ pub(crate) fn assigned(
     name: &syntax::Name,
     value: &syntax::Value,
 ) -> Result<Statement, NameFault>
-    ensures { Gives views.statement_view (steps.assigned (sight_view sight.now) (tree.name_view name.now) (tree.value_view value.now)) result }
+    ensures given { Gives views.statement_view (steps.assigned (sight_view sight.now) (tree.name_view name.now) (tree.value_view value.now)) result }
+    ensures told { IfErr result (Tells (broken.assigned (sight_view sight.now) (tree.name_view name.now) (tree.value_view value.now))) }
 {
     let signal = target(alloc, sight, name)?;
     let value = given(alloc, sight, signal.object_type, value)?;
@@ -49,7 +53,8 @@ fn set(
     name: &syntax::Name,
     value: &syntax::Value,
 ) -> Result<Statement, NameFault>
-    ensures { Gives views.statement_view (steps.set (sight_view sight.now) (tree.name_view name.now) (tree.value_view value.now)) result }
+    ensures given { Gives views.statement_view (steps.set (sight_view sight.now) (tree.name_view name.now) (tree.value_view value.now)) result }
+    ensures told { IfErr result (Tells (broken.variable_assigned (sight_view sight.now) (tree.name_view name.now) (tree.value_view value.now))) }
 {
     let variable = variable(alloc, sight, name)?;
     let value = given(alloc, sight, variable.object_type, value)?;
@@ -65,6 +70,7 @@ fn set(
 fn enter_loop(alloc: Global, sight: &mut Sight, parameter: &Identifier) -> Result<(), NameFault>
     ensures given { Gives (λ _. sight_view sight.new) (Some (visibility.within_loop (sight_view sight.old) (tree.ident_view parameter.now))) result }
     ensures refused { OnErr result (sight_view sight.new ≡ sight_view sight.old) }
+    ensures told { IfErr result (Tells (nothing)) }
 {
     let meaning = Meaning::LoopParameter(sight.loops.len());
     let name = parameter.text.to_vec(alloc)?;
@@ -89,6 +95,7 @@ pub fn analysed(
 ) -> Result<Vec<Statement>, NameFault>
     ensures given { Gives views.body_view (rules.statements (sight_view sight.old) (t.statements_of (map tree.sequential_view list.now))) result }
     ensures kept { sight_view sight.new ≡ sight_view sight.old }
+    ensures told { IfErr result (Tells (broken.statements (sight_view sight.old) (t.statements_of (map tree.sequential_view list.now)))) }
 {
     statements(alloc, sight, list)
 }
@@ -103,6 +110,7 @@ fn statements(
 ) -> Result<Vec<Statement>, NameFault>
     ensures given { Gives views.statements_view (steps.all_labelled (sight_view sight.old) (map tree.sequential_view list.now)) result }
     ensures kept { sight_view sight.new ≡ sight_view sight.old }
+    ensures told { IfErr result (Tells (broken.statements (sight_view sight.old) (t.statements_of (map tree.sequential_view list.now)))) }
 {
     let mut all = Vec::new(alloc);
     for item in list {
@@ -122,6 +130,7 @@ fn statement(
 ) -> Result<Statement, NameFault>
     ensures given { Gives views.statement_view (steps.labelled (sight_view sight.old) (tree.sequential_view item.now)) result }
     ensures kept { sight_view sight.new ≡ sight_view sight.old }
+    ensures told { IfErr result (Tells (broken.statement (sight_view sight.old) (tree.option_ident_view item.now.label) (tree.statement_view item.now.statement))) }
 {
     match &item.statement {
         syntax::Statement::Null { .. } => Ok(Statement::Null),
@@ -147,6 +156,7 @@ fn if_statement(
         (steps.conditional (sight_view sight.old) (option_map tree.ident_view label.now) (tree.conditionals_view (out-If conditional.now).branches)
         (tree.option_sequentials_view (out-If conditional.now).otherwise) (tree.option_ident_view (out-If conditional.now).end_label)) result }
     ensures kept { sight_view sight.new ≡ sight_view sight.old }
+    ensures told { IfErr result (Tells (broken.statement (sight_view sight.old) (option_map tree.ident_view label.now) (tree.if_view conditional.now))) }
 {
     let branches = branches(alloc, sight, &conditional.branches)?;
     let otherwise = otherwise(alloc, sight, conditional)?;
@@ -164,6 +174,7 @@ fn branches(
 ) -> Result<Vec<Branch>, NameFault>
     ensures given { Gives views.branches_view (each (steps.guarded (sight_view sight.old)) (map tree.conditional_view list.now)) result }
     ensures kept { sight_view sight.new ≡ sight_view sight.old }
+    ensures told { IfErr result (Tells (broken.conditionals (sight_view sight.old) (t.conditionals_of (map tree.conditional_view list.now)))) }
 {
     let mut all = Vec::new(alloc);
     for item in list {
@@ -178,6 +189,7 @@ fn branches(
 fn branch(alloc: Global, sight: &mut Sight, item: &syntax::Conditional) -> Result<Branch, NameFault>
     ensures given { Gives views.branch_view (steps.guarded (sight_view sight.old) (tree.conditional_view item.now)) result }
     ensures kept { sight_view sight.new ≡ sight_view sight.old }
+    ensures told { IfErr result (Tells (told.guarded (sight_view sight.old) (tree.conditional_view item.now))) }
 {
     let condition = condition(alloc, sight, &item.condition)?;
     let statements = statements(alloc, sight, &item.statements)?;
@@ -194,6 +206,7 @@ fn otherwise(
     ensures given { Gives views.option_statements_view
         (if_any (steps.all_labelled (sight_view sight.old)) (tree.option_sequentials_view (out-If conditional.now).otherwise)) result }
     ensures kept { sight_view sight.new ≡ sight_view sight.old }
+    ensures told { IfErr result (Tells (broken.otherwise (sight_view sight.old) (t.otherwise_of (tree.option_sequentials_view (out-If conditional.now).otherwise)))) }
 {
     match &conditional.otherwise {
         None => Ok(None),
@@ -213,6 +226,7 @@ fn case_statement(
         (cases.selection (sight_view sight.old) (option_map tree.ident_view label.now) (tree.view (out-Case case.now).selector)
         (tree.alternatives_view (out-Case case.now).alternatives) (tree.option_ident_view (out-Case case.now).end_label)) result }
     ensures kept { sight_view sight.new ≡ sight_view sight.old }
+    ensures told { IfErr result (Tells (broken.statement (sight_view sight.old) (option_map tree.ident_view label.now) (tree.case_view case.now))) }
 {
     let (selected, value) = selector(alloc, sight, &case.selector)?;
     let (alternatives, others) = case_parts(alloc, sight, selected, label, case)?;
@@ -232,6 +246,8 @@ fn case_parts(
         (cases.parts (sight_view sight.old) selected (option_map tree.ident_view label.now)
         (tree.alternatives_view (out-Case case.now).alternatives) (tree.option_ident_view (out-Case case.now).end_label)) result }
     ensures kept { sight_view sight.new ≡ sight_view sight.old }
+    ensures told { IfErr result (Tells (told.parts (sight_view sight.old) selected (option_map tree.ident_view label.now)
+        (tree.alternatives_view (out-Case case.now).alternatives) (tree.option_ident_view (out-Case case.now).end_label))) }
 {
     let lists = choice_lists(alloc, &case.alternatives)?;
     let all = match alternatives(alloc, sight, selected, &case.alternatives) {
@@ -253,6 +269,7 @@ fn alternatives(
 ) -> Result<Vec<Alternative>, NameFault>
     ensures given { Gives views.alternatives_view (each (cases.chosen (sight_view sight.old) selected) (map tree.alternative_view list.now)) result }
     ensures kept { sight_view sight.new ≡ sight_view sight.old }
+    ensures told { IfErr result (Tells (told.alternatives (sight_view sight.old) selected (map tree.alternative_view list.now))) }
 {
     let mut all = Vec::new(alloc);
     for item in list {
@@ -272,6 +289,7 @@ fn alternative(
 ) -> Result<Alternative, NameFault>
     ensures given { Gives views.alternative_view (cases.chosen (sight_view sight.old) selected (tree.alternative_view item.now)) result }
     ensures kept { sight_view sight.new ≡ sight_view sight.old }
+    ensures told { IfErr result (Tells (told.alternative (sight_view sight.old) selected (tree.alternative_view item.now))) }
 {
     let choices = choices(alloc, sight, selected, &item.choices)?;
     let statements = statements(alloc, sight, &item.statements)?;
@@ -290,6 +308,7 @@ fn for_loop(
         (steps.repetition (sight_view sight.old) (option_map tree.ident_view label.now) (tree.ident_view (out-For repeated.now).parameter)
         (tree.range_view (out-For repeated.now).range) (tree.sequentials_view (out-For repeated.now).statements) (tree.option_ident_view (out-For repeated.now).end_label)) result }
     ensures kept { sight_view sight.new ≡ sight_view sight.old }
+    ensures told { IfErr result (Tells (broken.statement (sight_view sight.old) (option_map tree.ident_view label.now) (tree.for_view repeated.now))) }
 {
     let range = static_range(alloc, sight, &repeated.range)?;
     let turn = turn(alloc, sight, repeated)?;
@@ -307,6 +326,8 @@ fn turn(
     ensures given { Gives views.statements_view
         (steps.turn (sight_view sight.old) (tree.ident_view (out-For repeated.now).parameter) (tree.sequentials_view (out-For repeated.now).statements)) result }
     ensures kept { sight_view sight.new ≡ sight_view sight.old }
+    ensures told { IfErr result (Tells (broken.statements (visibility.within_loop (sight_view sight.old) (tree.ident_view (out-For repeated.now).parameter))
+        (t.statements_of (tree.sequentials_view (out-For repeated.now).statements)))) }
 {
     enter_loop(alloc, sight, &repeated.parameter)?;
     let found = statements(alloc, sight, &repeated.statements);

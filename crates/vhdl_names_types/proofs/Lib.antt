@@ -3,3 +3,4 @@ pub mod Closing
 pub mod Meant
 pub mod Quotations
 pub mod Sights
+pub mod Operating

@@ -1,4 +1,3 @@
-pub mod Missing
 pub mod Sights
 pub mod Steps
 pub mod Views

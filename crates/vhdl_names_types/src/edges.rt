@@ -1,6 +1,8 @@
 //! Edges of signals: rising_edge, falling_edge and 'event (IEEE 1076-2008, 16.2.4; IEEE 1164), of a signal's static name (8.1).
 
-ghost use Rattle.std.specs.Prelude.{◌≡◌, false, None, option_map, IfOk, IfErr, OnErr};
+ghost use Rattle.vhdl_names_problems.specs.Broken.{Tells, is_of};
+ghost use Rattle.vhdl_names_rules.specs.declared.fault.NameProblem.TheVariants.{WrongKind, TypeMismatch};
+ghost use Rattle.std.specs.Prelude.{◌≡◌, true, false, None, option_map, IfOk, IfErr, OnErr, ◌∷◌, []};
 ghost use Rattle.std.specs.List.{list_all};
 ghost use Rattle.vhdl_names_rules.specs.Gives.{Gives};
 ghost use Rattle.vhdl_names_rules.specs.Names as rules;
@@ -78,7 +80,9 @@ fn is_static_part(part: &Part) -> bool
 }
 
 /// What is wrong with an operand that is no signal.
-fn edge_problem(vector: &Vector) -> NameProblem {
+fn edge_problem(vector: &Vector) -> NameProblem
+    ensures { is_of (WrongKind ∷ TypeMismatch ∷ []) result ≡ true }
+{
     match vector {
         Vector::Variable(..) | Vector::Constant(..) => NameProblem::WrongKind,
         _ => NameProblem::TypeMismatch,
@@ -89,6 +93,7 @@ fn edge_problem(vector: &Vector) -> NameProblem {
 fn element_of(operand: Typed, at: usize) -> Result<Vector, NameFault>
     ensures element { IfOk result (λ v. typed_view operand ≡ table.elements Element (vector_view v)) }
     ensures other { OnErr result (rules.edge_signal (typed_view operand) ≡ None) }
+    ensures told { IfErr result (Tells (is_of (WrongKind ∷ TypeMismatch ∷ []))) }
 {
     match operand {
         Typed::Elements(ElementKind::Element, vector) => Ok(vector),
@@ -100,7 +105,8 @@ fn element_of(operand: Typed, at: usize) -> Result<Vector, NameFault>
 /// The signal that an element is, by a static name.
 #[tactic(auto, using(crate::proofs::Meant::no_edge))]
 fn static_signal(vector: Vector, at: usize) -> Result<SignalPart, NameFault>
-    ensures { Gives place_view (rules.edge_signal (table.elements Element (vector_view vector))) result }
+    ensures given { Gives place_view (rules.edge_signal (table.elements Element (vector_view vector))) result }
+    ensures told { IfErr result (Tells (is_of (WrongKind ∷ TypeMismatch ∷ []))) }
 {
     match as_place(vector) {
         Ok(place) => {
@@ -116,7 +122,8 @@ fn static_signal(vector: Vector, at: usize) -> Result<SignalPart, NameFault>
 
 /// The signal of one element that an edge call or 'event at byte `at` asks for.
 pub(crate) fn edge_signal(operand: Typed, at: usize) -> Result<SignalPart, NameFault>
-    ensures { Gives place_view (rules.edge_signal (typed_view operand)) result }
+    ensures given { Gives place_view (rules.edge_signal (typed_view operand)) result }
+    ensures told { IfErr result (Tells (is_of (WrongKind ∷ TypeMismatch ∷ []))) }
 {
     let vector = element_of(operand, at)?;
     static_signal(vector, at)
@@ -124,7 +131,8 @@ pub(crate) fn edge_signal(operand: Typed, at: usize) -> Result<SignalPart, NameF
 
 /// An edge of a signal, for a call at byte `at`.
 fn edge_call(edge: Edge, operand: Option<Typed>, at: usize) -> Result<Typed, NameFault>
-    ensures { Gives typed_view (edge_by edge (option_map typed_view operand)) result }
+    ensures given { Gives typed_view (edge_by edge (option_map typed_view operand)) result }
+    ensures told { IfErr result (Tells (is_of (WrongKind ∷ TypeMismatch ∷ []))) }
 {
     match operand {
         Some(operand) => {
@@ -138,7 +146,8 @@ fn edge_call(edge: Edge, operand: Option<Typed>, at: usize) -> Result<Typed, Nam
 /// rising_edge or falling_edge, whose name is at byte `at`, of a signal's name.
 #[tactic(auto, using(crate::proofs::Meant::edge_sole))]
 pub(crate) fn edge_of(edge: Edge, suffix: TypedSuffix, at: usize) -> Result<Typed, NameFault>
-    ensures { Gives typed_view (rules.edge_of edge (typed_suffix_view suffix)) result }
+    ensures given { Gives typed_view (rules.edge_of edge (typed_suffix_view suffix)) result }
+    ensures told { IfErr result (Tells (is_of (WrongKind ∷ TypeMismatch ∷ []))) }
 {
     match suffix {
         TypedSuffix::Arguments(true, arguments) => edge_call(edge, sole_argument(arguments), at),

@@ -1,7 +1,9 @@
 //! The values of string and bit string literals (IEEE 1076-2008, 15.7, 15.8). They take the memory
 //! of a list.
 
-ghost use Rattle.std.specs.Prelude.{◌≡◌, ◌==◌, ◌++◌, ◌<◌, not, length, position, filter, flat_map, Some, IfOk, IfSome, option_map};
+ghost use Rattle.vhdl_names_problems.specs.Broken.{Tells, is_of, nothing};
+ghost use Rattle.vhdl_names_rules.specs.declared.fault.NameProblem.TheVariants.{TypeMismatch, LeftOut};
+ghost use Rattle.std.specs.Prelude.{◌≡◌, ◌==◌, ◌++◌, ◌<◌, not, length, position, filter, flat_map, Some, IfOk, IfSome, option_map, IfErr, ◌∷◌, []};
 ghost use Rattle.vhdl_lexer.specs.Bytes.{quote, underscore};
 ghost use Rattle.vhdl_lexer.specs.Words.{base_class};
 ghost use Rattle.vhdl_names_rules.specs.Gives.{Gives};
@@ -51,7 +53,8 @@ fn quoted(text: &[u8]) -> &[u8]
 
 /// The values of a literal at byte `at`, which is not empty.
 fn at_least_one(values: Vec<Nine>, at: usize) -> Result<Vec<Nine>, NameFault>
-    ensures { Gives (λ v. v.items) (rules.at_least_one values.items) result }
+    ensures given { Gives (λ v. v.items) (rules.at_least_one values.items) result }
+    ensures told { IfErr result (Tells (is_of (LeftOut ∷ []))) }
 {
     if values.is_empty() {
         return Err(NameProblem::LeftOut.at(at));
@@ -62,7 +65,8 @@ fn at_least_one(values: Vec<Nine>, at: usize) -> Result<Vec<Nine>, NameFault>
 /// The values of a string.
 #[tactic(auto, using(crate::proofs::Quotations::at_end))]
 pub fn string_values(alloc: Global, literal: &Literal) -> Result<Vec<Nine>, NameFault>
-    ensures { Gives (λ v. v.items) (rules.values_of_string literal.now.text.items) result }
+    ensures given { Gives (λ v. v.items) (rules.values_of_string literal.now.text.items) result }
+    ensures told { IfErr result (Tells (is_of (TypeMismatch ∷ LeftOut ∷ []))) }
 {
     let mut values = Vec::new(alloc);
     for b in quoted(&literal.text) {
@@ -125,7 +129,8 @@ fn push_digit(values: &mut Vec<Nine>, base: Base, digit: u8) -> Result<(), Alloc
 
 /// The bits of digits of a base, underscores counting for nothing.
 fn bits(alloc: Global, base: Base, digits: &[u8]) -> Result<Vec<Nine>, NameFault>
-    ensures { Gives (λ v. v.items) (Some (flat_map (λ b. rules.bits_of (class_of base) (rules.digit_value b)) (filter (λ b. not (b == underscore)) digits.now))) result }
+    ensures given { Gives (λ v. v.items) (Some (flat_map (λ b. rules.bits_of (class_of base) (rules.digit_value b)) (filter (λ b. not (b == underscore)) digits.now))) result }
+    ensures told { IfErr result (Tells (nothing)) }
 {
     let mut values = Vec::new(alloc);
     for digit in digits {
@@ -139,7 +144,8 @@ fn bits(alloc: Global, base: Base, digits: &[u8]) -> Result<Vec<Nine>, NameFault
 /// The values of a bit string.
 #[tactic(auto, using(crate::proofs::Quotations::bits_of_base))]
 pub fn bit_string_values(alloc: Global, literal: &Literal) -> Result<Vec<Nine>, NameFault>
-    ensures { Gives (λ v. v.items) (rules.values_of_bits literal.now.text.items) result }
+    ensures given { Gives (λ v. v.items) (rules.values_of_bits literal.now.text.items) result }
+    ensures told { IfErr result (Tells (is_of (LeftOut ∷ []))) }
 {
     let [letter, text @ ..] = literal.text.as_slice() else {
         return Err(NameProblem::LeftOut.at(literal.at));

@@ -1,7 +1,10 @@
 //! What names in expressions are (IEEE 1076-2008, clause 8): objects with their indexed and slice
 //! names, conversions and calls of the packages' functions (9.3.4, 9.3.6), and 'event (16.2.4).
 
-ghost use Rattle.std.specs.Prelude.{◌≡◌, option_map};
+ghost use Rattle.vhdl_names_problems.specs.Broken.{Tells, is_of, ◌∪◌};
+ghost use Rattle.vhdl_names_problems.specs.Expressions as broken;
+ghost use Rattle.vhdl_names_rules.specs.declared.fault.NameProblem.TheVariants.{WrongKind, TypeMismatch};
+ghost use Rattle.std.specs.Prelude.{◌≡◌, option_map, IfErr, ◌∷◌, []};
 ghost use Rattle.vhdl_names_rules.specs.Gives.{Gives};
 ghost use Rattle.vhdl_names_rules.specs.Names as rules;
 ghost use Rattle.vhdl_names_rules.specs.Operators as table;
@@ -31,7 +34,8 @@ fn read_signal(
     suffix: TypedSuffix,
     at: usize,
 ) -> Result<Typed, NameFault>
-    ensures { Gives typed_view (rules.read_signal (signal_view signal) kind (typed_suffix_view suffix)) result }
+    ensures given { Gives typed_view (rules.read_signal (signal_view signal) kind (typed_suffix_view suffix)) result }
+    ensures told { IfErr result (Tells (is_of (TypeMismatch ∷ []))) }
 {
     let (part, kind) = part(kind, suffix, at)?;
     Ok(Typed::Elements(kind, Vector::Signal(SignalPart { at, signal, part })))
@@ -44,7 +48,8 @@ fn read_variable(
     suffix: TypedSuffix,
     at: usize,
 ) -> Result<Typed, NameFault>
-    ensures { Gives typed_view (rules.read_by (units.of_variable number) kind (typed_suffix_view suffix)) result }
+    ensures given { Gives typed_view (rules.read_by (units.of_variable number) kind (typed_suffix_view suffix)) result }
+    ensures told { IfErr result (Tells (is_of (TypeMismatch ∷ []))) }
 {
     let (part, kind) = part(kind, suffix, at)?;
     Ok(Typed::Elements(kind, Vector::Variable(at, number, part)))
@@ -57,7 +62,8 @@ fn read_constant(
     suffix: TypedSuffix,
     at: usize,
 ) -> Result<Typed, NameFault>
-    ensures { Gives typed_view (rules.read_by (units.of_constant number) kind (typed_suffix_view suffix)) result }
+    ensures given { Gives typed_view (rules.read_by (units.of_constant number) kind (typed_suffix_view suffix)) result }
+    ensures told { IfErr result (Tells (is_of (TypeMismatch ∷ []))) }
 {
     let (part, kind) = part(kind, suffix, at)?;
     Ok(Typed::Elements(kind, Vector::Constant(at, number, part)))
@@ -65,7 +71,8 @@ fn read_constant(
 
 /// A vector as one of another kind.
 fn conversion_of(kind: ElementKind, operand: Option<Typed>, at: usize) -> Result<Typed, NameFault>
-    ensures { Gives typed_view (conversion kind (option_map typed_view operand)) result }
+    ensures given { Gives typed_view (conversion kind (option_map typed_view operand)) result }
+    ensures told { IfErr result (Tells (is_of (TypeMismatch ∷ []))) }
 {
     match operand {
         Some(
@@ -81,7 +88,8 @@ fn conversion_of(kind: ElementKind, operand: Option<Typed>, at: usize) -> Result
 /// The conversion to a vector type of a kind, whose name is at byte `at`.
 #[tactic(auto, using(crate::proofs::Meant::converted_sole))]
 fn converted(kind: ElementKind, suffix: TypedSuffix, at: usize) -> Result<Typed, NameFault>
-    ensures { Gives typed_view (rules.converted kind (typed_suffix_view suffix)) result }
+    ensures given { Gives typed_view (rules.converted kind (typed_suffix_view suffix)) result }
+    ensures told { IfErr result (Tells (is_of (TypeMismatch ∷ []))) }
 {
     match suffix {
         TypedSuffix::Arguments(_, arguments) => conversion_of(kind, sole_argument(arguments), at),
@@ -91,7 +99,8 @@ fn converted(kind: ElementKind, suffix: TypedSuffix, at: usize) -> Result<Typed,
 
 /// A number and a count, which a call at byte `at` is of.
 fn number_and_count(arguments: Vec<Typed>, at: usize) -> Result<(Vector, Static), NameFault>
-    ensures { Gives (λ p. (vector_view p.0, static_view p.1)) (counting (option_map (λ p. (typed_view p.0, typed_view p.1)) (two arguments.items))) result }
+    ensures given { Gives (λ p. (vector_view p.0, static_view p.1)) (counting (option_map (λ p. (typed_view p.0, typed_view p.1)) (two arguments.items))) result }
+    ensures told { IfErr result (Tells (is_of (TypeMismatch ∷ []))) }
 {
     let Some((first, second)) = two_arguments(arguments) else {
         return Err(NameProblem::TypeMismatch.at(at));
@@ -108,7 +117,8 @@ fn number_and_count(arguments: Vec<Typed>, at: usize) -> Result<(Vector, Static)
 
 /// to_unsigned, whose name is at byte `at`, of a number and a size.
 fn encoded(arguments: Vec<Typed>, at: usize) -> Result<Typed, NameFault>
-    ensures { Gives typed_view (encoded_by (option_map (λ p. (typed_view p.0, typed_view p.1)) (two arguments.items))) result }
+    ensures given { Gives typed_view (encoded_by (option_map (λ p. (typed_view p.0, typed_view p.1)) (two arguments.items))) result }
+    ensures told { IfErr result (Tells (is_of (TypeMismatch ∷ []))) }
 {
     let Some((first, second)) = two_arguments(arguments) else {
         return Err(NameProblem::TypeMismatch.at(at));
@@ -133,7 +143,8 @@ fn called(
     suffix: TypedSuffix,
     at: usize,
 ) -> Result<Typed, NameFault>
-    ensures { Gives typed_view (rules.called function (typed_suffix_view suffix)) result }
+    ensures given { Gives typed_view (rules.called function (typed_suffix_view suffix)) result }
+    ensures told { IfErr result (Tells (is_of (WrongKind ∷ TypeMismatch ∷ []))) }
 {
     if let Function::EdgeCall(edge) = function {
         return edge_of(edge, suffix, at);
@@ -168,7 +179,8 @@ fn signal_of(
     suffix: TypedSuffix,
     at: usize,
 ) -> Result<Typed, NameFault>
-    ensures { Gives typed_view (rules.denoted (visibility.signal number object_type) (typed_suffix_view suffix)) result }
+    ensures given { Gives typed_view (rules.denoted (visibility.signal number object_type) (typed_suffix_view suffix)) result }
+    ensures told { IfErr result (Tells (is_of (TypeMismatch ∷ []))) }
 {
     let signal = Signal::Signal(number);
     match object_type {
@@ -190,7 +202,8 @@ fn variable_of(
     suffix: TypedSuffix,
     at: usize,
 ) -> Result<Typed, NameFault>
-    ensures { Gives typed_view (rules.denoted (visibility.variable number object_type) (typed_suffix_view suffix)) result }
+    ensures given { Gives typed_view (rules.denoted (visibility.variable number object_type) (typed_suffix_view suffix)) result }
+    ensures told { IfErr result (Tells (is_of (TypeMismatch ∷ []))) }
 {
     match object_type {
         ObjectType::Elements(kind) => read_variable(number, kind, suffix, at),
@@ -211,7 +224,8 @@ pub fn denoted(
     suffix: TypedSuffix,
     at: usize,
 ) -> Result<Typed, NameFault>
-    ensures { Gives typed_view (rules.denoted (meaning_view meaning.now) (typed_suffix_view suffix)) result }
+    ensures given { Gives typed_view (rules.denoted (meaning_view meaning.now) (typed_suffix_view suffix)) result }
+    ensures told { IfErr result (Tells (is_of (broken.name_problems (meaning_view meaning.now)))) }
 {
     match meaning {
         Meaning::Generic(k) => if_plain(suffix, Typed::Integer(Static::Generic(*k)), at),
@@ -246,12 +260,14 @@ pub fn denoted(
 }
 
 /// The attribute of a name at byte `at`, if it has one: 'event.
+#[tactic(auto, using(vhdl_names_problems::proofs::Telling::told_left, vhdl_names_problems::proofs::Telling::told_right, vhdl_names_problems::proofs::Telling::told_lacking))]
 pub fn attributed(
     attribute: &Option<Identifier>,
     operand: Typed,
     at: usize,
 ) -> Result<Typed, NameFault>
-    ensures { Gives typed_view (rules.attributed (option_map ident_view attribute.now) (typed_view operand)) result }
+    ensures given { Gives typed_view (rules.attributed (option_map ident_view attribute.now) (typed_view operand)) result }
+    ensures told { IfErr result (Tells (broken.attribute (option_map ident_view attribute.now) ∪ broken.event_of (option_map ident_view attribute.now) (typed_view operand))) }
 {
     match attribute {
         None => Ok(operand),

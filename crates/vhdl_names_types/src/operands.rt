@@ -1,6 +1,8 @@
 //! Operands: literals (IEEE 1076-2008, 9.3.2), and what stands behind a sign or in parentheses.
 
-ghost use Rattle.std.specs.Prelude.{◌≡◌, option_map};
+ghost use Rattle.vhdl_names_problems.specs.Broken.{Tells, is_of};
+ghost use Rattle.vhdl_names_rules.specs.declared.fault.NameProblem.TheVariants.{TypeMismatch, LeftOut};
+ghost use Rattle.std.specs.Prelude.{◌≡◌, option_map, IfErr, ◌∷◌, []};
 ghost use Rattle.vhdl_names_rules.specs.Expressions as rules;
 ghost use Rattle.vhdl_names_rules.specs.Gives.{Gives};
 ghost use Rattle.vhdl_names_rules.specs.Literals as literals;
@@ -20,7 +22,8 @@ use vhdl_tree::{Literal, Sign};
 
 /// An integer literal, of at most 2,147,483,647 (IEEE 1076-2008, 5.2.3.2); a greater one is LeftOut.
 pub fn integer_literal(literal: &Literal) -> Result<Typed, NameFault>
-    ensures { Gives typed_view (integer_of literal.now.text.items) result }
+    ensures given { Gives typed_view (integer_of literal.now.text.items) result }
+    ensures told { IfErr result (Tells (is_of (LeftOut ∷ []))) }
 {
     match integer_value(&literal.text) {
         Some(number) => Ok(Typed::Integer(Static::Number(number))),
@@ -30,7 +33,8 @@ pub fn integer_literal(literal: &Literal) -> Result<Typed, NameFault>
 
 /// A character literal at byte `at`, of one of the nine values (15.6), or else there is TypeMismatch.
 pub fn character_literal(code: u8, at: usize) -> Result<Typed, NameFault>
-    ensures { Gives typed_view (option_map (λ v. table.elements Element (u.character v)) (literals.nine_of code)) result }
+    ensures given { Gives typed_view (option_map (λ v. table.elements Element (u.character v)) (literals.nine_of code)) result }
+    ensures told { IfErr result (Tells (is_of (TypeMismatch ∷ []))) }
 {
     match nine_of(code) {
         Some(value) => Ok(Typed::Elements(ElementKind::Element, Vector::Character(at, value))),
@@ -40,7 +44,8 @@ pub fn character_literal(code: u8, at: usize) -> Result<Typed, NameFault>
 
 /// A string literal, a vector of the nine values (15.7). It takes the memory of a list.
 pub fn string_literal(alloc: Global, literal: &Literal) -> Result<Typed, NameFault>
-    ensures { Gives typed_view (option_map (λ vs. table.elements OpenVector (u.Vector.literal vs)) (literals.values_of_string literal.now.text.items)) result }
+    ensures given { Gives typed_view (option_map (λ vs. table.elements OpenVector (u.Vector.literal vs)) (literals.values_of_string literal.now.text.items)) result }
+    ensures told { IfErr result (Tells (is_of (TypeMismatch ∷ LeftOut ∷ []))) }
 {
     let values = string_values(alloc, literal)?;
     Ok(Typed::Elements(ElementKind::OpenVector, Vector::Literal(literal.at, values)))
@@ -48,7 +53,8 @@ pub fn string_literal(alloc: Global, literal: &Literal) -> Result<Typed, NameFau
 
 /// A bit string literal, a vector of zeros and ones (15.8). It takes the memory of a list.
 pub fn bit_string_literal(alloc: Global, literal: &Literal) -> Result<Typed, NameFault>
-    ensures { Gives typed_view (option_map (λ vs. table.elements OpenVector (u.Vector.literal vs)) (literals.values_of_bits literal.now.text.items)) result }
+    ensures given { Gives typed_view (option_map (λ vs. table.elements OpenVector (u.Vector.literal vs)) (literals.values_of_bits literal.now.text.items)) result }
+    ensures told { IfErr result (Tells (is_of (LeftOut ∷ []))) }
 {
     let values = bit_string_values(alloc, literal)?;
     Ok(Typed::Elements(ElementKind::OpenVector, Vector::Literal(literal.at, values)))
@@ -57,7 +63,8 @@ pub fn bit_string_literal(alloc: Global, literal: &Literal) -> Result<Typed, Nam
 /// A sign at byte `at`, before an integer (9.2.6), or else there is TypeMismatch. It takes the
 /// memory of a box.
 pub fn signed(alloc: Global, sign: Sign, operand: Typed, at: usize) -> Result<Typed, NameFault>
-    ensures { Gives typed_view (signed_by sign (typed_view operand)) result }
+    ensures given { Gives typed_view (signed_by sign (typed_view operand)) result }
+    ensures told { IfErr result (Tells (is_of (TypeMismatch ∷ []))) }
 {
     match operand {
         Typed::Integer(integer) => match sign {

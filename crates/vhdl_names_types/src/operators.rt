@@ -1,12 +1,15 @@
 //! Operators on typed operands (IEEE 1076-2008, 9.2; numeric_std for unsigned, 16.8). Each takes the
 //! memory of a list or a box.
 
-ghost use Rattle.std.specs.Prelude.{◌≡◌, ◌&&◌, true, false, IfOk, OnErr};
+ghost use Rattle.vhdl_names_problems.specs.Broken.{Tells, is_of, ◌∪◌, unless};
+ghost use Rattle.vhdl_names_problems.specs.Expressions.{operator_problems};
+ghost use Rattle.vhdl_names_rules.specs.declared.fault.NameProblem.TheVariants.{TypeMismatch, LeftOut, NotVisible};
+ghost use Rattle.std.specs.Prelude.{◌≡◌, ◌&&◌, ◌||◌, true, false, IfOk, OnErr, IfErr, ◌∷◌, []};
 ghost use Rattle.vhdl_names_rules.specs.Gives.{Gives};
 ghost use Rattle.vhdl_names_rules.specs.Operators as table;
 ghost use Rattle.vhdl_names_rules.specs.views.Integers.{static_view};
 ghost use Rattle.vhdl_names_rules.specs.views.Vectors.{value_view};
-ghost use Rattle.vhdl_names_types.specs.Steps.{same_by};
+ghost use Rattle.vhdl_names_types.specs.Steps.{same_by, is_unordered, order_problem as order_problem_of};
 ghost use Rattle.vhdl_names_types.specs.Views.{typed_view};
 
 use crate::types::Typed;
@@ -25,7 +28,8 @@ fn logical(
     operator: Logic,
     operands: (Typed, Typed),
 ) -> Result<Typed, NameFault>
-    ensures { Gives typed_view (table.logical operator (typed_view operands.0) (typed_view operands.1)) result }
+    ensures given { Gives typed_view (table.logical operator (typed_view operands.0) (typed_view operands.1)) result }
+    ensures told { IfErr result (Tells (is_of (TypeMismatch ∷ []))) }
 {
     let (left, right) = operands;
     let problem = NameProblem::TypeMismatch;
@@ -50,7 +54,8 @@ fn logical(
 
 /// not, at byte `at`.
 pub fn inverse(alloc: Global, at: usize, operand: Typed) -> Result<Typed, NameFault>
-    ensures { Gives typed_view (table.inverse (typed_view operand)) result }
+    ensures given { Gives typed_view (table.inverse (typed_view operand)) result }
+    ensures told { IfErr result (Tells (is_of (TypeMismatch ∷ []))) }
 {
     match operand {
         Typed::Elements(kind, x) => Ok(Typed::Elements(kind, Vector::inverse(alloc, at, x)?)),
@@ -61,7 +66,8 @@ pub fn inverse(alloc: Global, at: usize, operand: Typed) -> Result<Typed, NameFa
 
 /// &, at byte `at`.
 fn concatenated(alloc: Global, at: usize, operands: (Typed, Typed)) -> Result<Typed, NameFault>
-    ensures { Gives typed_view (table.concatenated (typed_view operands.0) (typed_view operands.1)) result }
+    ensures given { Gives typed_view (table.concatenated (typed_view operands.0) (typed_view operands.1)) result }
+    ensures told { IfErr result (Tells (is_of (TypeMismatch ∷ []))) }
 {
     let (left, right) = operands;
     let problem = NameProblem::TypeMismatch;
@@ -87,7 +93,8 @@ fn integral(
     operator: Arithmetic,
     operands: (Typed, Typed),
 ) -> Result<Typed, NameFault>
-    ensures { Gives typed_view (table.integral operator (typed_view operands.0) (typed_view operands.1)) result }
+    ensures given { Gives typed_view (table.integral operator (typed_view operands.0) (typed_view operands.1)) result }
+    ensures told { IfErr result (Tells (is_of (TypeMismatch ∷ []))) }
 {
     let (left, right) = operands;
     let problem = NameProblem::TypeMismatch;
@@ -102,6 +109,7 @@ fn integral(
 
 /// What an operator of numeric_std asks for: operands that it takes for numbers, else there is this
 /// problem, and its use clause.
+#[tactic(auto, using(vhdl_names_problems::proofs::Telling::told_left, vhdl_names_problems::proofs::Telling::told_right, vhdl_names_problems::proofs::Telling::told_more, vhdl_names_problems::proofs::Telling::is_same))]
 fn numeric(
     numbers: bool,
     are_numbers: bool,
@@ -111,6 +119,7 @@ fn numeric(
     ensures visible { IfOk result (λ _. numbers ≡ true) }
     ensures fitting { IfOk result (λ _. are_numbers ≡ true) }
     ensures refused { OnErr result ((numbers && are_numbers) ≡ false) }
+    ensures told { IfErr result (Tells (is_of (problem ∷ []) ∪ unless NotVisible numbers)) }
 {
     if !are_numbers {
         return Err(problem.at(at));
@@ -122,6 +131,7 @@ fn numeric(
 }
 
 /// + - *, at byte `at`, on integers and on numbers.
+#[tactic(auto, using(vhdl_names_problems::proofs::Telling::told_left, vhdl_names_problems::proofs::Telling::told_right, vhdl_names_problems::proofs::Telling::told_more, vhdl_names_problems::proofs::Telling::is_same))]
 fn arithmetic(
     alloc: Global,
     numbers: bool,
@@ -130,7 +140,8 @@ fn arithmetic(
     by: Numeric,
     operands: (Typed, Typed),
 ) -> Result<Typed, NameFault>
-    ensures { Gives typed_view (table.arithmetic numbers operator by (typed_view operands.0) (typed_view operands.1)) result }
+    ensures given { Gives typed_view (table.arithmetic numbers operator by (typed_view operands.0) (typed_view operands.1)) result }
+    ensures told { IfErr result (Tells (is_of (TypeMismatch ∷ []) ∪ unless NotVisible numbers)) }
 {
     let (left, right) = operands;
     let problem = NameProblem::TypeMismatch;
@@ -180,7 +191,8 @@ fn same(comparison: Cmp, at: usize, left: Value, right: Value) -> Typed
 
 /// = and /=, at byte `at`.
 fn equality(at: usize, comparison: Cmp, operands: (Typed, Typed)) -> Result<Typed, NameFault>
-    ensures { Gives typed_view (table.equality comparison (same_by comparison) (typed_view operands.0) (typed_view operands.1)) result }
+    ensures given { Gives typed_view (table.equality comparison (same_by comparison) (typed_view operands.0) (typed_view operands.1)) result }
+    ensures told { IfErr result (Tells (is_of (TypeMismatch ∷ []))) }
 {
     let (left, right) = operands;
     let problem = NameProblem::TypeMismatch;
@@ -219,7 +231,9 @@ fn equality(at: usize, comparison: Cmp, operands: (Typed, Typed)) -> Result<Type
 }
 
 /// Whether ordering it is left out: an element, a std_logic_vector and an enumeration.
-fn is_left_out(operand: &Typed) -> bool {
+fn is_left_out(operand: &Typed) -> bool
+    ensures { result ≡ is_unordered (typed_view operand.now) }
+{
     match operand {
         Typed::Elements(kind, _) => !kind.is_number(),
         Typed::Enumerated { .. } => true,
@@ -228,7 +242,9 @@ fn is_left_out(operand: &Typed) -> bool {
 }
 
 /// What is wrong with operands that are not ordered.
-fn order_problem(operands: &(Typed, Typed)) -> NameProblem {
+fn order_problem(operands: &(Typed, Typed)) -> NameProblem
+    ensures { result ≡ order_problem_of (is_unordered (typed_view operands.now.0) || is_unordered (typed_view operands.now.1)) }
+{
     if is_left_out(&operands.0) || is_left_out(&operands.1) {
         NameProblem::LeftOut
     } else {
@@ -237,6 +253,7 @@ fn order_problem(operands: &(Typed, Typed)) -> NameProblem {
 }
 
 /// < <= > >=, at byte `at`; where the operands are no numbers, there is this problem.
+#[tactic(auto, using(vhdl_names_problems::proofs::Telling::told_left, vhdl_names_problems::proofs::Telling::told_right, vhdl_names_problems::proofs::Telling::told_more, vhdl_names_problems::proofs::Telling::is_same))]
 fn ordered(
     numbers: bool,
     at: usize,
@@ -244,7 +261,8 @@ fn ordered(
     problem: NameProblem,
     operands: (Typed, Typed),
 ) -> Result<Typed, NameFault>
-    ensures { Gives typed_view (table.ordering numbers comparison (typed_view operands.0) (typed_view operands.1)) result }
+    ensures given { Gives typed_view (table.ordering numbers comparison (typed_view operands.0) (typed_view operands.1)) result }
+    ensures told { IfErr result (Tells (is_of (problem ∷ []) ∪ unless NotVisible numbers)) }
 {
     let (left, right) = operands;
     match left {
@@ -272,13 +290,15 @@ fn ordered(
 }
 
 /// < <= > >=, at byte `at`.
+#[tactic(auto, using(vhdl_names_problems::proofs::Telling::told_left, vhdl_names_problems::proofs::Telling::told_right, vhdl_names_problems::proofs::Telling::told_more, vhdl_names_problems::proofs::Telling::is_same))]
 fn ordering(
     numbers: bool,
     at: usize,
     comparison: Cmp,
     operands: (Typed, Typed),
 ) -> Result<Typed, NameFault>
-    ensures { Gives typed_view (table.ordering numbers comparison (typed_view operands.0) (typed_view operands.1)) result }
+    ensures given { Gives typed_view (table.ordering numbers comparison (typed_view operands.0) (typed_view operands.1)) result }
+    ensures told { IfErr result (Tells (is_of (TypeMismatch ∷ LeftOut ∷ []) ∪ unless NotVisible numbers)) }
 {
     let problem = order_problem(&operands);
     ordered(numbers, at, comparison, problem, operands)
@@ -294,7 +314,8 @@ pub fn operated(
     left: Typed,
     right: Typed,
 ) -> Result<Typed, NameFault>
-    ensures { Gives typed_view (table.operated numbers operator (typed_view left) (typed_view right)) result }
+    ensures given { Gives typed_view (table.operated numbers operator (typed_view left) (typed_view right)) result }
+    ensures told { IfErr result (Tells (is_of (operator_problems numbers))) }
 {
     let operands = (left, right);
     match operator {

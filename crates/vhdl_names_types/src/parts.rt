@@ -1,6 +1,8 @@
 //! Parts of objects: indexed and slice names (IEEE 1076-2008, 8.4, 8.5), and arguments that stand alone.
 
-ghost use Rattle.std.specs.Prelude.{◌≡◌, option_map};
+ghost use Rattle.vhdl_names_problems.specs.Broken.{Tells, is_of};
+ghost use Rattle.vhdl_names_rules.specs.declared.fault.NameProblem.TheVariants.{TypeMismatch};
+ghost use Rattle.std.specs.Prelude.{◌≡◌, option_map, IfErr, ◌∷◌, []};
 ghost use Rattle.vhdl_names_rules.specs.Gives.{Gives};
 ghost use Rattle.vhdl_names_rules.specs.Names as rules;
 ghost use Rattle.vhdl_names_rules.specs.views.Vectors.{part_view};
@@ -36,7 +38,8 @@ fn element(
     index: Option<Typed>,
     at: usize,
 ) -> Result<(Part, ElementKind), NameFault>
-    ensures { Gives (λ p. (part_view p.0, p.1)) (indexed kind (option_map typed_view index)) result }
+    ensures given { Gives (λ p. (part_view p.0, p.1)) (indexed kind (option_map typed_view index)) result }
+    ensures told { IfErr result (Tells (is_of (TypeMismatch ∷ []))) }
 {
     match index {
         Some(Typed::Integer(index)) => match kind {
@@ -57,7 +60,8 @@ pub(crate) fn part(
     suffix: TypedSuffix,
     at: usize,
 ) -> Result<(Part, ElementKind), NameFault>
-    ensures { Gives (λ p. (part_view p.0, p.1)) (rules.part kind (typed_suffix_view suffix)) result }
+    ensures given { Gives (λ p. (part_view p.0, p.1)) (rules.part kind (typed_suffix_view suffix)) result }
+    ensures told { IfErr result (Tells (is_of (TypeMismatch ∷ []))) }
 {
     match suffix {
         TypedSuffix::Plain => Ok((Part::Whole, kind)),
@@ -75,7 +79,8 @@ pub fn part_of(
     suffix: TypedSuffix,
     at: usize,
 ) -> Result<(Part, ObjectType), NameFault>
-    ensures { Gives (λ p. (part_view p.0, p.1)) (rules.part_of object_type (typed_suffix_view suffix)) result }
+    ensures given { Gives (λ p. (part_view p.0, p.1)) (rules.part_of object_type (typed_suffix_view suffix)) result }
+    ensures told { IfErr result (Tells (is_of (TypeMismatch ∷ []))) }
 {
     match object_type {
         ObjectType::Elements(kind) => {
@@ -91,7 +96,8 @@ pub fn part_of(
 
 /// A value whose name at byte `at` has nothing behind it.
 pub(crate) fn if_plain(suffix: TypedSuffix, value: Typed, at: usize) -> Result<Typed, NameFault>
-    ensures { Gives typed_view (rules.if_plain (typed_suffix_view suffix) (typed_view value)) result }
+    ensures given { Gives typed_view (rules.if_plain (typed_suffix_view suffix) (typed_view value)) result }
+    ensures told { IfErr result (Tells (is_of (TypeMismatch ∷ []))) }
 {
     match suffix {
         TypedSuffix::Plain => Ok(value),

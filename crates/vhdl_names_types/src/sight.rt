@@ -5,7 +5,9 @@ ghost use Rattle.vhdl_names_rules.specs.Visibility as visibility;
 ghost use Rattle.vhdl_names_types.specs.Views.{meaning_view, declared_view, sight_view};
 ghost use Rattle.vhdl_names_rules.specs.Gives.{Gives};
 ghost use Rattle.vhdl_names_rules.specs.declared.fault.NameFault.TheVariants.{At};
-ghost use Rattle.vhdl_names_types.specs.Missing.{is_named, offered, left_out, problem_of};
+ghost use Rattle.vhdl_names_problems.specs.Broken.{Tells};
+ghost use Rattle.vhdl_names_problems.specs.Expressions as broken;
+ghost use Rattle.vhdl_names_problems.specs.Missing.{is_named, offered, left_out, problem_of};
 ghost use Rattle.vhdl_names_types.specs.Sights.{found};
 
 use crate::meaning::{Declared, Meaning};
@@ -200,6 +202,7 @@ fn missing(name: &[u8]) -> NameProblem
 pub fn meaning_of<'a>(sight: &'a Sight, name: &Identifier) -> Result<&'a Meaning, NameFault>
     ensures meant { Gives (λ m. meaning_view m.now) (visibility.meaning (sight_view sight.now) name.now.text.items) result }
     ensures fault { IfErr result (λ f. f ≡ At (problem_of name.now.text.items) name.now.at) }
+    ensures told { IfErr result (Tells (broken.meaning (sight_view sight.now) name.now.text.items)) }
 {
     match sight.meaning(&name.text) {
         Some(meaning) => Ok(meaning),

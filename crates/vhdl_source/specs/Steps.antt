@@ -1,10 +1,11 @@
 -- What the code's own calls say.
-use Rattle.std.specs.Prelude.{◌≡◌, ℕ, min, List, None, Some, Result, Ok, Err}
+use Rattle.std.specs.Prelude.{◌≡◌, ℕ, true, min, List, None, Some, Result, Ok, Err}
 use Rattle.rtl_net.specs.Nets.{NetlistView}
 use Rattle.vhdl_elab_rules.specs.Elaboration.{Elaborated, elaborated_net}
 use Rattle.vhdl_elab_laws.specs.Refused.{MayRefuse}
 use Rattle.vhdl_expand_rules.specs.declared.fault.ElabFault.{ElabFault}
 use Rattle.vhdl_expand_rules.specs.declared.fault.ElabFault.TheVariants as elab
+use Rattle.vhdl_names_problems.specs.Files as breaks
 use Rattle.vhdl_names_rules.specs.Files as rules
 use Rattle.vhdl_names_rules.specs.declared.fault.NameFault.{NameFault}
 use Rattle.vhdl_names_rules.specs.declared.fault.NameFault.TheVariants as names
@@ -25,10 +26,10 @@ abbrev pub elab_within : (most : ℕ) → ElabFault → ElabFault
 elab_within most (elab.At problem at) = elab.At problem (min at most)
 elab_within most elab.NoMemory = elab.NoMemory
 
--- only a fault of names, and only where the file has no units
+-- only a fault of names, only where the file has no units, and with a problem that a broken rule bears
 abbrev pub HasNameFault : File → SourceFault → Type 0
 HasNameFault file (Name names.NoMemory) = ⊥
-HasNameFault file (Name fault) = rules.units_of file ≡ None
+HasNameFault file (Name (names.At problem at)) = (rules.units_of file ≡ None) × (breaks.file file problem ≡ true)
 HasNameFault file NoMemory = Unit {0}
 HasNameFault file _ = ⊥
 

@@ -1,12 +1,14 @@
 -- Why a source has no netlist under a top: the first layer that refuses, each where its own definition does.
-use Rattle.std.specs.Prelude.{◌≡◌, ℕ, List, None}
+use Rattle.std.specs.Prelude.{◌≡◌, ℕ, true, List, None}
 use Rattle.vhdl_elab_laws.specs.Refused.{MayRefuse}
 use Rattle.vhdl_expand_rules.specs.declared.fault.ElabFault.TheVariants as elab
 use Rattle.vhdl_expand_rules.specs.declared.fault.ElabProblem.{ElabProblem}
 use Rattle.vhdl_lexer.specs.Fault.{HasFault}
 use Rattle.vhdl_lexer.specs.declared.fault.LexFault.TheVariants as lex
+use Rattle.vhdl_names_problems.specs.Files as breaks
 use Rattle.vhdl_names_rules.specs.Files.{units_of}
 use Rattle.vhdl_names_rules.specs.declared.fault.NameFault.TheVariants as names
+use Rattle.vhdl_names_rules.specs.declared.fault.NameProblem.{NameProblem}
 use Rattle.vhdl_names_rules.specs.units.Units.{Units}
 use Rattle.vhdl_parser.specs.declared.fault.SyntaxFault.TheVariants as syntax
 use Rattle.vhdl_tree.specs.Tree.{File}
@@ -15,11 +17,12 @@ use Rattle.vhdl_source_rules.specs.Sources.{IsFileOf, HasSyntaxFault}
 use Rattle.vhdl_source_rules.specs.declared.fault.SourceFault.{SourceFault}
 use Rattle.vhdl_source_rules.specs.declared.fault.SourceFault.TheVariants.{Lex, Syntax, Name, Elab, NoMemory}
 
--- the source's one tree is a file that isn't well typed
-pub record HasNoUnits (source : List ℕ) : Type 0 where
+-- the source's one tree is a file that isn't well typed, and a rule that bears this problem is broken in it
+pub record HasNoUnits (source : List ℕ) (problem : NameProblem) : Type 0 where
   pub file : File
   pub read : IsFileOf source file
   pub ill_typed : units_of file ≡ None
+  pub broken : breaks.file file problem ≡ true
 
 -- The source's units have no design with this top, and this problem may be told: that of the first broken rule, or TooMany where the growth
 -- of the design may be cut off before.
@@ -28,15 +31,15 @@ pub record HasNoDesign (source top : List ℕ) (problem : ElabProblem) : Type 0 
   pub analysed : HasUnits source units
   pub refused : MayRefuse units top problem
 
--- A layer's want of memory is told as NoMemory alone. Which of the problems of names is told, no definition says, nor whether TooDeep or
--- Unexpected is told of a source that has both.
+-- A layer's want of memory is told as NoMemory alone. Of several broken rules of names no definition says which is told, nor whether
+-- TooDeep or Unexpected is told of a source that has both.
 abbrev pub Refuses : (source top : List ℕ) → SourceFault → Type 0
 Refuses source top (Lex lex.NoMemory) = ⊥
 Refuses source top (Lex fault) = HasFault fault source
 Refuses source top (Syntax syntax.NoMemory) = ⊥
 Refuses source top (Syntax fault) = HasSyntaxFault fault source
 Refuses source top (Name names.NoMemory) = ⊥
-Refuses source top (Name fault) = HasNoUnits source
+Refuses source top (Name (names.At problem at)) = HasNoUnits source problem
 Refuses source top (Elab elab.NoMemory) = ⊥
 Refuses source top (Elab (elab.At problem at)) = HasNoDesign source top problem
 Refuses source top NoMemory = Unit {0}

@@ -1,9 +1,11 @@
 -- An architecture in the order in which the code comes to its parts.
-use Rattle.std.specs.Prelude.{List, Option, Some, Vec, map, option_map}
+use Rattle.std.specs.Prelude.{List, Option, Some, Result, Ok, Err, Vec, map, option_map}
 use Rattle.std.specs.Global.{Global}
 use Rattle.vhdl_tree.specs.Tree as t
 use Rattle.vhdl_tree.specs.Tree.{ContextItem}
 use Rattle.vhdl_names_rules.specs.units.Units as u
+use Rattle.vhdl_names_rules.specs.declared.fault.NameFault.{NameFault}
+use Rattle.vhdl_names_rules.specs.declared.fault.NameFault.TheVariants.{At, NoMemory}
 use Rattle.vhdl_names_rules.specs.declared.fault.NameProblem.TheVariants.{WrongKind}
 use Rattle.vhdl_names_rules.specs.Rules.{◌>>=◌, ◌>>◌, rule, if_any}
 use Rattle.vhdl_names_rules.specs.Visibility.{Declared, Sight, ends, with_declared}
@@ -43,3 +45,11 @@ own all as' e = if_any (λ p. rules.architecture all e p.0 p.1) (described_of e.
 
 abbrev pub options_view : Vec (Option Architecture) Global → List (Option u.Architecture)
 options_view v = map (option_map architecture_view) v.items
+
+-- of two answers in order of the text the first that is refused; want of memory comes before all
+abbrev pub first_of : {A : Type 0} → Result A NameFault → Result A NameFault → Result A NameFault
+first_of (Ok x) next = next
+first_of (Err NoMemory) next = Err NoMemory
+first_of (Err (At p at)) (Ok x) = Err (At p at)
+first_of (Err (At p at)) (Err NoMemory) = Err NoMemory
+first_of (Err (At p at)) (Err (At q place)) = Err (At p at)

@@ -49,7 +49,7 @@ choices_of all = map (λ (a : Chosen). a.choices) all
 abbrev pub bodies_of : List Chosen → List s.Statements
 bodies_of all = map (λ (a : Chosen). statements_of a.statements) all
 
-lists_each : (alts : List t.Alternative) → choice_lists (t.alternatives_of alts) ≡ steps.choice_lists alts
+pub lists_each : (alts : List t.Alternative) → choice_lists (t.alternatives_of alts) ≡ steps.choice_lists alts
 lists_each [] = refl
 lists_each (a ∷ alts) = ap (λ xs. a.choices ∷ xs) (lists_each alts)
 
@@ -75,7 +75,7 @@ one_pair (Some cs) (Some xs) m e f g h (no_bodies q r) =
     no_bodies (ap (λ m. m >>= λ y. g >>= λ ys. Some (y ∷ ys)) e ∙ ap (λ g. g >>= λ ys. Some (statements_of xs ∷ ys)) q)
     (ap (λ h. h >>= λ ys. Some (chosen_by cs xs ∷ ys)) r)
 
-pairs : (sight : Sight) (type : ObjectType) (alts : List t.Alternative)
+pub pairs : (sight : Sight) (type : ObjectType) (alts : List t.Alternative)
     → Pairs (each (choices sight type) (steps.choice_lists alts)) (alternatives sight (t.alternatives_of alts)) (each (chosen sight type) alts)
 unfolding alternatives
 pairs sight type [] = all_there [] refl refl refl
@@ -98,7 +98,7 @@ arranged_by (a ∷ b ∷ more) = ap (option_map (s.alternative a.choices (statem
     go None = refl
     go (Some d) = refl
 
-flat_each : (all : List Chosen) → flat_map (λ (cs : List s.Choice). cs) (choices_of all) ≡ all_choices all
+pub flat_each : (all : List Chosen) → flat_map (λ (cs : List s.Choice). cs) (choices_of all) ≡ all_choices all
 flat_each [] = refl
 flat_each (a ∷ all) = ap (λ cs. a.choices ++ cs) (flat_each all)
 

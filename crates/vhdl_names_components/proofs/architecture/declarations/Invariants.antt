@@ -1,4 +1,4 @@
-use Rattle.std.proofs.Common.{◌≡◌, [], map}
+use Rattle.std.proofs.Common.{◌≡◌, [], map, drop}
 use Rattle.vhdl_names_rules.specs.Declarations.{in_order}
 use Rattle.vhdl_names_rules.specs.Files.{declaration}
 use Rattle.vhdl_names_rules.specs.Visibility.{with_declared}
@@ -7,11 +7,15 @@ use Rattle.vhdl_names_types.specs.Views.{sight_view, region_view}
 use Rattle.vhdl_names_units.specs.views.Declarations.{declarations_view}
 use Rattle.vhdl_names_declarations.specs.Counts.{AreCounts}
 use Rattle.vhdl_names_declarations.specs.Entered.{entering}
+use Rattle.vhdl_names_rules.specs.declared.fault.NameFault.{NameFault}
+use Rattle.vhdl_names_problems.specs.Broken.{Tells}
+use Rattle.vhdl_names_components.specs.Components.{declarations_broken}
 use Rattle.vhdl_names_declarations.proofs.Listed.{left}
 use Rattle.vhdl_names_interfaces.specs.Views.{entities_view}
 use Rattle.vhdl_names_components.proofs.architecture.declarations.Given as goal
 
--- what is left, on what is done, gives the whole; what is in the region is counted; no region encloses it
+-- what is left, on what is done, gives the whole; what is in the region is counted; no region encloses it;
+-- what is told of what is left is told of the whole
 abbrev pub invariant-loop-one : goal.invariant-loop-one
 invariant-loop-one l =
     let declares = declaration (entities_view l.entities) in
@@ -19,3 +23,5 @@ invariant-loop-one l =
     ≡ left declares declaration_view (sight_view l.sight) (declarations_view l.done) l.all l.one-index)
     × AreCounts l.counts (region_view l.sight.region)
     × (region_view l.sight.enclosing ≡ [])
+    × ((f : NameFault) → Tells (declarations_broken (entities_view l.entities) (sight_view l.sight) (map declaration_view (drop l.one-index l.all))) f
+    → Tells (declarations_broken (entities_view l.entities) (sight_view l.initial.sight) (map declaration_view l.all)) f)

@@ -7,17 +7,17 @@ use Rattle.vhdl_names_labels.specs.Once.{names_view, one_name}
 use Rattle.vhdl_names_concurrent.proofs.Labelling.{if_labels, case_labels, loop_labels}
 use Rattle.vhdl_names_concurrent.proofs.labels.+labels.Goals as goal
 
-pub inside-returns-in-If : goal.inside-returns-in-If
-inside-returns-in-If t c =
+pub inside-returns-in-If-clause-given : goal.inside-returns-in-If-clause-given
+inside-returns-in-If-clause-given t c =
     let ns = names_view c.args.taken.now in
-    gives_along _ _ _ _ (ap (λ s. in_turn one_name ns (inner_labels (tree.statement_view s))) c.in-If.is ∙ if_labels ns c.in-If.conditional) c.of_if.ensures
+    gives_along _ _ _ _ (ap (λ s. in_turn one_name ns (inner_labels (tree.statement_view s))) c.in-If.is ∙ if_labels ns c.in-If.conditional) c.of_if.ensures.given
 
-pub inside-returns-in-Case : goal.inside-returns-in-Case
-inside-returns-in-Case t c =
+pub inside-returns-in-Case-clause-given : goal.inside-returns-in-Case-clause-given
+inside-returns-in-Case-clause-given t c =
     let ns = names_view c.args.taken.now in
-    gives_along _ _ _ _ (ap (λ s. in_turn one_name ns (inner_labels (tree.statement_view s))) c.in-Case.is ∙ case_labels ns c.in-Case.case) c.of_case.ensures
+    gives_along _ _ _ _ (ap (λ s. in_turn one_name ns (inner_labels (tree.statement_view s))) c.in-Case.is ∙ case_labels ns c.in-Case.case) c.of_case.ensures.given
 
-pub inside-returns-in-For : goal.inside-returns-in-For
-inside-returns-in-For t c =
+pub inside-returns-in-For-clause-given : goal.inside-returns-in-For-clause-given
+inside-returns-in-For-clause-given t c =
     let ns = names_view c.args.taken.now in
-    gives_along _ _ _ _ (ap (λ s. in_turn one_name ns (inner_labels (tree.statement_view s))) c.in-For.is ∙ loop_labels ns c.in-For.repeated) c.of_loop.ensures
+    gives_along _ _ _ _ (ap (λ s. in_turn one_name ns (inner_labels (tree.statement_view s))) c.in-For.is ∙ loop_labels ns c.in-For.repeated) c.of_loop.ensures.given

@@ -1,4 +1,4 @@
-use Rattle.std.proofs.Common.{rules, arith, ◌≡◌, ◌≢◌, ◌+◌, ◌<◌, ◌≤◌, List, [], ◌∷◌, ◌++◌, length, map, Option, Some, None, ap, ◌∙◌, sym}
+use Rattle.std.proofs.Common.{rules, arith, ◌≡◌, ◌≢◌, ◌+◌, ◌<◌, ◌≤◌, List, [], ◌∷◌, ◌++◌, length, map, Option, Some, None, ap, ◌∙◌, sym, subst}
 use Rattle.std.proofs.lemmas.Grind.{common_steps}
 use Rattle.std.proofs.lemmas.List.{length-map}
 use Rattle.vhdl_names_rules.specs.declared.fault.NameFault.TheVariants.{NoMemory}
@@ -16,6 +16,12 @@ use Rattle.vhdl_names_declarations.specs.Settled.{settled}
 use Rattle.vhdl_names_declarations.proofs.Classes.{constants_is, constant_number, number_below}
 use Rattle.vhdl_names_declarations.proofs.Turns.{refused, unknown, known, settled_region, grows_by, first_below, more_is}
 use Rattle.vhdl_names_declarations.proofs.constants.constants.Goals as goal
+use Rattle.vhdl_names_problems.specs.Broken.{Tells, ◌∪◌}
+use Rattle.vhdl_names_problems.specs.Declarations as broken
+use Rattle.vhdl_names_problems.proofs.Telling.{told_left, told_right}
+use Rattle.vhdl_names_declarations.specs.Standing.{standing_twice, constants_broken}
+use Rattle.vhdl_names_declarations.proofs.Breaking.{twice_told}
+use Rattle.vhdl_names_declarations.proofs.Regions.{names-all}
 
 pub returns-in_err-hide-clause-given : goal.returns-in_err-hide-clause-given
 returns-in_err-hide-clause-given c =
@@ -24,7 +30,7 @@ returns-in_err-hide-clause-given c =
     let f : c.in_err-hide.field-0.0 ≢ NoMemory → entering d.constants (sight_view c.args.sight.now) (tree.constants_view c.args.declaration.now) ≡ None =
     λ n. constants_is s g
     ∙ refused (λ s. s.region) with_declared s (names_of g.names) (constant_number s) k.declared_as (k.declarations g.names)
-    (ap (λ l. more s.region (all_declared visibility.unfinished (names_of (map ident_view l)))) (sym c.deref.ensures.value) ∙ c.in_err-hide.ensures n) (k.constant (within s g.names) g) in
+    (ap (λ l. more s.region (all_declared visibility.unfinished (names_of (map ident_view l)))) (sym c.deref.ensures.value) ∙ c.in_err-hide.ensures.given n) (k.constant (within s g.names) g) in
     first_of (search rules, grind (arith, common_steps))
 
 pub returns-in_err-typed-clause-given : goal.returns-in_err-typed-clause-given
@@ -32,16 +38,16 @@ returns-in_err-typed-clause-given c =
     let s = sight_view c.args.sight.now in
     let g = tree.constants_view c.args.declaration.now in
     let hid : more (sight_view c.args.sight.now).region (all_declared visibility.unfinished (names_of (tree.constants_view c.args.declaration.now).names)) ≡ Some (region_view c.hide.new.region) =
-    ap (λ l. more (sight_view c.args.sight.now).region (all_declared visibility.unfinished (names_of (map ident_view l)))) (sym c.deref.ensures.value) ∙ c.in_ok-hide.ensures in
+    ap (λ l. more (sight_view c.args.sight.now).region (all_declared visibility.unfinished (names_of (map ident_view l)))) (sym c.deref.ensures.value) ∙ c.in_ok-hide.ensures.given in
     let along = ap (λ r. k.constant (record s { region = r }) g) (more_is s.region (all_declared visibility.unfinished (names_of g.names)) (region_view c.hide.new.region) hid) in
     let f : c.in_err-typed.field-0.0 ≢ NoMemory → entering d.constants (sight_view c.args.sight.now) (tree.constants_view c.args.declaration.now) ≡ None =
     λ n. constants_is s g
-    ∙ unknown (λ s. s.region) with_declared s (names_of g.names) (constant_number s) k.declared_as (k.declarations g.names) (k.constant (within s g.names) g) (sym along ∙ c.in_err-typed.ensures n) in
+    ∙ unknown (λ s. s.region) with_declared s (names_of g.names) (constant_number s) k.declared_as (k.declarations g.names) (k.constant (within s g.names) g) (sym along ∙ c.in_err-typed.ensures.given n) in
     first_of (search rules, grind (arith, common_steps))
 
 pub settle-requires-clause-place : goal.settle-requires-clause-place
 settle-requires-clause-place c =
-    let h = grows_by c.args.sight.now.region.entries c.hide.new.region.entries _ c.in_ok-hide.ensures in
+    let h = grows_by c.args.sight.now.region.entries c.hide.new.region.entries _ c.in_ok-hide.ensures.given in
     omega (arith, h, c.len-first.ensures.len)
 
 pub settle-requires-clause-number : goal.settle-requires-clause-number
@@ -56,7 +62,7 @@ returns-clause-given c =
     let s = sight_view c.args.sight.now in
     let g = tree.constants_view c.args.declaration.now in
     let hid : more (sight_view c.args.sight.now).region (all_declared visibility.unfinished (names_of (tree.constants_view c.args.declaration.now).names)) ≡ Some (region_view c.hide.new.region) =
-    ap (λ l. more (sight_view c.args.sight.now).region (all_declared visibility.unfinished (names_of (map ident_view l)))) (sym c.deref.ensures.value) ∙ c.in_ok-hide.ensures in
+    ap (λ l. more (sight_view c.args.sight.now).region (all_declared visibility.unfinished (names_of (map ident_view l)))) (sym c.deref.ensures.value) ∙ c.in_ok-hide.ensures.given in
     let along = ap (λ r. k.constant (record s { region = r }) g) (more_is s.region (all_declared visibility.unfinished (names_of g.names)) (region_view c.hide.new.region) hid) in
     let size : c.len-first.result ≡ length (region_view c.args.sight.now.region) = c.len-first.ensures.len ∙ sym (length-map c.args.sight.now.region.entries entry_view) in
     let x : TypedConstant = k.constant_view c.in_ok-typed.typed in
@@ -65,8 +71,30 @@ returns-clause-given c =
     let number : c.number_of-number.result ≡ constant_number (sight_view c.args.sight.now) (k.constant_view c.in_ok-typed.typed) =
     c.number_of-number.ensures ∙ ap (λ i. k.number i c.args.constants x) c.requires.integers ∙ ap (λ j. k.number (count_of visibility.is_integer_constant s.region) j x) c.requires.constants in
     constants_is s g
-    ∙ known (λ s. s.region) with_declared s (names_of g.names) (constant_number s) k.declared_as (k.declarations g.names) hidden hid (k.constant (within s g.names) g) x (sym along ∙ c.in_ok-typed.ensures)
+    ∙ known (λ s. s.region) with_declared s (names_of g.names) (constant_number s) k.declared_as (k.declarations g.names) hidden hid (k.constant (within s g.names) g) x (sym along ∙ c.in_ok-typed.ensures.given)
     ∙ ap (λ r. Some (record s { region = r }, k.declarations g.names x)) (settled_region (k.declared_as x) (constant_number s x) first s.region hidden (region_view c.settle.new.region) (names_of g.names) size hid
     (c.in_ok-settle.ensures ∙ ap (λ f. settled f c.number_of-number.result first hidden) c.in_ok-class.ensures ∙ ap (λ n. settled (k.declared_as x) n first hidden) number))
     ∙ ap (λ l. Some (record s { region = region_view c.settle.new.region }, l))
     (sym (c.declaration_of.ensures ∙ ap (λ l. k.declarations l x) (c.in_ok-names.ensures ∙ ap (map ident_view) c.deref-2.ensures.value)))
+
+pub returns-in_err-hide-clause-told : goal.returns-in_err-hide-clause-told
+returns-in_err-hide-clause-told c =
+    let s = sight_view c.args.sight.now in
+    let g = tree.constants_view c.args.declaration.now in
+    let ns = names_of g.names in
+    let f : Tells (broken.constants (sight_view c.args.sight.now) (tree.constants_view c.args.declaration.now) ∪ standing_twice (sight_view c.args.sight.now).region (names_of (tree.constants_view c.args.declaration.now).names)) c.in_err-hide.field-0.0 =
+    told_right (broken.constants s g) (standing_twice s.region ns) c.in_err-hide.field-0.0
+    (twice_told s.region (all_declared visibility.unfinished ns) ns c.in_err-hide.field-0.0
+    (λ n. ap (λ l. more s.region (all_declared visibility.unfinished (names_of (map ident_view l)))) (sym c.deref.ensures.value) ∙ c.in_err-hide.ensures.given n) (names-all visibility.unfinished ns) c.in_err-hide.ensures.told) in
+    first_of (search rules, grind (arith, common_steps))
+
+pub returns-in_err-typed-clause-told : goal.returns-in_err-typed-clause-told
+returns-in_err-typed-clause-told c =
+    let s = sight_view c.args.sight.now in
+    let g = tree.constants_view c.args.declaration.now in
+    let hid : more (sight_view c.args.sight.now).region (all_declared visibility.unfinished (names_of (tree.constants_view c.args.declaration.now).names)) ≡ Some (region_view c.hide.new.region) =
+    ap (λ l. more (sight_view c.args.sight.now).region (all_declared visibility.unfinished (names_of (map ident_view l)))) (sym c.deref.ensures.value) ∙ c.in_ok-hide.ensures.given in
+    let f : Tells (broken.constants (sight_view c.args.sight.now) (tree.constants_view c.args.declaration.now) ∪ standing_twice (sight_view c.args.sight.now).region (names_of (tree.constants_view c.args.declaration.now).names)) c.in_err-typed.field-0.0 =
+    told_left (broken.constants s g) (standing_twice s.region (names_of g.names)) c.in_err-typed.field-0.0
+    (subst (λ r. Tells (constants_broken (record s { region = r }) g) c.in_err-typed.field-0.0) (more_is s.region (all_declared visibility.unfinished (names_of g.names)) (region_view c.hide.new.region) hid) c.in_err-typed.ensures.told) in
+    first_of (search rules, grind (arith, common_steps))

@@ -10,8 +10,8 @@ use Rattle.vhdl_names_declarations.specs.Entered.{more}
 use Rattle.vhdl_names_declarations.proofs.Declaring.{next_literal, no_literals}
 use Rattle.vhdl_names_declarations.proofs.enumeration.literals.Goals as goal
 
-pub returns-in_err-declare : goal.returns-in_err-declare
-returns-in_err-declare c =
+pub returns-in_err-declare-clause-given : goal.returns-in_err-declare-clause-given
+returns-in_err-declare-clause-given c =
     let e = c.args.number in
     let xs = c.args.literals.now in
     let i = c.loop-position.position in
@@ -19,7 +19,7 @@ returns-in_err-declare c =
     let f : c.in_err-declare.field-0.0 ≢ NoMemory → more (region_view c.args.region.now) (d.literals c.args.number (length c.args.literals.now) 0 (names_of (map ident_view c.args.literals.now))) ≡ None =
     λ n. c.loop-position.invariant
     ∙ next_literal (region_view c.loop-position.region) e (length xs) i xs c.index-literals-position.result lt c.index-literals-position.is
-    ∙ ap (λ o. o >>= λ r. more r (d.literals e (length xs) (i + 1) (names_of (map ident_view (drop (i + 1) xs))))) (c.in_err-declare.ensures n) in
+    ∙ ap (λ o. o >>= λ r. more r (d.literals e (length xs) (i + 1) (names_of (map ident_view (drop (i + 1) xs))))) (c.in_err-declare.ensures.given n) in
     first_of (search rules, grind (arith, common_steps))
 
 pub loop-position-preserved : goal.loop-position-preserved
@@ -30,9 +30,9 @@ loop-position-preserved c =
     let lt : c.loop-position.position < length c.args.literals.now = omega arith in
     c.loop-position.invariant
     ∙ next_literal (region_view c.loop-position.region) e (length xs) i xs c.index-literals-position.result lt c.index-literals-position.is
-    ∙ ap (λ o. o >>= λ r. more r (d.literals e (length xs) (i + 1) (names_of (map ident_view (drop (i + 1) xs))))) c.in_ok-declare.ensures
+    ∙ ap (λ o. o >>= λ r. more r (d.literals e (length xs) (i + 1) (names_of (map ident_view (drop (i + 1) xs))))) c.in_ok-declare.ensures.given
 
-pub returns : goal.returns
-returns c =
+pub returns-clause-given : goal.returns-clause-given
+returns-clause-given c =
     c.loop-position.invariant
     ∙ no_literals c.loop-position.region.entries c.args.number (length c.args.literals.now) c.loop-position.position c.args.literals.now (omega arith) c.len-apart-2.ensures.unique

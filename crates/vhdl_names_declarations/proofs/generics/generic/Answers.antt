@@ -18,6 +18,12 @@ use Rattle.vhdl_names_declarations.specs.Typed.{typed_generic}
 use Rattle.vhdl_names_declarations.proofs.Declaring.{generic_is, generics_of}
 use Rattle.vhdl_names_declarations.proofs.Turns.{refused, unknown, known, settled_region, grows_by, first_below}
 use Rattle.vhdl_names_declarations.proofs.generics.generic.Goals as goal
+use Rattle.vhdl_names_problems.specs.Broken.{Tells, ◌∪◌}
+use Rattle.vhdl_names_problems.specs.Declarations as broken
+use Rattle.vhdl_names_problems.proofs.Telling.{told_left, told_right}
+use Rattle.vhdl_names_declarations.specs.Standing.{standing_twice}
+use Rattle.vhdl_names_declarations.proofs.Breaking.{twice_told}
+use Rattle.vhdl_names_declarations.proofs.Regions.{names-all}
 
 pub returns-in_err-hide-clause-given : goal.returns-in_err-hide-clause-given
 returns-in_err-hide-clause-given c =
@@ -26,7 +32,7 @@ returns-in_err-hide-clause-given c =
     let f : c.in_err-hide.field-0.0 ≢ NoMemory → entering d.generic (sight_view c.args.sight.now) (generic_view c.args.generic.now) ≡ None =
     λ n. generic_is s g c.args.number c.requires
     ∙ refused (λ s. s.region) with_declared s (names_of g.names) (λ x. c.args.number) (λ x. visibility.generic) (generics_of g)
-    (ap (λ l. more s.region (all_declared visibility.unfinished (names_of (map ident_view l)))) (sym c.deref.ensures.value) ∙ c.in_err-hide.ensures n) (typed_generic s g) in
+    (ap (λ l. more s.region (all_declared visibility.unfinished (names_of (map ident_view l)))) (sym c.deref.ensures.value) ∙ c.in_err-hide.ensures.given n) (typed_generic s g) in
     first_of (search rules, grind (arith, common_steps))
 
 pub returns-in_err-integer_type-clause-given : goal.returns-in_err-integer_type-clause-given
@@ -35,12 +41,12 @@ returns-in_err-integer_type-clause-given c =
     let g = generic_view c.args.generic.now in
     let f : c.in_err-integer_type.field-0.0 ≢ NoMemory → entering d.generic (sight_view c.args.sight.now) (generic_view c.args.generic.now) ≡ None =
     λ n. generic_is s g c.args.number c.requires
-    ∙ unknown (λ s. s.region) with_declared s (names_of g.names) (λ x. c.args.number) (λ x. visibility.generic) (generics_of g) (typed_generic s g) (c.in_err-integer_type.ensures n) in
+    ∙ unknown (λ s. s.region) with_declared s (names_of g.names) (λ x. c.args.number) (λ x. visibility.generic) (generics_of g) (typed_generic s g) (c.in_err-integer_type.ensures.given n) in
     first_of (search rules, grind (arith, common_steps))
 
 pub settle-requires-clause-place : goal.settle-requires-clause-place
 settle-requires-clause-place c =
-    let h = grows_by c.args.sight.now.region.entries c.hide.new.region.entries _ c.in_ok-hide.ensures in
+    let h = grows_by c.args.sight.now.region.entries c.hide.new.region.entries _ c.in_ok-hide.ensures.given in
     omega (arith, h, c.len-first.ensures.len)
 
 pub settle-requires-clause-number : goal.settle-requires-clause-number
@@ -53,11 +59,30 @@ returns-clause-given c =
     let s = sight_view c.args.sight.now in
     let g = generic_view c.args.generic.now in
     let hid : more s.region (all_declared visibility.unfinished (names_of g.names)) ≡ Some (region_view c.hide.new.region) =
-    ap (λ l. more s.region (all_declared visibility.unfinished (names_of (map ident_view l)))) (sym c.deref.ensures.value) ∙ c.in_ok-hide.ensures in
+    ap (λ l. more s.region (all_declared visibility.unfinished (names_of (map ident_view l)))) (sym c.deref.ensures.value) ∙ c.in_ok-hide.ensures.given in
     let size : c.len-first.result ≡ length (region_view c.args.sight.now.region) = c.len-first.ensures.len ∙ sym (length-map c.args.sight.now.region.entries entry_view) in
     let x : IntegerType × Option Static = (c.in_ok-integer_type.integer_type, option_map static_view c.in_ok-integer_type.default) in
     generic_is s g c.args.number c.requires
-    ∙ known (λ s. s.region) with_declared s (names_of g.names) (λ x. c.args.number) (λ x. visibility.generic) (generics_of g) (region_view c.hide.new.region) hid (typed_generic s g) x c.in_ok-integer_type.ensures
+    ∙ known (λ s. s.region) with_declared s (names_of g.names) (λ x. c.args.number) (λ x. visibility.generic) (generics_of g) (region_view c.hide.new.region) hid (typed_generic s g) x c.in_ok-integer_type.ensures.given
     ∙ ap (λ r. Some (record s { region = r }, generics_of g x)) (settled_region visibility.generic c.args.number c.len-first.result s.region (region_view c.hide.new.region) (region_view c.settle.new.region) (names_of g.names) size hid c.in_ok-settle.ensures)
     ∙ ap (λ l. Some (record s { region = region_view c.settle.new.region }, for_each (λ n. record { type = x.0; default = x.1 }) l))
     (sym (c.in_ok-names.ensures ∙ ap (map ident_view) c.deref-2.ensures.value))
+
+pub returns-in_err-hide-clause-told : goal.returns-in_err-hide-clause-told
+returns-in_err-hide-clause-told c =
+    let s = sight_view c.args.sight.now in
+    let g = generic_view c.args.generic.now in
+    let ns = names_of g.names in
+    let f : Tells (broken.generic (sight_view c.args.sight.now) (generic_view c.args.generic.now) ∪ standing_twice (sight_view c.args.sight.now).region (names_of (generic_view c.args.generic.now).names)) c.in_err-hide.field-0.0 =
+    told_right (broken.generic s g) (standing_twice s.region ns) c.in_err-hide.field-0.0
+    (twice_told s.region (all_declared visibility.unfinished ns) ns c.in_err-hide.field-0.0
+    (λ n. ap (λ l. more s.region (all_declared visibility.unfinished (names_of (map ident_view l)))) (sym c.deref.ensures.value) ∙ c.in_err-hide.ensures.given n) (names-all visibility.unfinished ns) c.in_err-hide.ensures.told) in
+    first_of (search rules, grind (arith, common_steps))
+
+pub returns-in_err-integer_type-clause-told : goal.returns-in_err-integer_type-clause-told
+returns-in_err-integer_type-clause-told c =
+    let s = sight_view c.args.sight.now in
+    let g = generic_view c.args.generic.now in
+    let f : Tells (broken.generic (sight_view c.args.sight.now) (generic_view c.args.generic.now) ∪ standing_twice (sight_view c.args.sight.now).region (names_of (generic_view c.args.generic.now).names)) c.in_err-integer_type.field-0.0 =
+    told_left (broken.generic s g) (standing_twice s.region (names_of g.names)) c.in_err-integer_type.field-0.0 c.in_err-integer_type.ensures.told in
+    first_of (search rules, grind (arith, common_steps))

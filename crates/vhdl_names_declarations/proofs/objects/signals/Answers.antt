@@ -1,4 +1,4 @@
-use Rattle.std.proofs.Common.{rules, arith, ◌≡◌, ◌≢◌, ◌+◌, ◌<◌, ◌≤◌, List, [], ◌∷◌, ◌++◌, length, map, option_map, Option, Some, None, ap, ◌∙◌, sym}
+use Rattle.std.proofs.Common.{rules, arith, ◌≡◌, ◌≢◌, ◌+◌, ◌<◌, ◌≤◌, List, [], ◌∷◌, ◌++◌, length, map, option_map, Option, Some, None, ap, ◌∙◌, sym, subst}
 use Rattle.std.proofs.lemmas.Grind.{common_steps}
 use Rattle.std.proofs.lemmas.List.{length-map}
 use Rattle.vhdl_names_rules.specs.declared.fault.NameFault.TheVariants.{NoMemory}
@@ -18,6 +18,12 @@ use Rattle.vhdl_names_declarations.specs.Typed.{typed_object, typed_port}
 use Rattle.vhdl_names_declarations.proofs.Classes.{signals_is, signal_class, signals_of, map-map}
 use Rattle.vhdl_names_declarations.proofs.Turns.{refused, unknown, known, settled_region, grows_by, first_below, more_is}
 use Rattle.vhdl_names_declarations.proofs.objects.signals.Goals as goal
+use Rattle.vhdl_names_problems.specs.Broken.{Tells, ◌∪◌}
+use Rattle.vhdl_names_problems.specs.Declarations as broken
+use Rattle.vhdl_names_problems.proofs.Telling.{told_left, told_right}
+use Rattle.vhdl_names_declarations.specs.Standing.{standing_twice}
+use Rattle.vhdl_names_declarations.proofs.Breaking.{twice_told}
+use Rattle.vhdl_names_declarations.proofs.Regions.{names-all}
 
 pub returns-in_err-hide-clause-given : goal.returns-in_err-hide-clause-given
 returns-in_err-hide-clause-given c =
@@ -26,7 +32,7 @@ returns-in_err-hide-clause-given c =
     let f : c.in_err-hide.field-0.0 ≢ NoMemory → entering d.signals (sight_view c.args.sight.now) (tree.signals_view c.args.declaration.now) ≡ None =
     λ n. signals_is s g c.args.number c.requires
     ∙ refused (λ s. s.region) with_declared s (names_of g.names) (λ x. c.args.number) signal_class (signals_of g)
-    (ap (λ l. more s.region (all_declared visibility.unfinished (names_of (map ident_view l)))) (sym c.deref.ensures.value) ∙ c.in_err-hide.ensures n) (typed_object (within s g.names) g.subtype g.default) in
+    (ap (λ l. more s.region (all_declared visibility.unfinished (names_of (map ident_view l)))) (sym c.deref.ensures.value) ∙ c.in_err-hide.ensures.given n) (typed_object (within s g.names) g.subtype g.default) in
     first_of (search rules, grind (arith, common_steps))
 
 pub returns-in_err-subtype-clause-given : goal.returns-in_err-subtype-clause-given
@@ -34,11 +40,11 @@ returns-in_err-subtype-clause-given c =
     let s = sight_view c.args.sight.now in
     let g = tree.signals_view c.args.declaration.now in
     let hid : more (sight_view c.args.sight.now).region (all_declared visibility.unfinished (names_of (tree.signals_view c.args.declaration.now).names)) ≡ Some (region_view c.hide.new.region) =
-    ap (λ l. more (sight_view c.args.sight.now).region (all_declared visibility.unfinished (names_of (map ident_view l)))) (sym c.deref.ensures.value) ∙ c.in_ok-hide.ensures in
+    ap (λ l. more (sight_view c.args.sight.now).region (all_declared visibility.unfinished (names_of (map ident_view l)))) (sym c.deref.ensures.value) ∙ c.in_ok-hide.ensures.given in
     let along = ap (λ r. typed_object (record s { region = r }) g.subtype g.default) (more_is s.region (all_declared visibility.unfinished (names_of g.names)) (region_view c.hide.new.region) hid) in
     let f : c.in_err-subtype.field-0.0 ≢ NoMemory → entering d.signals (sight_view c.args.sight.now) (tree.signals_view c.args.declaration.now) ≡ None =
     λ n. signals_is s g c.args.number c.requires
-    ∙ unknown (λ s. s.region) with_declared s (names_of g.names) (λ x. c.args.number) signal_class (signals_of g) (typed_object (within s g.names) g.subtype g.default) (sym along ∙ c.in_err-subtype.ensures n) in
+    ∙ unknown (λ s. s.region) with_declared s (names_of g.names) (λ x. c.args.number) signal_class (signals_of g) (typed_object (within s g.names) g.subtype g.default) (sym along ∙ c.in_err-subtype.ensures.given n) in
     first_of (search rules, grind (arith, common_steps))
 
 pub returns-clause-given : goal.returns-clause-given
@@ -46,12 +52,34 @@ returns-clause-given c =
     let s = sight_view c.args.sight.now in
     let g = tree.signals_view c.args.declaration.now in
     let hid : more (sight_view c.args.sight.now).region (all_declared visibility.unfinished (names_of (tree.signals_view c.args.declaration.now).names)) ≡ Some (region_view c.hide.new.region) =
-    ap (λ l. more (sight_view c.args.sight.now).region (all_declared visibility.unfinished (names_of (map ident_view l)))) (sym c.deref.ensures.value) ∙ c.in_ok-hide.ensures in
+    ap (λ l. more (sight_view c.args.sight.now).region (all_declared visibility.unfinished (names_of (map ident_view l)))) (sym c.deref.ensures.value) ∙ c.in_ok-hide.ensures.given in
     let along = ap (λ r. typed_object (record s { region = r }) g.subtype g.default) (more_is s.region (all_declared visibility.unfinished (names_of g.names)) (region_view c.hide.new.region) hid) in
     let size : c.len-first.result ≡ length (region_view c.args.sight.now.region) = c.len-first.ensures.len ∙ sym (length-map c.args.sight.now.region.entries entry_view) in
     let x : Subtype × Option Fixed = (subtype_view c.in_ok-subtype.subtype, option_map fixed_view c.in_ok-subtype.default) in
     signals_is s g c.args.number c.requires
-    ∙ known (λ s. s.region) with_declared s (names_of g.names) (λ x. c.args.number) signal_class (signals_of g) (region_view c.hide.new.region) hid (typed_object (within s g.names) g.subtype g.default) x (sym along ∙ c.in_ok-subtype.ensures)
+    ∙ known (λ s. s.region) with_declared s (names_of g.names) (λ x. c.args.number) signal_class (signals_of g) (region_view c.hide.new.region) hid (typed_object (within s g.names) g.subtype g.default) x (sym along ∙ c.in_ok-subtype.ensures.given)
     ∙ ap (λ r. Some (record s { region = r }, (signals_of g) x)) (settled_region (signal_class x) c.args.number c.len-first.result s.region (region_view c.hide.new.region) (region_view c.settle.new.region) (names_of g.names) size hid c.in_ok-settle.ensures)
     ∙ ap (λ l. Some (record s { region = region_view c.settle.new.region }, l))
     (sym (ap (map u.signal) (c.in_ok-objects.ensures ∙ ap (λ l. for_each (object x.0 x.1) (map ident_view l)) c.deref-2.ensures.value) ∙ map-map u.signal (object x.0 x.1) (names_of g.names)))
+
+pub returns-in_err-hide-clause-told : goal.returns-in_err-hide-clause-told
+returns-in_err-hide-clause-told c =
+    let s = sight_view c.args.sight.now in
+    let g = tree.signals_view c.args.declaration.now in
+    let ns = names_of g.names in
+    let f : Tells (broken.signals (sight_view c.args.sight.now) (tree.signals_view c.args.declaration.now) ∪ standing_twice (sight_view c.args.sight.now).region (names_of (tree.signals_view c.args.declaration.now).names)) c.in_err-hide.field-0.0 =
+    told_right (broken.signals s g) (standing_twice s.region ns) c.in_err-hide.field-0.0
+    (twice_told s.region (all_declared visibility.unfinished ns) ns c.in_err-hide.field-0.0
+    (λ n. ap (λ l. more s.region (all_declared visibility.unfinished (names_of (map ident_view l)))) (sym c.deref.ensures.value) ∙ c.in_err-hide.ensures.given n) (names-all visibility.unfinished ns) c.in_err-hide.ensures.told) in
+    first_of (search rules, grind (arith, common_steps))
+
+pub returns-in_err-subtype-clause-told : goal.returns-in_err-subtype-clause-told
+returns-in_err-subtype-clause-told c =
+    let s = sight_view c.args.sight.now in
+    let g = tree.signals_view c.args.declaration.now in
+    let hid : more (sight_view c.args.sight.now).region (all_declared visibility.unfinished (names_of (tree.signals_view c.args.declaration.now).names)) ≡ Some (region_view c.hide.new.region) =
+    ap (λ l. more (sight_view c.args.sight.now).region (all_declared visibility.unfinished (names_of (map ident_view l)))) (sym c.deref.ensures.value) ∙ c.in_ok-hide.ensures.given in
+    let f : Tells (broken.signals (sight_view c.args.sight.now) (tree.signals_view c.args.declaration.now) ∪ standing_twice (sight_view c.args.sight.now).region (names_of (tree.signals_view c.args.declaration.now).names)) c.in_err-subtype.field-0.0 =
+    told_left (broken.signals s g) (standing_twice s.region (names_of g.names)) c.in_err-subtype.field-0.0
+    (subst (λ r. Tells (broken.object (record s { region = r }) g.subtype g.default) c.in_err-subtype.field-0.0) (more_is s.region (all_declared visibility.unfinished (names_of g.names)) (region_view c.hide.new.region) hid) c.in_err-subtype.ensures.told) in
+    first_of (search rules, grind (arith, common_steps))

@@ -1,14 +1,19 @@
-use Rattle.std.proofs.Common.{rules, arith, ◌≡◌, ◌≢◌, ◌+◌, ◌<◌, ◌≤◌, [], ◌++◌, map, flat_map, length, Some, None, ap, sym, ◌∙◌}
+use Rattle.std.proofs.Common.{rules, arith, ◌≡◌, ◌≢◌, ◌+◌, ◌<◌, ◌≤◌, [], ◌++◌, map, flat_map, length, Some, None, refl, ap, sym, ◌∙◌}
 use Rattle.std.proofs.lemmas.Grind.{common_steps}
 use Rattle.std.proofs.lemmas.List.{length-map}
 use Rattle.vhdl_names_rules.specs.declared.fault.NameFault.TheVariants.{NoMemory}
 use Rattle.vhdl_names_rules.specs.Declarations.{in_order, variables}
-use Rattle.vhdl_names_rules.specs.Visibility.{with_variables}
+use Rattle.vhdl_names_rules.specs.Visibility.{with_variables, names_of}
 use Rattle.vhdl_tree.specs.View.{variables_view}
 use Rattle.vhdl_names_types.specs.Views.{sight_view, region_view, entry_view}
 use Rattle.vhdl_names_units.specs.views.Declarations.{object_view, objects_view}
 use Rattle.vhdl_names_declarations.specs.Entered.{entering_variables}
-use Rattle.vhdl_names_declarations.proofs.Listed.{left_variables, begins_variables, fails_variables, goes_variables, ends_variables, counts_before_variables, place_within_variables, all_more}
+use Rattle.vhdl_names_problems.specs.Broken.{Tells}
+use Rattle.vhdl_names_problems.specs.Declarations as broken
+use Rattle.vhdl_names_declarations.specs.Standing.{variables_broken}
+use Rattle.vhdl_names_declarations.proofs.Breaking.{told_at, told_behind}
+use Rattle.vhdl_names_declarations.proofs.Naming.{of_variables}
+use Rattle.vhdl_names_declarations.proofs.Listed.{of_process, left_variables, begins_variables, fails_variables, goes_variables, ends_variables, counts_before_variables, place_within_variables, all_more}
 use Rattle.vhdl_names_declarations.proofs.Regions.{names_apart}
 use Rattle.vhdl_names_declarations.proofs.objects.variables.Goals as goal
 
@@ -17,19 +22,20 @@ loop-one-init c = (
   begins_variables variables variables_view (sight_view c.args.sight.now) c.args.all.now (names_apart c.args.sight.now.variables.entries c.len-apart.ensures.unique)
       ∙ ap (λ l. left_variables variables variables_view (sight_view c.args.sight.now) (flat_map object_view l) c.args.all.now 0) (sym c.new-done.ensures.items),
   c.of-counts.ensures,
+  λ f h. h,
 )
 
-pub returns-in_err-next : goal.returns-in_err-next
-returns-in_err-next c =
+pub returns-in_err-next-clause-given : goal.returns-in_err-next-clause-given
+returns-in_err-next-clause-given c =
     let lt : c.loop-one.one-index < length c.args.all.now = omega arith in
     let f : c.in_err-next.field-0.0 ≢ NoMemory → entering_variables (in_order with_variables variables) (sight_view c.args.sight.now) (map variables_view c.args.all.now) ≡ None =
     λ n. c.loop-one.invariant.0
-    ∙ fails_variables variables variables_view (sight_view c.loop-one.sight) (objects_view c.loop-one.done) c.args.all.now c.loop-one.one-index c.one-item.result lt c.one-item.is (c.in_err-next.ensures n) in
+    ∙ fails_variables variables variables_view (sight_view c.loop-one.sight) (objects_view c.loop-one.done) c.args.all.now c.loop-one.one-index c.one-item.result lt c.one-item.is (c.in_err-next.ensures.given n) in
     first_of (search rules, grind (arith, common_steps))
 
 pub of-counts-requires-in-loop-one-clause-place : goal.of-counts-requires-in-loop-one-clause-place
 of-counts-requires-in-loop-one-clause-place c =
-    let h = place_within_variables variables (sight_view c.loop-one.sight) (sight_view c.variables_of_one.new.sight) (variables_view c.one-item.result) (object_view c.in_ok-next.next) c.in_ok-next.ensures in
+    let h = place_within_variables variables (sight_view c.loop-one.sight) (sight_view c.variables_of_one.new.sight) (variables_view c.one-item.result) (object_view c.in_ok-next.next) c.in_ok-next.ensures.given in
     let p = length-map c.loop-one.sight.variables.entries entry_view in
     let q = length-map c.variables_of_one.new.sight.variables.entries entry_view in
     omega (arith, h, p, q, c.len-first.ensures.len)
@@ -37,18 +43,27 @@ of-counts-requires-in-loop-one-clause-place c =
 pub of-counts-requires-in-loop-one-clause-before : goal.of-counts-requires-in-loop-one-clause-before
 of-counts-requires-in-loop-one-clause-before c =
     counts_before_variables variables c.loop-one.counts (sight_view c.loop-one.sight) (sight_view c.variables_of_one.new.sight) (variables_view c.one-item.result) (object_view c.in_ok-next.next) c.len-first.result
-    c.in_ok-next.ensures (c.len-first.ensures.len ∙ sym (length-map c.loop-one.sight.variables.entries entry_view)) c.loop-one.invariant.1
+    c.in_ok-next.ensures.given (c.len-first.ensures.len ∙ sym (length-map c.loop-one.sight.variables.entries entry_view)) c.loop-one.invariant.1
 
 pub loop-one-preserved : goal.loop-one-preserved
 loop-one-preserved c =
     let lt : c.loop-one.one-index < length c.args.all.now = omega arith in (
       c.loop-one.invariant.0
           ∙ goes_variables variables variables_view (sight_view c.loop-one.sight) (sight_view c.variables_of_one.new.sight) (objects_view c.loop-one.done) (object_view c.in_ok-next.next) (objects_view c.push.new.self)
-          c.args.all.now c.loop-one.one-index c.one-item.result lt c.one-item.is c.in_ok-next.ensures
+          c.args.all.now c.loop-one.one-index c.one-item.result lt c.one-item.is c.in_ok-next.ensures.given
           (ap (flat_map object_view) c.in_ok-push.ensures.items ∙ all_more object_view c.loop-one.done.items c.in_ok-next.next),
       c.of-counts-in-loop-one.ensures,
+      λ f h. c.loop-one.invariant.2 f
+          (told_behind of_process with_variables (λ s ds. refl) variables broken.variables (λ g. names_of g.names) of_variables variables_view (sight_view c.loop-one.sight) (sight_view c.variables_of_one.new.sight) c.args.all.now c.loop-one.one-index c.one-item.result (object_view c.in_ok-next.next) f lt c.one-item.is c.in_ok-next.ensures.given h),
     )
 
-pub returns : goal.returns
-returns c =
+pub returns-clause-given : goal.returns-clause-given
+returns-clause-given c =
     c.loop-one.invariant.0 ∙ ends_variables variables variables_view (sight_view c.loop-one.sight) (objects_view c.loop-one.done) c.args.all.now c.loop-one.one-index (omega arith)
+
+pub returns-in_err-next-clause-told : goal.returns-in_err-next-clause-told
+returns-in_err-next-clause-told c =
+    let lt : c.loop-one.one-index < length c.args.all.now = omega arith in
+    let f : Tells (variables_broken (sight_view c.args.sight.now) (map variables_view c.args.all.now)) c.in_err-next.field-0.0 =
+    c.loop-one.invariant.2 c.in_err-next.field-0.0 (told_at of_process with_variables (λ s ds. refl) variables broken.variables (λ g. names_of g.names) of_variables variables_view (sight_view c.loop-one.sight) c.args.all.now c.loop-one.one-index c.one-item.result c.in_err-next.field-0.0 lt c.one-item.is c.in_err-next.ensures.told) in
+    first_of (search rules, grind (arith, common_steps))

@@ -1,4 +1,4 @@
-use Rattle.std.proofs.Common.{rules, arith, ◌≡◌, ◌≢◌, ◌+◌, ◌<◌, ◌≤◌, List, [], ◌∷◌, ◌++◌, length, map, option_map, Option, Some, None, ap, ◌∙◌, sym}
+use Rattle.std.proofs.Common.{rules, arith, ◌≡◌, ◌≢◌, ◌+◌, ◌<◌, ◌≤◌, List, [], ◌∷◌, ◌++◌, length, map, option_map, Option, Some, None, ap, ◌∙◌, sym, subst}
 use Rattle.std.proofs.lemmas.Grind.{common_steps}
 use Rattle.std.proofs.lemmas.List.{length-map}
 use Rattle.vhdl_names_rules.specs.declared.fault.NameFault.TheVariants.{NoMemory}
@@ -18,40 +18,68 @@ use Rattle.vhdl_names_declarations.specs.Typed.{typed_object, typed_port}
 use Rattle.vhdl_names_declarations.proofs.Classes.{variables_is, variable_class, variables_of, map-map}
 use Rattle.vhdl_names_declarations.proofs.Turns.{refused, unknown, known, settled_region, grows_by, first_below, more_is}
 use Rattle.vhdl_names_declarations.proofs.objects.variables_of_one.Goals as goal
+use Rattle.vhdl_names_problems.specs.Broken.{Tells, ◌∪◌}
+use Rattle.vhdl_names_problems.specs.Declarations as broken
+use Rattle.vhdl_names_problems.proofs.Telling.{told_left, told_right}
+use Rattle.vhdl_names_declarations.specs.Standing.{standing_twice}
+use Rattle.vhdl_names_declarations.proofs.Breaking.{twice_told}
+use Rattle.vhdl_names_declarations.proofs.Regions.{names-all}
 
-pub returns-in_err-hide : goal.returns-in_err-hide
-returns-in_err-hide c =
+pub returns-in_err-hide-clause-given : goal.returns-in_err-hide-clause-given
+returns-in_err-hide-clause-given c =
     let s = sight_view c.args.sight.now in
     let g = tree.variables_view c.args.declaration.now in
     let f : c.in_err-hide.field-0.0 ≢ NoMemory → entering_variables d.variables (sight_view c.args.sight.now) (tree.variables_view c.args.declaration.now) ≡ None =
     λ n. variables_is s g c.args.number c.requires
     ∙ refused (λ s. s.variables) with_variables s (names_of g.names) (λ x. c.args.number) variable_class (variables_of g)
-    (ap (λ l. more s.variables (all_declared visibility.unfinished (names_of (map ident_view l)))) (sym c.deref.ensures.value) ∙ c.in_err-hide.ensures n) (typed_object (within_variables s g.names) g.subtype g.default) in
+    (ap (λ l. more s.variables (all_declared visibility.unfinished (names_of (map ident_view l)))) (sym c.deref.ensures.value) ∙ c.in_err-hide.ensures.given n) (typed_object (within_variables s g.names) g.subtype g.default) in
     first_of (search rules, grind (arith, common_steps))
 
-pub returns-in_err-subtype : goal.returns-in_err-subtype
-returns-in_err-subtype c =
+pub returns-in_err-subtype-clause-given : goal.returns-in_err-subtype-clause-given
+returns-in_err-subtype-clause-given c =
     let s = sight_view c.args.sight.now in
     let g = tree.variables_view c.args.declaration.now in
     let hid : more (sight_view c.args.sight.now).variables (all_declared visibility.unfinished (names_of (tree.variables_view c.args.declaration.now).names)) ≡ Some (region_view c.hide.new.region) =
-    ap (λ l. more (sight_view c.args.sight.now).variables (all_declared visibility.unfinished (names_of (map ident_view l)))) (sym c.deref.ensures.value) ∙ c.in_ok-hide.ensures in
+    ap (λ l. more (sight_view c.args.sight.now).variables (all_declared visibility.unfinished (names_of (map ident_view l)))) (sym c.deref.ensures.value) ∙ c.in_ok-hide.ensures.given in
     let along = ap (λ r. typed_object (record s { variables = r }) g.subtype g.default) (more_is s.variables (all_declared visibility.unfinished (names_of g.names)) (region_view c.hide.new.region) hid) in
     let f : c.in_err-subtype.field-0.0 ≢ NoMemory → entering_variables d.variables (sight_view c.args.sight.now) (tree.variables_view c.args.declaration.now) ≡ None =
     λ n. variables_is s g c.args.number c.requires
-    ∙ unknown (λ s. s.variables) with_variables s (names_of g.names) (λ x. c.args.number) variable_class (variables_of g) (typed_object (within_variables s g.names) g.subtype g.default) (sym along ∙ c.in_err-subtype.ensures n) in
+    ∙ unknown (λ s. s.variables) with_variables s (names_of g.names) (λ x. c.args.number) variable_class (variables_of g) (typed_object (within_variables s g.names) g.subtype g.default) (sym along ∙ c.in_err-subtype.ensures.given n) in
     first_of (search rules, grind (arith, common_steps))
 
-pub returns : goal.returns
-returns c =
+pub returns-clause-given : goal.returns-clause-given
+returns-clause-given c =
     let s = sight_view c.args.sight.now in
     let g = tree.variables_view c.args.declaration.now in
     let hid : more (sight_view c.args.sight.now).variables (all_declared visibility.unfinished (names_of (tree.variables_view c.args.declaration.now).names)) ≡ Some (region_view c.hide.new.region) =
-    ap (λ l. more (sight_view c.args.sight.now).variables (all_declared visibility.unfinished (names_of (map ident_view l)))) (sym c.deref.ensures.value) ∙ c.in_ok-hide.ensures in
+    ap (λ l. more (sight_view c.args.sight.now).variables (all_declared visibility.unfinished (names_of (map ident_view l)))) (sym c.deref.ensures.value) ∙ c.in_ok-hide.ensures.given in
     let along = ap (λ r. typed_object (record s { variables = r }) g.subtype g.default) (more_is s.variables (all_declared visibility.unfinished (names_of g.names)) (region_view c.hide.new.region) hid) in
     let size : c.len-first.result ≡ length (region_view c.args.sight.now.variables) = c.len-first.ensures.len ∙ sym (length-map c.args.sight.now.variables.entries entry_view) in
     let x : Subtype × Option Fixed = (subtype_view c.in_ok-subtype.subtype, option_map fixed_view c.in_ok-subtype.default) in
     variables_is s g c.args.number c.requires
-    ∙ known (λ s. s.variables) with_variables s (names_of g.names) (λ x. c.args.number) variable_class (variables_of g) (region_view c.hide.new.region) hid (typed_object (within_variables s g.names) g.subtype g.default) x (sym along ∙ c.in_ok-subtype.ensures)
+    ∙ known (λ s. s.variables) with_variables s (names_of g.names) (λ x. c.args.number) variable_class (variables_of g) (region_view c.hide.new.region) hid (typed_object (within_variables s g.names) g.subtype g.default) x (sym along ∙ c.in_ok-subtype.ensures.given)
     ∙ ap (λ r. Some (record s { variables = r }, (variables_of g) x)) (settled_region (variable_class x) c.args.number c.len-first.result s.variables (region_view c.hide.new.region) (region_view c.settle.new.region) (names_of g.names) size hid c.in_ok-settle.ensures)
     ∙ ap (λ l. Some (record s { variables = region_view c.settle.new.region }, l))
     (sym (c.in_ok-objects.ensures ∙ ap (λ l. for_each (object x.0 x.1) (map ident_view l)) c.deref-2.ensures.value))
+
+pub returns-in_err-hide-clause-told : goal.returns-in_err-hide-clause-told
+returns-in_err-hide-clause-told c =
+    let s = sight_view c.args.sight.now in
+    let g = tree.variables_view c.args.declaration.now in
+    let ns = names_of g.names in
+    let f : Tells (broken.variables (sight_view c.args.sight.now) (tree.variables_view c.args.declaration.now) ∪ standing_twice (sight_view c.args.sight.now).variables (names_of (tree.variables_view c.args.declaration.now).names)) c.in_err-hide.field-0.0 =
+    told_right (broken.variables s g) (standing_twice s.variables ns) c.in_err-hide.field-0.0
+    (twice_told s.variables (all_declared visibility.unfinished ns) ns c.in_err-hide.field-0.0
+    (λ n. ap (λ l. more s.variables (all_declared visibility.unfinished (names_of (map ident_view l)))) (sym c.deref.ensures.value) ∙ c.in_err-hide.ensures.given n) (names-all visibility.unfinished ns) c.in_err-hide.ensures.told) in
+    first_of (search rules, grind (arith, common_steps))
+
+pub returns-in_err-subtype-clause-told : goal.returns-in_err-subtype-clause-told
+returns-in_err-subtype-clause-told c =
+    let s = sight_view c.args.sight.now in
+    let g = tree.variables_view c.args.declaration.now in
+    let hid : more (sight_view c.args.sight.now).variables (all_declared visibility.unfinished (names_of (tree.variables_view c.args.declaration.now).names)) ≡ Some (region_view c.hide.new.region) =
+    ap (λ l. more (sight_view c.args.sight.now).variables (all_declared visibility.unfinished (names_of (map ident_view l)))) (sym c.deref.ensures.value) ∙ c.in_ok-hide.ensures.given in
+    let f : Tells (broken.variables (sight_view c.args.sight.now) (tree.variables_view c.args.declaration.now) ∪ standing_twice (sight_view c.args.sight.now).variables (names_of (tree.variables_view c.args.declaration.now).names)) c.in_err-subtype.field-0.0 =
+    told_left (broken.variables s g) (standing_twice s.variables (names_of g.names)) c.in_err-subtype.field-0.0
+    (subst (λ r. Tells (broken.object (record s { variables = r }) g.subtype g.default) c.in_err-subtype.field-0.0) (more_is s.variables (all_declared visibility.unfinished (names_of g.names)) (region_view c.hide.new.region) hid) c.in_err-subtype.ensures.told) in
+    first_of (search rules, grind (arith, common_steps))

@@ -16,17 +16,17 @@ use Rattle.vhdl_names_declarations.proofs.packages.add_rows.Goals as goal
 no_row : Row
 no_row = record { name = record { ref_ptr = (0, 0); now = [] }; builtin = Integers Integer }
 
-pub returns-in_err-declare_name : goal.returns-in_err-declare_name
+pub returns-in_err-declare_name-clause-given : goal.returns-in_err-declare_name-clause-given
 unfolding no_row
-returns-in_err-declare_name c =
+returns-in_err-declare_name-clause-given c =
     let lt : c.loop-row.row-index < length c.args.rows.now = omega arith in
     let f : c.in_err-declare_name.field-0.0 ≢ NoMemory → more (region_view c.args.region.now) (map row_view c.args.rows.now) ≡ None =
     λ n. c.loop-row.invariant
     ∙ next_of row_view (region_view c.loop-row.region) c.args.rows.now c.loop-row.row-index no_row lt
     ∙ ap (λ o. o >>= λ r. more r (map row_view (drop (c.loop-row.row-index + 1) c.args.rows.now)))
-    (ap (λ m. more (region_view c.loop-row.region) (declare (get_or c.args.rows.now c.loop-row.row-index no_row).name.now m ∷ [])) (sym c.meaning.ensures) ∙ c.in_err-declare_name.ensures n) in
+    (ap (λ m. more (region_view c.loop-row.region) (declare (get_or c.args.rows.now c.loop-row.row-index no_row).name.now m ∷ [])) (sym c.meaning.ensures) ∙ c.in_err-declare_name.ensures.given n) in
     first_of (search rules, grind (arith, common_steps))
 
-pub returns : goal.returns
-returns c =
+pub returns-clause-given : goal.returns-clause-given
+returns-clause-given c =
     c.loop-row.invariant ∙ none_left row_view c.loop-row.region.entries c.args.rows.now c.loop-row.row-index (omega arith) c.len-apart-2.ensures.unique

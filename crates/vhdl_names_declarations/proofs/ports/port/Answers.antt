@@ -20,6 +20,12 @@ use Rattle.vhdl_names_declarations.proofs.Classes.{port_is, port_class, ports_of
 use Rattle.vhdl_names_declarations.proofs.Turns.{refused, unknown, known, settled_region, grows_by, first_below, more_is}
 use Rattle.vhdl_names_declarations.proofs.ports.port.Goals as goal
 use Rattle.vhdl_names_rules.specs.declared.kind.ElementKind.{ElementKind}
+use Rattle.vhdl_names_problems.specs.Broken.{Tells, ◌∪◌}
+use Rattle.vhdl_names_problems.specs.Declarations as broken
+use Rattle.vhdl_names_problems.proofs.Telling.{told_left, told_right}
+use Rattle.vhdl_names_declarations.specs.Standing.{standing_twice}
+use Rattle.vhdl_names_declarations.proofs.Breaking.{twice_told}
+use Rattle.vhdl_names_declarations.proofs.Regions.{names-all}
 
 pub returns-in_err-hide-clause-given : goal.returns-in_err-hide-clause-given
 returns-in_err-hide-clause-given c =
@@ -28,7 +34,7 @@ returns-in_err-hide-clause-given c =
     let f : c.in_err-hide.field-0.0 ≢ NoMemory → entering d.port (sight_view c.args.sight.now) (tree.port_view c.args.port.now) ≡ None =
     λ n. port_is s g c.args.number c.requires
     ∙ refused (λ s. s.region) with_declared s (names_of g.names) (λ x. c.args.number) (port_class g) (ports_of g)
-    (ap (λ l. more s.region (all_declared visibility.unfinished (names_of (map ident_view l)))) (sym c.deref.ensures.value) ∙ c.in_err-hide.ensures n) (typed_port s g) in
+    (ap (λ l. more s.region (all_declared visibility.unfinished (names_of (map ident_view l)))) (sym c.deref.ensures.value) ∙ c.in_err-hide.ensures.given n) (typed_port s g) in
     first_of (search rules, grind (arith, common_steps))
 
 pub returns-in_err-subtype-clause-given : goal.returns-in_err-subtype-clause-given
@@ -36,10 +42,10 @@ returns-in_err-subtype-clause-given c =
     let s = sight_view c.args.sight.now in
     let g = tree.port_view c.args.port.now in
     let hid : more (sight_view c.args.sight.now).region (all_declared visibility.unfinished (names_of (tree.port_view c.args.port.now).names)) ≡ Some (region_view c.hide.new.region) =
-    ap (λ l. more (sight_view c.args.sight.now).region (all_declared visibility.unfinished (names_of (map ident_view l)))) (sym c.deref.ensures.value) ∙ c.in_ok-hide.ensures in
+    ap (λ l. more (sight_view c.args.sight.now).region (all_declared visibility.unfinished (names_of (map ident_view l)))) (sym c.deref.ensures.value) ∙ c.in_ok-hide.ensures.given in
     let f : c.in_err-subtype.field-0.0 ≢ NoMemory → entering d.port (sight_view c.args.sight.now) (tree.port_view c.args.port.now) ≡ None =
     λ n. port_is s g c.args.number c.requires
-    ∙ unknown (λ s. s.region) with_declared s (names_of g.names) (λ x. c.args.number) (port_class g) (ports_of g) (typed_port s g) (c.in_err-subtype.ensures n) in
+    ∙ unknown (λ s. s.region) with_declared s (names_of g.names) (λ x. c.args.number) (port_class g) (ports_of g) (typed_port s g) (c.in_err-subtype.ensures.given n) in
     first_of (search rules, grind (arith, common_steps))
 
 pub returns-clause-given : goal.returns-clause-given
@@ -47,14 +53,33 @@ returns-clause-given c =
     let s = sight_view c.args.sight.now in
     let g = tree.port_view c.args.port.now in
     let hid : more (sight_view c.args.sight.now).region (all_declared visibility.unfinished (names_of (tree.port_view c.args.port.now).names)) ≡ Some (region_view c.hide.new.region) =
-    ap (λ l. more (sight_view c.args.sight.now).region (all_declared visibility.unfinished (names_of (map ident_view l)))) (sym c.deref.ensures.value) ∙ c.in_ok-hide.ensures in
+    ap (λ l. more (sight_view c.args.sight.now).region (all_declared visibility.unfinished (names_of (map ident_view l)))) (sym c.deref.ensures.value) ∙ c.in_ok-hide.ensures.given in
     let size : c.len-first.result ≡ length (region_view c.args.sight.now.region) = c.len-first.ensures.len ∙ sym (length-map c.args.sight.now.region.entries entry_view) in
     let x : Subtype × ElementKind × Option Fixed = (subtype_view c.in_ok-subtype.subtype, c.in_ok-subtype.kind, option_map fixed_view c.in_ok-subtype.default) in
     port_is s g c.args.number c.requires
-    ∙ known (λ s. s.region) with_declared s (names_of g.names) (λ x. c.args.number) (port_class g) (ports_of g) (region_view c.hide.new.region) hid (typed_port s g) x (c.in_ok-subtype.ensures)
+    ∙ known (λ s. s.region) with_declared s (names_of g.names) (λ x. c.args.number) (port_class g) (ports_of g) (region_view c.hide.new.region) hid (typed_port s g) x (c.in_ok-subtype.ensures.given)
     ∙ ap (λ r. Some (record s { region = r }, (ports_of g) x)) (settled_region (port_class g x) c.args.number c.len-first.result s.region (region_view c.hide.new.region) (region_view c.settle.new.region) (names_of g.names) size hid
     (c.in_ok-settle.ensures ∙ ap (λ w. settled (λ k. visibility.port k w x.1) c.args.number c.len-first.result (region_view c.hide.new.region)) c.mode_of-mode.ensures))
     ∙ ap (λ l. Some (record s { region = region_view c.settle.new.region }, l))
     (ap (λ w. map (λ n. port_with w (object x.0 x.2 n)) (names_of g.names)) (sym c.mode_of-mode.ensures)
     ∙ sym (ap (map (port_with c.mode_of-mode.result)) (c.in_ok-objects.ensures ∙ ap (λ l. for_each (object x.0 x.2) (map ident_view l)) c.deref-2.ensures.value)
     ∙ map-map (port_with c.mode_of-mode.result) (object x.0 x.2) (names_of g.names)))
+
+pub returns-in_err-hide-clause-told : goal.returns-in_err-hide-clause-told
+returns-in_err-hide-clause-told c =
+    let s = sight_view c.args.sight.now in
+    let g = tree.port_view c.args.port.now in
+    let ns = names_of g.names in
+    let f : Tells (broken.port (sight_view c.args.sight.now) (tree.port_view c.args.port.now) ∪ standing_twice (sight_view c.args.sight.now).region (names_of (tree.port_view c.args.port.now).names)) c.in_err-hide.field-0.0 =
+    told_right (broken.port s g) (standing_twice s.region ns) c.in_err-hide.field-0.0
+    (twice_told s.region (all_declared visibility.unfinished ns) ns c.in_err-hide.field-0.0
+    (λ n. ap (λ l. more s.region (all_declared visibility.unfinished (names_of (map ident_view l)))) (sym c.deref.ensures.value) ∙ c.in_err-hide.ensures.given n) (names-all visibility.unfinished ns) c.in_err-hide.ensures.told) in
+    first_of (search rules, grind (arith, common_steps))
+
+pub returns-in_err-subtype-clause-told : goal.returns-in_err-subtype-clause-told
+returns-in_err-subtype-clause-told c =
+    let s = sight_view c.args.sight.now in
+    let g = tree.port_view c.args.port.now in
+    let f : Tells (broken.port (sight_view c.args.sight.now) (tree.port_view c.args.port.now) ∪ standing_twice (sight_view c.args.sight.now).region (names_of (tree.port_view c.args.port.now).names)) c.in_err-subtype.field-0.0 =
+    told_left (broken.port s g) (standing_twice s.region (names_of g.names)) c.in_err-subtype.field-0.0 c.in_err-subtype.ensures.told in
+    first_of (search rules, grind (arith, common_steps))

@@ -6,12 +6,12 @@ use Rattle.vhdl_names_types.specs.Views.{meaning_view}
 use Rattle.vhdl_names_declarations.proofs.Regions.{absent, refused, grown}
 use Rattle.vhdl_names_declarations.proofs.region.declare_name.Goals as goal
 
-pub returns-then-contains_key : goal.returns-then-contains_key
-returns-then-contains_key c = λ n.
+pub returns-then-contains_key-clause-given : goal.returns-then-contains_key-clause-given
+returns-then-contains_key-clause-given c = λ n.
     refused c.args.region.now.entries c.args.name.now (meaning_view c.args.meaning) c.len-apart.ensures.unique (sym c.contains_key.ensures ∙ c.if-contains_key.true)
 
-pub returns : goal.returns
-returns c =
+pub returns-clause-given : goal.returns-clause-given
+returns-clause-given c =
     let es = c.args.region.now.entries in
     let new : is_some (lookup (λ k. bytes_eq c.args.name.now k.items) es) ≡ false = sym c.contains_key.ensures ∙ c.if-contains_key.false in
     let same = c.in_ok-key.ensures.items in

@@ -8,15 +8,18 @@ use Rattle.vhdl_tree.specs.View.{choice_view as tree_choice_view}
 use Rattle.vhdl_names_types.specs.Views.{sight_view}
 use Rattle.vhdl_names_units.specs.views.Answers.{choice_view, choices_view}
 use Rattle.vhdl_names_expressions.proofs.Each.{behind, each_fails, each_goes, each_ends}
+use Rattle.vhdl_names_problems.specs.Broken.{Tells, any_of}
+use Rattle.vhdl_names_problems.specs.Choices as broken
+use Rattle.vhdl_names_problems.proofs.Telling.{told_any}
 use Rattle.vhdl_names_expressions.proofs.alternatives.each_choice.Goals as goal
 
-pub returns-in_err-next : goal.returns-in_err-next
-returns-in_err-next c =
+pub returns-in_err-next-clause-given : goal.returns-in_err-next-clause-given
+returns-in_err-next-clause-given c =
     let f = choice (sight_view c.args.sight.now) c.args.object_type in
     let lt : c.loop-one.one-index < length c.args.all.now = omega arith in
     let n : c.in_err-next.field-0.0 ≢ NoMemory → each f (map tree_choice_view c.args.all.now) ≡ None =
     λ n. each_fails f tree_choice_view _ (choices_view c.loop-one.done) c.args.all.now c.loop-one.one-index c.one-item.result c.loop-one.invariant lt c.one-item.is
-    (c.in_err-next.ensures n) in
+    (c.in_err-next.ensures.given n) in
     first_of (search rules, grind (arith, common_steps))
 
 pub loop-one-preserved : goal.loop-one-preserved
@@ -26,11 +29,19 @@ loop-one-preserved c =
     let lt : c.loop-one.one-index < length c.args.all.now = omega arith in
     let next : suc c.loop-one.one-index ≡ c.loop-one.one-index + 1 = omega arith in
     each_goes f tree_choice_view _ (choices_view c.loop-one.done) c.args.all.now i c.one-item.result (choice_view c.in_ok-next.next) c.loop-one.invariant lt c.one-item.is
-    c.in_ok-next.ensures
+    c.in_ok-next.ensures.given
     ∙ ap (λ xs. behind xs (each f (map tree_choice_view (drop (suc i) c.args.all.now))))
     (sym (ap (map choice_view) c.in_ok-push.ensures.items ∙ map-append choice_view c.loop-one.done.items (c.in_ok-next.next ∷ [])))
     ∙ ap (λ k. behind (choices_view c.push.new.self) (each f (map tree_choice_view (drop k c.args.all.now)))) next
 
-pub returns : goal.returns
-returns c =
+pub returns-clause-given : goal.returns-clause-given
+returns-clause-given c =
     each_ends (choice (sight_view c.args.sight.now) c.args.object_type) tree_choice_view _ (choices_view c.loop-one.done) c.args.all.now c.loop-one.one-index c.loop-one.invariant (omega arith)
+
+pub returns-in_err-next-clause-told : goal.returns-in_err-next-clause-told
+returns-in_err-next-clause-told c =
+    let b = broken.choice (sight_view c.args.sight.now) c.args.object_type in
+    let lt : c.loop-one.one-index < length c.args.all.now = omega arith in
+    let f : Tells (any_of b (map tree_choice_view c.args.all.now)) c.in_err-next.field-0.0 =
+    told_any b tree_choice_view c.args.all.now c.loop-one.one-index c.one-item.result c.in_err-next.field-0.0 lt c.one-item.is c.in_err-next.ensures.told in
+    first_of (search rules, grind (arith, common_steps))

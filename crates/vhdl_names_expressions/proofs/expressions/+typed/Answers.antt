@@ -1,78 +1,86 @@
-use Rattle.std.proofs.Common.{rules, arith, ◌≡◌, ◌≢◌, suc, ◌+◌, ◌<◌, ◌∷◌, [], map, length, drop, Some, None, refl, ap, sym, ◌∙◌}
+use Rattle.std.proofs.Common.{rules, arith, option_map, ◌≡◌, ◌≢◌, suc, ◌+◌, ◌<◌, ◌∷◌, [], map, length, drop, Some, None, refl, ap, sym, ◌∙◌}
 use Rattle.std.proofs.lemmas.Grind.{common_steps}
 use Rattle.std.proofs.lemmas.List.{map-append}
 use Rattle.vhdl_names_rules.specs.declared.fault.NameFault.TheVariants.{NoMemory}
-use Rattle.vhdl_names_rules.specs.Expressions.{typed, typed_each}
+use Rattle.vhdl_names_rules.specs.Expressions.{typed, typed_each, as_integer}
+use Rattle.vhdl_names_rules.specs.views.Integers.{static_view}
+use Rattle.vhdl_tree.specs.Tree as tree
 use Rattle.vhdl_tree.specs.Tree.{exprs_of}
 use Rattle.vhdl_tree.specs.View.{view}
 use Rattle.vhdl_tree.specs.declared.expression.Chain.{out-Chain}
 use Rattle.vhdl_names_expressions.specs.Chosen.{arguments_of, started, links_of}
 use Rattle.vhdl_names_expressions.specs.Steps.{is_parens, linked, all_linked}
-use Rattle.vhdl_names_types.specs.Views.{sight_view, typed_view, typed_suffix_view}
+use Rattle.vhdl_names_types.specs.Views.{sight_view, meaning_view, typed_view, typed_suffix_view}
 use Rattle.vhdl_names_types.proofs.Along.{gives_along}
-use Rattle.vhdl_names_expressions.proofs.Chains.{started_is, chain_begun, all_linked_none, link_fails, front, each_fails, each_goes, each_ends, arguments_whole}
+use Rattle.vhdl_names_expressions.proofs.Chains.{started_is, link_goes, chain_begun, all_linked_none, link_fails, front, each_fails, each_goes, each_ends, arguments_whole}
+use Rattle.vhdl_tree.specs.View.{ident_view, suffix_view, range_view}
+use Rattle.vhdl_names_problems.specs.Broken.{Tells}
+use Rattle.vhdl_names_problems.specs.Expressions as broken
+use Rattle.vhdl_names_problems.proofs.Telling.{told_on}
+use Rattle.vhdl_names_expressions.specs.Breaking.{link_breaks, all_break, started_breaks}
+use Rattle.vhdl_names_expressions.proofs.Breaking.{told_as, asked_told, chain_first, chain_further, link_told, rest_told, operator_on, link_first, range_first, range_second, static_first, slice_told, parens_told, negation_first, negation_told, sign_first, sign_told, integer_told, character_told, string_told, bits_told, named_suffix, named_meaning, named_denoted, named_attributed, each_told, arguments_on, begun_first, begun_second}
 use Rattle.vhdl_names_expressions.proofs.expressions.+typed.Goals as goal
 
-pub links-returns-in_err-done : goal.links-returns-in_err-done
-links-returns-in_err-done t c =
+pub links-returns-in_err-done-clause-given : goal.links-returns-in_err-done-clause-given
+links-returns-in_err-done-clause-given t c =
     let s = sight_view c.args.sight.now in
     let lt : c.loop-next.next-index < length c.args.links.now = omega arith in
     let f : c.in_err-done.field-0.0 ≢ NoMemory → all_linked s (Some (typed_view c.args.first)) c.args.links.now ≡ None =
-    λ n. link_fails s _ (typed_view c.loop-next.done) c.args.links.now c.loop-next.next-index c.next-item.result c.loop-next.invariant lt c.next-item.is (c.in_err-done.ensures n) in
+    λ n. link_fails s _ (typed_view c.loop-next.done) c.args.links.now c.loop-next.next-index c.next-item.result c.loop-next.invariant.0 lt c.next-item.is (c.in_err-done.ensures.given n) in
     first_of (search rules, grind (arith, common_steps))
 
-pub begun-returns-in_err-first : goal.begun-returns-in_err-first
-begun-returns-in_err-first t c =
+pub begun-returns-in_err-first-clause-given : goal.begun-returns-in_err-first-clause-given
+begun-returns-in_err-first-clause-given t c =
     let s = sight_view c.args.sight.now in
     let k = c.args.chain.now in
     let f : c.in_err-first.field-0.0 ≢ NoMemory → started s k ≡ None =
-    λ n. started_is s k ∙ ap (λ o. linked s (is_parens (view (out-Chain k).first)) o (out-Chain k).second) (c.in_err-first.ensures n) in
+    λ n. started_is s k ∙ ap (λ o. linked s (is_parens (view (out-Chain k).first)) o (out-Chain k).second) (c.in_err-first.ensures.given n) in
     first_of (search rules, grind (arith, common_steps))
 
-pub begun-returns : goal.begun-returns
-begun-returns t c =
+pub begun-returns-clause-given : goal.begun-returns-clause-given
+begun-returns-clause-given t c =
     let s = sight_view c.args.sight.now in
     let k = c.args.chain.now in
     gives_along typed_view _ _ _
-    (started_is s k ∙ ap (λ o. linked s (is_parens (view (out-Chain k).first)) o (out-Chain k).second) c.in_ok-first.ensures
+    (started_is s k ∙ ap (λ o. linked s (is_parens (view (out-Chain k).first)) o (out-Chain k).second) c.in_ok-first.ensures.given
     ∙ ap (λ b. linked s b (Some (typed_view c.in_ok-first.first)) (out-Chain k).second) (sym c.stands_in_parens-after_parens.ensures))
-    c.link.ensures
+    c.link.ensures.given
 
-pub further-returns : goal.further-returns
-further-returns t c =
-    gives_along typed_view _ _ _ (ap (all_linked (sight_view c.args.sight.now) (Some (typed_view c.args.before))) (sym c.deref.ensures.value)) c.links.ensures
+pub further-returns-clause-given : goal.further-returns-clause-given
+further-returns-clause-given t c =
+    gives_along typed_view _ _ _ (ap (all_linked (sight_view c.args.sight.now) (Some (typed_view c.args.before))) (sym c.deref.ensures.value)) c.links.ensures.given
 
-pub typed-returns-in_err-begun-in-Chain : goal.typed-returns-in_err-begun-in-Chain
-typed-returns-in_err-begun-in-Chain t c =
+pub typed-returns-in_err-begun-in-Chain-clause-given : goal.typed-returns-in_err-begun-in-Chain-clause-given
+typed-returns-in_err-begun-in-Chain-clause-given t c =
     let s = sight_view c.args.sight.now in
     let k = c.in-Chain.chain.value in
     let f : c.in_err-begun-in-Chain.field-0.0 ≢ NoMemory → typed s (view c.args.e.now) ≡ None =
     λ n. chain_begun s c.args.e.now c.in-Chain.chain c.deref-in-Chain.result.now k c.in-Chain.is c.deref-in-Chain.ensures refl
-    ∙ ap (λ o. all_linked s o (links_of k)) (c.in_err-begun-in-Chain.ensures n) ∙ all_linked_none s (links_of k) in
+    ∙ ap (λ o. all_linked s o (links_of k)) (c.in_err-begun-in-Chain.ensures.given n) ∙ all_linked_none s (links_of k) in
     first_of (search rules, grind (arith, common_steps))
 
-pub typed-returns-in_ok-begun-in-Chain : goal.typed-returns-in_ok-begun-in-Chain
-typed-returns-in_ok-begun-in-Chain t c =
+pub typed-returns-in_ok-begun-in-Chain-clause-given : goal.typed-returns-in_ok-begun-in-Chain-clause-given
+typed-returns-in_ok-begun-in-Chain-clause-given t c =
     let s = sight_view c.args.sight.now in
     gives_along typed_view _ _ _
     (chain_begun s c.args.e.now c.in-Chain.chain c.deref-in-Chain.result.now c.deref-in-Chain-2.result.now c.in-Chain.is c.deref-in-Chain.ensures c.deref-in-Chain-2.ensures
-    ∙ ap (λ o. all_linked s o (links_of c.deref-in-Chain-2.result.now)) c.in_ok-begun-in-Chain.ensures)
-    c.further.ensures
+    ∙ ap (λ o. all_linked s o (links_of c.deref-in-Chain-2.result.now)) c.in_ok-begun-in-Chain.ensures.given)
+    c.further.ensures.given
 
-pub typed_suffix-returns-in-Arguments : goal.typed_suffix-returns-in-Arguments
-typed_suffix-returns-in-Arguments t c =
+pub typed_suffix-returns-in-Arguments-clause-given : goal.typed_suffix-returns-in-Arguments-clause-given
+typed_suffix-returns-in-Arguments-clause-given t c =
     let s = sight_view c.args.sight.now in
     gives_along typed_suffix_view _ _ _
     (arguments_whole s c.args.suffix.now c.in-Arguments.all c.in-Arguments.is ∙ ap (λ es. arguments_of s (exprs_of (map view es))) (sym c.deref.ensures.value))
-    c.arguments.ensures
+    c.arguments.ensures.given
 
-pub typed_each-returns-in_err-value : goal.typed_each-returns-in_err-value
-typed_each-returns-in_err-value t c =
+pub typed_each-returns-in_err-value-clause-given : goal.typed_each-returns-in_err-value-clause-given
+typed_each-returns-in_err-value-clause-given t c =
     let s = sight_view c.args.sight.now in
     let lt : c.loop-argument.argument-index < length c.args.arguments.now = omega arith in
     let f : c.in_err-value.field-0.0 ≢ NoMemory → typed_each s (exprs_of (map view c.args.arguments.now)) ≡ None =
     λ n. each_fails s _ (map typed_view c.loop-argument.done.items) c.args.arguments.now c.loop-argument.argument-index c.argument-item.result c.loop-argument.invariant lt c.argument-item.is
-    (c.in_err-value.ensures n) in
+    (c.in_err-value.ensures.given n) in
     first_of (search rules, grind (arith, common_steps))
 
 pub typed_each-loop-argument-preserved : goal.typed_each-loop-argument-preserved
@@ -82,11 +90,197 @@ typed_each-loop-argument-preserved t c =
     let lt : c.loop-argument.argument-index < length c.args.arguments.now = omega arith in
     let next : suc c.loop-argument.argument-index ≡ c.loop-argument.argument-index + 1 = omega arith in
     each_goes s _ (map typed_view c.loop-argument.done.items) c.args.arguments.now i c.argument-item.result (typed_view c.in_ok-value.value) c.loop-argument.invariant lt c.argument-item.is
-    c.in_ok-value.ensures
+    c.in_ok-value.ensures.given
     ∙ ap (λ xs. front xs (typed_each s (exprs_of (map view (drop (suc i) c.args.arguments.now)))))
     (sym (ap (map typed_view) c.in_ok-push.ensures.items ∙ map-append typed_view c.loop-argument.done.items (c.in_ok-value.value ∷ [])))
     ∙ ap (λ k. front (map typed_view c.push.new.self.items) (typed_each s (exprs_of (map view (drop k c.args.arguments.now))))) next
 
-pub typed_each-returns : goal.typed_each-returns
-typed_each-returns t c =
+pub typed_each-returns-clause-given : goal.typed_each-returns-clause-given
+typed_each-returns-clause-given t c =
     each_ends (sight_view c.args.sight.now) _ (map typed_view c.loop-argument.done.items) c.args.arguments.now c.loop-argument.argument-index c.loop-argument.invariant (omega arith)
+
+-- ---- what is told
+
+pub links-returns-in_err-done-clause-told : goal.links-returns-in_err-done-clause-told
+links-returns-in_err-done-clause-told t c =
+    let s = sight_view c.args.sight.now in
+    let lt : c.loop-next.next-index < length c.args.links.now = omega arith in
+    let f : Tells (all_break s (Some (typed_view c.args.first)) c.args.links.now) c.in_err-done.field-0.0 =
+    c.loop-next.invariant.1 c.in_err-done.field-0.0
+    (link_told s (typed_view c.loop-next.done) c.args.links.now c.loop-next.next-index c.next-item.result c.in_err-done.field-0.0 lt c.next-item.is c.in_err-done.ensures.told) in
+    first_of (search rules, grind (arith, common_steps))
+
+pub links-loop-next-preserved : goal.links-loop-next-preserved
+links-loop-next-preserved t c =
+    let s = sight_view c.args.sight.now in
+    let i = c.loop-next.next-index in
+    let lt : c.loop-next.next-index < length c.args.links.now = omega arith in
+    let next : suc c.loop-next.next-index ≡ c.loop-next.next-index + 1 = omega arith in (
+      c.loop-next.invariant.0 ∙ link_goes s (typed_view c.loop-next.done) (typed_view c.in_ok-done.done) c.args.links.now i (c.loop-next.next-index + 1) c.next-item.result lt c.next-item.is next c.in_ok-done.ensures.given,
+      λ f h. c.loop-next.invariant.1 f (rest_told s (typed_view c.loop-next.done) (typed_view c.in_ok-done.done) c.args.links.now i (c.loop-next.next-index + 1) c.next-item.result f lt c.next-item.is next c.in_ok-done.ensures.given h),
+    )
+
+pub begun-returns-in_err-first-clause-told : goal.begun-returns-in_err-first-clause-told
+begun-returns-in_err-first-clause-told t c =
+    let s = sight_view c.args.sight.now in
+    let f : Tells (started_breaks s c.args.chain.now) c.in_err-first.field-0.0 = begun_first s c.args.chain.now c.in_err-first.field-0.0 c.in_err-first.ensures.told in
+    first_of (search rules, grind (arith, common_steps))
+
+pub begun-returns-clause-told : goal.begun-returns-clause-told
+begun-returns-clause-told t c =
+    begun_second (sight_view c.args.sight.now) c.args.chain.now _ (typed_view c.in_ok-first.first) _ c.in_ok-first.ensures.given c.stands_in_parens-after_parens.ensures c.link.ensures.told
+
+pub further-returns-clause-told : goal.further-returns-clause-told
+further-returns-clause-told t c =
+    told_as _ _ _ (ap (all_break (sight_view c.args.sight.now) (Some (typed_view c.args.before))) c.deref.ensures.value) c.links.ensures.told
+
+pub typed-returns-in_err-begun-in-Chain-clause-told : goal.typed-returns-in_err-begun-in-Chain-clause-told
+typed-returns-in_err-begun-in-Chain-clause-told t c =
+    let s = sight_view c.args.sight.now in
+    let f : Tells (broken.typed s (view c.args.e.now)) c.in_err-begun-in-Chain.field-0.0 =
+    chain_first s c.args.e.now c.in-Chain.chain c.deref-in-Chain.result.now c.in_err-begun-in-Chain.field-0.0 c.in-Chain.is c.deref-in-Chain.ensures c.in_err-begun-in-Chain.ensures.told in
+    first_of (search rules, grind (arith, common_steps))
+
+pub typed-returns-in_ok-begun-in-Chain-clause-told : goal.typed-returns-in_ok-begun-in-Chain-clause-told
+typed-returns-in_ok-begun-in-Chain-clause-told t c =
+    chain_further (sight_view c.args.sight.now) c.args.e.now c.in-Chain.chain c.deref-in-Chain.result.now c.deref-in-Chain-2.result.now (typed_view c.in_ok-begun-in-Chain.begun) _
+    c.in-Chain.is c.deref-in-Chain.ensures c.deref-in-Chain-2.ensures c.in_ok-begun-in-Chain.ensures.given c.further.ensures.told
+
+pub typed_suffix-returns-in-Arguments-clause-told : goal.typed_suffix-returns-in-Arguments-clause-told
+typed_suffix-returns-in-Arguments-clause-told t c =
+    arguments_on (sight_view c.args.sight.now) c.args.suffix.now c.in-Arguments.all _ _ c.in-Arguments.is c.deref.ensures.value c.arguments.ensures.told
+
+pub typed_each-returns-in_err-value-clause-told : goal.typed_each-returns-in_err-value-clause-told
+typed_each-returns-in_err-value-clause-told t c =
+    let s = sight_view c.args.sight.now in
+    let lt : c.loop-argument.argument-index < length c.args.arguments.now = omega arith in
+    let f : Tells (broken.typed_each s (exprs_of (map view c.args.arguments.now))) c.in_err-value.field-0.0 =
+    each_told s c.args.arguments.now c.loop-argument.argument-index c.argument-item.result c.in_err-value.field-0.0 lt c.argument-item.is c.in_err-value.ensures.told in
+    first_of (search rules, grind (arith, common_steps))
+
+pub named-returns-in_err-meaning-clause-told : goal.named-returns-in_err-meaning-clause-told
+named-returns-in_err-meaning-clause-told t c =
+    let s = sight_view c.args.sight.now in
+    let n = c.args.name.now in
+    let f : Tells (broken.typed s (tree.named (ident_view n.identifier) (suffix_view n.suffix) (option_map ident_view n.attribute))) c.in_err-meaning.field-0.0 =
+    named_meaning s (ident_view n.identifier) (suffix_view n.suffix) (option_map ident_view n.attribute) c.in_err-meaning.field-0.0 c.in_err-meaning.ensures.told in
+    first_of (search rules, grind (arith, common_steps))
+
+pub named-returns-in_err-suffix-clause-told : goal.named-returns-in_err-suffix-clause-told
+named-returns-in_err-suffix-clause-told t c =
+    let s = sight_view c.args.sight.now in
+    let n = c.args.name.now in
+    let f : Tells (broken.typed s (tree.named (ident_view n.identifier) (suffix_view n.suffix) (option_map ident_view n.attribute))) c.in_err-suffix.field-0.0 =
+    named_suffix s (ident_view n.identifier) (suffix_view n.suffix) (option_map ident_view n.attribute) c.in_err-suffix.field-0.0 c.in_err-suffix.ensures.told in
+    first_of (search rules, grind (arith, common_steps))
+
+pub named-returns-in_err-value-clause-told : goal.named-returns-in_err-value-clause-told
+named-returns-in_err-value-clause-told t c =
+    let s = sight_view c.args.sight.now in
+    let n = c.args.name.now in
+    let f : Tells (broken.typed s (tree.named (ident_view n.identifier) (suffix_view n.suffix) (option_map ident_view n.attribute))) c.in_err-value.field-0.0 =
+    named_denoted s (ident_view n.identifier) (suffix_view n.suffix) (option_map ident_view n.attribute) c.in_err-value.field-0.0
+    (meaning_view c.in_ok-meaning.meaning.now) (typed_suffix_view c.in_ok-suffix.suffix) c.in_ok-meaning.ensures.meant c.in_ok-suffix.ensures.given c.in_err-value.ensures.given c.in_err-value.ensures.told in
+    first_of (search rules, grind (arith, common_steps))
+
+pub named-returns-clause-told : goal.named-returns-clause-told
+named-returns-clause-told t c =
+    let n = c.args.name.now in
+    told_on _ _ _
+    (λ f. named_attributed (sight_view c.args.sight.now) (ident_view n.identifier) (suffix_view n.suffix) (option_map ident_view n.attribute) f
+    (meaning_view c.in_ok-meaning.meaning.now) (typed_suffix_view c.in_ok-suffix.suffix) (typed_view c.in_ok-value.value)
+    c.in_ok-meaning.ensures.meant c.in_ok-suffix.ensures.given c.in_ok-value.ensures.given)
+    c.attributed.ensures.told
+
+pub link-returns-in_err-operand-clause-told : goal.link-returns-in_err-operand-clause-told
+link-returns-in_err-operand-clause-told t c =
+    let s = sight_view c.args.sight.now in
+    let f : Tells (link_breaks s c.args.after_parens (Some (typed_view c.args.first)) c.args.link.now) c.in_err-operand.field-0.0 =
+    link_first s c.args.after_parens (typed_view c.args.first) c.args.link.now c.in_err-operand.field-0.0 c.in_err-operand.ensures.told in
+    first_of (search rules, grind (arith, common_steps))
+
+pub link-returns-clause-told : goal.link-returns-clause-told
+link-returns-clause-told t c =
+    operator_on (sight_view c.args.sight.now) c.args.after_parens (typed_view c.args.first) (typed_view c.in_ok-operand.operand) (typed_view c.beside-operand.result) c.args.link.now typed_view _
+    c.in_ok-operand.ensures.given c.beside-operand.ensures c.operated.ensures.given c.operated.ensures.told
+
+pub static_integer-returns-in_err-value-clause-told : goal.static_integer-returns-in_err-value-clause-told
+static_integer-returns-in_err-value-clause-told t c =
+    let s = sight_view c.args.sight.now in
+    let f : Tells (broken.static s (view c.args.e.now)) c.in_err-value.field-0.0 =
+    static_first s (view c.args.e.now) c.in_err-value.field-0.0 c.in_err-value.ensures.told in
+    first_of (search rules, grind (arith, common_steps))
+
+pub static_integer-returns-clause-told : goal.static_integer-returns-clause-told
+static_integer-returns-clause-told t c =
+    let s = sight_view c.args.sight.now in
+    let e = view c.args.e.now in
+    asked_told (broken.typed s e) (typed s e) (λ x. broken.mismatch) as_integer static_view (typed_view c.in_ok-value.value) _ c.in_ok-value.ensures.given c.as_integer.ensures.given c.as_integer.ensures.told
+
+pub static_range-returns-in_err-left-clause-told : goal.static_range-returns-in_err-left-clause-told
+static_range-returns-in_err-left-clause-told t c =
+    let s = sight_view c.args.sight.now in
+    let f : Tells (broken.static_range s (range_view c.args.range.now)) c.in_err-left.field-0.0 =
+    range_first s (range_view c.args.range.now) c.in_err-left.field-0.0 c.in_err-left.ensures.told in
+    first_of (search rules, grind (arith, common_steps))
+
+pub static_range-returns-in_err-right-clause-told : goal.static_range-returns-in_err-right-clause-told
+static_range-returns-in_err-right-clause-told t c =
+    let s = sight_view c.args.sight.now in
+    let f : Tells (broken.static_range s (range_view c.args.range.now)) c.in_err-right.field-0.0 =
+    range_second s (range_view c.args.range.now) c.in_err-right.field-0.0 c.in_err-right.ensures.told in
+    first_of (search rules, grind (arith, common_steps))
+
+pub typed-returns-in_err-operand-in-Parens-clause-told : goal.typed-returns-in_err-operand-in-Parens-clause-told
+typed-returns-in_err-operand-in-Parens-clause-told t c =
+    let s = sight_view c.args.sight.now in
+    let f : Tells (broken.typed s (view c.args.e.now)) c.in_err-operand-in-Parens.field-0.0 =
+    parens_told s c.args.e.now c.deref.result.now c.in-Parens.at c.in-Parens.inner c.in_err-operand-in-Parens.field-0.0 c.in-Parens.is c.deref.ensures c.in_err-operand-in-Parens.ensures.told in
+    first_of (search rules, grind (arith, common_steps))
+
+pub typed-returns-in_err-operand-in-Not-clause-told : goal.typed-returns-in_err-operand-in-Not-clause-told
+typed-returns-in_err-operand-in-Not-clause-told t c =
+    let s = sight_view c.args.sight.now in
+    let f : Tells (broken.typed s (view c.args.e.now)) c.in_err-operand-in-Not.field-0.0 =
+    negation_first s c.args.e.now c.deref-in-Not.result.now c.in-Not.at c.in-Not.operand c.in_err-operand-in-Not.field-0.0 c.in-Not.is c.deref-in-Not.ensures c.in_err-operand-in-Not.ensures.told in
+    first_of (search rules, grind (arith, common_steps))
+
+pub typed-returns-in_err-operand-in-Signed-clause-told : goal.typed-returns-in_err-operand-in-Signed-clause-told
+typed-returns-in_err-operand-in-Signed-clause-told t c =
+    let s = sight_view c.args.sight.now in
+    let f : Tells (broken.typed s (view c.args.e.now)) c.in_err-operand-in-Signed.field-0.0 =
+    sign_first s c.args.e.now c.deref-in-Signed.result.now c.in-Signed.at c.in-Signed.operand c.in-Signed.sign c.in_err-operand-in-Signed.field-0.0 c.in-Signed.is c.deref-in-Signed.ensures c.in_err-operand-in-Signed.ensures.told in
+    first_of (search rules, grind (arith, common_steps))
+
+pub typed-returns-in-Integer-clause-told : goal.typed-returns-in-Integer-clause-told
+typed-returns-in-Integer-clause-told t c =
+    integer_told (sight_view c.args.sight.now) c.args.e.now _ c.in-Integer.literal typed_view c.in-Integer.is c.integer_literal.ensures.given c.integer_literal.ensures.told
+
+pub typed-returns-in-StringLiteral-clause-told : goal.typed-returns-in-StringLiteral-clause-told
+typed-returns-in-StringLiteral-clause-told t c =
+    string_told (sight_view c.args.sight.now) c.args.e.now _ c.in-StringLiteral.literal typed_view c.in-StringLiteral.is c.string_literal.ensures.given c.string_literal.ensures.told
+
+pub typed-returns-in-BitString-clause-told : goal.typed-returns-in-BitString-clause-told
+typed-returns-in-BitString-clause-told t c =
+    bits_told (sight_view c.args.sight.now) c.args.e.now _ c.in-BitString.literal typed_view c.in-BitString.is c.bit_string_literal.ensures.given c.bit_string_literal.ensures.told
+
+pub typed-returns-in-Character-clause-told : goal.typed-returns-in-Character-clause-told
+typed-returns-in-Character-clause-told t c =
+    character_told (sight_view c.args.sight.now) c.args.e.now _ c.in-Character.at c.in-Character.code typed_view c.in-Character.is c.character_literal.ensures.given c.character_literal.ensures.told
+
+pub typed-returns-in_ok-operand-in-Not-clause-told : goal.typed-returns-in_ok-operand-in-Not-clause-told
+typed-returns-in_ok-operand-in-Not-clause-told t c =
+    negation_told (sight_view c.args.sight.now) c.args.e.now c.deref-in-Not.result.now c.in-Not.at c.in-Not.operand typed_view (typed_view c.in_ok-operand-in-Not.operand) _
+    c.in-Not.is c.deref-in-Not.ensures c.in_ok-operand-in-Not.ensures.given c.inverse.ensures.given c.inverse.ensures.told
+
+pub typed-returns-in_ok-operand-in-Signed-clause-told : goal.typed-returns-in_ok-operand-in-Signed-clause-told
+typed-returns-in_ok-operand-in-Signed-clause-told t c =
+    sign_told (sight_view c.args.sight.now) c.args.e.now c.deref-in-Signed.result.now c.in-Signed.at c.in-Signed.operand c.in-Signed.sign typed_view (typed_view c.in_ok-operand-in-Signed.operand) _
+    c.in-Signed.is c.deref-in-Signed.ensures c.in_ok-operand-in-Signed.ensures.given c.signed.ensures.given c.signed.ensures.told
+
+pub typed_suffix-returns-in_err-range-in-Range-clause-told : goal.typed_suffix-returns-in_err-range-in-Range-clause-told
+typed_suffix-returns-in_err-range-in-Range-clause-told t c =
+    let s = sight_view c.args.sight.now in
+    let f : Tells (broken.typed_suffix s (suffix_view c.args.suffix.now)) c.in_err-range-in-Range.field-0.0 =
+    slice_told s c.args.suffix.now c.in-Range.range c.deref-in-Range.result.now c.in_err-range-in-Range.field-0.0 c.in-Range.is c.deref-in-Range.ensures c.in_err-range-in-Range.ensures.told in
+    first_of (search rules, grind (arith, common_steps))

@@ -2,15 +2,19 @@ use Rattle.std.proofs.Common.{◌≡◌, drop, map, Some}
 use Rattle.vhdl_tree.specs.Tree.{exprs_of}
 use Rattle.vhdl_tree.specs.View.{view}
 use Rattle.vhdl_names_rules.specs.Expressions.{typed_each}
+use Rattle.vhdl_names_rules.specs.declared.fault.NameFault.{NameFault}
+use Rattle.vhdl_names_problems.specs.Broken.{Tells}
+use Rattle.vhdl_names_expressions.specs.Breaking.{all_break}
 use Rattle.vhdl_names_expressions.specs.Steps.{all_linked}
 use Rattle.vhdl_names_types.specs.Views.{sight_view, typed_view}
 use Rattle.vhdl_names_expressions.proofs.Chains.{front}
 use Rattle.vhdl_names_expressions.proofs.expressions.+typed.Given as goal
 
--- the links that are left, on what is done, give the whole
+-- the links that are left, on what is done, give the whole, and what they break, the whole breaks
 abbrev pub invariant-links-loop-next : goal.invariant-links-loop-next
 invariant-links-loop-next l =
-    all_linked (sight_view l.sight) (Some (typed_view l.fn.first)) l.links ≡ all_linked (sight_view l.sight) (Some (typed_view l.done)) (drop l.next-index l.links)
+    (all_linked (sight_view l.sight) (Some (typed_view l.fn.first)) l.links ≡ all_linked (sight_view l.sight) (Some (typed_view l.done)) (drop l.next-index l.links))
+    × ((f : NameFault) → Tells (all_break (sight_view l.sight) (Some (typed_view l.done)) (drop l.next-index l.links)) f → Tells (all_break (sight_view l.sight) (Some (typed_view l.fn.first)) l.links) f)
 
 -- what is done, and then the arguments that are left, is the whole
 abbrev pub invariant-typed_each-loop-argument : goal.invariant-typed_each-loop-argument

@@ -1,25 +1,49 @@
-use Rattle.std.proofs.Common.{option_map, option_copied, ap, ◌∙◌}
+use Rattle.std.proofs.Common.{option_map, option_copied, [], ◌∷◌, refl, ap, sym, ◌∙◌}
 use Rattle.vhdl_tree.specs.View.{view, name_view}
+use Rattle.vhdl_names_rules.specs.declared.fault.NameProblem.TheVariants.{TypeMismatch, LeftOut}
+use Rattle.vhdl_names_rules.specs.Subtypes.{literal_value}
 use Rattle.vhdl_names_types.proofs.Along.{gives_along}
 use Rattle.vhdl_names_types.specs.Views.{sight_view}
 use Rattle.vhdl_names_expressions.proofs.Fixing.{fixed_by, fixed_is}
 use Rattle.vhdl_names_units.specs.views.Answers.{fixed_view}
+use Rattle.vhdl_names_expressions.proofs.Breaking.{told_as, refused_told}
+use Rattle.vhdl_names_expressions.proofs.BreakingValues as breaking
 use Rattle.vhdl_names_expressions.proofs.fixed.fixed.Goals as goal
 
-pub returns-in-Some : goal.returns-in-Some
-returns-in-Some c =
+pub returns-in-Some-clause-given : goal.returns-in-Some-clause-given
+returns-in-Some-clause-given c =
     let s = sight_view c.args.sight.now in
     let e = view c.args.e.now in
     gives_along fixed_view _ _ _
     (fixed_is s c.args.object_type e
     ∙ ap (λ o. fixed_by s c.args.object_type o e) (c.name_of.ensures ∙ ap (λ o. option_map name_view (option_copied o)) c.in-Some.is))
-    c.fixed_name.ensures
+    c.fixed_name.ensures.given
 
-pub returns-in-None : goal.returns-in-None
-returns-in-None c =
+pub returns-in-None-clause-given : goal.returns-in-None-clause-given
+returns-in-None-clause-given c =
     let s = sight_view c.args.sight.now in
     let e = view c.args.e.now in
     gives_along fixed_view _ _ _
     (fixed_is s c.args.object_type e
     ∙ ap (λ o. fixed_by s c.args.object_type o e) (c.name_of.ensures ∙ ap (λ o. option_map name_view (option_copied o)) c.in-None.is))
-    c.literal_value.ensures
+    c.literal_value.ensures.given
+
+pub returns-in-Some-clause-told : goal.returns-in-Some-clause-told
+returns-in-Some-clause-told c =
+    let s = sight_view c.args.sight.now in
+    let e = view c.args.e.now in
+    told_as _ _ _
+    (sym
+    (breaking.fixed_is s c.args.object_type e
+    ∙ ap (λ o. breaking.fixed_by s c.args.object_type o e) (c.name_of.ensures ∙ ap (λ o. option_map name_view (option_copied o)) c.in-Some.is)))
+    c.fixed_name.ensures.told
+
+pub returns-in-None-clause-told : goal.returns-in-None-clause-told
+returns-in-None-clause-told c =
+    let s = sight_view c.args.sight.now in
+    let e = view c.args.e.now in
+    told_as _ _ _
+    (sym
+    (breaking.fixed_is s c.args.object_type e
+    ∙ ap (λ o. breaking.fixed_by s c.args.object_type o e) (c.name_of.ensures ∙ ap (λ o. option_map name_view (option_copied o)) c.in-None.is)))
+    (refused_told fixed_view (literal_value c.args.object_type e) _ _ (TypeMismatch ∷ LeftOut ∷ []) refl c.literal_value.ensures.given c.literal_value.ensures.told)

@@ -1,3 +1,9 @@
+use Rattle.std.proofs.Common.{[], ◌∷◌, refl, sym, subst}
+use Rattle.vhdl_names_rules.specs.declared.fault.NameProblem.TheVariants.{Undeclared}
+use Rattle.vhdl_names_problems.specs.Broken.{Tells, is_of}
+use Rattle.vhdl_names_problems.specs.Instances as broken
+use Rattle.vhdl_names_instances.proofs.Told.{passed_told}
+use Rattle.vhdl_names_instances.proofs.Instanced.{unit_told, unseen_told, maps_told, of_each}
 use Rattle.vhdl_tree.specs.View as tree
 use Rattle.vhdl_names_types.specs.Views.{sight_view}
 use Rattle.vhdl_names_types.proofs.Along.{gives_along}
@@ -7,10 +13,34 @@ use Rattle.vhdl_names_instances.specs.Table.{seen_view, seens_view}
 use Rattle.vhdl_names_instances.proofs.Instancing.{instance_seen}
 use Rattle.vhdl_names_instances.proofs.instances.instance_in_turn.Goals as goal
 
-pub returns-in-Some : goal.returns-in-Some
-returns-in-Some c =
+pub returns-in-Some-clause-given : goal.returns-in-Some-clause-given
+returns-in-Some-clause-given c =
     let e = c.args.entities.now in
     gives_along instance_view _ _ _
     (instance_seen (names_view e.names) (seens_view e.formals) (sight_view c.args.sight.now) (tree.ident_view c.args.label.now)
-    (tree.instance_view c.args.instance.now) c.in_ok-unit.unit (seen_view c.in-Some.formals.now) c.in_ok-unit.ensures c.in-Some.ensures)
-    c.with_formals.ensures
+    (tree.instance_view c.args.instance.now) c.in_ok-unit.unit (seen_view c.in-Some.formals.now) c.in_ok-unit.ensures.given c.in-Some.ensures)
+    c.with_formals.ensures.given
+
+pub returns-in_err-unit-clause-told : goal.returns-in_err-unit-clause-told
+returns-in_err-unit-clause-told c = λ es are.
+    let e = c.args.entities.now in
+    let s = sight_view c.args.sight.now in
+    let i = tree.instance_view c.args.instance.now in
+    passed_told (broken.instance es s i) c.in_err-unit.field-0.0 _ c.from_residual.result c.from_residual.ensures.1 (λ e p. p)
+    (unit_told e es are s c.in_err-unit.field-0.0 i (c.in_err-unit.ensures.told es are))
+
+pub returns-in-None-clause-told : goal.returns-in-None-clause-told
+returns-in-None-clause-told c = λ es are.
+    let e = c.args.entities.now in
+    let s = sight_view c.args.sight.now in
+    let i = tree.instance_view c.args.instance.now in
+    unseen_told e es are s c.at.result i c.in_ok-unit.unit c.in_ok-unit.ensures.given (sym c.in-None.ensures) (subst (Tells (is_of (Undeclared ∷ []))) (sym c.at.ensures) refl)
+
+pub returns-in-Some-clause-told : goal.returns-in-Some-clause-told
+returns-in-Some-clause-told c = λ es are.
+    let e = c.args.entities.now in
+    let s = sight_view c.args.sight.now in
+    let i = tree.instance_view c.args.instance.now in
+    of_each (broken.instance es s i) c.with_formals.result
+    (λ f told. maps_told e es are s f i c.in_ok-unit.unit (seen_view c.in-Some.formals.now) c.in_ok-unit.ensures.given (sym c.in-Some.ensures) told)
+    c.with_formals.ensures.told

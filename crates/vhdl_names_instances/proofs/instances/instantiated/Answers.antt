@@ -1,15 +1,57 @@
-use Rattle.std.proofs.Common.{ap}
+use Rattle.std.proofs.Common.{[], ◌∷◌, ap, sym}
+use Rattle.vhdl_names_rules.specs.declared.fault.NameProblem.TheVariants.{WrongKind}
+use Rattle.vhdl_names_rules.specs.Visibility as visibility
+use Rattle.vhdl_names_rules.specs.Instances.{as_component}
+use Rattle.vhdl_names_problems.specs.Broken.{lacking, where_given}
+use Rattle.vhdl_names_problems.specs.Expressions.{meaning}
+use Rattle.std.specs.Prelude.{option_map}
+use Rattle.vhdl_names_problems.specs.Instances as broken
+use Rattle.vhdl_names_problems.proofs.Telling.{told_left, told_right, told_given, told_on}
+use Rattle.vhdl_names_instances.specs.Breaking as breaking
+use Rattle.vhdl_names_instances.proofs.Told.{told_along, passed_told}
+use Rattle.vhdl_names_instances.proofs.Instanced.{entity_of_told}
 use Rattle.vhdl_tree.specs.View as tree
-use Rattle.vhdl_names_types.specs.Views.{sight_view}
+use Rattle.vhdl_names_types.specs.Views.{sight_view, meaning_view}
 use Rattle.vhdl_names_types.proofs.Along.{gives_along}
 use Rattle.vhdl_names_labels.specs.Once.{names_view}
 use Rattle.vhdl_names_instances.specs.Table.{seens_view}
 use Rattle.vhdl_names_instances.specs.steps.Instances as steps
 use Rattle.vhdl_names_instances.proofs.instances.instantiated.Goals as goal
 
-pub returns-in-Entity : goal.returns-in-Entity
-returns-in-Entity c =
+pub returns-in-Entity-clause-given : goal.returns-in-Entity-clause-given
+returns-in-Entity-clause-given c =
     let e = c.args.entities.now in
     gives_along (λ k. k) _ _ _
     (ap (λ u. steps.instantiated (names_view e.names) (seens_view e.formals) (sight_view c.args.sight.now) (tree.instantiated_view u)) c.in-Entity.is)
-    c.entity_of.ensures
+    c.entity_of.ensures.given
+
+pub returns-in-Entity-clause-told : goal.returns-in-Entity-clause-told
+returns-in-Entity-clause-told c = λ es are.
+    let e = c.args.entities.now in
+    let s = sight_view c.args.sight.now in
+    let library = tree.ident_view c.in-Entity.library in
+    let name = tree.ident_view c.in-Entity.name in
+    let a = option_map tree.ident_view c.in-Entity.architecture in
+    told_on (breaking.entity_of (names_view e.names) (seens_view e.formals) library name a) (broken.instantiated es s (tree.instantiated_view c.args.unit.now)) c.entity_of.result
+    (λ f w. told_along (λ u. broken.instantiated es s (tree.instantiated_view u)) _ c.args.unit.now (sym c.in-Entity.is) f (entity_of_told e es are s f library name a w))
+    c.entity_of.ensures.told
+
+pub returns-in_err-meaning-in-Component-clause-told : goal.returns-in_err-meaning-in-Component-clause-told
+returns-in_err-meaning-in-Component-clause-told c = λ es are.
+    let s = sight_view c.args.sight.now in
+    let n = c.in-Component.name.text.items in
+    let fault = c.in_err-meaning-in-Component.field-0.0 in
+    passed_told (broken.instantiated es s (tree.instantiated_view c.args.unit.now)) fault _ c.from_residual.result c.from_residual.ensures.1 (λ e p. p)
+    (told_along (λ u. broken.instantiated es s (tree.instantiated_view u)) _ c.args.unit.now (sym c.in-Component.is) fault
+    (told_left (meaning s n) (where_given (visibility.meaning s n) (λ d. lacking (WrongKind ∷ []) (as_component d))) fault c.in_err-meaning-in-Component.ensures.told))
+
+pub returns-in_ok-meaning-in-Component-clause-told : goal.returns-in_ok-meaning-in-Component-clause-told
+returns-in_ok-meaning-in-Component-clause-told c = λ es are.
+    let s = sight_view c.args.sight.now in
+    let n = c.in-Component.name.text.items in
+    let m = meaning_view c.in_ok-meaning-in-Component.meaning.now in
+    told_on (lacking (WrongKind ∷ []) (as_component m)) (broken.instantiated es s (tree.instantiated_view c.args.unit.now)) c.as_component.result
+    (λ f w. told_along (λ u. broken.instantiated es s (tree.instantiated_view u)) _ c.args.unit.now (sym c.in-Component.is) f
+    (told_right (meaning s n) (where_given (visibility.meaning s n) (λ d. lacking (WrongKind ∷ []) (as_component d))) f
+    (told_given (λ d. lacking (WrongKind ∷ []) (as_component d)) (visibility.meaning s n) m f c.in_ok-meaning-in-Component.ensures.meant w)))
+    c.as_component.ensures.told

@@ -6,14 +6,14 @@ use Rattle.vhdl_names_interfaces.specs.Views.{entity_view}
 use Rattle.vhdl_names_interfaces.proofs.Named.{absent, refused, grown}
 use Rattle.vhdl_names_interfaces.proofs.entities.add_entity.Goals as goal
 
-pub returns-then-contains_key : goal.returns-then-contains_key
-returns-then-contains_key c = λ n.
+pub returns-then-contains_key-clause-given : goal.returns-then-contains_key-clause-given
+returns-then-contains_key-clause-given c = λ n.
     let es = c.args.entities.now.entries in
     refused es (entity_view c.args.entity)
     (ap (λ x. is_some (lookup (λ k. bytes_eq x k.items) es)) (sym c.as_slice.ensures.value) ∙ sym c.contains_key.ensures ∙ c.if-contains_key.true)
 
-pub returns : goal.returns
-returns c =
+pub returns-clause-given : goal.returns-clause-given
+returns-clause-given c =
     let es = c.args.entities.now.entries in
     let new : is_some (lookup (λ k. bytes_eq c.args.entity.tree.now.name.text.items k.items) es) ≡ false =
     ap (λ x. is_some (lookup (λ k. bytes_eq x k.items) es)) (sym c.as_slice.ensures.value) ∙ sym c.contains_key.ensures ∙ c.if-contains_key.false in

@@ -6,15 +6,15 @@ use Rattle.vhdl_names_interfaces.specs.Views.{named_view}
 use Rattle.vhdl_names_interfaces.proofs.Named.{joined, found, found_pair}
 use Rattle.vhdl_names_interfaces.proofs.entities.entity_named.Goals as goal
 
-pub returns-in-None : goal.returns-in-None
-returns-in-None c = λ m.
+pub returns-in-None-clause-given : goal.returns-in-None-clause-given
+returns-in-None-clause-given c = λ m.
     let n = c.args.name.now.text.items in
     let es = c.args.entities.now.entries in
     found n 0 es
     ∙ ap (λ o. joined n 0 o (lookup (λ m. bytes_eq n m.items) es)) (ap (λ x. position (λ m. bytes_eq x m.items) (keys_of es)) (sym c.as_slice.ensures.value) ∙ sym c.in-None.ensures.index)
 
-pub returns-in-Some : goal.returns-in-Some
-returns-in-Some c =
+pub returns-in-Some-clause-given : goal.returns-in-Some-clause-given
+returns-in-Some-clause-given c =
     let n = c.args.name.now.text.items in
     let es = c.args.entities.now.entries in
     let index = ap (λ x. position (λ m. bytes_eq x m.items) (keys_of es)) (sym c.as_slice.ensures.value) ∙ sym c.in-Some.ensures.index in

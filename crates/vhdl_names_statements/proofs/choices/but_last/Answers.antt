@@ -5,8 +5,8 @@ use Rattle.vhdl_names_statements.specs.steps.Cases.{but_last}
 use Rattle.vhdl_names_statements.proofs.steps.Cases.{but_last-push}
 use Rattle.vhdl_names_statements.proofs.choices.but_last.Goals as goal
 
-pub returns-in-Some : goal.returns-in-Some
-returns-in-Some c =
+pub returns-in-Some-clause-given : goal.returns-in-Some-clause-given
+returns-in-Some-clause-given c =
     ap (λ xs. but_last (map alternative_view xs)) c.in-Some.ensures.items
     ∙ ap but_last (map-append alternative_view c.pop.new.self.items (c.in-Some.last ∷ []))
     ∙ but_last-push (alternatives_view c.pop.new.self) (alternative_view c.in-Some.last)

@@ -10,13 +10,13 @@ use Rattle.vhdl_names_types.proofs.Along.{gives_along}
 use Rattle.vhdl_names_types.proofs.Quotations.{bits_of_base, rest_from}
 use Rattle.vhdl_names_types.proofs.literals.bit_string_values.Goals as goal
 
-pub returns : goal.returns
-returns c =
+pub returns-clause-given : goal.returns-clause-given
+returns-clause-given c =
     let s = c.as_slice.result.now in
     let base : base_class (get_or s 0 0) ≡ Some (class_of c.in-Some.base) = c.base_of.ensures ∙ ap (option_map class_of) c.in-Some.is in
     let whole : values_of_bits c.args.literal.now.text.items ≡ at_least_one c.in_ok-values.values.items =
     ap values_of_bits (sym c.as_slice.ensures.value) ∙ bits_of_base s c.in-len1-up.len_at_least
     ∙ ap (λ b. values_by b (filter (λ d. not (d == underscore)) (quoted (drop 1 s))) >>= at_least_one) base
     ∙ ap (λ q. Some (flat_map (λ d. bits_of (class_of c.in-Some.base) (digit_value d)) (filter (λ d. not (d == underscore)) q)) >>= at_least_one) (ap quoted (sym (rest_from s 1)) ∙ sym c.quoted.ensures)
-    ∙ ap (λ o. o >>= at_least_one) c.in_ok-values.ensures in
-    gives_along (λ (v : Vec Nine Global). v.items) _ _ _ whole c.at_least_one.ensures
+    ∙ ap (λ o. o >>= at_least_one) c.in_ok-values.ensures.given in
+    gives_along (λ (v : Vec Nine Global). v.items) _ _ _ whole c.at_least_one.ensures.given

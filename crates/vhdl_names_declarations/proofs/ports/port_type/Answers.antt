@@ -1,0 +1,51 @@
+use Rattle.std.proofs.Common.{rules, arith, ◌≡◌, Some, ap, ◌∙◌}
+use Rattle.std.proofs.lemmas.Grind.{common_steps}
+use Rattle.vhdl_names_problems.specs.Broken.{Tells, ◌∪◌, where_given, of_any}
+use Rattle.vhdl_names_problems.specs.Declarations as broken
+use Rattle.vhdl_names_problems.specs.Subtypes as subtypes_broken
+use Rattle.vhdl_names_problems.proofs.Telling.{told_left, told_right, told_given, told_lacking}
+use Rattle.vhdl_names_rules.specs.declared.fault.NameProblem.TheVariants.{LeftOut}
+use Rattle.std.specs.Prelude.{◌∷◌, []}
+use Rattle.vhdl_names_rules.specs.Declarations.{as_kind}
+use Rattle.vhdl_names_rules.specs.Subtypes.{Subtype, subtype}
+use Rattle.vhdl_tree.specs.View as tree
+use Rattle.vhdl_names_types.specs.Views.{sight_view}
+use Rattle.vhdl_names_units.specs.views.Answers.{subtype_view}
+use Rattle.vhdl_names_declarations.proofs.ports.port_type.Goals as goal
+
+pub returns-in_err-subtype-clause-told : goal.returns-in_err-subtype-clause-told
+returns-in_err-subtype-clause-told c =
+    let s = sight_view c.args.sight.now in
+    let p = tree.port_view c.args.port.now in
+    let first = subtypes_broken.subtype s p.subtype in
+    let by = λ (x : Subtype). broken.nine_valued x ∪ of_any (subtypes_broken.fixed_value s x.type) p.default in
+    let last = where_given (subtype s p.subtype) by in
+    let f : Tells (broken.port (sight_view c.args.sight.now) (tree.port_view c.args.port.now)) c.in_err-subtype.field-0.0 =
+    told_left first last c.in_err-subtype.field-0.0 c.in_err-subtype.ensures.told in
+    first_of (search rules, grind (arith, common_steps))
+
+pub returns-in_err-kind-clause-told : goal.returns-in_err-kind-clause-told
+returns-in_err-kind-clause-told c =
+    let s = sight_view c.args.sight.now in
+    let p = tree.port_view c.args.port.now in
+    let first = subtypes_broken.subtype s p.subtype in
+    let by = λ (x : Subtype). broken.nine_valued x ∪ of_any (subtypes_broken.fixed_value s x.type) p.default in
+    let last = where_given (subtype s p.subtype) by in
+    let x = subtype_view c.in_ok-subtype.subtype in
+    let default = of_any (subtypes_broken.fixed_value s x.type) p.default in
+    let f : Tells (broken.port (sight_view c.args.sight.now) (tree.port_view c.args.port.now)) c.in_err-kind.field-0.0 =
+    told_right first last c.in_err-kind.field-0.0 (told_given by (subtype s p.subtype) x c.in_err-kind.field-0.0 c.in_ok-subtype.ensures.given (told_left (broken.nine_valued x) default c.in_err-kind.field-0.0 (told_lacking (LeftOut ∷ []) (as_kind x.type) c.in_err-kind.field-0.0 c.in_err-kind.ensures.given c.in_err-kind.ensures.told))) in
+    first_of (search rules, grind (arith, common_steps))
+
+pub returns-in_err-default-clause-told : goal.returns-in_err-default-clause-told
+returns-in_err-default-clause-told c =
+    let s = sight_view c.args.sight.now in
+    let p = tree.port_view c.args.port.now in
+    let first = subtypes_broken.subtype s p.subtype in
+    let by = λ (x : Subtype). broken.nine_valued x ∪ of_any (subtypes_broken.fixed_value s x.type) p.default in
+    let last = where_given (subtype s p.subtype) by in
+    let x = subtype_view c.in_ok-subtype.subtype in
+    let default = of_any (subtypes_broken.fixed_value s x.type) p.default in
+    let f : Tells (broken.port (sight_view c.args.sight.now) (tree.port_view c.args.port.now)) c.in_err-default.field-0.0 =
+    told_right first last c.in_err-default.field-0.0 (told_given by (subtype s p.subtype) x c.in_err-default.field-0.0 c.in_ok-subtype.ensures.given (told_right (broken.nine_valued x) default c.in_err-default.field-0.0 c.in_err-default.ensures.told)) in
+    first_of (search rules, grind (arith, common_steps))

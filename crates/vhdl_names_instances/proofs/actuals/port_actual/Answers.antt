@@ -1,0 +1,37 @@
+use Rattle.std.proofs.Common.{rules, arith, ◌≡◌, false, [], ◌∷◌, refl, sym, ◌∙◌, subst}
+use Rattle.std.proofs.lemmas.Grind.{common_steps}
+use Rattle.vhdl_tree.specs.View.{view, name_view}
+use Rattle.vhdl_names_rules.specs.declared.fault.NameProblem.TheVariants.{TypeMismatch, WriteOfIn, LeftOut}
+use Rattle.vhdl_names_problems.specs.Broken.{Tells, is_of}
+use Rattle.vhdl_names_problems.specs.Instances.{port_actual}
+use Rattle.vhdl_names_types.specs.Views.{sight_view}
+use Rattle.vhdl_names_units.specs.views.Answers.{signal_name_view}
+use Rattle.vhdl_names_instances.specs.steps.Actuals.{formal}
+use Rattle.vhdl_names_instances.proofs.Actual.{no_name_told, no_signal_told, other_kind_told, not_joined_told}
+use Rattle.vhdl_names_instances.proofs.actuals.port_actual.Goals as goal
+
+pub returns-in-None-clause-told : goal.returns-in-None-clause-told
+returns-in-None-clause-told c =
+    no_name_told (sight_view c.args.sight.now) (formal c.args.port) (view c.args.e.now) c.at.result (sym c.in-None.ensures)
+    (subst (Tells (is_of (LeftOut ∷ []))) (sym c.at.ensures) refl)
+
+pub returns-in_err-actual-in-Some-clause-told : goal.returns-in_err-actual-in-Some-clause-told
+returns-in_err-actual-in-Some-clause-told c =
+    let f : Tells (port_actual (sight_view c.args.sight.now) (formal c.args.port) (view c.args.e.now)) c.in_err-actual-in-Some.field-0.0 =
+    no_signal_told (sight_view c.args.sight.now) (formal c.args.port) (view c.args.e.now) c.in_err-actual-in-Some.field-0.0 (name_view c.in-Some.name.now) (sym c.in-Some.ensures)
+    c.in_err-actual-in-Some.ensures.told in
+    first_of (search rules, grind (arith, common_steps))
+
+pub returns-then-not-is_kind-clause-told : goal.returns-then-not-is_kind-clause-told
+returns-then-not-is_kind-clause-told c =
+    let q : c.is_kind.result ≡ false = first_of (search rules, grind (arith, common_steps)) in
+    other_kind_told (sight_view c.args.sight.now) (formal c.args.port) (view c.args.e.now) c.at-then-not-is_kind.result (name_view c.in-Some.name.now) (sym c.in-Some.ensures)
+    (signal_name_view c.in_ok-actual-in-Some.actual) c.in_ok-actual-in-Some.ensures.given (sym c.is_kind.ensures ∙ q)
+    (subst (Tells (is_of (TypeMismatch ∷ []))) (sym c.at-then-not-is_kind.ensures) refl)
+
+pub returns-then-not-may_join-clause-told : goal.returns-then-not-may_join-clause-told
+returns-then-not-may_join-clause-told c =
+    let q : c.may_join.result ≡ false = first_of (search rules, grind (arith, common_steps)) in
+    not_joined_told (sight_view c.args.sight.now) (formal c.args.port) (view c.args.e.now) c.at-then-not-may_join.result (name_view c.in-Some.name.now) (sym c.in-Some.ensures)
+    (signal_name_view c.in_ok-actual-in-Some.actual) c.in_ok-actual-in-Some.ensures.given (sym c.may_join.ensures ∙ q)
+    (subst (Tells (is_of (WriteOfIn ∷ []))) (sym c.at-then-not-may_join.ensures) refl)

@@ -1,0 +1,27 @@
+use Rattle.std.proofs.Common.{rules, arith, ◌≡◌, []}
+use Rattle.std.proofs.lemmas.Grind.{common_steps}
+use Rattle.vhdl_tree.specs.View as view
+use Rattle.vhdl_names_types.specs.Views.{sight_view}
+use Rattle.vhdl_names_units.specs.views.Declarations.{all_generics_view}
+use Rattle.vhdl_names_problems.specs.Broken.{Tells}
+use Rattle.vhdl_names_problems.specs.Interfaces as broken
+use Rattle.vhdl_names_interfaces.proofs.Interfacing.{generics_told, ports_told}
+use Rattle.vhdl_names_interfaces.proofs.interface.interface_of.Goals as goal
+
+pub returns-in_err-generics-clause-told : goal.returns-in_err-generics-clause-told
+returns-in_err-generics-clause-told c =
+    let s = sight_view c.args.sight.now in
+    let gs = view.option_generics_view c.args.generics.now in
+    let ps = view.option_ports_view c.args.ports.now in
+    let f : Tells (broken.interface (sight_view c.args.sight.now) (view.option_generics_view c.args.generics.now) (view.option_ports_view c.args.ports.now)) c.in_err-generics.field-0.0 =
+    generics_told s gs ps c.in_err-generics.field-0.0 c.requires c.in_err-generics.ensures.told in
+    first_of (search rules, grind (arith, common_steps))
+
+pub returns-in_err-ports-clause-told : goal.returns-in_err-ports-clause-told
+returns-in_err-ports-clause-told c =
+    let s = sight_view c.args.sight.now in
+    let gs = view.option_generics_view c.args.generics.now in
+    let ps = view.option_ports_view c.args.ports.now in
+    let f : Tells (broken.interface (sight_view c.args.sight.now) (view.option_generics_view c.args.generics.now) (view.option_ports_view c.args.ports.now)) c.in_err-ports.field-0.0 =
+    ports_told s (sight_view c.generics_if_any.new.sight) gs ps (all_generics_view c.in_ok-generics.generics) c.in_err-ports.field-0.0 c.requires c.in_ok-generics.ensures.given c.in_err-ports.ensures.told in
+    first_of (search rules, grind (arith, common_steps))

@@ -1,0 +1,14 @@
+-- A file that breaks no rule is well typed.
+pub mod Giving
+pub mod Expressions
+pub mod Values
+pub mod Choices
+pub mod Statements
+pub mod Declarations
+pub mod Named
+pub mod Interfaces
+pub mod Associations
+pub mod Instances
+pub mod Concurrent
+pub mod Architectures
+pub mod Files

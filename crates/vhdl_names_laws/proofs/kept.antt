@@ -1,0 +1,14 @@
+-- A well-typed file breaks no rule.
+pub mod Keeping
+pub mod Names
+pub mod Expressions
+pub mod Values
+pub mod Choices
+pub mod Statements
+pub mod Declarations
+pub mod Interfaces
+pub mod Associations
+pub mod Instances
+pub mod Concurrent
+pub mod Architectures
+pub mod Files

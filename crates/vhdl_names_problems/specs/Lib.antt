@@ -1,0 +1,11 @@
+pub mod Broken
+pub mod Missing
+pub mod Expressions
+pub mod Subtypes
+pub mod Choices
+pub mod Statements
+pub mod Declarations
+pub mod Interfaces
+pub mod Instances
+pub mod Concurrent
+pub mod Files
