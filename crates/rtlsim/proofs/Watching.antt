@@ -10,7 +10,7 @@ use Rattle.rtlsim.specs.Served.{ServesBy, ServesEvents, ServesLevels, ServesMach
 use Rattle.rtlsim.specs.Sinks.{Sinks, ShowsIf}
 use Rattle.rtlsim_commands.specs.Served.{Outputs, Serves}
 use Rattle.rtlsim_commands.specs.Told.{Done}
-use Rattle.rtlsim_commands.specs.Watched.{IfWhole, OfEvents, OfMachine, Watched}
+use Rattle.rtlsim_on_net.specs.Watched.{IfWhole, OfEvents, OfMachine, Watched}
 use Rattle.rtlsim_faults.specs.declared.faults.Fault.{Fault}
 use Rattle.rtlsim_faults.specs.declared.faults.Fault.TheVariants.{Differs}
 use Rattle.rtlsim_faults.specs.declared.status.Status.{Status}
@@ -65,16 +65,13 @@ module _ {P Q : List Stand → Type 0} (f : (stands : List Stand) → P stands �
 
   module _ (telling : Telling) (source top : List ℕ) (outcome : Status) (o : Outputs) where
     serves_machine : (text : List ℕ) (expected : Option (List ℕ)) → ServesMachine telling source top outcome o P text expected → ServesMachine telling source top outcome o Q text expected
-    serves_machine text None s = serves_more (machine_more text) s
-    serves_machine text (Some expected) s = serves_more (machine_more text) s
+    serves_machine text expected s = serves_more (machine_more text) s
 
     serves_events : (text : List ℕ) (expected : Option (List ℕ)) → ServesEvents telling source top outcome o P text expected → ServesEvents telling source top outcome o Q text expected
-    serves_events text None s = serves_more (events_more text) s
-    serves_events text (Some expected) s = serves_more (events_more text) s
+    serves_events text expected s = serves_more (events_more text) s
 
     serves_levels : (text : List ℕ) (expected : Option (List ℕ)) → ServesLevels telling source top outcome o P text expected → ServesLevels telling source top outcome o Q text expected
-    serves_levels text None s = serves_more (machine_more text) s
-    serves_levels text (Some expected) s = serves_more (machine_more text) s
+    serves_levels text expected s = serves_more (machine_more text) s
 
     -- this holds of what was seen, and so that does
     pub serves_by : (request : Request) (sets : List (List ℕ)) (text : List ℕ) (expected : Option (List ℕ))

@@ -3,13 +3,15 @@ use Rattle.std.specs.Prelude.{◌≡◌, ℕ, Bool, true, false, List, Option, S
 use Rattle.rtlsim.specs.Requests.{TextsView, set_form, sets_of, stimulus_of, top_of}
 use Rattle.rtl_watch.specs.Stands.{Stand}
 use Rattle.rtlsim.specs.Sinks.{Sinks, IsSilent, ShowsIf, outputs}
-use Rattle.rtlsim_commands.specs.Expected.{RunsEventsExpecting, RunsMachineByLevelsExpecting, RunsMachineExpecting}
-use Rattle.rtlsim_commands.specs.Listed.{ListsNet, ChecksNetJson, ChecksNetTold, DrawsNetTold}
-use Rattle.rtlsim_commands.specs.Machine.{RunsMachine, RunsMachineByLevels, EvaluatesMachine}
+use Rattle.rtlsim_on_net.specs.Expected.{Comparing}
+use Rattle.rtlsim_on_net.specs.Listed.{ListsNet, ChecksNetJson, ChecksNetTold, DrawsNetTold}
+use Rattle.rtlsim_on_net.specs.Machine.{RunsMachine, RunsMachineByLevels, EvaluatesMachine}
 use Rattle.rtlsim_commands.specs.Served.{Outputs, Serves as ServesSource}
-use Rattle.rtlsim_commands.specs.Simulated.{RunsEvents}
+use Rattle.rtlsim_on_net.specs.Sights.{machine}
+use Rattle.rtlsim_on_net.specs.Sights as by
+use Rattle.rtlsim_on_net.specs.Simulated.{RunsEvents}
 use Rattle.rtlsim_commands.specs.Told.{quiet, verdict, summary, events, levels}
-use Rattle.rtlsim_commands.specs.Watched.{OfEvents, OfMachine, Watched}
+use Rattle.rtlsim_on_net.specs.Watched.{OfEvents, OfMachine, Watched}
 use Rattle.rtlsim_faults.specs.declared.status.Status.{Status}
 use Rattle.rtlsim_faults.specs.declared.telling.Telling.{Telling}
 use Rattle.rtlsim_files.specs.Files.{file_view, joined}
@@ -28,16 +30,13 @@ module _ (telling : Telling) (source top : List ℕ) (outcome : Status) (o : Out
   -- A run under the text of a stimulus, compared with what is expected if that is given. This holds of what is seen of it where it writes the
   -- whole trace. No order of processes counts
   abbrev pub ServesMachine : (text : List ℕ) → (expected : Option (List ℕ)) → Type 0
-  ServesMachine text None = ServesSource (Watched (RunsMachine text) (OfMachine text Holds)) summary telling source top outcome o
-  ServesMachine text (Some expected) = ServesSource (Watched (RunsMachineExpecting text expected) (OfMachine text Holds)) summary telling source top outcome o
+  ServesMachine text expected = ServesSource (Watched (Comparing (machine text) (RunsMachine text) expected) (OfMachine text Holds)) summary telling source top outcome o
 
   abbrev pub ServesEvents : (text : List ℕ) → (expected : Option (List ℕ)) → Type 0
-  ServesEvents text None = ServesSource (Watched (RunsEvents text) (OfEvents text Holds)) (events text) telling source top outcome o
-  ServesEvents text (Some expected) = ServesSource (Watched (RunsEventsExpecting text expected) (OfEvents text Holds)) (events text) telling source top outcome o
+  ServesEvents text expected = ServesSource (Watched (Comparing (by.events text) (RunsEvents text) expected) (OfEvents text Holds)) (events text) telling source top outcome o
 
   abbrev pub ServesLevels : (text : List ℕ) → (expected : Option (List ℕ)) → Type 0
-  ServesLevels text None = ServesSource (Watched (RunsMachineByLevels text) (OfMachine text Holds)) levels telling source top outcome o
-  ServesLevels text (Some expected) = ServesSource (Watched (RunsMachineByLevelsExpecting text expected) (OfMachine text Holds)) levels telling source top outcome o
+  ServesLevels text expected = ServesSource (Watched (Comparing (machine text) (RunsMachineByLevels text) expected) (OfMachine text Holds)) levels telling source top outcome o
 
   -- by events alone where `is_event` says so
   abbrev pub ServesRun : (is_event : Bool) → (text : List ℕ) → (expected : Option (List ℕ)) → Type 0

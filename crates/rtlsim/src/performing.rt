@@ -14,15 +14,13 @@ use crate::job::Job;
 use crate::prepared::prepare;
 use crate::refusals::refuse_input;
 use crate::requests::{stimulus_of, top_of};
-use crate::simulating::{simulate, simulate_levels};
+use crate::simulating::{serve_job, simulate, simulate_levels};
 use crate::texts::Texts;
 use crate::unread::ReadFault;
 use rtl_progress::{Progress, stop_of};
 use rtl_sink::Sink;
 use rtl_watch::{Unwatched, Watch};
-use rtlsim_commands::{
-    Front, Status, Telling, serve_check, serve_check_dot, serve_check_json, serve_eval, serve_net,
-};
+use rtlsim_commands::{CheckNet, DescribeNet, DrawNet, EvalNet, Front, ListNet, Status, Telling};
 use rtlsim_words::{Call, Request};
 use std::alloc::Global;
 
@@ -122,15 +120,32 @@ fn perform_job<F: Front, V: Watch, O: Sink, E: Sink>(
         (λ stands. V.told watch.old stands watch.new)
         request.now (map (λ set. set.now) job.now.sets.now) job.now.stimulus.now (option_map (λ text. text.now) job.now.expected) }
 {
-    let (source, top, telling) = (job.source, job.top, job.telling);
+    let telling = job.telling;
     match request {
         Request::Eval { .. } => {
-            serve_eval::<F, _, _>(alloc, source, top, telling, job.sets, out, err)
+            let mut command = EvalNet { sets: job.sets };
+            serve_job::<F, _, _, _, _>(alloc, &mut command, job, watch, out, err)
         }
-        Request::Net { .. } => serve_net::<F, _, _>(alloc, source, top, telling, out, err),
-        Request::Check { .. } => serve_check::<F, _, _>(alloc, source, top, telling, out, err),
-        Request::Dot { .. } => serve_check_dot::<F, _, _>(alloc, source, top, telling, out, err),
-        Request::Json { .. } => serve_check_json::<F, _, _>(alloc, source, top, telling, out, err),
+        Request::Net { .. } => serve_job::<F, _, _, _, _>(
+            alloc,
+            &mut ListNet,
+            job,
+            watch,
+            out,
+            err,
+        ),
+        Request::Check { .. } => {
+            let mut command = CheckNet { telling };
+            serve_job::<F, _, _, _, _>(alloc, &mut command, job, watch, out, err)
+        }
+        Request::Dot { .. } => {
+            let mut command = DrawNet { telling };
+            serve_job::<F, _, _, _, _>(alloc, &mut command, job, watch, out, err)
+        }
+        Request::Json { .. } => {
+            let mut command = DescribeNet { telling };
+            serve_job::<F, _, _, _, _>(alloc, &mut command, job, watch, out, err)
+        }
         Request::Run {
             is_event,
             order,

@@ -2,14 +2,16 @@
 
 ghost use Rattle.std.specs.Prelude.{option_map};
 ghost use Rattle.rtl_sink.specs.Written.{IsIntact};
-ghost use Rattle.rtlsim.specs.Served.{ServesEvents, ServesLevels, ServesMachine, ServesRun};
+ghost use Rattle.rtlsim_commands.specs.Served.{Serves};
+ghost use Rattle.rtlsim_on_net.specs.Sights.{Seeing, events_of};
+ghost use Rattle.rtlsim.specs.Served.{ServesLevels, ServesRun};
 
 use crate::job::Job;
 use rtl_sink::Sink;
 use rtl_watch::Watch;
 use rtlsim_commands::{
-    Forward, Front, Pick, Reverse, Status, serve_run, serve_run_event, serve_run_event_expecting,
-    serve_run_expecting, serve_run_levels, serve_run_levels_expecting,
+    Command, Compared, Forward, Front, Pick, Reverse, RunEvents, RunLevels, RunMachine, Status,
+    serve,
 };
 use rtlsim_words::Order;
 use std::alloc::Global;
@@ -56,62 +58,13 @@ fn simulate_by<F: Front, P: Pick, V: Watch, O: Sink, E: Sink>(
         (record { out = O.state out.old; out_after = O.state out.new; err = E.state err.old; err_after = E.state err.new })
         (λ stands. V.told watch.old stands watch.new) is_event job.now.stimulus.now (option_map (λ text. text.now) job.now.expected) }
 {
+    let (stimulus, expected) = (job.stimulus, job.expected);
     if is_event {
-        simulate_events::<F, _, _, _, _>(alloc, pick, job, watch, out, err)
+        let run = RunEvents { stimulus, pick };
+        serve_job::<F, _, _, _, _>(alloc, &mut Compared { run, expected }, job, watch, out, err)
     } else {
-        simulate_machine::<F, _, _, _, _>(alloc, pick, job, watch, out, err)
-    }
-}
-
-/// Runs a source by events, compared with what is expected if that is given.
-fn simulate_events<F: Front, P: Pick, V: Watch, O: Sink, E: Sink>(
-    alloc: Global,
-    pick: &mut P,
-    job: &Job<'_>,
-    watch: &mut V,
-    out: &mut O,
-    err: &mut E,
-) -> Status
-    requires out { IsIntact (O.state out.old) }
-    requires err { IsIntact (E.state err.old) }
-    ensures { ServesEvents job.now.telling.now job.now.source.now job.now.top.now result
-        (record { out = O.state out.old; out_after = O.state out.new; err = E.state err.old; err_after = E.state err.new })
-        (λ stands. V.told watch.old stands watch.new) job.now.stimulus.now (option_map (λ text. text.now) job.now.expected) }
-{
-    let (source, top, telling, stimulus) = (job.source, job.top, job.telling, job.stimulus);
-    match job.expected {
-        None => serve_run_event::<F, _, _, _, _>(
-            alloc, source, top, telling, stimulus, pick, watch, out, err,
-        ),
-        Some(expected) => serve_run_event_expecting::<F, _, _, _, _>(
-            alloc, source, top, telling, stimulus, expected, pick, watch, out, err,
-        ),
-    }
-}
-
-/// Runs a source as a synchronous machine, compared with what is expected if that is given.
-fn simulate_machine<F: Front, P: Pick, V: Watch, O: Sink, E: Sink>(
-    alloc: Global,
-    pick: &mut P,
-    job: &Job<'_>,
-    watch: &mut V,
-    out: &mut O,
-    err: &mut E,
-) -> Status
-    requires out { IsIntact (O.state out.old) }
-    requires err { IsIntact (E.state err.old) }
-    ensures { ServesMachine job.now.telling.now job.now.source.now job.now.top.now result
-        (record { out = O.state out.old; out_after = O.state out.new; err = E.state err.old; err_after = E.state err.new })
-        (λ stands. V.told watch.old stands watch.new) job.now.stimulus.now (option_map (λ text. text.now) job.now.expected) }
-{
-    let (source, top, telling, stimulus) = (job.source, job.top, job.telling, job.stimulus);
-    match job.expected {
-        None => serve_run::<F, _, _, _, _>(
-            alloc, source, top, telling, stimulus, pick, watch, out, err,
-        ),
-        Some(expected) => serve_run_expecting::<F, _, _, _, _>(
-            alloc, source, top, telling, stimulus, expected, pick, watch, out, err,
-        ),
+        let run = RunMachine { stimulus, pick };
+        serve_job::<F, _, _, _, _>(alloc, &mut Compared { run, expected }, job, watch, out, err)
     }
 }
 
@@ -129,13 +82,26 @@ pub(crate) fn simulate_levels<F: Front, V: Watch, O: Sink, E: Sink>(
         (record { out = O.state out.old; out_after = O.state out.new; err = E.state err.old; err_after = E.state err.new })
         (λ stands. V.told watch.old stands watch.new) job.now.stimulus.now (option_map (λ text. text.now) job.now.expected) }
 {
-    let (source, top, telling, stimulus) = (job.source, job.top, job.telling, job.stimulus);
-    match job.expected {
-        None => serve_run_levels::<F, _, _, _>(
-            alloc, source, top, telling, stimulus, watch, out, err,
-        ),
-        Some(expected) => serve_run_levels_expecting::<F, _, _, _>(
-            alloc, source, top, telling, stimulus, expected, watch, out, err,
-        ),
-    }
+    let (stimulus, expected) = (job.stimulus, job.expected);
+    let run = RunLevels { stimulus };
+    serve_job::<F, _, _, _, _>(alloc, &mut Compared { run, expected }, job, watch, out, err)
+}
+
+/// Does a command on the source of a job, while this watch looks on, and tells what it answers.
+pub(crate) fn serve_job<F: Front, C: Command, V: Watch, O: Sink, E: Sink>(
+    alloc: Global,
+    command: &mut C,
+    job: &Job<'_>,
+    watch: &mut V,
+    out: &mut O,
+    err: &mut E,
+) -> Status
+    requires out { IsIntact (O.state out.old) }
+    requires err { IsIntact (E.state err.old) }
+    ensures { Serves (Seeing (C.sight command.old) (C.does command.old) (λ stands. V.told watch.old stands watch.new))
+        (record { text = C.Answer.text; status = C.Answer.said; events = events_of (C.sight command.old) }) job.now.telling.now job.now.source.now job.now.top.now result
+        (record { out = O.state out.old; out_after = O.state out.new; err = E.state err.old; err_after = E.state err.new }) }
+{
+    let (source, top, telling) = (job.source, job.top, job.telling);
+    serve::<F, _, _, _, _>(alloc, source, top, telling, command, watch, out, err)
 }

@@ -1,5 +1,5 @@
 -- What is told of an answer.
-use Rattle.std.proofs.Common.{◌≡◌, ℕ, List, [], length, Option, None, Result, Ok, Err, inl, inr, refl, sym, subst, ◌∙◌, true≢false}
+use Rattle.std.proofs.Common.{◌≡◌, ℕ, List, [], length, Option, Result, Ok, Err, inl, inr, refl, sym, subst, ◌∙◌, true≢false}
 use Rattle.rtlsim_faults.specs.Faults.{of_source, status_of}
 use Rattle.rtlsim_faults.specs.Places.{IsTold}
 use Rattle.rtlsim_faults.specs.Told.{TellsFault}
@@ -10,7 +10,8 @@ use Rattle.rtlsim_faults.specs.declared.status.Status.{Status}
 use Rattle.rtlsim_faults.proofs.Refused.{nameless, source_told}
 use Rattle.rtlsim_commands.specs.Refused.{RefusesSource}
 use Rattle.rtlsim_commands.specs.Served.{Outputs, Serves, ended}
-use Rattle.rtlsim_commands.specs.Told.{Done, TellsText, TellsNets, TellsOthers, TellsBehind, first_of}
+use Rattle.rtlsim_on_net.specs.Answered.{TellsText}
+use Rattle.rtlsim_commands.specs.Told.{Done, TellsNets, TellsOthers, TellsBehind, first_of}
 use Rattle.rtlsim_commands.specs.Unsettled.{TellsChanging}
 use Rattle.rtl_net.specs.Nets.{NetlistView}
 use Rattle.rtl_sink.specs.Written.{SinkState}
@@ -91,10 +92,3 @@ module _ {A : Type 0} (Does : NetlistView → Result A Fault → SinkState → S
     told = (net, (λ named. is), between, tells, behind_nets done.events telling source top fault between o.err_after (net, is, behind));
     ends = ends;
   }
-
-  -- behind which nothing is told
-  pub serves_faulty : (net : NetlistView) (fault : Fault) → IsNetOf source top net → Does net (Err fault) o.out o.out_after → IsTold (length source) fault → done.events ≡ None
-      → (said : Status) × TellsFault telling net fault o.err o.err_after said × (outcome ≡ ended said o.out_after o.err_after) → Serves Does done telling source top outcome o
-  serves_faulty net fault is does placed none tells =
-      serves_told net (Err fault) fault refl is does placed tells.0 o.err_after tells.1
-      (subst (λ (events : Option (List ℕ)). TellsChanging events telling.explains net fault o.err_after o.err_after) (sym none) refl) tells.2

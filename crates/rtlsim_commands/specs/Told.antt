@@ -1,5 +1,5 @@
 -- What is told of a command's answer on the standard error, and the status that the program ends with.
-use Rattle.std.specs.Prelude.{◌≡◌, ◌⊎◌, ℕ, Bool, true, false, if◌then◌else◌, List, [], ◌∷◌, Option, Some, None, Result, Ok, Err}
+use Rattle.std.specs.Prelude.{◌≡◌, ◌⊎◌, ℕ, Bool, true, if◌then◌else◌, List, [], Option, Some, None, Result, Ok, Err}
 use Rattle.rtlsim_faults.specs.Faults.{has_names}
 use Rattle.rtlsim_faults.specs.Told.{TellsFault, summary_line, levels_line}
 use Rattle.rtlsim_faults.specs.declared.faults.Fault.{Fault}
@@ -8,22 +8,18 @@ use Rattle.rtlsim_faults.specs.declared.status.Status.{Status}
 use Rattle.rtlsim_faults.specs.declared.status.Status.TheVariants as status
 use Rattle.rtlsim_faults.specs.declared.telling.Telling.{Telling}
 use Rattle.rtlsim_name_faults.specs.Further.{TellsFurther}
+use Rattle.rtlsim_on_net.specs.Answered.{TellsText, verdict_status}
 use Rattle.rtlsim_commands.specs.Unsettled.{TellsChanging}
 use Rattle.rtl_levelized.specs.declared.summary.LevelSummary.{LevelSummary}
 use Rattle.rtl_net.specs.Nets.{NetlistView}
 use Rattle.rtl_run.specs.declared.summary.Summary.{Summary}
-use Rattle.rtl_sink.specs.Written.{SinkState, Goes}
+use Rattle.rtl_sink.specs.Written.{SinkState}
 use Rattle.vhdl_names_rules.specs.declared.fault.NameFault.{NameFault}
 use Rattle.vhdl_source_rules.specs.Designs.{IsNetOf}
 
 -- a fault whose lines have names is one of the source's net
 abbrev pub HasNet : (source top : List ℕ) → Fault → NetlistView → Type 0
 HasNet source top fault net = has_names fault ≡ true → IsNetOf source top net
-
--- the text is told, and where there is none, nothing is done
-abbrev pub TellsText : (text : List ℕ) → (old new : SinkState) → Type 0
-TellsText [] old new = new ≡ old
-TellsText (byte ∷ bytes) old new = Goes old new (byte ∷ bytes)
 
 -- what is told where a command has done its work, and its status then
 pub record Done (A : Type 0) : Type 0 where
@@ -63,10 +59,6 @@ Tells done telling source top (Err fault) old new outcome =
 
 abbrev pub quiet : Done (Unit {0})
 quiet = record { text = λ x. []; status = λ x. status.Done; events = None }
-
-abbrev pub verdict_status : Bool → Status
-verdict_status true = status.Done
-verdict_status false = status.Rejected
 
 abbrev pub verdict : Done Bool
 verdict = record { text = λ yes. []; status = verdict_status; events = None }

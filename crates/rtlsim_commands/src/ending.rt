@@ -1,21 +1,16 @@
 //! What is told of an answer, and the status that a command ends with.
 
 ghost use Rattle.std.specs.Prelude.{◌≡◌};
-ghost use Rattle.rtl_sink.specs.Written.{IsIntact, Goes};
+ghost use Rattle.rtl_sink.specs.Written.{IsIntact};
 ghost use Rattle.rtlsim_faults.specs.Faults.{of_source, status_of};
-ghost use Rattle.rtlsim_faults.specs.Told.{TellsFault, summary_line, levels_line};
 ghost use Rattle.rtlsim_commands.specs.Refused.{RefusesSource};
 ghost use Rattle.rtlsim_commands.specs.Served.{ended};
 ghost use Rattle.rtlsim_commands.specs.Told as told;
 ghost use Rattle.rtlsim_commands.specs.Unsettled.{NamesIf, TellsRun};
 
-use rtl_levelized::LevelSummary;
 use rtl_net::Net;
-use rtl_run::Summary;
 use rtl_sink::Sink;
-use rtlsim_faults::{
-    Fault, Status, Telling, tell_changing, tell_fault, tell_levels, tell_source_fault, tell_summary,
-};
+use rtlsim_faults::{Fault, Status, Telling, tell_changing, tell_fault, tell_source_fault};
 use rtlsim_name_faults::push_further_faults;
 use std::alloc::Global;
 use vhdl_names_rules::NameFault;
@@ -66,26 +61,9 @@ fn first_of(fault: SourceFault, explains: bool) -> Option<NameFault>
     }
 }
 
-/// Tells a fault of a netlist with its names, and answers the status.
+/// Tells a fault of a netlist with its names, and below its explanation the nets of these numbers where a moment doesn't settle, and answers
+/// the status.
 pub(crate) fn refuse_net<O: Sink, E: Sink>(
-    alloc: Global,
-    telling: &Telling<'_>,
-    net: &Net,
-    fault: &Fault,
-    out: &O,
-    err: &mut E,
-) -> Status
-    requires { IsIntact (E.state err.old) }
-    ensures { (said : Status) × TellsFault telling.now net.now fault.now (E.state err.old) (E.state err.new) said
-        × (result ≡ ended said (O.state out.now) (E.state err.new)) }
-{
-    let said = tell_fault(alloc, telling, net, fault, err);
-    ended_by_writes(said, out, err)
-}
-
-/// Tells a fault of a run by events with its names, and below its explanation the nets of these numbers where a moment doesn't settle, and
-/// answers the status.
-pub(crate) fn refuse_run<O: Sink, E: Sink>(
     alloc: Global,
     telling: &Telling<'_>,
     net: &Net,
@@ -120,24 +98,6 @@ fn tell_behind<E: Sink>(
     if let Fault::NoSettling { .. } = fault {
         let _whole = tell_changing(alloc, net, changing, err);
     }
-}
-
-/// Tells the numbers of a run that is done, and answers the status.
-pub(crate) fn end_run<O: Sink, E: Sink>(summary: Summary, out: &O, err: &mut E) -> Status
-    ensures told { Goes (E.state err.old) (E.state err.new) (summary_line summary) }
-    ensures status { result ≡ ended Status.Done (O.state out.now) (E.state err.new) }
-{
-    tell_summary(summary, err);
-    ended_by_writes(Status::Done, out, err)
-}
-
-/// Tells the numbers of a run by levels that is done, and answers the status.
-pub(crate) fn end_levels<O: Sink, E: Sink>(summary: LevelSummary, out: &O, err: &mut E) -> Status
-    ensures told { Goes (E.state err.old) (E.state err.new) (levels_line summary) }
-    ensures status { result ≡ ended Status.Done (O.state out.now) (E.state err.new) }
-{
-    tell_levels(summary, err);
-    ended_by_writes(Status::Done, out, err)
 }
 
 /// The status, where no write failed.

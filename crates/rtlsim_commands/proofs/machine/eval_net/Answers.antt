@@ -1,9 +1,0 @@
-use Rattle.std.proofs.Common.{Ok, Err, refl, ap}
-use Rattle.rtlsim_faults.specs.declared.faults.Fault.{Fault}
-use Rattle.rtlsim_commands.proofs.machine.eval_net.Goals as goal
-
-pub returns-in-Ok : goal.returns-in-Ok
-returns-in-Ok g c = (Ok tt, refl, c.in-Ok.ensures)
-
-pub returns-in-Err : goal.returns-in-Err
-returns-in-Err g c = (Err c.in-Err.fault, ap (λ (f : Fault). Err f) c.from.ensures, c.in-Err.ensures)

@@ -1,0 +1,204 @@
+//! Commands on a source, without what is told of them.
+
+ghost use Rattle.std.specs.Prelude.{IfErr, length, map};
+ghost use Rattle.rtl_sink.specs.Written.{IsIntact};
+ghost use Rattle.rtlsim_faults.specs.Places.{IsTold};
+ghost use Rattle.rtlsim_on_net.specs.Listed.{ListsNet, ChecksNet, DrawsNet};
+ghost use Rattle.rtlsim_on_net.specs.Machine.{RunsMachine, RunsMachineByLevels, EvaluatesMachine};
+ghost use Rattle.rtlsim_on_net.specs.Simulated.{RunsEvents};
+ghost use Rattle.rtlsim_commands.specs.Opened.{Opens};
+
+use rtl_kernel::Pick;
+use rtl_levelized::LevelSummary;
+use rtl_run::Summary;
+use rtl_sink::Sink;
+use rtl_watch::Unwatched;
+use rtlsim_faults::Fault;
+use rtlsim_on_net::{
+    Command, EvalNet, ListNet, RunEvents, RunLevels, RunMachine, check_net, check_net_dot,
+};
+use std::alloc::Global;
+use vhdl_source_rules::Front;
+
+/// Opens a source, and does a command on its netlist: `source` has the bytes of the file, `top` the name of an entity in it, in letters of
+/// either case. It takes memory for the source's net, and what the command takes.
+///
+/// # Errors
+///
+/// - `Lex`, `Syntax`, `Name`, `Elab`: the source is refused, and nothing was written.
+/// - Else as the command.
+pub fn on_source<F: Front, C: Command, S: Sink>(
+    alloc: Global,
+    source: &[u8],
+    top: &[u8],
+    command: &mut C,
+    out: &mut S,
+) -> Result<C::Answer, Fault>
+    requires intact { IsIntact (S.state out.old) }
+    ensures does { Opens (C.does command.old) source.now top.now result (S.state out.old) (S.state out.new) }
+    ensures told { IfErr result (IsTold (length source.now)) }
+{
+    let net = F::open(alloc, source, top)?;
+    command.on_net(alloc, &net, &mut Unwatched, out)
+}
+
+// Writes the lines of the netlist of a source: `source` has the bytes of the file, `top` the name of an entity in it, in letters of
+/// either case. It takes memory for the source's net, and then for one name at a time.
+///
+/// # Errors
+///
+/// - `Lex`, `Syntax`, `Name`, `Elab`: the source is refused, and nothing was written.
+/// - `Memory`: memory was refused. `Output`: `out` failed. In both a beginning of the lines was written.
+pub fn show_net<F: Front, S: Sink>(
+    alloc: Global,
+    source: &[u8],
+    top: &[u8],
+    out: &mut S,
+) -> Result<(), Fault>
+    requires intact { IsIntact (S.state out.old) }
+    ensures lists { Opens ListsNet source.now top.now result (S.state out.old) (S.state out.new) }
+    ensures told { IfErr result (IsTold (length source.now)) }
+{
+    on_source::<F, _, S>(alloc, source, top, &mut ListNet, out)
+}
+
+/// Checks the netlist of a source, writes the lines of the verdict, and answers whether it is yes: `source` has the bytes of the file,
+/// `top` the name of an entity in it, in letters of either case. It takes memory for the source's net, and in proportion to it.
+///
+/// # Errors
+///
+/// - `Lex`, `Syntax`, `Name`, `Elab`: the source is refused, and nothing was written.
+/// - `Memory`: memory was refused. `Output`: `out` failed. In both a beginning of the lines was written.
+pub fn show_check<F: Front, S: Sink>(
+    alloc: Global,
+    source: &[u8],
+    top: &[u8],
+    out: &mut S,
+) -> Result<bool, Fault>
+    requires intact { IsIntact (S.state out.old) }
+    ensures checks { Opens ChecksNet source.now top.now result (S.state out.old) (S.state out.new) }
+    ensures told { IfErr result (IsTold (length source.now)) }
+{
+    let net = F::open(alloc, source, top)?;
+    check_net(alloc, &net, out)
+}
+
+/// Checks the netlist of a source, draws its levels where the verdict is yes and writes its lines else, and answers whether it is yes: as
+/// `show_check` does, but for the graph.
+///
+/// # Errors
+///
+/// As `show_check`.
+pub fn show_check_dot<F: Front, S: Sink>(
+    alloc: Global,
+    source: &[u8],
+    top: &[u8],
+    out: &mut S,
+) -> Result<bool, Fault>
+    requires intact { IsIntact (S.state out.old) }
+    ensures checks { Opens DrawsNet source.now top.now result (S.state out.old) (S.state out.new) }
+    ensures told { IfErr result (IsTold (length source.now)) }
+{
+    let net = F::open(alloc, source, top)?;
+    check_net_dot(alloc, &net, out)
+}
+
+/// Simulates the netlist of a source under a stimulus, where the checker accepts the net and the stimulus has no race, and writes the
+/// trace: that of the synchronous machine. `source` has the bytes of the file, `top` the name of an entity in it, in letters of
+/// either case, `stimulus` the lines of the stimulus, with times in ns; `pick` chooses the order of processes within a cycle. It
+/// answers the number of moments and the greatest number of delta cycles of one, which is the checker's bound at most. It takes
+/// memory for the source's net, for the stimulus and for the values of the nets.
+///
+/// # Errors
+///
+/// - `Lex`, `Syntax`, `Name`, `Elab`: the source is refused. `Rejected`: the checker says no, with all faults. `Stim`: a line of
+///   the stimulus is refused, none says when to stop, or there is a race. Nothing is written till here.
+/// - `Memory`: memory was refused. `Output`: `out` failed. In both a beginning of the trace was written.
+pub fn run<F: Front, P: Pick, S: Sink>(
+    alloc: Global,
+    source: &[u8],
+    top: &[u8],
+    stimulus: &[u8],
+    pick: &mut P,
+    out: &mut S,
+) -> Result<Summary, Fault>
+    requires intact { IsIntact (S.state out.old) }
+    ensures runs { Opens (RunsMachine stimulus.now) source.now top.now result (S.state out.old) (S.state out.new) }
+    ensures told { IfErr result (IsTold (length source.now)) }
+{
+    on_source::<F, _, S>(alloc, source, top, &mut RunMachine { stimulus, pick }, out)
+}
+
+/// Simulates the netlist of a source under a stimulus, where `run` does, and writes the trace that it writes: at each moment the clocked
+/// processes that an input wakes run once, and then the combinational ones in order of level. `source` has the bytes of the file,
+/// `top` the name of an entity in it, in letters of either case, `stimulus` the lines of the stimulus, with times in ns. It answers
+/// the number of moments, and the checker's bound. It takes memory for the source's net, for the stimulus and for the values of the
+/// nets.
+///
+/// # Errors
+///
+/// As `run`.
+pub fn run_levels<F: Front, S: Sink>(
+    alloc: Global,
+    source: &[u8],
+    top: &[u8],
+    stimulus: &[u8],
+    out: &mut S,
+) -> Result<LevelSummary, Fault>
+    requires intact { IsIntact (S.state out.old) }
+    ensures runs { Opens (RunsMachineByLevels stimulus.now) source.now top.now result (S.state out.old) (S.state out.new) }
+    ensures told { IfErr result (IsTold (length source.now)) }
+{
+    on_source::<F, _, S>(alloc, source, top, &mut RunLevels { stimulus }, out)
+}
+
+/// Simulates the netlist of a source under a stimulus, by events, and writes the trace: `source` has the bytes of the file, `top` the
+/// name of an entity in it, in letters of either case, `stimulus` the lines of the stimulus, with times in ns; `pick` chooses the
+/// order of processes within a cycle. It answers the number of moments and the greatest number of delta cycles of one, each of
+/// which takes 1,000 at most. Neither checker nor races are asked. It takes memory for the source's net, for the stimulus and for
+/// the values of the nets.
+///
+/// # Errors
+///
+/// - `Lex`, `Syntax`, `Name`, `Elab`: the source is refused. `Rejected`: processes read variables that they haven't assigned
+///   in the same run, all of which are listed. `Stim`: a line of the stimulus is refused, or none says when to stop. Nothing is
+///   written till here.
+/// - `NoSettling`: the first moment that doesn't settle; the trace of those before it was written (at 0, its header).
+/// - `Memory`: memory was refused. `Output`: `out` failed. In both a beginning of the trace was written.
+pub fn run_event<F: Front, P: Pick, S: Sink>(
+    alloc: Global,
+    source: &[u8],
+    top: &[u8],
+    stimulus: &[u8],
+    pick: &mut P,
+    out: &mut S,
+) -> Result<Summary, Fault>
+    requires intact { IsIntact (S.state out.old) }
+    ensures runs { Opens (RunsEvents stimulus.now) source.now top.now result (S.state out.old) (S.state out.new) }
+    ensures told { IfErr result (IsTold (length source.now)) }
+{
+    on_source::<F, _, S>(alloc, source, top, &mut RunEvents { stimulus, pick }, out)
+}
+
+/// Writes, for each out port of the top in order of declaration, the line `NAME=VALUE` with its value once the netlist of the source
+/// has settled under these inputs: `source` has the bytes of the file, `top` the name of an entity in it, in letters of either
+/// case, and each of `sets` is a text NAME=VALUE. It takes memory for the source's net and for the values of the nets.
+///
+/// # Errors
+///
+/// - `Lex`, `Syntax`, `Name`, `Elab`: the source is refused. `Rejected`: the checker says no, with all faults. `Stim`: a text
+///   NAME=VALUE is refused, told by its place, from 1. Nothing is written till here.
+/// - `Memory`: memory was refused. `Output`: `out` failed. In both a beginning of the lines was written.
+pub fn eval<F: Front, S: Sink>(
+    alloc: Global,
+    source: &[u8],
+    top: &[u8],
+    sets: &[&[u8]],
+    out: &mut S,
+) -> Result<(), Fault>
+    requires intact { IsIntact (S.state out.old) }
+    ensures evaluates { Opens (EvaluatesMachine (map (λ set. set.now) sets.now)) source.now top.now result (S.state out.old) (S.state out.new) }
+    ensures told { IfErr result (IsTold (length source.now)) }
+{
+    on_source::<F, _, S>(alloc, source, top, &mut EvalNet { sets }, out)
+}
