@@ -30,8 +30,8 @@ use vhdl_names_types::{Meaning, Sight, meaning_of};
 use vhdl_names_units::Generics;
 use vhdl_tree::{Expr, Generic};
 
-/// A type of integers, whose mark is at byte `at`; another type is a TypeMismatch, another name is
-/// of WrongKind.
+/// A type of integers, whose mark is at byte `at`; another type is left out, another name is of
+/// WrongKind.
 pub fn integer_type(meaning: &Meaning, at: usize) -> Result<IntegerType, NameFault>
     ensures given { Gives (λ w. w) (as_integer_type (meaning_view meaning.now)) result }
     ensures told { IfErr result (Tells (is_of broken.integer_type_problems)) }

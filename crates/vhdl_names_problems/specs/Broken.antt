@@ -1,5 +1,5 @@
 -- Which rules a construct breaks, by the problem that each bears. A rule is looked at where what it is about is given, whatever else
--- is broken: so of two broken rules none hides the other, unless it takes away what that one is about.
+-- is broken: so of two broken rules none hides the other, unless it takes away what that one is about or has in sight.
 use Rattle.std.specs.Prelude.{◌≡◌, Bool, true, false, not, ◌&&◌, ◌||◌, List, [], ◌∷◌, Option, Some, None}
 use Rattle.vhdl_names_rules.specs.declared.fault.NameFault.{NameFault}
 use Rattle.vhdl_names_rules.specs.declared.fault.NameFault.TheVariants.{At, NoMemory}
