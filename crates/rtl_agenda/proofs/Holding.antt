@@ -9,7 +9,7 @@ use Rattle.std.proofs.lemmas.Bool.{cases_eq}
 use Rattle.slab.specs.Slab.{Slab, slab_len}
 use Rattle.rtl_agenda.specs.Agenda.{Change, IsAfter, IsOrderly, LeavesAlone, changes_at, with_change}
 use Rattle.rtl_agenda.specs.Chains.{Timed, held, chain_at, put_in, waiting_in, IsChained, IsRechained}
-use Rattle.rtl_agenda.specs.Occupied.{is_marked}
+use Rattle.rtl_agenda.specs.Occupied.{is_marked, most_slots}
 use Rattle.rtl_agenda.specs.Wheel.{IsWheel, is_filled, turned_to}
 use Rattle.rtl_agenda.specs.declared.cell.Cell.{Cell}
 use Rattle.rtl_agenda.proofs.Ordering.{orderly_with_change}
@@ -78,7 +78,7 @@ wheel_rechained cells new firsts new_firsts words new_words room more slot chain
         subst P (sym is) (at ∙ sym (ap is_filled changed.at))
     by s (inr apart) = others s apart ∙ wheel.occupied s ∙ ap is_filled (sym (changed.others s apart))
 
-pub wheel_none : (cells : Slab Cell) (firsts : List (Option ℕ)) (words : List ℕ) (slots room : ℕ) → 0 < slots → slots ≤ 65536 → length firsts ≡ slots → slots ≤ length words * 64 → ((s : ℕ) → is_marked words s ≡ false)
+pub wheel_none : (cells : Slab Cell) (firsts : List (Option ℕ)) (words : List ℕ) (slots room : ℕ) → 0 < slots → slots ≤ most_slots → length firsts ≡ slots → slots ≤ length words * 64 → ((s : ℕ) → is_marked words s ≡ false)
     → ((s : ℕ) → chain_at cells firsts s ≡ []) → slab_len cells ≡ 0 → IsWheel cells firsts words room
 wheel_none cells firsts words slots room some bounded long all free empty none = record {
   some = omega (arith, some, long);

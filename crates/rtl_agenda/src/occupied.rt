@@ -1,7 +1,7 @@
 //! Which of a row of slots are occupied.
 
 ghost use Rattle.std.specs.Prelude.{◌≡◌, ◌≢◌, ◌≤◌, ◌<◌, ◌*◌, ◌/◌, ◌-◌, ℕ, true, false, IfOk, IfSome, IfNone, length};
-ghost use Rattle.rtl_agenda.specs.Occupied.{is_marked};
+ghost use Rattle.rtl_agenda.specs.Occupied.{is_marked, most_slots};
 
 use crate::agenda::NoMemory;
 use std::alloc::Global;
@@ -16,7 +16,7 @@ pub struct Occupied {
 impl Occupied {
     /// So many slots, none occupied.
     pub fn new(alloc: Global, slots: usize) -> Result<Self, NoMemory>
-        requires { slots ≤ 65536 }
+        requires { slots ≤ most_slots }
         ensures all { IfOk result (λ o. slots ≤ length o.words.items * 64) }
         ensures none { IfOk result (λ o. (s : ℕ) → is_marked o.words.items s ≡ false) }
     {

@@ -3,6 +3,7 @@
 ghost use Rattle.std.specs.Prelude.{◌≡◌, ◌⊎◌, ◌+◌, ◌-◌, ◌%◌, ◌≤◌, ◌<◌, ℕ, [], Some, None, All, IfOk, IfSome, IsTrue, List, length, vec_capacity};
 ghost use Rattle.rtl_agenda.specs.Agenda.{IsOrderly};
 ghost use Rattle.rtl_agenda.specs.Chains.{BeginsAt, NoneIsEarlier, Timed, chain_at};
+ghost use Rattle.rtl_agenda.specs.Occupied.{most_slots};
 ghost use Rattle.rtl_agenda.specs.Wheel.{IsWheel, turned_to};
 
 use crate::agenda::{Agenda, Change, NoMemory};
@@ -25,7 +26,7 @@ impl Wheel {
     /// An agenda of so many slots, 1 to 65,536, in which no change waits and no time has been taken.
     pub fn new(alloc: Global, slots: usize) -> Result<Self, NoMemory>
         requires some { 0 < slots }
-        requires bounded { slots ≤ 65536 }
+        requires bounded { slots ≤ most_slots }
         ensures { IfOk result (λ w. ⟦<Wheel as Agenda>⟧.state w ≡ record { waiting = []; last = None; taken = [] }) }
     {
         Ok(Wheel {

@@ -13,6 +13,7 @@ use Rattle.rtl_net.specs.declared.process.Process.{Process}
 use Rattle.rtl_net.specs.declared.signal.SignalKind.{SignalKind}
 use Rattle.rtl_net.specs.declared.signal.SignalKind.TheVariants as g
 use Rattle.rtl_net.specs.Nets.{ScopeView, SignalView, NetlistView, flat, body_of, element_type, parent_of}
+use Rattle.rtl_net.specs.Limits.{most_nets, most_processes, most_scopes}
 use Rattle.rtl_net.specs.Names.{Element, element_of}
 
 -- how many elements a signal or variable has: a vector those from one bound to the other (IEEE 1076-2008, 5.3.2.2)
@@ -92,9 +93,9 @@ pub record IsNet (net : NetlistView) : Type 0 where
   pub in_range : IsInRange (flat net)
   pub connected : IsConnected (flat net)
   -- the limits of elaboration
-  pub nets_limit : length net.types ≤ 1048576
-  pub processes_limit : length net.processes ≤ 65536
-  pub scopes_limit : length net.scopes ≤ 65536
+  pub nets_limit : length net.types ≤ most_nets
+  pub processes_limit : length net.processes ≤ most_processes
+  pub scopes_limit : length net.scopes ≤ most_scopes
   pub reads : All ReadsOfBody net.processes
   pub processes : All (ProcessIsNamed (length net.scopes)) net.processes
   pub scopes : AreScopes net.scopes

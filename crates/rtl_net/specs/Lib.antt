@@ -4,6 +4,7 @@ pub mod Visits
 pub mod Nets
 pub mod Core
 pub mod Names
+pub mod Limits
 pub mod Elaborated
 pub mod NetOf
 pub mod Parts

@@ -14,9 +14,9 @@ use Rattle.vhdl_expand_rules.specs.Expansion.{Design, expanded_design}
 use Rattle.vhdl_expand_rules.proofs.Steps.{given, ok, bound}
 use Rattle.vhdl_elab_rules.specs.Numbering.{Numbered, numbered_design}
 use Rattle.vhdl_elab_rules.specs.Wiring.{flat_net}
-use Rattle.vhdl_elab_rules.specs.Limits.{counts, is_within_limits, has_two_unresolved, has_read_of_shared}
+use Rattle.vhdl_elab_rules.specs.Limits.{counts, is_within_limits, has_two_unresolved, has_read_of_shared, is_within, limits}
 use Rattle.vhdl_elab_rules.specs.Elaboration.{Elaborated, net_of, connected, elaborated_net}
-use Rattle.vhdl_expand_tree.specs.Costs.{instance_costs, is_within, limits}
+use Rattle.vhdl_expand_tree.specs.Costs.{instance_costs}
 use Rattle.vhdl_expand_tree.proofs.Alike.{wrong, same_problem, tells_same, tells_first, tells_again}
 use Rattle.vhdl_expand_tree.proofs.Counts.{each-design-costs-its-parts}
 use Rattle.vhdl_elab_laws.specs.Refused.{HasInterface, MayRefuse}

@@ -22,6 +22,7 @@ use Rattle.vhdl_expand_rules.specs.Tree.{Object, objects_of}
 use Rattle.vhdl_expand_rules.proofs.Steps.{bound}
 use Rattle.vhdl_expand_rules.proofs.laws.Lengths.{design-fits}
 use Rattle.vhdl_expand_rules.proofs.laws.Trees.{each-tree-is-sound}
+use Rattle.rtl_net.specs.Limits.{most_nets, most_processes, most_scopes}
 use Rattle.vhdl_elab_rules.specs.Numbering.{Placed, Located, Numbered, numbered_design}
 use Rattle.vhdl_elab_rules.specs.Wiring.{flat_net, inputs_of}
 use Rattle.vhdl_elab_rules.specs.Names.{Scope, Signal, NamedVariable, NamedProcess, net_names}
@@ -196,9 +197,9 @@ each-elaborated-is-net units top x net sound named e shows reads =
     record {
       in_range = subst IsInRange (sym same_flat) laws.0;
       connected = subst IsConnected (sym same_flat) laws.1;
-      nets_limit = subst (λ (ts : List ElementType). length ts ≤ 1048576) (sym types) limits.nets;
-      processes_limit = subst (λ n. n ≤ 65536) (sym (ap (λ (f : FlatNetlist). length f.processes) same_flat) ∙ length-map net.processes process_view) limits.processes;
-      scopes_limit = subst (λ n. n ≤ 65536) (sym many) limits.scopes;
+      nets_limit = subst (λ (ts : List ElementType). length ts ≤ most_nets) (sym types) limits.nets;
+      processes_limit = subst (λ n. n ≤ most_processes) (sym (ap (λ (f : FlatNetlist). length f.processes) same_flat) ∙ length-map net.processes process_view) limits.processes;
+      scopes_limit = subst (λ n. n ≤ most_scopes) (sym many) limits.scopes;
       reads = reads;
       processes = subst (λ n. All (ProcessIsNamed n) net.processes) (sym many)
           (processes-named (length x.scopes) x.processes x.flat.processes net.processes (ap (λ (s : Shown). s.processes) shows) (ap (λ (f : FlatNetlist). f.processes) same_flat) (each-variable-fits units top x sound e) names.processes);

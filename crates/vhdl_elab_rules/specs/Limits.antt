@@ -5,6 +5,7 @@ use Rattle.std.specs.List.{list_any}
 use Rattle.rtl_model.specs.bodies.Body.{Stmt, null_of, assign, set, if_of, case_of, Stmts, done, step}
 use Rattle.rtl_model.specs.bodies.Body.{Branches, no_else, otherwise, branch, Alternatives, others, alternative}
 use Rattle.rtl_model.specs.nets.FlatNetlist.{FlatNetlist, flat_sources}
+use Rattle.rtl_net.specs.Limits.{most_nets, most_processes, most_scopes}
 use Rattle.vhdl_expand_rules.specs.Tree.{Variable}
 use Rattle.vhdl_elab_rules.specs.Numbering.{Placed, Located, Numbered}
 use Rattle.vhdl_elab_rules.specs.Wiring.{Element, elements_of, is_output}
@@ -74,7 +75,22 @@ counts d = record {
   variable_elements = sum (map variable_elements_count d.processes);
 }
 
+-- each count is at most the other's
+abbrev pub is_within : (counts most : Counts) → Bool
+is_within counts most =
+    nat_le counts.processes most.processes && (nat_le counts.instances most.instances && (nat_le counts.nets most.nets
+    && (nat_le counts.turns most.turns && (nat_le counts.statements most.statements && nat_le counts.variable_elements most.variable_elements))))
+
+-- what a whole design may have; its instances are the scopes of its netlist
+abbrev pub limits : Counts
+limits = record {
+  processes = most_processes;
+  instances = most_scopes;
+  nets = most_nets;
+  turns = 4194304;
+  statements = 1048576;
+  variable_elements = 1048576;
+}
+
 abbrev pub is_within_limits : Counts → Bool
-is_within_limits c =
-    nat_le c.processes 65536 && (nat_le c.instances 65536 && (nat_le c.nets 1048576
-    && (nat_le c.turns 4194304 && (nat_le c.statements 1048576 && nat_le c.variable_elements 1048576))))
+is_within_limits c = is_within c limits

@@ -9,8 +9,8 @@ use Rattle.vhdl_expand_rules.specs.Tree.{Parts, no_parts, followed_by}
 use Rattle.vhdl_expand_rules.proofs.Steps.{given, ok}
 use Rattle.vhdl_expand_rules.proofs.Chains.{bind-assoc, err_first}
 use Rattle.vhdl_expand_bodies.specs.Results.{Charges}
-use Rattle.vhdl_elab_rules.specs.Limits.{Counts}
-use Rattle.vhdl_expand_tree.specs.Costs.{no_costs, plus, less, is_within, turns, spent, charged, parts_costs}
+use Rattle.vhdl_elab_rules.specs.Limits.{Counts, is_within}
+use Rattle.vhdl_expand_tree.specs.Costs.{no_costs, plus, less, turns, spent, charged, parts_costs}
 use Rattle.vhdl_expand_tree.proofs.Alike.{Alike, wrong, alike_same, alike_trans, alike_then, both_refused, tells_first}
 use Rattle.vhdl_expand_tree.proofs.Charging.{left_with, charged_in_turn, charged_made, spent-plus, spent-none, spent_told}
 use Rattle.vhdl_expand_tree.proofs.Parts.{followed_assoc, followed_none, followed_costs}

@@ -14,7 +14,7 @@ use Rattle.vhdl_expand_rules.specs.Expansion.{Spot, Design, instance_of, expande
 use Rattle.vhdl_expand_rules.specs.Site.{no_integers}
 use Rattle.vhdl_expand_rules.proofs.Steps.{given}
 use Rattle.vhdl_expand_rules.proofs.Chains.{err_first}
-use Rattle.vhdl_elab_rules.specs.Limits.{Counts}
+use Rattle.vhdl_elab_rules.specs.Limits.{Counts, is_within, limits}
 use Rattle.vhdl_elab_rules.specs.Numbering.{own_sizes}
 use Rattle.vhdl_expand_tree.specs.declared.tree.Process as code
 use Rattle.vhdl_expand_tree.specs.declared.tree.Instance as code_instance
@@ -22,7 +22,7 @@ use Rattle.vhdl_expand_tree.specs.declared.tree.InstancePart.{InstancePart}
 use Rattle.vhdl_expand_tree.specs.declared.tree.InstancePart.TheVariants as p
 use Rattle.vhdl_expand_tree.specs.Views.{process_view, instance_view, parts_of}
 use Rattle.vhdl_expand_tree.proofs.Parts.{view_instance, parts_push}
-use Rattle.vhdl_expand_tree.specs.Costs.{no_costs, an_instance, nets, turns, plus, less, is_within, limits, spent, charged, process_costs, instance_costs, parts_costs}
+use Rattle.vhdl_expand_tree.specs.Costs.{no_costs, an_instance, nets, turns, plus, less, spent, charged, process_costs, instance_costs, parts_costs}
 use Rattle.vhdl_expand_tree.proofs.Alike.{Alike, alike_same, alike_after, alike_trans, alike_then, tells, tells_spent, tells_same, tells_first, tells_next}
 use Rattle.vhdl_expand_tree.proofs.Charging.{left_with, charged_made, spent_told}
 use Rattle.vhdl_expand.specs.Limits.{within_limits}

@@ -3,7 +3,8 @@ use Rattle.std.specs.Prelude.{Ok}
 use Rattle.vhdl_expand_rules.specs.declared.fault.ElabProblem.TheVariants.{TooMany}
 use Rattle.vhdl_expand_rules.specs.Elab.{Elab, ◌>>=◌, ◌>>◌, unless}
 use Rattle.vhdl_expand_rules.specs.Expansion.{Design}
-use Rattle.vhdl_expand_tree.specs.Costs.{instance_costs, is_within, limits}
+use Rattle.vhdl_elab_rules.specs.Limits.{is_within, limits}
+use Rattle.vhdl_expand_tree.specs.Costs.{instance_costs}
 
 -- what is given, where its costs are within the limits
 abbrev pub within_limits : Elab Design → Elab Design

@@ -2,6 +2,7 @@
 -- 10.10, 11.9).
 use Rattle.std.specs.Prelude.{ℕ, zero, suc, ◌+◌, Bool, true, not, ◌&&◌, ◌||◌, ◌==◌, nat_le, if◌then◌else◌, List, [], ◌∷◌, slice_get, ℤ, pos, negsuc}
 use Rattle.std.specs.Prelude.{◌+ℤ◌, ◌-ℤ◌, ◌*ℤ◌, neg_ℤ, int_div, int_rem, int_lt, int_le, nat_abs, Ok, Err}
+use Rattle.vhdl_lexer.specs.Literals.{greatest_integer}
 use Rattle.vhdl_values.specs.declared.kinds.Cmp.{Cmp}
 use Rattle.vhdl_values.specs.declared.kinds.Cmp.TheVariants.{Eq, Ne, Lt, Le, Gt, Ge}
 use Rattle.vhdl_tree.specs.declared.operator.Direction.{Direction}
@@ -26,9 +27,9 @@ pub record Integers : Type 0 where
 
 -- ---- values
 
--- static integers lie in -2147483647 .. 2147483647
+-- static integers are as great as those that are written, and as small below 0 (5.2.3.2)
 abbrev pub checked : ℤ → Elab ℤ
-checked x = if nat_le (nat_abs x) 2147483647 then Ok x else Err StaticError
+checked x = if nat_le (nat_abs x) greatest_integer then Ok x else Err StaticError
 
 abbrev pub is_negative : ℤ → Bool
 is_negative x = int_lt x (pos 0)
@@ -136,10 +137,14 @@ abbrev pub counted : Direction → ℤ → ℕ → List ℤ
 counted direction x zero = []
 counted direction x (suc n) = x ∷ counted direction (next direction x) n
 
--- the values that the parameter of a loop or generate takes, one a turn, in order: at most 4,096
+-- what a loop or generate may take by itself
+abbrev pub most_turns : ℕ
+most_turns = 4096
+
+-- the values that the parameter of a loop or generate takes, one a turn, in order
 unfoldable pub turns : Integers → Range → Elab (List ℤ)
 turns at r = do
   x ← integer at r.left
   y ← integer at r.right
-  unless TooMany (nat_le (extent r.direction x y) 4096)
+  unless TooMany (nat_le (extent r.direction x y) most_turns)
   Ok (counted r.direction x (extent r.direction x y))

@@ -14,6 +14,9 @@ use vhdl_names_rules::{StaticRange, StaticTest, StaticTestLink, StaticTestStart}
 use vhdl_tree::Direction;
 use vhdl_values::{Cmp, Logic};
 
+/// The most turns that a loop or generate takes by itself.
+const MAX_TURNS: u64 = 4096;
+
 /// The turns of a loop or generate: the values of its parameter are `count` numbers from `first` on.
 #[derive(Clone, Copy)]
 pub struct Turns {
@@ -133,7 +136,7 @@ impl Integers<'_> {
         let first = self.integer(&range.left, at)?;
         let last = self.integer(&range.right, at)?;
         let count = extent(range.direction, first, last);
-        if count > 4096 {
+        if count > MAX_TURNS {
             return Err(ElabProblem::TooMany.at(at));
         }
         Ok(Turns {

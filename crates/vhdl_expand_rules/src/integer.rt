@@ -7,6 +7,7 @@ ghost use Rattle.vhdl_expand_rules.specs.Integers as definition;
 ghost use Rattle.vhdl_expand_rules.specs.views.Integers.{integers_view, Computes, in_range, with_sign, all_operated};
 
 use crate::fault::{ElabFault, ElabProblem};
+use vhdl_lexer::MAX_INTEGER;
 use vhdl_names_rules::{Arithmetic, IntegerType, Static, StaticLink, StaticStart};
 
 /// The integers that are known where an expression stands: of generics and constants by their
@@ -22,7 +23,7 @@ pub struct Integers<'a> {
 fn checked(x: i32, at: usize) -> Result<i32, ElabFault>
     ensures { Computes (definition.checked x) result }
 {
-    if x.unsigned_abs() <= 2_147_483_647 {
+    if x.unsigned_abs() <= MAX_INTEGER {
         Ok(x)
     } else {
         Err(ElabProblem::StaticError.at(at))

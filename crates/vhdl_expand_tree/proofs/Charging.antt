@@ -6,8 +6,8 @@ use Rattle.vhdl_expand_rules.specs.declared.fault.ElabProblem.{ElabProblem}
 use Rattle.vhdl_expand_rules.specs.declared.fault.ElabProblem.TheVariants.{TooMany}
 use Rattle.vhdl_expand_rules.specs.Elab.{Elab, ◌>>=◌, ◌>>◌, unless}
 use Rattle.vhdl_expand_rules.proofs.Steps.{given}
-use Rattle.vhdl_elab_rules.specs.Limits.{Counts}
-use Rattle.vhdl_expand_tree.specs.Costs.{no_costs, plus, less, is_within, spent, charged}
+use Rattle.vhdl_elab_rules.specs.Limits.{Counts, is_within}
+use Rattle.vhdl_expand_tree.specs.Costs.{no_costs, plus, less, spent, charged}
 use Rattle.vhdl_expand_tree.proofs.Alike.{Alike, wrong, same_problem, alike_same, alike_after, both_refused}
 
 -- ---- numbers

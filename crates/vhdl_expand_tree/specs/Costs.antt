@@ -1,10 +1,10 @@
 -- What the parts of a design count against the limits of elaboration, and what is left of these behind them.
-use Rattle.std.specs.Prelude.{ℕ, ◌+◌, ◌-◌, Bool, ◌&&◌, nat_le, List, length, map, sum, Ok}
+use Rattle.std.specs.Prelude.{ℕ, ◌+◌, ◌-◌, List, length, map, sum, Ok}
 use Rattle.vhdl_expand_rules.specs.declared.fault.ElabProblem.TheVariants.{TooMany}
 use Rattle.vhdl_expand_rules.specs.Elab.{Elab, ◌>>=◌, ◌>>◌, unless}
 use Rattle.vhdl_expand_rules.specs.Tree.{Object, Variable, Process, Instance, instance, Parts, no_parts, process, inner}
 use Rattle.vhdl_elab_rules.specs.Numbering.{own_sizes}
-use Rattle.vhdl_elab_rules.specs.Limits.{Counts, statements_count}
+use Rattle.vhdl_elab_rules.specs.Limits.{Counts, is_within, statements_count}
 
 -- ---- counts
 
@@ -52,16 +52,6 @@ less budget costs = record {
   statements = budget.statements - costs.statements;
   variable_elements = budget.variable_elements - costs.variable_elements;
 }
-
--- each count is at most the budget's
-abbrev pub is_within : (costs budget : Counts) → Bool
-is_within costs budget =
-    nat_le costs.processes budget.processes && (nat_le costs.instances budget.instances && (nat_le costs.nets budget.nets
-    && (nat_le costs.turns budget.turns && (nat_le costs.statements budget.statements && nat_le costs.variable_elements budget.variable_elements))))
-
--- the limits of a whole design: `is_within_limits counts` is `is_within counts limits`
-abbrev pub limits : Counts
-limits = record { processes = 65536; instances = 65536; nets = 1048576; turns = 4194304; statements = 1048576; variable_elements = 1048576 }
 
 -- ---- what parts of the tree cost
 

@@ -5,10 +5,19 @@ ghost use Rattle.vhdl_expand_rules.specs.declared.fault.ElabFault.TheVariants.{A
 ghost use Rattle.vhdl_expand_rules.specs.declared.fault.ElabProblem.TheVariants.{TooMany};
 ghost use Rattle.vhdl_expand_rules.specs.views.Integers.{Makes};
 ghost use Rattle.vhdl_expand_tree.specs.Costs as costs;
-ghost use Rattle.vhdl_expand_tree.specs.Costs.{limits, spent, a_process, an_instance, a_statement, turns, nets, variable_elements};
+ghost use Rattle.vhdl_elab_rules.specs.Limits.{limits};
+ghost use Rattle.vhdl_expand_tree.specs.Costs.{spent, a_process, an_instance, a_statement, turns, nets, variable_elements};
 ghost use Rattle.vhdl_expand_tree.specs.Views.{budget_view};
 
 use vhdl_expand_rules::{ElabFault, ElabProblem};
+
+// What a whole design may have.
+const MAX_PROCESSES: u32 = 65_536;
+const MAX_INSTANCES: u32 = 65_536;
+const MAX_NETS: u32 = 1_048_576;
+const MAX_TURNS: u32 = 4_194_304;
+const MAX_STATEMENTS: u32 = 1_048_576;
+const MAX_VARIABLE_ELEMENTS: u32 = 1_048_576;
 
 /// How many parts of each sort may still be made.
 #[derive(Clone, Copy)]
@@ -29,12 +38,12 @@ impl Budget {
         ensures { budget_view result ≡ limits }
     {
         Budget {
-            processes: 65_536,
-            instances: 65_536,
-            nets: 1_048_576,
-            turns: 4_194_304,
-            statements: 1_048_576,
-            variable_elements: 1_048_576,
+            processes: MAX_PROCESSES,
+            instances: MAX_INSTANCES,
+            nets: MAX_NETS,
+            turns: MAX_TURNS,
+            statements: MAX_STATEMENTS,
+            variable_elements: MAX_VARIABLE_ELEMENTS,
         }
     }
 

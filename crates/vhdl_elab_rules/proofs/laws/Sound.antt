@@ -28,6 +28,7 @@ use Rattle.vhdl_expand_rules.proofs.Steps.{ok, bound, kept}
 use Rattle.vhdl_expand_rules.proofs.laws.Lengths.{design-fits}
 use Rattle.vhdl_expand_rules.proofs.laws.Trees.{each-tree-is-sound}
 use Rattle.vhdl_expand_rules.proofs.laws.Targets.{all_left, all_right}
+use Rattle.rtl_net.specs.Limits.{most_nets, most_processes, most_scopes}
 use Rattle.vhdl_elab_rules.specs.Numbering.{Placed, Numbered, nothing_numbered, above_top, numbered_design}
 use Rattle.vhdl_elab_rules.specs.Wiring.{Element, elements_of, with_defaults, start_by, start_of, flat_net}
 use Rattle.vhdl_elab_rules.specs.Limits.{elements, has_two_unresolved, has_read_of_shared, counts, is_within_limits}
@@ -207,11 +208,11 @@ each-net-is-within-limits units top x e =
     let w = accepted design.x x design.then_gave in
     let d : Numbered = numbered_design design.x in
     let shape = each-has-shape units top design.x design.gave in
-    let a = and_parts (nat_le (length d.processes) 65536) _ w.limits in
-    let b = and_parts (nat_le (length d.instances) 65536) _ a.1 in
-    let c = and_parts (nat_le d.nets 1048576) _ b.1 in
+    let a = and_parts (nat_le (length d.processes) most_processes) _ w.limits in
+    let b = and_parts (nat_le (length d.instances) most_scopes) _ a.1 in
+    let c = and_parts (nat_le d.nets most_nets) _ b.1 in
     subst IsWithinLimits w.is (record {
-      nets = subst (λ n. n ≤ 1048576) (sym shape.types) (leb-true d.nets 1048576 c.0);
-      processes = subst (λ n. n ≤ 65536) (sym shape.processes) (leb-true (length d.processes) 65536 a.0);
-      scopes = subst (λ n. n ≤ 65536) (sym (length-map d.instances scope_of)) (leb-true (length d.instances) 65536 b.0);
+      nets = subst (λ n. n ≤ most_nets) (sym shape.types) (leb-true d.nets most_nets c.0);
+      processes = subst (λ n. n ≤ most_processes) (sym shape.processes) (leb-true (length d.processes) most_processes a.0);
+      scopes = subst (λ n. n ≤ most_scopes) (sym (length-map d.instances scope_of)) (leb-true (length d.instances) most_scopes b.0);
     })

@@ -4,6 +4,7 @@
 use Rattle.std.specs.Prelude.{◌≡◌, ℕ, ◌≤◌, List, length, Ok, IsTrue}
 use Rattle.rtl_model.specs.nets.FlatNetlist.{IsInRange}
 use Rattle.rtl_model.specs.nets.Wiring.{IsConnected}
+use Rattle.rtl_net.specs.Limits.{most_nets, most_processes, most_scopes}
 use Rattle.vhdl_names_rules.specs.units.Units.{Units}
 use Rattle.vhdl_names_rules.specs.sound.Units.{are_sound}
 use Rattle.vhdl_elab_rules.specs.Elaboration.{Elaborated, elaborated_net}
@@ -15,9 +16,9 @@ EachNetIsSound =
 
 -- the limits of elaboration
 pub record IsWithinLimits (x : Elaborated) : Type 0 where
-  pub nets : length x.flat.types ≤ 1048576
-  pub processes : length x.flat.processes ≤ 65536
-  pub scopes : length x.scopes ≤ 65536
+  pub nets : length x.flat.types ≤ most_nets
+  pub processes : length x.flat.processes ≤ most_processes
+  pub scopes : length x.scopes ≤ most_scopes
 
 abbrev pub EachNetIsWithinLimits : Type 0
 EachNetIsWithinLimits = (units : Units) (top : List ℕ) (x : Elaborated) → elaborated_net units top ≡ Ok x → IsWithinLimits x
