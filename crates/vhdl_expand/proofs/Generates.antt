@@ -11,46 +11,18 @@ use Rattle.vhdl_names_rules.specs.units.Units.{Units}
 use Rattle.vhdl_expand_rules.specs.declared.fault.ElabProblem.{ElabProblem}
 use Rattle.vhdl_expand_rules.specs.Elab.{Elab, ◌>>=◌, each, MayTell}
 use Rattle.vhdl_expand_rules.specs.Integers.{turns, decision, counted, next}
+use Rattle.vhdl_expand_rules.specs.Parameters.{parameter}
 use Rattle.vhdl_expand_rules.specs.Tree.{Parts, no_parts, followed_by}
 use Rattle.vhdl_expand_rules.specs.Expansion as definition
 use Rattle.vhdl_expand_rules.specs.Expansion.{Spot, instance_of, in_branch, joined, dotted}
 use Rattle.vhdl_expand_rules.proofs.Steps.{given}
+use Rattle.vhdl_expand_rules.proofs.Parameters.{next-turn, no-turn, counted-length}
 use Rattle.vhdl_expand_tree.proofs.Alike.{Alike, alike_same, alike_after, alike_trans, tells_same}
 use Rattle.vhdl_expand.specs.Making as made
 use Rattle.vhdl_expand.specs.Making.{Made, Progress, and_then, adding, together, made_turns}
 use Rattle.vhdl_expand.specs.Spots.{within}
-use Rattle.vhdl_expand.specs.Turns.{parameter}
 use Rattle.vhdl_expand.proofs.Counted.{concurrents_counted}
 use Rattle.vhdl_expand.proofs.Making.{in_turn, added_alike, goes, stops, ends, none_added}
-
--- ---- the values of the parameter
-
-parameter-next : (direction : Direction) (x : ℤ) (k : ℕ) → parameter direction (next direction x) k ≡ parameter direction x (suc k)
-parameter-next To x k = omega (arith, ints)
-parameter-next Downto x k = omega (arith, ints)
-
-parameter-first : (direction : Direction) (x : ℤ) → x ≡ parameter direction x 0
-parameter-first To x = omega (arith, ints)
-parameter-first Downto x = omega (arith, ints)
-
-next-turn : (direction : Direction) (x : ℤ) (count k : ℕ) → k < count → drop k (counted direction x count) ≡ parameter direction x k ∷ drop (k + 1) (counted direction x count)
-next-turn direction x zero k h = absurd (omega arith)
-next-turn direction x (suc count) zero h = ap (λ j. j ∷ counted direction (next direction x) count) (parameter-first direction x)
-next-turn direction x (suc count) (suc k) h =
-    let e : suc (k + 1) ≡ suc k + 1 = omega arith in
-    next-turn direction (next direction x) count k (omega arith)
-    ∙ ap (λ j. j ∷ drop (k + 1) (counted direction (next direction x) count)) (parameter-next direction x k)
-    ∙ ap (λ m. parameter direction x (suc k) ∷ drop m (counted direction x (suc count))) e
-
-no-turn : (direction : Direction) (x : ℤ) (count k : ℕ) → count ≤ k → drop k (counted direction x count) ≡ []
-no-turn direction x zero zero h = refl
-no-turn direction x zero (suc k) h = refl
-no-turn direction x (suc count) zero h = absurd (omega arith)
-no-turn direction x (suc count) (suc k) h = no-turn direction (next direction x) count k (omega arith)
-
-counted-length : (direction : Direction) (x : ℤ) (count : ℕ) → length (counted direction x count) ≡ count
-counted-length direction x zero = refl
-counted-length direction x (suc count) = ap suc (counted-length direction (next direction x) count)
 
 -- ---- turns
 

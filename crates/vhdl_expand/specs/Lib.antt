@@ -2,4 +2,3 @@ pub mod Limits
 pub mod Making
 pub mod Spots
 pub mod Walks
-pub mod Turns

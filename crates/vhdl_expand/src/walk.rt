@@ -15,7 +15,6 @@ ghost use Rattle.vhdl_expand.specs.Making as made;
 ghost use Rattle.vhdl_expand.specs.Making.{TurnsFit, adding, nothing_yet, progress_view};
 ghost use Rattle.vhdl_expand.specs.Spots.{spot_view};
 ghost use Rattle.vhdl_expand_objects.specs.Views.{declared_view};
-ghost use Rattle.vhdl_expand.specs.Turns as generates;
 ghost use Rattle.vhdl_expand.specs.Walks.{units_of, IsAmong};
 
 use crate::prefix::{branch_prefix, labelled, turn_prefix};
@@ -26,12 +25,11 @@ use vhdl_expand_objects::{
     InstanceObjects, associations, charge_own_nets, declarations, interface,
 };
 use vhdl_expand_processes::process;
-use vhdl_expand_rules::{ElabFault, ElabProblem, Turns};
+use vhdl_expand_rules::{ElabFault, ElabProblem};
 use vhdl_expand_tree::{Budget, Instance, InstancePart};
 use vhdl_names_rules::{StaticRange, StaticTest};
 use vhdl_names_units as analysed;
 use vhdl_names_units::{Concurrent, Entity, Generate, Scheme};
-use vhdl_tree::Direction;
 
 /// The units in which instances are made, of which so many may be nested from here on.
 #[derive(Clone, Copy)]
@@ -39,21 +37,6 @@ pub(crate) struct Walk<'a> {
     pub alloc: Global,
     pub units: &'a [Entity],
     pub levels: u32,
-}
-
-/// The value of a generate's parameter in the turn of this number, counted from 0. Memory would be refused beyond a word.
-fn parameter(turns: Turns, turn: u32) -> Result<i32, ElabFault>
-    ensures { Expands (λ i. i) (Ok (generates.parameter turns.direction turns.first turn)) result }
-{
-    let first = i64::from(turns.first);
-    let value = match turns.direction {
-        Direction::To => first + i64::from(turn),
-        Direction::Downto => first - i64::from(turn),
-    };
-    match i32::try_from(value) {
-        Ok(parameter) => Ok(parameter),
-        Err(_) => Err(ElabFault::NoMemory),
-    }
 }
 
 impl Walk<'_> {
@@ -251,8 +234,8 @@ impl Walk<'_> {
         let turns = spot.site.integers.turns(range, written.at)?;
         so_far.add_turns(turns.count, written.at)?;
         for turn in 0..turns.count {
-            let parameter = parameter(turns, turn)?;
-            self.turn(spot, written, parameter, so_far)?;
+            let value = turns.parameter(turn);
+            self.turn(spot, written, value, so_far)?;
         }
         Ok(())
     }

@@ -13,10 +13,12 @@ use Rattle.vhdl_names_units.specs.views.Sequential as units
 use Rattle.vhdl_expand_rules.specs.declared.fault.ElabProblem.{ElabProblem}
 use Rattle.vhdl_expand_rules.specs.Elab.{Elab, ◌>>=◌, each}
 use Rattle.vhdl_expand_rules.specs.Integers.{counted, next}
+use Rattle.vhdl_expand_rules.specs.Parameters.{parameter}
 use Rattle.vhdl_expand_rules.specs.Site.{Site, in_loop}
 use Rattle.vhdl_expand_rules.specs.Statements.{joined_bodies, one, statement, statements}
 use Rattle.vhdl_expand_rules.proofs.Steps.{given, ok}
 use Rattle.vhdl_expand_rules.proofs.Chains.{err_first}
+use Rattle.vhdl_expand_rules.proofs.Parameters.{next-turn, no-turn}
 use Rattle.vhdl_expand_bodies.specs.steps.Statements as steps
 use Rattle.vhdl_expand_bodies.specs.steps.Statements.{after}
 
@@ -48,29 +50,6 @@ after_stops made (Err p) q h = h
 
 next-left : {X : Type 0} (xs : List X) (i : ℕ) (x : X) → i < length xs → x ≡ get_or xs i x → drop i xs ≡ x ∷ drop (i + 1) xs
 next-left xs i x h e = drop-cons xs i x h ∙ ap (λ y. y ∷ drop (suc i) xs) (sym e) ∙ ap (λ j. x ∷ drop j xs) (sym (add-one i))
-
-parameter-next : (direction : Direction) (x : ℤ) (k : ℕ) → steps.parameter direction (next direction x) k ≡ steps.parameter direction x (suc k)
-parameter-next To x k = omega (arith, ints)
-parameter-next Downto x k = omega (arith, ints)
-
-parameter-first : (direction : Direction) (x : ℤ) → x ≡ steps.parameter direction x 0
-parameter-first To x = omega (arith, ints)
-parameter-first Downto x = omega (arith, ints)
-
-next-turn : (direction : Direction) (x : ℤ) (count k : ℕ) → k < count → drop k (counted direction x count) ≡ steps.parameter direction x k ∷ drop (k + 1) (counted direction x count)
-next-turn direction x zero k h = absurd (omega arith)
-next-turn direction x (suc count) zero h = ap (λ j. j ∷ counted direction (next direction x) count) (parameter-first direction x)
-next-turn direction x (suc count) (suc k) h =
-    let e : suc (k + 1) ≡ suc k + 1 = omega arith in
-    next-turn direction (next direction x) count k (omega arith)
-    ∙ ap (λ j. j ∷ drop (k + 1) (counted direction (next direction x) count)) (parameter-next direction x k)
-    ∙ ap (λ m. steps.parameter direction x (suc k) ∷ drop m (counted direction x (suc count))) e
-
-no-turn : (direction : Direction) (x : ℤ) (count k : ℕ) → count ≤ k → drop k (counted direction x count) ≡ []
-no-turn direction x zero zero h = refl
-no-turn direction x zero (suc k) h = refl
-no-turn direction x (suc count) zero h = absurd (omega arith)
-no-turn direction x (suc count) (suc k) h = no-turn direction (next direction x) count k (omega arith)
 
 module _ (at : Site) where
   pub list_goes : {X : Type 0} (v : X → u.Statement) (total : Elab bodies.Stmts) (now new : bodies.Stmts) (xs : List X) (i : ℕ) (x : X) → i < length xs → x ≡ get_or xs i x
@@ -115,7 +94,7 @@ module _ (at : Site) where
       go (Err p) q k = k
 
   pub turns_go : (body : u.Statements) (total : Elab bodies.Stmts) (now new : bodies.Stmts) (direction : Direction) (x i : ℤ) (count k : ℕ) → k < count
-      → total ≡ after now (steps.repeated at body (drop k (counted direction x count))) → i ≡ steps.parameter direction x k
+      → total ≡ after now (steps.repeated at body (drop k (counted direction x count))) → i ≡ parameter direction x k
       → after now (statements (in_loop at i) body) ≡ Ok new
       → total ≡ after new (steps.repeated at body (drop (k + 1) (counted direction x count)))
   turns_go body total now new direction x i count k below so_far is h =
@@ -123,7 +102,7 @@ module _ (at : Site) where
       ∙ turn-goes body now new i (drop (k + 1) (counted direction x count)) h
 
   pub turns_stop : {problem : ElabProblem} (body : u.Statements) (total : Elab bodies.Stmts) (now : bodies.Stmts) (direction : Direction) (x i : ℤ) (count k : ℕ) → k < count
-      → total ≡ after now (steps.repeated at body (drop k (counted direction x count))) → i ≡ steps.parameter direction x k
+      → total ≡ after now (steps.repeated at body (drop k (counted direction x count))) → i ≡ parameter direction x k
       → (after now (statements (in_loop at i) body)) ≡ Err problem → total ≡ Err problem
   turns_stop {problem} body total now direction x i count k below so_far is h =
       subst (λ (r : Elab bodies.Stmts). r ≡ Err problem)

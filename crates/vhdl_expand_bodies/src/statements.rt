@@ -25,10 +25,9 @@ use crate::operand::Width;
 use crate::site::Site;
 use rtl_net::{Alternative, Branch, Choice, Statement};
 use std::alloc::Global;
-use vhdl_expand_rules::{ElabFault, Turns};
+use vhdl_expand_rules::ElabFault;
 use vhdl_names_units as analysed;
 use vhdl_names_units::{Case, If, Loop};
-use vhdl_tree::Direction;
 
 /// A byte of the source as a word; those beyond it are all the last.
 fn byte(at: usize) -> u32
@@ -65,21 +64,6 @@ fn choices(
         choices.push(next)?;
     }
     Ok(choices)
-}
-
-/// The value of a loop's parameter in the turn of this number, counted from 0. Memory would be refused beyond a word.
-fn parameter(turns: Turns, turn: u32) -> Result<i32, ElabFault>
-    ensures { Expands (λ i. i) (Ok (steps.parameter turns.direction turns.first turn)) result }
-{
-    let first = i64::from(turns.first);
-    let value = match turns.direction {
-        Direction::To => first + i64::from(turn),
-        Direction::Downto => first - i64::from(turn),
-    };
-    match i32::try_from(value) {
-        Ok(parameter) => Ok(parameter),
-        Err(_) => Err(ElabFault::NoMemory),
-    }
 }
 
 impl Site<'_> {
@@ -319,8 +303,8 @@ impl Site<'_> {
     {
         let turns = self.integers.turns(&repeated.range, repeated.at)?;
         for turn in 0..turns.count {
-            let parameter = parameter(turns, turn)?;
-            self.add_turn(alloc, &repeated.statements, parameter, body)?;
+            let value = turns.parameter(turn);
+            self.add_turn(alloc, &repeated.statements, value, body)?;
         }
         Ok(())
     }

@@ -7,8 +7,9 @@ use Rattle.vhdl_tree.specs.declared.operator.Direction.TheVariants.{To, Downto}
 use Rattle.vhdl_expand_rules.specs.declared.fault.ElabFault.{ElabFault}
 use Rattle.vhdl_expand_rules.specs.Elab.{Elab, ◌>>=◌, MayTell}
 use Rattle.vhdl_expand_rules.specs.Integers.{counted, next}
+use Rattle.vhdl_expand_rules.specs.Parameters.{parameter}
+use Rattle.vhdl_expand_rules.proofs.Parameters.{next-turn, no-turn}
 use Rattle.vhdl_expand_bodies.specs.Results.{Expands, Charges}
-use Rattle.vhdl_expand_bodies.specs.steps.Statements.{parameter}
 use Rattle.vhdl_elab_rules.specs.Limits.{Counts}
 use Rattle.vhdl_expand_tree.specs.Costs.{spent}
 use Rattle.vhdl_expand_tree.proofs.Alike.{Alike, wrong, alike_same, alike_trans, both_refused, tells_first}
@@ -69,33 +70,6 @@ none_left (x ∷ xs) zero h = absurd (omega arith)
 none_left (x ∷ xs) (suc i) h = none_left xs i (omega arith)
 
 -- ---- of turns
-
-parameter-next : (direction : Direction) (x : ℤ) (k : ℕ) → parameter direction (next direction x) k ≡ parameter direction x (suc k)
-parameter-next To x k = omega (arith, ints)
-parameter-next Downto x k = omega (arith, ints)
-
-parameter-first : (direction : Direction) (x : ℤ) → x ≡ parameter direction x 0
-parameter-first To x = omega (arith, ints)
-parameter-first Downto x = omega (arith, ints)
-
-next-turn : (direction : Direction) (x : ℤ) (count k : ℕ) → k < count → drop k (counted direction x count) ≡ parameter direction x k ∷ drop (k + 1) (counted direction x count)
-next-turn direction x zero k h = absurd (omega arith)
-next-turn direction x (suc count) zero h = ap (λ j. j ∷ counted direction (next direction x) count) (parameter-first direction x)
-next-turn direction x (suc count) (suc k) h =
-    let e : suc (k + 1) ≡ suc k + 1 = omega arith in
-    next-turn direction (next direction x) count k (omega arith)
-    ∙ ap (λ j. j ∷ drop (k + 1) (counted direction (next direction x) count)) (parameter-next direction x k)
-    ∙ ap (λ m. parameter direction x (suc k) ∷ drop m (counted direction x (suc count))) e
-
-no-turn : (direction : Direction) (x : ℤ) (count k : ℕ) → count ≤ k → drop k (counted direction x count) ≡ []
-no-turn direction x zero zero h = refl
-no-turn direction x zero (suc k) h = refl
-no-turn direction x (suc count) zero h = absurd (omega arith)
-no-turn direction x (suc count) (suc k) h = no-turn direction (next direction x) count k (omega arith)
-
-pub counted_length : (direction : Direction) (x : ℤ) (count : ℕ) → length (counted direction x count) ≡ count
-counted_length direction x zero = refl
-counted_length direction x (suc count) = ap suc (counted_length direction (next direction x) count)
 
 module _ (f : ℤ → Elab Counts) (direction : Direction) (x : ℤ) (count : ℕ) where
   pub turns_go : (total : Elab Counts) (n m : Counts) (k : ℕ) (i : ℤ) → k < count → i ≡ parameter direction x k

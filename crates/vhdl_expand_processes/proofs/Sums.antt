@@ -25,7 +25,8 @@ use Rattle.vhdl_expand_tree.proofs.Charging.{plus-none, plus-assoc, spent-none}
 use Rattle.vhdl_expand_processes.specs.Unrolled.{both, paid, together, in_turn, statement_costs, statements_costs, branches_costs, alternatives_costs, guarded_costs, chosen_costs}
 use Rattle.vhdl_expand_tree.proofs.Alike.{Alike, alike_same, alike_trans, tells, tells_first}
 use Rattle.vhdl_expand_rules.specs.declared.fault.ElabProblem.{ElabProblem}
-use Rattle.vhdl_expand_processes.proofs.Paying.{paid_go, paid_stop, counted_length}
+use Rattle.vhdl_expand_rules.proofs.Parameters.{counted-length}
+use Rattle.vhdl_expand_processes.proofs.Paying.{paid_go, paid_stop}
 
 pub both-none : (q : Elab Counts) → both (given no_costs) q ≡ q
 both-none (Ok c) = ap given (plus-none c)
@@ -171,7 +172,7 @@ module _ (at : Integers) where
 
     loop-counted : (direction : Direction) (x : ℤ) (count : ℕ) → turns at r ≡ Ok (counted direction x count)
         → Alike (paid n (statement_costs at (u.for_of r body))) (paid n (both (given (costs.turns count)) (together (λ i. statements_costs (in_turn at i) body) (counted direction x count))))
-    loop-counted direction x count h = alike_same (ap (paid n) (loop_costs r body (counted direction x count) count h (counted_length direction x count)))
+    loop-counted direction x count h = alike_same (ap (paid n) (loop_costs r body (counted direction x count) count h (counted-length direction x count)))
 
     pub count_stops : {problem : ElabProblem} → (direction : Direction) (x : ℤ) (count : ℕ) → turns at r ≡ Ok (counted direction x count) → MayTell (spent n (costs.turns count)) problem
         → MayTell (paid n (statement_costs at (u.for_of r body))) problem

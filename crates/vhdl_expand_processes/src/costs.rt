@@ -7,7 +7,6 @@ ghost use Rattle.std.specs.Prelude.{◌≡◌, ◌++◌, [], ◌∷◌, map, Ok}
 ghost use Rattle.vhdl_names_rules.specs.views.Integers.{range_view};
 ghost use Rattle.vhdl_expand_rules.specs.views.Integers.{integers_view};
 ghost use Rattle.vhdl_expand_bodies.specs.Results.{Expands, Charges};
-ghost use Rattle.vhdl_expand_bodies.specs.steps.Statements as steps;
 ghost use Rattle.vhdl_names_rules.specs.units.Statements as units;
 ghost use Rattle.vhdl_names_units.specs.declared.sequential.Case.{out-Case};
 ghost use Rattle.vhdl_names_units.specs.declared.sequential.If.{out-If};
@@ -18,10 +17,9 @@ ghost use Rattle.vhdl_expand_processes.specs.Unrolled as definition;
 ghost use Rattle.vhdl_expand_processes.specs.Unrolled.{paid, both, together, in_turn, guarded_costs, chosen_costs};
 
 use std::alloc::Global;
-use vhdl_expand_rules::{ElabFault, Integers, Turns};
+use vhdl_expand_rules::{ElabFault, Integers};
 use vhdl_expand_tree::Budget;
 use vhdl_names_units::{Alternative, Branch, Case, If, Loop, Statement};
-use vhdl_tree::Direction;
 
 /// Takes what a body costs from the budget: a turn for each turn of its loops, and a statement for each statement of the unrolled
 /// body. A fault is StaticError, or TooMany where a loop has more than 4,096 turns or the budget has less left; `at` is the byte of
@@ -37,21 +35,6 @@ pub fn charge_body(
         (paid (budget_view budget.old) (definition.statements_costs (integers_view integers.now) (analysed.statements_of (map analysed.statement_view statements.now)))) result }
 {
     of_statements(alloc, integers, statements, at, budget)
-}
-
-/// The value of a loop's parameter in the turn of this number, counted from 0. Memory would be refused beyond a word.
-fn parameter(turns: Turns, turn: u32) -> Result<i32, ElabFault>
-    ensures { Expands (λ i. i) (Ok (steps.parameter turns.direction turns.first turn)) result }
-{
-    let first = i64::from(turns.first);
-    let value = match turns.direction {
-        Direction::To => first + i64::from(turn),
-        Direction::Downto => first - i64::from(turn),
-    };
-    match i32::try_from(value) {
-        Ok(parameter) => Ok(parameter),
-        Err(_) => Err(ElabFault::NoMemory),
-    }
 }
 
 /// Takes what statements cost; where they say no byte themselves, a fault names byte `at`.
@@ -185,8 +168,8 @@ fn of_loop(
     let turns = integers.turns(&repeated.range, repeated.at)?;
     budget.charge_turns(turns.count as usize, repeated.at)?;
     for turn in 0..turns.count {
-        let parameter = parameter(turns, turn)?;
-        of_turn(alloc, integers, repeated, parameter, budget)?;
+        let value = turns.parameter(turn);
+        of_turn(alloc, integers, repeated, value, budget)?;
     }
     Ok(())
 }

@@ -2,6 +2,7 @@ pub mod Steps
 pub mod Options
 pub mod Chains
 mod Modulus
+pub mod Parameters
 pub mod Decided
 pub mod StaticChains
 pub mod laws

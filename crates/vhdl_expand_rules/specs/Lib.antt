@@ -1,5 +1,6 @@
 pub mod Elab
 pub mod Integers
+pub mod Parameters
 pub mod Kinds
 pub mod Site
 pub mod Expressions

@@ -10,20 +10,10 @@ ghost use Rattle.vhdl_expand_rules.specs.views.Decisions.{all_decided, turns_vie
 
 use crate::fault::{ElabFault, ElabProblem};
 use crate::integer::Integers;
+use crate::turns::{MAX_TURNS, Turns};
 use vhdl_names_rules::{StaticRange, StaticTest, StaticTestLink, StaticTestStart};
 use vhdl_tree::Direction;
 use vhdl_values::{Cmp, Logic};
-
-/// The most turns that a loop or generate takes by itself.
-const MAX_TURNS: u64 = 4096;
-
-/// The turns of a loop or generate: the values of its parameter are `count` numbers from `first` on.
-#[derive(Clone, Copy)]
-pub struct Turns {
-    pub first: i32,
-    pub direction: Direction,
-    pub count: u32,
-}
 
 /// A logical operator on truths.
 fn truth(operator: Logic, left: bool, right: bool) -> bool

@@ -9,9 +9,10 @@ mod fault;
 mod integer;
 mod kind;
 mod prefix;
+mod turns;
 
-pub use decision::Turns;
 pub use fault::{ElabFault, ElabProblem};
 pub use integer::Integers;
 pub use kind::{Bounds, ObjectKind, Run};
 pub use prefix::{is_static, is_static_part};
+pub use turns::Turns;

@@ -36,11 +36,6 @@ abbrev pub alternatives_before : bodies.Stmts → List Alternative → bodies.Al
 alternatives_before last [] = bodies.others last
 alternatives_before last (x ∷ xs) = bodies.alternative x.choices x.statements (alternatives_before last xs)
 
--- the value of a loop's parameter in a turn, counted from 0
-abbrev pub parameter : Direction → (first : ℤ) → (turn : ℕ) → ℤ
-parameter To x k = x +ℤ pos k
-parameter Downto x k = x -ℤ pos k
-
 abbrev pub branch : Site → Guarded → Elab Branch
 branch at g = do
   c ← test at g.condition

@@ -3,7 +3,7 @@ use Rattle.std.specs.Prelude.{Bool, List, [], ◌∷◌, ℤ, Ok}
 use Rattle.vhdl_names_rules.specs.declared.test.StaticTestLink.{StaticTestLink}
 use Rattle.vhdl_names_rules.specs.views.Tests.{static_test_view}
 use Rattle.rtl_model.specs.bodies.Tests.{truth}
-use Rattle.vhdl_expand_rules.specs.declared.decision.Turns.{Turns}
+use Rattle.vhdl_expand_rules.specs.declared.turns.Turns.{Turns}
 use Rattle.vhdl_expand_rules.specs.Elab.{Elab, ◌>>=◌}
 use Rattle.vhdl_expand_rules.specs.Integers as definition
 use Rattle.vhdl_expand_rules.specs.Integers.{decision, counted}
