@@ -1,5 +1,5 @@
 -- What the text of NAME=VALUE words says.
-use Rattle.std.proofs.Common.{◌≡◌, ℕ, zero, suc, ◌+◌, ◌-◌, ◌<◌, ◌==◌, ◌&&◌, ◌||◌, Bool, true, false, not, nat_le, cond, List, [], ◌∷◌, ◌++◌, length, take, drop, position, filter, Option, Some, None, option_map, Result, Ok, Err, refl, ap, ◌∙◌, append_assoc, arith}
+use Rattle.std.proofs.Common.{◌≡◌, ℕ, zero, suc, ◌+◌, ◌-◌, ◌<◌, ◌==◌, ◌&&◌, ◌||◌, Bool, true, false, not, nat_le, cond, List, [], ◌∷◌, ◌++◌, length, map, take, drop, position, filter, Option, Some, None, option_map, Result, Ok, Err, refl, ap, ◌∙◌, append_assoc, arith}
 use Rattle.std.specs.Prelude.{All, flat_map, codes, IfSome, IfOk, slice_index_or, if◌then◌else◌}
 use Rattle.std.specs.List.{list_all, slice_split}
 use Rattle.std.proofs.lemmas.Bool.{leb-true}
@@ -15,7 +15,8 @@ use Rattle.rtl_stim_lines.specs.Inputs.{Input, input_at, input_named, values_for
 use Rattle.rtl_stim_lines.specs.Courses.{Course}
 use Rattle.rtl_stim_lines.specs.Reading.{Said, nothing_said, after_set, course_at, with_course, set_values, set_input, after_form, after_line, in_line, one_more, after_lines, ended}
 use Rattle.rtl_machine.specs.Words as words
-use Rattle.rtl_machine.specs.Words.{halves, filled, sides, set_line, word_line, after_sides, next_word, after_words, stopped_at_zero, EachWordSets}
+use Rattle.rtl_stim_lines.specs.Pairs.{Pair, after_pair, one_more_pair, after_pairs, stopped_at_zero}
+use Rattle.rtl_machine.specs.Words.{halves, filled, sides, set_line, word_line, EachWordSets}
 
 -- ---- bytes
 
@@ -88,7 +89,7 @@ record IsLineOf (o : Option (List ℕ × List ℕ)) : Type 0 where
   some : 0 < length body
   line : set_line o ≡ body ++ 10 ∷ []
   plain : All (λ b. is_plain b ≡ true) body
-  says : (inputs : List Input) (said : Said) → after_line inputs said body ≡ after_sides inputs said o
+  says : (inputs : List Input) (said : Said) → after_line inputs said body ≡ after_pair inputs said o
 
 bad_line : IsLineOf None
 bad_line = record { body = codes "="; some = omega arith; line = refl; plain = passing is_plain (codes "=") refl; says = λ inputs said. refl }
@@ -130,7 +131,7 @@ module _ (name value : List ℕ) (good : IsFilled (name, value)) where
   words_are : words_of body_of ≡ codes "at" ∷ codes "0" ∷ name ∷ value ∷ []
   words_are = ap (filter is_word) parts_are ∙ ap (λ (ws : List Word). codes "at" ∷ codes "0" ∷ ws) kept
 
-  body_says : (inputs : List Input) (said : Said) → after_line inputs said body_of ≡ after_sides inputs said (Some (name, value))
+  body_says : (inputs : List Input) (said : Said) → after_line inputs said body_of ≡ after_pair inputs said (Some (name, value))
   body_says inputs said = ap (λ (ws : List Word). if says_nothing ws then Ok said else after_form inputs said (form_of ws)) words_are
 
   set_line_of : IsLineOf (Some (name, value))
@@ -180,14 +181,14 @@ in_number : (number : ℕ) (r : Result Said StimProblem) → IfOk r HasNoStop �
 in_number number (Ok said) h = h
 in_number number (Err problem) h = tt
 
-word_keeps : (inputs : List Input) (number : ℕ) (o : Option (List ℕ × List ℕ)) (said : Said) → HasNoStop said → IfOk (in_line number (after_sides inputs said o)) HasNoStop
+word_keeps : (inputs : List Input) (number : ℕ) (o : Option (List ℕ × List ℕ)) (said : Said) → HasNoStop said → IfOk (in_line number (after_pair inputs said o)) HasNoStop
 word_keeps inputs number None said h = tt
 word_keeps inputs number (Some sides) said h =
     in_number number (set_input inputs said (input_named inputs sides.0) 0 sides.1) (set inputs said (input_named inputs sides.0) 0 sides.1 h)
 
-next_keeps : (inputs : List Input) (number : ℕ) (word : List ℕ) (r : Result Said StimFault) → IfOk r HasNoStop → IfOk (next_word inputs number word r) HasNoStop
-next_keeps inputs number word (Err fault) h = tt
-next_keeps inputs number word (Ok said) h = word_keeps inputs number (sides word) said h
+next_keeps : (inputs : List Input) (number : ℕ) (pair : Pair) (r : Result Said StimFault) → IfOk r HasNoStop → IfOk (one_more_pair inputs number pair r) HasNoStop
+next_keeps inputs number pair (Err fault) h = tt
+next_keeps inputs number pair (Ok said) h = word_keeps inputs number pair said h
 
 -- ---- the whole
 
@@ -197,12 +198,12 @@ stops inputs number (Err fault) h = refl
 stops inputs number (Ok said) h = rw h refl
 
 next_line : (inputs : List Input) (number : ℕ) (word : List ℕ) (body : List ℕ) (r : Result Said StimFault)
-    → ((said : Said) → after_line inputs said body ≡ after_sides inputs said (sides word)) → one_more inputs number body r ≡ next_word inputs number word r
+    → ((said : Said) → after_line inputs said body ≡ after_pair inputs said (sides word)) → one_more inputs number body r ≡ one_more_pair inputs number (sides word) r
 next_line inputs number word body (Err fault) says = refl
 next_line inputs number word body (Ok said) says = ap (in_line number) (says said)
 
 all_say : (inputs : List Input) (number : ℕ) (ws : List (List ℕ)) (r : Result Said StimFault) → IfOk r HasNoStop
-    → ended (after_lines inputs number (lines_of (flat_map word_line ws ++ codes "stop 0\n")) r) ≡ stopped_at_zero (after_words inputs number ws r)
+    → ended (after_lines inputs number (lines_of (flat_map word_line ws ++ codes "stop 0\n")) r) ≡ stopped_at_zero (after_pairs inputs number (map sides ws) r)
 all_say inputs number [] r h = stops inputs number r h
 all_say inputs number (word ∷ ws) r h =
     let l = line_of (sides word) (sides_filled word) in
@@ -212,7 +213,7 @@ all_say inputs number (word ∷ ws) r h =
     ap (λ (text : List ℕ). ended (after_lines inputs number (lines_of text) r)) cut
     ∙ ap (λ (lines : List (List ℕ)). ended (after_lines inputs number lines r)) (first_line l.body tail l.some l.plain)
     ∙ ap (λ (so_far : Result Said StimFault). ended (after_lines inputs (suc number) (lines_of tail) so_far)) (next_line inputs number word l.body r (l.says inputs))
-    ∙ all_say inputs (suc number) ws (next_word inputs number word r) (next_keeps inputs number word r h)
+    ∙ all_say inputs (suc number) ws (one_more_pair inputs number (sides word) r) (next_keeps inputs number (sides word) r h)
 
 pub each_word_sets : EachWordSets
 each_word_sets inputs ws = all_say inputs 1 ws (Ok (nothing_said inputs)) refl

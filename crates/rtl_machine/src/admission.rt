@@ -1,14 +1,18 @@
 //! Which nets and stimuli are simulated as a machine.
 
-ghost use Rattle.std.specs.Prelude.{IfOk, IfErr, ℕ, List};
+ghost use Rattle.std.specs.Prelude.{◌≡◌, IfOk, IfErr, ℕ, List, map, Ok};
 ghost use Rattle.rtl_model.specs.simulation.Accepted.{IsAccepted};
 ghost use Rattle.rtl_model.specs.simulation.Levels.{AreLevels};
 ghost use Rattle.rtl_check.specs.Verdicts.{IsReportOf};
-ghost use Rattle.rtl_stim.specs.Ports.{HasOwnPorts};
+ghost use Rattle.rtl_stim.specs.Ports.{HasOwnPorts, inputs_of};
+ghost use Rattle.rtl_stim.specs.Stimuli.{IsRead};
 ghost use Rattle.rtl_net.specs.Core.{core};
 ghost use Rattle.rtl_machine.specs.Admitted.{IsAdmitted, RefusesNet};
+ghost use Rattle.rtl_machine.specs.Words.{words_text};
 
 use crate::fault::MachineFault;
+use crate::laws::each_word_sets;
+use crate::words::pairs_of;
 use rtl_check::{Report, Verdict, check};
 use rtl_net::Net;
 use rtl_stim::{StimFault, Stimulus, first_race};
@@ -37,6 +41,35 @@ pub fn admit(alloc: Global, net: &Net, text: &[u8]) -> Result<Admitted, MachineF
 {
     let report = accept(alloc, net)?;
     let stimulus = Stimulus::read(alloc, net, text)?;
+    without_race(net, report, stimulus)
+}
+
+/// The same of the stimulus that NAME=VALUE words say; a bad word is told by its place from 1.
+pub(crate) fn admit_words(
+    alloc: Global,
+    net: &Net,
+    words: &[&[u8]],
+) -> Result<Admitted, MachineFault>
+    requires { HasOwnPorts net.now }
+    ensures admitted { IfOk result (λ a. IsAdmitted net.now (words_text (map (λ word. word.now) words.now)) a.bound a.stimulus) }
+    ensures refused { IfErr result (RefusesNet net.now (words_text (map (λ word. word.now) words.now))) }
+{
+    each_word_sets();
+    let report = accept(alloc, net)?;
+    let pairs = pairs_of(alloc, words)?;
+    let stimulus = Stimulus::of_pairs(alloc, net, &pairs)?;
+    without_race(net, report, stimulus)
+}
+
+/// A stimulus of an accepted netlist, if it has no race.
+fn without_race(net: &Net, report: Report, stimulus: Stimulus) -> Result<Admitted, MachineFault>
+    requires accepted { IsAccepted (core net.now) }
+    requires report { IsReportOf (core net.now) report }
+    requires inputs { stimulus.inputs ≡ inputs_of net.now }
+    ensures admitted { (text : List ℕ) → IsRead net.now text (Ok stimulus) → IfOk result (λ a. IsAdmitted net.now text a.bound a.stimulus) }
+    ensures levels { IfOk result (λ a. (greatest : ℕ) × AreLevels (core net.now) a.levels.items greatest) }
+    ensures refused { (text : List ℕ) → IsRead net.now text (Ok stimulus) → IfErr result (RefusesNet net.now text) }
+{
     if let Some(race) = first_race(net, &report.clocks, &stimulus) {
         return Err(MachineFault::Stim(StimFault::Race {
             time: race.time,

@@ -9,11 +9,10 @@ ghost use Rattle.rtl_sink.specs.Written.{IsIntact};
 ghost use Rattle.rtl_machine.specs.Synchronous.{SaysYes, IsRaceless};
 ghost use Rattle.rtl_machine.specs.Evaluated.{Evaluates, IsFirstOf};
 
-use crate::admission::{Admitted, admit};
+use crate::admission::{Admitted, admit_words};
 use crate::fault::MachineFault;
 use crate::laws::accepted_nets_are_synchronous;
 use crate::ports::push_ports;
-use crate::words::words_text;
 use rtl_eval_code::{Code, codes};
 use rtl_kernel::{Forward, Kernel};
 use rtl_net::Net;
@@ -39,8 +38,7 @@ pub fn eval<W: Sink>(
     requires intact { IsIntact (W.state out.old) }
     ensures { Evaluates net.now (map (λ word. word.now) words.now) (W.state out.old) (W.state out.new) result }
 {
-    let text = words_text(alloc, words)?;
-    let admitted = admit(alloc, net, &text)?;
+    let admitted = admit_words(alloc, net, words)?;
     let values = first_values(alloc, net, &admitted)?;
     push_ports(net, &values, out);
     finish(out)?;

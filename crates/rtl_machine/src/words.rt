@@ -1,43 +1,28 @@
-//! The stimulus that NAME=VALUE words say.
+//! The names and values of NAME=VALUE words.
 
-ghost use Rattle.std.specs.Prelude.{◌≡◌, ◌++◌, ◌<◌, ◌==◌, map, length, position, option_map, IfOk, IfSome, OnOk};
+ghost use Rattle.std.specs.Prelude.{◌≡◌, ◌<◌, ◌==◌, map, length, position, IfOk, IfSome};
 ghost use Rattle.rtl_machine.specs.Words as spec;
-ghost use Rattle.rtl_machine.specs.Words.{sides_of};
+ghost use Rattle.rtl_stim_lines.specs.Pairs.{pair_view};
 
 use std::alloc::{AllocError, Global};
 
-/// The text of the stimulus that sets the inputs of these words at 0, and stops there. It takes memory in proportion to
-/// them.
-pub fn words_text(alloc: Global, words: &[&[u8]]) -> Result<Vec<u8>, AllocError>
-    ensures { IfOk result (λ text. text.items ≡ spec.words_text (map (λ word. word.now) words.now)) }
+/// The name and the value of each word. It takes memory in proportion to them.
+pub fn pairs_of<'a>(
+    alloc: Global,
+    words: &[&'a [u8]],
+) -> Result<Vec<Option<(&'a [u8], &'a [u8])>>, AllocError>
+    ensures { IfOk result (λ pairs. map pair_view pairs.items ≡ map spec.sides (map (λ word. word.now) words.now)) }
 {
-    let mut text = Vec::new(alloc);
+    let mut pairs = Vec::new(alloc);
     for word in words {
-        push_line(&mut text, word)?;
+        pairs.push(sides(word))?;
     }
-    text.extend_from_slice(b"stop 0\n")?;
-    Ok(text)
-}
-
-/// Appends the line of a word.
-fn push_line(text: &mut Vec<u8>, word: &[u8]) -> Result<(), AllocError>
-    ensures { OnOk result (text.new.items ≡ text.old.items ++ spec.word_line word.now) }
-{
-    match sides(word) {
-        None => text.extend_from_slice(b"=\n"),
-        Some((name, value)) => {
-            text.extend_from_slice(b"at 0 ")?;
-            text.extend_from_slice(name)?;
-            text.extend_from_slice(b" ")?;
-            text.extend_from_slice(value)?;
-            text.extend_from_slice(b"\n")
-        }
-    }
+    Ok(pairs)
 }
 
 /// The name and the value of a word.
 fn sides(word: &[u8]) -> Option<(&[u8], &[u8])>
-    ensures { spec.sides word.now ≡ sides_of result }
+    ensures { spec.sides word.now ≡ pair_view result }
 {
     if !is_word(word) {
         return None;

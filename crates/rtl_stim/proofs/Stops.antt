@@ -1,5 +1,5 @@
 -- No stimulus stops after the latest time.
-use Rattle.std.proofs.Common.{◌≡◌, ℕ, suc, ◌≤◌, Bool, true, false, cond, not, nat_le, List, [], ◌∷◌, Option, Some, None, is_some, Result, Ok, Err, refl, ◌||◌}
+use Rattle.std.proofs.Common.{◌≡◌, ℕ, suc, ◌≤◌, Bool, true, false, cond, not, nat_le, List, [], ◌∷◌, Option, Some, None, is_some, Result, Ok, Err, refl, ◌||◌, arith}
 use Rattle.std.proofs.lemmas.Bool.{leb-true}
 use Rattle.std.proofs.lemmas.Result.{IfOk-at_ok}
 use Rattle.std.specs.Prelude.{IfOk, IfSome}
@@ -11,6 +11,7 @@ use Rattle.rtl_stim_lines.specs.Lines.{Word, lines_of, words_of, says_nothing}
 use Rattle.rtl_stim_lines.specs.Forms.{Form, At, Clock, Stop, form_of}
 use Rattle.rtl_stim_lines.specs.Inputs.{Input, input_at, input_named, values_for}
 use Rattle.rtl_stim_lines.specs.Courses.{Course}
+use Rattle.rtl_stim_lines.specs.Pairs.{stopped_at_zero}
 use Rattle.rtl_stim_lines.specs.Reading.{Said, Schedule, latest_time, is_too_large, nothing_said, after_set, after_clock, course_at, with_course, set_values, set_input, set_clock, with_stop, after_form, after_line, in_line, one_more, after_lines, with_end, ended, schedule_of}
 
 -- the stop, where it is said, is no later
@@ -78,3 +79,8 @@ ends (Ok said) h = by said.stop h
 -- a schedule that is read stops by the latest time
 pub stops_in_time : (inputs : List Input) (text : List ℕ) (s : Schedule) → schedule_of inputs text ≡ Ok s → s.stop ≤ latest_time
 stops_in_time inputs text s e = IfOk-at_ok (λ (x : Schedule). x.stop ≤ latest_time) e (ends (after_lines inputs 1 (lines_of text) (Ok (nothing_said inputs))) (all inputs 1 (lines_of text) (Ok (nothing_said inputs)) tt))
+
+-- pairs stop at 0
+pub pairs_in_time : (s : Schedule) (r : Result Said StimFault) → stopped_at_zero r ≡ Ok s → s.stop ≤ latest_time
+pairs_in_time s (Ok said) e = IfOk-at_ok (λ (x : Schedule). x.stop ≤ latest_time) e (omega arith)
+pairs_in_time s (Err fault) e = absurd cc

@@ -8,6 +8,7 @@ use Rattle.rtl_stim_lines.specs.declared.faults.StimFault.{StimFault}
 use Rattle.rtl_stim_lines.specs.declared.faults.StimFault.TheVariants.{NoMemory}
 use Rattle.rtl_stim_lines.specs.Inputs.{Input}
 use Rattle.rtl_stim_lines.specs.Reading.{Schedule, schedule_of}
+use Rattle.rtl_stim_lines.specs.Pairs.{Pair, schedule_of_pairs}
 use Rattle.rtl_stim_lines.specs.Times as times
 use Rattle.rtl_stim_lines.specs.Times.{all_nets, value_at}
 use Rattle.rtl_stim.specs.Ports.{inputs_of}
@@ -32,7 +33,15 @@ moments s = times.moments s.schedule
 abbrev pub inputs_at : StimulusView → (m net : ℕ) → ℕ
 inputs_at s = at_moments (moments s) (code_at s)
 
--- A stimulus is what the text says of the netlist's inputs. It is refused for want of memory, or with the text's fault.
+-- A stimulus is what is said of the netlist's inputs. It is refused for want of memory, or with what is wrong.
+abbrev pub IsSaid : NetlistView → (said : Result Schedule StimFault) → Result StimulusView StimFault → Type 0
+IsSaid net said (Ok s) = (s.inputs ≡ inputs_of net) × (said ≡ Ok s.schedule)
+IsSaid net said (Err fault) = fault ≢ NoMemory → said ≡ Err fault
+
+-- by a text
 abbrev pub IsRead : NetlistView → (text : List ℕ) → Result StimulusView StimFault → Type 0
-IsRead net text (Ok s) = (s.inputs ≡ inputs_of net) × (schedule_of (inputs_of net) text ≡ Ok s.schedule)
-IsRead net text (Err fault) = fault ≢ NoMemory → schedule_of (inputs_of net) text ≡ Err fault
+IsRead net text answer = IsSaid net (schedule_of (inputs_of net) text) answer
+
+-- by names with values
+abbrev pub IsPaired : NetlistView → List Pair → Result StimulusView StimFault → Type 0
+IsPaired net pairs answer = IsSaid net (schedule_of_pairs (inputs_of net) pairs) answer

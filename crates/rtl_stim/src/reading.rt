@@ -1,17 +1,20 @@
 //! From a text to the stimulus of a netlist.
 
-ghost use Rattle.std.specs.Prelude.{◌≡◌, ◌<◌, ◌++◌, length, map, vec_len, IfOk, OnOk};
+ghost use Rattle.std.specs.Prelude.{◌≡◌, ◌<◌, ◌≤◌, ◌++◌, length, map, vec_len, IfOk, OnOk};
 ghost use Rattle.rtl_stim_lines.specs.Filling.{HaveOwnNets};
 ghost use Rattle.rtl_stim_lines.specs.View.{inputs_view, schedule_view, course_in, element_view};
 ghost use Rattle.rtl_stim_lines.specs.Times.{all_nets, value_at};
+ghost use Rattle.rtl_stim_lines.specs.Pairs.{pair_view};
+ghost use Rattle.rtl_stim_lines.specs.Reading.{latest_time};
 ghost use Rattle.rtl_stim.specs.Ports.{HasOwnPorts};
-ghost use Rattle.rtl_stim.specs.Stimuli.{IsRead};
+ghost use Rattle.rtl_stim.specs.Moments.{IsStimulus};
+ghost use Rattle.rtl_stim.specs.Stimuli.{IsPaired, IsRead};
 ghost use Rattle.rtl_stim.specs.Kept.{element_values};
 
 use crate::ports::{elements_at, inputs_of};
 use crate::stimulus::Stimulus;
 use rtl_net::Net;
-use rtl_stim_lines::{Element, InputTable, Schedule, StimFault, read_schedule};
+use rtl_stim_lines::{Element, InputTable, Schedule, StimFault, read_pairs, read_schedule};
 use std::alloc::{AllocError, Global};
 use vhdl_values::Nine;
 
@@ -30,13 +33,47 @@ impl Stimulus {
         let _count = net.nets();
         let inputs = inputs_of(alloc, net)?;
         let schedule = read_schedule(alloc, text, &inputs)?;
-        let initial = initial_values(alloc, &inputs, &schedule)?;
-        Ok(Stimulus {
-            inputs,
-            schedule,
-            initial,
-        })
+        Ok(with_initial(alloc, inputs, schedule)?)
     }
+
+    /// The stimulus that sets each input that is named to its value at 0, and stops there. It takes memory for each in port of
+    /// the top and for each pair.
+    ///
+    /// # Errors
+    ///
+    /// The first bad pair's fault, by its place from 1: `BadLine` where a name or a value is missing. `NoMemory` where a growth
+    /// was refused. Never `Race` or `NoStop`.
+    pub fn of_pairs(
+        alloc: Global,
+        net: &Net,
+        pairs: &[Option<(&[u8], &[u8])>],
+    ) -> Result<Stimulus, StimFault>
+        requires { HasOwnPorts net.now }
+        ensures { IsPaired net.now (map pair_view pairs.now) result }
+    {
+        let _count = net.nets();
+        let inputs = inputs_of(alloc, net)?;
+        let schedule = read_pairs(alloc, pairs, &inputs)?;
+        Ok(with_initial(alloc, inputs, schedule)?)
+    }
+}
+
+/// The stimulus of these inputs with their courses.
+fn with_initial(
+    alloc: Global,
+    inputs: InputTable,
+    schedule: Schedule,
+) -> Result<Stimulus, AllocError>
+    requires stimulus { IsStimulus (record { inputs = inputs_view inputs; schedule = schedule_view schedule }) }
+    requires in_time { schedule.stop ≤ latest_time }
+    ensures { IfOk result (λ s. s ≡ record { inputs = inputs_view inputs; schedule = schedule_view schedule }) }
+{
+    let initial = initial_values(alloc, &inputs, &schedule)?;
+    Ok(Stimulus {
+        inputs,
+        schedule,
+        initial,
+    })
 }
 
 /// The value of each input's element at 0.

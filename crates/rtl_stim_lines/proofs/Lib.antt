@@ -3,3 +3,4 @@ pub mod Saying
 pub mod Parts
 pub mod Clocks
 pub mod Lasts
+pub mod Pairing

@@ -3,6 +3,7 @@ pub mod Forms
 pub mod Inputs
 pub mod Courses
 pub mod Reading
+pub mod Pairs
 pub mod Times
 pub mod Filling
 pub mod StimFaults

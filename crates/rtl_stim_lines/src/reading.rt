@@ -54,7 +54,7 @@ pub fn line_end(text: &[u8]) -> Option<usize>
 
 impl Said {
     /// Nothing is said of these inputs.
-    fn new(alloc: Global, inputs: &InputTable) -> Result<Said, AllocError>
+    pub(crate) fn new(alloc: Global, inputs: &InputTable) -> Result<Said, AllocError>
         ensures said { IfOk result (λ said. said_view said ≡ nothing_said (inputs_view inputs.now)) }
         ensures each { IfOk result (λ said. vec_len said.courses ≡ length (inputs_view inputs.now)) }
     {
@@ -141,7 +141,7 @@ impl Said {
     }
 
     /// Takes in that an input is set at a time.
-    fn read_set(
+    pub(crate) fn read_set(
         &mut self,
         alloc: Global,
         inputs: &InputTable,

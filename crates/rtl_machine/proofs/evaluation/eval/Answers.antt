@@ -1,8 +1,7 @@
-use Rattle.std.proofs.Common.{ℕ, List, Result, inl, refl, subst, ◌∙◌}
+use Rattle.std.proofs.Common.{ℕ, List, Result, inl, refl, subst}
 use Rattle.rtl_sink.specs.Written.{Goes}
 use Rattle.rtl_machine.specs.declared.fault.MachineFault.{MachineFault}
 use Rattle.rtl_machine.specs.declared.fault.MachineFault.TheVariants.{Output}
-use Rattle.rtl_machine.specs.Admitted.{IsAdmitted}
 use Rattle.rtl_machine.specs.Evaluated.{port_lines, Prints}
 use Rattle.rtl_machine.proofs.Refusals.{err_with}
 use Rattle.rtl_machine.proofs.evaluation.eval.Goals as goal
@@ -16,11 +15,11 @@ returns-in_err-finish g c =
     let new = g.W.Sink.state c.push_ports.new.out in
     let values = c.in_ok-values.values.items in
     let text = port_lines net values in
-    let goes = subst (λ (vs : List ℕ). Goes old new (port_lines net vs)) c.deref-2.ensures.value c.push_ports.ensures in
+    let goes = subst (λ (vs : List ℕ). Goes old new (port_lines net vs)) c.deref.ensures.value c.push_ports.ensures in
     inl (record {
       bound = bound;
       stimulus = s;
-      admitted = subst (λ (said : List ℕ). IsAdmitted net said bound s) (c.deref.ensures.value ∙ c.in_ok-text.ensures) c.in_ok-admitted.ensures.admitted;
+      admitted = c.in_ok-admitted.ensures.admitted;
       done = err_with (λ (r : Result (Unit {0}) MachineFault). Prints net s bound old new r) c.from_residual-in_err-finish.result Output c.from_residual-in_err-finish.ensures.1
           (c.in_err-finish.ensures.err, text, record { valuation = values; first = c.in_ok-values.ensures.first; is = refl }, goes.beginning c.requires.intact);
     })
@@ -34,11 +33,11 @@ returns g c =
     let new = g.W.Sink.state c.push_ports.new.out in
     let values = c.in_ok-values.values.items in
     let text = port_lines net values in
-    let goes = subst (λ (vs : List ℕ). Goes old new (port_lines net vs)) c.deref-2.ensures.value c.push_ports.ensures in
+    let goes = subst (λ (vs : List ℕ). Goes old new (port_lines net vs)) c.deref.ensures.value c.push_ports.ensures in
     let intact = c.in_ok-finish.ensures.ok in
     inl (record {
       bound = bound;
       stimulus = s;
-      admitted = subst (λ (said : List ℕ). IsAdmitted net said bound s) (c.deref.ensures.value ∙ c.in_ok-text.ensures) c.in_ok-admitted.ensures.admitted;
+      admitted = c.in_ok-admitted.ensures.admitted;
       done = (intact, text, record { valuation = values; first = c.in_ok-values.ensures.first; is = refl }, (goes.whole intact).1);
     })

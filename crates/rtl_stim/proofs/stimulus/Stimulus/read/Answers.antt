@@ -1,13 +1,11 @@
-use Rattle.std.proofs.Common.{sym, subst, arith}
-use Rattle.std.proofs.lemmas.List.{length-map}
-use Rattle.rtl_stim_lines.specs.View.{course_view, inputs_view, schedule_view, AreVectors}
-use Rattle.std.proofs.Common.{List, ◌≤◌, length}
+use Rattle.std.proofs.Common.{◌≤◌, List, length, sym, subst, arith}
 use Rattle.std.specs.Prelude.{All}
+use Rattle.std.proofs.lemmas.List.{length-map}
 use Rattle.std.proofs.lemmas.List.Elements.{All-weaker}
-use Rattle.rtl_stim_lines.specs.Inputs.{Input}
-use Rattle.rtl_stim_lines.specs.View.{IsVector}
-use Rattle.rtl_stim.specs.Ports.{inputs_of}
 use Rattle.rtl_stim_lines.specs.Filling.{HaveOwnNets}
+use Rattle.rtl_stim_lines.specs.Inputs.{Input}
+use Rattle.rtl_stim_lines.specs.View.{course_view, inputs_view, schedule_view, AreVectors, IsVector}
+use Rattle.rtl_stim.specs.Ports.{inputs_of}
 use Rattle.rtl_stim.proofs.PortLemmas.{are_vectors, have_own_nets}
 use Rattle.rtl_stim.proofs.Stops.{stops_in_time}
 use Rattle.rtl_stim.proofs.stimulus.Stimulus.read.Goals as goal
@@ -15,17 +13,13 @@ use Rattle.rtl_stim.proofs.stimulus.Stimulus.read.Goals as goal
 pub read_schedule-requires : goal.read_schedule-requires
 read_schedule-requires c = subst AreVectors (sym c.in_ok-inputs.ensures) (are_vectors c.args.net.now c.nets-count.ensures.elaborated)
 
-pub initial_values-requires-clause-own : goal.initial_values-requires-clause-own
-initial_values-requires-clause-own c = subst HaveOwnNets (sym c.in_ok-inputs.ensures) (have_own_nets c.args.net.now c.nets-count.ensures.elaborated c.requires)
-
-pub invariant_of-result : goal.invariant_of-result
-invariant_of-result c = record {
-  stimulus = record {
-    own_nets = subst HaveOwnNets (sym c.in_ok-inputs.ensures) (have_own_nets c.args.net.now c.nets-count.ensures.elaborated c.requires);
-    each_course = omega (arith, length-map c.in_ok-schedule.schedule.courses.items course_view, c.in_ok-schedule.schedule.courses.ok.0, c.in_ok-schedule.ensures.each);
-    have_elements = subst (λ (inputs : List Input). All (λ input. 1 ≤ length input.elements) inputs) (sym c.in_ok-inputs.ensures)
-        (All-weaker (λ input. IsVector input.elements) (λ input. 1 ≤ length input.elements) (λ input wide. wide.0) (inputs_of c.args.net.now) (are_vectors c.args.net.now c.nets-count.ensures.elaborated));
-  };
-  initial = c.in_ok-initial.ensures;
-  in_time = stops_in_time (inputs_view c.in_ok-inputs.inputs) c.args.text.now (schedule_view c.in_ok-schedule.schedule) c.in_ok-schedule.ensures.given;
+pub with_initial-requires-clause-stimulus : goal.with_initial-requires-clause-stimulus
+with_initial-requires-clause-stimulus c = record {
+  own_nets = subst HaveOwnNets (sym c.in_ok-inputs.ensures) (have_own_nets c.args.net.now c.nets-count.ensures.elaborated c.requires);
+  each_course = omega (arith, length-map c.in_ok-schedule.schedule.courses.items course_view, c.in_ok-schedule.schedule.courses.ok.0, c.in_ok-schedule.ensures.each);
+  have_elements = subst (λ (inputs : List Input). All (λ input. 1 ≤ length input.elements) inputs) (sym c.in_ok-inputs.ensures)
+      (All-weaker (λ input. IsVector input.elements) (λ input. 1 ≤ length input.elements) (λ input wide. wide.0) (inputs_of c.args.net.now) (are_vectors c.args.net.now c.nets-count.ensures.elaborated));
 }
+
+pub with_initial-requires-clause-in_time : goal.with_initial-requires-clause-in_time
+with_initial-requires-clause-in_time c = stops_in_time (inputs_view c.in_ok-inputs.inputs) c.args.text.now (schedule_view c.in_ok-schedule.schedule) c.in_ok-schedule.ensures.given
