@@ -1,5 +1,5 @@
 -- What the parts of a design count against the limits of elaboration, and what is left of these behind them.
-use Rattle.std.specs.Prelude.{ℕ, ◌+◌, ◌-◌, List, length, map, sum, Ok}
+use Rattle.std.specs.Prelude.{ℕ, ◌+◌, ◌-◌, nat_le, List, length, map, sum, Ok}
 use Rattle.vhdl_expand_rules.specs.declared.fault.ElabProblem.TheVariants.{TooMany}
 use Rattle.vhdl_expand_rules.specs.Elab.{Elab, ◌>>=◌, ◌>>◌, unless}
 use Rattle.vhdl_expand_rules.specs.Tree.{Object, Variable, Process, Instance, instance, Parts, no_parts, process, inner}

@@ -200,22 +200,22 @@ pub of_loop-loop-turn-preserved : goal.of_loop-loop-turn-preserved
 of_loop-loop-turn-preserved t c =
     let at = integers_view c.args.integers.now in
     let body = analysed.statements_of (analysed.statements_view c.args.repeated.now.statements) in
-    let same = c.parameter.ensures in
-    let f : SFits w32 c.parameter.result = search rules in
-    let fixed : to_z w32 (of_z w32 c.parameter.result) ≡ c.parameter.result = omega (arith, ints) in
-    turns_go (λ i. statements_costs (in_turn at i) body) c.in_ok-turns.turns.direction c.in_ok-turns.turns.first c.in_ok-turns.turns.count _ _ _ c.loop-turn.turn c.parameter.result
+    let same = c.parameter-value.ensures in
+    let f : SFits w32 c.parameter-value.result = search rules in
+    let fixed : to_z w32 (of_z w32 c.parameter-value.result) ≡ c.parameter-value.result = omega (arith, ints) in
+    turns_go (λ i. statements_costs (in_turn at i) body) c.in_ok-turns.turns.direction c.in_ok-turns.turns.first c.in_ok-turns.turns.count _ _ _ c.loop-turn.turn c.parameter-value.result
     c.loop-turn-test.true same c.loop-turn.invariant (same_turn at _ body _ _ fixed ∙ c.in_ok-of_turn.ensures)
 
 pub of_loop-returns-in_err-of_turn : goal.of_loop-returns-in_err-of_turn
 of_loop-returns-in_err-of_turn t c =
     let at = integers_view c.args.integers.now in
     let body = analysed.statements_of (analysed.statements_view c.args.repeated.now.statements) in
-    let same = c.parameter.ensures in
-    let f : SFits w32 c.parameter.result = search rules in
-    let fixed : to_z w32 (of_z w32 c.parameter.result) ≡ c.parameter.result = omega (arith, ints) in
+    let same = c.parameter-value.ensures in
+    let f : SFits w32 c.parameter-value.result = search rules in
+    let fixed : to_z w32 (of_z w32 c.parameter-value.result) ≡ c.parameter-value.result = omega (arith, ints) in
     let stopped : c.in_err-of_turn.field-0.0 ≢ NoMemory
     → MayTell (paid (budget_view c.args.budget.now) (statement_costs at (units.for_of (range_view c.args.repeated.now.range) body))) (told c.in_err-of_turn.field-0.0) =
-    λ n. turns_stop (λ i. statements_costs (in_turn at i) body) c.in_ok-turns.turns.direction c.in_ok-turns.turns.first c.in_ok-turns.turns.count _ _ c.loop-turn.turn c.parameter.result
+    λ n. turns_stop (λ i. statements_costs (in_turn at i) body) c.in_ok-turns.turns.direction c.in_ok-turns.turns.first c.in_ok-turns.turns.count _ _ c.loop-turn.turn c.parameter-value.result
     c.loop-turn-test.true same c.loop-turn.invariant (tells_same (same_turn at _ body _ _ fixed) (c.in_err-of_turn.ensures n)) in
     first_of (search rules, grind (arith, common_steps))
 

@@ -149,13 +149,13 @@ turns-loop-turn-preserved t c =
     let body = units.concurrents_of (units.concurrents_view w.statements) in
     let at = spot_view c.args.spot.now in
     let now = progress_view c.loop-turn.so_far in
-    let same = c.parameter.ensures in
-    let f : SFits w32 c.parameter.result = search rules in
-    let fixed : to_z w32 (of_z w32 c.parameter.result) ≡ c.parameter.result = omega (arith, ints) in
+    let same = c.parameter-value.ensures in
+    let f : SFits w32 c.parameter-value.result = search rules in
+    let fixed : to_z w32 (of_z w32 c.parameter-value.result) ≡ c.parameter-value.result = omega (arith, ints) in
     let made = ap (λ j. adding now (turned (units_of c.args.self.now) c.args.self.now.levels at w.label.text.items body j)) (sym fixed) ∙ c.in_ok-turn.ensures in
-    let fits = turns_fit now (progress_view c.turn.new.so_far) (turned (units_of c.args.self.now) c.args.self.now.levels at w.label.text.items body c.parameter.result) made in
+    let fits = turns_fit now (progress_view c.turn.new.so_far) (turned (units_of c.args.self.now) c.args.self.now.levels at w.label.text.items body c.parameter-value.result) made in
     record {
-      leads = turns_go (units_of c.args.self.now) c.args.self.now.levels at w.label.text.items body _ now (progress_view c.turn.new.so_far) r.direction r.first c.parameter.result r.count c.loop-turn.turn c.loop-turn-test.true same c.loop-turn.invariant.leads made;
+      leads = turns_go (units_of c.args.self.now) c.args.self.now.levels at w.label.text.items body _ now (progress_view c.turn.new.so_far) r.direction r.first c.parameter-value.result r.count c.loop-turn.turn c.loop-turn-test.true same c.loop-turn.invariant.leads made;
       fits = omega (arith, fits, c.loop-turn.invariant.fits);
     }
 
@@ -166,11 +166,11 @@ turns-returns-in_err-turn t c =
     let body = units.concurrents_of (units.concurrents_view w.statements) in
     let at = spot_view c.args.spot.now in
     let now = progress_view c.loop-turn.so_far in
-    let same = c.parameter.ensures in
-    let f : SFits w32 c.parameter.result = search rules in
-    let fixed : to_z w32 (of_z w32 c.parameter.result) ≡ c.parameter.result = omega (arith, ints) in
+    let same = c.parameter-value.ensures in
+    let f : SFits w32 c.parameter-value.result = search rules in
+    let fixed : to_z w32 (of_z w32 c.parameter-value.result) ≡ c.parameter-value.result = omega (arith, ints) in
     let stopped : c.in_err-turn.field-0.0 ≢ NoMemory → MayTell (adding (progress_view c.args.so_far.now) (for_each (units_of c.args.self.now) c.args.self.now.levels (spot_view c.args.spot.now) w.label.text.items (units.concurrents_of (units.concurrents_view w.statements)) (range_view c.args.range.now))) (told c.in_err-turn.field-0.0) =
-    λ n. turns_stop (units_of c.args.self.now) c.args.self.now.levels at w.label.text.items body _ now r.direction r.first c.parameter.result r.count c.loop-turn.turn c.loop-turn-test.true same c.loop-turn.invariant.leads
+    λ n. turns_stop (units_of c.args.self.now) c.args.self.now.levels at w.label.text.items body _ now r.direction r.first c.parameter-value.result r.count c.loop-turn.turn c.loop-turn-test.true same c.loop-turn.invariant.leads
     (subst (λ j. MayTell (adding now (turned (units_of c.args.self.now) c.args.self.now.levels at w.label.text.items body j)) (told c.in_err-turn.field-0.0)) fixed (c.in_err-turn.ensures n)) in
     first_of (search rules, grind (arith, common_steps))
 

@@ -138,13 +138,13 @@ pub add_turns-returns-in_err-add_turn : goal.add_turns-returns-in_err-add_turn
 add_turns-returns-in_err-add_turn t c =
     let at = site_view c.args.self.now in
     let body = analysed.statements_of (analysed.statements_view c.args.repeated.now.statements) in
-    let same = c.parameter.ensures in
-    let f : SFits w32 c.parameter.result = search rules in
-    let fixed : to_z w32 (of_z w32 c.parameter.result) ≡ c.parameter.result = omega (arith, ints) in
+    let same = c.parameter-value.ensures in
+    let f : SFits w32 c.parameter-value.result = search rules in
+    let fixed : to_z w32 (of_z w32 c.parameter-value.result) ≡ c.parameter-value.result = omega (arith, ints) in
     let stopped : c.in_err-add_turn.field-0.0 ≢ NoMemory
     → (after (statements_of c.args.body.now.items) (steps.turned at (range_view c.args.repeated.now.range) body)) ≡ Err (told c.in_err-add_turn.field-0.0) =
     λ n. subst (λ (r : Elab bodies.Stmts). r ≡ Err (told c.in_err-add_turn.field-0.0)) (sym (turned_goes at (range_view c.args.repeated.now.range) body _ (statements_of c.args.body.now.items) c.in_ok-turns.ensures))
-    (turns_stop at body _ (statements_of c.loop-turn.body.items) c.in_ok-turns.turns.direction c.in_ok-turns.turns.first c.parameter.result c.in_ok-turns.turns.count c.loop-turn.turn c.loop-turn-test.true c.loop-turn.invariant same
+    (turns_stop at body _ (statements_of c.loop-turn.body.items) c.in_ok-turns.turns.direction c.in_ok-turns.turns.first c.parameter-value.result c.in_ok-turns.turns.count c.loop-turn.turn c.loop-turn-test.true c.loop-turn.invariant same
     (subst (λ (r : Elab bodies.Stmts). r ≡ Err (told c.in_err-add_turn.field-0.0)) (sym (same_turn at (statements_of c.loop-turn.body.items) _ _ _ _ fixed c.deref.ensures.value)) (c.in_err-add_turn.ensures n))) in
     first_of (search rules, grind (arith, common_steps))
 
@@ -152,10 +152,10 @@ pub add_turns-loop-turn-preserved : goal.add_turns-loop-turn-preserved
 add_turns-loop-turn-preserved t c =
     let at = site_view c.args.self.now in
     let body = analysed.statements_of (analysed.statements_view c.args.repeated.now.statements) in
-    let same = c.parameter.ensures in
-    let f : SFits w32 c.parameter.result = search rules in
-    let fixed : to_z w32 (of_z w32 c.parameter.result) ≡ c.parameter.result = omega (arith, ints) in
-    turns_go at body _ (statements_of c.loop-turn.body.items) _ c.in_ok-turns.turns.direction c.in_ok-turns.turns.first c.parameter.result c.in_ok-turns.turns.count c.loop-turn.turn c.loop-turn-test.true c.loop-turn.invariant same
+    let same = c.parameter-value.ensures in
+    let f : SFits w32 c.parameter-value.result = search rules in
+    let fixed : to_z w32 (of_z w32 c.parameter-value.result) ≡ c.parameter-value.result = omega (arith, ints) in
+    turns_go at body _ (statements_of c.loop-turn.body.items) _ c.in_ok-turns.turns.direction c.in_ok-turns.turns.first c.parameter-value.result c.in_ok-turns.turns.count c.loop-turn.turn c.loop-turn-test.true c.loop-turn.invariant same
     (same_turn at (statements_of c.loop-turn.body.items) _ _ _ _ fixed c.deref.ensures.value ∙ c.in_ok-add_turn.ensures)
 
 pub add_turns-returns : goal.add_turns-returns
