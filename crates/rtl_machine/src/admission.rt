@@ -65,6 +65,7 @@ pub(crate) fn admit_words(
 fn without_race(net: &Net, report: Report, stimulus: Stimulus) -> Result<Admitted, MachineFault>
     requires accepted { IsAccepted (core net.now) }
     requires report { IsReportOf (core net.now) report }
+    requires ports { HasOwnPorts net.now }
     requires inputs { stimulus.inputs ≡ inputs_of net.now }
     ensures admitted { (text : List ℕ) → IsRead net.now text (Ok stimulus) → IfOk result (λ a. IsAdmitted net.now text a.bound a.stimulus) }
     ensures levels { IfOk result (λ a. (greatest : ℕ) × AreLevels (core net.now) a.levels.items greatest) }

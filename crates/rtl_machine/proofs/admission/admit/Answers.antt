@@ -18,5 +18,11 @@ returns-in_err-stimulus-clause-refused c =
     err_with (λ r. IfErr r (RefusesNet net text)) c.from_residual-in_err-stimulus.result (of_stim fault) c.from_residual-in_err-stimulus.ensures.1
     (refused_text net text fault c.in_ok-report.ensures.accepted c.in_err-stimulus.ensures)
 
-pub returns-clause-levels : goal.returns-clause-levels
-returns-clause-levels c = let report = c.in_ok-report.ensures.report in (report.greatest, report.levels_are)
+pub without_race-requires-clause-inputs : goal.without_race-requires-clause-inputs
+without_race-requires-clause-inputs c = c.in_ok-stimulus.ensures.0
+
+pub returns-clause-admitted : goal.returns-clause-admitted
+returns-clause-admitted c = c.without_race.ensures.admitted c.args.text.now c.in_ok-stimulus.ensures
+
+pub returns-clause-refused : goal.returns-clause-refused
+returns-clause-refused c = c.without_race.ensures.refused c.args.text.now c.in_ok-stimulus.ensures
