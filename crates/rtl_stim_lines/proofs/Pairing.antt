@@ -1,5 +1,5 @@
 -- A bad pair among pairs.
-use Rattle.std.proofs.Common.{◌≡◌, ℕ, suc, ◌<◌, List, [], ◌∷◌, length, map, drop, get_or, drop-cons, Result, Ok, Err, refl, ap, ◌∙◌}
+use Rattle.std.proofs.Common.{◌≡◌, ℕ, suc, ◌<◌, List, [], ◌∷◌, length, map, drop, get_or, drop-cons, Ok, Err, refl, ap, ◌∙◌}
 use Rattle.rtl_stim_lines.specs.declared.faults.StimFault.{StimFault}
 use Rattle.rtl_stim_lines.specs.Inputs.{Input}
 use Rattle.rtl_stim_lines.specs.Pairs.{Pair, after_pair, after_pairs}

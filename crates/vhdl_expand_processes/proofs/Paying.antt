@@ -1,9 +1,7 @@
 -- Costs that are paid one after another, and those of lists and of turns.
 use Rattle.std.proofs.Common.{◌≡◌, ℕ, zero, suc, ◌+◌, ◌<◌, ◌≤◌, List, [], ◌∷◌, length, map, get_or, drop, drop-cons, add-one, Result, Ok, Err, refl, sym, ap, ◌∙◌, subst, arith}
 use Rattle.std.specs.Prelude.{ℤ}
-use Rattle.std.proofs.lemmas.Int.{ints}
 use Rattle.vhdl_tree.specs.declared.operator.Direction.{Direction}
-use Rattle.vhdl_tree.specs.declared.operator.Direction.TheVariants.{To, Downto}
 use Rattle.vhdl_expand_rules.specs.declared.fault.ElabFault.{ElabFault}
 use Rattle.vhdl_expand_rules.specs.Elab.{Elab, ◌>>=◌, MayTell}
 use Rattle.vhdl_expand_rules.specs.Integers.{counted, next}

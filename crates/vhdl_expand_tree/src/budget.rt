@@ -13,10 +13,15 @@ use vhdl_expand_rules::{ElabFault, ElabProblem};
 
 // What a whole design may have.
 const MAX_PROCESSES: u32 = 65_536;
+
 const MAX_INSTANCES: u32 = 65_536;
+
 const MAX_NETS: u32 = 1_048_576;
+
 const MAX_TURNS: u32 = 4_194_304;
+
 const MAX_STATEMENTS: u32 = 1_048_576;
+
 const MAX_VARIABLE_ELEMENTS: u32 = 1_048_576;
 
 /// How many parts of each sort may still be made.

@@ -1,7 +1,5 @@
 -- Statements whose parts stand in lists, as the code comes to them.
-use Rattle.std.specs.Prelude.{ℕ, ℤ, pos, ◌+ℤ◌, ◌-ℤ◌, List, [], ◌∷◌, Ok}
-use Rattle.vhdl_tree.specs.declared.operator.Direction.{Direction}
-use Rattle.vhdl_tree.specs.declared.operator.Direction.TheVariants.{To, Downto}
+use Rattle.std.specs.Prelude.{ℕ, ℤ, List, [], ◌∷◌, Ok}
 use Rattle.vhdl_names_rules.specs.units.Expressions.{Range, Value}
 use Rattle.vhdl_names_rules.specs.units.Statements as u
 use Rattle.rtl_model.specs.bodies.Body as bodies

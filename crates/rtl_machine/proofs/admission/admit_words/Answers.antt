@@ -1,12 +1,11 @@
-use Rattle.std.proofs.Common.{◌≡◌, List, ℕ, Bor, Ok, map, ap, sym, ◌∙◌}
+use Rattle.std.proofs.Common.{◌≡◌, List, ℕ, Bor, map, ap, sym, ◌∙◌}
 use Rattle.std.specs.Prelude.{IfErr}
 use Rattle.rtl_stim_lines.specs.Pairs.{pair_view, schedule_of_pairs}
 use Rattle.rtl_stim_lines.specs.Reading.{schedule_of}
 use Rattle.rtl_stim.specs.Ports.{inputs_of}
-use Rattle.rtl_stim.specs.Stimuli.{IsRead}
 use Rattle.rtl_machine.specs.Faults.{of_stim}
 use Rattle.rtl_machine.specs.Admitted.{RefusesNet}
-use Rattle.rtl_machine.specs.Words.{sides, words_text}
+use Rattle.rtl_machine.specs.Words.{words_text}
 use Rattle.rtl_machine.proofs.Refusals.{err_with, refused_text}
 use Rattle.rtl_machine.proofs.admission.admit_words.Goals as goal
 

@@ -1,7 +1,7 @@
 use mir.Syntax.{w32}
 use mir.Val.{SFits, to_z, of_z}
 use Rattle.std.proofs.lemmas.Int.{ints}
-use Rattle.std.proofs.Common.{◌≡◌, ◌<◌, length, map, ap, ◌∙◌, sym, arith, rules}
+use Rattle.std.proofs.Common.{◌≡◌, ◌<◌, length, map, ap, ◌∙◌, arith, rules}
 use Rattle.std.specs.Prelude.{◌≢◌}
 use Rattle.std.proofs.lemmas.Grind.{common_steps}
 use Rattle.vhdl_names_rules.specs.units.Statements as units
@@ -11,7 +11,7 @@ use Rattle.vhdl_names_units.specs.declared.sequential.If.{out-If}
 use Rattle.vhdl_names_units.specs.views.Sequential as analysed
 use Rattle.vhdl_expand_rules.specs.declared.fault.ElabFault.TheVariants.{NoMemory}
 use Rattle.vhdl_expand_rules.specs.views.Integers.{integers_view}
-use Rattle.vhdl_expand_rules.proofs.Steps.{given, ok}
+use Rattle.vhdl_expand_rules.proofs.Steps.{given}
 use Rattle.vhdl_expand_tree.specs.Costs.{a_statement}
 use Rattle.vhdl_expand_tree.specs.Views.{budget_view}
 use Rattle.vhdl_expand_tree.proofs.Alike.{alike_same, alike_trans, tells, tells_same}

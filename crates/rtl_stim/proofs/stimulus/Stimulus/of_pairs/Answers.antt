@@ -4,7 +4,7 @@ use Rattle.std.proofs.lemmas.List.{length-map}
 use Rattle.std.proofs.lemmas.List.Elements.{All-weaker}
 use Rattle.rtl_stim_lines.specs.Filling.{HaveOwnNets}
 use Rattle.rtl_stim_lines.specs.Inputs.{Input}
-use Rattle.rtl_stim_lines.specs.View.{course_view, inputs_view, schedule_view, AreVectors, IsVector}
+use Rattle.rtl_stim_lines.specs.View.{course_view, schedule_view, AreVectors, IsVector}
 use Rattle.rtl_stim.specs.Ports.{inputs_of}
 use Rattle.rtl_stim.proofs.PortLemmas.{are_vectors, have_own_nets}
 use Rattle.rtl_stim.proofs.Stops.{pairs_in_time}

@@ -26,7 +26,7 @@ use Rattle.vhdl_names_units.specs.views.Concurrent as units
 use Rattle.vhdl_names_units.proofs.rows.Concurrent.{view_generate}
 use Rattle.vhdl_expand_rules.specs.declared.fault.ElabFault.TheVariants.{NoMemory}
 use Rattle.vhdl_expand_rules.specs.declared.fault.ElabProblem.TheVariants.{NoTop, TooDeep}
-use Rattle.vhdl_expand_rules.proofs.Steps.{ok, given}
+use Rattle.vhdl_expand_rules.proofs.Steps.{given}
 use Rattle.vhdl_expand_tree.proofs.Alike.{tells, tells_same}
 use Rattle.vhdl_expand.specs.Making as made
 use Rattle.vhdl_expand.specs.Making.{adding, progress_view, made_turns, made_instance, nothing_yet}

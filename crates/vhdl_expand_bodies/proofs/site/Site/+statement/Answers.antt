@@ -13,7 +13,6 @@ use Rattle.vhdl_names_units.specs.declared.sequential.Case.{out-Case}
 use Rattle.vhdl_names_units.specs.declared.sequential.If.{out-If}
 use Rattle.vhdl_names_units.specs.views.Sequential as analysed
 use Rattle.vhdl_expand_rules.specs.declared.fault.ElabFault.TheVariants.{NoMemory}
-use Rattle.vhdl_expand_rules.proofs.Steps.{ok}
 use Rattle.vhdl_expand_rules.specs.Statements as definition
 use Rattle.vhdl_expand_bodies.specs.Sites.{site_view}
 use Rattle.vhdl_expand_bodies.specs.Statements.{branches_view, alternatives_view, otherwise_view}
