@@ -10,7 +10,7 @@ use Rattle.vhdl_names_rules.specs.Visibility.{Sight, declare, ends}
 use Rattle.vhdl_names_rules.specs.Visibility as visibility
 use Rattle.vhdl_names_rules.specs.SameText.{same_generics, same_ports}
 use Rattle.vhdl_names_rules.specs.Interfaces.{EntityView, entity_named}
-use Rattle.vhdl_names_problems.specs.Broken.{Broken, Tells, ◌∪◌, is_of, unless, lacking, where_given}
+use Rattle.vhdl_names_problems.specs.Broken.{Broken, Tells, ◌▸◌, is_of, unless, lacking, where_given}
 use Rattle.vhdl_names_problems.specs.Interfaces.{component, interface}
 use Rattle.vhdl_names_problems.proofs.Telling.{told_left, told_right, told_given, told_lacking}
 use Rattle.vhdl_names_declarations.specs.Entered.{more}
@@ -20,7 +20,7 @@ use Rattle.vhdl_names_components.specs.Components.{inner}
 
 -- the rules of a component in its region
 abbrev pub component_in : List EntityView → Sight → t.Component → Broken
-component_in es s c = component es s c ∪ standing_twice s.region (c.name.text ∷ [])
+component_in es s c = component es s c ▸ standing_twice s.region (c.name.text ∷ [])
 
 abbrev has_entity : List EntityView → t.Component → Broken
 has_entity es c = lacking (Undeclared ∷ []) (entity_named es c.name.text)
@@ -43,22 +43,22 @@ module _ (es : List EntityView) (s : Sight) (c : t.Component) (f : NameFault) wh
 
   pub no_entity : (f ≢ NoMemory → entity_named es c.name.text ≡ None) → Tells (is_of (Undeclared ∷ [])) f → Tells (component_in es s c) f
   no_entity none h =
-      whole (told_left (has_entity es c) (is_entity es c ∪ (interface_of s c ∪ ends_so c)) f (told_lacking (Undeclared ∷ []) (entity_named es c.name.text) f none h))
+      whole (told_left (has_entity es c) (is_entity es c ▸ (interface_of s c ▸ ends_so c)) f (told_lacking (Undeclared ∷ []) (entity_named es c.name.text) f none h))
 
   pub other_entity : (e : ℕ × EntityView) → entity_named es c.name.text ≡ Some e → Tells (differs c e) f → Tells (component_in es s c) f
   other_entity e is h =
-      whole (told_right (has_entity es c) (is_entity es c ∪ (interface_of s c ∪ ends_so c)) f
-      (told_left (is_entity es c) (interface_of s c ∪ ends_so c) f (told_given (differs c) (entity_named es c.name.text) e f is h)))
+      whole (told_right (has_entity es c) (is_entity es c ▸ (interface_of s c ▸ ends_so c)) f
+      (told_left (is_entity es c) (interface_of s c ▸ ends_so c) f (told_given (differs c) (entity_named es c.name.text) e f is h)))
 
   pub own_region : Tells (interface_of s c) f → Tells (component_in es s c) f
   own_region h =
-      whole (told_right (has_entity es c) (is_entity es c ∪ (interface_of s c ∪ ends_so c)) f
-      (told_right (is_entity es c) (interface_of s c ∪ ends_so c) f (told_left (interface_of s c) (ends_so c) f h)))
+      whole (told_right (has_entity es c) (is_entity es c ▸ (interface_of s c ▸ ends_so c)) f
+      (told_right (is_entity es c) (interface_of s c ▸ ends_so c) f (told_left (interface_of s c) (ends_so c) f h)))
 
   pub other_end : Tells (ends_so c) f → Tells (component_in es s c) f
   other_end h =
-      whole (told_right (has_entity es c) (is_entity es c ∪ (interface_of s c ∪ ends_so c)) f
-      (told_right (is_entity es c) (interface_of s c ∪ ends_so c) f (told_right (interface_of s c) (ends_so c) f h)))
+      whole (told_right (has_entity es c) (is_entity es c ▸ (interface_of s c ▸ ends_so c)) f
+      (told_right (is_entity es c) (interface_of s c ▸ ends_so c) f (told_right (interface_of s c) (ends_so c) f h)))
 
   pub named_twice : (m : visibility.Meaning) → (f ≢ NoMemory → more s.region (declare c.name.text m ∷ []) ≡ None) → Tells (is_of (Twice ∷ [])) f → Tells (component_in es s c) f
   named_twice m none h =

@@ -7,7 +7,7 @@ use Rattle.vhdl_names_rules.specs.Visibility.{Name, Declared, Sight, declare, un
 use Rattle.vhdl_names_rules.specs.Interfaces.{EntityView, interface}
 use Rattle.vhdl_names_rules.specs.Files as rules
 use Rattle.vhdl_names_rules.specs.laws.Regions.{names_in}
-use Rattle.vhdl_names_problems.specs.Broken.{Broken, ◌∪◌}
+use Rattle.vhdl_names_problems.specs.Broken.{Broken, ◌▸◌}
 use Rattle.vhdl_names_problems.specs.Declarations.{in_order}
 use Rattle.vhdl_names_problems.specs.Files.{declaration}
 use Rattle.vhdl_names_declarations.specs.Standing.{standing_twice}
@@ -35,4 +35,4 @@ analysed_view (Some d) = declaration_view d
 -- which rules declarations one after another break, each name of which enters the region
 abbrev pub declarations_broken : List EntityView → Sight → List t.Declaration → Broken
 declarations_broken entities sight ds =
-    in_order with_declared (rules.declaration entities) (declaration entities) sight ds ∪ standing_twice sight.region (flat_map names_in ds)
+    in_order with_declared (rules.declaration entities) (declaration entities) sight ds ▸ standing_twice sight.region (flat_map names_in ds)

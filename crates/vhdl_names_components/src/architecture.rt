@@ -12,7 +12,7 @@ ghost use Rattle.vhdl_names_rules.specs.Visibility.{with_declared};
 ghost use Rattle.vhdl_tree.specs.View as tree;
 ghost use Rattle.vhdl_names_types.specs.Views.{region_view, sight_view};
 ghost use Rattle.vhdl_names_units.specs.views.Declarations.{declarations_view};
-ghost use Rattle.vhdl_names_problems.specs.Broken.{Tells, ◌∪◌};
+ghost use Rattle.vhdl_names_problems.specs.Broken.{Tells, ◌▸◌};
 ghost use Rattle.vhdl_names_problems.specs.Files as broken;
 ghost use Rattle.vhdl_names_rules.specs.laws.Regions.{names_in};
 ghost use Rattle.vhdl_names_declarations.specs.Standing.{standing_twice};
@@ -44,7 +44,7 @@ fn declaration(
         (entering (rules.declaration (entities_view entities.now)) (sight_view sight.old) (tree.declaration_view one.now)) result }
     ensures outermost { OnOk result (region_view sight.new.enclosing ≡ []) }
     ensures told { IfErr result (Tells (broken.declaration (entities_view entities.now) (sight_view sight.old) (tree.declaration_view one.now)
-        ∪ standing_twice (sight_view sight.old).region (names_in (tree.declaration_view one.now)))) }
+        ▸ standing_twice (sight_view sight.old).region (names_in (tree.declaration_view one.now)))) }
 {
     match one {
         syntax::Declaration::Signals(one) => {

@@ -12,7 +12,7 @@ ghost use Rattle.vhdl_names_rules.specs.declared.fault.NameFault.TheVariants.{At
 ghost use Rattle.vhdl_names_rules.specs.declared.fault.NameProblem.TheVariants.{Twice, WrongKind};
 ghost use Rattle.vhdl_tree.specs.View.{component_view, option_generics_view, option_ports_view};
 ghost use Rattle.vhdl_names_types.specs.Views.{region_view, sight_view};
-ghost use Rattle.vhdl_names_problems.specs.Broken.{Tells, ◌∪◌, is_of, unless};
+ghost use Rattle.vhdl_names_problems.specs.Broken.{Tells, ◌▸◌, is_of, unless};
 ghost use Rattle.vhdl_names_problems.specs.Interfaces as broken;
 ghost use Rattle.vhdl_names_declarations.specs.Standing.{standing_twice};
 
@@ -85,7 +85,7 @@ pub fn component(
         (entering (rules.component (entities_view entities.now)) (sight_view sight.old) (component_view component.now)) result }
     ensures outermost { OnOk result (region_view sight.new.enclosing ≡ []) }
     ensures told { IfErr result (Tells (broken.component (entities_view entities.now) (sight_view sight.old) (component_view component.now)
-        ∪ standing_twice (sight_view sight.old).region ((component_view component.now).name.text ∷ []))) }
+        ▸ standing_twice (sight_view sight.old).region ((component_view component.now).name.text ∷ []))) }
 {
     let name = &component.name;
     is_new(&sight.region, name)?;

@@ -10,7 +10,7 @@ use Rattle.vhdl_names_rules.specs.Rules.{◌>>=◌, met}
 use Rattle.vhdl_names_rules.specs.Visibility.{Name, Declared, Sight, Declares, are_distinct}
 use Rattle.vhdl_names_rules.specs.Interfaces.{declared_names}
 use Rattle.vhdl_names_rules.proofs.laws.Rules.{comes, kept}
-use Rattle.vhdl_names_problems.specs.Broken.{Broken, Tells, ◌∪◌, is, is_of, unless, where_given}
+use Rattle.vhdl_names_problems.specs.Broken.{Broken, Tells, ◌▸◌, is, is_of, unless, where_given}
 use Rattle.vhdl_names_problems.specs.Declarations.{in_order}
 use Rattle.vhdl_names_problems.proofs.Telling.{told_left, told_right, told_given, is_same}
 use Rattle.vhdl_names_declarations.specs.Entered.{more}
@@ -45,8 +45,8 @@ told_never b o x (At p at) is none = absurd (no_value x (sym is ∙ none (at_is_
     no_value x e = cc
 told_never b o x NoMemory is none = tt
 
-pub told_either : (a b c : Broken) (f : NameFault) → (Tells a f → Tells c f) → (Tells b f → Tells c f) → Tells (a ∪ b) f → Tells c f
-unfolding ◌∪◌
+pub told_either : (a b c : Broken) (f : NameFault) → (Tells a f → Tells c f) → (Tells b f → Tells c f) → Tells (a ▸ b) f → Tells c f
+unfolding ◌▸◌
 told_either a b c (At p at) left right h = go (a p) refl h
   where
     go : (x : Bool) → a p ≡ x → (x || b p) ≡ true → c p ≡ true
@@ -91,12 +91,12 @@ module _ (region : Sight → List Declared) (with_more : Sight → List Declared
     {A B : Type 0} (declares : Sight → A → Option (Declares B)) (broken : Sight → A → Broken) (names : A → List Name)
     (named : (s : Sight) (a : A) (x : Declares B) → declares s a ≡ Some x → declared_names x.declared ≡ names a) where
   abbrev pub all_broken : Sight → List A → Broken
-  all_broken s as' = in_order with_more declares broken s as' ∪ standing_twice (region s) (flat_map names as')
+  all_broken s as' = in_order with_more declares broken s as' ▸ standing_twice (region s) (flat_map names as')
 
   abbrev after : Sight → A → List A → Broken
   after s a as' = where_given (declares s a) (λ x. in_order with_more declares broken (with_more s x.declared) as')
 
-  pub told_first : (s : Sight) (a : A) (as' : List A) (f : NameFault) → Tells (broken s a ∪ standing_twice (region s) (names a)) f → Tells (all_broken s (a ∷ as')) f
+  pub told_first : (s : Sight) (a : A) (as' : List A) (f : NameFault) → Tells (broken s a ▸ standing_twice (region s) (names a)) f → Tells (all_broken s (a ∷ as')) f
   told_first s a as' f =
       told_either (broken s a) (standing_twice (region s) (names a)) (all_broken s (a ∷ as')) f
       (λ h. told_left (in_order with_more declares broken s (a ∷ as')) (standing_twice (region s) (flat_map names (a ∷ as'))) f (told_left (broken s a) (after s a as') f h))
@@ -113,7 +113,7 @@ module _ (region : Sight → List Declared) (with_more : Sight → List Declared
 
   module _ {C : Type 0} (view : C → A) where
     pub told_at : (s : Sight) (cs : List C) (i : ℕ) (c : C) (f : NameFault) → i < length cs → c ≡ get_or cs i c →
-        Tells (broken s (view c) ∪ standing_twice (region s) (names (view c))) f → Tells (all_broken s (map view (drop i cs))) f
+        Tells (broken s (view c) ▸ standing_twice (region s) (names (view c))) f → Tells (all_broken s (map view (drop i cs))) f
     told_at s cs i c f lt is h =
         subst (λ l. Tells (all_broken s (map view l)) f) (sym (drop-cons cs i c lt ∙ ap (λ k. k ∷ drop (suc i) cs) (sym is))) (told_first s (view c) (map view (drop (suc i) cs)) f h)
 

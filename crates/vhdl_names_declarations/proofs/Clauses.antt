@@ -10,7 +10,7 @@ use Rattle.vhdl_names_rules.specs.declared.fault.NameProblem.TheVariants.{Undecl
 use Rattle.vhdl_names_rules.specs.Rules.{◌>>=◌, met}
 use Rattle.vhdl_names_rules.specs.Packages as packages
 use Rattle.vhdl_names_rules.specs.Packages.{Context, is_library, is_logic, is_numbers}
-use Rattle.vhdl_names_problems.specs.Broken.{Broken, Tells, nothing, ◌∪◌, unless, where_given}
+use Rattle.vhdl_names_problems.specs.Broken.{Broken, Tells, nothing, ◌▸◌, unless, where_given}
 use Rattle.vhdl_names_problems.specs.Declarations.{context}
 use Rattle.vhdl_names_problems.proofs.Telling.{told_left, told_right, told_given}
 use Rattle.vhdl_names_declarations.specs.Standing.{used}
@@ -37,8 +37,8 @@ library_told before ns rest f = told_left (unless LeftOut (list_all is_library n
 pub used_told : (before : Context) (ss : List Selected) (rest : List ContextItem) (f : NameFault) → Tells (used before ss) f → Tells (context before (uses ss ∷ rest)) f
 used_told before ss rest f =
     told_either (has_library before) (are_offered ss) (context before (uses ss ∷ rest)) f
-    (told_left (has_library before) (are_offered ss ∪ later before (uses ss) rest) f)
-    (λ h. told_right (has_library before) (are_offered ss ∪ later before (uses ss) rest) f (told_left (are_offered ss) (later before (uses ss) rest) f h))
+    (told_left (has_library before) (are_offered ss ▸ later before (uses ss) rest) f)
+    (λ h. told_right (has_library before) (are_offered ss ▸ later before (uses ss) rest) f (told_left (are_offered ss) (later before (uses ss) rest) f h))
 
 pub told_item : (before : Context) (item : ContextItem) (rest : List ContextItem) (f : NameFault) → Tells (context before (item ∷ [])) f → Tells (context before (item ∷ rest)) f
 told_item before (library ns) rest f =
@@ -46,10 +46,10 @@ told_item before (library ns) rest f =
     (told_left (unless LeftOut (list_all is_library ns)) (later before (library ns) rest) f)
     (no_more (packages.context before (library ns ∷ [])) (context before (library ns ∷ rest)) f)
 told_item before (uses ss) rest f =
-    told_either (has_library before) (are_offered ss ∪ later before (uses ss) []) (context before (uses ss ∷ rest)) f
-    (told_left (has_library before) (are_offered ss ∪ later before (uses ss) rest) f)
+    told_either (has_library before) (are_offered ss ▸ later before (uses ss) []) (context before (uses ss ∷ rest)) f
+    (told_left (has_library before) (are_offered ss ▸ later before (uses ss) rest) f)
     (told_either (are_offered ss) (later before (uses ss) []) (context before (uses ss ∷ rest)) f
-    (λ h. told_right (has_library before) (are_offered ss ∪ later before (uses ss) rest) f (told_left (are_offered ss) (later before (uses ss) rest) f h))
+    (λ h. told_right (has_library before) (are_offered ss ▸ later before (uses ss) rest) f (told_left (are_offered ss) (later before (uses ss) rest) f h))
     (no_more (packages.context before (uses ss ∷ [])) (context before (uses ss ∷ rest)) f))
 
 pub told_items : (before c : Context) (item : ContextItem) (rest : List ContextItem) (f : NameFault) → packages.context before (item ∷ []) ≡ Some c →
@@ -57,7 +57,7 @@ pub told_items : (before c : Context) (item : ContextItem) (rest : List ContextI
 told_items before c (library ns) rest f is h =
     told_right (unless LeftOut (list_all is_library ns)) (later before (library ns) rest) f (told_given (λ c. context c rest) (packages.context before (library ns ∷ [])) c f is h)
 told_items before c (uses ss) rest f is h =
-    told_right (has_library before) (are_offered ss ∪ later before (uses ss) rest) f
+    told_right (has_library before) (are_offered ss ▸ later before (uses ss) rest) f
     (told_right (are_offered ss) (later before (uses ss) rest) f (told_given (λ c. context c rest) (packages.context before (uses ss ∷ [])) c f is h))
 
 -- one item after another

@@ -10,7 +10,7 @@ use Rattle.vhdl_names_rules.specs.Packages.{Context, is_logic, is_numbers}
 use Rattle.vhdl_names_rules.specs.Subtypes.{as_integer_type}
 use Rattle.vhdl_names_rules.specs.Declarations as declarations
 use Rattle.vhdl_names_rules.specs.Interfaces.{declared_names}
-use Rattle.vhdl_names_problems.specs.Broken.{Broken, ◌∪◌, unless, where_given}
+use Rattle.vhdl_names_problems.specs.Broken.{Broken, ◌▸◌, unless, where_given}
 use Rattle.vhdl_names_problems.specs.Expressions.{meaning}
 use Rattle.vhdl_names_problems.specs.Declarations.{in_order, constants_by, generic, port, variables}
 
@@ -33,19 +33,19 @@ enumeration_names d = d.name.text ∷ names_of d.literals
 
 -- generics one after another, ports, and a process's variables
 abbrev pub generics_broken : Sight → List t.Generic → Broken
-generics_broken sight gs = in_order with_declared declarations.generic generic sight gs ∪ standing_twice sight.region (generic_names gs)
+generics_broken sight gs = in_order with_declared declarations.generic generic sight gs ▸ standing_twice sight.region (generic_names gs)
 
 abbrev pub ports_broken : Sight → List t.Port → Broken
-ports_broken sight ps = in_order with_declared declarations.port port sight ps ∪ standing_twice sight.region (port_names ps)
+ports_broken sight ps = in_order with_declared declarations.port port sight ps ▸ standing_twice sight.region (port_names ps)
 
 abbrev pub variables_broken : Sight → List t.Variables → Broken
-variables_broken sight vs = in_order with_variables declarations.variables variables sight vs ∪ standing_twice sight.variables (variable_names vs)
+variables_broken sight vs = in_order with_variables declarations.variables variables sight vs ▸ standing_twice sight.variables (variable_names vs)
 
 -- constants, with their names hidden
 abbrev pub constants_broken : Sight → t.Constants → Broken
 constants_broken inner d =
-    meaning inner d.subtype.mark.text ∪ where_given (visibility.meaning inner d.subtype.mark.text) (λ m. constants_by inner d (as_integer_type m))
+    meaning inner d.subtype.mark.text ▸ where_given (visibility.meaning inner d.subtype.mark.text) (λ m. constants_by inner d (as_integer_type m))
 
 -- a use clause
 abbrev pub used : Context → List Selected → Broken
-used before ss = unless Undeclared before.has_ieee ∪ unless LeftOut (list_all (λ s. is_logic s || is_numbers s) ss)
+used before ss = unless Undeclared before.has_ieee ▸ unless LeftOut (list_all (λ s. is_logic s || is_numbers s) ss)

@@ -12,7 +12,7 @@ ghost use Rattle.vhdl_tree.specs.View as tree;
 ghost use Rattle.vhdl_names_types.specs.Views.{meaning_view, sight_view};
 ghost use Rattle.vhdl_names_units.specs.views.Answers.{fixed_view};
 ghost use Rattle.vhdl_names_units.specs.views.Declarations.{declaration_view};
-ghost use Rattle.vhdl_names_problems.specs.Broken.{Tells, ◌∪◌, is_of};
+ghost use Rattle.vhdl_names_problems.specs.Broken.{Tells, ◌▸◌, is_of};
 ghost use Rattle.vhdl_names_problems.specs.Declarations as broken;
 ghost use Rattle.vhdl_names_problems.specs.Expressions as expressions_broken;
 ghost use Rattle.vhdl_names_rules.specs.Visibility.{names_of};
@@ -165,7 +165,7 @@ pub fn constants(
         (entering rules.constants (sight_view sight.old) (tree.constants_view declaration.now)) result }
     ensures kept { OnOk result (sight.new ≡ record sight.old { region = sight.new.region }) }
     ensures told { IfErr result (Tells (broken.constants (sight_view sight.old) (tree.constants_view declaration.now)
-        ∪ standing_twice (sight_view sight.old).region (names_of (tree.constants_view declaration.now).names))) }
+        ▸ standing_twice (sight_view sight.old).region (names_of (tree.constants_view declaration.now).names))) }
 {
     let first = sight.region.len();
     hide(alloc, &mut sight.region, &declaration.names)?;

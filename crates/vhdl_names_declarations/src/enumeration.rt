@@ -7,7 +7,7 @@ ghost use Rattle.vhdl_names_rules.specs.Gives.{Gives};
 ghost use Rattle.vhdl_names_rules.specs.Visibility.{count_of, names_of, is_enumeration_type};
 ghost use Rattle.vhdl_tree.specs.View.{ident_view, enumeration_view};
 ghost use Rattle.vhdl_names_types.specs.Views.{region_view, sight_view};
-ghost use Rattle.vhdl_names_problems.specs.Broken.{Tells, ◌∪◌, is_of};
+ghost use Rattle.vhdl_names_problems.specs.Broken.{Tells, ◌▸◌, is_of};
 ghost use Rattle.vhdl_names_problems.specs.Declarations as broken;
 ghost use Rattle.vhdl_names_rules.specs.declared.fault.NameProblem.TheVariants.{Twice};
 ghost use Rattle.vhdl_names_declarations.specs.Standing.{standing_twice, enumeration_names};
@@ -56,7 +56,7 @@ pub fn enumeration(
         (entering rules.enumeration (sight_view sight.old) (enumeration_view declaration.now)) result }
     ensures kept { OnOk result (sight.new ≡ record sight.old { region = sight.new.region }) }
     ensures told { IfErr result (Tells (broken.enumeration (enumeration_view declaration.now)
-        ∪ standing_twice (sight_view sight.old).region (enumeration_names (enumeration_view declaration.now)))) }
+        ▸ standing_twice (sight_view sight.old).region (enumeration_names (enumeration_view declaration.now)))) }
 {
     let count = declaration.literals.len();
     if count > 256 {

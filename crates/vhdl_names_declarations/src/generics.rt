@@ -13,7 +13,7 @@ ghost use Rattle.vhdl_names_rules.specs.views.Integers.{static_view};
 ghost use Rattle.vhdl_tree.specs.View.{option_expr_view, generic_view};
 ghost use Rattle.vhdl_names_types.specs.Views.{meaning_view, sight_view};
 ghost use Rattle.vhdl_names_units.specs.views.Declarations.{generics_view, all_generics_view};
-ghost use Rattle.vhdl_names_problems.specs.Broken.{Tells, ◌∪◌, is_of, of_any};
+ghost use Rattle.vhdl_names_problems.specs.Broken.{Tells, ◌▸◌, is_of, of_any};
 ghost use Rattle.vhdl_names_problems.specs.Declarations as broken;
 ghost use Rattle.vhdl_names_problems.specs.Expressions as expressions_broken;
 ghost use Rattle.vhdl_names_rules.specs.Visibility.{names_of};
@@ -88,7 +88,7 @@ fn generic(
         (entering rules.generic (sight_view sight.old) (generic_view generic.now)) result }
     ensures kept { OnOk result (sight.new ≡ record sight.old { region = sight.new.region }) }
     ensures told { IfErr result (Tells (broken.generic (sight_view sight.old) (generic_view generic.now)
-        ∪ standing_twice (sight_view sight.old).region (names_of (generic_view generic.now).names))) }
+        ▸ standing_twice (sight_view sight.old).region (names_of (generic_view generic.now).names))) }
 {
     let first = sight.region.len();
     let typed = generic_type(alloc, sight, generic);

@@ -13,7 +13,7 @@ ghost use Rattle.vhdl_tree.specs.View as tree;
 ghost use Rattle.vhdl_names_types.specs.Views.{sight_view};
 ghost use Rattle.vhdl_names_units.specs.views.Answers.{subtype_view, fixed_view};
 ghost use Rattle.vhdl_names_units.specs.views.Declarations.{declaration_view, object_view, objects_view};
-ghost use Rattle.vhdl_names_problems.specs.Broken.{Tells, ◌∪◌, of_any};
+ghost use Rattle.vhdl_names_problems.specs.Broken.{Tells, ◌▸◌, of_any};
 ghost use Rattle.vhdl_names_problems.specs.Declarations as broken;
 ghost use Rattle.vhdl_names_problems.specs.Subtypes as subtypes_broken;
 ghost use Rattle.vhdl_names_rules.specs.Visibility.{names_of};
@@ -93,7 +93,7 @@ pub fn signals(
         (entering rules.signals (sight_view sight.old) (tree.signals_view declaration.now)) result }
     ensures kept { OnOk result (sight.new ≡ record sight.old { region = sight.new.region }) }
     ensures told { IfErr result (Tells (broken.signals (sight_view sight.old) (tree.signals_view declaration.now)
-        ∪ standing_twice (sight_view sight.old).region (names_of (tree.signals_view declaration.now).names))) }
+        ▸ standing_twice (sight_view sight.old).region (names_of (tree.signals_view declaration.now).names))) }
 {
     let first = sight.region.len();
     hide(alloc, &mut sight.region, &declaration.names)?;
@@ -115,7 +115,7 @@ fn variables_of_one(
     ensures given { Gives (λ o. (sight_view sight.new, object_view o))
         (entering_variables rules.variables (sight_view sight.old) (tree.variables_view declaration.now)) result }
     ensures told { IfErr result (Tells (broken.variables (sight_view sight.old) (tree.variables_view declaration.now)
-        ∪ standing_twice (sight_view sight.old).variables (names_of (tree.variables_view declaration.now).names))) }
+        ▸ standing_twice (sight_view sight.old).variables (names_of (tree.variables_view declaration.now).names))) }
 {
     let first = sight.variables.len();
     hide(alloc, &mut sight.variables, &declaration.names)?;

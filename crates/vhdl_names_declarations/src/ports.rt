@@ -10,7 +10,7 @@ ghost use Rattle.vhdl_tree.specs.View as tree;
 ghost use Rattle.vhdl_names_types.specs.Views.{sight_view};
 ghost use Rattle.vhdl_names_units.specs.views.Answers.{subtype_view, fixed_view};
 ghost use Rattle.vhdl_names_units.specs.views.Declarations.{ports_view, all_ports_view};
-ghost use Rattle.vhdl_names_problems.specs.Broken.{Tells, ◌∪◌, is_of};
+ghost use Rattle.vhdl_names_problems.specs.Broken.{Tells, ◌▸◌, is_of};
 ghost use Rattle.vhdl_names_problems.specs.Declarations as broken;
 ghost use Rattle.vhdl_names_rules.specs.Visibility.{names_of};
 ghost use Rattle.vhdl_names_rules.specs.declared.fault.NameProblem.TheVariants.{LeftOut};
@@ -71,7 +71,7 @@ fn port(alloc: Global, sight: &mut Sight, number: usize, port: &Port) -> Result<
     ensures given { Gives (λ p. (sight_view sight.new, ports_view p)) (entering rules.port (sight_view sight.old) (tree.port_view port.now)) result }
     ensures kept { OnOk result (sight.new ≡ record sight.old { region = sight.new.region }) }
     ensures told { IfErr result (Tells (broken.port (sight_view sight.old) (tree.port_view port.now)
-        ∪ standing_twice (sight_view sight.old).region (names_of (tree.port_view port.now).names))) }
+        ▸ standing_twice (sight_view sight.old).region (names_of (tree.port_view port.now).names))) }
 {
     let first = sight.region.len();
     let typed = port_type(alloc, sight, port);

@@ -31,7 +31,7 @@ use Rattle.vhdl_names_rules.specs.Operators.{Typed, integer, elements, operated,
 use Rattle.vhdl_names_rules.specs.Expressions as are
 use Rattle.vhdl_names_rules.specs.Expressions.{beside, as_integer}
 use Rattle.vhdl_names_types.specs.Steps.{signed_by}
-use Rattle.vhdl_names_problems.specs.Broken.{Broken, Tells, ◌∪◌, is_of, unless, lacking, where_given}
+use Rattle.vhdl_names_problems.specs.Broken.{Broken, Tells, ◌▸◌, is_of, unless, lacking, where_given}
 use Rattle.vhdl_names_problems.specs.Expressions.{typed, typed_suffix, typed_each, static, static_range, mismatch, integer_wanted, meaning, attribute, event_of, name_problems, with_suffix, operator_problems}
 use Rattle.vhdl_names_problems.proofs.Telling.{told_left, told_right, told_lacking, told_given, told_on}
 use Rattle.vhdl_names_expressions.specs.Breaking.{link_breaks, all_break, started_breaks}
@@ -53,8 +53,8 @@ or_either true y h l r = l refl
 or_either false y h l r = r h
 
 -- what is told of two parts is told of one of them
-pub told_either : {C : Type 0} (a b : Broken) (f : NameFault) → Tells (a ∪ b) f → (Tells a f → C) → (Tells b f → C) → C
-unfolding ◌∪◌
+pub told_either : {C : Type 0} (a b : Broken) (f : NameFault) → Tells (a ▸ b) f → (Tells a f → C) → (Tells b f → C) → C
+unfolding ◌▸◌
 told_either a b (At p at) h l r = or_either (a p) (b p) h l r
 told_either a b NoMemory h l r = l tt
 
@@ -68,12 +68,12 @@ operator_is sight x l (Some v) None = refl
 operator_is sight x l (Some v) (Some y) = ap (λ z. lacking (operator_problems sight.numbers) (operated sight.numbers l.operator v z)) (beside_if x y)
 
 binary_is : (sight : Sight) (b : Bool) (x : t.Expr) (l : Link) →
-    typed sight (t.binary b l.operator l.at x (view l.operand)) ≡ typed sight x ∪ link_breaks sight (is_parens x) (are.typed sight x) l
+    typed sight (t.binary b l.operator l.at x (view l.operand)) ≡ typed sight x ▸ link_breaks sight (is_parens x) (are.typed sight x) l
 unfolding typed
-binary_is sight b x l = ap (λ c. typed sight x ∪ (typed sight (view l.operand) ∪ c)) (operator_is sight x l (are.typed sight x) (are.typed sight (view l.operand)))
+binary_is sight b x l = ap (λ c. typed sight x ▸ (typed sight (view l.operand) ▸ c)) (operator_is sight x l (are.typed sight x) (are.typed sight (view l.operand)))
 
 binary_told : (sight : Sight) (b : Bool) (x : t.Expr) (l : Link) (f : NameFault) →
-    Tells (typed sight x ∪ link_breaks sight (is_parens x) (are.typed sight x) l) f → Tells (typed sight (t.binary b l.operator l.at x (view l.operand))) f
+    Tells (typed sight x ▸ link_breaks sight (is_parens x) (are.typed sight x) l) f → Tells (typed sight (t.binary b l.operator l.at x (view l.operand))) f
 binary_told sight b x l f = told_along _ _ f (sym (binary_is sight b x l))
 
 -- a chain breaks what its beginning breaks, and what its links break on that
@@ -153,9 +153,9 @@ begun_second sight k b v r given is =
 
 -- the links that are left, the next of them first
 rest_breaks : (sight : Sight) (v : Typed) (ls : List Link) (i : ℕ) (l : Link) → i < length ls → l ≡ get_or ls i l →
-    link_breaks sight false (Some v) l ∪ all_break sight (linked sight false (Some v) l) (drop (suc i) ls) ≡ all_break sight (Some v) (drop i ls)
+    link_breaks sight false (Some v) l ▸ all_break sight (linked sight false (Some v) l) (drop (suc i) ls) ≡ all_break sight (Some v) (drop i ls)
 rest_breaks sight v ls i l lt e =
-    ap (λ k. link_breaks sight false (Some v) k ∪ all_break sight (linked sight false (Some v) k) (drop (suc i) ls)) e
+    ap (λ k. link_breaks sight false (Some v) k ▸ all_break sight (linked sight false (Some v) k) (drop (suc i) ls)) e
     ∙ sym (ap (all_break sight (Some v)) (drop-cons ls i l lt))
 
 pub link_told : (sight : Sight) (v : Typed) (ls : List Link) (i : ℕ) (l : Link) (f : NameFault) → i < length ls → l ≡ get_or ls i l →
@@ -194,24 +194,24 @@ module _ (sight : Sight) (n : Ident) (y : t.Suffix) (a : Option Ident) (f : Name
   abbrev behind : Broken
   behind = where_given (visibility.meaning sight n.text) (λ d. where_given (are.typed_suffix sight y) (with_suffix a d))
 
-  named_is : typed sight (t.named n y a) ≡ typed_suffix sight y ∪ meaning sight n.text ∪ attribute a ∪ behind
+  named_is : typed sight (t.named n y a) ≡ typed_suffix sight y ▸ meaning sight n.text ▸ attribute a ▸ behind
   unfolding typed
   named_is = refl
 
-  whole : Tells (typed_suffix sight y ∪ meaning sight n.text ∪ attribute a ∪ behind) f → Tells (typed sight (t.named n y a)) f
+  whole : Tells (typed_suffix sight y ▸ meaning sight n.text ▸ attribute a ▸ behind) f → Tells (typed sight (t.named n y a)) f
   whole = told_along _ _ f (sym named_is)
 
-  of_name : Tells (meaning sight n.text ∪ attribute a ∪ behind) f → Tells (typed sight (t.named n y a)) f
-  of_name h = whole (told_right (typed_suffix sight y) (meaning sight n.text ∪ attribute a ∪ behind) f h)
+  of_name : Tells (meaning sight n.text ▸ attribute a ▸ behind) f → Tells (typed sight (t.named n y a)) f
+  of_name h = whole (told_right (typed_suffix sight y) (meaning sight n.text ▸ attribute a ▸ behind) f h)
 
-  of_what_follows : Tells (attribute a ∪ behind) f → Tells (typed sight (t.named n y a)) f
-  of_what_follows h = of_name (told_right (meaning sight n.text) (attribute a ∪ behind) f h)
+  of_what_follows : Tells (attribute a ▸ behind) f → Tells (typed sight (t.named n y a)) f
+  of_what_follows h = of_name (told_right (meaning sight n.text) (attribute a ▸ behind) f h)
 
   pub named_suffix : Tells (typed_suffix sight y) f → Tells (typed sight (t.named n y a)) f
-  named_suffix h = whole (told_left (typed_suffix sight y) (meaning sight n.text ∪ attribute a ∪ behind) f h)
+  named_suffix h = whole (told_left (typed_suffix sight y) (meaning sight n.text ▸ attribute a ▸ behind) f h)
 
   pub named_meaning : Tells (meaning sight n.text) f → Tells (typed sight (t.named n y a)) f
-  named_meaning h = of_name (told_left (meaning sight n.text) (attribute a ∪ behind) f h)
+  named_meaning h = of_name (told_left (meaning sight n.text) (attribute a ▸ behind) f h)
 
   named_attribute : Tells (attribute a) f → Tells (typed sight (t.named n y a)) f
   named_attribute h = of_what_follows (told_left (attribute a) behind f h)
@@ -225,7 +225,7 @@ module _ (sight : Sight) (n : Ident) (y : t.Suffix) (a : Option Ident) (f : Name
       (told_given (with_suffix a d) (are.typed_suffix sight y) x f e2 h)))
 
   pub named_denoted : (d : visibility.Meaning) (x : Suffix) → visibility.meaning sight n.text ≡ Some d → are.typed_suffix sight y ≡ Some x →
-      (f ≢ NoMemory → denoted d x ≡ None) → Tells (is_of (name_problems d) ∪ attribute a) f → Tells (typed sight (t.named n y a)) f
+      (f ≢ NoMemory → denoted d x ≡ None) → Tells (is_of (name_problems d) ▸ attribute a) f → Tells (typed sight (t.named n y a)) f
   named_denoted d x e1 e2 none h =
       told_either (is_of (name_problems d)) (attribute a) f h
       (λ k. of_both d x e1 e2
@@ -233,7 +233,7 @@ module _ (sight : Sight) (n : Ident) (y : t.Suffix) (a : Option Ident) (f : Name
       named_attribute
 
   pub named_attributed : (d : visibility.Meaning) (x : Suffix) (v : Typed) → visibility.meaning sight n.text ≡ Some d → are.typed_suffix sight y ≡ Some x →
-      denoted d x ≡ Some v → Tells (attribute a ∪ event_of a v) f → Tells (typed sight (t.named n y a)) f
+      denoted d x ≡ Some v → Tells (attribute a ▸ event_of a v) f → Tells (typed sight (t.named n y a)) f
   named_attributed d x v e1 e2 e3 h =
       told_either (attribute a) (event_of a v) f h
       named_attribute
@@ -277,7 +277,7 @@ literal_told qs o g see (Err f) h k = told_lacking qs o f (λ n. none_of g o (h 
 -- ---- what is asked of what is given
 
 pub asked_told : {A B X : Type 0} (b : Broken) (o : Option A) (qs : A → List NameProblem) (wanted : A → Option B) (see : X → B) (v : A) (r : Result X NameFault) →
-    o ≡ Some v → Gives see (wanted v) r → IfErr r (Tells (is_of (qs v))) → IfErr r (Tells (b ∪ where_given o (λ x. lacking (qs x) (wanted x))))
+    o ≡ Some v → Gives see (wanted v) r → IfErr r (Tells (is_of (qs v))) → IfErr r (Tells (b ▸ where_given o (λ x. lacking (qs x) (wanted x))))
 asked_told b o qs wanted see v (Ok x) e h k = tt
 asked_told b o qs wanted see v (Err f) e h k =
     told_right b (where_given o (λ x. lacking (qs x) (wanted x))) f
@@ -332,13 +332,13 @@ module _ (sight : Sight) (e d : Expr) (at : ℕ) (box : Box Expr Global) where
   unfolding typed
   parens_is is e2 = ap (λ v. typed sight (view v)) is ∙ sym (ap (λ v. typed sight (view v)) e2)
 
-  negation_is : e ≡ x.Not at box → d ≡ box.value → typed sight (view e) ≡ typed sight (view d) ∪ where_given (are.typed sight (view d)) (λ y. lacking mismatch (inverse y))
+  negation_is : e ≡ x.Not at box → d ≡ box.value → typed sight (view e) ≡ typed sight (view d) ▸ where_given (are.typed sight (view d)) (λ y. lacking mismatch (inverse y))
   unfolding typed
-  negation_is is e2 = ap (λ v. typed sight (view v)) is ∙ sym (ap (λ v. typed sight (view v) ∪ where_given (are.typed sight (view v)) (λ y. lacking mismatch (inverse y))) e2)
+  negation_is is e2 = ap (λ v. typed sight (view v)) is ∙ sym (ap (λ v. typed sight (view v) ▸ where_given (are.typed sight (view v)) (λ y. lacking mismatch (inverse y))) e2)
 
-  sign_is : (sign : Sign) → e ≡ x.Signed sign at box → d ≡ box.value → typed sight (view e) ≡ typed sight (view d) ∪ integer_wanted (are.typed sight (view d))
+  sign_is : (sign : Sign) → e ≡ x.Signed sign at box → d ≡ box.value → typed sight (view e) ≡ typed sight (view d) ▸ integer_wanted (are.typed sight (view d))
   unfolding typed
-  sign_is sign is e2 = ap (λ v. typed sight (view v)) is ∙ sym (ap (λ v. typed sight (view v) ∪ integer_wanted (are.typed sight (view v))) e2)
+  sign_is sign is e2 = ap (λ v. typed sight (view v)) is ∙ sym (ap (λ v. typed sight (view v) ▸ integer_wanted (are.typed sight (view v))) e2)
 
   -- what stands in parentheses, or behind an operator
   pub parens_told : (f : NameFault) → e ≡ x.Parens at box → d ≡ box.value → Tells (typed sight (view d)) f → Tells (typed sight (view e)) f

@@ -13,7 +13,7 @@ use Rattle.vhdl_names_rules.specs.Names as names
 use Rattle.vhdl_names_rules.specs.Names.{Suffix}
 use Rattle.vhdl_names_rules.specs.Expressions as are
 use Rattle.vhdl_names_rules.specs.Subtypes as r
-use Rattle.vhdl_names_problems.specs.Broken.{Broken, Tells, is, ◌∪◌, unless, lacking, where_given, of_any}
+use Rattle.vhdl_names_problems.specs.Broken.{Broken, Tells, is, ◌▸◌, unless, lacking, where_given, of_any}
 use Rattle.vhdl_names_problems.specs.Expressions.{meaning, typed_suffix, static_range}
 use Rattle.vhdl_names_problems.specs.Statements.{named}
 use Rattle.vhdl_names_problems.specs.Subtypes.{fixed, value_of, subtype, mark_problem, is_marked}
@@ -33,20 +33,20 @@ module _ (sight : Sight) (n : t.Ident) (y : t.Suffix) (a : Option t.Ident) (more
   behind = where_given (visibility.meaning sight n.text) (λ d. where_given (are.typed_suffix sight y) (more d))
 
   abbrev pub with_name : Broken
-  with_name = meaning sight n.text ∪ typed_suffix sight y ∪ unless LeftOut (is_none a) ∪ behind
+  with_name = meaning sight n.text ▸ typed_suffix sight y ▸ unless LeftOut (is_none a) ▸ behind
 
   pub name_meaning : (f : NameFault) → Tells (meaning sight n.text) f → Tells with_name f
-  name_meaning f h = told_left (meaning sight n.text) (typed_suffix sight y ∪ unless LeftOut (is_none a) ∪ behind) f h
+  name_meaning f h = told_left (meaning sight n.text) (typed_suffix sight y ▸ unless LeftOut (is_none a) ▸ behind) f h
 
   pub name_suffix : (f : NameFault) → Tells (typed_suffix sight y) f → Tells with_name f
   name_suffix f h =
-      told_right (meaning sight n.text) (typed_suffix sight y ∪ unless LeftOut (is_none a) ∪ behind) f
-      (told_left (typed_suffix sight y) (unless LeftOut (is_none a) ∪ behind) f h)
+      told_right (meaning sight n.text) (typed_suffix sight y ▸ unless LeftOut (is_none a) ▸ behind) f
+      (told_left (typed_suffix sight y) (unless LeftOut (is_none a) ▸ behind) f h)
 
-  of_attribute : (f : NameFault) → Tells (unless LeftOut (is_none a) ∪ behind) f → Tells with_name f
+  of_attribute : (f : NameFault) → Tells (unless LeftOut (is_none a) ▸ behind) f → Tells with_name f
   of_attribute f h =
-      told_right (meaning sight n.text) (typed_suffix sight y ∪ unless LeftOut (is_none a) ∪ behind) f
-      (told_right (typed_suffix sight y) (unless LeftOut (is_none a) ∪ behind) f h)
+      told_right (meaning sight n.text) (typed_suffix sight y ▸ unless LeftOut (is_none a) ▸ behind) f
+      (told_right (typed_suffix sight y) (unless LeftOut (is_none a) ▸ behind) f h)
 
   pub name_attribute : (f : NameFault) (at : ℕ) → is_none a ≡ false → f ≡ At LeftOut at → Tells with_name f
   name_attribute f at given e =
@@ -85,19 +85,19 @@ fixed_is sight type (t.binary b op at d e) = refl
 
 -- ---- names of objects
 
-grouped : (a b c d : Broken) (f : NameFault) → Tells (a ∪ b ∪ c ∪ d) f → Tells ((a ∪ b ∪ c) ∪ d) f
+grouped : (a b c d : Broken) (f : NameFault) → Tells (a ▸ b ▸ c ▸ d) f → Tells ((a ▸ b ▸ c) ▸ d) f
 grouped a b c d f h =
-    told_either a (b ∪ c ∪ d) f h
-    (λ k. told_left (a ∪ b ∪ c) d f (told_left a (b ∪ c) f k))
-    (λ k. told_either b (c ∪ d) f k
-    (λ m. told_left (a ∪ b ∪ c) d f (told_right a (b ∪ c) f (told_left b c f m)))
+    told_either a (b ▸ c ▸ d) f h
+    (λ k. told_left (a ▸ b ▸ c) d f (told_left a (b ▸ c) f k))
+    (λ k. told_either b (c ▸ d) f k
+    (λ m. told_left (a ▸ b ▸ c) d f (told_right a (b ▸ c) f (told_left b c f m)))
     (λ m. told_either c d f m
-    (λ n. told_left (a ∪ b ∪ c) d f (told_right a (b ∪ c) f (told_right b c f n)))
-    (told_right (a ∪ b ∪ c) d f)))
+    (λ n. told_left (a ▸ b ▸ c) d f (told_right a (b ▸ c) f (told_right b c f n)))
+    (told_right (a ▸ b ▸ c) d f)))
 
 pub object_told : (sight : Sight) (n : t.Name) (more : Meaning → Suffix → Broken) (f : NameFault) →
     Tells (with_name sight n.identifier n.suffix n.attribute more) f →
-    Tells (named sight n ∪ where_given (visibility.meaning sight n.identifier.text) (λ d. where_given (are.typed_suffix sight n.suffix) (more d))) f
+    Tells (named sight n ▸ where_given (visibility.meaning sight n.identifier.text) (λ d. where_given (are.typed_suffix sight n.suffix) (more d))) f
 object_told sight n more =
     grouped (meaning sight n.identifier.text) (typed_suffix sight n.suffix) (unless LeftOut (is_none n.attribute))
     (where_given (visibility.meaning sight n.identifier.text) (λ d. where_given (are.typed_suffix sight n.suffix) (more d)))
@@ -109,11 +109,11 @@ module _ (sight : Sight) (i : t.Subtype) where
   mark = where_given (visibility.meaning sight i.mark.text) (λ d. unless (mark_problem d) (is_marked d i.range))
 
   pub subtype_meaning : (f : NameFault) → Tells (meaning sight i.mark.text) f → Tells (subtype sight i) f
-  subtype_meaning f h = told_left (meaning sight i.mark.text) (of_any (static_range sight) i.range ∪ mark) f h
+  subtype_meaning f h = told_left (meaning sight i.mark.text) (of_any (static_range sight) i.range ▸ mark) f h
 
   subtype_mark : (d : Meaning) (f : NameFault) → visibility.meaning sight i.mark.text ≡ Some d → Tells (unless (mark_problem d) (is_marked d i.range)) f → Tells (subtype sight i) f
   subtype_mark d f e h =
-      told_right (meaning sight i.mark.text) (of_any (static_range sight) i.range ∪ mark) f
+      told_right (meaning sight i.mark.text) (of_any (static_range sight) i.range ▸ mark) f
       (told_right (of_any (static_range sight) i.range) mark f
       (told_given (λ m. unless (mark_problem m) (is_marked m i.range)) (visibility.meaning sight i.mark.text) d f e h))
 
@@ -122,11 +122,11 @@ module _ (sight : Sight) (i : t.Subtype) where
   subtype_alone d r e none = told_on _ _ r (λ f h. subtype_mark d f e (told_along _ _ f (ap (λ o. unless (mark_problem d) (is_marked d o)) (sym none)) h))
 
   pub subtype_ranged : {X : Type 0} (d : Meaning) (x : t.Range) (r : Result X NameFault) → visibility.meaning sight i.mark.text ≡ Some d → i.range ≡ Some x →
-      IfErr r (Tells (static_range sight x ∪ unless (mark_problem d) (is_marked d (Some x)))) → IfErr r (Tells (subtype sight i))
+      IfErr r (Tells (static_range sight x ▸ unless (mark_problem d) (is_marked d (Some x)))) → IfErr r (Tells (subtype sight i))
   subtype_ranged d x r e some =
       told_on _ _ r
       (λ f h. told_either (static_range sight x) (unless (mark_problem d) (is_marked d (Some x))) f h
-      (λ k. told_right (meaning sight i.mark.text) (of_any (static_range sight) i.range ∪ mark) f
+      (λ k. told_right (meaning sight i.mark.text) (of_any (static_range sight) i.range ▸ mark) f
       (told_left (of_any (static_range sight) i.range) mark f (told_along _ _ f (ap (of_any (static_range sight)) (sym some)) k)))
       (λ k. subtype_mark d f e (told_along _ _ f (ap (λ o. unless (mark_problem d) (is_marked d o)) (sym some)) k)))
 

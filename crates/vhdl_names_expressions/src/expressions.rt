@@ -2,7 +2,7 @@
 //! of operands before those of their operator.
 
 ghost use Rattle.std.specs.Prelude.{◌≡◌, ◌≢◌, Some, map, option_map, IfErr, ◌∷◌, []};
-ghost use Rattle.vhdl_names_problems.specs.Broken.{Broken, Tells, is_of, ◌∪◌};
+ghost use Rattle.vhdl_names_problems.specs.Broken.{Broken, Tells, is_of, ◌▸◌};
 ghost use Rattle.vhdl_names_problems.specs.Expressions as broken;
 ghost use Rattle.vhdl_names_rules.specs.Expressions as rules;
 ghost use Rattle.vhdl_names_rules.specs.Gives.{Gives};
@@ -217,7 +217,7 @@ fn is_no_value(meaning: &Meaning, suffix: &Suffix) -> bool {
 /// 'event.
 fn attribute_fault(meaning: &Meaning, name: &Name, fault: NameFault) -> NameFault
     ensures given { result ≢ NoMemory → fault ≢ NoMemory }
-    ensures told { (b : Broken) → Tells b fault → Tells (b ∪ broken.attribute (option_map ident_view name.now.attribute)) result }
+    ensures told { (b : Broken) → Tells b fault → Tells (b ▸ broken.attribute (option_map ident_view name.now.attribute)) result }
 {
     match (fault, &name.attribute) {
         (NameFault::At { .. }, Some(attribute)) => {
@@ -240,7 +240,7 @@ fn denoted_name(
     name: &Name,
 ) -> Result<Typed, NameFault>
     ensures given { Gives typed_view (denoted_of (meaning_view meaning.now) (typed_suffix_view suffix)) result }
-    ensures told { IfErr result (Tells (is_of (broken.name_problems (meaning_view meaning.now)) ∪ broken.attribute (option_map ident_view name.now.attribute))) }
+    ensures told { IfErr result (Tells (is_of (broken.name_problems (meaning_view meaning.now)) ▸ broken.attribute (option_map ident_view name.now.attribute))) }
 {
     match denoted(alloc, meaning, suffix, name.identifier.at) {
         Ok(value) => Ok(value),

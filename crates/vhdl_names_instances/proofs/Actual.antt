@@ -20,7 +20,7 @@ use Rattle.vhdl_names_rules.specs.Statements.{SignalName, signal}
 use Rattle.vhdl_names_rules.specs.declared.fault.NameFault.{NameFault}
 use Rattle.vhdl_names_rules.specs.declared.fault.NameFault.TheVariants.{NoMemory}
 use Rattle.vhdl_names_rules.specs.declared.fault.NameProblem.TheVariants.{TypeMismatch, WriteOfIn, LeftOut}
-use Rattle.vhdl_names_problems.specs.Broken.{Broken, Tells, ◌∪◌, is_of, unless, lacking, where_given}
+use Rattle.vhdl_names_problems.specs.Broken.{Broken, Tells, ◌▸◌, is_of, unless, lacking, where_given}
 use Rattle.vhdl_names_problems.specs.Statements.{signal as broken_signal}
 use Rattle.vhdl_names_problems.specs.Instances.{port_actual}
 use Rattle.vhdl_names_problems.proofs.Telling.{told_left, told_right, told_given}
@@ -102,17 +102,17 @@ module _ (sight : Sight) where
 
 -- an actual that is no signal, or an expression that is left out
 pub signal_told : {A : Type 0} (a : Broken) (o : Option A) (fault result : NameFault) → Tells a fault → (fault ≢ NoMemory → o ≡ None) → (result ≢ NoMemory → fault ≢ NoMemory)
-    → ((b : Broken) → Tells b fault → Tells (b ∪ is_of (LeftOut ∷ [])) result) → Tells (a ∪ lacking (LeftOut ∷ []) o) result
+    → ((b : Broken) → Tells b fault → Tells (b ▸ is_of (LeftOut ∷ [])) result) → Tells (a ▸ lacking (LeftOut ∷ []) o) result
 signal_told a o fault result t none memory left =
-    or_memory (a ∪ lacking (LeftOut ∷ []) o) result
-    (λ n. told_along (λ o. a ∪ lacking (LeftOut ∷ []) o) None o (sym (none (memory n))) result (left a t))
+    or_memory (a ▸ lacking (LeftOut ∷ []) o) result
+    (λ n. told_along (λ o. a ▸ lacking (LeftOut ∷ []) o) None o (sym (none (memory n))) result (left a t))
 
 module _ (sight : Sight) (f : Formal) (e : t.Expr) (x : NameFault) where
   abbrev of_signal : SignalName → Broken
-  of_signal s = unless TypeMismatch (is_kind f.kind s.type) ∪ unless WriteOfIn (may_join f.mode s.mode)
+  of_signal s = unless TypeMismatch (is_kind f.kind s.type) ▸ unless WriteOfIn (may_join f.mode s.mode)
 
   abbrev of_name : t.Name → Broken
-  of_name n = broken_signal sight n ∪ lacking (LeftOut ∷ []) (signal sight n) ∪ where_given (signal sight n) of_signal
+  of_name n = broken_signal sight n ▸ lacking (LeftOut ∷ []) (signal sight n) ▸ where_given (signal sight n) of_signal
 
   pub no_name_told : as_name e ≡ None → Tells (is_of (LeftOut ∷ [])) x → Tells (port_actual sight f e) x
   no_name_told h w = told_left (lacking (LeftOut ∷ []) (as_name e)) (where_given (as_name e) of_name) x (told_along (lacking (LeftOut ∷ [])) None (as_name e) (sym h) x w)
@@ -120,18 +120,18 @@ module _ (sight : Sight) (f : Formal) (e : t.Expr) (x : NameFault) where
   named : (n : t.Name) → as_name e ≡ Some n → Tells (of_name n) x → Tells (port_actual sight f e) x
   named n h w = told_right (lacking (LeftOut ∷ []) (as_name e)) (where_given (as_name e) of_name) x (told_given of_name (as_name e) n x h w)
 
-  pub no_signal_told : (n : t.Name) → as_name e ≡ Some n → Tells (broken_signal sight n ∪ lacking (LeftOut ∷ []) (signal sight n)) x → Tells (port_actual sight f e) x
+  pub no_signal_told : (n : t.Name) → as_name e ≡ Some n → Tells (broken_signal sight n ▸ lacking (LeftOut ∷ []) (signal sight n)) x → Tells (port_actual sight f e) x
   no_signal_told n h w =
       named n h
       (told_either (broken_signal sight n) (lacking (LeftOut ∷ []) (signal sight n)) (of_name n) x
-      (told_left (broken_signal sight n) (lacking (LeftOut ∷ []) (signal sight n) ∪ where_given (signal sight n) of_signal) x)
-      (λ w. told_right (broken_signal sight n) (lacking (LeftOut ∷ []) (signal sight n) ∪ where_given (signal sight n) of_signal) x
+      (told_left (broken_signal sight n) (lacking (LeftOut ∷ []) (signal sight n) ▸ where_given (signal sight n) of_signal) x)
+      (λ w. told_right (broken_signal sight n) (lacking (LeftOut ∷ []) (signal sight n) ▸ where_given (signal sight n) of_signal) x
       (told_left (lacking (LeftOut ∷ []) (signal sight n)) (where_given (signal sight n) of_signal) x w)) w)
 
   at_signal : (n : t.Name) → as_name e ≡ Some n → (s : SignalName) → signal sight n ≡ Some s → Tells (of_signal s) x → Tells (port_actual sight f e) x
   at_signal n h s k w =
       named n h
-      (told_right (broken_signal sight n) (lacking (LeftOut ∷ []) (signal sight n) ∪ where_given (signal sight n) of_signal) x
+      (told_right (broken_signal sight n) (lacking (LeftOut ∷ []) (signal sight n) ▸ where_given (signal sight n) of_signal) x
       (told_right (lacking (LeftOut ∷ []) (signal sight n)) (where_given (signal sight n) of_signal) x (told_given of_signal (signal sight n) s x k w)))
 
   pub other_kind_told : (n : t.Name) → as_name e ≡ Some n → (s : SignalName) → signal sight n ≡ Some s → is_kind f.kind s.type ≡ false

@@ -14,7 +14,7 @@ use Rattle.vhdl_names_rules.specs.Instances.{Formal, is_architecture, generic_na
 use Rattle.vhdl_names_rules.specs.Interfaces.{EntityView, entity_named}
 use Rattle.vhdl_names_rules.proofs.laws.Rules.{some_is}
 use Rattle.vhdl_names_labels.specs.Once.{names_view}
-use Rattle.vhdl_names_problems.specs.Broken.{Broken, Tells, nothing, ◌∪◌, is_of, unless, lacking, where_given, of_any}
+use Rattle.vhdl_names_problems.specs.Broken.{Broken, Tells, nothing, ◌▸◌, is_of, unless, lacking, where_given, of_any}
 use Rattle.vhdl_names_problems.specs.Instances as broken
 use Rattle.vhdl_names_problems.proofs.Telling.{told_left, told_right, told_given}
 use Rattle.vhdl_names_instances.specs.declared.instances.InstanceEntities.{InstanceEntities}
@@ -58,7 +58,7 @@ module _ (es : List EntityView) where
   of_entity a e = unless WrongKind (is_architecture a e.1.architecture)
 
   abbrev named : Option Ident → Option (ℕ × EntityView) → Broken
-  named a o = lacking (Undeclared ∷ []) o ∪ where_given o (of_entity a)
+  named a o = lacking (Undeclared ∷ []) o ▸ where_given o (of_entity a)
 
   no_entity : (a : Option Ident) (o : Option (ℕ × EntityView)) (f : NameFault) → o ≡ None → Tells (is_of (Undeclared ∷ [])) f → Tells (named a o) f
   no_entity a o f h w = told_along (named a) None o (sym h) f (told_left (is_of (Undeclared ∷ [])) nothing f w)
@@ -84,7 +84,7 @@ module _ (es : List EntityView) where
   entity_told : (library n : Ident) (a : Option Ident) (sight : Sight) (f : NameFault) → Tells (breaking.entity_of names (map seen es) library n a) f
       → Tells (broken.instantiated es sight (t.entity_unit library n a)) f
   entity_told library n a sight f =
-      told_either of_library (lacking (Undeclared ∷ []) place ∪ where_given place architecture) whole f
+      told_either of_library (lacking (Undeclared ∷ []) place ▸ where_given place architecture) whole f
       (told_left of_library (named a (entity_named es n.text)) f)
       (told_either (lacking (Undeclared ∷ []) place) (where_given place architecture) whole f
       (told_absent (Undeclared ∷ []) place whole f
@@ -116,7 +116,7 @@ module _ (table : InstanceEntities) (es : List EntityView) (are : AreEntities ta
 
   module _ (i : t.Instance) where
     abbrev behind : ℕ → Broken
-    behind k = lacking (Undeclared ∷ []) (slice_get es k) ∪ of_any (λ e. broken.maps sight e i) (slice_get es k)
+    behind k = lacking (Undeclared ∷ []) (slice_get es k) ▸ of_any (λ e. broken.maps sight e i) (slice_get es k)
 
     pub unit_told : Tells (broken.instantiated es sight i.unit) f → Tells (broken.instance es sight i) f
     unit_told w = told_left (broken.instantiated es sight i.unit) (where_given (rules.instantiated es sight i.unit) behind) f w
@@ -136,14 +136,14 @@ module _ (table : InstanceEntities) (es : List EntityView) (are : AreEntities ta
         → slice_get (map seen_view table.formals.items) k ≡ None → Tells (is_of (Undeclared ∷ [])) f → Tells (broken.instance es sight i) f
     unseen_told k h q w =
         let e : slice_get es k ≡ None = unseen es k (ap (λ ss. slice_get ss k) (sym are.formals) ∙ q) in
-        of_unit k h (told_along (λ o. lacking (Undeclared ∷ []) o ∪ of_any (λ e. broken.maps sight e i) o) None (slice_get es k) (sym e) f
+        of_unit k h (told_along (λ o. lacking (Undeclared ∷ []) o ▸ of_any (λ e. broken.maps sight e i) o) None (slice_get es k) (sym e) f
         (told_left (is_of (Undeclared ∷ [])) nothing f w))
 
     pub maps_told : (k : ℕ) (s : Seen) → steps.instantiated (names_view table.names) (map seen_view table.formals.items) sight i.unit ≡ Some k
         → slice_get (map seen_view table.formals.items) k ≡ Some s → ((e : EntityView) → s ≡ seen e → Tells (broken.maps sight e i) f) → Tells (broken.instance es sight i) f
     maps_told k s h q w =
         let x = shown es k s (ap (λ ss. slice_get ss k) (sym are.formals) ∙ q) in
-        of_unit k h (told_along (λ o. lacking (Undeclared ∷ []) o ∪ of_any (λ e. broken.maps sight e i) o) (Some x.entity) (slice_get es k) (sym x.at) f
+        of_unit k h (told_along (λ o. lacking (Undeclared ∷ []) o ▸ of_any (λ e. broken.maps sight e i) o) (Some x.entity) (slice_get es k) (sym x.at) f
         (told_right nothing (broken.maps sight x.entity i) f (w x.entity x.is)))
 
 -- what is told of an entity that is seen so, whichever that is

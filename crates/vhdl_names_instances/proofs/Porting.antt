@@ -11,7 +11,7 @@ use Rattle.vhdl_names_rules.specs.Visibility.{Name, Sight, is_among, are_distinc
 use Rattle.vhdl_names_rules.specs.Instances as rules
 use Rattle.vhdl_names_rules.specs.Instances.{Formal, expression_of, actual_of, positional_first, formal_of, formals_of}
 use Rattle.vhdl_names_rules.proofs.laws.Rules.{comes, kept, both, some_is}
-use Rattle.vhdl_names_problems.specs.Broken.{Broken, Tells, nothing, ◌∪◌, any_of, of_any}
+use Rattle.vhdl_names_problems.specs.Broken.{Broken, Tells, nothing, ◌▸◌, any_of, of_any}
 use Rattle.vhdl_names_problems.specs.Instances.{formal_names, associated, port_actual, ports_named, port_association, generic_map, port_map}
 use Rattle.vhdl_names_problems.specs.Expressions.{static}
 use Rattle.vhdl_names_problems.proofs.Telling.{told_left, told_right}
@@ -150,7 +150,7 @@ module _ (sight : Sight) (f : NameFault) where
       where
         go : (x : Bool) → bytes_eq n t ≡ x → Tells (of_any (port_actual sight (formal p)) (if x then expression_of a.actual else actual_of n ts as')) f
             → (Tells (of_any (port_actual sight (formal p)) (actual_of n ts as')) f → Tells (associations (given_names ts ++ os) as') f)
-            → Tells (port_association sight gs (Some t, a) ∪ associations (given_names ts ++ os) as') f
+            → Tells (port_association sight gs (Some t, a) ▸ associations (given_names ts ++ os) as') f
         go true q w more =
             told_left (port_association sight gs (Some t, a)) (associations (given_names ts ++ os) as') f
             (told_along (λ m. any_of (λ g. of_any (port_actual sight g) (expression_of a.actual)) (ports_named gs m)) n t ((bytes_eq-Decides n t).0 q) f

@@ -18,7 +18,7 @@ use Rattle.vhdl_names_rules.specs.Instances.{is_named, positional_first}
 use Rattle.vhdl_names_rules.proofs.laws.Rules.{comes, kept, some_is}
 use Rattle.vhdl_names_labels.specs.Once.{one_name}
 use Rattle.vhdl_names_labels.proofs.Once.{contained}
-use Rattle.vhdl_names_problems.specs.Broken.{Broken, Tells, ◌∪◌, is_of, unless, lacking, where_given, any_of, of_any}
+use Rattle.vhdl_names_problems.specs.Broken.{Broken, Tells, ◌▸◌, is_of, unless, lacking, where_given, any_of, of_any}
 use Rattle.vhdl_names_problems.specs.Instances.{formal_names, is_formal, associated}
 use Rattle.vhdl_names_problems.proofs.Telling.{told_left, told_right, told_given}
 use Rattle.vhdl_names_instances.specs.Breaking.{one_association}
@@ -159,13 +159,13 @@ module _ (formals : List Name) (all : List Association) (k : ℕ) (b : Bool) (ta
   at_name g o e f h = told_along (any_of g) (given_names taken ++ o ∷ left) names (order o e) f (told_at g (given_names taken) o left f h)
 
   of_name : (f : NameFault) (n : Name) → formal_at formals k a.formal ≡ Some n
-      → Tells (unless Undeclared (is_among n formals) ∪ unless Twice (not (is_among n taken))) f → Tells (associated formals all) f
+      → Tells (unless Undeclared (is_among n formals) ▸ unless Twice (not (is_among n taken))) f → Tells (associated formals all) f
   of_name f n e =
       told_either (unless Undeclared (is_among n formals)) (unless Twice (not (is_among n taken))) (associated formals all) f
-      (λ w. told_right positional (too_many ∪ unknown ∪ twice) f (told_right too_many (unknown ∪ twice) f (told_left unknown twice f
+      (λ w. told_right positional (too_many ▸ unknown ▸ twice) f (told_right too_many (unknown ▸ twice) f (told_left unknown twice f
       (at_name (of_any (is_formal formals)) (Some n) e f w))))
       (told_unless Twice (not (is_among n taken)) (associated formals all) f
-      (λ h w. told_right positional (too_many ∪ unknown ∪ twice) f (told_right too_many (unknown ∪ twice) f (told_right unknown twice f
+      (λ h w. told_right positional (too_many ▸ unknown ▸ twice) f (told_right too_many (unknown ▸ twice) f (told_right unknown twice f
       (tells_unless Twice (are_distinct (filter_map (λ o. o) names)) f
       (ap (λ l. are_distinct (filter_map (λ o. o) l)) (sym (order (Some n) e)) ∙ ap are_distinct (given_of taken n left)
       ∙ repeated n taken (filter_map (λ o. o) left) (no_not (is_among n taken) h)) w)))))
@@ -176,20 +176,20 @@ module _ (formals : List Name) (all : List Association) (k : ℕ) (b : Bool) (ta
 
   pub not_taken : (f : NameFault) → Tells (one_association formals k b taken a) f → Tells (associated formals all) f
   not_taken f =
-      told_either (unless WrongKind (not b || is_named a)) (lacking (WrongKind ∷ []) o ∪ where_given o of_formal) (associated formals all) f
+      told_either (unless WrongKind (not b || is_named a)) (lacking (WrongKind ∷ []) o ▸ where_given o of_formal) (associated formals all) f
       (told_unless WrongKind (not b || is_named a) (associated formals all) f
-      (λ h w. told_left positional (too_many ∪ unknown ∪ twice) f
+      (λ h w. told_left positional (too_many ▸ unknown ▸ twice) f
       (tells_unless WrongKind (positional_first all) f (sym t.positions ∙ not_first b a rest h) w)))
       (told_either (lacking (WrongKind ∷ []) o) (where_given o of_formal) (associated formals all) f
       (told_absent (WrongKind ∷ []) o (associated formals all) f
-      (λ h w. told_right positional (too_many ∪ unknown ∪ twice) f (told_left too_many (unknown ∪ twice) f (at_name (lacking (WrongKind ∷ [])) None h f w))))
+      (λ h w. told_right positional (too_many ▸ unknown ▸ twice) f (told_left too_many (unknown ▸ twice) f (at_name (lacking (WrongKind ∷ [])) None h f w))))
       (told_where o of_formal (associated formals all) f (λ n e w. of_name f n e w)))
     where
       o : Option Name
       o = formal_at formals k a.formal
 
       of_formal : Name → Broken
-      of_formal n = unless Undeclared (is_among n formals) ∪ unless Twice (not (is_among n taken))
+      of_formal n = unless Undeclared (is_among n formals) ▸ unless Twice (not (is_among n taken))
 
 -- ---- a name that a table has
 
@@ -257,7 +257,7 @@ module _ (formals : List Name) (k : ℕ) (behind : Bool) (taken : List Name) (a 
   formal = formal_at formals k a.formal
 
   abbrev of_formal : Name → Broken
-  of_formal n = unless Undeclared (is_among n formals) ∪ unless Twice (not (is_among n taken))
+  of_formal n = unless Undeclared (is_among n formals) ▸ unless Twice (not (is_among n taken))
 
   abbrev out_of_place : Broken
   out_of_place = unless WrongKind (not behind || is_named a)
@@ -266,14 +266,14 @@ module _ (formals : List Name) (k : ℕ) (behind : Bool) (taken : List Name) (a 
   no_formal = lacking (WrongKind ∷ []) formal
 
   pub behind_told : (not behind || is_named a) ≡ false → Tells (is_of (WrongKind ∷ [])) f → Tells (one_association formals k behind taken a) f
-  behind_told h w = told_left out_of_place (no_formal ∪ where_given formal of_formal) f (tells_unless WrongKind (not behind || is_named a) f h w)
+  behind_told h w = told_left out_of_place (no_formal ▸ where_given formal of_formal) f (tells_unless WrongKind (not behind || is_named a) f h w)
 
   pub no_formal_told : Tells (lacking (WrongKind ∷ []) (formal_at formals k a.formal)) f → Tells (one_association formals k behind taken a) f
-  no_formal_told w = told_right out_of_place (no_formal ∪ where_given formal of_formal) f (told_left no_formal (where_given formal of_formal) f w)
+  no_formal_told w = told_right out_of_place (no_formal ▸ where_given formal of_formal) f (told_left no_formal (where_given formal of_formal) f w)
 
   formal_told : (n : Name) → formal_at formals k a.formal ≡ Some n → Tells (of_formal n) f → Tells (one_association formals k behind taken a) f
   formal_told n h w =
-      told_right out_of_place (no_formal ∪ where_given formal of_formal) f (told_right no_formal (where_given formal of_formal) f (told_given of_formal formal n f h w))
+      told_right out_of_place (no_formal ▸ where_given formal of_formal) f (told_right no_formal (where_given formal of_formal) f (told_given of_formal formal n f h w))
 
   pub unknown_told : (n : Name) → formal_at formals k a.formal ≡ Some n → is_among n formals ≡ false → Tells (is_of (Undeclared ∷ [])) f
       → Tells (one_association formals k behind taken a) f

@@ -5,7 +5,7 @@ use Rattle.vhdl_names_rules.specs.declared.fault.NameFault.{NameFault}
 use Rattle.vhdl_names_rules.specs.declared.fault.NameFault.TheVariants.{At, NoMemory}
 use Rattle.vhdl_names_rules.specs.declared.fault.NameProblem.{NameProblem}
 use Rattle.vhdl_names_rules.proofs.laws.Rules.{both, not_true}
-use Rattle.vhdl_names_problems.specs.Broken.{Broken, Tells, nothing, ◌∪◌, is, is_of, unless, lacking, where_given, any_of}
+use Rattle.vhdl_names_problems.specs.Broken.{Broken, Tells, nothing, ◌▸◌, is, is_of, unless, lacking, where_given, any_of}
 use Rattle.vhdl_names_problems.proofs.Telling.{told_left, told_right}
 
 is_told : NameFault → Bool
@@ -36,8 +36,8 @@ told_nothing b NoMemory h = tt
 
 -- ---- where a part tells it
 
-pub told_either : (a b c : Broken) (f : NameFault) → (Tells a f → Tells c f) → (Tells b f → Tells c f) → Tells (a ∪ b) f → Tells c f
-unfolding ◌∪◌
+pub told_either : (a b c : Broken) (f : NameFault) → (Tells a f → Tells c f) → (Tells b f → Tells c f) → Tells (a ▸ b) f → Tells c f
+unfolding ◌▸◌
 told_either a b c (At p at) g h e = go (a p) (b p) g h e
   where
     go : (x y : Bool) → (x ≡ true → c p ≡ true) → (y ≡ true → c p ≡ true) → (x || y) ≡ true → c p ≡ true

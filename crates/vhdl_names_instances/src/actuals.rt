@@ -4,7 +4,7 @@ ghost use Rattle.std.specs.Prelude.{◌≡◌, ◌≢◌, IfErr, [], ◌∷◌, 
 ghost use Rattle.vhdl_names_instances.specs.Breaking as breaking;
 ghost use Rattle.vhdl_names_instances.specs.Views.{actual_view, places_view, statics_view};
 ghost use Rattle.vhdl_names_instances.specs.steps.Actuals as steps;
-ghost use Rattle.vhdl_names_problems.specs.Broken.{Broken, Tells, ◌∪◌, is_of, lacking, any_of, of_any};
+ghost use Rattle.vhdl_names_problems.specs.Broken.{Broken, Tells, ◌▸◌, is_of, lacking, any_of, of_any};
 ghost use Rattle.vhdl_names_problems.specs.Expressions.{static as broken_static};
 ghost use Rattle.vhdl_names_problems.specs.Instances as broken;
 ghost use Rattle.vhdl_names_problems.specs.Statements.{signal as broken_signal};
@@ -90,7 +90,7 @@ fn is_value(meaning: &Meaning, suffix: &Suffix) -> bool {
 /// of another kind is no expression.
 fn actual_fault(sight: &Sight, name: &Name, fault: NameFault) -> NameFault
     ensures given { result ≢ NoMemory → fault ≢ NoMemory }
-    ensures told { (b : Broken) → Tells b fault → Tells (b ∪ is_of (LeftOut ∷ [])) result }
+    ensures told { (b : Broken) → Tells b fault → Tells (b ▸ is_of (LeftOut ∷ [])) result }
 {
     let NameFault::At {
         problem: NameProblem::WrongKind,
@@ -111,7 +111,7 @@ fn actual_fault(sight: &Sight, name: &Name, fault: NameFault) -> NameFault
 fn actual_signal(alloc: Global, sight: &Sight, name: &Name) -> Result<SignalName, NameFault>
     ensures given { Gives signal_name_view (signal_of (sight_view sight.now) (name_view name.now)) result }
     ensures told { IfErr result (Tells (broken_signal (sight_view sight.now) (name_view name.now)
-        ∪ lacking (LeftOut ∷ []) (signal_of (sight_view sight.now) (name_view name.now)))) }
+        ▸ lacking (LeftOut ∷ []) (signal_of (sight_view sight.now) (name_view name.now)))) }
 {
     match signal(alloc, sight, name) {
         Ok(actual) => Ok(actual),

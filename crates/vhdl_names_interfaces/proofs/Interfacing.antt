@@ -16,7 +16,7 @@ use Rattle.vhdl_names_rules.specs.Packages.{Context, no_context, context, sight_
 use Rattle.vhdl_names_rules.specs.Interfaces.{Interface, EntityView, declared_names, interface, entity}
 use Rattle.vhdl_names_rules.specs.laws.Regions.{interface_names}
 use Rattle.vhdl_names_rules.proofs.laws.Rules.{some_is, comes, kept}
-use Rattle.vhdl_names_problems.specs.Broken.{Broken, Tells, nothing, ◌∪◌, unless, where_given}
+use Rattle.vhdl_names_problems.specs.Broken.{Broken, Tells, nothing, ◌▸◌, unless, where_given}
 use Rattle.vhdl_names_problems.specs.Declarations as broken
 use Rattle.vhdl_names_problems.specs.Interfaces as interfaces_broken
 use Rattle.vhdl_names_problems.proofs.Telling.{told_left, told_right, told_given}
@@ -96,8 +96,8 @@ pub generics_told : (s : Sight) (gs : Option (List t.Generic)) (ps : Option (Lis
     Tells (generics_broken s (all_of gs)) f → Tells (interfaces_broken.interface s gs ps) f
 generics_told s gs ps f empty =
     told_either (generics_of s gs) (standing_twice s.region (generic_names (all_of gs))) (interfaces_broken.interface s gs ps) f
-    (told_left (generics_of s gs) (ports_of s gs ps ∪ once gs ps) f)
-    (λ h. told_right (generics_of s gs) (ports_of s gs ps ∪ once gs ps) f (told_right (ports_of s gs ps) (once gs ps) f
+    (told_left (generics_of s gs) (ports_of s gs ps ▸ once gs ps) f)
+    (λ h. told_right (generics_of s gs) (ports_of s gs ps ▸ once gs ps) f (told_right (ports_of s gs ps) (once gs ps) f
     (subst (λ r. Tells (standing_twice r (interface_names gs ps)) f) empty (twice_more s.region (generic_names (all_of gs)) (port_names (all_of ps)) f h))))
 
 pub ports_told : (s w : Sight) (gs : Option (List t.Generic)) (ps : Option (List t.Port)) (x : List u.Generic) (f : NameFault) → s.region ≡ [] →
@@ -109,9 +109,9 @@ ports_told s w gs ps x f empty given h =
     let names = names_in_order with_declared generic (λ (g : t.Generic). names_of g.names) of_generic (all_of gs) s g.value g.is in
     told_either (broken.in_order with_declared port broken.port (with_declared s g.value.declared) (all_of ps)) (standing_twice (s.region ++ g.value.declared) (port_names (all_of ps)))
     (interfaces_broken.interface s gs ps) f
-    (λ h. told_right (generics_of s gs) (ports_of s gs ps ∪ once gs ps) f (told_left (ports_of s gs ps) (once gs ps) f
+    (λ h. told_right (generics_of s gs) (ports_of s gs ps ▸ once gs ps) f (told_left (ports_of s gs ps) (once gs ps) f
     (told_given (λ g. broken.in_order with_declared port broken.port (with_declared s g.declared) (all_of ps)) (in_order with_declared generic s (all_of gs)) g.value f g.is h)))
-    (λ h. told_right (generics_of s gs) (ports_of s gs ps ∪ once gs ps) f (told_right (ports_of s gs ps) (once gs ps) f
+    (λ h. told_right (generics_of s gs) (ports_of s gs ps ▸ once gs ps) f (told_right (ports_of s gs ps) (once gs ps) f
     (subst (λ r. Tells (standing_twice r (interface_names gs ps)) f) empty
     (twice_entered s.region g.value.declared (generic_names (all_of gs)) (port_names (all_of ps)) f names h))))
     (subst (λ r. Tells (ports_broken r (all_of ps)) f) (sym same) h)
@@ -126,17 +126,17 @@ ends_so e = unless WrongKind (ends e.name.text e.end_name)
 
 module _ (items : List t.ContextItem) (e : t.Entity) (f : NameFault) where
   pub context_told : Tells (broken.context no_context items) f → Tells (interfaces_broken.entity items e) f
-  context_told = told_left (broken.context no_context items) (of_interface items e ∪ ends_so e) f
+  context_told = told_left (broken.context no_context items) (of_interface items e ▸ ends_so e) f
 
   pub interface_told : (c : Context) (s : Sight) → context no_context items ≡ Some c → Some (sight_of c []) ≡ Some s →
       Tells (interfaces_broken.interface s e.generics e.ports) f → Tells (interfaces_broken.entity items e) f
   interface_told c s h k told =
-      told_right (broken.context no_context items) (of_interface items e ∪ ends_so e) f (told_left (of_interface items e) (ends_so e) f
+      told_right (broken.context no_context items) (of_interface items e ▸ ends_so e) f (told_left (of_interface items e) (ends_so e) f
       (told_given (λ c. interfaces_broken.interface (sight_of c []) e.generics e.ports) (context no_context items) c f h
       (subst (λ s. Tells (interfaces_broken.interface s e.generics e.ports) f) (sym (some_is (sight_of c []) s k)) told)))
 
   pub end_told : Tells (ends_so e) f → Tells (interfaces_broken.entity items e) f
-  end_told h = told_right (broken.context no_context items) (of_interface items e ∪ ends_so e) f (told_right (of_interface items e) (ends_so e) f h)
+  end_told h = told_right (broken.context no_context items) (of_interface items e ▸ ends_so e) f (told_right (of_interface items e) (ends_so e) f h)
 
 -- of nothing that is broken nothing is told
 pub told_nothing : (b : Broken) (f : NameFault) → Tells nothing f → Tells b f

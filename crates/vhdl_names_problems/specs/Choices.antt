@@ -11,7 +11,7 @@ use Rattle.vhdl_names_rules.specs.Visibility.{Sight}
 use Rattle.vhdl_names_rules.specs.Choices as are
 use Rattle.vhdl_names_rules.specs.Choices.{literal_choice, named_choice, are_distinct_choices, is_last_others, only_last_others, names_all, selector}
 use Rattle.vhdl_names_rules.specs.Expressions as expressions
-use Rattle.vhdl_names_problems.specs.Broken.{Broken, nothing, ◌∪◌, unless, lacking, where_given, any_of}
+use Rattle.vhdl_names_problems.specs.Broken.{Broken, nothing, ◌▸◌, unless, lacking, where_given, any_of}
 use Rattle.vhdl_names_problems.specs.Expressions.{mismatch, meaning, typed}
 use Rattle.vhdl_names_problems.specs.Subtypes.{value_problems}
 
@@ -20,8 +20,8 @@ use Rattle.vhdl_names_problems.specs.Subtypes.{value_problems}
 -- a name has nothing behind it
 abbrev pub chosen : Sight → ObjectType → Expr → Broken
 chosen sight type (t.named n t.plain None) =
-    meaning sight n.text ∪ where_given (visibility.meaning sight n.text) (λ d. lacking (value_problems d) (named_choice type d))
-chosen sight type (t.named n suffix a) = meaning sight n.text ∪ unless LeftOut false
+    meaning sight n.text ▸ where_given (visibility.meaning sight n.text) (λ d. lacking (value_problems d) (named_choice type d))
+chosen sight type (t.named n suffix a) = meaning sight n.text ▸ unless LeftOut false
 chosen sight type e = lacking (TypeMismatch ∷ LeftOut ∷ []) (literal_choice type e)
 
 abbrev pub choice : Sight → ObjectType → t.Choice → Broken
@@ -47,11 +47,11 @@ all_given sight type alternatives = filter_map (are.choice sight type) (flat_map
 abbrev pub covered : Sight → ObjectType → List (List t.Choice) → Broken
 covered sight type alternatives =
     unless LeftOut (not (is_empty alternatives))
-    ∪ unless WrongKind (only_last_others alternatives)
-    ∪ any_of (choices sight type) alternatives
-    ∪ unless ChoiceTwice (are_distinct_choices (all_given sight type alternatives))
-    ∪ where_given (each (are.choices sight type) alternatives) (λ css. unless NoOthers (is_last_others alternatives || names_all type (flat_map (λ cs. cs) css)))
+    ▸ unless WrongKind (only_last_others alternatives)
+    ▸ any_of (choices sight type) alternatives
+    ▸ unless ChoiceTwice (are_distinct_choices (all_given sight type alternatives))
+    ▸ where_given (each (are.choices sight type) alternatives) (λ css. unless NoOthers (is_last_others alternatives || names_all type (flat_map (λ cs. cs) css)))
 
 -- a case is on elements of the nine values or an enumeration
 abbrev pub selected_by : Sight → Expr → Broken
-selected_by sight e = typed sight e ∪ where_given (expressions.typed sight e) (λ x. lacking mismatch (selector x))
+selected_by sight e = typed sight e ▸ where_given (expressions.typed sight e) (λ x. lacking mismatch (selector x))

@@ -13,7 +13,7 @@ use Rattle.vhdl_names_rules.specs.Packages.{Context, is_library, is_logic, is_nu
 use Rattle.vhdl_names_rules.specs.Subtypes as subtypes
 use Rattle.vhdl_names_rules.specs.Subtypes.{as_integer_type}
 use Rattle.vhdl_names_rules.specs.Declarations.{within, within_variables, as_kind, single_expression}
-use Rattle.vhdl_names_problems.specs.Broken.{Broken, nothing, ◌∪◌, unless, lacking, where_given, of_any}
+use Rattle.vhdl_names_problems.specs.Broken.{Broken, nothing, ◌▸◌, unless, lacking, where_given, of_any}
 use Rattle.vhdl_names_problems.specs.Expressions.{mismatch, meaning, static}
 use Rattle.vhdl_names_problems.specs.Subtypes.{subtype, fixed_value}
 
@@ -23,10 +23,10 @@ use Rattle.vhdl_names_problems.specs.Subtypes.{subtype, fixed_value}
 abbrev pub context : Context → List ContextItem → Broken
 context before [] = nothing
 context before (library ns ∷ rest) =
-    unless LeftOut (list_all is_library ns) ∪ where_given (packages.context before (library ns ∷ [])) (λ c. context c rest)
+    unless LeftOut (list_all is_library ns) ▸ where_given (packages.context before (library ns ∷ [])) (λ c. context c rest)
 context before (uses ss ∷ rest) =
-    unless Undeclared before.has_ieee ∪ unless LeftOut (list_all (λ s. is_logic s || is_numbers s) ss)
-    ∪ where_given (packages.context before (uses ss ∷ [])) (λ c. context c rest)
+    unless Undeclared before.has_ieee ▸ unless LeftOut (list_all (λ s. is_logic s || is_numbers s) ss)
+    ▸ where_given (packages.context before (uses ss ∷ [])) (λ c. context c rest)
 
 -- ---- one declaration after another
 
@@ -34,7 +34,7 @@ context before (uses ss ∷ rest) =
 abbrev pub in_order : {A B : Type 0} → (Sight → List Declared → Sight) → (Sight → A → Option (Declares B)) → (Sight → A → Broken) → Sight → List A → Broken
 in_order with_more declares broken sight [] = nothing
 in_order with_more declares broken sight (d ∷ ds) =
-    broken sight d ∪ where_given (declares sight d) (λ x. in_order with_more declares broken (with_more sight x.declared) ds)
+    broken sight d ▸ where_given (declares sight d) (λ x. in_order with_more declares broken (with_more sight x.declared) ds)
 
 -- ---- generics and ports
 
@@ -44,8 +44,8 @@ integer_type_problems = LeftOut ∷ WrongKind ∷ []
 
 abbrev pub generic : Sight → t.Generic → Broken
 generic sight g =
-    meaning sight g.mark.text ∪ of_any (static sight) g.default
-    ∪ where_given (visibility.meaning sight g.mark.text) (λ d. lacking integer_type_problems (as_integer_type d))
+    meaning sight g.mark.text ▸ of_any (static sight) g.default
+    ▸ where_given (visibility.meaning sight g.mark.text) (λ d. lacking integer_type_problems (as_integer_type d))
 
 -- a type of the nine values: enumerations are left out
 abbrev pub nine_valued : subtypes.Subtype → Broken
@@ -54,13 +54,13 @@ nine_valued s = lacking (LeftOut ∷ []) (as_kind s.type)
 abbrev pub port : Sight → t.Port → Broken
 port sight p =
     subtype sight p.subtype
-    ∪ where_given (subtypes.subtype sight p.subtype) (λ s. nine_valued s ∪ of_any (fixed_value sight s.type) p.default)
+    ▸ where_given (subtypes.subtype sight p.subtype) (λ s. nine_valued s ▸ of_any (fixed_value sight s.type) p.default)
 
 -- ---- signals, constants and variables
 
 -- an object, whose name isn't declared yet in its own declaration
 abbrev pub object : Sight → t.Subtype → Option t.Value → Broken
-object inner s v = subtype inner s ∪ where_given (subtypes.subtype inner s) (λ x. of_any (fixed_value inner x.type) v)
+object inner s v = subtype inner s ▸ where_given (subtypes.subtype inner s) (λ x. of_any (fixed_value inner x.type) v)
 
 abbrev pub signals : Sight → t.Signals → Broken
 signals sight d = object (within sight d.names) d.subtype d.default
@@ -72,13 +72,13 @@ variables sight d = object (within_variables sight d.names) d.subtype d.default
 abbrev pub integer_constants : Sight → t.Constants → Broken
 integer_constants inner d =
     unless LeftOut (is_none d.subtype.range)
-    ∪ lacking mismatch (single_expression d.value)
-    ∪ where_given (single_expression d.value) (static inner)
+    ▸ lacking mismatch (single_expression d.value)
+    ▸ where_given (single_expression d.value) (static inner)
 
 abbrev pub other_constants : Sight → t.Constants → Broken
 other_constants inner d =
     subtype inner d.subtype
-    ∪ where_given (subtypes.subtype inner d.subtype) (λ s. nine_valued s ∪ fixed_value inner s.type d.value)
+    ▸ where_given (subtypes.subtype inner d.subtype) (λ s. nine_valued s ▸ fixed_value inner s.type d.value)
 
 abbrev pub constants_by : Sight → t.Constants → Option IntegerType → Broken
 constants_by inner d (Some type) = integer_constants inner d
@@ -87,7 +87,7 @@ constants_by inner d None = other_constants inner d
 abbrev pub constants : Sight → t.Constants → Broken
 constants sight d =
     meaning (within sight d.names) d.subtype.mark.text
-    ∪ where_given (visibility.meaning (within sight d.names) d.subtype.mark.text) (λ m. constants_by (within sight d.names) d (as_integer_type m))
+    ▸ where_given (visibility.meaning (within sight d.names) d.subtype.mark.text) (λ m. constants_by (within sight d.names) d (as_integer_type m))
 
 -- ---- enumerations
 

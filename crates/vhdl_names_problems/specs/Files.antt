@@ -14,7 +14,7 @@ use Rattle.vhdl_names_rules.specs.Concurrent.{concurrent_labels}
 use Rattle.vhdl_names_rules.specs.Files as are
 use Rattle.vhdl_names_rules.specs.Files.{entity_names, described_names, stands_after, stand_after, entities_of, architectures_of}
 use Rattle.vhdl_names_rules.specs.laws.Regions.{names_in}
-use Rattle.vhdl_names_problems.specs.Broken.{Broken, ◌∪◌, unless, where_given, any_of}
+use Rattle.vhdl_names_problems.specs.Broken.{Broken, ◌▸◌, unless, where_given, any_of}
 use Rattle.vhdl_names_problems.specs.Declarations.{context, in_order, signals, constants, enumeration}
 use Rattle.vhdl_names_problems.specs.Interfaces.{entity, component}
 use Rattle.vhdl_names_problems.specs.Concurrent.{concurrents}
@@ -36,16 +36,16 @@ with_labels region (l ∷ ls) = if is_among l (declared_names region) then with_
 abbrev pub architecture_in : List EntityView → EntityView → Context → t.Architecture → Broken
 architecture_in entities e c a =
     in_order with_declared (are.declaration entities) (declaration entities) (sight_of c e.interface.declared) a.declarations
-    ∪ where_given (declarations.in_order with_declared (are.declaration entities) (sight_of c e.interface.declared) a.declarations)
+    ▸ where_given (declarations.in_order with_declared (are.declaration entities) (sight_of c e.interface.declared) a.declarations)
     (λ ds. concurrents entities (sight_of c (with_labels (e.interface.declared ++ ds.declared) (concurrent_labels (t.concurrents_of a.statements))))
     (t.concurrents_of a.statements))
 
 abbrev pub architecture : List EntityView → EntityView → List ContextItem → t.Architecture → Broken
 architecture entities e items a =
     context e.context items
-    ∪ where_given (packages.context e.context items) (λ c. architecture_in entities e c a)
-    ∪ unless Twice (are_distinct (declared_names e.interface.declared ++ (flat_map names_in a.declarations ++ concurrent_labels (t.concurrents_of a.statements))))
-    ∪ unless WrongKind (ends a.name.text a.end_name)
+    ▸ where_given (packages.context e.context items) (λ c. architecture_in entities e c a)
+    ▸ unless Twice (are_distinct (declared_names e.interface.declared ++ (flat_map names_in a.declarations ++ concurrent_labels (t.concurrents_of a.statements))))
+    ▸ unless WrongKind (ends a.name.text a.end_name)
 
 -- ---- files
 
@@ -77,7 +77,7 @@ described entities (items, a) = by (entity_named entities a.entity.text)
 abbrev pub file : File → Broken
 file f =
     unless Twice (are_distinct (entity_names f.units))
-    ∪ unless SecondArchitecture (are_distinct (described_names f.units))
-    ∪ unless Undeclared (stand_after f.units)
-    ∪ any_of (λ e. entity e.0 e.1) (entities_of f.units)
-    ∪ any_of (described (entities_given f.units)) (architectures_of f.units)
+    ▸ unless SecondArchitecture (are_distinct (described_names f.units))
+    ▸ unless Undeclared (stand_after f.units)
+    ▸ any_of (λ e. entity e.0 e.1) (entities_of f.units)
+    ▸ any_of (described (entities_given f.units)) (architectures_of f.units)

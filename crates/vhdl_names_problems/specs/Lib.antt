@@ -1,4 +1,5 @@
 pub mod Broken
+pub mod Twice
 pub mod Missing
 pub mod Expressions
 pub mod Subtypes

@@ -12,7 +12,7 @@ use Rattle.vhdl_names_rules.specs.Names as names
 use Rattle.vhdl_names_rules.specs.Names.{Suffix}
 use Rattle.vhdl_names_rules.specs.Expressions as are
 use Rattle.vhdl_names_rules.specs.Subtypes.{named_value, encoded_value, literal_value, filled_value}
-use Rattle.vhdl_names_problems.specs.Broken.{Broken, ◌∪◌, unless, lacking, where_given, of_any}
+use Rattle.vhdl_names_problems.specs.Broken.{Broken, ◌▸◌, unless, lacking, where_given, of_any}
 use Rattle.vhdl_names_problems.specs.Expressions.{meaning, is_finished, typed_suffix, static_range}
 
 -- ---- types of objects
@@ -35,8 +35,8 @@ mark_problem _ = WrongKind
 
 abbrev pub subtype : Sight → t.Subtype → Broken
 subtype sight s =
-    meaning sight s.mark.text ∪ of_any (static_range sight) s.range
-    ∪ where_given (visibility.meaning sight s.mark.text) (λ d. unless (mark_problem d) (is_marked d s.range))
+    meaning sight s.mark.text ▸ of_any (static_range sight) s.range
+    ▸ where_given (visibility.meaning sight s.mark.text) (λ d. unless (mark_problem d) (is_marked d s.range))
 
 -- ---- the value of a constant that is no integer, and of a default
 
@@ -57,8 +57,8 @@ suffixed_problems d _ = value_problems d
 
 abbrev pub fixed : Sight → ObjectType → Expr → Broken
 fixed sight type (t.named n suffix a) =
-    meaning sight n.text ∪ typed_suffix sight suffix ∪ unless LeftOut (is_none a)
-    ∪ where_given (visibility.meaning sight n.text) (λ d. where_given (are.typed_suffix sight suffix) (λ s. lacking (suffixed_problems d s) (value_of type d s)))
+    meaning sight n.text ▸ typed_suffix sight suffix ▸ unless LeftOut (is_none a)
+    ▸ where_given (visibility.meaning sight n.text) (λ d. where_given (are.typed_suffix sight suffix) (λ s. lacking (suffixed_problems d s) (value_of type d s)))
 fixed sight type e = lacking (TypeMismatch ∷ LeftOut ∷ []) (literal_value type e)
 
 abbrev pub fixed_value : Sight → ObjectType → t.Value → Broken

@@ -3,7 +3,7 @@
 ghost use Rattle.std.specs.Prelude.{◌≡◌, ◌≢◌, ◌||◌, ◌∷◌, [], map, IfErr, IfOk, Some};
 ghost use Rattle.std.specs.List.{list_all, list_any, range_with_len};
 ghost use Rattle.vhdl_names_rules.specs.Choices as rules;
-ghost use Rattle.vhdl_names_problems.specs.Broken.{Broken, Tells, ◌∪◌, is_of, lacking, unless};
+ghost use Rattle.vhdl_names_problems.specs.Broken.{Broken, Tells, ◌▸◌, is_of, lacking, unless};
 ghost use Rattle.vhdl_names_problems.specs.Choices as broken;
 ghost use Rattle.vhdl_names_rules.specs.declared.fault.NameProblem.TheVariants.{ChoiceTwice, LeftOut, WrongKind};
 ghost use Rattle.vhdl_names_rules.specs.Rules.{rule};
@@ -215,7 +215,7 @@ pub(crate) fn first_fault(
     fault: NameFault,
 ) -> NameFault
     ensures given { result ≢ NoMemory → fault ≢ NoMemory }
-    ensures told { (b : Broken) → Tells b fault → Tells (b ∪ broken.covered (sight_view sight.now) selected (steps.all_lists lists.now)) result }
+    ensures told { (b : Broken) → Tells b fault → Tells (b ▸ broken.covered (sight_view sight.now) selected (steps.all_lists lists.now)) result }
 {
     let first = earlier_in(fault, others_last(lists));
     let mut keys = IndexSet::new(alloc);

@@ -4,7 +4,7 @@ use Rattle.vhdl_names_rules.specs.declared.fault.NameFault.{NameFault}
 use Rattle.vhdl_names_rules.specs.declared.fault.NameFault.TheVariants.{At, NoMemory}
 use Rattle.vhdl_names_rules.specs.declared.fault.NameProblem.{NameProblem}
 use Rattle.vhdl_names_rules.specs.declared.fault.NameProblem.TheVariants.{TypeMismatch, NotVisible, LeftOut}
-use Rattle.vhdl_names_problems.specs.Broken.{Broken, Tells, ◌∪◌, is, is_of, unless}
+use Rattle.vhdl_names_problems.specs.Broken.{Broken, Tells, ◌▸◌, is, is_of, unless}
 use Rattle.vhdl_names_problems.specs.Expressions.{operator_problems}
 use Rattle.vhdl_names_problems.proofs.Telling.{told_on}
 use Rattle.vhdl_names_types.specs.Steps.{order_problem}
@@ -30,8 +30,8 @@ mismatch_told true (At p at) h = mismatch (is p TypeMismatch) (is p LeftOut) fal
 mismatch_told false (At p at) h = mismatch (is p TypeMismatch) (is p LeftOut) (is p NotVisible || false) h
 mismatch_told numbers NoMemory h = tt
 
-pub order_told : (b numbers : Bool) (f : NameFault) → Tells (is_of (order_problem b ∷ []) ∪ unless NotVisible numbers) f → Tells (is_of (TypeMismatch ∷ LeftOut ∷ []) ∪ unless NotVisible numbers) f
-unfolding ◌∪◌
+pub order_told : (b numbers : Bool) (f : NameFault) → Tells (is_of (order_problem b ∷ []) ▸ unless NotVisible numbers) f → Tells (is_of (TypeMismatch ∷ LeftOut ∷ []) ▸ unless NotVisible numbers) f
+unfolding ◌▸◌
 order_told true numbers (At p at) h = left_out (is p TypeMismatch) (is p LeftOut) (unless NotVisible numbers p) h
 order_told false numbers (At p at) h = more (is p TypeMismatch) (is p LeftOut) (unless NotVisible numbers p) h
 order_told b numbers NoMemory h = tt
@@ -47,13 +47,13 @@ known true l h = refl
 known false true h = refl
 known false false h = h
 
-ordering_told : (numbers : Bool) (f : NameFault) → Tells (is_of (TypeMismatch ∷ LeftOut ∷ []) ∪ unless NotVisible numbers) f → Tells (is_of (operator_problems numbers)) f
-unfolding ◌∪◌
+ordering_told : (numbers : Bool) (f : NameFault) → Tells (is_of (TypeMismatch ∷ LeftOut ∷ []) ▸ unless NotVisible numbers) f → Tells (is_of (operator_problems numbers)) f
+unfolding ◌▸◌
 ordering_told true (At p at) h = known (is p TypeMismatch) (is p LeftOut) h
 ordering_told false (At p at) h = visible (is p TypeMismatch) (is p LeftOut) (is p NotVisible) h
 ordering_told numbers NoMemory h = tt
 
-arithmetic_told : (numbers : Bool) (f : NameFault) → Tells (is_of (TypeMismatch ∷ []) ∪ unless NotVisible numbers) f → Tells (is_of (operator_problems numbers)) f
+arithmetic_told : (numbers : Bool) (f : NameFault) → Tells (is_of (TypeMismatch ∷ []) ▸ unless NotVisible numbers) f → Tells (is_of (operator_problems numbers)) f
 arithmetic_told numbers f h = ordering_told numbers f (order_told false numbers f h)
 
 -- ---- answers
@@ -62,12 +62,12 @@ pub mismatch_on : {X : Type 0} (numbers : Bool) (r : Result X NameFault) → IfE
 mismatch_on numbers r = told_on (is_of (TypeMismatch ∷ [])) (is_of (operator_problems numbers)) r (mismatch_told numbers)
 
 pub ordering_on : {X : Type 0} (numbers : Bool) (r : Result X NameFault) →
-    IfErr r (Tells (is_of (TypeMismatch ∷ LeftOut ∷ []) ∪ unless NotVisible numbers)) → IfErr r (Tells (is_of (operator_problems numbers)))
-ordering_on numbers r = told_on (is_of (TypeMismatch ∷ LeftOut ∷ []) ∪ unless NotVisible numbers) (is_of (operator_problems numbers)) r (ordering_told numbers)
+    IfErr r (Tells (is_of (TypeMismatch ∷ LeftOut ∷ []) ▸ unless NotVisible numbers)) → IfErr r (Tells (is_of (operator_problems numbers)))
+ordering_on numbers r = told_on (is_of (TypeMismatch ∷ LeftOut ∷ []) ▸ unless NotVisible numbers) (is_of (operator_problems numbers)) r (ordering_told numbers)
 
 pub arithmetic_on : {X : Type 0} (numbers : Bool) (r : Result X NameFault) →
-    IfErr r (Tells (is_of (TypeMismatch ∷ []) ∪ unless NotVisible numbers)) → IfErr r (Tells (is_of (operator_problems numbers)))
-arithmetic_on numbers r = told_on (is_of (TypeMismatch ∷ []) ∪ unless NotVisible numbers) (is_of (operator_problems numbers)) r (arithmetic_told numbers)
+    IfErr r (Tells (is_of (TypeMismatch ∷ []) ▸ unless NotVisible numbers)) → IfErr r (Tells (is_of (operator_problems numbers)))
+arithmetic_on numbers r = told_on (is_of (TypeMismatch ∷ []) ▸ unless NotVisible numbers) (is_of (operator_problems numbers)) r (arithmetic_told numbers)
 
 same : (a b : Broken) (f : NameFault) → a ≡ b → Tells a f → Tells b f
 same a b (At p at) e h = ap (λ c. c p) (sym e) ∙ h
@@ -75,7 +75,7 @@ same a b NoMemory e h = tt
 
 -- what is told of operands that are not ordered, by the problem that is told of them
 pub order_on_problem : {X : Type 0} (b numbers : Bool) (q : NameProblem) (r : Result X NameFault) → q ≡ order_problem b →
-    IfErr r (Tells (is_of (q ∷ []) ∪ unless NotVisible numbers)) → IfErr r (Tells (is_of (TypeMismatch ∷ LeftOut ∷ []) ∪ unless NotVisible numbers))
+    IfErr r (Tells (is_of (q ∷ []) ▸ unless NotVisible numbers)) → IfErr r (Tells (is_of (TypeMismatch ∷ LeftOut ∷ []) ▸ unless NotVisible numbers))
 order_on_problem b numbers q r e =
-    told_on (is_of (q ∷ []) ∪ unless NotVisible numbers) (is_of (TypeMismatch ∷ LeftOut ∷ []) ∪ unless NotVisible numbers) r
-    (λ f h. order_told b numbers f (same (is_of (q ∷ []) ∪ unless NotVisible numbers) (is_of (order_problem b ∷ []) ∪ unless NotVisible numbers) f (ap (λ p. is_of (p ∷ []) ∪ unless NotVisible numbers) e) h))
+    told_on (is_of (q ∷ []) ▸ unless NotVisible numbers) (is_of (TypeMismatch ∷ LeftOut ∷ []) ▸ unless NotVisible numbers) r
+    (λ f h. order_told b numbers f (same (is_of (q ∷ []) ▸ unless NotVisible numbers) (is_of (order_problem b ∷ []) ▸ unless NotVisible numbers) f (ap (λ p. is_of (p ∷ []) ▸ unless NotVisible numbers) e) h))

@@ -1,7 +1,7 @@
 //! What names in expressions are (IEEE 1076-2008, clause 8): objects with their indexed and slice
 //! names, conversions and calls of the packages' functions (9.3.4, 9.3.6), and 'event (16.2.4).
 
-ghost use Rattle.vhdl_names_problems.specs.Broken.{Tells, is_of, ◌∪◌};
+ghost use Rattle.vhdl_names_problems.specs.Broken.{Tells, is_of, ◌▸◌};
 ghost use Rattle.vhdl_names_problems.specs.Expressions as broken;
 ghost use Rattle.vhdl_names_rules.specs.declared.fault.NameProblem.TheVariants.{WrongKind, TypeMismatch};
 ghost use Rattle.std.specs.Prelude.{◌≡◌, option_map, IfErr, ◌∷◌, []};
@@ -267,7 +267,7 @@ pub fn attributed(
     at: usize,
 ) -> Result<Typed, NameFault>
     ensures given { Gives typed_view (rules.attributed (option_map ident_view attribute.now) (typed_view operand)) result }
-    ensures told { IfErr result (Tells (broken.attribute (option_map ident_view attribute.now) ∪ broken.event_of (option_map ident_view attribute.now) (typed_view operand))) }
+    ensures told { IfErr result (Tells (broken.attribute (option_map ident_view attribute.now) ▸ broken.event_of (option_map ident_view attribute.now) (typed_view operand))) }
 {
     match attribute {
         None => Ok(operand),

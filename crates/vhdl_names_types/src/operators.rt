@@ -1,7 +1,7 @@
 //! Operators on typed operands (IEEE 1076-2008, 9.2; numeric_std for unsigned, 16.8). Each takes the
 //! memory of a list or a box.
 
-ghost use Rattle.vhdl_names_problems.specs.Broken.{Tells, is_of, ◌∪◌, unless};
+ghost use Rattle.vhdl_names_problems.specs.Broken.{Tells, is_of, ◌▸◌, unless};
 ghost use Rattle.vhdl_names_problems.specs.Expressions.{operator_problems};
 ghost use Rattle.vhdl_names_rules.specs.declared.fault.NameProblem.TheVariants.{TypeMismatch, LeftOut, NotVisible};
 ghost use Rattle.std.specs.Prelude.{◌≡◌, ◌&&◌, ◌||◌, true, false, IfOk, OnErr, IfErr, ◌∷◌, []};
@@ -119,7 +119,7 @@ fn numeric(
     ensures visible { IfOk result (λ _. numbers ≡ true) }
     ensures fitting { IfOk result (λ _. are_numbers ≡ true) }
     ensures refused { OnErr result ((numbers && are_numbers) ≡ false) }
-    ensures told { IfErr result (Tells (is_of (problem ∷ []) ∪ unless NotVisible numbers)) }
+    ensures told { IfErr result (Tells (is_of (problem ∷ []) ▸ unless NotVisible numbers)) }
 {
     if !are_numbers {
         return Err(problem.at(at));
@@ -141,7 +141,7 @@ fn arithmetic(
     operands: (Typed, Typed),
 ) -> Result<Typed, NameFault>
     ensures given { Gives typed_view (table.arithmetic numbers operator by (typed_view operands.0) (typed_view operands.1)) result }
-    ensures told { IfErr result (Tells (is_of (TypeMismatch ∷ []) ∪ unless NotVisible numbers)) }
+    ensures told { IfErr result (Tells (is_of (TypeMismatch ∷ []) ▸ unless NotVisible numbers)) }
 {
     let (left, right) = operands;
     let problem = NameProblem::TypeMismatch;
@@ -262,7 +262,7 @@ fn ordered(
     operands: (Typed, Typed),
 ) -> Result<Typed, NameFault>
     ensures given { Gives typed_view (table.ordering numbers comparison (typed_view operands.0) (typed_view operands.1)) result }
-    ensures told { IfErr result (Tells (is_of (problem ∷ []) ∪ unless NotVisible numbers)) }
+    ensures told { IfErr result (Tells (is_of (problem ∷ []) ▸ unless NotVisible numbers)) }
 {
     let (left, right) = operands;
     match left {
@@ -298,7 +298,7 @@ fn ordering(
     operands: (Typed, Typed),
 ) -> Result<Typed, NameFault>
     ensures given { Gives typed_view (table.ordering numbers comparison (typed_view operands.0) (typed_view operands.1)) result }
-    ensures told { IfErr result (Tells (is_of (TypeMismatch ∷ LeftOut ∷ []) ∪ unless NotVisible numbers)) }
+    ensures told { IfErr result (Tells (is_of (TypeMismatch ∷ LeftOut ∷ []) ▸ unless NotVisible numbers)) }
 {
     let problem = order_problem(&operands);
     ordered(numbers, at, comparison, problem, operands)

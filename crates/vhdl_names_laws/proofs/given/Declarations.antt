@@ -14,7 +14,7 @@ use Rattle.vhdl_names_rules.specs.Expressions.{static}
 use Rattle.vhdl_names_rules.specs.Subtypes.{subtype, as_integer_type, fixed_value}
 use Rattle.vhdl_names_rules.specs.Declarations as are
 use Rattle.vhdl_names_rules.specs.Declarations.{within, within_variables, as_kind, single_expression}
-use Rattle.vhdl_names_problems.specs.Broken.{Broken, ◌∪◌, lacking, of_any}
+use Rattle.vhdl_names_problems.specs.Broken.{Broken, ◌▸◌, lacking, of_any}
 use Rattle.vhdl_names_problems.specs.Expressions as expressions
 use Rattle.vhdl_names_problems.specs.Subtypes as subtypes
 use Rattle.vhdl_names_problems.specs.Declarations as broken
@@ -80,7 +80,7 @@ unfolding are.port
 port_given sight p h =
     let k = parts _ _ h in
     let s = subtype_given sight p.subtype k.0 in
-    let l = parts _ _ (of_given (λ s. broken.nine_valued s ∪ of_any (subtypes.fixed_value sight s.type) p.default) (subtype sight p.subtype) s.value s.is k.1) in
+    let l = parts _ _ (of_given (λ s. broken.nine_valued s ▸ of_any (subtypes.fixed_value sight s.type) p.default) (subtype sight p.subtype) s.value s.is k.1) in
     let kind = given LeftOut [] (as_kind s.value.type) l.0 in
     let default = if_any_given (subtypes.fixed_value sight s.value.type) (fixed_value sight s.value.type) (fixed_value_given sight s.value.type) p.default l.1 in
     bound (subtype sight p.subtype) _ s.value s.is
@@ -130,7 +130,7 @@ constants_by_given sight d None h =
     let inner : Sight = within sight d.names in
     let k = parts _ _ h in
     let s = subtype_given inner d.subtype k.0 in
-    let l = parts _ _ (of_given (λ s. broken.nine_valued s ∪ subtypes.fixed_value inner s.type d.value) (subtype inner d.subtype) s.value s.is k.1) in
+    let l = parts _ _ (of_given (λ s. broken.nine_valued s ▸ subtypes.fixed_value inner s.type d.value) (subtype inner d.subtype) s.value s.is k.1) in
     let kind = given LeftOut [] (as_kind s.value.type) l.0 in
     let value = fixed_value_given inner s.value.type d.value l.1 in
     bound (subtype inner d.subtype) _ s.value s.is

@@ -18,7 +18,7 @@ use Rattle.vhdl_names_rules.specs.Names as names
 use Rattle.vhdl_names_rules.specs.Names.{Suffix, denoted, attributed, edge_signal}
 use Rattle.vhdl_names_rules.specs.Expressions as are
 use Rattle.vhdl_names_rules.specs.Expressions.{as_integer, signed, enclosed, beside, is_one_name, as_test, as_static_test, as_value, as_filled}
-use Rattle.vhdl_names_problems.specs.Broken.{nothing, ◌∪◌, lacking, where_given}
+use Rattle.vhdl_names_problems.specs.Broken.{nothing, ◌▸◌, lacking, where_given}
 use Rattle.vhdl_names_problems.specs.Missing.{problem_of}
 use Rattle.vhdl_names_problems.specs.Expressions as broken
 use Rattle.vhdl_names_problems.specs.Expressions.{mismatch, is_finished, name_problems, operator_problems}
@@ -133,7 +133,7 @@ mutual
 
 -- ---- what is asked of an expression
 
-asked_given : {A : Type 0} (f : Typed → Option A) (sight : Sight) (e : Expr) → IsKept (broken.typed sight e ∪ where_given (are.typed sight e) (λ x. lacking mismatch (f x)))
+asked_given : {A : Type 0} (f : Typed → Option A) (sight : Sight) (e : Expr) → IsKept (broken.typed sight e ▸ where_given (are.typed sight e) (λ x. lacking mismatch (f x)))
     → IsGiven (are.typed sight e >>= f)
 asked_given f sight e h =
     let k = parts (broken.typed sight e) (where_given (are.typed sight e) (λ x. lacking mismatch (f x))) h in

@@ -3,7 +3,7 @@ use Rattle.std.proofs.Common.{◌≡◌, Bool, true, false, ◌||◌, List, [], 
 use Rattle.std.specs.Prelude.{option_map}
 use Rattle.vhdl_names_rules.specs.declared.fault.NameProblem.{NameProblem}
 use Rattle.vhdl_names_rules.specs.Rules.{◌>>=◌, ◌>>◌, met, each, if_any}
-use Rattle.vhdl_names_problems.specs.Broken.{Broken, ◌∪◌, is, is_of, unless, lacking, where_given, any_of, of_any}
+use Rattle.vhdl_names_problems.specs.Broken.{Broken, ◌▸◌, is, is_of, unless, lacking, where_given, any_of, of_any}
 use Rattle.vhdl_names_problems.proofs.Telling.{is_same}
 use Rattle.vhdl_names_rules.proofs.laws.Rules.{neither}
 use Rattle.vhdl_names_laws.proofs.kept.Keeping.{IsKept}
@@ -33,8 +33,8 @@ mapped_given f o g = record { value = f g.value; is = ap (option_map f) g.is }
 
 -- ---- parts
 
-pub parts : (a b : Broken) → IsKept (a ∪ b) → IsKept a × IsKept b
-unfolding ◌∪◌
+pub parts : (a b : Broken) → IsKept (a ▸ b) → IsKept a × IsKept b
+unfolding ◌▸◌
 parts a b h = (λ p. (neither (a p) (b p) (h p)).0, λ p. (neither (a p) (b p) (h p)).1)
 
 pub holds : (q : NameProblem) (b : Bool) → IsKept (unless q b) → b ≡ true

@@ -14,7 +14,7 @@ use Rattle.vhdl_names_rules.specs.Statements as statements
 use Rattle.vhdl_names_rules.specs.Interfaces.{EntityView, entity_named}
 use Rattle.vhdl_names_rules.specs.Instances as are
 use Rattle.vhdl_names_rules.specs.Instances.{Formal, as_name, is_kind, may_join, is_architecture, as_component, generic_name, port_formal, expression_of, actual_of, port_actuals}
-use Rattle.vhdl_names_problems.specs.Broken.{◌∪◌, unless, lacking, where_given, any_of, of_any}
+use Rattle.vhdl_names_problems.specs.Broken.{◌▸◌, unless, lacking, where_given, any_of, of_any}
 use Rattle.vhdl_names_problems.specs.Expressions as expressions
 use Rattle.vhdl_names_problems.specs.Statements as sequential
 use Rattle.vhdl_names_problems.specs.Instances as broken
@@ -76,10 +76,10 @@ port_actual_given sight f e h =
     let k = parts _ _ h in
     let n = given LeftOut [] (as_name e) k.0 in
     let l = parts _ _ (of_given (λ n. sequential.signal sight n
-    ∪ lacking (LeftOut ∷ []) (statements.signal sight n)
-    ∪ where_given (statements.signal sight n) (λ x. unless TypeMismatch (is_kind f.kind x.type) ∪ unless WriteOfIn (may_join f.mode x.mode))) (as_name e) n.value n.is k.1) in
+    ▸ lacking (LeftOut ∷ []) (statements.signal sight n)
+    ▸ where_given (statements.signal sight n) (λ x. unless TypeMismatch (is_kind f.kind x.type) ▸ unless WriteOfIn (may_join f.mode x.mode))) (as_name e) n.value n.is k.1) in
     let s = signal_given sight n.value l.0 in
-    let m = parts _ _ (of_given (λ x. unless TypeMismatch (is_kind f.kind x.type) ∪ unless WriteOfIn (may_join f.mode x.mode)) (statements.signal sight n.value) s.value s.is
+    let m = parts _ _ (of_given (λ x. unless TypeMismatch (is_kind f.kind x.type) ▸ unless WriteOfIn (may_join f.mode x.mode)) (statements.signal sight n.value) s.value s.is
     (parts _ _ l.1).1) in
     bound (as_name e) _ n.value n.is
     (bound (statements.signal sight n.value) _ s.value s.is
@@ -136,7 +136,7 @@ unfolding are.instance
 instance_given entities sight label i h =
     let k = parts _ _ h in
     let n = instantiated_given entities sight i.unit k.0 in
-    let l = parts _ _ (of_given (λ k. lacking (Undeclared ∷ []) (slice_get entities k) ∪ of_any (λ e. broken.maps sight e i) (slice_get entities k)) (are.instantiated entities sight i.unit) n.value n.is k.1) in
+    let l = parts _ _ (of_given (λ k. lacking (Undeclared ∷ []) (slice_get entities k) ▸ of_any (λ e. broken.maps sight e i) (slice_get entities k)) (are.instantiated entities sight i.unit) n.value n.is k.1) in
     let e = given Undeclared [] (slice_get entities n.value) l.0 in
     let whole : IsKept (broken.maps sight e.value i) = λ p. ap (λ o. of_any (λ e. broken.maps sight e i) o p) (sym e.is) ∙ l.1 p in
     let names : List Name = filter_map generic_name e.value.interface.declared in

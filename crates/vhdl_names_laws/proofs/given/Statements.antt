@@ -12,7 +12,7 @@ use Rattle.vhdl_names_rules.specs.Expressions.{typed, typed_suffix, static_range
 use Rattle.vhdl_names_rules.specs.Choices.{covered, selector, arranged}
 use Rattle.vhdl_names_rules.specs.Statements as are
 use Rattle.vhdl_names_rules.specs.Statements.{SignalName, VariableName, as_signal, as_variable, is_input, choice_lists}
-use Rattle.vhdl_names_problems.specs.Broken.{◌∪◌, unless, lacking, where_given}
+use Rattle.vhdl_names_problems.specs.Broken.{◌▸◌, unless, lacking, where_given}
 use Rattle.vhdl_names_problems.specs.Expressions as expressions
 use Rattle.vhdl_names_problems.specs.Expressions.{name_problems}
 use Rattle.vhdl_names_problems.specs.Statements as broken
@@ -26,7 +26,7 @@ use Rattle.vhdl_names_laws.proofs.given.Choices.{case_given}
 -- ---- names of signals and variables
 
 object_given : {A : Type 0} (f : Meaning → Suffix → Option A) (sight : Sight) (n : t.Name)
-    → IsKept (broken.named sight n ∪ where_given (meaning sight n.identifier.text) (λ d. where_given (typed_suffix sight n.suffix) (λ s. lacking (name_problems d) (f d s))))
+    → IsKept (broken.named sight n ▸ where_given (meaning sight n.identifier.text) (λ d. where_given (typed_suffix sight n.suffix) (λ s. lacking (name_problems d) (f d s))))
     → IsGiven (object_named f sight n)
 object_given f sight n h =
     let k = parts _ _ h in

@@ -16,7 +16,7 @@ use Rattle.vhdl_names_rules.specs.Expressions.{static}
 use Rattle.vhdl_names_rules.specs.Subtypes.{Subtype, subtype, as_integer_type, fixed_value}
 use Rattle.vhdl_names_rules.specs.Declarations as are
 use Rattle.vhdl_names_rules.specs.Declarations.{within, within_variables, as_kind, single_expression}
-use Rattle.vhdl_names_problems.specs.Broken.{Broken, ◌∪◌, lacking, of_any}
+use Rattle.vhdl_names_problems.specs.Broken.{Broken, ◌▸◌, lacking, of_any}
 use Rattle.vhdl_names_problems.specs.Expressions as expressions
 use Rattle.vhdl_names_problems.specs.Expressions.{mismatch}
 use Rattle.vhdl_names_problems.specs.Subtypes as subtypes
@@ -79,7 +79,7 @@ port_kept sight p x h =
     let kind = comes (as_kind s.value.type) _ x s.rest in
     let default = comes (if_any (fixed_value sight s.value.type) p.default) _ x kind.rest in
     both_kept _ _ (subtype_kept sight p.subtype s.value s.is)
-    (given_kept (λ s. broken.nine_valued s ∪ of_any (subtypes.fixed_value sight s.type) p.default) (subtype sight p.subtype) s.value s.is
+    (given_kept (λ s. broken.nine_valued s ▸ of_any (subtypes.fixed_value sight s.type) p.default) (subtype sight p.subtype) s.value s.is
     (both_kept _ _ (lacking_kept (LeftOut ∷ []) (as_kind s.value.type) kind.value kind.is)
     (if_any_kept (subtypes.fixed_value sight s.value.type) (fixed_value sight s.value.type) (fixed_value_kept sight s.value.type) p.default default.value default.is)))
 
@@ -120,7 +120,7 @@ constants_by_kept sight d None x h =
     let kind = comes (as_kind s.value.type) _ x s.rest in
     let value = comes (fixed_value (within sight d.names) s.value.type d.value) _ x kind.rest in
     both_kept _ _ (subtype_kept (within sight d.names) d.subtype s.value s.is)
-    (given_kept (λ s. broken.nine_valued s ∪ subtypes.fixed_value (within sight d.names) s.type d.value) (subtype (within sight d.names) d.subtype) s.value s.is
+    (given_kept (λ s. broken.nine_valued s ▸ subtypes.fixed_value (within sight d.names) s.type d.value) (subtype (within sight d.names) d.subtype) s.value s.is
     (both_kept _ _ (lacking_kept (LeftOut ∷ []) (as_kind s.value.type) kind.value kind.is)
     (fixed_value_kept (within sight d.names) s.value.type d.value value.value value.is)))
 

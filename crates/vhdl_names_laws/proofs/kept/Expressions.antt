@@ -18,7 +18,7 @@ use Rattle.vhdl_names_rules.specs.Names.{Suffix, denoted, attributed, edge_signa
 use Rattle.vhdl_names_rules.specs.Expressions as are
 use Rattle.vhdl_names_rules.specs.Expressions.{as_integer, enclosed, beside, is_one_name, as_test, as_static_test, as_value, as_filled}
 use Rattle.vhdl_names_rules.specs.declared.kind.ElementKind.TheVariants.{Element, OpenVector}
-use Rattle.vhdl_names_problems.specs.Broken.{nothing, ◌∪◌, lacking, where_given}
+use Rattle.vhdl_names_problems.specs.Broken.{nothing, ◌▸◌, lacking, where_given}
 use Rattle.vhdl_names_problems.specs.Missing.{problem_of}
 use Rattle.vhdl_names_problems.specs.Expressions as broken
 use Rattle.vhdl_names_problems.specs.Expressions.{mismatch, name_problems, operator_problems}
@@ -48,7 +48,7 @@ event_kept (Some a) x y h =
 named_kept : (sight : Sight) (n : Name) (a : Option Ident) (o : Option Suffix) (s : Suffix) (d : Meaning) (x y : Typed) → o ≡ Some s
     → visibility.meaning sight n ≡ Some d → denoted d s ≡ Some x → attributed a x ≡ Some y → IsKept (broken.named sight n o a)
 named_kept sight n a o s d x y given meant denoted_is attributed_is =
-    both_kept (broken.meaning sight n) (broken.attribute a ∪ where_given (visibility.meaning sight n) (λ d. where_given o (broken.with_suffix a d)))
+    both_kept (broken.meaning sight n) (broken.attribute a ▸ where_given (visibility.meaning sight n) (λ d. where_given o (broken.with_suffix a d)))
     (meaning_kept sight n d meant)
     (both_kept (broken.attribute a) (where_given (visibility.meaning sight n) (λ d. where_given o (broken.with_suffix a d)))
     (attribute_kept a x y attributed_is)
@@ -129,7 +129,7 @@ mutual
 -- ---- what is asked of an expression
 
 asked_kept : {A : Type 0} (f : Typed → Option A) (sight : Sight) (e : Expr) (x : A) → (are.typed sight e >>= f) ≡ Some x
-    → IsKept (broken.typed sight e ∪ where_given (are.typed sight e) (λ x. lacking mismatch (f x)))
+    → IsKept (broken.typed sight e ▸ where_given (are.typed sight e) (λ x. lacking mismatch (f x)))
 asked_kept f sight e x h =
     let a = comes (are.typed sight e) f x h in
     both_kept (broken.typed sight e) (where_given (are.typed sight e) (λ x. lacking mismatch (f x))) (typed_kept e sight a.value a.is)

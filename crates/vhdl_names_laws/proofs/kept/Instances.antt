@@ -16,7 +16,7 @@ use Rattle.vhdl_names_rules.specs.Statements as statements
 use Rattle.vhdl_names_rules.specs.Interfaces.{EntityView, entity_named}
 use Rattle.vhdl_names_rules.specs.Instances as are
 use Rattle.vhdl_names_rules.specs.Instances.{Formal, as_name, is_kind, may_join, is_architecture, as_component, generic_name, port_formal, expression_of, port_actuals}
-use Rattle.vhdl_names_problems.specs.Broken.{◌∪◌, unless, lacking, where_given, of_any}
+use Rattle.vhdl_names_problems.specs.Broken.{◌▸◌, unless, lacking, where_given, of_any}
 use Rattle.vhdl_names_problems.specs.Expressions as expressions
 use Rattle.vhdl_names_problems.specs.Statements as sequential
 use Rattle.vhdl_names_problems.specs.Instances as broken
@@ -69,11 +69,11 @@ port_actual_kept sight f e x h =
     let b = kept (may_join f.mode s.value.mode) _ x a.1 in
     both_kept _ _ (lacking_kept (LeftOut ∷ []) (as_name e) n.value n.is)
     (given_kept (λ n. sequential.signal sight n
-    ∪ lacking (LeftOut ∷ []) (statements.signal sight n)
-    ∪ where_given (statements.signal sight n) (λ x. unless TypeMismatch (is_kind f.kind x.type) ∪ unless WriteOfIn (may_join f.mode x.mode))) (as_name e) n.value n.is
+    ▸ lacking (LeftOut ∷ []) (statements.signal sight n)
+    ▸ where_given (statements.signal sight n) (λ x. unless TypeMismatch (is_kind f.kind x.type) ▸ unless WriteOfIn (may_join f.mode x.mode))) (as_name e) n.value n.is
     (both_kept _ _ (signal_kept sight n.value s.value s.is)
     (both_kept _ _ (lacking_kept (LeftOut ∷ []) (statements.signal sight n.value) s.value s.is)
-    (given_kept (λ x. unless TypeMismatch (is_kind f.kind x.type) ∪ unless WriteOfIn (may_join f.mode x.mode)) (statements.signal sight n.value) s.value s.is
+    (given_kept (λ x. unless TypeMismatch (is_kind f.kind x.type) ▸ unless WriteOfIn (may_join f.mode x.mode)) (statements.signal sight n.value) s.value s.is
     (both_kept _ _ (unless_kept TypeMismatch (is_kind f.kind s.value.type) a.0) (unless_kept WriteOfIn (may_join f.mode s.value.mode) b.0))))))
 
 -- the actual of each formal is given
@@ -140,7 +140,7 @@ instance_kept entities sight label i x h =
     let ps = comes (are.associated (map (λ (f : Formal). f.name) formals) (all_of i.ports)) _ x generics.rest in
     let ports = comes (port_actuals sight formals ps.value) _ x ps.rest in
     both_kept _ _ (instantiated_kept entities sight i.unit k.value k.is)
-    (given_kept (λ k. lacking (Undeclared ∷ []) (slice_get entities k) ∪ of_any (λ e. broken.maps sight e i) (slice_get entities k)) (are.instantiated entities sight i.unit) k.value k.is
+    (given_kept (λ k. lacking (Undeclared ∷ []) (slice_get entities k) ▸ of_any (λ e. broken.maps sight e i) (slice_get entities k)) (are.instantiated entities sight i.unit) k.value k.is
     (both_kept _ _ (lacking_kept (Undeclared ∷ []) (slice_get entities k.value) e.value e.is)
     (λ p. ap (λ o. of_any (λ e. broken.maps sight e i) o p) e.is
     ∙ both_kept _ _ (generic_map_kept sight (filter_map generic_name e.value.interface.declared) (all_of i.generics) gs.value generics.value gs.is generics.is)

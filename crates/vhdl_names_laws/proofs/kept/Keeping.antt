@@ -3,7 +3,7 @@ use Rattle.std.proofs.Common.{◌≡◌, Bool, true, false, ◌||◌, List, [], 
 use Rattle.std.specs.List.{AllByRecursion}
 use Rattle.vhdl_names_rules.specs.declared.fault.NameProblem.{NameProblem}
 use Rattle.vhdl_names_rules.specs.Rules.{each, if_any}
-use Rattle.vhdl_names_problems.specs.Broken.{Broken, nothing, ◌∪◌, unless, lacking, where_given, any_of, of_any}
+use Rattle.vhdl_names_problems.specs.Broken.{Broken, nothing, ◌▸◌, unless, lacking, where_given, any_of, of_any}
 use Rattle.vhdl_names_rules.proofs.laws.Rules.{comes}
 
 -- no problem is borne
@@ -17,8 +17,8 @@ neither_holds : (a b : Bool) → a ≡ false → b ≡ false → (a || b) ≡ fa
 neither_holds true b h k = absurd cc
 neither_holds false b h k = k
 
-pub both_kept : (a b : Broken) → IsKept a → IsKept b → IsKept (a ∪ b)
-unfolding ◌∪◌
+pub both_kept : (a b : Broken) → IsKept a → IsKept b → IsKept (a ▸ b)
+unfolding ◌▸◌
 both_kept a b h k p = neither_holds (a p) (b p) (h p) (k p)
 
 pub unless_kept : (q : NameProblem) (holds : Bool) → holds ≡ true → IsKept (unless q holds)

@@ -12,7 +12,7 @@ use Rattle.vhdl_names_rules.specs.Expressions.{typed, typed_suffix, static_range
 use Rattle.vhdl_names_rules.specs.Choices.{covered, selector, arranged}
 use Rattle.vhdl_names_rules.specs.Statements as are
 use Rattle.vhdl_names_rules.specs.Statements.{SignalName, VariableName, as_signal, as_variable, is_input, choice_lists}
-use Rattle.vhdl_names_problems.specs.Broken.{◌∪◌, unless, lacking, where_given}
+use Rattle.vhdl_names_problems.specs.Broken.{◌▸◌, unless, lacking, where_given}
 use Rattle.vhdl_names_problems.specs.Expressions as expressions
 use Rattle.vhdl_names_problems.specs.Expressions.{name_problems}
 use Rattle.vhdl_names_problems.specs.Statements as broken
@@ -33,7 +33,7 @@ object_named f sight n = do
   f d suffix
 
 object_kept : {A : Type 0} (f : Meaning → Suffix → Option A) (sight : Sight) (n : t.Name) (x : A) → object_named f sight n ≡ Some x
-    → IsKept (broken.named sight n ∪ where_given (meaning sight n.identifier.text) (λ d. where_given (typed_suffix sight n.suffix) (λ s. lacking (name_problems d) (f d s))))
+    → IsKept (broken.named sight n ▸ where_given (meaning sight n.identifier.text) (λ d. where_given (typed_suffix sight n.suffix) (λ s. lacking (name_problems d) (f d s))))
 object_kept f sight n x h =
     let a = kept (is_none n.attribute) _ x h in
     let b = comes (typed_suffix sight n.suffix) _ x a.1 in

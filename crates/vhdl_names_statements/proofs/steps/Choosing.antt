@@ -18,7 +18,7 @@ use Rattle.vhdl_names_rules.specs.Rules.{◌>>=◌, each, then_some}
 use Rattle.vhdl_names_rules.specs.Visibility.{Name, Sight, are_distinct}
 use Rattle.vhdl_names_rules.specs.Choices as are
 use Rattle.vhdl_names_rules.specs.Choices.{are_distinct_choices, only_last_others, is_last_others, names_all}
-use Rattle.vhdl_names_problems.specs.Broken.{Broken, Tells, nothing, ◌∪◌, is, is_of, unless, lacking, where_given, any_of}
+use Rattle.vhdl_names_problems.specs.Broken.{Broken, Tells, nothing, ◌▸◌, is, is_of, unless, lacking, where_given, any_of}
 use Rattle.vhdl_names_problems.specs.Choices.{choice, choices, covered, is_empty, all_given}
 use Rattle.vhdl_names_problems.proofs.Telling.{told_left, told_right, told_given, told_lacking, told_any}
 use Rattle.vhdl_names_units.specs.views.Sequential.{Chosen}
@@ -217,22 +217,22 @@ module _ (sight : Sight) (type : ObjectType) where
     no_others = where_given (each (are.choices sight type) lists) (λ css. unless NoOthers (is_last_others lists || names_all type (flat_map (λ cs. cs) css)))
 
     pub covered_some : Tells some_one f → Tells (covered sight type lists) f
-    covered_some h = told_left some_one (last_others ∪ (each_choice ∪ (twice ∪ no_others))) f h
+    covered_some h = told_left some_one (last_others ▸ (each_choice ▸ (twice ▸ no_others))) f h
 
     pub covered_last : Tells last_others f → Tells (covered sight type lists) f
-    covered_last h = told_right some_one (last_others ∪ (each_choice ∪ (twice ∪ no_others))) f (told_left last_others (each_choice ∪ (twice ∪ no_others)) f h)
+    covered_last h = told_right some_one (last_others ▸ (each_choice ▸ (twice ▸ no_others))) f (told_left last_others (each_choice ▸ (twice ▸ no_others)) f h)
 
-    after_last : Tells (each_choice ∪ (twice ∪ no_others)) f → Tells (covered sight type lists) f
-    after_last h = told_right some_one (last_others ∪ (each_choice ∪ (twice ∪ no_others))) f (told_right last_others (each_choice ∪ (twice ∪ no_others)) f h)
+    after_last : Tells (each_choice ▸ (twice ▸ no_others)) f → Tells (covered sight type lists) f
+    after_last h = told_right some_one (last_others ▸ (each_choice ▸ (twice ▸ no_others))) f (told_right last_others (each_choice ▸ (twice ▸ no_others)) f h)
 
     pub covered_each : Tells each_choice f → Tells (covered sight type lists) f
-    covered_each h = after_last (told_left each_choice (twice ∪ no_others) f h)
+    covered_each h = after_last (told_left each_choice (twice ▸ no_others) f h)
 
     pub covered_twice : Tells twice f → Tells (covered sight type lists) f
-    covered_twice h = after_last (told_right each_choice (twice ∪ no_others) f (told_left twice no_others f h))
+    covered_twice h = after_last (told_right each_choice (twice ▸ no_others) f (told_left twice no_others f h))
 
     pub covered_all : Tells no_others f → Tells (covered sight type lists) f
-    covered_all h = after_last (told_right each_choice (twice ∪ no_others) f (told_right twice no_others f h))
+    covered_all h = after_last (told_right each_choice (twice ▸ no_others) f (told_right twice no_others f h))
 
     -- choices that are refused one by one, after those before them
     pub written_told : (keys : List Name) (cs : List t.Choice) (rest : List (List t.Choice))
@@ -251,7 +251,7 @@ module _ (sight : Sight) (type : ObjectType) where
         let u = unless ChoiceTwice (are_distinct (map key_of (all_choices all))) in
         let n = unless NoOthers (is_last_others lists || names_all type (all_choices all)) in
         let same : all_given sight type lists ≡ all_choices all = lists_given lists (choices_of all) e ∙ flat_each all in
-        told_either last_others (u ∪ n) (covered sight type lists) f h covered_last
+        told_either last_others (u ▸ n) (covered sight type lists) f h covered_last
         (λ r. told_either u n (covered sight type lists) f r
         (λ k. covered_twice (told_along u twice f (ap (unless ChoiceTwice) (distinct_keys (all_choices all) ∙ ap are_distinct_choices (sym same))) k))
         (λ k. covered_all (told_given (λ (css : List (List s.Choice)). unless NoOthers (is_last_others lists || names_all type (flat_map (λ cs. cs) css)))

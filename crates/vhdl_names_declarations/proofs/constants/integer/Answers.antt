@@ -1,6 +1,6 @@
 use Rattle.std.proofs.Common.{rules, arith, ◌≡◌, true, Some, sym, ap, subst, ◌∙◌}
 use Rattle.std.proofs.lemmas.Grind.{common_steps}
-use Rattle.vhdl_names_problems.specs.Broken.{Tells, ◌∪◌, lacking, where_given, unless}
+use Rattle.vhdl_names_problems.specs.Broken.{Tells, ◌▸◌, lacking, where_given, unless}
 use Rattle.vhdl_names_problems.specs.Declarations as broken
 use Rattle.vhdl_names_problems.specs.Expressions as expressions_broken
 use Rattle.vhdl_names_problems.proofs.Telling.{told_left, told_right, told_given, told_lacking}
@@ -21,7 +21,7 @@ returns-in_err-e-clause-told c =
     let second = lacking expressions_broken.mismatch (single_expression p.value) in
     let last = where_given (single_expression p.value) (expressions_broken.static s) in
     let f : Tells (broken.integer_constants (sight_view c.args.sight.now) (tree.constants_view c.args.declaration.now)) c.in_err-e.field-0.0 =
-    told_right first (second ∪ last) c.in_err-e.field-0.0 (told_left second last c.in_err-e.field-0.0 (told_lacking expressions_broken.mismatch (single_expression p.value) c.in_err-e.field-0.0 c.in_err-e.ensures.given c.in_err-e.ensures.told)) in
+    told_right first (second ▸ last) c.in_err-e.field-0.0 (told_left second last c.in_err-e.field-0.0 (told_lacking expressions_broken.mismatch (single_expression p.value) c.in_err-e.field-0.0 c.in_err-e.ensures.given c.in_err-e.ensures.told)) in
     first_of (search rules, grind (arith, common_steps))
 
 pub returns-in_err-value-clause-told : goal.returns-in_err-value-clause-told
@@ -32,7 +32,7 @@ returns-in_err-value-clause-told c =
     let second = lacking expressions_broken.mismatch (single_expression p.value) in
     let last = where_given (single_expression p.value) (expressions_broken.static s) in
     let f : Tells (broken.integer_constants (sight_view c.args.sight.now) (tree.constants_view c.args.declaration.now)) c.in_err-value.field-0.0 =
-    told_right first (second ∪ last) c.in_err-value.field-0.0 (told_right second last c.in_err-value.field-0.0
+    told_right first (second ▸ last) c.in_err-value.field-0.0 (told_right second last c.in_err-value.field-0.0
     (told_given (expressions_broken.static s) (single_expression p.value) (tree.view c.in_ok-e.e.now) c.in_err-value.field-0.0 c.in_ok-e.ensures.given c.in_err-value.ensures.told)) in
     first_of (search rules, grind (arith, common_steps))
 
@@ -45,4 +45,4 @@ returns-then-is_some-clause-told c =
     let last = where_given (single_expression p.value) (expressions_broken.static s) in
     let f = At LeftOut c.args.declaration.now.subtype.mark.at in
     let there : is_some c.args.declaration.now.subtype.range ≡ true = grind (arith, common_steps) in
-    subst (Tells (broken.integer_constants s p)) (sym c.at.ensures) (told_left first (second ∪ last) f (stands_there tree.range_view LeftOut c.args.declaration.now.subtype.range there))
+    subst (Tells (broken.integer_constants s p)) (sym c.at.ensures) (told_left first (second ▸ last) f (stands_there tree.range_view LeftOut c.args.declaration.now.subtype.range there))

@@ -12,7 +12,7 @@ use Rattle.vhdl_names_types.specs.Views.{region_view, sight_view}
 use Rattle.vhdl_names_declarations.specs.Entered.{more, entering}
 use Rattle.vhdl_names_declarations.proofs.Declaring.{too_many, too_many_told, enumeration_is, in_region}
 use Rattle.vhdl_names_declarations.proofs.enumeration.enumeration.Goals as goal
-use Rattle.vhdl_names_problems.specs.Broken.{Tells, ◌∪◌}
+use Rattle.vhdl_names_problems.specs.Broken.{Tells, ◌▸◌}
 use Rattle.vhdl_names_problems.specs.Declarations as broken
 use Rattle.vhdl_names_problems.proofs.Telling.{told_left, told_right}
 use Rattle.vhdl_names_declarations.specs.Standing.{standing_twice, enumeration_names}
@@ -68,7 +68,7 @@ pub returns-then-count-gt256-clause-told : goal.returns-then-count-gt256-clause-
 returns-then-count-gt256-clause-told c =
     let size = length-map c.args.declaration.now.literals.items ident_view in
     let f = At LeftOut c.args.declaration.now.name.at in
-    subst (Tells (broken.enumeration (enumeration_view c.args.declaration.now) ∪ standing_twice (sight_view c.args.sight.now).region (enumeration_names (enumeration_view c.args.declaration.now)))) (sym c.at.ensures)
+    subst (Tells (broken.enumeration (enumeration_view c.args.declaration.now) ▸ standing_twice (sight_view c.args.sight.now).region (enumeration_names (enumeration_view c.args.declaration.now)))) (sym c.at.ensures)
     (told_left (broken.enumeration (enumeration_view c.args.declaration.now)) (standing_twice (sight_view c.args.sight.now).region (enumeration_names (enumeration_view c.args.declaration.now))) f (too_many_told (enumeration_view c.args.declaration.now) c.args.declaration.now.name.at (omega (arith, size))))
 
 pub returns-in_err-declare-clause-told : goal.returns-in_err-declare-clause-told
@@ -76,7 +76,7 @@ returns-in_err-declare-clause-told c =
     let s = sight_view c.args.sight.now in
     let d' = enumeration_view c.args.declaration.now in
     let first = declare d'.name.text (visibility.enumeration_type c.args.number c.len-count.result) in
-    let f : Tells (broken.enumeration (enumeration_view c.args.declaration.now) ∪ standing_twice (sight_view c.args.sight.now).region (enumeration_names (enumeration_view c.args.declaration.now))) c.in_err-declare.field-0.0 =
+    let f : Tells (broken.enumeration (enumeration_view c.args.declaration.now) ▸ standing_twice (sight_view c.args.sight.now).region (enumeration_names (enumeration_view c.args.declaration.now))) c.in_err-declare.field-0.0 =
     told_right (broken.enumeration d') (standing_twice s.region (enumeration_names d')) c.in_err-declare.field-0.0
     (twice_more s.region (d'.name.text ∷ []) (names_of d'.literals) c.in_err-declare.field-0.0
     (twice_told s.region (first ∷ []) (d'.name.text ∷ []) c.in_err-declare.field-0.0 c.in_err-declare.ensures.given refl c.in_err-declare.ensures.told)) in
@@ -91,7 +91,7 @@ returns-in_err-literals-clause-told c =
     let first = declare d'.name.text (visibility.enumeration_type c.args.number c.len-count.result) in
     let ls = d.literals e (length c.deref.result.now) 0 (names_of (map ident_view c.deref.result.now)) in
     let names = names-literals e (length c.deref.result.now) 0 (names_of (map ident_view c.deref.result.now)) ∙ ap (λ l. names_of (map ident_view l)) c.deref.ensures.value in
-    let f : Tells (broken.enumeration (enumeration_view c.args.declaration.now) ∪ standing_twice (sight_view c.args.sight.now).region (enumeration_names (enumeration_view c.args.declaration.now))) c.in_err-literals.field-0.0 =
+    let f : Tells (broken.enumeration (enumeration_view c.args.declaration.now) ▸ standing_twice (sight_view c.args.sight.now).region (enumeration_names (enumeration_view c.args.declaration.now))) c.in_err-literals.field-0.0 =
     told_right (broken.enumeration d') (standing_twice s.region (enumeration_names d')) c.in_err-literals.field-0.0
     (twice_entered s.region (first ∷ []) (d'.name.text ∷ []) (names_of d'.literals) c.in_err-literals.field-0.0 refl
     (subst (λ l. Tells (standing_twice l (names_of d'.literals)) c.in_err-literals.field-0.0) (more_is s.region (first ∷ []) r c.in_ok-declare.ensures.given)

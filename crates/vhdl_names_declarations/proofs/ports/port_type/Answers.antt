@@ -1,6 +1,6 @@
 use Rattle.std.proofs.Common.{rules, arith, ◌≡◌, Some, ap, ◌∙◌}
 use Rattle.std.proofs.lemmas.Grind.{common_steps}
-use Rattle.vhdl_names_problems.specs.Broken.{Tells, ◌∪◌, where_given, of_any}
+use Rattle.vhdl_names_problems.specs.Broken.{Tells, ◌▸◌, where_given, of_any}
 use Rattle.vhdl_names_problems.specs.Declarations as broken
 use Rattle.vhdl_names_problems.specs.Subtypes as subtypes_broken
 use Rattle.vhdl_names_problems.proofs.Telling.{told_left, told_right, told_given, told_lacking}
@@ -18,7 +18,7 @@ returns-in_err-subtype-clause-told c =
     let s = sight_view c.args.sight.now in
     let p = tree.port_view c.args.port.now in
     let first = subtypes_broken.subtype s p.subtype in
-    let by = λ (x : Subtype). broken.nine_valued x ∪ of_any (subtypes_broken.fixed_value s x.type) p.default in
+    let by = λ (x : Subtype). broken.nine_valued x ▸ of_any (subtypes_broken.fixed_value s x.type) p.default in
     let last = where_given (subtype s p.subtype) by in
     let f : Tells (broken.port (sight_view c.args.sight.now) (tree.port_view c.args.port.now)) c.in_err-subtype.field-0.0 =
     told_left first last c.in_err-subtype.field-0.0 c.in_err-subtype.ensures.told in
@@ -29,7 +29,7 @@ returns-in_err-kind-clause-told c =
     let s = sight_view c.args.sight.now in
     let p = tree.port_view c.args.port.now in
     let first = subtypes_broken.subtype s p.subtype in
-    let by = λ (x : Subtype). broken.nine_valued x ∪ of_any (subtypes_broken.fixed_value s x.type) p.default in
+    let by = λ (x : Subtype). broken.nine_valued x ▸ of_any (subtypes_broken.fixed_value s x.type) p.default in
     let last = where_given (subtype s p.subtype) by in
     let x = subtype_view c.in_ok-subtype.subtype in
     let default = of_any (subtypes_broken.fixed_value s x.type) p.default in
@@ -42,7 +42,7 @@ returns-in_err-default-clause-told c =
     let s = sight_view c.args.sight.now in
     let p = tree.port_view c.args.port.now in
     let first = subtypes_broken.subtype s p.subtype in
-    let by = λ (x : Subtype). broken.nine_valued x ∪ of_any (subtypes_broken.fixed_value s x.type) p.default in
+    let by = λ (x : Subtype). broken.nine_valued x ▸ of_any (subtypes_broken.fixed_value s x.type) p.default in
     let last = where_given (subtype s p.subtype) by in
     let x = subtype_view c.in_ok-subtype.subtype in
     let default = of_any (subtypes_broken.fixed_value s x.type) p.default in

@@ -2,7 +2,7 @@ use Rattle.std.proofs.Common.{rules, arith, Some}
 use Rattle.std.proofs.lemmas.Grind.{common_steps}
 use Rattle.vhdl_tree.specs.View.{range_view}
 use Rattle.vhdl_names_types.specs.Views.{sight_view, meaning_view}
-use Rattle.vhdl_names_problems.specs.Broken.{Tells, ◌∪◌, unless}
+use Rattle.vhdl_names_problems.specs.Broken.{Tells, ◌▸◌, unless}
 use Rattle.vhdl_names_problems.specs.Expressions.{static_range}
 use Rattle.vhdl_names_problems.specs.Subtypes.{mark_problem, is_marked}
 use Rattle.vhdl_names_problems.proofs.Telling.{told_left, told_right}
@@ -15,7 +15,7 @@ returns-in_err-range-in-VectorType-clause-told c =
     let s = sight_view c.args.sight.now in
     let d = meaning_view c.args.meaning.now in
     let r = range_view c.args.range.now in
-    let f : Tells (static_range s r ∪ unless (mark_problem d) (is_marked d (Some r))) c.in_err-range-in-VectorType.field-0.0 =
+    let f : Tells (static_range s r ▸ unless (mark_problem d) (is_marked d (Some r))) c.in_err-range-in-VectorType.field-0.0 =
     told_left (static_range s r) (unless (mark_problem d) (is_marked d (Some r))) c.in_err-range-in-VectorType.field-0.0 c.in_err-range-in-VectorType.ensures.told in
     first_of (search rules, grind (arith, common_steps))
 
