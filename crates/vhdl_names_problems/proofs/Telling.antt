@@ -1,5 +1,5 @@
 -- What is told of a part is told of the whole, where the parts before it break nothing.
-use Rattle.std.proofs.Common.{◌≡◌, ◌≢◌, ℕ, zero, suc, ◌<◌, ◌×◌, Bool, true, false, List, [], ◌∷◌, map, take, length, get_or, Option, Some, None, Result, Ok, Err, IfErr, refl, sym, ap, ◌∙◌, true≢false, arith}
+use Rattle.std.proofs.Common.{◌≡◌, ◌≢◌, ℕ, zero, suc, ◌<◌, Bool, true, false, List, [], ◌∷◌, map, take, length, get_or, Option, Some, None, Result, Ok, Err, IfErr, refl, sym, ap, ◌∙◌, true≢false, arith}
 use Rattle.vhdl_names_rules.specs.declared.fault.NameFault.{NameFault}
 use Rattle.vhdl_names_rules.specs.declared.fault.NameFault.TheVariants.{At, NoMemory}
 use Rattle.vhdl_names_rules.specs.declared.fault.NameProblem.{NameProblem}
@@ -32,6 +32,18 @@ lacking_kept p at o x h = ap (lacking p at) h
 pub given_kept : {A : Type 0} (f : A → Broken) (o : Option A) (x : A) → o ≡ Some x → IsKept (f x) → IsKept (where_given o f)
 given_kept f o x h k = ap (λ y. where_given y f) h ∙ k
 
+-- ---- parts of what is kept
+
+pub kept_left : (a b : Broken) → IsKept (a ▸ b) → IsKept a
+unfolding ◌▸◌
+kept_left None b h = refl
+kept_left (Some x) b h = absurd cc
+
+pub kept_right : (a b : Broken) → IsKept (a ▸ b) → IsKept b
+unfolding ◌▸◌
+kept_right None b h = h
+kept_right (Some x) b h = absurd cc
+
 -- ---- what is told
 
 pub told_same : (a b : Broken) (f : NameFault) → a ≡ b → Tells a f → Tells b f
@@ -47,11 +59,6 @@ told_left a b NoMemory h = tt
 pub told_right : (a b : Broken) (f : NameFault) → IsKept a → Tells b f → Tells (a ▸ b) f
 told_right a b f kept h = told_same b (a ▸ b) f (sym (behind_kept a b kept)) h
 
--- what doesn't hold is told
-pub told_unless : (p : NameProblem) (at : ℕ) (holds : Bool) (f : NameFault) → (f ≢ NoMemory → holds ≡ false) → Tells (refused p at) f → Tells (unless p at holds) f
-told_unless p at holds (At q b) fails h = ap (unless p at) (fails (at_is_told q b)) ∙ h
-told_unless p at holds NoMemory fails h = tt
-
 is_told : NameFault → Bool
 is_told (At p at) = true
 is_told NoMemory = false
@@ -59,6 +66,11 @@ is_told NoMemory = false
 pub at_is_told : (p : NameProblem) (at : ℕ) → At p at ≢ NoMemory
 unfolding is_told
 at_is_told p at e = true≢false (ap is_told e)
+
+-- what doesn't hold is told
+pub told_unless : (p : NameProblem) (at : ℕ) (holds : Bool) (f : NameFault) → (f ≢ NoMemory → holds ≡ false) → Tells (refused p at) f → Tells (unless p at holds) f
+told_unless p at holds (At q b) fails h = ap (unless p at) (fails (at_is_told q b)) ∙ h
+told_unless p at holds NoMemory fails h = tt
 
 -- what isn't there is told
 pub told_lacking : {A : Type 0} (p : NameProblem) (at : ℕ) (o : Option A) (f : NameFault) → (f ≢ NoMemory → o ≡ None) → Tells (refused p at) f → Tells (lacking p at o) f
@@ -77,21 +89,9 @@ told_any b view (y ∷ ys) zero x f lt is kept h =
     told_left (b (view y)) (any_of b (map view ys)) f (told_same (b (view x)) (b (view y)) f (ap (λ z. b (view z)) is) h)
 told_any b view (y ∷ ys) (suc i) x f lt is kept h =
     told_right (b (view y)) (any_of b (map view ys)) f (kept_left (b (view y)) _ kept)
-      (told_any b view ys i x f (omega (arith, lt)) is (kept_right (b (view y)) _ kept) h)
+    (told_any b view ys i x f (omega (arith, lt)) is (kept_right (b (view y)) _ kept) h)
 
 -- an answer that is handed on tells what it told
 pub told_on : {X : Type 0} (a b : Broken) (r : Result X NameFault) → ((f : NameFault) → Tells a f → Tells b f) → IfErr r (Tells a) → IfErr r (Tells b)
 told_on a b (Ok x) more h = tt
 told_on a b (Err f) more h = more f h
-
--- ---- parts of what is kept
-
-pub kept_left : (a b : Broken) → IsKept (a ▸ b) → IsKept a
-unfolding ◌▸◌
-kept_left None b h = refl
-kept_left (Some x) b h = absurd cc
-
-pub kept_right : (a b : Broken) → IsKept (a ▸ b) → IsKept b
-unfolding ◌▸◌
-kept_right None b h = h
-kept_right (Some x) b h = absurd cc
