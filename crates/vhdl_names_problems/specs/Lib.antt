@@ -1,6 +1,7 @@
 pub mod Broken
 pub mod Twice
 pub mod Missing
+pub mod Operators
 pub mod Expressions
 pub mod Subtypes
 pub mod Choices
