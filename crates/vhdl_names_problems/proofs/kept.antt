@@ -1,0 +1,3 @@
+-- What is given breaks no rule.
+pub mod Keeping
+pub mod Twice
