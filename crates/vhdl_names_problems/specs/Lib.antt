@@ -1,5 +1,6 @@
 pub mod Broken
 pub mod Twice
+pub mod Places
 pub mod Labels
 pub mod Missing
 pub mod Operators
