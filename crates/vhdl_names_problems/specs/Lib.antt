@@ -1,6 +1,8 @@
 pub mod Broken
 pub mod Twice
+pub mod Labels
 pub mod Missing
+pub mod Operators
 pub mod Expressions
 pub mod Subtypes
 pub mod Choices
