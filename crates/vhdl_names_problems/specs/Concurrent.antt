@@ -10,7 +10,7 @@ use Rattle.vhdl_names_rules.specs.Interfaces.{EntityView}
 use Rattle.vhdl_names_rules.specs.Concurrent.{sight_within}
 use Rattle.vhdl_names_problems.specs.Broken.{Broken, nothing, refused, ◌▸◌, earlier, where_given, any_of, of_any}
 use Rattle.vhdl_names_problems.specs.Twice.{twice}
-use Rattle.vhdl_names_problems.specs.Labels.{statement_labels, concurrent_labels}
+use Rattle.vhdl_names_problems.specs.Labels.{labels_of, statement_labels}
 use Rattle.vhdl_names_problems.specs.Expressions.{static_range, condition, static_condition}
 use Rattle.vhdl_names_problems.specs.Choices.{choices}
 use Rattle.vhdl_names_problems.specs.Covered.{covered, any_alternative}
@@ -75,7 +75,7 @@ module _ (entities : List EntityView) where
     concurrent sight (t.process label p) = process sight label p
     concurrent sight (t.instance label i) = instance entities sight i
     concurrent sight (t.generated label at s word cs end) =
-        scheme sight s ▸ earlier (twice [] (concurrent_labels cs)) (concurrents (sight_within sight s) cs) ▸ end_name label end
+        scheme sight s ▸ earlier (twice [] (labels_of cs)) (concurrents (sight_within sight s) cs) ▸ end_name label end
 
     pub concurrents : Sight → t.Concurrents → Broken
     concurrents sight t.no_concurrents = nothing
