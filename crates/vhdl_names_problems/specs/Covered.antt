@@ -1,5 +1,5 @@
 -- Which rules the choices of a whole case statement or selected assignment break, as they stand (IEEE 1076-2008, 10.9 and 11.6).
-use Rattle.std.specs.Prelude.{ℕ, Bool, true, false, not, ◌||◌, List, [], ◌∷◌, ◌++◌, flat_map, filter_map}
+use Rattle.std.specs.Prelude.{ℕ, Bool, not, ◌||◌, List, [], ◌∷◌, ◌++◌, flat_map, filter_map}
 use Rattle.std.specs.List.{list_any}
 use Rattle.vhdl_tree.specs.Tree as t
 use Rattle.vhdl_names_rules.specs.declared.kind.ObjectType.{ObjectType}

@@ -1,5 +1,5 @@
 -- Which rules sequential statements break (IEEE 1076-2008, clause 10), with the declarations in sight.
-use Rattle.std.specs.Prelude.{not, List, Option}
+use Rattle.std.specs.Prelude.{not, Option}
 use Rattle.vhdl_tree.specs.Tree as t
 use Rattle.vhdl_tree.specs.Tree.{Ident}
 use Rattle.vhdl_names_rules.specs.declared.kind.ObjectType.{ObjectType}
