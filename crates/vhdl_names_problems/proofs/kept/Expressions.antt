@@ -1,5 +1,5 @@
 -- An expression that has a type breaks no rule (IEEE 1076-2008, clauses 8 and 9).
-use Rattle.std.proofs.Common.{◌≡◌, ℕ, Bool, true, false, List, Option, Some, None, refl}
+use Rattle.std.proofs.Common.{◌≡◌, ℕ, Bool, true, false, cond, List, Option, Some, None, refl}
 use Rattle.vhdl_tree.specs.Tree as t
 use Rattle.vhdl_tree.specs.Tree.{Expr, Exprs, Ident}
 use Rattle.vhdl_names_rules.specs.declared.kind.ObjectType.{ObjectType}
@@ -14,11 +14,11 @@ use Rattle.vhdl_names_rules.specs.Visibility.{Meaning, Sight}
 use Rattle.vhdl_names_rules.specs.Literals.{number_of, nine_of, values_of_string, values_of_bits}
 use Rattle.vhdl_names_rules.specs.Operators as o
 use Rattle.vhdl_names_rules.specs.Operators.{Typed, inverse, operated}
-use Rattle.vhdl_names_rules.specs.Names.{Suffix, denoted, attributed, edge_signal, arguments}
+use Rattle.vhdl_names_rules.specs.Names.{Suffix, denoted, attributed, edge_signal, plain, arguments, range}
 use Rattle.vhdl_names_rules.specs.Expressions as are
 use Rattle.vhdl_names_rules.specs.Expressions.{as_integer, enclosed, beside, is_one_name, as_test, as_static_test, as_value, as_filled, is_vector}
 use Rattle.vhdl_names_rules.specs.declared.kind.ElementKind.TheVariants.{Element, OpenVector}
-use Rattle.vhdl_names_problems.specs.Broken.{◌▸◌, unless, lacking, where_given}
+use Rattle.vhdl_names_problems.specs.Broken.{nothing, ◌▸◌, unless, lacking, where_given}
 use Rattle.vhdl_names_problems.specs.Missing.{problem_of}
 use Rattle.vhdl_names_problems.specs.Places.{start}
 use Rattle.vhdl_names_problems.specs.Operators.{string_problem, operator_problem, edge_problem, name_problem}
@@ -44,14 +44,19 @@ attributed_kept at (Some a) x y h =
     let c = comes (edge_signal x) _ y k.1 in
     both_kept _ _ (unless_kept LeftOut a.at (is_event a) k.0) (lacking_kept (edge_problem x) at (edge_signal x) c.value c.is)
 
-pub no_value_kept : (b : Bool) (a : Option Ident) → IsKept (broken.attribute a) → IsKept (of_no_value b a)
-no_value_kept true a h = h
-no_value_kept false a h = nothing_kept
+pub no_value_kept : (d : Meaning) (s : Suffix) (a : Option Ident) → IsKept (broken.attribute a) → IsKept (of_no_value d s a)
+no_value_kept d plain a h = go (is_no_value d) h
+  where
+    go : (b : Bool) → IsKept (broken.attribute a) → IsKept (cond b (broken.attribute a) nothing)
+    go true h = h
+    go false h = nothing_kept
+no_value_kept d (arguments b xs) a h = nothing_kept
+no_value_kept d (range r) a h = nothing_kept
 
 pub with_suffix_kept : (at : ℕ) (a : Option Ident) (d : Meaning) (s : Suffix) (x y : Typed) → denoted d s ≡ Some x → attributed a x ≡ Some y
     → IsKept (broken.with_suffix at a d s)
 with_suffix_kept at a d s x y denoted_is attributed_is =
-    both_kept _ _ (no_value_kept (is_no_value d s) a (attribute_kept a x y attributed_is))
+    both_kept _ _ (no_value_kept d s a (attribute_kept a x y attributed_is))
     (both_kept _ _ (lacking_kept (name_problem d s) at (denoted d s) x denoted_is)
     (given_kept (broken.attributed at a) (denoted d s) x denoted_is (attributed_kept at a x y attributed_is)))
 
