@@ -73,7 +73,7 @@ module _ (entities : List EntityView) where
     concurrent sight (t.assignment a) = assignment sight a
     concurrent sight (t.selected label a) = selected sight a
     concurrent sight (t.process label p) = process sight label p
-    concurrent sight (t.instance label i) = instance entities sight i
+    concurrent sight (t.instance label i) = instance entities sight label i
     concurrent sight (t.generated label at s word cs end) =
         scheme sight s ▸ earlier (twice [] (labels_of cs)) (concurrents (sight_within sight s) cs) ▸ end_name label end
 
