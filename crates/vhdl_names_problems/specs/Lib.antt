@@ -7,6 +7,7 @@ pub mod Operators
 pub mod Expressions
 pub mod Subtypes
 pub mod Choices
+pub mod Covered
 pub mod Statements
 pub mod Declarations
 pub mod Interfaces
