@@ -12,3 +12,6 @@ pub mod Interfaces
 pub mod Associations
 pub mod Instances
 pub mod Labels
+pub mod Concurrent
+pub mod Architectures
+pub mod Files

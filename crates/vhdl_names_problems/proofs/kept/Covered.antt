@@ -9,7 +9,7 @@ use Rattle.std.proofs.lemmas.Slice.Eq.{bytes_eq-Decides}
 use Rattle.vhdl_values.specs.Scalar.{code_of}
 use Rattle.vhdl_tree.specs.Tree as t
 use Rattle.vhdl_names_rules.specs.declared.kind.ObjectType.{ObjectType}
-use Rattle.vhdl_names_rules.specs.declared.fault.NameProblem.TheVariants.{NoOthers, ChoiceTwice}
+use Rattle.vhdl_names_rules.specs.declared.fault.NameProblem.TheVariants.{WrongKind, NoOthers, ChoiceTwice}
 use Rattle.vhdl_names_rules.specs.units.Statements.{Choice, values, position, Statements, Alternatives}
 use Rattle.vhdl_names_rules.specs.Rules.{each}
 use Rattle.vhdl_names_rules.specs.Visibility.{Sight}
@@ -18,7 +18,7 @@ use Rattle.vhdl_names_rules.specs.Choices.{same_choice, are_distinct_choices, is
 use Rattle.vhdl_names_problems.specs.Broken.{Broken, ◌▸◌, unless}
 use Rattle.vhdl_names_problems.specs.Places.{choice_place}
 use Rattle.vhdl_names_problems.specs.Covered as broken
-use Rattle.vhdl_names_problems.specs.Covered.{stands, in_place, each_once, complete, any_alternative}
+use Rattle.vhdl_names_problems.specs.Covered.{stands, is_empty, alternative_in_place, in_place, each_once, any_alternative}
 use Rattle.vhdl_names_rules.proofs.laws.Rules.{comes, kept, both, neither, not_true, some_is}
 use Rattle.vhdl_names_problems.proofs.Telling.{IsKept, both_kept, unless_kept, given_kept}
 use Rattle.vhdl_names_problems.proofs.kept.Keeping.{nothing_kept, among_kept}
@@ -116,49 +116,35 @@ only_rest : (ds : List t.Choice) (rest : List (List t.Choice)) → only_last_oth
 only_rest ds [] h = refl
 only_rest ds (es ∷ rest) h = (both (not (is_others ds)) (only_last_others (es ∷ rest)) h).1
 
--- alternatives that are given, behind choices that are
-record ArePlaced (sight : Sight) (type : ObjectType) (before : List t.Choice) (alternatives : List (List t.Choice)) : Type 0 where
-  cs : List Choice
-  css : List (List Choice)
-  stand : filter_map (are.choice sight type) before ≡ cs
-  given : each (are.choices sight type) alternatives ≡ Some css
-  distinct : are_distinct_choices (cs ++ flat_map (λ cs. cs) css) ≡ true
+-- others is in the last alternative
+is_last : (at : ℕ) (rest : List (List t.Choice)) → only_last_others ((t.otherwise at ∷ []) ∷ rest) ≡ true → is_empty rest ≡ true
+is_last at [] h = refl
+is_last at (ds ∷ rest) h = absurd cc
 
--- the first alternative, and those behind it
-record Placed (sight : Sight) (type : ObjectType) (before ds : List t.Choice) (rest : List (List t.Choice)) : Type 0 where
-  first : IsKept (each_once sight type before ds)
-  behind : ArePlaced sight type (before ++ ds) rest
+pub choices_given : (sight : Sight) (type : ObjectType) (ds : List t.Choice) (ys : List Choice) → are.choices sight type ds ≡ Some ys → filter_map (are.choice sight type) ds ≡ ys
+choices_given sight type (t.otherwise at ∷ []) ys h = some_is [] ys h
+choices_given sight type ds ys h = each_given (are.choice sight type) ds ys h
 
-placed : (sight : Sight) (type : ObjectType) (before ds : List t.Choice) (rest : List (List t.Choice)) (p : ArePlaced sight type before (ds ∷ rest))
-    → ((ys : List Choice) → are.choices sight type ds ≡ Some ys → each (are.choice sight type) ds ≡ Some ys) → Placed sight type before ds rest
-placed sight type before ds rest p chosen =
-    let y = comes (are.choices sight type ds) _ p.css p.given in
-    let ys = comes (each (are.choices sight type) rest) _ p.css y.rest in
-    let one = chosen y.value y.is in
-    let all : are_distinct_choices ((p.cs ++ y.value) ++ flat_map (λ cs. cs) ys.value) ≡ true =
-    ap are_distinct_choices (append_assoc p.cs y.value (flat_map (λ cs. cs) ys.value))
-    ∙ ap (λ css. are_distinct_choices (p.cs ++ flat_map (λ cs. cs) css)) (some_is (y.value ∷ ys.value) p.css ys.rest) ∙ p.distinct in
-    record {
-      first = each_once_kept sight type ds before p.cs y.value p.stand one (choices_front (p.cs ++ y.value) (flat_map (λ cs. cs) ys.value) all);
-      behind = record {
-        cs = p.cs ++ y.value;
-        css = ys.value;
-        stand =
-            filter_map-append (are.choice sight type) before ds ∙ ap (λ cs. cs ++ filter_map (are.choice sight type) ds) p.stand
-            ∙ ap (λ ds. p.cs ++ ds) (each_given (are.choice sight type) ds y.value one);
-        given = ys.is;
-        distinct = all;
-      };
-    }
+pub alternative_kept : (sight : Sight) (type : ObjectType) (ds : List t.Choice) (rest : List (List t.Choice)) (before : List t.Choice) (cs ys : List Choice)
+    → filter_map (are.choice sight type) before ≡ cs → are.choices sight type ds ≡ Some ys → are_distinct_choices (cs ++ ys) ≡ true → only_last_others (ds ∷ rest) ≡ true
+    → IsKept (alternative_in_place sight type before (is_empty rest) ds)
+alternative_kept sight type (t.otherwise at ∷ []) rest before cs ys e h distinct last = unless_kept WrongKind at (is_empty rest) (is_last at rest last)
+alternative_kept sight type ds rest before cs ys e h distinct last = each_once_kept sight type ds before cs ys e h distinct
 
-in_place_kept : (sight : Sight) (type : ObjectType) (alternatives : List (List t.Choice)) (before : List t.Choice) → ArePlaced sight type before alternatives
-    → only_last_others alternatives ≡ true → IsKept (in_place sight type before alternatives)
-in_place_kept sight type [] before p last = nothing_kept
-in_place_kept sight type ((t.otherwise at ∷ []) ∷ []) before p last = nothing_kept
-in_place_kept sight type ((t.otherwise at ∷ []) ∷ more ∷ rest) before p last = absurd cc
-in_place_kept sight type (ds ∷ rest) before p last =
-    let q = placed sight type before ds rest p (λ ys h. h) in
-    both_kept _ _ q.first (in_place_kept sight type rest (before ++ ds) q.behind (only_rest ds rest last))
+pub in_place_kept : (sight : Sight) (type : ObjectType) (alternatives : List (List t.Choice)) (before : List t.Choice) (cs : List Choice) (css : List (List Choice))
+    → filter_map (are.choice sight type) before ≡ cs → each (are.choices sight type) alternatives ≡ Some css
+    → are_distinct_choices (cs ++ flat_map (λ cs. cs) css) ≡ true → only_last_others alternatives ≡ true → IsKept (in_place sight type before alternatives)
+in_place_kept sight type [] before cs css e h distinct last = nothing_kept
+in_place_kept sight type (ds ∷ rest) before cs css e h distinct last =
+    let y = comes (are.choices sight type ds) _ css h in
+    let ys = comes (each (are.choices sight type) rest) _ css y.rest in
+    let all : are_distinct_choices ((cs ++ y.value) ++ flat_map (λ cs. cs) ys.value) ≡ true =
+    ap are_distinct_choices (append_assoc cs y.value (flat_map (λ cs. cs) ys.value))
+    ∙ ap (λ css. are_distinct_choices (cs ++ flat_map (λ cs. cs) css)) (some_is (y.value ∷ ys.value) css ys.rest) ∙ distinct in
+    both_kept _ _ (alternative_kept sight type ds rest before cs y.value e y.is (choices_front (cs ++ y.value) (flat_map (λ cs. cs) ys.value) all) last)
+    (in_place_kept sight type rest (before ++ ds) (cs ++ y.value) ys.value
+    (filter_map-append (are.choice sight type) before ds ∙ ap (λ cs. cs ++ filter_map (are.choice sight type) ds) e
+    ∙ ap (λ ds. cs ++ ds) (choices_given sight type ds y.value y.is)) ys.is all (only_rest ds rest last))
 
 pub covered_kept : (sight : Sight) (type : ObjectType) (at : ℕ) (alternatives : List (List t.Choice)) (b : Broken) (css : List (List Choice))
     → are.covered sight type alternatives ≡ Some css → IsKept b → IsKept (broken.covered sight type at alternatives b)
@@ -169,7 +155,7 @@ covered_kept sight type at alternatives b css h k =
     let n = kept (is_last_others alternatives || names_all type (flat_map (λ cs. cs) c.value)) _ css d.1 in
     both_kept _ _
     (among_kept (in_place sight type [] alternatives) b
-    (in_place_kept sight type alternatives [] (record { cs = []; css = c.value; stand = refl; given = c.is; distinct = d.0 }) l.0) k)
+    (in_place_kept sight type alternatives [] [] c.value refl c.is d.0 l.0) k)
     (given_kept (λ css. unless NoOthers at (is_last_others alternatives || names_all type (flat_map (λ cs. cs) css))) (each (are.choices sight type) alternatives) c.value c.is
     (unless_kept NoOthers at (is_last_others alternatives || names_all type (flat_map (λ cs. cs) c.value)) n.0))
 
