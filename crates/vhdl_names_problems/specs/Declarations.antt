@@ -63,7 +63,7 @@ in_order with_more declares broken sight (d ∷ ds) =
 
 -- ---- generics and ports
 
--- another type than of integers is left out
+-- generics are integers; another type is left out
 abbrev pub generic_problem : Meaning → NameProblem
 generic_problem (visibility.element_type r) = LeftOut
 generic_problem (visibility.vector_type k r) = LeftOut
@@ -73,22 +73,26 @@ generic_problem _ = WrongKind
 abbrev pub generic_type : Ident → Meaning → Broken
 generic_type mark m = lacking (generic_problem m) mark.at (as_integer_type m)
 
-abbrev pub generic : Sight → t.Generic → Broken
-generic sight g =
-    standing_twice sight.region g.names
-    ▸ meaning sight g.mark
+abbrev pub typed_generic : Sight → t.Generic → Broken
+typed_generic sight g =
+    meaning sight g.mark
     ▸ where_given (visibility.meaning sight g.mark.text) (generic_type g.mark)
     ▸ of_any (static sight) g.default
+
+abbrev pub generic : Sight → t.Generic → Broken
+generic sight g = standing_twice sight.region g.names ▸ typed_generic sight g
 
 -- a type of the nine values: enumerations are left out
 abbrev pub nine_valued : Ident → subtypes.Subtype → Broken
 nine_valued mark s = lacking LeftOut mark.at (as_kind s.type)
 
-abbrev pub port : Sight → t.Port → Broken
-port sight p =
-    standing_twice sight.region p.names
-    ▸ subtype sight p.subtype
+abbrev pub typed_port : Sight → t.Port → Broken
+typed_port sight p =
+    subtype sight p.subtype
     ▸ where_given (subtypes.subtype sight p.subtype) (λ s. nine_valued p.subtype.mark s ▸ of_any (fixed_value sight s.type) p.default)
+
+abbrev pub port : Sight → t.Port → Broken
+port sight p = standing_twice sight.region p.names ▸ typed_port sight p
 
 -- ---- signals, constants and variables
 
