@@ -1,6 +1,6 @@
 -- Which rule an expression breaks first (IEEE 1076-2008, clauses 8 and 9), with the declarations in sight: its operands are read one
 -- behind the other, and then what is asked of its operator or name.
-use Rattle.std.specs.Prelude.{ℕ, Bool, true, false, Option, Some, None, bytes_eq, codes}
+use Rattle.std.specs.Prelude.{ℕ, Bool, true, false, if◌then◌else◌, Option, Some, None, bytes_eq, codes}
 use Rattle.vhdl_tree.specs.Tree as t
 use Rattle.vhdl_tree.specs.Tree.{Expr, Exprs, Ident}
 use Rattle.vhdl_names_rules.specs.declared.kind.ObjectType.{ObjectType}
@@ -41,24 +41,24 @@ attributed at (Some a) x = unless LeftOut a.at (is_event a) ▸ lacking (edge_pr
 abbrev pub no_attribute : Option Ident → Broken
 no_attribute a = of_any (λ i. refused LeftOut i.at) a
 
--- a type, a component or a label, with nothing behind its name
-abbrev pub is_no_value : Meaning → Suffix → Bool
-is_no_value (visibility.integer_type w) plain = true
-is_no_value (visibility.element_type r) plain = true
-is_no_value (visibility.vector_type k r) plain = true
-is_no_value (visibility.enumeration_type e count) plain = true
-is_no_value (visibility.component k) plain = true
-is_no_value visibility.label plain = true
-is_no_value _ _ = false
+-- a type, a component or a label has no value
+abbrev pub is_no_value : Meaning → Bool
+is_no_value (visibility.integer_type w) = true
+is_no_value (visibility.element_type r) = true
+is_no_value (visibility.vector_type k r) = true
+is_no_value (visibility.enumeration_type e count) = true
+is_no_value (visibility.component k) = true
+is_no_value visibility.label = true
+is_no_value _ = false
 
--- an attribute of what is no value, as unsigned'length, is told in place of its name
-abbrev pub of_no_value : Bool → Option Ident → Broken
-of_no_value true a = attribute a
-of_no_value false a = nothing
+-- an attribute of one with nothing behind its name, as unsigned'length, is told in place of the name
+abbrev pub of_no_value : Meaning → Suffix → Option Ident → Broken
+of_no_value d plain a = if is_no_value d then attribute a else nothing
+of_no_value d _ a = nothing
 
 -- a name of this meaning at this byte, with what follows it
 abbrev pub with_suffix : ℕ → Option Ident → Meaning → Suffix → Broken
-with_suffix at a d s = of_no_value (is_no_value d s) a ▸ lacking (name_problem d s) at (denoted d s) ▸ where_given (denoted d s) (attributed at a)
+with_suffix at a d s = of_no_value d s a ▸ lacking (name_problem d s) at (denoted d s) ▸ where_given (denoted d s) (attributed at a)
 
 -- what a name is, by its meaning and what stands in its parentheses
 abbrev pub named : Sight → Ident → Option Suffix → Option Ident → Broken
