@@ -1,4 +1,4 @@
-use Rattle.std.proofs.Common.{◌≡◌, rules, sym, ◌∙◌}
+use Rattle.std.proofs.Common.{◌≡◌, rules}
 use Rattle.vhdl_names_labels.specs.Faults.{earlier}
 use Rattle.vhdl_names_labels.proofs.Told.{told_as}
 use Rattle.vhdl_names_labels.proofs.faults.earlier.Goals as goal
