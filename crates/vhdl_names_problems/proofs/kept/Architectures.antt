@@ -4,7 +4,7 @@ use Rattle.std.proofs.lemmas.List.{append_assoc, append-nil}
 use Rattle.vhdl_tree.specs.Tree as t
 use Rattle.vhdl_tree.specs.Tree.{Ident, ContextItem}
 use Rattle.vhdl_names_rules.specs.units.Units as u
-use Rattle.vhdl_names_rules.specs.Visibility.{Name, Declared, Sight, declare, label, are_distinct, ends, names_of, with_declared, Declares}
+use Rattle.vhdl_names_rules.specs.Visibility.{Name, Declared, Sight, declare, label, are_distinct, ends, with_declared, Declares}
 use Rattle.vhdl_names_rules.specs.Packages as packages
 use Rattle.vhdl_names_rules.specs.Packages.{sight_of}
 use Rattle.vhdl_names_rules.specs.Declarations.{in_order}

@@ -1,5 +1,5 @@
 -- Choices that cover their selector break no rule (IEEE 1076-2008, 10.9 and 11.6).
-use Rattle.std.proofs.Common.{◌≡◌, ℕ, Bool, true, false, not, ◌||◌, ◌==◌, List, [], ◌∷◌, ◌++◌, map, Option, Some, None, refl, ap, sym, ◌∙◌}
+use Rattle.std.proofs.Common.{◌≡◌, ℕ, Bool, true, false, not, ◌||◌, ◌==◌, List, [], ◌∷◌, ◌++◌, map, Option, Some, refl, ap, sym, ◌∙◌}
 use Rattle.std.specs.Prelude.{bytes_eq}
 use Rattle.std.specs.List.{list_any, flat_map, filter_map, cons_option}
 use Rattle.std.proofs.lemmas.Bool.{and_from, eqb-true, eqb-false}
@@ -15,7 +15,7 @@ use Rattle.vhdl_names_rules.specs.Rules.{each}
 use Rattle.vhdl_names_rules.specs.Visibility.{Sight}
 use Rattle.vhdl_names_rules.specs.Choices as are
 use Rattle.vhdl_names_rules.specs.Choices.{same_choice, are_distinct_choices, is_others, is_last_others, only_last_others, names_all, arranged}
-use Rattle.vhdl_names_problems.specs.Broken.{Broken, ◌▸◌, unless}
+use Rattle.vhdl_names_problems.specs.Broken.{Broken, unless}
 use Rattle.vhdl_names_problems.specs.Places.{choice_place}
 use Rattle.vhdl_names_problems.specs.Covered as broken
 use Rattle.vhdl_names_problems.specs.Covered.{stands, is_empty, alternative_in_place, in_place, each_once, any_alternative}

@@ -11,7 +11,7 @@ use Rattle.vhdl_names_rules.specs.declared.fault.NameProblem.TheVariants.{Undecl
 use Rattle.vhdl_names_rules.specs.units.Units as u
 use Rattle.vhdl_names_rules.specs.units.Units.{Fixed, Object}
 use Rattle.vhdl_names_rules.specs.Rules.{◌>>◌, met, if_any}
-use Rattle.vhdl_names_rules.specs.Visibility.{Name, Declared, Sight, meaning, names_of, are_distinct, ends, with_declared, with_variables, Declares, followed_by}
+use Rattle.vhdl_names_rules.specs.Visibility.{Declared, Sight, meaning, names_of, are_distinct, ends, with_declared, with_variables, Declares, followed_by}
 use Rattle.vhdl_names_rules.specs.Packages as packages
 use Rattle.vhdl_names_rules.specs.Packages.{Context, is_ieee, is_library, is_logic, is_numbers}
 use Rattle.vhdl_names_rules.specs.Expressions.{static}
@@ -19,7 +19,7 @@ use Rattle.vhdl_names_rules.specs.Subtypes.{Subtype, subtype, as_integer_type, f
 use Rattle.vhdl_names_rules.specs.Declarations as are
 use Rattle.vhdl_names_rules.specs.Declarations.{within, within_variables, as_kind, single_expression}
 use Rattle.vhdl_names_rules.specs.Interfaces.{declared_names}
-use Rattle.vhdl_names_problems.specs.Broken.{Broken, ◌▸◌, unless, any_of, of_any}
+use Rattle.vhdl_names_problems.specs.Broken.{Broken, ◌▸◌, any_of, of_any}
 use Rattle.vhdl_names_problems.specs.Expressions as expressions
 use Rattle.vhdl_names_problems.specs.Subtypes as subtypes
 use Rattle.vhdl_names_problems.specs.Declarations as broken

@@ -1,12 +1,11 @@
 -- Interfaces, entities and components that are given break no rule (IEEE 1076-2008, 3.2, 6.5.6 and 6.8).
 use Rattle.std.proofs.Common.{◌≡◌, true, ◌&&◌, List, [], ◌∷◌, ◌++◌, Option, Some, refl, ap, sym, ◌∙◌}
-use Rattle.std.proofs.lemmas.List.{append_assoc}
 use Rattle.vhdl_tree.specs.Tree as t
 use Rattle.vhdl_tree.specs.Tree.{ContextItem}
 use Rattle.vhdl_names_rules.specs.declared.fault.NameProblem.TheVariants.{Undeclared, WrongKind}
 use Rattle.vhdl_names_rules.specs.units.Units as u
 use Rattle.vhdl_names_rules.specs.Rules.{all_of}
-use Rattle.vhdl_names_rules.specs.Visibility.{Name, Declared, Sight, are_distinct, ends, with_declared, Declares}
+use Rattle.vhdl_names_rules.specs.Visibility.{Name, Sight, are_distinct, ends, with_declared, Declares}
 use Rattle.vhdl_names_rules.specs.Packages.{no_context, context, sight_of}
 use Rattle.vhdl_names_rules.specs.Declarations.{in_order, generic, port}
 use Rattle.vhdl_names_rules.specs.SameText.{same_generics, same_ports}

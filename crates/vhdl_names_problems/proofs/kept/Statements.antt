@@ -1,5 +1,5 @@
 -- Sequential statements that are given break no rule (IEEE 1076-2008, clause 10).
-use Rattle.std.proofs.Common.{◌≡◌, true, not, List, ◌∷◌, Option, Some, None}
+use Rattle.std.proofs.Common.{◌≡◌, true, not, List, Option, Some, None}
 use Rattle.std.specs.Prelude.{is_none}
 use Rattle.vhdl_tree.specs.Tree as t
 use Rattle.vhdl_tree.specs.Tree.{Ident, Expr}
