@@ -37,7 +37,7 @@ returns-then-is_vector-2-clause-told c =
 pub returns-else-is_vector-2-clause-told : goal.returns-else-is_vector-2-clause-told
 returns-else-is_vector-2-clause-told c =
     let l = c.in-BitString.literal in
-    told_fault _ (At TypeMismatch l.at) _ c.at-in-BitString.ensures
+    told_fault _ (At TypeMismatch l.at) _ c.at-else-is_vector-2.ensures
     (ap (λ e. broken.literal (Elements c.args.kind) (view e)) c.in-BitString.is ∙ no_bits c.args.kind l.at l.text.items (sym c.is_vector-in-BitString.ensures ∙ c.if-is_vector-2.false))
 
 pub returns-in-Chain-clause-told : goal.returns-in-Chain-clause-told
