@@ -1,6 +1,6 @@
 -- Actuals, one after another.
 use Rattle.std.proofs.Common.{◌≡◌, ℕ, zero, suc, Bool, true, false, List, [], ◌∷◌, ◌++◌, map, drop, Option, Some, None, Box, Global, refl, ap, sym, ◌∙◌, true≢false}
-use Rattle.std.specs.Prelude.{option_map, slice_get, is_none, is_some, if◌then◌else◌}
+use Rattle.std.specs.Prelude.{option_map, slice_get}
 use Rattle.std.specs.Borrow.{Bor}
 use Rattle.std.proofs.lemmas.Option.{slice_get-map}
 use Rattle.std.proofs.lemmas.List.{append_assoc, append-nil}
@@ -13,25 +13,24 @@ use Rattle.vhdl_tree.specs.declared.expression.Chain.{Chain, out-Chain}
 use Rattle.vhdl_tree.specs.declared.operator.Operator.{Operator}
 use Rattle.vhdl_tree.proofs.Rows.{chain_is}
 use Rattle.vhdl_names_rules.specs.units.Expressions.{SignalPart}
-use Rattle.vhdl_names_rules.specs.Rules.{◌>>=◌, ◌>>◌, met}
+use Rattle.vhdl_names_rules.specs.Rules.{◌>>=◌}
 use Rattle.vhdl_names_rules.specs.Visibility as visibility
 use Rattle.vhdl_names_rules.specs.Visibility.{Meaning, Sight}
 use Rattle.vhdl_names_rules.specs.Names.{Suffix}
 use Rattle.vhdl_names_rules.specs.Expressions.{typed_suffix}
-use Rattle.vhdl_names_rules.specs.Instances.{Formal, as_name, is_kind, may_join, port_actual as are_actual}
-use Rattle.vhdl_names_rules.specs.Statements.{SignalName, as_signal, signal}
+use Rattle.vhdl_names_rules.specs.Instances.{Formal, as_name, is_kind, may_join}
+use Rattle.vhdl_names_rules.specs.Statements.{SignalName, signal}
 use Rattle.vhdl_names_rules.specs.declared.fault.NameFault.{NameFault}
 use Rattle.vhdl_names_rules.specs.declared.fault.NameProblem.{NameProblem}
 use Rattle.vhdl_names_rules.specs.declared.fault.NameProblem.TheVariants.{TypeMismatch, WriteOfIn, LeftOut}
-use Rattle.vhdl_names_rules.proofs.laws.Rules.{comes, kept}
-use Rattle.vhdl_names_problems.specs.Broken.{Broken, Tells, nothing, refused, ◌▸◌, unless, lacking, where_given}
+use Rattle.vhdl_names_problems.specs.Broken.{Broken, Tells, refused, ◌▸◌, unless, lacking, where_given}
 use Rattle.vhdl_names_problems.specs.Places.{start}
 use Rattle.vhdl_names_problems.specs.Expressions.{meaning, no_attribute, typed_suffix as broken_suffix}
-use Rattle.vhdl_names_problems.specs.Statements.{named, signal as broken_signal}
-use Rattle.vhdl_names_problems.specs.Instances.{is_value, names_value, actual_signal, port_actual}
-use Rattle.vhdl_names_problems.proofs.Telling.{IsKept, both_kept, behind_kept, unless_kept, lacking_kept, given_kept, told_same, told_left, told_right, told_given, told_unless, told_lacking}
+use Rattle.vhdl_names_problems.specs.Statements.{named}
+use Rattle.vhdl_names_problems.specs.Instances.{names_value, actual_signal, port_actual}
+use Rattle.vhdl_names_problems.proofs.Telling.{IsKept, behind_kept, unless_kept, lacking_kept, told_same, told_left, told_right, told_given, told_unless, told_lacking}
 use Rattle.vhdl_names_problems.proofs.kept.Expressions.{meaning_kept, typed_suffix_kept}
-use Rattle.vhdl_names_problems.proofs.kept.Statements.{signal_kept}
+use Rattle.vhdl_names_problems.proofs.kept.Instances.{names_no_value, actual_signal_kept}
 use Rattle.vhdl_names_expressions.proofs.Each.{behind}
 use Rattle.vhdl_names_instances.specs.declared.actuals.PortType.{PortType}
 use Rattle.vhdl_names_instances.specs.Views.{actual_view}
@@ -111,38 +110,16 @@ pub refused_first : (p : NameProblem) (at : ℕ) (b : Broken) → (refused p at 
 unfolding ◌▸◌
 refused_first p at b = refl
 
-value_is_none : (d : Meaning) (suffix : t.Suffix) (s : Suffix) → is_value d suffix ≡ true → as_signal d s ≡ None
-value_is_none (visibility.generic k) suffix s h = refl
-value_is_none (visibility.integer_constant k) suffix s h = refl
-value_is_none (visibility.generate_parameter k) suffix s h = refl
-value_is_none (visibility.loop_parameter k) suffix s h = refl
-value_is_none (visibility.port k mode kind) suffix s h = absurd cc
-value_is_none (visibility.signal k type) suffix s h = absurd cc
-value_is_none (visibility.variable k type) suffix s h = refl
-value_is_none (visibility.constant k kind values) suffix s h = refl
-value_is_none (visibility.literal number count position) suffix s h = refl
-value_is_none (visibility.integer_type w) suffix s h = refl
-value_is_none (visibility.element_type r) suffix s h = refl
-value_is_none (visibility.vector_type kind r) suffix s h = refl
-value_is_none (visibility.enumeration_type number count) suffix s h = refl
-value_is_none (visibility.function f) suffix s h = refl
-value_is_none (visibility.component k) suffix s h = refl
-value_is_none visibility.label suffix s h = refl
-value_is_none visibility.unfinished suffix s h = refl
-
 module _ (sight : Sight) (n : t.Name) where
   abbrev meant : Option Meaning
   meant = visibility.meaning sight n.identifier.text
 
   pub value_is_no_signal : names_value meant n.suffix ≡ true → signal sight n ≡ None
-  unfolding signal
-  value_is_no_signal h = go (is_none n.attribute) (typed_suffix sight n.suffix) meant h
+  value_is_no_signal h = go (signal sight n) refl
     where
-      go : (b : Bool) (o : Option Suffix) (m : Option Meaning) → names_value m n.suffix ≡ true → (met b >> (o >>= λ s. m >>= λ d. as_signal d s)) ≡ None
-      go false o m h = refl
-      go true None m h = refl
-      go true (Some s) None h = refl
-      go true (Some s) (Some d) h = value_is_none d n.suffix s h
+      go : (o : Option SignalName) → signal sight n ≡ o → o ≡ None
+      go None e = refl
+      go (Some x) e = absurd (true≢false (sym h ∙ names_no_value sight n x e))
 
   value_is_known : names_value meant n.suffix ≡ true → IsKept (meaning sight n.identifier)
   value_is_known h = go meant refl h
@@ -168,65 +145,42 @@ module _ (sight : Sight) (n : t.Name) where
       ∙ behind_kept (broken_suffix sight n.suffix) behind_suffix (typed_suffix_kept n.suffix sight s e) in
       told_same (refused LeftOut at) (named sight n ▸ refused LeftOut n.identifier.at) f (sym (ap (λ b. b ▸ refused LeftOut n.identifier.at) named_is ∙ q)) w
 
-  pub actual_signal_kept : (s : SignalName) → signal sight n ≡ Some s → IsKept (actual_signal sight n)
-  actual_signal_kept s e = go (names_value meant n.suffix) refl
-    where
-      go : (b : Bool) → names_value meant n.suffix ≡ b → (if b then named sight n ▸ refused LeftOut n.identifier.at else broken_signal sight n) ≡ nothing
-      go true h = absurd (true≢false (ap is_some (sym e ∙ value_is_no_signal h)))
-      go false h = signal_kept sight n s e
-
 -- ---- what is told of an actual
 
-module _ (sight : Sight) (f : Formal) (e : t.Expr) where
+module _ (sight : Sight) (f : Formal) (e : t.Expr) (x : NameFault) where
   abbrev of_signal : t.Name → SignalName → Broken
   of_signal n s = unless TypeMismatch n.identifier.at (is_kind f.kind s.type) ▸ unless WriteOfIn n.identifier.at (may_join f.mode s.mode)
 
   abbrev of_name : t.Name → Broken
   of_name n = actual_signal sight n ▸ where_given (signal sight n) (of_signal n)
 
-  module _ (x : NameFault) where
-    pub no_name_told : as_name e ≡ None → Tells (refused LeftOut (start e)) x → Tells (port_actual sight f e) x
-    no_name_told h w =
-        told_left (lacking LeftOut (start e) (as_name e)) (where_given (as_name e) of_name) x (told_lacking LeftOut (start e) (as_name e) x (λ m. h) w)
+  pub no_name_told : as_name e ≡ None → Tells (refused LeftOut (start e)) x → Tells (port_actual sight f e) x
+  no_name_told h w =
+      told_left (lacking LeftOut (start e) (as_name e)) (where_given (as_name e) of_name) x (told_lacking LeftOut (start e) (as_name e) x (λ m. h) w)
 
-    at_name : (n : t.Name) → as_name e ≡ Some n → Tells (of_name n) x → Tells (port_actual sight f e) x
-    at_name n h w =
-        told_right (lacking LeftOut (start e) (as_name e)) (where_given (as_name e) of_name) x (lacking_kept LeftOut (start e) (as_name e) n h)
-        (told_given of_name (as_name e) n x h w)
+  at_name : (n : t.Name) → as_name e ≡ Some n → Tells (of_name n) x → Tells (port_actual sight f e) x
+  at_name n h w =
+      told_right (lacking LeftOut (start e) (as_name e)) (where_given (as_name e) of_name) x (lacking_kept LeftOut (start e) (as_name e) n h)
+      (told_given of_name (as_name e) n x h w)
 
-    pub no_signal_told : (n : t.Name) → as_name e ≡ Some n → Tells (actual_signal sight n) x → Tells (port_actual sight f e) x
-    no_signal_told n h w = at_name n h (told_left (actual_signal sight n) (where_given (signal sight n) (of_signal n)) x w)
+  pub no_signal_told : (n : t.Name) → as_name e ≡ Some n → Tells (actual_signal sight n) x → Tells (port_actual sight f e) x
+  no_signal_told n h w = at_name n h (told_left (actual_signal sight n) (where_given (signal sight n) (of_signal n)) x w)
 
-    at_signal : (n : t.Name) → as_name e ≡ Some n → (s : SignalName) → signal sight n ≡ Some s → Tells (of_signal n s) x → Tells (port_actual sight f e) x
-    at_signal n h s k w =
-        at_name n h
-        (told_right (actual_signal sight n) (where_given (signal sight n) (of_signal n)) x (actual_signal_kept sight n s k)
-        (told_given (of_signal n) (signal sight n) s x k w))
+  at_signal : (n : t.Name) → as_name e ≡ Some n → (s : SignalName) → signal sight n ≡ Some s → Tells (of_signal n s) x → Tells (port_actual sight f e) x
+  at_signal n h s k w =
+      at_name n h
+      (told_right (actual_signal sight n) (where_given (signal sight n) (of_signal n)) x (actual_signal_kept sight n s k)
+      (told_given (of_signal n) (signal sight n) s x k w))
 
-    pub other_kind_told : (n : t.Name) → as_name e ≡ Some n → (s : SignalName) → signal sight n ≡ Some s → is_kind f.kind s.type ≡ false
-        → Tells (refused TypeMismatch n.identifier.at) x → Tells (port_actual sight f e) x
-    other_kind_told n h s k q w =
-        at_signal n h s k (told_left (unless TypeMismatch n.identifier.at (is_kind f.kind s.type)) (unless WriteOfIn n.identifier.at (may_join f.mode s.mode)) x
-        (told_unless TypeMismatch n.identifier.at (is_kind f.kind s.type) x (λ m. q) w))
+  pub other_kind_told : (n : t.Name) → as_name e ≡ Some n → (s : SignalName) → signal sight n ≡ Some s → is_kind f.kind s.type ≡ false
+      → Tells (refused TypeMismatch n.identifier.at) x → Tells (port_actual sight f e) x
+  other_kind_told n h s k q w =
+      at_signal n h s k (told_left (unless TypeMismatch n.identifier.at (is_kind f.kind s.type)) (unless WriteOfIn n.identifier.at (may_join f.mode s.mode)) x
+      (told_unless TypeMismatch n.identifier.at (is_kind f.kind s.type) x (λ m. q) w))
 
-    pub not_joined_told : (n : t.Name) → as_name e ≡ Some n → (s : SignalName) → signal sight n ≡ Some s → is_kind f.kind s.type ≡ true → may_join f.mode s.mode ≡ false
-        → Tells (refused WriteOfIn n.identifier.at) x → Tells (port_actual sight f e) x
-    not_joined_told n h s k a q w =
-        at_signal n h s k (told_right (unless TypeMismatch n.identifier.at (is_kind f.kind s.type)) (unless WriteOfIn n.identifier.at (may_join f.mode s.mode)) x
-        (unless_kept TypeMismatch n.identifier.at (is_kind f.kind s.type) a)
-        (told_unless WriteOfIn n.identifier.at (may_join f.mode s.mode) x (λ m. q) w))
-
-  pub port_actual_kept : (x : SignalPart) → are_actual sight f e ≡ Some x → IsKept (port_actual sight f e)
-  unfolding are_actual
-  port_actual_kept x h =
-      let n = comes (as_name e) _ x h in
-      let s = comes (signal sight n.value) _ x n.rest in
-      let a = kept (is_kind f.kind s.value.type) _ x s.rest in
-      let b = kept (may_join f.mode s.value.mode) _ x a.1 in
-      both_kept (lacking LeftOut (start e) (as_name e)) (where_given (as_name e) of_name) (lacking_kept LeftOut (start e) (as_name e) n.value n.is)
-      (given_kept of_name (as_name e) n.value n.is
-      (both_kept (actual_signal sight n.value) (where_given (signal sight n.value) (of_signal n.value)) (actual_signal_kept sight n.value s.value s.is)
-      (given_kept (of_signal n.value) (signal sight n.value) s.value s.is
-      (both_kept (unless TypeMismatch n.value.identifier.at (is_kind f.kind s.value.type)) (unless WriteOfIn n.value.identifier.at (may_join f.mode s.value.mode))
-      (unless_kept TypeMismatch n.value.identifier.at (is_kind f.kind s.value.type) a.0)
-      (unless_kept WriteOfIn n.value.identifier.at (may_join f.mode s.value.mode) b.0)))))
+  pub not_joined_told : (n : t.Name) → as_name e ≡ Some n → (s : SignalName) → signal sight n ≡ Some s → is_kind f.kind s.type ≡ true → may_join f.mode s.mode ≡ false
+      → Tells (refused WriteOfIn n.identifier.at) x → Tells (port_actual sight f e) x
+  not_joined_told n h s k a q w =
+      at_signal n h s k (told_right (unless TypeMismatch n.identifier.at (is_kind f.kind s.type)) (unless WriteOfIn n.identifier.at (may_join f.mode s.mode)) x
+      (unless_kept TypeMismatch n.identifier.at (is_kind f.kind s.type) a)
+      (told_unless WriteOfIn n.identifier.at (may_join f.mode s.mode) x (λ m. q) w))

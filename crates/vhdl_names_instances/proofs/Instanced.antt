@@ -1,25 +1,22 @@
 -- What is told of an instance, over the table of entities.
-use Rattle.std.proofs.Common.{◌≡◌, ℕ, true, List, [], ◌∷◌, map, Option, Some, None, Result, Ok, Err, IfErr, refl, ap, sym, ◌∙◌}
+use Rattle.std.proofs.Common.{◌≡◌, ℕ, List, map, Option, Some, None, Result, Ok, Err, IfErr, refl, ap, sym, ◌∙◌}
 use Rattle.std.specs.Prelude.{bytes_eq, option_map, slice_get, codes}
 use Rattle.std.specs.List.{position_from}
 use Rattle.std.proofs.lemmas.Option.{slice_get-map}
 use Rattle.vhdl_tree.specs.Tree as t
 use Rattle.vhdl_tree.specs.Tree.{Ident}
 use Rattle.vhdl_names_rules.specs.declared.fault.NameFault.{NameFault}
-use Rattle.vhdl_names_rules.specs.declared.fault.NameProblem.TheVariants.{Undeclared, WrongKind}
+use Rattle.vhdl_names_rules.specs.declared.fault.NameProblem.TheVariants.{Undeclared}
 use Rattle.vhdl_names_rules.specs.Rules.{◌>>=◌}
-use Rattle.vhdl_names_rules.specs.Visibility as visibility
 use Rattle.vhdl_names_rules.specs.Visibility.{Name, Sight}
 use Rattle.vhdl_names_rules.specs.Instances as rules
-use Rattle.vhdl_names_rules.specs.Instances.{is_architecture, as_component}
-use Rattle.vhdl_names_rules.specs.Interfaces.{EntityView, entity_named}
-use Rattle.vhdl_names_rules.proofs.laws.Rules.{comes, kept, some_is}
+use Rattle.vhdl_names_rules.specs.Interfaces.{EntityView}
+use Rattle.vhdl_names_rules.proofs.laws.Rules.{some_is}
 use Rattle.vhdl_names_labels.specs.Once.{names_view}
 use Rattle.vhdl_names_problems.specs.Broken.{Broken, Tells, ◌▸◌, refused, unless, lacking, where_given, of_any}
-use Rattle.vhdl_names_problems.specs.Expressions.{meaning}
 use Rattle.vhdl_names_problems.specs.Instances as broken
-use Rattle.vhdl_names_problems.proofs.Telling.{IsKept, both_kept, unless_kept, lacking_kept, given_kept, told_same, told_left, told_right, told_given, told_lacking}
-use Rattle.vhdl_names_problems.proofs.kept.Expressions.{meaning_kept}
+use Rattle.vhdl_names_problems.proofs.Telling.{lacking_kept, told_same, told_left, told_right, told_given, told_lacking}
+use Rattle.vhdl_names_problems.proofs.kept.Instances.{instantiated_kept}
 use Rattle.vhdl_names_instances.specs.declared.instances.InstanceEntities.{InstanceEntities}
 use Rattle.vhdl_names_instances.specs.Table.{Seen, seen, seen_view, AreEntities}
 use Rattle.vhdl_names_instances.specs.Breaking as breaking
@@ -47,26 +44,6 @@ unseen es k h = go (slice_get es k) (sym (slice_get-map seen es k) ∙ h)
     go : (o : Option EntityView) → option_map seen o ≡ None → o ≡ None
     go None h = refl
     go (Some x) h = cc
-
--- ---- which unit
-
-architecture_kept : (a : Option Ident) (own : Option Name) → is_architecture a own ≡ true → IsKept (broken.architecture a own)
-architecture_kept None own h = refl
-architecture_kept (Some n) own h = unless_kept WrongKind n.at (is_architecture (Some n) own) h
-
-instantiated_kept : (es : List EntityView) (sight : Sight) (i : t.Instantiated) (k : ℕ) → rules.instantiated es sight i ≡ Some k → IsKept (broken.instantiated es sight i)
-unfolding rules.instantiated
-instantiated_kept es sight (t.entity_unit library n a) k h =
-    let w = kept (bytes_eq library.text (codes "work")) _ k h in
-    let e = comes (entity_named es n.text) _ k w.1 in
-    let b = kept (is_architecture a e.value.1.architecture) _ k e.rest in
-    both_kept (unless Undeclared library.at (bytes_eq library.text (codes "work"))) _ (unless_kept Undeclared library.at (bytes_eq library.text (codes "work")) w.0)
-    (both_kept (lacking Undeclared n.at (entity_named es n.text)) _ (lacking_kept Undeclared n.at (entity_named es n.text) e.value e.is)
-    (given_kept (λ e. broken.architecture a e.1.architecture) (entity_named es n.text) e.value e.is (architecture_kept a e.value.1.architecture b.0)))
-instantiated_kept es sight (t.component_unit word n) k h =
-    let d = comes (visibility.meaning sight n.text) as_component k h in
-    both_kept (meaning sight n) _ (meaning_kept sight n d.value d.is)
-    (given_kept (λ d. lacking WrongKind n.at (as_component d)) (visibility.meaning sight n.text) d.value d.is (lacking_kept WrongKind n.at (as_component d.value) k d.rest))
 
 -- ---- which entity
 

@@ -1,5 +1,5 @@
 -- Actuals of generics and ports, by the names of their formals.
-use Rattle.std.proofs.Common.{◌≡◌, ℕ, zero, suc, ◌+◌, ◌<◌, ◌≤◌, length, arith, Bool, true, false, not, cond, ◌||◌, List, [], ◌∷◌, map, drop, Option, Some, None, Vec, Global, refl, ap, sym, ◌∙◌, true≢false}
+use Rattle.std.proofs.Common.{◌≡◌, ℕ, zero, suc, ◌+◌, ◌<◌, ◌≤◌, length, arith, Bool, true, false, not, cond, ◌||◌, List, [], ◌∷◌, map, drop, Option, Some, None, Vec, Global, refl, ap, sym, ◌∙◌}
 use Rattle.std.specs.Prelude.{◌&&◌, bytes_eq, option_map, slice_get, is_some, if◌then◌else◌}
 use Rattle.std.specs.List.{list_all}
 use Rattle.std.proofs.lemmas.List.{drop_all, length-map}
@@ -7,24 +7,23 @@ use Rattle.std.proofs.lemmas.Option.{slice_get-map}
 use Rattle.vhdl_tree.specs.Tree.{Expr, Association}
 use Rattle.vhdl_names_rules.specs.declared.fault.NameFault.{NameFault}
 use Rattle.vhdl_names_rules.specs.declared.fault.NameFault.TheVariants.{At, NoMemory}
-use Rattle.vhdl_names_rules.specs.units.Expressions.{Static, SignalPart}
+use Rattle.vhdl_names_rules.specs.units.Expressions.{Static}
 use Rattle.vhdl_names_rules.specs.Rules.{◌>>=◌, each, if_any}
 use Rattle.vhdl_names_rules.specs.Visibility.{Name, Sight}
 use Rattle.vhdl_names_rules.specs.Expressions.{static}
 use Rattle.vhdl_names_rules.specs.Instances as rules
 use Rattle.vhdl_names_rules.specs.Instances.{Formal, actual_of}
-use Rattle.vhdl_names_rules.proofs.laws.Rules.{both, some_is}
+use Rattle.vhdl_names_rules.proofs.laws.Rules.{both}
 use Rattle.vhdl_names_problems.specs.Broken.{Broken, Tells, nothing, any_of, where_given}
 use Rattle.vhdl_names_problems.specs.Expressions.{static as broken_static}
 use Rattle.vhdl_names_problems.specs.Instances.{port_actual, ports_named}
 use Rattle.vhdl_names_problems.proofs.Telling.{IsKept, behind_kept, told_same, told_left}
 use Rattle.vhdl_names_problems.proofs.kept.Expressions.{static_kept}
+use Rattle.vhdl_names_problems.proofs.kept.Instances.{port_actual_kept}
 use Rattle.vhdl_names_instances.specs.declared.actuals.PortType.{PortType}
 use Rattle.vhdl_names_instances.specs.Table.{type_of, items}
 use Rattle.vhdl_names_instances.specs.steps.Actuals as steps
-use Rattle.vhdl_names_instances.specs.steps.Associations.{actuals}
 use Rattle.vhdl_names_instances.specs.steps.Maps.{is_static, fits_one, fits, port_named, fits_if_any, holds_if_any, reading, generics, ports}
-use Rattle.vhdl_names_instances.proofs.Actual.{port_actual_kept}
 use Rattle.vhdl_names_instances.proofs.Reading.{are_actuals}
 use Rattle.vhdl_names_instances.proofs.Taking.{same_name}
 

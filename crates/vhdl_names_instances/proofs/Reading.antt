@@ -1,6 +1,6 @@
 -- Maps, association by association: what is told of one is told of all where those before it break nothing.
 use Rattle.std.proofs.Common.{◌≡◌, ℕ, suc, ◌+◌, ◌<◌, ◌≤◌, length, get_or, arith, Bool, true, false, not, List, [], ◌∷◌, ◌++◌, map, drop, Option, Some, None, refl, ap, sym, ◌∙◌, drop-cons, append_assoc, append-nil}
-use Rattle.std.specs.Prelude.{◌||◌, ◌&&◌, bytes_eq, is_some, if◌then◌else◌}
+use Rattle.std.specs.Prelude.{◌||◌, ◌&&◌, bytes_eq, if◌then◌else◌}
 use Rattle.std.proofs.lemmas.List.{drop_all}
 use Rattle.std.proofs.lemmas.Slice.Eq.{bytes_eq-Decides}
 use Rattle.vhdl_tree.specs.Tree.{Expr, Association}
@@ -76,9 +76,9 @@ module _ (formals : List Name) (actual : Name → Expr → Broken) where
       unless WrongKind (association_place a) (not behind || is_named a)
       ▸ lacking WrongKind (association_place a) o
       ▸ where_given o (λ n.
-          unless Undeclared (association_place a) (is_among n formals)
-          ▸ unless Twice (association_place a) (not (is_among n taken))
-          ▸ of_any (actual n) (expression_of a.actual))
+      unless Undeclared (association_place a) (is_among n formals)
+      ▸ unless Twice (association_place a) (not (is_among n taken))
+      ▸ of_any (actual n) (expression_of a.actual))
 
   module _ (k : ℕ) (behind : Bool) (taken : List Name) (a : Association) where
     abbrev this : Broken
@@ -164,7 +164,7 @@ module _ (formals : List Name) (actual : Name → Expr → Broken) where
 
   -- at the end
   pub broken_end : (cs : List CodeAssociation) (k : ℕ) (b : Bool) (taken : List Name) (whole : Broken) → length cs ≤ k
-        → whole ≡ associations formals actual (drop k formals) b taken (map association_view (drop k cs)) → whole ≡ nothing
+      → whole ≡ associations formals actual (drop k formals) b taken (map association_view (drop k cs)) → whole ≡ nothing
   broken_end cs k b taken whole le w = w ∙ ap (λ l. associations formals actual (drop k formals) b taken (map association_view l)) (drop_all k cs le)
 
 -- ---- what is read as a whole

@@ -108,11 +108,7 @@ fn left_out_place(name: &Name) -> usize
 }
 
 /// No signal, where a name is a value: it is an expression, which is left out.
-fn signal_of_value(
-    alloc: Global,
-    sight: &Sight,
-    name: &Name,
-) -> Result<SignalName, NameFault>
+fn signal_of_value(alloc: Global, sight: &Sight, name: &Name) -> Result<SignalName, NameFault>
     ensures given { broken.names_value (visibility.meaning (sight_view sight.now) name.now.identifier.text.items) (suffix_view name.now.suffix) ≡ true
         → Gives signal_name_view (signal_of (sight_view sight.now) (name_view name.now)) result }
     ensures told { broken.names_value (visibility.meaning (sight_view sight.now) name.now.identifier.text.items) (suffix_view name.now.suffix) ≡ true

@@ -1,4 +1,4 @@
-use Rattle.std.proofs.Common.{◌≡◌, true≢false, ap, sym, ◌∙◌}
+use Rattle.std.proofs.Common.{true≢false, ap, sym, ◌∙◌}
 use Rattle.std.specs.Prelude.{is_some}
 use Rattle.vhdl_tree.specs.View as tree
 use Rattle.vhdl_names_problems.specs.Instances.{maps}

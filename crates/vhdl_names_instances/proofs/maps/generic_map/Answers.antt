@@ -1,4 +1,4 @@
-use Rattle.std.proofs.Common.{arith, ◌≡◌, ◌<◌, ◌≤◌, length, false, map, ap, sym}
+use Rattle.std.proofs.Common.{arith, ◌<◌, ◌≤◌, length, false, map, ap, sym}
 use Rattle.vhdl_tree.specs.Tree.{Expr}
 use Rattle.vhdl_tree.specs.View.{association_view}
 use Rattle.vhdl_names_rules.specs.Visibility.{Name}

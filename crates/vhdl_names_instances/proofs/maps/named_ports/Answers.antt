@@ -1,4 +1,4 @@
-use Rattle.std.proofs.Common.{arith, ◌≡◌, ◌<◌, ◌≤◌, length, sym, refl, subst}
+use Rattle.std.proofs.Common.{arith, ◌<◌, ◌≤◌, length, refl, subst}
 use Rattle.vhdl_tree.specs.View.{view}
 use Rattle.vhdl_names_types.specs.Views.{sight_view}
 use Rattle.vhdl_names_instances.proofs.Porting.{of_ports, within, port_told, ports_go, fits_go, fits_end}

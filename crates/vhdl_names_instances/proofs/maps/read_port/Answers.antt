@@ -1,4 +1,4 @@
-use Rattle.std.proofs.Common.{drop, map, None, Some, List, refl, sym, ap, ◌∙◌, subst}
+use Rattle.std.proofs.Common.{drop, map, Some, sym, ap, ◌∙◌}
 use Rattle.vhdl_tree.specs.Tree.{Expr}
 use Rattle.vhdl_tree.specs.View.{association_view, view}
 use Rattle.vhdl_names_rules.specs.Visibility.{Name}
