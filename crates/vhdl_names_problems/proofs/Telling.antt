@@ -90,7 +90,7 @@ told_any b view (y ∷ ys) zero x f lt is kept h =
     told_left (b (view y)) (any_of b (map view ys)) f (told_same (b (view x)) (b (view y)) f (ap (λ z. b (view z)) is) h)
 told_any b view (y ∷ ys) (suc i) x f lt is kept h =
     told_right (b (view y)) (any_of b (map view ys)) f (kept_left (b (view y)) _ kept)
-      (told_any b view ys i x f (omega (arith, lt)) is (kept_right (b (view y)) _ kept) h)
+    (told_any b view ys i x f (omega (arith, lt)) is (kept_right (b (view y)) _ kept) h)
 
 -- an answer that is handed on tells what it told
 pub told_on : {X : Type 0} (a b : Broken) (r : Result X NameFault) → ((f : NameFault) → Tells a f → Tells b f) → IfErr r (Tells a) → IfErr r (Tells b)

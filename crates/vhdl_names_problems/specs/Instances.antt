@@ -72,9 +72,9 @@ module _ (formals : List Name) (actual : Name → Expr → Broken) where
       unless WrongKind (association_place a) (not is_behind_named || is_named a)
       ▸ lacking WrongKind (association_place a) (formal_of left a.formal)
       ▸ where_given (formal_of left a.formal) (λ n.
-          unless Undeclared (association_place a) (is_among n formals)
-          ▸ unless Twice (association_place a) (not (is_among n taken))
-          ▸ of_any (actual n) (expression_of a.actual))
+      unless Undeclared (association_place a) (is_among n formals)
+      ▸ unless Twice (association_place a) (not (is_among n taken))
+      ▸ of_any (actual n) (expression_of a.actual))
 
   abbrev pub associations : (left : List Name) → (is_behind_named : Bool) → (taken : List Name) → List Association → Broken
   associations left is_behind_named taken [] = nothing
