@@ -1,5 +1,5 @@
 -- What a part of an expression breaks first, the expression breaks first, where the parts before it break nothing.
-use Rattle.std.proofs.Common.{◌≡◌, ℕ, suc, ◌<◌, Bool, true, false, true≢false, List, [], ◌∷◌, map, length, get_or, drop, drop-cons, Option, Some, None, Result, Ok, Err, IfErr, Vec, Box, Global, refl, sym, ap, ◌∙◌}
+use Rattle.std.proofs.Common.{◌≡◌, ℕ, suc, ◌<◌, Bool, true, false, List, [], ◌∷◌, map, length, get_or, drop, drop-cons, Option, Some, None, Result, Ok, Err, IfErr, Vec, Box, Global, refl, sym, ap, ◌∙◌}
 use Rattle.vhdl_tree.specs.Tree as t
 use Rattle.vhdl_tree.specs.Tree.{Ident, exprs_of}
 use Rattle.vhdl_tree.specs.View.{view, chain_view, pair_view, suffix_view, range_view}

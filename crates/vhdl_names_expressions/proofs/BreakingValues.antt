@@ -1,14 +1,13 @@
 -- What the value of a constant breaks first, form by form; names of objects, and subtype indications.
-use Rattle.std.proofs.Common.{◌≡◌, ℕ, Bool, true, false, true≢false, List, [], ◌∷◌, map, Option, Some, None, Result, Ok, Err, IfErr, Box, Global, refl, sym, ap, ◌∙◌}
+use Rattle.std.proofs.Common.{◌≡◌, ℕ, Bool, true, false, true≢false, List, [], ◌∷◌, Option, Some, None, Result, Ok, Err, IfErr, Box, Global, refl, sym, ap, ◌∙◌}
 use Rattle.std.specs.Prelude.{is_some, option_map}
 use Rattle.vhdl_values.specs.declared.scalar.Nine.{Nine}
 use Rattle.vhdl_tree.specs.Tree as t
 use Rattle.vhdl_tree.specs.Tree.{Pair}
-use Rattle.vhdl_tree.specs.View.{view, pair_view}
+use Rattle.vhdl_tree.specs.View.{view}
 use Rattle.vhdl_tree.specs.declared.expression.Expr.{Expr}
 use Rattle.vhdl_tree.specs.declared.expression.Expr.TheVariants as x
-use Rattle.vhdl_tree.specs.declared.expression.Chain.{Chain, out-Chain}
-use Rattle.vhdl_tree.proofs.Rows.{chain_is}
+use Rattle.vhdl_tree.specs.declared.expression.Chain.{Chain}
 use Rattle.vhdl_names_rules.specs.declared.fault.NameFault.{NameFault}
 use Rattle.vhdl_names_rules.specs.declared.fault.NameFault.TheVariants.{At, NoMemory}
 use Rattle.vhdl_names_rules.specs.declared.fault.NameProblem.{NameProblem}
@@ -29,13 +28,12 @@ use Rattle.vhdl_names_rules.specs.Operators.{Typed, elements}
 use Rattle.vhdl_names_rules.specs.Rules.{◌>>=◌, ◌>>◌, met}
 use Rattle.vhdl_names_rules.specs.units.Expressions.{Vector}
 use Rattle.vhdl_names_rules.specs.units.Units.{Fixed}
-use Rattle.vhdl_names_rules.specs.Subtypes as r
 use Rattle.vhdl_names_problems.specs.Broken.{Broken, Tells, refused, ◌▸◌, unless, lacking, where_given, of_any}
 use Rattle.vhdl_names_problems.specs.Places.{start}
 use Rattle.vhdl_names_problems.specs.Operators.{string_problem}
 use Rattle.vhdl_names_problems.specs.Expressions.{meaning, no_attribute, typed_suffix, static_range, is_vector_type}
 use Rattle.vhdl_names_problems.specs.Statements.{named}
-use Rattle.vhdl_names_problems.specs.Subtypes.{fixed, fixed_value, literal, value_of, subtype, mark_problem, is_marked, is_character, is_element_type}
+use Rattle.vhdl_names_problems.specs.Subtypes.{fixed, fixed_value, literal, value_of, subtype, mark_problem, is_marked, is_character}
 use Rattle.vhdl_names_problems.proofs.Telling.{told_same, told_left, told_right, told_given, told_on, at_is_told}
 use Rattle.vhdl_names_problems.proofs.kept.Expressions.{meaning_kept, typed_suffix_kept}
 use Rattle.vhdl_names_types.specs.declared.meaning.Meaning.{Meaning as DeclaredMeaning}
@@ -43,7 +41,7 @@ use Rattle.vhdl_names_types.specs.declared.meaning.Meaning.TheVariants as d
 use Rattle.vhdl_names_types.specs.Views.{meaning_view}
 use Rattle.vhdl_names_expressions.specs.Chosen.{as_name, as_character, is_literal, character_values}
 use Rattle.vhdl_names_expressions.specs.Fixing.{suffixed_value, filled_with}
-use Rattle.vhdl_names_expressions.proofs.Breaking.{told_as, told_fault, in_turn}
+use Rattle.vhdl_names_expressions.proofs.Breaking.{told_fault, in_turn}
 use Rattle.vhdl_names_expressions.proofs.Choosing.{chain_is_no_literal}
 use Rattle.vhdl_names_expressions.proofs.Fixing.{filled_as}
 

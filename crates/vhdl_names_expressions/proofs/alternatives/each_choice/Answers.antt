@@ -31,13 +31,13 @@ loop-one-preserved c =
     let lt : c.loop-one.one-index < length c.args.all.now = omega arith in
     let next : suc c.loop-one.one-index ≡ c.loop-one.one-index + 1 = omega arith in (
       each_goes f tree_choice_view _ (choices_view c.loop-one.done) c.args.all.now i c.one-item.result (choice_view c.in_ok-next.next) c.loop-one.invariant.0 lt c.one-item.is
-      c.in_ok-next.ensures.given
-      ∙ ap (λ xs. behind xs (each f (map tree_choice_view (drop (suc i) c.args.all.now))))
-      (sym (ap (map choice_view) c.in_ok-push.ensures.items ∙ map-append choice_view c.loop-one.done.items (c.in_ok-next.next ∷ [])))
-      ∙ ap (λ k. behind (choices_view c.push.new.self) (each f (map tree_choice_view (drop k c.args.all.now)))) next,
+          c.in_ok-next.ensures.given
+          ∙ ap (λ xs. behind xs (each f (map tree_choice_view (drop (suc i) c.args.all.now))))
+          (sym (ap (map choice_view) c.in_ok-push.ensures.items ∙ map-append choice_view c.loop-one.done.items (c.in_ok-next.next ∷ [])))
+          ∙ ap (λ k. behind (choices_view c.push.new.self) (each f (map tree_choice_view (drop k c.args.all.now)))) next,
       c.loop-one.invariant.1
-      ∙ any_left (broken.choice (sight_view c.args.sight.now) c.args.object_type) tree_choice_view c.args.all.now i (c.loop-one.one-index + 1) c.one-item.result lt c.one-item.is next
-      (choice_kept (sight_view c.args.sight.now) c.args.object_type (tree_choice_view c.one-item.result) (choice_view c.in_ok-next.next) c.in_ok-next.ensures.given),
+          ∙ any_left (broken.choice (sight_view c.args.sight.now) c.args.object_type) tree_choice_view c.args.all.now i (c.loop-one.one-index + 1) c.one-item.result lt c.one-item.is next
+          (choice_kept (sight_view c.args.sight.now) c.args.object_type (tree_choice_view c.one-item.result) (choice_view c.in_ok-next.next) c.in_ok-next.ensures.given),
     )
 
 pub returns-clause-given : goal.returns-clause-given

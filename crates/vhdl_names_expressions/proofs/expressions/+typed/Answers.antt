@@ -15,7 +15,7 @@ use Rattle.vhdl_names_types.proofs.Along.{gives_along}
 use Rattle.vhdl_names_expressions.proofs.Chains.{started_is, link_goes, chain_begun, all_linked_none, link_fails, front, each_fails, each_goes, each_ends, arguments_whole}
 use Rattle.vhdl_tree.specs.View.{ident_view, suffix_view, range_view}
 use Rattle.vhdl_names_rules.specs.declared.fault.NameProblem.TheVariants.{TypeMismatch}
-use Rattle.vhdl_names_problems.specs.Broken.{Tells, lacking}
+use Rattle.vhdl_names_problems.specs.Broken.{Tells}
 use Rattle.vhdl_names_problems.specs.Places as places
 use Rattle.vhdl_names_problems.specs.Expressions as broken
 use Rattle.vhdl_names_problems.proofs.Telling.{told_same, told_on}
@@ -93,12 +93,12 @@ typed_each-loop-argument-preserved t c =
     let lt : c.loop-argument.argument-index < length c.args.arguments.now = omega arith in
     let next : suc c.loop-argument.argument-index ≡ c.loop-argument.argument-index + 1 = omega arith in (
       each_goes s _ (map typed_view c.loop-argument.done.items) c.args.arguments.now i c.argument-item.result (typed_view c.in_ok-value.value) c.loop-argument.invariant.0 lt c.argument-item.is
-      c.in_ok-value.ensures.given
-      ∙ ap (λ xs. front xs (typed_each s (exprs_of (map view (drop (suc i) c.args.arguments.now)))))
-      (sym (ap (map typed_view) c.in_ok-push.ensures.items ∙ map-append typed_view c.loop-argument.done.items (c.in_ok-value.value ∷ [])))
-      ∙ ap (λ k. front (map typed_view c.push.new.self.items) (typed_each s (exprs_of (map view (drop k c.args.arguments.now))))) next,
+          c.in_ok-value.ensures.given
+          ∙ ap (λ xs. front xs (typed_each s (exprs_of (map view (drop (suc i) c.args.arguments.now)))))
+          (sym (ap (map typed_view) c.in_ok-push.ensures.items ∙ map-append typed_view c.loop-argument.done.items (c.in_ok-value.value ∷ [])))
+          ∙ ap (λ k. front (map typed_view c.push.new.self.items) (typed_each s (exprs_of (map view (drop k c.args.arguments.now))))) next,
       c.loop-argument.invariant.1
-      ∙ each_left s c.args.arguments.now i (c.loop-argument.argument-index + 1) c.argument-item.result (typed_view c.in_ok-value.value) lt c.argument-item.is next c.in_ok-value.ensures.given,
+          ∙ each_left s c.args.arguments.now i (c.loop-argument.argument-index + 1) c.argument-item.result (typed_view c.in_ok-value.value) lt c.argument-item.is next c.in_ok-value.ensures.given,
     )
 
 pub typed_each-returns-clause-given : goal.typed_each-returns-clause-given

@@ -1,4 +1,4 @@
-use Rattle.std.proofs.Common.{refl, ap, sym, ◌∙◌}
+use Rattle.std.proofs.Common.{ap, sym, ◌∙◌}
 use Rattle.vhdl_names_rules.specs.declared.fault.NameFault.TheVariants.{At}
 use Rattle.vhdl_names_rules.specs.declared.fault.NameProblem.TheVariants.{TypeMismatch, LeftOut}
 use Rattle.vhdl_names_problems.specs.Expressions.{is_vector_type}
@@ -22,5 +22,5 @@ returns-in_default-object_type-clause-told c =
     told_fault _ (At TypeMismatch c.args.at) _ c.at-in_default-object_type.ensures
     (no_vector c.args.object_type c.args.at c.args.element_at c.args.code c.in-Some.code c.in-Some.is (elim c.in_default-object_type.branch [
       | in_default-object_type-via-in-Elements+else-is_vector w ↦ ap is_vector_type w.in-Elements.is ∙ sym w.is_vector.ensures ∙ w.if-is_vector.false
-    | in_default-object_type-via-in_default-object_type w ↦ not_vector c.args.object_type w.in_default-object_type.not-Elements
+      | in_default-object_type-via-in_default-object_type w ↦ not_vector c.args.object_type w.in_default-object_type.not-Elements
     ]))
