@@ -11,7 +11,6 @@ use Rattle.vhdl_names_rules.specs.Expressions.{static}
 use Rattle.vhdl_names_rules.specs.Declarations.{in_order, within, within_variables, as_kind, single_expression, literals, generic, port, signals, variables, constants, constants_by, enumeration}
 use Rattle.vhdl_names_rules.specs.Interfaces.{declared_names}
 use Rattle.vhdl_names_rules.proofs.laws.Rules.{comes, kept, some_is}
-use Rattle.vhdl_names_declarations.specs.Standing.{enumeration_names}
 use Rattle.vhdl_names_declarations.proofs.Regions.{names-append, names-numbered}
 
 pub names-literals : (e count p : ℕ) (ns : List Name) → declared_names (literals e count p ns) ≡ ns
@@ -87,8 +86,8 @@ of_constants sight d x e =
     of_constants_by sight d (as_integer_type a.value) x a.rest
 
 pub of_enumeration : (sight : Sight) (d : t.Enumeration) (x : Declares u.Declaration)
-    → enumeration sight d ≡ Some x → HasNames x (enumeration_names d)
+    → enumeration sight d ≡ Some x → HasNames x (d.name.text ∷ names_of d.literals)
 unfolding enumeration
 of_enumeration sight d x e =
     let a = kept (nat_le (length d.literals) 256) _ x e in
-    of_same _ x (enumeration_names d) a.1 (ap (λ ns. d.name.text ∷ ns) (names-literals _ _ 0 (names_of d.literals)))
+    of_same _ x (d.name.text ∷ names_of d.literals) a.1 (ap (λ ns. d.name.text ∷ ns) (names-literals _ _ 0 (names_of d.literals)))

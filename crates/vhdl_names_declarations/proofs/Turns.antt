@@ -42,7 +42,7 @@ not_more ds es h = go (are_distinct (declared_names (ds ++ es))) h
     go true h = cc
     go false h = refl
 
-has_more : (ds es r : List Declared) → more ds es ≡ Some r → are_distinct (declared_names (ds ++ es)) ≡ true
+pub has_more : (ds es r : List Declared) → more ds es ≡ Some r → are_distinct (declared_names (ds ++ es)) ≡ true
 has_more ds es r h = go (are_distinct (declared_names (ds ++ es))) h
   where
     go : (b : Bool) → (met b >>= λ _. Some (ds ++ es)) ≡ Some r → b ≡ true
