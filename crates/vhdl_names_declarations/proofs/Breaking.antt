@@ -1,5 +1,5 @@
 -- What is told of a declaration, or of a name that stands twice, is told of the list of declarations that it stands in.
-use Rattle.std.proofs.Common.{◌≡◌, ◌≢◌, ℕ, suc, ◌+◌, ◌<◌, cond, Bool, true, false, ◌||◌, List, [], ◌∷◌, ◌++◌, map, length, drop, get_or, Option, Some, None, Result, Ok, Err, IfErr, refl, sym, ap, subst, ◌∙◌, append_assoc, append-nil, arith}
+use Rattle.std.proofs.Common.{◌≡◌, ◌≢◌, ℕ, suc, ◌+◌, ◌<◌, cond, Bool, true, false, List, [], ◌∷◌, ◌++◌, map, length, drop, get_or, Option, Some, None, Result, Ok, Err, IfErr, refl, sym, ap, subst, ◌∙◌, append_assoc, append-nil, arith}
 use Rattle.std.specs.Prelude.{IsErrAnd, option_map, is_none, is_some}
 use Rattle.std.proofs.Math.Seq.{drop-cons}
 use Rattle.vhdl_tree.specs.Tree as t
@@ -10,10 +10,9 @@ use Rattle.vhdl_names_rules.specs.declared.fault.NameProblem.TheVariants.{Twice}
 use Rattle.vhdl_names_rules.specs.Rules.{◌>>=◌, met}
 use Rattle.vhdl_names_rules.specs.Visibility.{Name, Declared, Sight, Declares, names_of, is_among, are_distinct}
 use Rattle.vhdl_names_rules.specs.Interfaces.{declared_names}
-use Rattle.vhdl_names_rules.specs.Expressions as expressions
 use Rattle.vhdl_names_rules.specs.Declarations.{single_expression}
 use Rattle.vhdl_names_rules.proofs.laws.Rules.{comes, kept}
-use Rattle.vhdl_names_problems.specs.Broken.{Broken, Tells, ◌▸◌, refused, unless, where_given}
+use Rattle.vhdl_names_problems.specs.Broken.{Broken, Tells, refused, where_given}
 use Rattle.vhdl_names_problems.specs.Twice.{twice}
 use Rattle.vhdl_names_problems.specs.Expressions.{static}
 use Rattle.vhdl_names_problems.specs.Declarations.{in_order, standing_twice, integer_value}

@@ -1,13 +1,13 @@
 -- What is told of one context item is told of the clauses that it begins.
 use Rattle.std.proofs.Common.{◌≡◌, ℕ, ◌+◌, ◌<◌, Bool, true, false, not, ◌&&◌, ◌||◌, List, [], ◌∷◌, map, length, drop, get_or, Option, Some, None, refl, sym, ap, subst, ◌∙◌}
 use Rattle.std.specs.List.{list_any, list_all}
-use Rattle.vhdl_tree.specs.Tree.{Ident, Selected, ContextItem, library, uses}
+use Rattle.vhdl_tree.specs.Tree.{Selected, ContextItem, library, uses}
 use Rattle.vhdl_names_rules.specs.declared.fault.NameFault.{NameFault}
 use Rattle.vhdl_names_rules.specs.declared.fault.NameFault.TheVariants.{At}
 use Rattle.vhdl_names_rules.specs.declared.fault.NameProblem.TheVariants.{Undeclared, LeftOut}
 use Rattle.vhdl_names_rules.specs.Rules.{◌>>=◌, met}
 use Rattle.vhdl_names_rules.specs.Packages as packages
-use Rattle.vhdl_names_rules.specs.Packages.{Context, is_ieee, is_logic, is_numbers}
+use Rattle.vhdl_names_rules.specs.Packages.{Context, is_ieee, is_library, is_logic, is_numbers}
 use Rattle.vhdl_names_problems.specs.Broken.{Broken, Tells, nothing, ◌▸◌, unless, where_given, any_of}
 use Rattle.vhdl_names_problems.specs.Declarations.{context, library_named, package_used, packages_used}
 use Rattle.vhdl_names_problems.proofs.Telling.{IsKept, told_same, told_left, told_right, told_given, behind_kept, unless_kept, kept_left}

@@ -1,10 +1,10 @@
-use Rattle.std.proofs.Common.{rules, arith, ◌≡◌, true, false, sym, ap, subst, ◌∙◌}
+use Rattle.std.proofs.Common.{rules, arith, ◌≡◌, true, false, sym, ap, subst}
 use Rattle.std.proofs.lemmas.Grind.{common_steps}
 use Rattle.std.specs.Prelude.{is_none, is_some}
 use Rattle.vhdl_tree.specs.View as tree
 use Rattle.vhdl_names_rules.specs.declared.fault.NameFault.TheVariants.{At}
 use Rattle.vhdl_names_rules.specs.declared.fault.NameProblem.TheVariants.{LeftOut}
-use Rattle.vhdl_names_problems.specs.Broken.{Tells, ◌▸◌, unless}
+use Rattle.vhdl_names_problems.specs.Broken.{Tells, unless}
 use Rattle.vhdl_names_problems.specs.Declarations as broken
 use Rattle.vhdl_names_problems.specs.Expressions as expressions_broken
 use Rattle.vhdl_names_problems.proofs.Telling.{told_same, told_left, told_right, unless_kept}

@@ -1,4 +1,4 @@
-use Rattle.std.proofs.Common.{rules, arith, ◌≡◌, Some, ap, ◌∙◌}
+use Rattle.std.proofs.Common.{rules, arith}
 use Rattle.std.proofs.lemmas.Grind.{common_steps}
 use Rattle.vhdl_names_problems.specs.Broken.{Tells, ◌▸◌, where_given}
 use Rattle.vhdl_names_problems.specs.Declarations as broken

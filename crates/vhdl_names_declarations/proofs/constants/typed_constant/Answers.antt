@@ -1,10 +1,10 @@
-use Rattle.std.proofs.Common.{rules, arith, ◌≡◌, Some, sym, subst, ◌∙◌}
+use Rattle.std.proofs.Common.{rules, arith, sym, subst, ◌∙◌}
 use Rattle.std.proofs.lemmas.Grind.{common_steps}
 use Rattle.vhdl_tree.specs.View as tree
 use Rattle.vhdl_names_rules.specs.Visibility.{Meaning, meaning}
 use Rattle.vhdl_names_rules.specs.Subtypes.{as_integer_type}
 use Rattle.vhdl_names_types.specs.Views.{sight_view, meaning_view}
-use Rattle.vhdl_names_problems.specs.Broken.{Tells, ◌▸◌, where_given}
+use Rattle.vhdl_names_problems.specs.Broken.{Tells, where_given}
 use Rattle.vhdl_names_problems.specs.Declarations as broken
 use Rattle.vhdl_names_problems.specs.Expressions as expressions_broken
 use Rattle.vhdl_names_problems.proofs.Telling.{told_left, told_right, told_given, told_on}

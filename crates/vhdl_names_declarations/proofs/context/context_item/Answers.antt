@@ -1,4 +1,4 @@
-use Rattle.std.proofs.Common.{◌≡◌, ◌∷◌, [], map, sym, ap, subst, ◌∙◌}
+use Rattle.std.proofs.Common.{◌∷◌, [], map, sym, ap, subst, ◌∙◌}
 use Rattle.vhdl_tree.specs.Tree.{library, uses}
 use Rattle.vhdl_tree.specs.View as tree
 use Rattle.vhdl_names_problems.specs.Broken.{Tells}

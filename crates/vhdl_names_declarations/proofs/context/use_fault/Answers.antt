@@ -1,4 +1,4 @@
-use Rattle.std.proofs.Common.{◌≡◌, sym, subst, ◌∙◌}
+use Rattle.std.proofs.Common.{sym, subst, ◌∙◌}
 use Rattle.vhdl_tree.specs.View.{selected_view}
 use Rattle.vhdl_names_rules.proofs.laws.Rules.{not_true}
 use Rattle.vhdl_names_problems.specs.Broken.{Tells}

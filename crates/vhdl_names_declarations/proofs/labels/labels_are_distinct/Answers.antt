@@ -1,10 +1,10 @@
-use Rattle.std.proofs.Common.{rules, arith, ◌≡◌, ◌≢◌, [], map, Some, None, ap, ◌∙◌, sym, subst}
+use Rattle.std.proofs.Common.{rules, arith, ◌≡◌, ◌≢◌, [], map, None, ap, ◌∙◌, sym, subst}
 use Rattle.std.proofs.lemmas.Grind.{common_steps}
 use Rattle.vhdl_names_rules.specs.declared.fault.NameFault.TheVariants.{NoMemory}
 use Rattle.vhdl_names_rules.specs.Rules.{met}
 use Rattle.vhdl_names_rules.specs.Files.{labelled}
 use Rattle.vhdl_names_rules.specs.Visibility.{are_distinct}
-use Rattle.vhdl_names_types.specs.Views.{region_view, entry_view}
+use Rattle.vhdl_names_types.specs.Views.{entry_view}
 use Rattle.vhdl_names_declarations.specs.Entered.{more}
 use Rattle.vhdl_names_problems.specs.Broken.{Tells}
 use Rattle.vhdl_names_problems.specs.Twice.{twice}

@@ -1,6 +1,6 @@
-use Rattle.std.proofs.Common.{rules, arith, ◌≡◌, Some, ap, ◌∙◌}
+use Rattle.std.proofs.Common.{rules, arith}
 use Rattle.std.proofs.lemmas.Grind.{common_steps}
-use Rattle.vhdl_names_problems.specs.Broken.{Tells, ◌▸◌, where_given, of_any}
+use Rattle.vhdl_names_problems.specs.Broken.{Tells, where_given, of_any}
 use Rattle.vhdl_names_problems.specs.Declarations as broken
 use Rattle.vhdl_names_problems.specs.Subtypes as subtypes_broken
 use Rattle.vhdl_names_problems.proofs.Telling.{told_left, told_right, told_given}

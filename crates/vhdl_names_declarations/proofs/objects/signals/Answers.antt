@@ -1,4 +1,4 @@
-use Rattle.std.proofs.Common.{rules, arith, ◌≡◌, ◌≢◌, ◌+◌, ◌<◌, ◌≤◌, List, [], ◌∷◌, ◌++◌, length, map, option_map, Option, Some, None, ap, ◌∙◌, sym, subst}
+use Rattle.std.proofs.Common.{rules, arith, ◌≡◌, ◌≢◌, length, map, option_map, Option, Some, None, ap, ◌∙◌, sym, subst}
 use Rattle.std.proofs.lemmas.Grind.{common_steps}
 use Rattle.std.proofs.lemmas.List.{length-map}
 use Rattle.vhdl_names_rules.specs.declared.fault.NameFault.TheVariants.{NoMemory}
@@ -13,10 +13,10 @@ use Rattle.vhdl_tree.specs.View as tree
 use Rattle.vhdl_tree.specs.View.{ident_view}
 use Rattle.vhdl_names_types.specs.Views.{region_view, sight_view, entry_view}
 use Rattle.vhdl_names_units.specs.views.Answers.{subtype_view, fixed_view}
-use Rattle.vhdl_names_declarations.specs.Entered.{more, entering, entering_variables}
-use Rattle.vhdl_names_declarations.specs.Typed.{typed_object, typed_port}
+use Rattle.vhdl_names_declarations.specs.Entered.{more, entering}
+use Rattle.vhdl_names_declarations.specs.Typed.{typed_object}
 use Rattle.vhdl_names_declarations.proofs.Classes.{signals_is, signal_class, signals_of, map-map}
-use Rattle.vhdl_names_declarations.proofs.Turns.{refused, unknown, known, settled_region, grows_by, first_below, more_is}
+use Rattle.vhdl_names_declarations.proofs.Turns.{refused, unknown, known, settled_region, more_is}
 use Rattle.vhdl_names_declarations.proofs.objects.signals.Goals as goal
 use Rattle.vhdl_names_problems.specs.Broken.{Tells}
 use Rattle.vhdl_names_problems.specs.Declarations as broken

@@ -1,8 +1,7 @@
-use Rattle.std.proofs.Common.{rules, arith, ◌≡◌, ◌≢◌, ◌+◌, ◌<◌, ◌≤◌, List, [], ◌∷◌, ◌++◌, length, map, option_map, Option, Some, None, ap, ◌∙◌, sym, subst}
+use Rattle.std.proofs.Common.{rules, arith, ◌≡◌, ◌≢◌, length, map, option_map, Option, Some, None, ap, ◌∙◌, sym, subst}
 use Rattle.std.proofs.lemmas.Grind.{common_steps}
 use Rattle.std.proofs.lemmas.List.{length-map}
 use Rattle.vhdl_names_rules.specs.declared.fault.NameFault.TheVariants.{NoMemory}
-use Rattle.vhdl_names_rules.specs.units.Units as u
 use Rattle.vhdl_names_rules.specs.units.Units.{Fixed}
 use Rattle.vhdl_names_rules.specs.Subtypes.{Subtype, object}
 use Rattle.vhdl_names_rules.specs.Declarations as d
@@ -13,10 +12,10 @@ use Rattle.vhdl_tree.specs.View as tree
 use Rattle.vhdl_tree.specs.View.{ident_view}
 use Rattle.vhdl_names_types.specs.Views.{region_view, sight_view, entry_view}
 use Rattle.vhdl_names_units.specs.views.Answers.{subtype_view, fixed_view}
-use Rattle.vhdl_names_declarations.specs.Entered.{more, entering, entering_variables}
-use Rattle.vhdl_names_declarations.specs.Typed.{typed_object, typed_port}
-use Rattle.vhdl_names_declarations.proofs.Classes.{variables_is, variable_class, variables_of, map-map}
-use Rattle.vhdl_names_declarations.proofs.Turns.{refused, unknown, known, settled_region, grows_by, first_below, more_is}
+use Rattle.vhdl_names_declarations.specs.Entered.{more, entering_variables}
+use Rattle.vhdl_names_declarations.specs.Typed.{typed_object}
+use Rattle.vhdl_names_declarations.proofs.Classes.{variables_is, variable_class, variables_of}
+use Rattle.vhdl_names_declarations.proofs.Turns.{refused, unknown, known, settled_region, more_is}
 use Rattle.vhdl_names_declarations.proofs.objects.variables_of_one.Goals as goal
 use Rattle.vhdl_names_problems.specs.Broken.{Tells}
 use Rattle.vhdl_names_problems.specs.Declarations as broken

@@ -1,9 +1,9 @@
-use Rattle.std.proofs.Common.{rules, arith, ◌≡◌, ◌≢◌, ◌+◌, ◌<◌, length, get_or, drop, map, [], ◌∷◌, Some, None, ap, sym, ◌∙◌}
+use Rattle.std.proofs.Common.{rules, arith, ◌≡◌, ◌≢◌, ◌+◌, ◌<◌, length, get_or, drop, map, [], ◌∷◌, None, ap, sym, ◌∙◌}
 use Rattle.std.proofs.lemmas.Grind.{common_steps}
 use Rattle.vhdl_names_rules.specs.declared.fault.NameFault.TheVariants.{NoMemory}
 use Rattle.vhdl_names_rules.specs.Rules.{◌>>=◌}
 use Rattle.vhdl_names_rules.specs.Visibility.{declare}
-use Rattle.vhdl_names_types.specs.Views.{region_view, meaning_view}
+use Rattle.vhdl_names_types.specs.Views.{region_view}
 use Rattle.vhdl_names_declarations.specs.Entered.{ident, more}
 use Rattle.vhdl_names_rules.specs.declared.operator.IntegerType.TheVariants.{Integer}
 use Rattle.vhdl_names_declarations.specs.declared.packages.Builtin.TheVariants.{Integers}

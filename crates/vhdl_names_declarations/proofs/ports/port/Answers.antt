@@ -1,8 +1,7 @@
-use Rattle.std.proofs.Common.{rules, arith, ◌≡◌, ◌≢◌, ◌+◌, ◌<◌, ◌≤◌, List, [], ◌∷◌, ◌++◌, length, map, option_map, Option, Some, None, ap, ◌∙◌, sym, subst}
+use Rattle.std.proofs.Common.{rules, arith, ◌≡◌, ◌≢◌, length, map, option_map, Option, Some, None, ap, ◌∙◌, sym, subst}
 use Rattle.std.proofs.lemmas.Grind.{common_steps}
 use Rattle.std.proofs.lemmas.List.{length-map}
 use Rattle.vhdl_names_rules.specs.declared.fault.NameFault.TheVariants.{NoMemory}
-use Rattle.vhdl_names_rules.specs.units.Units as u
 use Rattle.vhdl_names_rules.specs.units.Units.{Fixed}
 use Rattle.vhdl_names_rules.specs.Subtypes.{Subtype, object}
 use Rattle.vhdl_names_rules.specs.Declarations as d
@@ -13,11 +12,11 @@ use Rattle.vhdl_tree.specs.View as tree
 use Rattle.vhdl_tree.specs.View.{ident_view}
 use Rattle.vhdl_names_types.specs.Views.{region_view, sight_view, entry_view}
 use Rattle.vhdl_names_units.specs.views.Answers.{subtype_view, fixed_view}
-use Rattle.vhdl_names_declarations.specs.Entered.{more, entering, entering_variables}
+use Rattle.vhdl_names_declarations.specs.Entered.{more, entering}
 use Rattle.vhdl_names_declarations.specs.Settled.{settled}
-use Rattle.vhdl_names_declarations.specs.Typed.{typed_object, typed_port}
+use Rattle.vhdl_names_declarations.specs.Typed.{typed_port}
 use Rattle.vhdl_names_declarations.proofs.Classes.{port_is, port_class, ports_of, port_with, map-map}
-use Rattle.vhdl_names_declarations.proofs.Turns.{refused, unknown, known, settled_region, grows_by, first_below, more_is}
+use Rattle.vhdl_names_declarations.proofs.Turns.{refused, unknown, known, settled_region}
 use Rattle.vhdl_names_declarations.proofs.ports.port.Goals as goal
 use Rattle.vhdl_names_rules.specs.declared.kind.ElementKind.{ElementKind}
 use Rattle.vhdl_names_problems.specs.Broken.{Tells}

@@ -1,4 +1,4 @@
-use Rattle.std.proofs.Common.{rules, arith, ◌≡◌, ◌≢◌, ◌+◌, ◌<◌, ◌≤◌, [], ◌++◌, map, flat_map, length, Some, None, refl, ap, sym, ◌∙◌}
+use Rattle.std.proofs.Common.{rules, arith, ◌≡◌, ◌≢◌, ◌<◌, map, flat_map, length, None, refl, ap, sym, ◌∙◌}
 use Rattle.std.proofs.lemmas.Grind.{common_steps}
 use Rattle.std.proofs.lemmas.List.{length-map}
 use Rattle.vhdl_names_rules.specs.declared.fault.NameFault.TheVariants.{NoMemory}
@@ -6,7 +6,7 @@ use Rattle.vhdl_names_rules.specs.Declarations.{in_order, port}
 use Rattle.vhdl_names_rules.specs.Visibility.{with_declared}
 use Rattle.vhdl_tree.specs.View.{port_view}
 use Rattle.vhdl_names_types.specs.declared.sight.Sight.{Sight}
-use Rattle.vhdl_names_types.specs.Views.{sight_view, region_view, entry_view}
+use Rattle.vhdl_names_types.specs.Views.{sight_view, entry_view}
 use Rattle.vhdl_names_units.specs.views.Declarations.{ports_view, all_ports_view}
 use Rattle.vhdl_names_declarations.specs.Entered.{entering}
 use Rattle.vhdl_names_problems.specs.Broken.{Tells}
