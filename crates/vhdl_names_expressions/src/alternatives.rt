@@ -138,8 +138,8 @@ fn chosen(
     }
 }
 
-/// One choice that is not `others`.
-fn choice(
+/// One choice that is not `others`. It takes memory for what is analysed.
+pub fn choice(
     alloc: Global,
     sight: &Sight,
     object_type: ObjectType,

@@ -107,15 +107,15 @@ fn left_out_place(name: &Name) -> usize
     }
 }
 
-/// Why a value is no actual of a port: it is an expression, which is left out.
-fn value_fault(alloc: Global, sight: &Sight, name: &Name) -> NameFault
-    ensures { broken.names_value (visibility.meaning (sight_view sight.now) name.now.identifier.text.items) (suffix_view name.now.suffix) ≡ true
-        → Tells (named (sight_view sight.now) (name_view name.now) ▸ refused LeftOut name.now.identifier.at) result }
+/// No signal, where a name is a value: it is an expression, which is left out.
+fn signal_of_value(alloc: Global, sight: &Sight, name: &Name) -> Result<SignalName, NameFault>
+    ensures given { broken.names_value (visibility.meaning (sight_view sight.now) name.now.identifier.text.items) (suffix_view name.now.suffix) ≡ true
+        → Gives signal_name_view (signal_of (sight_view sight.now) (name_view name.now)) result }
+    ensures told { broken.names_value (visibility.meaning (sight_view sight.now) name.now.identifier.text.items) (suffix_view name.now.suffix) ≡ true
+        → IfErr result (Tells (named (sight_view sight.now) (name_view name.now) ▸ refused LeftOut name.now.identifier.at)) }
 {
-    match typed_suffix(alloc, sight, &name.suffix) {
-        Err(fault) => fault,
-        Ok(_) => NameProblem::LeftOut.at(left_out_place(name)),
-    }
+    typed_suffix(alloc, sight, &name.suffix)?;
+    Err(NameProblem::LeftOut.at(left_out_place(name)))
 }
 
 /// The signal that an actual is.
@@ -124,9 +124,10 @@ fn actual_signal(alloc: Global, sight: &Sight, name: &Name) -> Result<SignalName
     ensures told { IfErr result (Tells (broken.actual_signal (sight_view sight.now) (name_view name.now))) }
 {
     if names_value(sight, name) {
-        return Err(value_fault(alloc, sight, name));
+        signal_of_value(alloc, sight, name)
+    } else {
+        signal(alloc, sight, name)
     }
-    signal(alloc, sight, name)
 }
 
 /// The actual of a port: the name of a signal or port, or of a part of one.

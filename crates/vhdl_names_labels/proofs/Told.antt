@@ -1,5 +1,5 @@
 -- Of two parts that stand among each other the fault at the earlier byte is told.
-use Rattle.std.proofs.Common.{◌≡◌, ℕ, arith, Bool, true, false, Some, if◌then◌else◌, nat_le, nat_lt, refl, ap, sym, subst, ◌∙◌, ltb-true, ltb-false, leb-true, leb-false}
+use Rattle.std.proofs.Common.{◌≡◌, ℕ, arith, Bool, true, false, Some, if◌then◌else◌, nat_le, nat_lt, Result, Ok, Err, IfOk, IfErr, refl, ap, sym, subst, ◌∙◌, ltb-true, ltb-false, leb-true, leb-false}
 use Rattle.vhdl_names_rules.specs.declared.fault.NameFault.{NameFault}
 use Rattle.vhdl_names_rules.specs.declared.fault.NameFault.TheVariants.{At, NoMemory}
 use Rattle.vhdl_names_rules.specs.declared.fault.NameProblem.{NameProblem}
@@ -33,3 +33,14 @@ told_alone a b (At p at) ha hb = both
 
 pub told_as : (a b : Broken) (f g r : NameFault) → r ≡ earlier f g → Tells a f → Tells b g → Tells (broken.earlier a b) r
 told_as a b f g r e ha hb = subst (Tells (broken.earlier a b)) (sym e) (told_earlier a b f g ha hb)
+
+-- ---- an answer that is refused or not
+
+pub answer_taken : {X : Type 0} (a b : Broken) (f : NameFault) (r : Result X NameFault) (x : X) → r ≡ Ok x → Tells a f → IfOk r (λ _. b ≡ nothing)
+    → Tells (broken.earlier a b) f
+answer_taken a b f (Ok y) x e h o = told_alone a b f h o
+answer_taken a b f (Err g) x e h o = absurd cc
+
+pub answer_refused : {X : Type 0} (b : Broken) (g : NameFault) (r : Result X NameFault) → r ≡ Err g → IfErr r (Tells b) → Tells b g
+answer_refused b g (Ok y) e o = absurd cc
+answer_refused b g (Err f) e o = let same : f ≡ g = cc in subst (Tells b) same o

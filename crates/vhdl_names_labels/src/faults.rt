@@ -9,7 +9,6 @@ ghost use Rattle.vhdl_names_rules.specs.declared.fault.NameFault.TheVariants.{No
 use vhdl_names_rules::NameFault;
 
 /// The earlier of two faults, the first of two at one byte; want of memory comes before all.
-#[tactic(auto, using(crate::proofs::Told::told_earlier))]
 pub fn earlier(fault: NameFault, other: NameFault) -> NameFault
     ensures first { result ≡ rules.earlier fault other }
     ensures memory { result ≢ NoMemory → (fault ≢ NoMemory) × (other ≢ NoMemory) }
@@ -24,7 +23,6 @@ pub fn earlier(fault: NameFault, other: NameFault) -> NameFault
 }
 
 /// The earlier of a fault and that of an answer, if it is refused.
-#[tactic(auto, using(crate::proofs::Told::told_alone))]
 pub fn earlier_in<T: Drop>(fault: NameFault, answer: Result<T, NameFault>) -> NameFault
     ensures given { result ≢ NoMemory → fault ≢ NoMemory }
     ensures other { IfErr answer (λ other. result ≢ NoMemory → other ≢ NoMemory) }

@@ -147,7 +147,7 @@ fn edge_call(edge: Edge, operand: Option<Typed>, at: usize) -> Result<Typed, Nam
 }
 
 /// rising_edge or falling_edge, whose name is at byte `at`, of a signal's name.
-#[tactic(auto, using(crate::proofs::Meant::edge_sole))]
+#[tactic(auto, using(crate::proofs::Meant::edge_sole, crate::proofs::Meant::call_problem_sole))]
 pub(crate) fn edge_of(edge: Edge, suffix: TypedSuffix, at: usize) -> Result<Typed, NameFault>
     ensures given { Gives typed_view (rules.edge_of edge (typed_suffix_view suffix)) result }
     ensures told { IfErr result (Tells (refused (name_problem (visibility.function (EdgeCall edge)) (typed_suffix_view suffix)) at)) }

@@ -137,7 +137,7 @@ fn encoded(arguments: Vec<Typed>, at: usize) -> Result<Typed, NameFault>
 }
 
 /// A function of the packages, whose name is at byte `at`. It takes the memory of a box.
-#[tactic(auto, using(crate::proofs::Meant::counted_two, crate::proofs::Meant::encoding_two))]
+#[tactic(auto, using(crate::proofs::Meant::counted_two, crate::proofs::Meant::encoding_two, crate::proofs::Meant::other_call))]
 fn called(
     alloc: Global,
     function: Function,
@@ -261,7 +261,7 @@ pub fn denoted(
 }
 
 /// The attribute of a name at byte `at`, if it has one: 'event.
-#[tactic(auto, using(vhdl_names_problems::proofs::Telling::told_left, vhdl_names_problems::proofs::Telling::told_right, vhdl_names_problems::proofs::Telling::told_lacking))]
+#[tactic(auto, using(vhdl_names_problems::proofs::Telling::told_left, vhdl_names_problems::proofs::Telling::told_right))]
 pub fn attributed(
     attribute: &Option<Identifier>,
     operand: Typed,
