@@ -4,7 +4,7 @@ use Rattle.vhdl_tree.specs.Tree as t
 use Rattle.vhdl_names_rules.specs.units.Units as u
 use Rattle.vhdl_names_rules.specs.Rules.{◌>>=◌}
 use Rattle.vhdl_names_rules.specs.Visibility.{Name, Declared, Sight, declare, unfinished}
-use Rattle.vhdl_names_rules.specs.Interfaces.{EntityView, interface}
+use Rattle.vhdl_names_rules.specs.Interfaces.{interface}
 use Rattle.vhdl_names_declarations.specs.Entered.{more}
 use Rattle.vhdl_names_units.specs.declared.declaration.Declaration.{Declaration}
 use Rattle.vhdl_names_units.specs.views.Declarations.{declaration_view}
