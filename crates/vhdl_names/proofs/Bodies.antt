@@ -16,7 +16,7 @@ use Rattle.vhdl_names_rules.specs.Concurrent.{concurrent_labels}
 use Rattle.vhdl_names_rules.specs.Files as rules
 use Rattle.vhdl_names_rules.specs.laws.Regions.{names_in}
 use Rattle.vhdl_names_rules.proofs.laws.Rules.{comes, kept, some_is}
-use Rattle.vhdl_names_problems.specs.Broken.{Broken, Tells, ◌∪◌, unless, where_given}
+use Rattle.vhdl_names_problems.specs.Broken.{Broken, Tells, ◌▸◌, unless, where_given}
 use Rattle.vhdl_names_problems.specs.Declarations.{context, in_order}
 use Rattle.vhdl_names_problems.specs.Concurrent.{concurrents}
 use Rattle.vhdl_names_problems.specs.Files.{declaration, with_labels, architecture_in, architecture}
@@ -52,20 +52,20 @@ module _ (es : List EntityView) (e : EntityView) (items : List ContextItem) (a :
   whole = architecture es e items a
 
   pub context_told : Tells (context e.context items) f → Tells (architecture es e items a) f
-  context_told w = told_left of_context (inside ∪ twice ∪ at_end) f w
+  context_told w = told_left of_context (inside ▸ twice ▸ at_end) f w
 
   inside_told : (c : Context) → packages.context e.context items ≡ Some c → Tells (architecture_in es e c a) f → Tells whole f
   inside_told c h w =
-      told_right of_context (inside ∪ twice ∪ at_end) f (told_left inside (twice ∪ at_end) f
+      told_right of_context (inside ▸ twice ▸ at_end) f (told_left inside (twice ▸ at_end) f
       (told_given (λ c. architecture_in es e c a) (packages.context e.context items) c f h w))
 
   twice_told : are_distinct all_names ≡ false → Tells (unless Twice false) f → Tells whole f
   twice_told h w =
-      told_right of_context (inside ∪ twice ∪ at_end) f (told_right inside (twice ∪ at_end) f (told_left twice at_end f
+      told_right of_context (inside ▸ twice ▸ at_end) f (told_right inside (twice ▸ at_end) f (told_left twice at_end f
       (told_along (unless Twice) false (are_distinct all_names) (sym h) f w)))
 
   end_told : Tells at_end f → Tells whole f
-  end_told w = told_right of_context (inside ∪ twice ∪ at_end) f (told_right inside (twice ∪ at_end) f (told_right twice at_end f w))
+  end_told w = told_right of_context (inside ▸ twice ▸ at_end) f (told_right inside (twice ▸ at_end) f (told_right twice at_end f w))
 
   -- ---- what is in sight
 
@@ -90,7 +90,7 @@ module _ (es : List EntityView) (e : EntityView) (items : List ContextItem) (a :
 
   pub declarations_told : (s : Sight) → sight_behind e items ≡ Some s
       → Tells (in_order with_declared (rules.declaration es) (declaration es) s a.declarations
-      ∪ unless Twice (are_distinct (declared_names s.region ++ flat_map names_in a.declarations))) f
+      ▸ unless Twice (are_distinct (declared_names s.region ++ flat_map names_in a.declarations))) f
       → Tells (architecture es e items a) f
   declarations_told s h w =
       let b = begins s h in
@@ -124,7 +124,7 @@ module _ (es : List EntityView) (e : EntityView) (items : List ContextItem) (a :
       ∙ ap (λ ns. declared_names e.interface.declared ++ (ns ++ labels)) names in
       let given : are.in_order with_declared (rules.declaration es) (sight_of b.context e.interface.declared) a.declarations ≡ Some x.value =
       ap (λ s. are.in_order with_declared (rules.declaration es) s a.declarations) b.sight ∙ x.is in
-      told_either (unless Twice (are_distinct (declared_names v.region ++ labels))) (statements v ∪ at_end) whole f
+      told_either (unless Twice (are_distinct (declared_names v.region ++ labels))) (statements v ▸ at_end) whole f
       (told_unless Twice (are_distinct (declared_names v.region ++ labels)) whole f
       (λ q w. twice_told (ap are_distinct (sym region) ∙ q) (tells_unless Twice false f refl w)))
       (told_either (statements v) at_end whole f

@@ -11,7 +11,7 @@ use Rattle.vhdl_names_rules.specs.Interfaces.{EntityView, entity}
 use Rattle.vhdl_names_rules.specs.Files.{entity_names, described_names, stand_after, entities_of, architectures_of}
 use Rattle.vhdl_names_rules.proofs.laws.Rules.{comes, kept, some_is}
 use Rattle.vhdl_names_labels.specs.Lists.{in_turn}
-use Rattle.vhdl_names_problems.specs.Broken.{Broken, Tells, ◌∪◌, unless, any_of}
+use Rattle.vhdl_names_problems.specs.Broken.{Broken, Tells, ◌▸◌, unless, any_of}
 use Rattle.vhdl_names_problems.specs.Interfaces as broken
 use Rattle.vhdl_names_problems.specs.Files.{placed_architectures, seen, with_entities, entities_given, described, file}
 use Rattle.vhdl_names_problems.proofs.Telling.{told_left, told_right}
@@ -43,23 +43,23 @@ module _ (f : File) (x : NameFault) where
   of_architectures = any_of (described (entities_given f.units)) (architectures_of f.units)
 
   twice_told : Tells twice x → Tells (file f) x
-  twice_told w = told_left twice (second ∪ before_entity ∪ of_entities ∪ of_architectures) x w
+  twice_told w = told_left twice (second ▸ before_entity ▸ of_entities ▸ of_architectures) x w
 
-  behind_twice : Tells (second ∪ before_entity ∪ of_entities ∪ of_architectures) x → Tells (file f) x
-  behind_twice w = told_right twice (second ∪ before_entity ∪ of_entities ∪ of_architectures) x w
+  behind_twice : Tells (second ▸ before_entity ▸ of_entities ▸ of_architectures) x → Tells (file f) x
+  behind_twice w = told_right twice (second ▸ before_entity ▸ of_entities ▸ of_architectures) x w
 
-  behind_second : Tells (before_entity ∪ of_entities ∪ of_architectures) x → Tells (file f) x
-  behind_second w = behind_twice (told_right second (before_entity ∪ of_entities ∪ of_architectures) x w)
+  behind_second : Tells (before_entity ▸ of_entities ▸ of_architectures) x → Tells (file f) x
+  behind_second w = behind_twice (told_right second (before_entity ▸ of_entities ▸ of_architectures) x w)
 
-  behind_names : Tells (of_entities ∪ of_architectures) x → Tells (file f) x
-  behind_names w = behind_second (told_right before_entity (of_entities ∪ of_architectures) x w)
+  behind_names : Tells (of_entities ▸ of_architectures) x → Tells (file f) x
+  behind_names w = behind_second (told_right before_entity (of_entities ▸ of_architectures) x w)
 
   pub outline_told : Tells (outline f.units) x → Tells (file f) x
   outline_told w =
-      told_either twice (second ∪ before_entity) (file f) x twice_told
+      told_either twice (second ▸ before_entity) (file f) x twice_told
       (told_either second before_entity (file f) x
-      (λ w. behind_twice (told_left second (before_entity ∪ of_entities ∪ of_architectures) x w))
-      (λ w. behind_second (told_left before_entity (of_entities ∪ of_architectures) x w))) w
+      (λ w. behind_twice (told_left second (before_entity ▸ of_entities ▸ of_architectures) x w))
+      (λ w. behind_second (told_left before_entity (of_entities ▸ of_architectures) x w))) w
 
   pub entities_told : Tells (entities f.units) x → Tells (file f) x
   entities_told w =

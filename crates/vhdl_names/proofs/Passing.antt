@@ -16,7 +16,7 @@ use Rattle.vhdl_names_rules.specs.Interfaces.{EntityView}
 use Rattle.vhdl_names_rules.specs.Files.{as_architecture, architectures_of}
 use Rattle.vhdl_names_rules.specs.Rules.{◌>>=◌}
 use Rattle.vhdl_names_labels.specs.Lists.{in_turn}
-use Rattle.vhdl_names_problems.specs.Broken.{Broken, Tells, nothing, ◌∪◌, any_of}
+use Rattle.vhdl_names_problems.specs.Broken.{Broken, Tells, nothing, ◌▸◌, any_of}
 use Rattle.vhdl_names_problems.specs.Files.{placed_architectures}
 use Rattle.vhdl_names_problems.proofs.Telling.{told_left, told_right, told_on}
 use Rattle.vhdl_names_instances.proofs.Told.{or_memory, told_along, told_nothing, told_either}
@@ -123,8 +123,8 @@ one_told us i d lt is b f w =
 
     by : (o : Option (List t.ContextItem × t.Architecture)) → Tells (any_of b (cons_option o [])) f → Tells (any_of b (cons_option o (architectures_of (map view.unit_view (drop (i + 1) us))))) f
     by None w = told_nothing (any_of b (architectures_of (map view.unit_view (drop (i + 1) us)))) f w
-    by (Some x) w = told_either (b x) nothing (b x ∪ any_of b (architectures_of (map view.unit_view (drop (i + 1) us)))) f
-        (told_left (b x) (any_of b (architectures_of (map view.unit_view (drop (i + 1) us)))) f) (told_nothing (b x ∪ any_of b (architectures_of (map view.unit_view (drop (i + 1) us)))) f) w
+    by (Some x) w = told_either (b x) nothing (b x ▸ any_of b (architectures_of (map view.unit_view (drop (i + 1) us)))) f
+        (told_left (b x) (any_of b (architectures_of (map view.unit_view (drop (i + 1) us)))) f) (told_nothing (b x ▸ any_of b (architectures_of (map view.unit_view (drop (i + 1) us)))) f) w
 
 -- ---- behind all units
 

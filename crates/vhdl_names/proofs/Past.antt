@@ -16,7 +16,7 @@ use Rattle.vhdl_names_rules.specs.Visibility.{Name, is_among, are_distinct}
 use Rattle.vhdl_names_rules.specs.Files.{as_architecture, entity_names, described_names, architectures_of, stands_after, stand_after}
 use Rattle.vhdl_names_rules.proofs.laws.Rules.{comes, kept, both, some_is}
 use Rattle.vhdl_names_labels.specs.Once.{one_name}
-use Rattle.vhdl_names_problems.specs.Broken.{Broken, Tells, ◌∪◌, unless}
+use Rattle.vhdl_names_problems.specs.Broken.{Broken, Tells, ◌▸◌, unless}
 use Rattle.vhdl_names_problems.specs.Files.{placed_architectures}
 use Rattle.vhdl_names_problems.proofs.Telling.{told_left, told_right}
 use Rattle.vhdl_names_instances.proofs.Taking.{repeated, then_is}
@@ -166,7 +166,7 @@ module _ (ds : List DesignUnit) (o : OutlineView) (items : List ContextItem) (re
   entity_told : (e : t.Entity) → Outlined ds o (of_entity e ∷ rest) → (f : NameFault) → Tells (one_unit o (t.LibraryUnit.entity e)) f → Tells (outline ds) f
   entity_told e x f =
       told_unless Twice (not (is_among e.name.text o.entities)) (outline ds) f
-      (λ h w. told_left (twice ds) (second ds ∪ before_entity ds) f
+      (λ h w. told_left (twice ds) (second ds ▸ before_entity ds) f
       (tells_unless Twice (are_distinct (entity_names ds)) f
       (ap (λ l. are_distinct (entity_names l)) (sym x.units) ∙ ap are_distinct (names-append x.before (of_entity e ∷ rest))
       ∙ repeated e.name.text (entity_names x.before) (entity_names rest) (sym (x.entities e.name.text) ∙ no_not (is_among e.name.text o.entities) h)) w))
@@ -175,13 +175,13 @@ module _ (ds : List DesignUnit) (o : OutlineView) (items : List ContextItem) (re
   architecture_told a x f =
       told_either (unless Undeclared (is_among n o.entities)) (unless SecondArchitecture (not (is_among n (names_of o.architectures)))) (outline ds) f
       (told_unless Undeclared (is_among n o.entities) (outline ds) f
-      (λ h w. told_right (twice ds) (second ds ∪ before_entity ds) f (told_right (second ds) (before_entity ds) f
+      (λ h w. told_right (twice ds) (second ds ▸ before_entity ds) f (told_right (second ds) (before_entity ds) f
       (tells_unless Undeclared (stand_after ds) f
       (placed_from [] ds ∙ ap (placed []) (sym x.units)
       ∙ not_behind [] x.before (of_architecture a ∷ rest)
       (ap (λ b. (b && true) && placed (entity_names x.before ++ []) rest) (sym (x.entities n) ∙ h))) w))))
       (told_unless SecondArchitecture (not (is_among n (names_of o.architectures))) (outline ds) f
-      (λ h w. told_right (twice ds) (second ds ∪ before_entity ds) f (told_left (second ds) (before_entity ds) f
+      (λ h w. told_right (twice ds) (second ds ▸ before_entity ds) f (told_left (second ds) (before_entity ds) f
       (tells_unless SecondArchitecture (are_distinct (described_names ds)) f
       (ap (λ l. are_distinct (described_names l)) (sym x.units) ∙ ap are_distinct (described-append x.before (of_architecture a ∷ rest))
       ∙ repeated n (described_names x.before) (described_names rest) (x.described n (no_not (is_among n (names_of o.architectures)) h))) w))))

@@ -1,3 +1,4 @@
 pub mod Breaking
+pub mod Finding
 pub mod Views
 pub mod steps

@@ -1,14 +1,18 @@
 -- What contracts see of a file's entities and architectures before they are analysed.
-use Rattle.std.specs.Prelude.{ℕ, List, map, Vec}
+use Rattle.std.specs.Prelude.{ℕ, Bool, ◌&&◌, nat_eq, List, map, Vec}
+use Rattle.std.specs.List.{list_any}
 use Rattle.std.specs.Global.{Global}
 use Rattle.indexmap.specs.IndexMap.{IndexMap}
 use Rattle.vhdl_tree.specs.Tree as t
-use Rattle.vhdl_tree.specs.Tree.{ContextItem}
+use Rattle.vhdl_tree.specs.Tree.{ContextItem, Ident}
 use Rattle.vhdl_tree.specs.View as tree
 use Rattle.vhdl_names_rules.specs.Visibility.{Name}
 use Rattle.vhdl_names_labels.specs.Once.{names_view}
+use Rattle.vhdl_names_interfaces.specs.Views.{entities_view}
+use Rattle.vhdl_names_problems.specs.Files as broken
 use Rattle.vhdl_names.specs.declared.outline.Described.{Described}
 use Rattle.vhdl_names.specs.declared.outline.Outline.{Outline}
+use Rattle.vhdl_names.specs.declared.tables.Given.{Given}
 
 -- an architecture behind its context items
 abbrev pub described_view : Described → List ContextItem × t.Architecture
@@ -31,3 +35,11 @@ pub record OutlineView : Type 0 where
 
 abbrev pub outline_view : Outline → OutlineView
 outline_view o = record { entities = names_view o.entities; architectures = architectures_view o.architectures }
+
+-- whether an entity of this name isn't given
+abbrev pub is_hidden : Given → Name → Bool
+is_hidden g = broken.is_hidden (names_view g.names.now) (entities_view g.entities.now)
+
+-- whether one of these identifiers stands at this byte and is such a name
+abbrev pub one_is_hidden : Given → ℕ → List Ident → Bool
+one_is_hidden g at is = list_any (λ i. nat_eq i.at at && is_hidden g i.text) is

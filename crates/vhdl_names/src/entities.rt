@@ -1,18 +1,21 @@
 //! The entities of a file (IEEE 1076-2008, 3.2 and 13.1).
 
-ghost use Rattle.std.specs.Prelude.{◌≡◌, ◌≢◌, IfErr, [], map, option_map};
-ghost use Rattle.vhdl_names_labels.specs.Lists.{in_turn};
-ghost use Rattle.vhdl_names.specs.Breaking as breaking;
+ghost use Rattle.std.specs.Prelude.{◌≡◌, ◌≢◌, IfOk, IfErr, [], ◌∷◌, map, filter_map, Some, option_map};
+ghost use Rattle.vhdl_names.specs.Finding.{Finds, HasMemory};
 ghost use Rattle.vhdl_names.specs.Views.{architectures_view};
 ghost use Rattle.vhdl_names.specs.steps.Entities as steps;
 ghost use Rattle.vhdl_names.specs.steps.Outlines.{described_of};
 ghost use Rattle.vhdl_names_interfaces.specs.Views.{entities_view};
-ghost use Rattle.vhdl_names_problems.specs.Broken.{Tells};
+ghost use Rattle.vhdl_names_problems.specs.Broken.{Tells, any_of};
+ghost use Rattle.vhdl_names_problems.specs.Files.{with_entities};
+ghost use Rattle.vhdl_names_problems.specs.Interfaces as broken;
+ghost use Rattle.vhdl_names_rules.specs.Files as rules;
 ghost use Rattle.vhdl_names_rules.specs.Gives.{Gives};
+ghost use Rattle.vhdl_names_rules.specs.Rules.{each};
 ghost use Rattle.vhdl_names_rules.specs.declared.fault.NameFault.TheVariants.{NoMemory};
-ghost use Rattle.vhdl_tree.specs.Tree as t;
 ghost use Rattle.vhdl_tree.specs.View as view;
 
+use crate::faults::first_of;
 use crate::outline::{Outline, architecture_of};
 use indexmap::IndexMap;
 use std::alloc::Global;
@@ -31,7 +34,7 @@ fn architecture_name<'a>(outline: &Outline<'a>, name: &[u8]) -> Option<&'a Ident
     }
 }
 
-/// One more entity behind its context items.
+/// One more entity behind its context items; of entities of one name the first alone.
 fn add_viewed<'a>(
     alloc: Global,
     entities: &mut Entities<'a>,
@@ -41,17 +44,19 @@ fn add_viewed<'a>(
 ) -> Result<(), NameFault>
     ensures given { Gives (λ _. entities_view entities.new) (steps.with_entity (architectures_view outline.now.architectures) (entities_view entities.old)
         (map view.context_view items.now) (view.entity_view tree.now)) result }
-    ensures told { IfErr result (Tells (breaking.one_entity (entities_view entities.old) (map view.context_view items.now)
-        (t.LibraryUnit.entity (view.entity_view tree.now)))) }
+    ensures told { IfErr result (Tells (broken.entity (map view.context_view items.now) (view.entity_view tree.now))) }
     ensures kept { IfErr result (λ f. f ≢ NoMemory → entities_view entities.new ≡ entities_view entities.old) }
 {
     let architecture = architecture_name(outline, &tree.name.text);
     let viewed = entity(alloc, items, tree, architecture)?;
+    if entities.contains_key(tree.name.text.as_slice()) {
+        return Ok(());
+    }
     add_entity(alloc, entities, viewed)
 }
 
 /// One more unit, which may be an entity.
-pub fn add_unit<'a>(
+fn add_unit<'a>(
     alloc: Global,
     entities: &mut Entities<'a>,
     outline: &Outline<'a>,
@@ -59,7 +64,7 @@ pub fn add_unit<'a>(
 ) -> Result<(), NameFault>
     ensures given { Gives (λ _. entities_view entities.new)
         (steps.with_unit (architectures_view outline.now.architectures) (entities_view entities.old) (view.unit_view unit.now)) result }
-    ensures told { IfErr result (Tells (breaking.one_entity (entities_view entities.old) (view.unit_view unit.now).context (view.unit_view unit.now).unit)) }
+    ensures told { IfErr result (Tells (any_of (λ e. broken.entity e.0 e.1) (rules.entities_of (view.unit_view unit.now ∷ [])))) }
     ensures kept { IfErr result (λ f. f ≢ NoMemory → entities_view entities.new ≡ entities_view entities.old) }
 {
     match &unit.unit {
@@ -68,19 +73,24 @@ pub fn add_unit<'a>(
     }
 }
 
-/// The entities of a file in order of the text, each with the name of its architecture. It takes
-/// memory for what is declared in each and analysed of it.
+/// The entities of a file in order of the text, each with the name of its architecture, but for those
+/// that are at fault, and of one name the first alone; and the first fault. It takes memory for what
+/// is declared in each and analysed of it.
 pub fn entities_of<'a>(
     alloc: Global,
     file: &'a File,
     outline: &Outline<'a>,
-) -> Result<Entities<'a>, NameFault>
-    ensures given { Gives entities_view (in_turn (steps.with_unit (architectures_view outline.now.architectures)) [] (view.units_view file.now.units)) result }
-    ensures told { IfErr result (Tells (breaking.entities (view.units_view file.now.units))) }
+) -> (Entities<'a>, Result<(), NameFault>)
+    ensures told { Finds (any_of (λ e. broken.entity e.0 e.1) (rules.entities_of (view.units_view file.now.units))) result.1 }
+    ensures all { IfOk result.1 (λ _. each (steps.viewed_by (architectures_view outline.now.architectures)) (rules.entities_of (view.units_view file.now.units))
+        ≡ Some (filter_map (steps.viewed_by (architectures_view outline.now.architectures)) (rules.entities_of (view.units_view file.now.units)))) }
+    ensures given { HasMemory result.1 → entities_view result.0
+        ≡ with_entities [] (filter_map (steps.viewed_by (architectures_view outline.now.architectures)) (rules.entities_of (view.units_view file.now.units))) }
 {
     let mut entities = IndexMap::new(alloc);
+    let mut told: Result<(), NameFault> = Ok(());
     for unit in &file.units {
-        add_unit(alloc, &mut entities, outline, unit)?;
+        told = first_of(told, add_unit(alloc, &mut entities, outline, unit));
     }
-    Ok(entities)
+    (entities, told)
 }

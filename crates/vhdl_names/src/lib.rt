@@ -3,16 +3,13 @@
 #![tactic(auto)]
 
 mod architectures;
+mod bodies;
 mod entities;
+mod faults;
 mod mentions;
 mod outline;
-mod refusal;
 mod tables;
 mod units;
 
-pub use architectures::architectures_of;
-pub use entities::entities_of;
-pub use outline::{Architectures, Described, Outline, architecture_of, outline_of};
-pub use tables::table;
 pub use units::analyse;
 pub use vhdl_names_rules::{NameFault, NameProblem};

@@ -1,18 +1,21 @@
 //! The entities and architectures of a file, before they are analysed (IEEE 1076-2008, 3.2, 3.3 and 13.1).
 
-ghost use Rattle.std.specs.Prelude.{◌≡◌, IfErr, OnErr, not, map, option_map, bytes_eq, find};
-ghost use Rattle.vhdl_names_labels.specs.Lists.{in_turn};
+ghost use Rattle.std.specs.Prelude.{◌≡◌, IfOk, IfErr, OnErr, not, [], map, Some, option_map};
 ghost use Rattle.vhdl_names_labels.specs.Once.{names_view};
 ghost use Rattle.vhdl_names.specs.Breaking as breaking;
+ghost use Rattle.vhdl_names.specs.Finding.{Finds, HasMemory};
 ghost use Rattle.vhdl_names.specs.Views.{described_view, outline_view, architectures_view};
 ghost use Rattle.vhdl_names.specs.steps.Outlines as steps;
 ghost use Rattle.vhdl_names_problems.specs.Broken.{Tells, unless};
+ghost use Rattle.vhdl_names_problems.specs.Files as broken;
+ghost use Rattle.vhdl_names_rules.specs.Files.{entity_names};
 ghost use Rattle.vhdl_names_rules.specs.Gives.{Gives};
-ghost use Rattle.vhdl_names_rules.specs.Visibility.{is_among};
+ghost use Rattle.vhdl_names_rules.specs.Visibility.{Name, is_among};
 ghost use Rattle.vhdl_names_rules.specs.declared.fault.NameProblem.TheVariants.{SecondArchitecture};
 ghost use Rattle.vhdl_tree.specs.Tree as t;
 ghost use Rattle.vhdl_tree.specs.View as view;
 
+use crate::faults::first_of;
 use indexmap::{IndexMap, IndexSet};
 use std::alloc::Global;
 use vhdl_names_instances::{Names, add_name};
@@ -43,8 +46,8 @@ fn add_described<'a>(
     described: Described<'a>,
 ) -> Result<(), NameFault>
     ensures given { Gives (λ _. architectures_view architectures.new) (steps.one_described (architectures_view architectures.old) (described_view described.entry)) result }
-    ensures told { IfErr result (Tells (unless SecondArchitecture (not (is_among (described_view described.entry).1.entity.text
-        (steps.names_of (architectures_view architectures.old)))))) }
+    ensures told { IfErr result (Tells (unless SecondArchitecture (described_view described.entry).1.entity.at
+        (not (is_among (described_view described.entry).1.entity.text (steps.names_of (architectures_view architectures.old)))))) }
     ensures kept { OnErr result (architectures_view architectures.new ≡ architectures_view architectures.old) }
 {
     let entity = &described.tree.entity;
@@ -91,7 +94,7 @@ fn add_architecture<'a>(
 }
 
 /// One more unit.
-pub fn add_unit<'a>(
+fn add_unit<'a>(
     alloc: Global,
     outline: &mut Outline<'a>,
     unit: &'a DesignUnit,
@@ -106,30 +109,25 @@ pub fn add_unit<'a>(
     }
 }
 
-/// The units of a file one after another.
-fn outline_in_turn<'a>(alloc: Global, file: &'a File) -> Result<Outline<'a>, NameFault>
-    ensures given { Gives outline_view (in_turn steps.with_unit steps.no_outline (view.units_view file.now.units)) result }
-    ensures told { IfErr result (Tells (breaking.outline (view.units_view file.now.units))) }
+/// The names of a file's entities, and its architectures, but for what is at fault; and the first
+/// fault: no two entities have one name, no two architectures are of one entity, and each stands
+/// after its entity. It takes the memory of the names.
+pub fn outline_of<'a>(alloc: Global, file: &'a File) -> (Outline<'a>, Result<(), NameFault>)
+    ensures told { Finds (broken.names [] (view.units_view file.now.units)) result.1 }
+    ensures given { IfOk result.1 (λ _. steps.outlined (view.units_view file.now.units) ≡ Some (outline_view result.0)) }
+    ensures names { HasMemory result.1 → (n : Name) → is_among n (names_view result.0.entities) ≡ is_among n (entity_names (view.units_view file.now.units)) }
+    ensures seen { HasMemory result.1 → (n : Name) → steps.described_of n (architectures_view result.0.architectures)
+        ≡ steps.described_of n (map steps.keyed (broken.placed_architectures (view.units_view file.now.units))) }
 {
     let mut outline = Outline {
         entities: IndexSet::new(alloc),
         architectures: IndexMap::new(alloc),
     };
+    let mut told: Result<(), NameFault> = Ok(());
     for unit in &file.units {
-        add_unit(alloc, &mut outline, unit)?;
+        told = first_of(told, add_unit(alloc, &mut outline, unit));
     }
-    Ok(outline)
-}
-
-/// The entities and architectures of a file: no two entities have one name, no two architectures
-/// are of one entity, and each stands after its entity. It fails at the first unit where that does
-/// not hold. It takes the memory of the names.
-#[tactic(auto, using(crate::proofs::Outlining::outlined_in_turn))]
-pub fn outline_of<'a>(alloc: Global, file: &'a File) -> Result<Outline<'a>, NameFault>
-    ensures given { Gives outline_view (steps.outlined (view.units_view file.now.units)) result }
-    ensures told { IfErr result (Tells (breaking.outline (view.units_view file.now.units))) }
-{
-    outline_in_turn(alloc, file)
+    (outline, told)
 }
 
 /// The architecture of the entity of a name, if the file has one.

@@ -9,9 +9,18 @@ ghost use Rattle.vhdl_names_rules.specs.Gives.{Gives};
 
 use indexmap::IndexSet;
 use std::alloc::Global;
-use vhdl_names_instances::{Formals, add_name, formals_of};
+use vhdl_names_instances::{Formals, InstanceEntities, Names, add_name, formals_of};
 use vhdl_names_interfaces::{Entities, EntityInterface};
 use vhdl_names_rules::NameFault;
+
+/// What the architectures of a file are read among: the names of its entities, the entities that are
+/// given, and these as instances see them.
+#[derive(Drop)]
+pub struct Given<'o, 'a> {
+    pub names: &'o Names,
+    pub entities: &'o Entities<'a>,
+    pub formals: &'o InstanceEntities,
+}
 
 /// What instances see of an entity.
 fn seen_of(alloc: Global, entity: &EntityInterface<'_>) -> Result<Formals, NameFault>
@@ -24,7 +33,7 @@ fn seen_of(alloc: Global, entity: &EntityInterface<'_>) -> Result<Formals, NameF
 /// One more entity, under a name that none before it has.
 fn add_seen(
     alloc: Global,
-    table: &mut vhdl_names_instances::InstanceEntities,
+    table: &mut InstanceEntities,
     name: &[u8],
     entity: &EntityInterface<'_>,
 ) -> Result<(), NameFault>
@@ -41,11 +50,11 @@ fn add_seen(
 pub fn table(
     alloc: Global,
     entities: &Entities<'_>,
-) -> Result<vhdl_names_instances::InstanceEntities, NameFault>
+) -> Result<InstanceEntities, NameFault>
     ensures { Gives table_view (Some (steps.table_of (entities_view entities.now))) result }
 {
     let _apart = entities.len();
-    let mut table = vhdl_names_instances::InstanceEntities {
+    let mut table = InstanceEntities {
         names: IndexSet::new(alloc),
         formals: Vec::new(alloc),
     };

@@ -1,5 +1,5 @@
 -- Lists compared in pairs, from the first on.
-use Rattle.std.proofs.Common.{◌≡◌, ℕ, ◌<◌, ◌≤◌, Bool, true, false, ◌&&◌, List, [], ◌∷◌, map, drop, refl, ◌∙◌}
+use Rattle.std.proofs.Common.{◌≡◌, ℕ, Bool, true, false, ◌&&◌, List, map, drop, refl}
 use Rattle.vhdl_names_rules.specs.SameText.{same_each}
 
 pub and_false : (b : Bool) → (b && false) ≡ false

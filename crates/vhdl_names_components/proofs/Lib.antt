@@ -1,6 +1,5 @@
 pub mod Alike
 pub mod Chained
 pub mod Forms
-pub mod Naming
 pub mod Telling
 pub mod Standing

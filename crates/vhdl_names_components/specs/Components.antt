@@ -1,16 +1,10 @@
 -- A component's own region, and what is analysed of a declaration.
-use Rattle.std.specs.Prelude.{List, [], ◌∷◌, ◌++◌, flat_map, Option, Some, None}
+use Rattle.std.specs.Prelude.{List, [], ◌∷◌, ◌++◌, Option, Some, None}
 use Rattle.vhdl_tree.specs.Tree as t
 use Rattle.vhdl_names_rules.specs.units.Units as u
 use Rattle.vhdl_names_rules.specs.Rules.{◌>>=◌}
-use Rattle.vhdl_names_rules.specs.Visibility.{Name, Declared, Sight, declare, unfinished, with_declared}
-use Rattle.vhdl_names_rules.specs.Interfaces.{EntityView, interface}
-use Rattle.vhdl_names_rules.specs.Files as rules
-use Rattle.vhdl_names_rules.specs.laws.Regions.{names_in}
-use Rattle.vhdl_names_problems.specs.Broken.{Broken, ◌∪◌}
-use Rattle.vhdl_names_problems.specs.Declarations.{in_order}
-use Rattle.vhdl_names_problems.specs.Files.{declaration}
-use Rattle.vhdl_names_declarations.specs.Standing.{standing_twice}
+use Rattle.vhdl_names_rules.specs.Visibility.{Name, Declared, Sight, declare, unfinished}
+use Rattle.vhdl_names_rules.specs.Interfaces.{interface}
 use Rattle.vhdl_names_declarations.specs.Entered.{more}
 use Rattle.vhdl_names_units.specs.declared.declaration.Declaration.{Declaration}
 use Rattle.vhdl_names_units.specs.views.Declarations.{declaration_view}
@@ -31,8 +25,3 @@ is_new ds n = more ds (declare n unfinished ∷ []) >>= λ _. Some tt
 abbrev pub analysed_view : Option Declaration → List u.Declaration
 analysed_view None = []
 analysed_view (Some d) = declaration_view d
-
--- which rules declarations one after another break, each name of which enters the region
-abbrev pub declarations_broken : List EntityView → Sight → List t.Declaration → Broken
-declarations_broken entities sight ds =
-    in_order with_declared (rules.declaration entities) (declaration entities) sight ds ∪ standing_twice sight.region (flat_map names_in ds)

@@ -1,7 +1,7 @@
 //! The declarations of an architecture (IEEE 1076-2008, 3.3.2).
 
 ghost use Rattle.std.specs.Prelude.{◌≡◌, ◌++◌, [], map, OnOk, IfErr};
-ghost use Rattle.vhdl_names_components.specs.Components.{analysed_view, declarations_broken};
+ghost use Rattle.vhdl_names_components.specs.Components.{analysed_view};
 ghost use Rattle.vhdl_names_declarations.specs.Counts.{AreCounts};
 ghost use Rattle.vhdl_names_declarations.specs.Entered.{entering};
 ghost use Rattle.vhdl_names_interfaces.specs.Views.{entities_view};
@@ -12,10 +12,9 @@ ghost use Rattle.vhdl_names_rules.specs.Visibility.{with_declared};
 ghost use Rattle.vhdl_tree.specs.View as tree;
 ghost use Rattle.vhdl_names_types.specs.Views.{region_view, sight_view};
 ghost use Rattle.vhdl_names_units.specs.views.Declarations.{declarations_view};
-ghost use Rattle.vhdl_names_problems.specs.Broken.{Tells, ◌∪◌};
+ghost use Rattle.vhdl_names_problems.specs.Broken.{Tells};
+ghost use Rattle.vhdl_names_problems.specs.Declarations as declarations_broken;
 ghost use Rattle.vhdl_names_problems.specs.Files as broken;
-ghost use Rattle.vhdl_names_rules.specs.laws.Regions.{names_in};
-ghost use Rattle.vhdl_names_declarations.specs.Standing.{standing_twice};
 
 use crate::components::component;
 use std::alloc::{AllocError, Global};
@@ -43,8 +42,7 @@ fn declaration(
     ensures given { Gives (λ d. (sight_view sight.new, analysed_view d))
         (entering (rules.declaration (entities_view entities.now)) (sight_view sight.old) (tree.declaration_view one.now)) result }
     ensures outermost { OnOk result (region_view sight.new.enclosing ≡ []) }
-    ensures told { IfErr result (Tells (broken.declaration (entities_view entities.now) (sight_view sight.old) (tree.declaration_view one.now)
-        ∪ standing_twice (sight_view sight.old).region (names_in (tree.declaration_view one.now)))) }
+    ensures told { IfErr result (Tells (broken.declaration (entities_view entities.now) (sight_view sight.old) (tree.declaration_view one.now))) }
 {
     match one {
         syntax::Declaration::Signals(one) => {
@@ -92,7 +90,8 @@ pub fn declarations(
     ensures given { Gives (λ v. (sight_view sight.new, declarations_view v))
         (entering (in_order with_declared (rules.declaration (entities_view entities.now))) (sight_view sight.old) (map tree.declaration_view all.now)) result }
     ensures outermost { OnOk result (region_view sight.new.enclosing ≡ []) }
-    ensures told { IfErr result (Tells (declarations_broken (entities_view entities.now) (sight_view sight.old) (map tree.declaration_view all.now))) }
+    ensures told { IfErr result (Tells (declarations_broken.in_order with_declared (rules.declaration (entities_view entities.now)) (broken.declaration (entities_view entities.now)) (sight_view sight.old)
+        (map tree.declaration_view all.now))) }
 {
     let mut done = Vec::new(alloc);
     let _apart = sight.region.len();

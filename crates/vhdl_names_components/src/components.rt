@@ -10,11 +10,11 @@ ghost use Rattle.vhdl_names_rules.specs.Rules.{rule};
 ghost use Rattle.vhdl_names_rules.specs.SameText.{same_generics, same_ports};
 ghost use Rattle.vhdl_names_rules.specs.declared.fault.NameFault.TheVariants.{At};
 ghost use Rattle.vhdl_names_rules.specs.declared.fault.NameProblem.TheVariants.{Twice, WrongKind};
-ghost use Rattle.vhdl_tree.specs.View.{component_view, option_generics_view, option_ports_view};
+ghost use Rattle.vhdl_tree.specs.View.{component_view, ident_view, option_generics_view, option_ports_view};
 ghost use Rattle.vhdl_names_types.specs.Views.{region_view, sight_view};
-ghost use Rattle.vhdl_names_problems.specs.Broken.{Tells, ◌∪◌, is_of, unless};
+ghost use Rattle.vhdl_names_problems.specs.Broken.{Tells, unless};
 ghost use Rattle.vhdl_names_problems.specs.Interfaces as broken;
-ghost use Rattle.vhdl_names_declarations.specs.Standing.{standing_twice};
+ghost use Rattle.vhdl_names_problems.specs.Declarations.{standing_twice};
 
 use crate::interfaces::has_interface;
 use std::alloc::Global;
@@ -29,7 +29,7 @@ use vhdl_tree::{Component, Entity, Identifier};
 fn is_new(region: &Region, name: &Identifier) -> Result<(), NameFault>
     ensures given { Gives (λ x. x) (spec.is_new (region_view region.now) name.now.text.items) result }
     ensures fault { IfErr result (λ f. f ≡ At Twice name.now.at) }
-    ensures told { IfErr result (Tells (is_of (Twice ∷ []))) }
+    ensures told { IfErr result (Tells (standing_twice (region_view region.now) (ident_view name.now ∷ []))) }
 {
     let _apart = region.len();
     if region.contains_key(name.text.as_slice()) {
@@ -44,7 +44,7 @@ fn is_entity(component: &Component, entity: &Entity) -> Result<(), NameFault>
     ensures given { Gives (λ x. x) (rule WrongKind (same_generics (option_generics_view component.now.generics) (option_generics_view entity.now.generics)
         && same_ports (option_ports_view component.now.ports) (option_ports_view entity.now.ports))) result }
     ensures fault { IfErr result (λ f. f ≡ At WrongKind component.now.name.at) }
-    ensures told { IfErr result (Tells (unless WrongKind (same_generics (option_generics_view component.now.generics) (option_generics_view entity.now.generics)
+    ensures told { IfErr result (Tells (unless WrongKind component.now.name.at (same_generics (option_generics_view component.now.generics) (option_generics_view entity.now.generics)
         && same_ports (option_ports_view component.now.ports) (option_ports_view entity.now.ports)))) }
 {
     if has_interface(component, entity) {
@@ -84,8 +84,7 @@ pub fn component(
     ensures given { Gives (λ _. (sight_view sight.new, []))
         (entering (rules.component (entities_view entities.now)) (sight_view sight.old) (component_view component.now)) result }
     ensures outermost { OnOk result (region_view sight.new.enclosing ≡ []) }
-    ensures told { IfErr result (Tells (broken.component (entities_view entities.now) (sight_view sight.old) (component_view component.now)
-        ∪ standing_twice (sight_view sight.old).region ((component_view component.now).name.text ∷ []))) }
+    ensures told { IfErr result (Tells (broken.component (entities_view entities.now) (sight_view sight.old) (component_view component.now))) }
 {
     let name = &component.name;
     is_new(&sight.region, name)?;

@@ -18,7 +18,7 @@ use Rattle.vhdl_names_rules.specs.Declarations as declarations
 use Rattle.vhdl_names_rules.specs.Interfaces.{EntityView, declared_names}
 use Rattle.vhdl_names_rules.specs.Statements.{statement_labels}
 use Rattle.vhdl_names_rules.specs.Concurrent.{sight_within, concurrent_labels}
-use Rattle.vhdl_names_problems.specs.Broken.{Broken, Tells, ◌∪◌, is_of, unless, where_given, any_of}
+use Rattle.vhdl_names_problems.specs.Broken.{Broken, Tells, ◌▸◌, is_of, unless, where_given, any_of}
 use Rattle.vhdl_names_problems.specs.Declarations.{in_order, variables}
 use Rattle.vhdl_names_problems.specs.Statements.{statements}
 use Rattle.vhdl_names_problems.specs.Concurrent as broken
@@ -68,22 +68,22 @@ module _ (sight : Sight) (label : Option Ident) (p : t.Process) (f : NameFault) 
   ended = unless WrongKind (label_ends label p.end_label)
 
   pub process_resumed : Tells resumed f → Tells (broken.process sight label p) f
-  process_resumed h = told_left resumed (declares ∪ (names_twice ∪ (labels_twice ∪ (does ∪ ended)))) f h
+  process_resumed h = told_left resumed (declares ▸ (names_twice ▸ (labels_twice ▸ (does ▸ ended)))) f h
 
-  behind : Tells (declares ∪ (names_twice ∪ (labels_twice ∪ (does ∪ ended)))) f → Tells (broken.process sight label p) f
-  behind h = told_right resumed (declares ∪ (names_twice ∪ (labels_twice ∪ (does ∪ ended)))) f h
+  behind : Tells (declares ▸ (names_twice ▸ (labels_twice ▸ (does ▸ ended)))) f → Tells (broken.process sight label p) f
+  behind h = told_right resumed (declares ▸ (names_twice ▸ (labels_twice ▸ (does ▸ ended)))) f h
 
-  twice : Tells (names_twice ∪ (labels_twice ∪ (does ∪ ended))) f → Tells (broken.process sight label p) f
-  twice h = behind (told_right declares (names_twice ∪ (labels_twice ∪ (does ∪ ended))) f h)
+  twice : Tells (names_twice ▸ (labels_twice ▸ (does ▸ ended))) f → Tells (broken.process sight label p) f
+  twice h = behind (told_right declares (names_twice ▸ (labels_twice ▸ (does ▸ ended))) f h)
 
-  inside : Tells (labels_twice ∪ (does ∪ ended)) f → Tells (broken.process sight label p) f
-  inside h = twice (told_right names_twice (labels_twice ∪ (does ∪ ended)) f h)
+  inside : Tells (labels_twice ▸ (does ▸ ended)) f → Tells (broken.process sight label p) f
+  inside h = twice (told_right names_twice (labels_twice ▸ (does ▸ ended)) f h)
 
-  pub process_variables : sight.variables ≡ [] → Tells (declares ∪ standing_twice sight.variables (variable_names p.variables)) f → Tells (broken.process sight label p) f
+  pub process_variables : sight.variables ≡ [] → Tells (declares ▸ standing_twice sight.variables (variable_names p.variables)) f → Tells (broken.process sight label p) f
   process_variables none h =
       told_either declares (standing_twice sight.variables (variable_names p.variables)) (broken.process sight label p) f h
-      (λ k. behind (told_left declares (names_twice ∪ (labels_twice ∪ (does ∪ ended))) f k))
-      (λ k. twice (told_left names_twice (labels_twice ∪ (does ∪ ended)) f
+      (λ k. behind (told_left declares (names_twice ▸ (labels_twice ▸ (does ▸ ended))) f k))
+      (λ k. twice (told_left names_twice (labels_twice ▸ (does ▸ ended)) f
       (told_along (standing_twice sight.variables (variable_names p.variables)) names_twice f (ap (λ ds. standing_twice ds (variable_names p.variables)) none) k)))
 
   -- what is in sight behind the variables
@@ -109,11 +109,11 @@ module _ (sight : Sight) (label : Option Ident) (p : t.Process) (f : NameFault) 
       → Tells (broken.process sight label p) f
   process_body entered vs e h =
       told_either labels_twice (statements entered (t.statements_of p.statements)) (broken.process sight label p) f h
-      (λ k. inside (told_left labels_twice (does ∪ ended) f k))
-      (λ k. inside (told_right labels_twice (does ∪ ended) f (told_left does ended f (within entered vs e k))))
+      (λ k. inside (told_left labels_twice (does ▸ ended) f k))
+      (λ k. inside (told_right labels_twice (does ▸ ended) f (told_left does ended f (within entered vs e k))))
 
   pub process_ends : Tells ended f → Tells (broken.process sight label p) f
-  process_ends h = inside (told_right labels_twice (does ∪ ended) f (told_right does ended f h))
+  process_ends h = inside (told_right labels_twice (does ▸ ended) f (told_right does ended f h))
 
 -- ---- concurrent statements
 
@@ -121,7 +121,7 @@ module _ (es : List EntityView) (sight : Sight) where
   pub concurrents_any : (cs : List t.Concurrent) → any_of (broken.concurrent es sight) cs ≡ broken.concurrents es sight (t.concurrents_of cs)
   unfolding broken.concurrents
   concurrents_any [] = refl
-  concurrents_any (x ∷ cs) = ap (λ b. broken.concurrent es sight x ∪ b) (concurrents_any cs)
+  concurrents_any (x ∷ cs) = ap (λ b. broken.concurrent es sight x ▸ b) (concurrents_any cs)
 
   pub selected_is : (label : Option Ident) (a : t.SelectedAssignment) → broken.selected sight a ≡ broken.concurrent es sight (t.selected label a)
   unfolding broken.concurrent
@@ -143,11 +143,11 @@ module _ (es : List EntityView) (sight : Sight) where
       let d = unless Twice (are_distinct (concurrent_labels (t.concurrents_of cs))) in
       let b = broken.concurrents es (sight_within sight k) (t.concurrents_of cs) in
       let e = unless WrongKind (ends (tree.ident_view (out-Generate g).label).text (tree.option_ident_view (out-Generate g).end_label)) in
-      told_along (s ∪ (d ∪ (b ∪ e))) (broken.concurrent es sight (tree.concurrent_view (c.Generate g))) f (sym (ap (broken.concurrent es sight) (generate_is g)))
-      (told_either s ((d ∪ b) ∪ e) (s ∪ (d ∪ (b ∪ e))) f h (λ x. told_left s (d ∪ (b ∪ e)) f x)
-      (λ x. told_right s (d ∪ (b ∪ e)) f (told_either (d ∪ b) e (d ∪ (b ∪ e)) f x
-      (λ y. told_either d b (d ∪ (b ∪ e)) f y (λ z. told_left d (b ∪ e) f z) (λ z. told_right d (b ∪ e) f (told_left b e f z)))
-      (λ y. told_right d (b ∪ e) f (told_right b e f y)))))
+      told_along (s ▸ (d ▸ (b ▸ e))) (broken.concurrent es sight (tree.concurrent_view (c.Generate g))) f (sym (ap (broken.concurrent es sight) (generate_is g)))
+      (told_either s ((d ▸ b) ▸ e) (s ▸ (d ▸ (b ▸ e))) f h (λ x. told_left s (d ▸ (b ▸ e)) f x)
+      (λ x. told_right s (d ▸ (b ▸ e)) f (told_either (d ▸ b) e (d ▸ (b ▸ e)) f x
+      (λ y. told_either d b (d ▸ (b ▸ e)) f y (λ z. told_left d (b ▸ e) f z) (λ z. told_right d (b ▸ e) f (told_left b e f z)))
+      (λ y. told_right d (b ▸ e) f (told_right b e f y)))))
 
 -- one of a list, in whose sight what is in sight is the same
 pub concurrents_told : (es : List EntityView) (sight entered : Sight) (xs : List Concurrent) (i : ℕ) (x : Concurrent) (f : NameFault) → i < length xs → x ≡ get_or xs i x

@@ -1,41 +1,27 @@
 -- What is told of a declaration, or of a name that stands twice, is told of the list of declarations that it stands in.
-use Rattle.std.proofs.Common.{◌≡◌, ◌≢◌, ℕ, suc, ◌+◌, ◌<◌, Bool, true, false, ◌||◌, List, [], ◌∷◌, ◌++◌, map, flat_map, length, drop, get_or, Option, Some, None, Result, Ok, Err, IfErr, refl, sym, ap, subst, ◌∙◌, true≢false, append_assoc, arith}
+use Rattle.std.proofs.Common.{◌≡◌, ◌≢◌, ℕ, suc, ◌+◌, ◌<◌, cond, Bool, true, false, List, [], ◌∷◌, ◌++◌, map, length, drop, get_or, Option, Some, None, Result, Ok, Err, IfErr, refl, sym, ap, subst, ◌∙◌, append_assoc, append-nil, arith}
 use Rattle.std.specs.Prelude.{IsErrAnd, option_map, is_none, is_some}
 use Rattle.std.proofs.Math.Seq.{drop-cons}
+use Rattle.vhdl_tree.specs.Tree as t
+use Rattle.vhdl_tree.specs.Tree.{Ident}
 use Rattle.vhdl_names_rules.specs.declared.fault.NameFault.{NameFault}
 use Rattle.vhdl_names_rules.specs.declared.fault.NameFault.TheVariants.{At, NoMemory}
-use Rattle.vhdl_names_rules.specs.declared.fault.NameProblem.{NameProblem}
 use Rattle.vhdl_names_rules.specs.declared.fault.NameProblem.TheVariants.{Twice}
 use Rattle.vhdl_names_rules.specs.Rules.{◌>>=◌, met}
-use Rattle.vhdl_names_rules.specs.Visibility.{Name, Declared, Sight, Declares, are_distinct}
+use Rattle.vhdl_names_rules.specs.Visibility.{Name, Declared, Sight, Declares, names_of, is_among, are_distinct}
 use Rattle.vhdl_names_rules.specs.Interfaces.{declared_names}
+use Rattle.vhdl_names_rules.specs.Declarations.{single_expression}
 use Rattle.vhdl_names_rules.proofs.laws.Rules.{comes, kept}
-use Rattle.vhdl_names_problems.specs.Broken.{Broken, Tells, ◌∪◌, is, is_of, unless, where_given}
-use Rattle.vhdl_names_problems.specs.Declarations.{in_order}
-use Rattle.vhdl_names_problems.proofs.Telling.{told_left, told_right, told_given, is_same}
+use Rattle.vhdl_names_problems.specs.Broken.{Broken, Tells, refused, where_given}
+use Rattle.vhdl_names_problems.specs.Twice.{twice}
+use Rattle.vhdl_names_problems.specs.Expressions.{static}
+use Rattle.vhdl_names_problems.specs.Declarations.{in_order, standing_twice, integer_value}
+use Rattle.vhdl_names_problems.proofs.Telling.{IsKept, told_same, told_left, told_right, told_given, at_is_told}
+use Rattle.vhdl_names_problems.proofs.kept.Twice.{apart, twice_kept}
 use Rattle.vhdl_names_declarations.specs.Entered.{more}
-use Rattle.vhdl_names_declarations.specs.Standing.{standing_twice}
-use Rattle.vhdl_names_declarations.proofs.Regions.{names-append, still_twice}
-use Rattle.vhdl_names_declarations.proofs.Turns.{not_more}
+use Rattle.vhdl_names_declarations.proofs.Regions.{names-append}
+use Rattle.vhdl_names_declarations.proofs.Turns.{has_more, more_is}
 use Rattle.vhdl_names_declarations.proofs.Orders.{pair, first_is}
-
--- ---- one rule
-
-is_told : NameFault → Bool
-is_told (At p at) = true
-is_told NoMemory = false
-
-at_is_told : (p : NameProblem) (at : ℕ) → At p at ≢ NoMemory
-unfolding is_told
-at_is_told p at e = true≢false (ap is_told e)
-
-or_false : (b : Bool) → (b || false) ≡ true → b ≡ true
-or_false true h = refl
-or_false false h = h
-
-pub told_unless : (q : NameProblem) (holds : Bool) (f : NameFault) → (f ≢ NoMemory → holds ≡ false) → Tells (is_of (q ∷ [])) f → Tells (unless q holds) f
-told_unless q holds (At p at) fails h = ap (λ b. unless q b p) (fails (at_is_told p at)) ∙ or_false (is p q) h
-told_unless q holds NoMemory fails h = tt
 
 -- a fault that can only be for want of memory
 pub told_never : {A : Type 0} (b : Broken) (o : Option A) (x : A) (f : NameFault) → o ≡ Some x → (f ≢ NoMemory → o ≡ None) → Tells b f
@@ -45,15 +31,6 @@ told_never b o x (At p at) is none = absurd (no_value x (sym is ∙ none (at_is_
     no_value x e = cc
 told_never b o x NoMemory is none = tt
 
-pub told_either : (a b c : Broken) (f : NameFault) → (Tells a f → Tells c f) → (Tells b f → Tells c f) → Tells (a ∪ b) f → Tells c f
-unfolding ◌∪◌
-told_either a b c (At p at) left right h = go (a p) refl h
-  where
-    go : (x : Bool) → a p ≡ x → (x || b p) ≡ true → c p ≡ true
-    go true e h = left e
-    go false e h = right h
-told_either a b c NoMemory left right h = tt
-
 -- a fault that is passed on
 pub passed_on : {X : Type 0} (b : Broken) (fault : NameFault) (P : NameFault → Type 0) (r : Result X NameFault) → IsErrAnd r P →
     ((e : NameFault) → P e → e ≡ fault) → Tells b fault → IfErr r (Tells b)
@@ -62,76 +39,112 @@ passed_on b fault P (Err e) h same told = subst (Tells b) (sym (same e h)) told
 
 -- ---- names that stand twice
 
-pub twice_told : (ds es : List Declared) (ns : List Name) (f : NameFault) → (f ≢ NoMemory → more ds es ≡ None) → declared_names es ≡ ns →
-    Tells (is_of (Twice ∷ [])) f → Tells (standing_twice ds ns) f
-twice_told ds es ns f none names told =
-    told_unless Twice (are_distinct (declared_names ds ++ ns)) f
-    (λ n. ap (λ l. are_distinct (declared_names ds ++ l)) (sym names) ∙ ap are_distinct (sym (names-append ds es)) ∙ not_more ds es (none n)) told
+-- a name that is among those before it
+pub twice_here : (names : List Name) (i : Ident) (is : List Ident) → is_among i.text names ≡ true → twice names (i ∷ is) ≡ refused Twice i.at
+twice_here names i is h = ap (λ b. cond b (refused Twice i.at) (twice (names ++ i.text ∷ []) is)) h
 
-pub unless_false : (q : NameProblem) (b c : Bool) (f : NameFault) → (b ≡ false → c ≡ false) → Tells (unless q b) f → Tells (unless q c) f
-unless_false q true c (At p at) more h = absurd (true≢false (sym h))
-unless_false q false c (At p at) more h = ap (λ b. unless q b p) (more refl) ∙ h
-unless_false q b c NoMemory more h = tt
+-- of one name nothing else is told
+pub twice_alone : (names : List Name) (i : Ident) (f : NameFault) → Tells (twice names (i ∷ [])) f → Tells (refused Twice i.at) f
+twice_alone names i NoMemory h = tt
+twice_alone names i (At p at) h = go (is_among i.text names) h
+  where
+    go : (b : Bool) → cond b (refused Twice i.at) (twice (names ++ i.text ∷ []) []) ≡ Some (p, at) → refused Twice i.at ≡ Some (p, at)
+    go true h = h
+    go false h = absurd cc
 
 -- among more names
-pub twice_more : (ds : List Declared) (ns ms : List Name) (f : NameFault) → Tells (standing_twice ds ns) f → Tells (standing_twice ds (ns ++ ms)) f
-twice_more ds ns ms f =
-    unless_false Twice (are_distinct (declared_names ds ++ ns)) (are_distinct (declared_names ds ++ (ns ++ ms))) f
-    (λ h. ap are_distinct (sym (append_assoc (declared_names ds) ns ms)) ∙ still_twice (declared_names ds ++ ns) ms h)
+pub twice_more : (names : List Name) (is js : List Ident) (f : NameFault) → Tells (twice names is) f → Tells (twice names (is ++ js)) f
+twice_more names is js NoMemory h = tt
+twice_more names [] js (At p at) h = absurd cc
+twice_more names (i ∷ is) js (At p at) h = go (is_among i.text names) (λ k. twice_more (names ++ i.text ∷ []) is js (At p at) k) h
+  where
+    go : (b : Bool) → (twice (names ++ i.text ∷ []) is ≡ Some (p, at) → twice (names ++ i.text ∷ []) (is ++ js) ≡ Some (p, at)) →
+        cond b (refused Twice i.at) (twice (names ++ i.text ∷ []) is) ≡ Some (p, at) → cond b (refused Twice i.at) (twice (names ++ i.text ∷ []) (is ++ js)) ≡ Some (p, at)
+    go true more h = h
+    go false more h = more h
 
--- of which some have entered the region
-pub twice_entered : (ds es : List Declared) (ns ms : List Name) (f : NameFault) → declared_names es ≡ ns → Tells (standing_twice (ds ++ es) ms) f → Tells (standing_twice ds (ns ++ ms)) f
-twice_entered ds es ns ms f names =
-    subst (λ l. Tells (standing_twice (ds ++ es) ms) f → Tells (unless Twice (are_distinct l)) f)
-    (ap (λ l. l ++ ms) (names-append ds es ∙ ap (λ l. declared_names ds ++ l) names) ∙ append_assoc (declared_names ds) ns ms) (λ h. h)
+-- behind names that stand once
+twice_behind : (names : List Name) (is js : List Ident) → are_distinct (names ++ names_of is) ≡ true → twice names (is ++ js) ≡ twice (names ++ names_of is) js
+twice_behind names [] js e = ap (λ ns. twice ns js) (sym (append-nil names))
+twice_behind names (i ∷ is) js e =
+    ap (λ b. cond b (refused Twice i.at) (twice (names ++ i.text ∷ []) (is ++ js))) (apart names i.text (names_of is) e)
+    ∙ twice_behind (names ++ i.text ∷ []) is js (ap are_distinct (append_assoc names (i.text ∷ []) (names_of is)) ∙ e)
+    ∙ ap (λ ns. twice ns js) (append_assoc names (i.text ∷ []) (names_of is))
+
+-- declarations of these names, which enter a region
+module _ (ds es : List Declared) (is : List Ident) (names : declared_names es ≡ names_of is) where
+  distinct_by : (b : Bool) → are_distinct (declared_names (ds ++ es)) ≡ b → are_distinct (declared_names ds ++ names_of is) ≡ b
+  distinct_by b h = ap (λ l. are_distinct (declared_names ds ++ l)) (sym names) ∙ ap are_distinct (sym (names-append ds es)) ∙ h
+
+  pub distinct_once : are_distinct (declared_names (ds ++ es)) ≡ true → IsKept (standing_twice ds is)
+  distinct_once h = twice_kept (declared_names ds) is (distinct_by true h)
+
+  module _ (r : List Declared) (h : more ds es ≡ Some r) where
+    pub standing_once : IsKept (standing_twice ds is)
+    standing_once = distinct_once (has_more ds es r h)
+
+    pub standing_behind : (js : List Ident) → standing_twice ds (is ++ js) ≡ standing_twice r js
+    standing_behind js =
+        twice_behind (declared_names ds) is js (distinct_by true (has_more ds es r h))
+        ∙ ap (λ ns. twice ns js) (ap (λ l. declared_names ds ++ l) (sym names) ∙ sym (names-append ds es) ∙ ap declared_names (sym (more_is ds es r h)))
+
+-- ---- one thing of several that are left
+
+pub from_one : {C A : Type 0} (view : C → A) (cs : List C) (i : ℕ) (c : C) → i < length cs → c ≡ get_or cs i c → map view (drop i cs) ≡ view c ∷ map view (drop (i + 1) cs)
+from_one view cs i c lt is =
+    let n : suc i ≡ i + 1 = omega arith in
+    ap (map view) (drop-cons cs i c lt) ∙ ap (λ k. view k ∷ map view (drop (suc i) cs)) (sym is) ∙ ap (λ j. view c ∷ map view (drop j cs)) n
+
+-- names that are declared one after another
+module _ {C : Type 0} (view : C → Ident) (cs : List C) (i : ℕ) (c : C) (lt : i < length cs) (is : c ≡ get_or cs i c) (ds : List Declared) where
+  pub name_told : (f : NameFault) → Tells (standing_twice ds (view c ∷ [])) f → Tells (standing_twice ds (map view (drop i cs))) f
+  name_told f h =
+      told_same (standing_twice ds (view c ∷ map view (drop (i + 1) cs))) (standing_twice ds (map view (drop i cs))) f (ap (standing_twice ds) (sym (from_one view cs i c lt is)))
+      (twice_more (declared_names ds) (view c ∷ []) (map view (drop (i + 1) cs)) f h)
+
+  pub name_behind : (d : Declared) (r : List Declared) → d.name ≡ (view c).text → more ds (d ∷ []) ≡ Some r → standing_twice ds (map view (drop i cs)) ≡ standing_twice r (map view (drop (i + 1) cs))
+  name_behind d r same h =
+      ap (standing_twice ds) (from_one view cs i c lt is) ∙ standing_behind ds (d ∷ []) (view c ∷ []) (ap (λ n. n ∷ []) same) r h (map view (drop (i + 1) cs))
 
 -- ---- declarations one after another
 
-module _ (region : Sight → List Declared) (with_more : Sight → List Declared → Sight) (grows : (s : Sight) (ds : List Declared) → region (with_more s ds) ≡ region s ++ ds)
-    {A B : Type 0} (declares : Sight → A → Option (Declares B)) (broken : Sight → A → Broken) (names : A → List Name)
-    (named : (s : Sight) (a : A) (x : Declares B) → declares s a ≡ Some x → declared_names x.declared ≡ names a) where
-  abbrev pub all_broken : Sight → List A → Broken
-  all_broken s as' = in_order with_more declares broken s as' ∪ standing_twice (region s) (flat_map names as')
-
+module _ (region : Sight → List Declared) (with_more : Sight → List Declared → Sight) {A B : Type 0} (declares : Sight → A → Option (Declares B)) (broken : Sight → A → Broken)
+    (one_kept : (s : Sight) (a : A) (x : Declares B) → declares s a ≡ Some x → are_distinct (declared_names (region s ++ x.declared)) ≡ true → IsKept (broken s a)) where
   abbrev after : Sight → A → List A → Broken
   after s a as' = where_given (declares s a) (λ x. in_order with_more declares broken (with_more s x.declared) as')
 
-  pub told_first : (s : Sight) (a : A) (as' : List A) (f : NameFault) → Tells (broken s a ∪ standing_twice (region s) (names a)) f → Tells (all_broken s (a ∷ as')) f
-  told_first s a as' f =
-      told_either (broken s a) (standing_twice (region s) (names a)) (all_broken s (a ∷ as')) f
-      (λ h. told_left (in_order with_more declares broken s (a ∷ as')) (standing_twice (region s) (flat_map names (a ∷ as'))) f (told_left (broken s a) (after s a as') f h))
-      (λ h. told_right (in_order with_more declares broken s (a ∷ as')) (standing_twice (region s) (flat_map names (a ∷ as'))) f (twice_more (region s) (names a) (flat_map names as') f h))
-
-  pub told_next : (s : Sight) (a : A) (as' : List A) (x : Declares B) (f : NameFault) → declares s a ≡ Some x → Tells (all_broken (with_more s x.declared) as') f → Tells (all_broken s (a ∷ as')) f
-  told_next s a as' x f is =
-      told_either (in_order with_more declares broken (with_more s x.declared) as') (standing_twice (region (with_more s x.declared)) (flat_map names as')) (all_broken s (a ∷ as')) f
-      (λ h. told_left (in_order with_more declares broken s (a ∷ as')) (standing_twice (region s) (flat_map names (a ∷ as'))) f
-      (told_right (broken s a) (after s a as') f (told_given (λ x. in_order with_more declares broken (with_more s x.declared) as') (declares s a) x f is h)))
-      (λ h. told_right (in_order with_more declares broken s (a ∷ as')) (standing_twice (region s) (flat_map names (a ∷ as'))) f
-      (twice_entered (region s) x.declared (names a) (flat_map names as') f (named s a x is)
-      (subst (λ l. Tells (standing_twice l (flat_map names as')) f) (grows s x.declared) h)))
-
   module _ {C : Type 0} (view : C → A) where
     pub told_at : (s : Sight) (cs : List C) (i : ℕ) (c : C) (f : NameFault) → i < length cs → c ≡ get_or cs i c →
-        Tells (broken s (view c) ∪ standing_twice (region s) (names (view c))) f → Tells (all_broken s (map view (drop i cs))) f
+        Tells (broken s (view c)) f → Tells (in_order with_more declares broken s (map view (drop i cs))) f
     told_at s cs i c f lt is h =
-        subst (λ l. Tells (all_broken s (map view l)) f) (sym (drop-cons cs i c lt ∙ ap (λ k. k ∷ drop (suc i) cs) (sym is))) (told_first s (view c) (map view (drop (suc i) cs)) f h)
+        subst (λ l. Tells (in_order with_more declares broken s l) f) (sym (from_one view cs i c lt is)) (told_left (broken s (view c)) (after s (view c) (map view (drop (i + 1) cs))) f h)
 
     pub told_behind : (s t : Sight) (cs : List C) (i : ℕ) (c : C) (ys : List B) (f : NameFault) → i < length cs → c ≡ get_or cs i c →
         (declares s (view c) >>= λ x. (met (are_distinct (declared_names (region s ++ x.declared))) >>= λ _. Some (pair (with_more s x.declared) x.analysed))) ≡ Some (pair t ys) →
-        Tells (all_broken t (map view (drop (i + 1) cs))) f → Tells (all_broken s (map view (drop i cs))) f
+        Tells (in_order with_more declares broken t (map view (drop (i + 1) cs))) f → Tells (in_order with_more declares broken s (map view (drop i cs))) f
     told_behind s t cs i c ys f lt is given h =
-        let n : i + 1 ≡ suc i = omega arith in
         let x = comes (declares s (view c)) (λ x. met (are_distinct (declared_names (region s ++ x.declared))) >>= λ _. Some (pair (with_more s x.declared) x.analysed)) (pair t ys) given in
         let k = kept (are_distinct (declared_names (region s ++ x.value.declared))) (Some (pair (with_more s x.value.declared) x.value.analysed)) (pair t ys) x.rest in
         let same = first_is (with_more s x.value.declared) t x.value.analysed ys k.1 in
-        subst (λ l. Tells (all_broken s (map view l)) f) (sym (drop-cons cs i c lt ∙ ap (λ k. k ∷ drop (suc i) cs) (sym is)))
-        (told_next s (view c) (map view (drop (suc i) cs)) x.value f x.is
-        (subst (λ j. Tells (all_broken (with_more s x.value.declared) (map view (drop j cs))) f) n
-        (subst (λ r. Tells (all_broken r (map view (drop (i + 1) cs))) f) (sym same) h)))
+        subst (λ l. Tells (in_order with_more declares broken s l) f) (sym (from_one view cs i c lt is))
+        (told_right (broken s (view c)) (after s (view c) (map view (drop (i + 1) cs))) f (one_kept s (view c) x.value x.is k.0)
+        (told_given (λ x. in_order with_more declares broken (with_more s x.declared) (map view (drop (i + 1) cs))) (declares s (view c)) x.value f x.is
+        (subst (λ r. Tells (in_order with_more declares broken r (map view (drop (i + 1) cs))) f) (sym same) h)))
 
 -- ---- what must not stand there
 
-pub stands_there : {A B : Type 0} (view : A → B) (q : NameProblem) (o : Option A) → is_some o ≡ true → unless q (is_none (option_map view o)) q ≡ true
-stands_there view q None h = absurd (true≢false (sym h))
-stands_there view q (Some x) h = is_same q
+pub stands_there : {A B : Type 0} (view : A → B) (o : Option A) → is_some o ≡ true → is_none (option_map view o) ≡ false
+stands_there view None h = absurd cc
+stands_there view (Some x) h = refl
+
+pub not_there : {A B : Type 0} (view : A → B) (o : Option A) → is_some o ≡ false → is_none (option_map view o) ≡ true
+not_there view None h = refl
+not_there view (Some x) h = absurd cc
+
+-- the value of an integer constant, once it is one expression
+pub value_is : (s : Sight) (v : t.Value) (e : t.Expr) → single_expression v ≡ Some e → static s e ≡ integer_value s v
+value_is s (t.single d) e h = ap (λ x. static s x) (by h)
+  where
+    by : Some d ≡ Some e → e ≡ d
+    by h = cc
+value_is s (t.others at d) e h = absurd cc

@@ -1,64 +1,64 @@
 -- What is told of one context item is told of the clauses that it begins.
-use Rattle.std.proofs.Common.{◌≡◌, ℕ, ◌+◌, ◌<◌, suc, Bool, true, false, not, ◌&&◌, ◌||◌, List, [], ◌∷◌, map, length, drop, get_or, Option, Some, None, refl, sym, ap, subst, ◌∙◌, true≢false, arith}
-use Rattle.std.specs.Prelude.{bytes_eq, codes}
+use Rattle.std.proofs.Common.{◌≡◌, ℕ, ◌+◌, ◌<◌, Bool, true, false, not, ◌&&◌, ◌||◌, List, [], ◌∷◌, map, length, drop, get_or, Option, Some, None, refl, sym, ap, subst, ◌∙◌}
 use Rattle.std.specs.List.{list_any, list_all}
-use Rattle.std.proofs.Math.Seq.{drop-cons}
-use Rattle.vhdl_tree.specs.Tree.{Ident, Selected, ContextItem, library, uses}
+use Rattle.vhdl_tree.specs.Tree.{Selected, ContextItem, library, uses}
 use Rattle.vhdl_names_rules.specs.declared.fault.NameFault.{NameFault}
-use Rattle.vhdl_names_rules.specs.declared.fault.NameFault.TheVariants.{At, NoMemory}
+use Rattle.vhdl_names_rules.specs.declared.fault.NameFault.TheVariants.{At}
 use Rattle.vhdl_names_rules.specs.declared.fault.NameProblem.TheVariants.{Undeclared, LeftOut}
 use Rattle.vhdl_names_rules.specs.Rules.{◌>>=◌, met}
 use Rattle.vhdl_names_rules.specs.Packages as packages
-use Rattle.vhdl_names_rules.specs.Packages.{Context, is_library, is_logic, is_numbers}
-use Rattle.vhdl_names_problems.specs.Broken.{Broken, Tells, nothing, ◌∪◌, unless, where_given}
-use Rattle.vhdl_names_problems.specs.Declarations.{context}
-use Rattle.vhdl_names_problems.proofs.Telling.{told_left, told_right, told_given}
-use Rattle.vhdl_names_declarations.specs.Standing.{used}
-use Rattle.vhdl_names_declarations.proofs.Breaking.{told_either, unless_false}
+use Rattle.vhdl_names_rules.specs.Packages.{Context, is_ieee, is_library, is_logic, is_numbers}
+use Rattle.vhdl_names_problems.specs.Broken.{Broken, Tells, nothing, ◌▸◌, unless, where_given, any_of}
+use Rattle.vhdl_names_problems.specs.Declarations.{context, library_named, package_used, packages_used}
+use Rattle.vhdl_names_problems.proofs.Telling.{IsKept, told_same, told_left, told_right, told_given, behind_kept, unless_kept, kept_left}
+use Rattle.vhdl_names_problems.proofs.kept.Declarations.{packages_kept, context_kept}
+use Rattle.vhdl_names_declarations.proofs.Breaking.{from_one}
 
--- nothing is told of what breaks nothing
-no_more : {A : Type 0} (o : Option A) (b : Broken) (f : NameFault) → Tells (where_given o (λ _. nothing)) f → Tells b f
-no_more None b (At p at) h = absurd (true≢false (sym h))
-no_more (Some x) b (At p at) h = absurd (true≢false (sym h))
-no_more o b NoMemory h = tt
+-- ---- what one item breaks
+
+abbrev pub broken_by : Context → ContextItem → Broken
+broken_by before (library ns) = any_of library_named ns
+broken_by before (uses ss) = packages_used before ss
 
 abbrev later : Context → ContextItem → List ContextItem → Broken
 later before item rest = where_given (packages.context before (item ∷ [])) (λ c. context c rest)
 
-abbrev has_library : Context → Broken
-has_library before = unless Undeclared before.has_ieee
+in_turn : (before : Context) (item : ContextItem) (rest : List ContextItem) → (broken_by before item ▸ later before item rest) ≡ context before (item ∷ rest)
+in_turn before (library ns) rest = refl
+in_turn before (uses ss) rest = refl
 
-abbrev are_offered : List Selected → Broken
-are_offered ss = unless LeftOut (list_all (λ s. is_logic s || is_numbers s) ss)
+before_nothing : (b : Broken) (o : Option Context) → (b ▸ where_given o (λ c. context c [])) ≡ b
+unfolding ◌▸◌
+before_nothing None None = refl
+before_nothing None (Some c) = refl
+before_nothing (Some x) o = refl
 
-pub library_told : (before : Context) (ns : List Ident) (rest : List ContextItem) (f : NameFault) → Tells (unless LeftOut (list_all is_library ns)) f → Tells (context before (library ns ∷ rest)) f
-library_told before ns rest f = told_left (unless LeftOut (list_all is_library ns)) (later before (library ns) rest) f
+pub alone : (before : Context) (item : ContextItem) → context before (item ∷ []) ≡ broken_by before item
+alone before item = sym (in_turn before item []) ∙ before_nothing (broken_by before item) (packages.context before (item ∷ []))
 
-pub used_told : (before : Context) (ss : List Selected) (rest : List ContextItem) (f : NameFault) → Tells (used before ss) f → Tells (context before (uses ss ∷ rest)) f
-used_told before ss rest f =
-    told_either (has_library before) (are_offered ss) (context before (uses ss ∷ rest)) f
-    (told_left (has_library before) (are_offered ss ∪ later before (uses ss) rest) f)
-    (λ h. told_right (has_library before) (are_offered ss ∪ later before (uses ss) rest) f (told_left (are_offered ss) (later before (uses ss) rest) f h))
+-- ---- items that are given
 
-pub told_item : (before : Context) (item : ContextItem) (rest : List ContextItem) (f : NameFault) → Tells (context before (item ∷ [])) f → Tells (context before (item ∷ rest)) f
-told_item before (library ns) rest f =
-    told_either (unless LeftOut (list_all is_library ns)) (later before (library ns) []) (context before (library ns ∷ rest)) f
-    (told_left (unless LeftOut (list_all is_library ns)) (later before (library ns) rest) f)
-    (no_more (packages.context before (library ns ∷ [])) (context before (library ns ∷ rest)) f)
-told_item before (uses ss) rest f =
-    told_either (has_library before) (are_offered ss ∪ later before (uses ss) []) (context before (uses ss ∷ rest)) f
-    (told_left (has_library before) (are_offered ss ∪ later before (uses ss) rest) f)
-    (told_either (are_offered ss) (later before (uses ss) []) (context before (uses ss ∷ rest)) f
-    (λ h. told_right (has_library before) (are_offered ss ∪ later before (uses ss) rest) f (told_left (are_offered ss) (later before (uses ss) rest) f h))
-    (no_more (packages.context before (uses ss ∷ [])) (context before (uses ss ∷ rest)) f))
+abbrev pub is_offered : Selected → Bool
+is_offered s = is_logic s || is_numbers s
 
-pub told_items : (before c : Context) (item : ContextItem) (rest : List ContextItem) (f : NameFault) → packages.context before (item ∷ []) ≡ Some c →
+pub package_kept : (before : Context) (s : Selected) → before.has_ieee ≡ true → is_offered s ≡ true → IsKept (package_used before s)
+package_kept before s has offered = kept_left (package_used before s) nothing (packages_kept before (s ∷ []) has (ap (λ b. b && true) offered))
+
+item_kept : (before c : Context) (item : ContextItem) → packages.context before (item ∷ []) ≡ Some c → IsKept (broken_by before item)
+item_kept before c item h = sym (alone before item) ∙ context_kept (item ∷ []) before c h
+
+-- ---- what is told
+
+told_item : (before : Context) (item : ContextItem) (rest : List ContextItem) (f : NameFault) → Tells (context before (item ∷ [])) f → Tells (context before (item ∷ rest)) f
+told_item before item rest f h =
+    told_same (broken_by before item ▸ later before item rest) (context before (item ∷ rest)) f (in_turn before item rest)
+    (told_left (broken_by before item) (later before item rest) f (told_same (context before (item ∷ [])) (broken_by before item) f (alone before item) h))
+
+told_items : (before c : Context) (item : ContextItem) (rest : List ContextItem) (f : NameFault) → packages.context before (item ∷ []) ≡ Some c →
     Tells (context c rest) f → Tells (context before (item ∷ rest)) f
-told_items before c (library ns) rest f is h =
-    told_right (unless LeftOut (list_all is_library ns)) (later before (library ns) rest) f (told_given (λ c. context c rest) (packages.context before (library ns ∷ [])) c f is h)
-told_items before c (uses ss) rest f is h =
-    told_right (has_library before) (are_offered ss ∪ later before (uses ss) rest) f
-    (told_right (are_offered ss) (later before (uses ss) rest) f (told_given (λ c. context c rest) (packages.context before (uses ss ∷ [])) c f is h))
+told_items before c item rest f is h =
+    told_same (broken_by before item ▸ later before item rest) (context before (item ∷ rest)) f (in_turn before item rest)
+    (told_right (broken_by before item) (later before item rest) f (item_kept before c item is) (told_given (λ c. context c rest) (packages.context before (item ∷ [])) c f is h))
 
 -- one item after another
 pub item_then : (before : Context) (item : ContextItem) (rest : List ContextItem) → packages.context before (item ∷ rest) ≡ (packages.context before (item ∷ []) >>= λ c. packages.context c rest)
@@ -81,10 +81,8 @@ item_then before (uses ss) rest = go before.has_ieee (list_all (λ s. is_logic s
     go false b = refl
 
 module _ {C : Type 0} (view : C → ContextItem) (cs : List C) (i : ℕ) (item : C) (lt : i < length cs) (is : item ≡ get_or cs i item) where
-  from_item : map view (drop i cs) ≡ view item ∷ map view (drop (i + 1) cs)
-  from_item =
-      let n : suc i ≡ i + 1 = omega arith in
-      ap (map view) (drop-cons cs i item lt) ∙ ap (λ k. view k ∷ map view (drop (suc i) cs)) (sym is) ∙ ap (λ j. view item ∷ map view (drop j cs)) n
+  abbrev from_item : map view (drop i cs) ≡ view item ∷ map view (drop (i + 1) cs)
+  from_item = from_one view cs i item lt is
 
   pub item_fails : (c : Context) → packages.context c (view item ∷ []) ≡ None → packages.context c (map view (drop i cs)) ≡ None
   item_fails c h = ap (packages.context c) from_item ∙ item_then c (view item) (map view (drop (i + 1) cs)) ∙ ap (λ o. o >>= λ d. packages.context d (map view (drop (i + 1) cs))) h
@@ -98,45 +96,50 @@ module _ {C : Type 0} (view : C → ContextItem) (cs : List C) (i : ℕ) (item :
   pub items_told : (c d : Context) (f : NameFault) → packages.context c (view item ∷ []) ≡ Some d → Tells (context d (map view (drop (i + 1) cs))) f → Tells (context c (map view (drop i cs))) f
   items_told c d f given h = subst (λ l. Tells (context c l) f) (sym from_item) (told_items c d (view item) (map view (drop (i + 1) cs)) f given h)
 
--- ---- why a use clause names no package that is offered
+-- ---- a clause, name by name
 
 pub not_false : (b : Bool) → not b ≡ false → b ≡ true
 not_false true h = refl
-not_false false h = absurd (true≢false h)
-
-pub no_library : (before : Context) (ss : List Selected) (at : ℕ) → before.has_ieee ≡ false → Tells (used before ss) (At Undeclared at)
-no_library before ss at h = told_left (has_library before) (are_offered ss) (At Undeclared at) (ap (λ b. unless Undeclared b Undeclared) h)
-
-module _ (before : Context) (s : Selected) (at : ℕ) where
-  left_out : (is_logic s || is_numbers s) ≡ false → Tells (used before (s ∷ [])) (At LeftOut at)
-  left_out h = told_right (has_library before) (are_offered (s ∷ [])) (At LeftOut at) (ap (λ b. unless LeftOut (b && true) LeftOut) h)
-
-  pub not_ieee : packages.is_ieee s.library ≡ false → Tells (used before (s ∷ [])) (At LeftOut at)
-  not_ieee h =
-      left_out (ap (λ b. (b && bytes_eq s.name.text (codes "std_logic_1164")) || (b && bytes_eq s.name.text (codes "numeric_std"))) h)
-
-  pub not_offered : before.has_ieee ≡ true → (before.has_ieee && (is_logic s || is_numbers s)) ≡ false → Tells (used before (s ∷ [])) (At LeftOut at)
-  not_offered h k = left_out (ap (λ b. b && (is_logic s || is_numbers s)) (sym h) ∙ k)
-
--- ---- a use clause, package by package
-
-and_true : (b : Bool) → (b && true) ≡ false → b ≡ false
-and_true true h = h
-and_true false h = refl
-
-abbrev is_offered : Selected → Bool
-is_offered s = is_logic s || is_numbers s
-
-pub used_at : {C : Type 0} (view : C → Selected) (cs : List C) (i : ℕ) (c : C) (before : Context) (f : NameFault) → i < length cs → c ≡ get_or cs i c →
-    list_all is_offered (map view cs) ≡ list_all is_offered (map view (drop i cs)) → Tells (used before (view c ∷ [])) f → Tells (used before (map view cs)) f
-used_at view cs i c before f lt is left =
-    told_either (has_library before) (are_offered (view c ∷ [])) (used before (map view cs)) f
-    (told_left (has_library before) (are_offered (map view cs)) f)
-    (λ h. told_right (has_library before) (are_offered (map view cs)) f
-    (unless_false LeftOut (is_offered (view c) && true) (list_all is_offered (map view cs)) f
-    (λ none. left ∙ ap (λ l. list_all is_offered (map view l)) (drop-cons cs i c lt) ∙ ap (λ k. is_offered (view k) && list_all is_offered (map view (drop (suc i) cs))) (sym is)
-    ∙ ap (λ b. b && list_all is_offered (map view (drop (suc i) cs))) (and_true (is_offered (view c)) none)) h))
+not_false false h = absurd cc
 
 pub neither_offered : (has offered : Bool) → offered ≡ false → (has && offered) ≡ false
 neither_offered true offered h = h
 neither_offered false offered h = refl
+
+module _ {A C : Type 0} (b : A → Broken) (view : C → A) (cs : List C) (i : ℕ) (c : C) (lt : i < length cs) (is : c ≡ get_or cs i c) where
+  pub one_told : (f : NameFault) → any_of b (map view cs) ≡ any_of b (map view (drop i cs)) → Tells (b (view c)) f → Tells (any_of b (map view cs)) f
+  one_told f left h =
+      told_same (any_of b (map view (drop i cs))) (any_of b (map view cs)) f (sym left)
+      (told_same (b (view c) ▸ any_of b (map view (drop (i + 1) cs))) (any_of b (map view (drop i cs))) f (sym (ap (any_of b) (from_one view cs i c lt is)))
+      (told_left (b (view c)) (any_of b (map view (drop (i + 1) cs))) f h))
+
+  pub one_behind : IsKept (b (view c)) → any_of b (map view (drop i cs)) ≡ any_of b (map view (drop (i + 1) cs))
+  one_behind kept = ap (any_of b) (from_one view cs i c lt is) ∙ behind_kept (b (view c)) (any_of b (map view (drop (i + 1) cs))) kept
+
+  pub one_passes : (p : A → Bool) → p (view c) ≡ true → list_all p (map view (drop i cs)) ≡ list_all p (map view (drop (i + 1) cs))
+  one_passes p h = ap (list_all p) (from_one view cs i c lt is) ∙ ap (λ t. t && list_all p (map view (drop (i + 1) cs))) h
+
+-- why a package isn't one that is offered
+module _ (before : Context) (s : Selected) where
+  abbrev in_ieee : Broken
+  in_ieee = unless LeftOut s.library.at (is_ieee s.library)
+
+  abbrev has_library : Broken
+  has_library = unless Undeclared s.library.at before.has_ieee
+
+  abbrev offered : Broken
+  offered = unless LeftOut s.name.at (is_offered s)
+
+  pub not_ieee : is_ieee s.library ≡ false → Tells (package_used before s) (At LeftOut s.library.at)
+  not_ieee h = told_left in_ieee (has_library ▸ offered) (At LeftOut s.library.at) (ap (unless LeftOut s.library.at) h)
+
+  pub no_library : is_ieee s.library ≡ true → before.has_ieee ≡ false → Tells (package_used before s) (At Undeclared s.library.at)
+  no_library h k =
+      told_right in_ieee (has_library ▸ offered) (At Undeclared s.library.at) (unless_kept LeftOut s.library.at (is_ieee s.library) h)
+      (told_left has_library offered (At Undeclared s.library.at) (ap (unless Undeclared s.library.at) k))
+
+  pub not_offered : is_ieee s.library ≡ true → before.has_ieee ≡ true → (before.has_ieee && is_offered s) ≡ false → Tells (package_used before s) (At LeftOut s.name.at)
+  not_offered h k none =
+      told_right in_ieee (has_library ▸ offered) (At LeftOut s.name.at) (unless_kept LeftOut s.library.at (is_ieee s.library) h)
+      (told_right has_library offered (At LeftOut s.name.at) (unless_kept Undeclared s.library.at before.has_ieee k)
+      (ap (unless LeftOut s.name.at) (ap (λ b. b && is_offered s) (sym k) ∙ none)))

@@ -14,8 +14,10 @@ use Rattle.vhdl_names_rules.specs.units.Expressions.{Static}
 use Rattle.vhdl_names_rules.specs.units.Units as u
 use Rattle.vhdl_names_rules.specs.declared.fault.NameFault.TheVariants.{At}
 use Rattle.vhdl_names_rules.specs.declared.fault.NameProblem.TheVariants.{LeftOut}
-use Rattle.vhdl_names_problems.specs.Broken.{Tells}
+use Rattle.vhdl_names_problems.specs.Broken.{Tells, unless}
 use Rattle.vhdl_names_problems.specs.Declarations as broken
+use Rattle.vhdl_names_problems.specs.Declarations.{standing_twice}
+use Rattle.vhdl_names_problems.proofs.Telling.{told_left, behind_kept}
 use Rattle.vhdl_names_rules.specs.Rules.{◌>>=◌, met, if_any}
 use Rattle.vhdl_names_rules.specs.Visibility as visibility
 use Rattle.vhdl_names_rules.specs.Visibility.{Name, Meaning, Declared, Sight, Declares, declare, meaning, names_of, count_of, with_declared, are_distinct, numbered}
@@ -74,8 +76,15 @@ pub too_many : (s : Sight) (d : t.Enumeration) → 256 < length d.literals → e
 unfolding enumeration
 too_many s d h = let t : nat_le (length d.literals) 256 ≡ false = grind (arith, nat_tests) in rw t refl
 
-pub too_many_told : (d : t.Enumeration) (at : ℕ) → 256 < length d.literals → Tells (broken.enumeration d) (At LeftOut at)
-too_many_told d at h = let t : nat_le (length d.literals) 256 ≡ false = grind (arith, nat_tests) in rw t refl
+pub too_many_told : (s : Sight) (d : t.Enumeration) → 256 < length d.literals → Tells (broken.enumeration s d) (At LeftOut d.name.at)
+too_many_told s d h =
+    let t : nat_le (length d.literals) 256 ≡ false = grind (arith, nat_tests) in
+    told_left (unless LeftOut d.name.at (nat_le (length d.literals) 256)) (standing_twice s.region (d.name ∷ d.literals)) (At LeftOut d.name.at) (ap (unless LeftOut d.name.at) t)
+
+pub few_enough : (s : Sight) (d : t.Enumeration) → length d.literals ≤ 256 → broken.enumeration s d ≡ standing_twice s.region (d.name ∷ d.literals)
+few_enough s d h =
+    let t : nat_le (length d.literals) 256 ≡ true = grind (arith, nat_tests) in
+    behind_kept (unless LeftOut d.name.at (nat_le (length d.literals) 256)) (standing_twice s.region (d.name ∷ d.literals)) (ap (unless LeftOut d.name.at) t)
 
 abbrev pub in_region : Sight → List Declared → Option (Sight × List u.Declaration)
 in_region s r = Some (record s { region = r }, [])

@@ -5,7 +5,6 @@ pub mod Labelling
 pub mod Listed
 pub mod Classes
 pub mod Clauses
-pub mod Naming
 pub mod Orders
 pub mod Regions
 pub mod Turns

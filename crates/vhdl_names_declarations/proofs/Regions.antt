@@ -1,7 +1,7 @@
 -- Names of a region, and declarations that enter it.
-use Rattle.std.proofs.Common.{◌≡◌, ℕ, zero, suc, ◌+◌, ◌<◌, ◌≤◌, Bool, true, false, cond, not, ◌&&◌, ◌||◌, List, [], ◌∷◌, ◌++◌, map, length, take, drop, get_or, Option, Some, None, Vec, Global, refl, sym, ap, ◌∙◌, true≢false, append_assoc, append-nil, arith}
-use Rattle.std.specs.Prelude.{option_map, bytes_eq, is_some}
-use Rattle.std.specs.List.{list_any, IsDistinct, AllByRecursion}
+use Rattle.std.proofs.Common.{◌≡◌, ℕ, zero, suc, ◌+◌, ◌<◌, ◌≤◌, Bool, true, false, cond, not, ◌&&◌, ◌||◌, List, [], ◌∷◌, ◌++◌, map, length, drop, get_or, Option, Some, None, Vec, Global, refl, sym, ap, ◌∙◌, true≢false, append_assoc, append-nil, arith}
+use Rattle.std.specs.Prelude.{bytes_eq, is_some}
+use Rattle.std.specs.List.{IsDistinct, AllByRecursion}
 use Rattle.std.specs.Map.{lookup, keys_of}
 use Rattle.std.proofs.lemmas.Map.Keys.{IsDistinct-head, IsDistinct-tail}
 use Rattle.std.proofs.Math.Seq.{drop-cons}

@@ -1,5 +1,5 @@
 -- A declaration of several names: its names enter the region, and what they mean is known thereafter.
-use Rattle.std.proofs.Common.{◌≡◌, ℕ, suc, ◌+◌, ◌≤◌, Bool, true, false, List, [], ◌∷◌, ◌++◌, map, length, take, drop, Option, Some, None, Vec, Global, refl, sym, ap, ◌∙◌, append_assoc, append-nil, arith}
+use Rattle.std.proofs.Common.{◌≡◌, ℕ, ◌≤◌, Bool, true, false, List, ◌++◌, map, length, drop, Option, Some, None, Vec, Global, refl, sym, ap, ◌∙◌, arith}
 use Rattle.std.proofs.Math.Seq.{take-append_seam, drop-append_seam}
 use Rattle.vhdl_names_rules.specs.Rules.{◌>>=◌, met}
 use Rattle.vhdl_names_rules.specs.Visibility as visibility
@@ -42,7 +42,7 @@ not_more ds es h = go (are_distinct (declared_names (ds ++ es))) h
     go true h = cc
     go false h = refl
 
-has_more : (ds es r : List Declared) → more ds es ≡ Some r → are_distinct (declared_names (ds ++ es)) ≡ true
+pub has_more : (ds es r : List Declared) → more ds es ≡ Some r → are_distinct (declared_names (ds ++ es)) ≡ true
 has_more ds es r h = go (are_distinct (declared_names (ds ++ es))) h
   where
     go : (b : Bool) → (met b >>= λ _. Some (ds ++ es)) ≡ Some r → b ≡ true

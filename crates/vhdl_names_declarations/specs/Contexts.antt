@@ -3,7 +3,7 @@ use Rattle.std.specs.Prelude.{◌||◌, List, Option, Some}
 use Rattle.std.specs.List.{list_any, list_all}
 use Rattle.vhdl_tree.specs.Tree.{Ident, Selected}
 use Rattle.vhdl_names_rules.specs.declared.fault.NameProblem.TheVariants.{Undeclared, LeftOut}
-use Rattle.vhdl_names_rules.specs.Rules.{◌>>=◌, ◌>>◌, rule}
+use Rattle.vhdl_names_rules.specs.Rules.{◌>>◌, rule}
 use Rattle.vhdl_names_rules.specs.Packages as p
 use Rattle.vhdl_names_declarations.specs.declared.context.Context.{Context}
 

@@ -1,9 +1,14 @@
 -- Declarations that enter a region, in which no name is declared twice (IEEE 1076-2008, 12.1).
-use Rattle.std.specs.Prelude.{List, ◌++◌, Option, Some}
+use Rattle.std.specs.Prelude.{ℕ, List, ◌++◌, Option, Some}
+use Rattle.vhdl_tree.specs.Tree.{Ident}
 use Rattle.vhdl_names_rules.specs.declared.fault.NameProblem.TheVariants.{Twice}
 use Rattle.vhdl_names_rules.specs.Rules.{◌>>=◌, ◌>>◌, rule}
-use Rattle.vhdl_names_rules.specs.Visibility.{Declared, Sight, Declares, are_distinct, with_declared, with_variables}
+use Rattle.vhdl_names_rules.specs.Visibility.{Name, Declared, Sight, Declares, are_distinct, with_declared, with_variables}
 use Rattle.vhdl_names_rules.specs.Interfaces.{declared_names}
+
+-- a name at a byte
+abbrev pub ident : ℕ → Name → Ident
+ident at n = record { at = at; text = n }
 
 -- a region with further declarations
 abbrev pub more : List Declared → List Declared → Option (List Declared)

@@ -4,5 +4,4 @@ pub mod Counts
 pub mod Entered
 pub mod Rows
 pub mod Settled
-pub mod Standing
 pub mod Typed

@@ -7,16 +7,14 @@ ghost use Rattle.vhdl_names_declarations.specs.Settled.{class_view};
 ghost use Rattle.vhdl_names_rules.specs.Declarations as rules;
 ghost use Rattle.vhdl_names_rules.specs.Gives.{Gives};
 ghost use Rattle.vhdl_names_rules.specs.Subtypes.{declaring_literal};
+ghost use Rattle.vhdl_names_rules.specs.Visibility as visibility;
 ghost use Rattle.vhdl_names_rules.specs.Visibility.{count_of, is_constant, is_integer_constant};
 ghost use Rattle.vhdl_tree.specs.View as tree;
 ghost use Rattle.vhdl_names_types.specs.Views.{meaning_view, sight_view};
 ghost use Rattle.vhdl_names_units.specs.views.Answers.{fixed_view};
 ghost use Rattle.vhdl_names_units.specs.views.Declarations.{declaration_view};
-ghost use Rattle.vhdl_names_problems.specs.Broken.{Tells, ◌∪◌, is_of};
+ghost use Rattle.vhdl_names_problems.specs.Broken.{Tells};
 ghost use Rattle.vhdl_names_problems.specs.Declarations as broken;
-ghost use Rattle.vhdl_names_problems.specs.Expressions as expressions_broken;
-ghost use Rattle.vhdl_names_rules.specs.Visibility.{names_of};
-ghost use Rattle.vhdl_names_declarations.specs.Standing.{standing_twice, constants_broken};
 
 use crate::class::ObjectClass;
 use crate::names::copied_names;
@@ -40,7 +38,7 @@ pub enum Constant {
 /// The value of an integer constant is one expression; `(others => e)` is a TypeMismatch.
 fn single_expression(value: &Value) -> Result<&Expr, NameFault>
     ensures given { Gives (λ e. tree.view e.now) (rules.single_expression (tree.value_view value.now)) result }
-    ensures told { IfErr result (Tells (is_of expressions_broken.mismatch)) }
+    ensures told { IfErr result (λ f. (inner : visibility.Sight) → Tells (broken.integer_value inner (tree.value_view value.now)) f) }
 {
     match value {
         Value::Expr(e) => Ok(e),
@@ -94,7 +92,7 @@ fn typed_constant(
     declaration: &Constants,
 ) -> Result<Constant, NameFault>
     ensures given { Gives typed.constant_view (typed.constant (sight_view sight.now) (tree.constants_view declaration.now)) result }
-    ensures told { IfErr result (Tells (constants_broken (sight_view sight.now) (tree.constants_view declaration.now))) }
+    ensures told { IfErr result (Tells (broken.typed_constants (sight_view sight.now) (tree.constants_view declaration.now))) }
 {
     let mark = meaning_of(sight, &declaration.subtype.mark)?;
     match as_integer_type(mark) {
@@ -164,8 +162,7 @@ pub fn constants(
     ensures given { Gives (λ o. (sight_view sight.new, declaration_view o))
         (entering rules.constants (sight_view sight.old) (tree.constants_view declaration.now)) result }
     ensures kept { OnOk result (sight.new ≡ record sight.old { region = sight.new.region }) }
-    ensures told { IfErr result (Tells (broken.constants (sight_view sight.old) (tree.constants_view declaration.now)
-        ∪ standing_twice (sight_view sight.old).region (names_of (tree.constants_view declaration.now).names))) }
+    ensures told { IfErr result (Tells (broken.constants (sight_view sight.old) (tree.constants_view declaration.now))) }
 {
     let first = sight.region.len();
     hide(alloc, &mut sight.region, &declaration.names)?;

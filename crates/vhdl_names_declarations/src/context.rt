@@ -7,10 +7,8 @@ ghost use Rattle.vhdl_names_rules.specs.Gives.{Gives};
 ghost use Rattle.vhdl_names_rules.specs.declared.fault.NameFault.TheVariants.{NoMemory};
 ghost use Rattle.vhdl_names_rules.specs.Packages as rules;
 ghost use Rattle.vhdl_tree.specs.View.{ident_view, selected_view, context_view as item_view};
-ghost use Rattle.vhdl_names_problems.specs.Broken.{Tells, unless};
+ghost use Rattle.vhdl_names_problems.specs.Broken.{Tells, any_of};
 ghost use Rattle.vhdl_names_problems.specs.Declarations as broken;
-ghost use Rattle.vhdl_names_rules.specs.declared.fault.NameProblem.TheVariants.{LeftOut};
-ghost use Rattle.vhdl_names_declarations.specs.Standing.{used};
 
 use vhdl_names_rules::{NameFault, NameProblem};
 use vhdl_tree::{ContextItem, Identifier, Selected};
@@ -101,7 +99,7 @@ fn either(one: bool, other: bool) -> bool
 /// The libraries of a clause. Another than ieee, work and std is left out.
 fn libraries(before: Context, names: &[Identifier]) -> Result<Context, NameFault>
     ensures given { Gives context_view (libraries_named (context_view before) (map ident_view names.now)) result }
-    ensures told { IfErr result (Tells (unless LeftOut (list_all rules.is_library (map ident_view names.now)))) }
+    ensures told { IfErr result (Tells (any_of broken.library_named (map ident_view names.now))) }
 {
     for name in names {
         if !is_library(name) {
@@ -118,7 +116,7 @@ fn libraries(before: Context, names: &[Identifier]) -> Result<Context, NameFault
 fn use_fault(before: Context, selected: &Selected) -> NameFault
     ensures given { result ≢ NoMemory }
     ensures told { (before.has_ieee && (rules.is_logic (selected_view selected.now) || rules.is_numbers (selected_view selected.now))) ≡ false
-        → Tells (used (context_view before) (selected_view selected.now ∷ [])) result }
+        → Tells (broken.package_used (context_view before) (selected_view selected.now)) result }
 {
     if !is_ieee(&selected.library) {
         return NameProblem::LeftOut.at(selected.library.at);
@@ -133,7 +131,7 @@ fn use_fault(before: Context, selected: &Selected) -> NameFault
 /// offered. Without that clause ieee is Undeclared; any other package is left out.
 fn uses(before: Context, all: &[Selected]) -> Result<Context, NameFault>
     ensures given { Gives context_view (packages_used (context_view before) (map selected_view all.now)) result }
-    ensures told { IfErr result (Tells (used (context_view before) (map selected_view all.now))) }
+    ensures told { IfErr result (Tells (broken.packages_used (context_view before) (map selected_view all.now))) }
 {
     for selected in all {
         let is_offered = either(is_logic(selected), is_numbers(selected));

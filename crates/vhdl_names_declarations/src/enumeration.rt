@@ -7,10 +7,8 @@ ghost use Rattle.vhdl_names_rules.specs.Gives.{Gives};
 ghost use Rattle.vhdl_names_rules.specs.Visibility.{count_of, names_of, is_enumeration_type};
 ghost use Rattle.vhdl_tree.specs.View.{ident_view, enumeration_view};
 ghost use Rattle.vhdl_names_types.specs.Views.{region_view, sight_view};
-ghost use Rattle.vhdl_names_problems.specs.Broken.{Tells, ◌∪◌, is_of};
+ghost use Rattle.vhdl_names_problems.specs.Broken.{Tells};
 ghost use Rattle.vhdl_names_problems.specs.Declarations as broken;
-ghost use Rattle.vhdl_names_rules.specs.declared.fault.NameProblem.TheVariants.{Twice};
-ghost use Rattle.vhdl_names_declarations.specs.Standing.{standing_twice, enumeration_names};
 
 use crate::region::declare;
 use std::alloc::Global;
@@ -27,7 +25,7 @@ fn literals(
 ) -> Result<(), NameFault>
     ensures given { Gives (λ _. region_view region.new)
         (more (region_view region.old) (rules.literals number (length literals.now) 0 (names_of (map ident_view literals.now)))) result }
-    ensures told { IfErr result (Tells (is_of (Twice ∷ []))) }
+    ensures told { IfErr result (Tells (broken.standing_twice (region_view region.old) (map ident_view literals.now))) }
 {
     let _apart = region.len();
     let count = literals.len();
@@ -55,8 +53,7 @@ pub fn enumeration(
     ensures given { Gives (λ _. (sight_view sight.new, []))
         (entering rules.enumeration (sight_view sight.old) (enumeration_view declaration.now)) result }
     ensures kept { OnOk result (sight.new ≡ record sight.old { region = sight.new.region }) }
-    ensures told { IfErr result (Tells (broken.enumeration (enumeration_view declaration.now)
-        ∪ standing_twice (sight_view sight.old).region (enumeration_names (enumeration_view declaration.now)))) }
+    ensures told { IfErr result (Tells (broken.enumeration (sight_view sight.old) (enumeration_view declaration.now))) }
 {
     let count = declaration.literals.len();
     if count > 256 {

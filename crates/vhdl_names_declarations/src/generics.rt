@@ -13,11 +13,10 @@ ghost use Rattle.vhdl_names_rules.specs.views.Integers.{static_view};
 ghost use Rattle.vhdl_tree.specs.View.{option_expr_view, generic_view};
 ghost use Rattle.vhdl_names_types.specs.Views.{meaning_view, sight_view};
 ghost use Rattle.vhdl_names_units.specs.views.Declarations.{generics_view, all_generics_view};
-ghost use Rattle.vhdl_names_problems.specs.Broken.{Tells, ◌∪◌, is_of, of_any};
+ghost use Rattle.vhdl_names_problems.specs.Broken.{Tells, refused, of_any};
 ghost use Rattle.vhdl_names_problems.specs.Declarations as broken;
 ghost use Rattle.vhdl_names_problems.specs.Expressions as expressions_broken;
-ghost use Rattle.vhdl_names_rules.specs.Visibility.{names_of};
-ghost use Rattle.vhdl_names_declarations.specs.Standing.{standing_twice, generics_broken};
+ghost use Rattle.vhdl_names_problems.specs.Interfaces as interfaces_broken;
 
 use crate::class::ObjectClass;
 use crate::counts::Counts;
@@ -34,7 +33,7 @@ use vhdl_tree::{Expr, Generic};
 /// WrongKind.
 pub fn integer_type(meaning: &Meaning, at: usize) -> Result<IntegerType, NameFault>
     ensures given { Gives (λ w. w) (as_integer_type (meaning_view meaning.now)) result }
-    ensures told { IfErr result (Tells (is_of broken.integer_type_problems)) }
+    ensures told { IfErr result (Tells (refused (broken.generic_problem (meaning_view meaning.now)) at)) }
 {
     match meaning {
         Meaning::IntegerType(integer_type) => Ok(*integer_type),
@@ -67,7 +66,7 @@ fn generic_type(
     generic: &Generic,
 ) -> Result<(IntegerType, Option<Static>), NameFault>
     ensures given { Gives (λ x. (x.0, option_map static_view x.1)) (typed_generic (sight_view sight.now) (generic_view generic.now)) result }
-    ensures told { IfErr result (Tells (broken.generic (sight_view sight.now) (generic_view generic.now))) }
+    ensures told { IfErr result (Tells (broken.typed_generic (sight_view sight.now) (generic_view generic.now))) }
 {
     let mark = meaning_of(sight, &generic.mark)?;
     let integer_type = integer_type(mark, generic.mark.at)?;
@@ -87,8 +86,7 @@ fn generic(
     ensures given { Gives (λ g. (sight_view sight.new, generics_view g))
         (entering rules.generic (sight_view sight.old) (generic_view generic.now)) result }
     ensures kept { OnOk result (sight.new ≡ record sight.old { region = sight.new.region }) }
-    ensures told { IfErr result (Tells (broken.generic (sight_view sight.old) (generic_view generic.now)
-        ∪ standing_twice (sight_view sight.old).region (names_of (generic_view generic.now).names))) }
+    ensures told { IfErr result (Tells (broken.generic (sight_view sight.old) (generic_view generic.now))) }
 {
     let first = sight.region.len();
     let typed = generic_type(alloc, sight, generic);
@@ -118,7 +116,7 @@ pub fn generics(
     ensures given { Gives (λ v. (sight_view sight.new, all_generics_view v))
         (entering (rules.in_order with_declared rules.generic) (sight_view sight.old) (map generic_view all.now)) result }
     ensures kept { OnOk result (sight.new ≡ record sight.old { region = sight.new.region }) }
-    ensures told { IfErr result (Tells (generics_broken (sight_view sight.old) (map generic_view all.now))) }
+    ensures told { IfErr result (Tells (interfaces_broken.generics (sight_view sight.old) (map generic_view all.now))) }
 {
     let mut done = Vec::new(alloc);
     let _apart = sight.region.len();

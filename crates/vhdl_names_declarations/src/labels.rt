@@ -14,8 +14,10 @@ ghost use Rattle.vhdl_tree.specs.Tree.{concurrents_of};
 ghost use Rattle.vhdl_tree.specs.View.{ident_view, option_ident_view, concurrent_view};
 ghost use Rattle.vhdl_names_types.specs.Views.{region_view};
 ghost use Rattle.vhdl_names_rules.specs.declared.fault.NameFault.TheVariants.{NoMemory};
-ghost use Rattle.vhdl_names_problems.specs.Broken.{Tells, is_of, unless};
-ghost use Rattle.vhdl_names_declarations.specs.Standing.{standing_twice};
+ghost use Rattle.vhdl_names_problems.specs.Broken.{Tells};
+ghost use Rattle.vhdl_names_problems.specs.Declarations.{standing_twice};
+ghost use Rattle.vhdl_names_problems.specs.Labels.{label_if_any, label_of, labels_of};
+ghost use Rattle.vhdl_names_problems.specs.Twice.{twice};
 
 use crate::region::declare;
 use indexmap::IndexMap;
@@ -31,7 +33,7 @@ fn declare_if_any(
     label: &Option<Identifier>,
 ) -> Result<(), NameFault>
     ensures given { Gives (λ _. region_view region.new) (more (region_view region.old) (labelled (label_names (option_ident_view label.now)))) result }
-    ensures told { IfErr result (Tells (is_of (Twice ∷ []))) }
+    ensures told { IfErr result (Tells (standing_twice (region_view region.old) (label_if_any (option_ident_view label.now)))) }
     ensures kept { IfErr result (λ f. f ≢ NoMemory → region_view region.new ≡ region_view region.old) }
 {
     let _apart = region.len();
@@ -49,7 +51,7 @@ pub fn declare_label(
     statement: &Concurrent,
 ) -> Result<(), NameFault>
     ensures given { Gives (λ _. region_view region.new) (more (region_view region.old) (labelled (rules.concurrent_label (concurrent_view statement.now)))) result }
-    ensures told { IfErr result (Tells (is_of (Twice ∷ []))) }
+    ensures told { IfErr result (Tells (standing_twice (region_view region.old) (label_of (concurrent_view statement.now)))) }
     ensures kept { IfErr result (λ f. f ≢ NoMemory → region_view region.new ≡ region_view region.old) }
 {
     match statement {
@@ -72,7 +74,7 @@ pub fn declare_labels(
 ) -> Result<(), NameFault>
     ensures given { Gives (λ _. region_view region.new)
         (more (region_view region.old) (labelled (rules.concurrent_labels (concurrents_of (map concurrent_view statements.now))))) result }
-    ensures told { IfErr result (Tells (standing_twice (region_view region.old) (rules.concurrent_labels (concurrents_of (map concurrent_view statements.now))))) }
+    ensures told { IfErr result (Tells (standing_twice (region_view region.old) (labels_of (concurrents_of (map concurrent_view statements.now))))) }
 {
     let _apart = region.len();
     for statement in statements {
@@ -86,7 +88,7 @@ pub fn declare_labels(
 /// takes the memory of the labels and their entries.
 pub fn labels_are_distinct(alloc: Global, statements: &[Concurrent]) -> Result<(), NameFault>
     ensures given { Gives (λ x. x) (rule Twice (are_distinct (rules.concurrent_labels (concurrents_of (map concurrent_view statements.now))))) result }
-    ensures told { IfErr result (Tells (unless Twice (are_distinct (rules.concurrent_labels (concurrents_of (map concurrent_view statements.now)))))) }
+    ensures told { IfErr result (Tells (twice [] (labels_of (concurrents_of (map concurrent_view statements.now))))) }
 {
     let mut region: Region = IndexMap::new(alloc);
     declare_labels(alloc, &mut region, statements)?;

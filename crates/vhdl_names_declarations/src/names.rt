@@ -6,7 +6,8 @@ ghost use Rattle.vhdl_names_rules.specs.declared.fault.NameProblem.TheVariants.{
 ghost use Rattle.vhdl_names_rules.specs.Rules.{rule};
 ghost use Rattle.vhdl_names_rules.specs.Visibility as visibility;
 ghost use Rattle.vhdl_tree.specs.View.{ident_view, idents_view, option_ident_view};
-ghost use Rattle.vhdl_names_problems.specs.Broken.{Tells, unless};
+ghost use Rattle.vhdl_names_problems.specs.Broken.{Tells};
+ghost use Rattle.vhdl_names_problems.specs.Declarations.{end_name};
 
 use std::alloc::{AllocError, Global};
 use vhdl_names_rules::{NameFault, NameProblem};
@@ -36,7 +37,7 @@ pub fn copied_names(alloc: Global, names: &[Identifier]) -> Result<Vec<Identifie
 /// An end name, if there is one, repeats the name at the beginning; else it is of WrongKind.
 pub fn ends(name: &Identifier, end: &Option<Identifier>) -> Result<(), NameFault>
     ensures given { Gives (λ x. x) (rule WrongKind (visibility.ends name.now.text.items (option_ident_view end.now))) result }
-    ensures told { IfErr result (Tells (unless WrongKind (visibility.ends name.now.text.items (option_ident_view end.now)))) }
+    ensures told { IfErr result (Tells (end_name (ident_view name.now) (option_ident_view end.now))) }
 {
     match end {
         None => Ok(()),

@@ -13,11 +13,9 @@ ghost use Rattle.vhdl_tree.specs.View as tree;
 ghost use Rattle.vhdl_names_types.specs.Views.{sight_view};
 ghost use Rattle.vhdl_names_units.specs.views.Answers.{subtype_view, fixed_view};
 ghost use Rattle.vhdl_names_units.specs.views.Declarations.{declaration_view, object_view, objects_view};
-ghost use Rattle.vhdl_names_problems.specs.Broken.{Tells, ◌∪◌, of_any};
+ghost use Rattle.vhdl_names_problems.specs.Broken.{Tells, of_any};
 ghost use Rattle.vhdl_names_problems.specs.Declarations as broken;
 ghost use Rattle.vhdl_names_problems.specs.Subtypes as subtypes_broken;
-ghost use Rattle.vhdl_names_rules.specs.Visibility.{names_of};
-ghost use Rattle.vhdl_names_declarations.specs.Standing.{standing_twice, variables_broken};
 
 use crate::class::ObjectClass;
 use crate::counts::Counts;
@@ -92,8 +90,7 @@ pub fn signals(
     ensures given { Gives (λ o. (sight_view sight.new, declaration_view o))
         (entering rules.signals (sight_view sight.old) (tree.signals_view declaration.now)) result }
     ensures kept { OnOk result (sight.new ≡ record sight.old { region = sight.new.region }) }
-    ensures told { IfErr result (Tells (broken.signals (sight_view sight.old) (tree.signals_view declaration.now)
-        ∪ standing_twice (sight_view sight.old).region (names_of (tree.signals_view declaration.now).names))) }
+    ensures told { IfErr result (Tells (broken.signals (sight_view sight.old) (tree.signals_view declaration.now))) }
 {
     let first = sight.region.len();
     hide(alloc, &mut sight.region, &declaration.names)?;
@@ -114,8 +111,7 @@ fn variables_of_one(
     requires { number ≡ count_of is_variable (sight_view sight.old).variables }
     ensures given { Gives (λ o. (sight_view sight.new, object_view o))
         (entering_variables rules.variables (sight_view sight.old) (tree.variables_view declaration.now)) result }
-    ensures told { IfErr result (Tells (broken.variables (sight_view sight.old) (tree.variables_view declaration.now)
-        ∪ standing_twice (sight_view sight.old).variables (names_of (tree.variables_view declaration.now).names))) }
+    ensures told { IfErr result (Tells (broken.variables (sight_view sight.old) (tree.variables_view declaration.now))) }
 {
     let first = sight.variables.len();
     hide(alloc, &mut sight.variables, &declaration.names)?;
@@ -135,7 +131,7 @@ pub fn variables(
 ) -> Result<Vec<Objects>, NameFault>
     ensures given { Gives (λ v. (sight_view sight.new, objects_view v))
         (entering_variables (rules.in_order with_variables rules.variables) (sight_view sight.old) (map tree.variables_view all.now)) result }
-    ensures told { IfErr result (Tells (variables_broken (sight_view sight.old) (map tree.variables_view all.now))) }
+    ensures told { IfErr result (Tells (broken.in_order with_variables rules.variables broken.variables (sight_view sight.old) (map tree.variables_view all.now))) }
 {
     let mut done = Vec::new(alloc);
     let _apart = sight.variables.len();

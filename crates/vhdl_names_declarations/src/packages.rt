@@ -7,7 +7,7 @@ ghost use Rattle.vhdl_names_declarations.specs.Rows.{builtin_view, row_view};
 ghost use Rattle.vhdl_names_rules.specs.Gives.{Gives};
 ghost use Rattle.vhdl_names_rules.specs.Packages as rules;
 ghost use Rattle.vhdl_names_types.specs.Views.{meaning_view, region_view, sight_view};
-ghost use Rattle.vhdl_names_problems.specs.Broken.{Tells, is_of, nothing};
+ghost use Rattle.vhdl_names_problems.specs.Broken.{Tells, refused, nothing};
 ghost use Rattle.vhdl_names_rules.specs.declared.fault.NameProblem.TheVariants.{Twice};
 
 use crate::context::Context;
@@ -120,7 +120,7 @@ impl Builtin {
 /// The declarations of a package.
 fn add_rows(alloc: Global, region: &mut Region, rows: &[Row]) -> Result<(), NameFault>
     ensures given { Gives (λ _. region_view region.new) (more (region_view region.old) (map row_view rows.now)) result }
-    ensures told { IfErr result (Tells (is_of (Twice ∷ []))) }
+    ensures told { IfErr result (Tells (refused Twice 0)) }
 {
     let _apart = region.len();
     for row in rows {
@@ -138,7 +138,7 @@ fn add_used(
     rows: &[Row],
 ) -> Result<(), NameFault>
     ensures given { Gives (λ _. region_view region.new) (more (region_view region.old) (if is_used then map row_view rows.now else [])) result }
-    ensures told { IfErr result (Tells (is_of (Twice ∷ []))) }
+    ensures told { IfErr result (Tells (refused Twice 0)) }
 {
     if is_used {
         add_rows(alloc, region, rows)

@@ -10,11 +10,10 @@ ghost use Rattle.vhdl_tree.specs.View as tree;
 ghost use Rattle.vhdl_names_types.specs.Views.{sight_view};
 ghost use Rattle.vhdl_names_units.specs.views.Answers.{subtype_view, fixed_view};
 ghost use Rattle.vhdl_names_units.specs.views.Declarations.{ports_view, all_ports_view};
-ghost use Rattle.vhdl_names_problems.specs.Broken.{Tells, ◌∪◌, is_of};
+ghost use Rattle.vhdl_names_problems.specs.Broken.{Tells, refused};
 ghost use Rattle.vhdl_names_problems.specs.Declarations as broken;
-ghost use Rattle.vhdl_names_rules.specs.Visibility.{names_of};
+ghost use Rattle.vhdl_names_problems.specs.Interfaces as interfaces_broken;
 ghost use Rattle.vhdl_names_rules.specs.declared.fault.NameProblem.TheVariants.{LeftOut};
-ghost use Rattle.vhdl_names_declarations.specs.Standing.{standing_twice, ports_broken};
 
 use crate::class::ObjectClass;
 use crate::counts::Counts;
@@ -31,7 +30,7 @@ use vhdl_tree::{Mode, Port};
 /// left out.
 pub fn kind_of(object_type: ObjectType, at: usize) -> Result<ElementKind, NameFault>
     ensures given { Gives (λ k. k) (rules.as_kind object_type) result }
-    ensures told { IfErr result (Tells (is_of (LeftOut ∷ []))) }
+    ensures told { IfErr result (Tells (refused LeftOut at)) }
 {
     match object_type {
         ObjectType::Elements(kind) => Ok(kind),
@@ -56,7 +55,7 @@ fn port_type(
     port: &Port,
 ) -> Result<(Subtype, ElementKind, Option<Fixed>), NameFault>
     ensures given { Gives (λ x. (subtype_view x.0, x.1, option_map fixed_view x.2)) (typed_port (sight_view sight.now) (tree.port_view port.now)) result }
-    ensures told { IfErr result (Tells (broken.port (sight_view sight.now) (tree.port_view port.now))) }
+    ensures told { IfErr result (Tells (broken.typed_port (sight_view sight.now) (tree.port_view port.now))) }
 {
     let subtype = subtype(alloc, sight, &port.subtype)?;
     let kind = kind_of(subtype.object_type, port.subtype.mark.at)?;
@@ -70,8 +69,7 @@ fn port(alloc: Global, sight: &mut Sight, number: usize, port: &Port) -> Result<
     requires { number ≡ count_of is_port (sight_view sight.old).region }
     ensures given { Gives (λ p. (sight_view sight.new, ports_view p)) (entering rules.port (sight_view sight.old) (tree.port_view port.now)) result }
     ensures kept { OnOk result (sight.new ≡ record sight.old { region = sight.new.region }) }
-    ensures told { IfErr result (Tells (broken.port (sight_view sight.old) (tree.port_view port.now)
-        ∪ standing_twice (sight_view sight.old).region (names_of (tree.port_view port.now).names))) }
+    ensures told { IfErr result (Tells (broken.port (sight_view sight.old) (tree.port_view port.now))) }
 {
     let first = sight.region.len();
     let typed = port_type(alloc, sight, port);
@@ -89,7 +87,7 @@ pub fn ports(alloc: Global, sight: &mut Sight, all: &[Port]) -> Result<Vec<Ports
     ensures given { Gives (λ v. (sight_view sight.new, all_ports_view v))
         (entering (rules.in_order with_declared rules.port) (sight_view sight.old) (map tree.port_view all.now)) result }
     ensures kept { OnOk result (sight.new ≡ record sight.old { region = sight.new.region }) }
-    ensures told { IfErr result (Tells (ports_broken (sight_view sight.old) (map tree.port_view all.now))) }
+    ensures told { IfErr result (Tells (interfaces_broken.ports (sight_view sight.old) (map tree.port_view all.now))) }
 {
     let mut done = Vec::new(alloc);
     let _apart = sight.region.len();

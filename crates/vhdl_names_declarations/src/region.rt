@@ -2,7 +2,7 @@
 
 ghost use Rattle.std.specs.Prelude.{◌≡◌, ◌≢◌, ◌≤◌, ◌∷◌, [], map, OnOk, IfErr};
 ghost use Rattle.indexmap.specs.IndexMap.{index_map_len};
-ghost use Rattle.vhdl_names_declarations.specs.Entered.{more};
+ghost use Rattle.vhdl_names_declarations.specs.Entered.{ident, more};
 ghost use Rattle.vhdl_names_declarations.specs.Settled.{class_view, settled};
 ghost use Rattle.vhdl_names_rules.specs.Gives.{Gives};
 ghost use Rattle.vhdl_names_rules.specs.Visibility as visibility;
@@ -10,8 +10,8 @@ ghost use Rattle.vhdl_names_rules.specs.Visibility.{all_declared, names_of};
 ghost use Rattle.vhdl_tree.specs.View.{ident_view};
 ghost use Rattle.vhdl_names_types.specs.Views.{meaning_view, region_view};
 ghost use Rattle.vhdl_names_rules.specs.declared.fault.NameFault.TheVariants.{NoMemory};
-ghost use Rattle.vhdl_names_problems.specs.Broken.{Tells, is_of};
-ghost use Rattle.vhdl_names_rules.specs.declared.fault.NameProblem.TheVariants.{Twice};
+ghost use Rattle.vhdl_names_problems.specs.Broken.{Tells};
+ghost use Rattle.vhdl_names_problems.specs.Declarations.{standing_twice};
 
 use crate::class::ObjectClass;
 use std::alloc::{AllocError, Global};
@@ -29,7 +29,7 @@ pub fn declare_name(
     meaning: Meaning,
 ) -> Result<(), NameFault>
     ensures given { Gives (λ _. region_view region.new) (more (region_view region.old) (visibility.declare name.now (meaning_view meaning) ∷ [])) result }
-    ensures told { IfErr result (Tells (is_of (Twice ∷ []))) }
+    ensures told { IfErr result (Tells (standing_twice (region_view region.old) (ident at name.now ∷ []))) }
     ensures kept { IfErr result (λ f. f ≢ NoMemory → region_view region.new ≡ region_view region.old) }
 {
     let _apart = region.len();
@@ -51,7 +51,7 @@ pub fn declare(
 ) -> Result<(), NameFault>
     ensures given { Gives (λ _. region_view region.new)
         (more (region_view region.old) (visibility.declare name.now.text.items (meaning_view meaning) ∷ [])) result }
-    ensures told { IfErr result (Tells (is_of (Twice ∷ []))) }
+    ensures told { IfErr result (Tells (standing_twice (region_view region.old) (ident_view name.now ∷ []))) }
     ensures kept { IfErr result (λ f. f ≢ NoMemory → region_view region.new ≡ region_view region.old) }
 {
     declare_name(alloc, region, &name.text, name.at, meaning)
@@ -62,7 +62,7 @@ pub fn declare(
 pub fn hide(alloc: Global, region: &mut Region, names: &[Identifier]) -> Result<(), NameFault>
     ensures given { Gives (λ _. region_view region.new)
         (more (region_view region.old) (all_declared visibility.unfinished (names_of (map ident_view names.now)))) result }
-    ensures told { IfErr result (Tells (is_of (Twice ∷ []))) }
+    ensures told { IfErr result (Tells (standing_twice (region_view region.old) (map ident_view names.now))) }
 {
     let _apart = region.len();
     for name in names {

@@ -1,30 +1,49 @@
--- What the value of a constant breaks, form by form; names of objects, and subtype indications.
-use Rattle.std.proofs.Common.{◌≡◌, ℕ, Bool, false, [], ◌∷◌, Option, Some, None, Result, Ok, Err, IfErr, refl, sym, ap, ◌∙◌}
-use Rattle.std.specs.Prelude.{is_none}
+-- What the value of a constant breaks first, form by form; names of objects, and subtype indications.
+use Rattle.std.proofs.Common.{◌≡◌, ℕ, Bool, true, false, true≢false, List, [], ◌∷◌, Option, Some, None, Result, Ok, Err, IfErr, Box, Global, refl, sym, ap, ◌∙◌}
+use Rattle.std.specs.Prelude.{is_some, option_map}
+use Rattle.vhdl_values.specs.declared.scalar.Nine.{Nine}
 use Rattle.vhdl_tree.specs.Tree as t
+use Rattle.vhdl_tree.specs.Tree.{Pair}
+use Rattle.vhdl_tree.specs.View.{view}
+use Rattle.vhdl_tree.specs.declared.expression.Expr.{Expr}
+use Rattle.vhdl_tree.specs.declared.expression.Expr.TheVariants as x
+use Rattle.vhdl_tree.specs.declared.expression.Chain.{Chain}
 use Rattle.vhdl_names_rules.specs.declared.fault.NameFault.{NameFault}
-use Rattle.vhdl_names_rules.specs.declared.fault.NameFault.TheVariants.{At}
+use Rattle.vhdl_names_rules.specs.declared.fault.NameFault.TheVariants.{At, NoMemory}
 use Rattle.vhdl_names_rules.specs.declared.fault.NameProblem.{NameProblem}
 use Rattle.vhdl_names_rules.specs.declared.fault.NameProblem.TheVariants.{TypeMismatch, LeftOut}
+use Rattle.vhdl_names_rules.specs.declared.kind.ElementKind.{ElementKind}
+use Rattle.vhdl_names_rules.specs.declared.kind.ElementKind.TheVariants.{Element, LogicVector, Unsigned, OpenVector}
 use Rattle.vhdl_names_rules.specs.declared.kind.ObjectType.{ObjectType}
+use Rattle.vhdl_names_rules.specs.declared.kind.ObjectType.TheVariants.{Elements, Enumeration}
+use Rattle.vhdl_names_rules.specs.Gives.{Gives}
 use Rattle.vhdl_names_rules.specs.Visibility as visibility
 use Rattle.vhdl_names_rules.specs.Visibility.{Sight, Meaning}
+use Rattle.vhdl_names_rules.specs.Literals.{nine_of, values_of_string, values_of_bits}
 use Rattle.vhdl_names_rules.specs.Names as names
 use Rattle.vhdl_names_rules.specs.Names.{Suffix}
 use Rattle.vhdl_names_rules.specs.Expressions as are
-use Rattle.vhdl_names_rules.specs.Subtypes as r
-use Rattle.vhdl_names_problems.specs.Broken.{Broken, Tells, is, ◌∪◌, unless, lacking, where_given, of_any}
-use Rattle.vhdl_names_problems.specs.Expressions.{meaning, typed_suffix, static_range}
+use Rattle.vhdl_names_rules.specs.Expressions.{is_vector, as_filled}
+use Rattle.vhdl_names_rules.specs.Operators.{Typed, elements}
+use Rattle.vhdl_names_rules.specs.Rules.{◌>>=◌, ◌>>◌, met}
+use Rattle.vhdl_names_rules.specs.units.Expressions.{Vector}
+use Rattle.vhdl_names_rules.specs.units.Units.{Fixed}
+use Rattle.vhdl_names_problems.specs.Broken.{Broken, Tells, refused, ◌▸◌, unless, lacking, where_given, of_any}
+use Rattle.vhdl_names_problems.specs.Places.{start}
+use Rattle.vhdl_names_problems.specs.Operators.{string_problem}
+use Rattle.vhdl_names_problems.specs.Expressions.{meaning, no_attribute, typed_suffix, static_range, is_vector_type}
 use Rattle.vhdl_names_problems.specs.Statements.{named}
-use Rattle.vhdl_names_problems.specs.Subtypes.{fixed, value_of, subtype, mark_problem, is_marked}
-use Rattle.vhdl_names_problems.proofs.Telling.{told_left, told_right, told_given, told_on, is_same}
-use Rattle.vhdl_names_rules.specs.declared.kind.ElementKind.{ElementKind}
+use Rattle.vhdl_names_problems.specs.Subtypes.{fixed, fixed_value, literal, value_of, subtype, mark_problem, is_marked, is_character}
+use Rattle.vhdl_names_problems.proofs.Telling.{told_same, told_left, told_right, told_given, told_on, at_is_told}
+use Rattle.vhdl_names_problems.proofs.kept.Expressions.{meaning_kept, typed_suffix_kept}
 use Rattle.vhdl_names_types.specs.declared.meaning.Meaning.{Meaning as DeclaredMeaning}
 use Rattle.vhdl_names_types.specs.declared.meaning.Meaning.TheVariants as d
 use Rattle.vhdl_names_types.specs.Views.{meaning_view}
-use Rattle.vhdl_names_expressions.specs.Chosen.{as_name}
-use Rattle.vhdl_names_expressions.specs.Fixing.{suffixed_value}
-use Rattle.vhdl_names_expressions.proofs.Breaking.{told_along, told_of, told_either}
+use Rattle.vhdl_names_expressions.specs.Chosen.{as_name, as_character, is_literal, character_values}
+use Rattle.vhdl_names_expressions.specs.Fixing.{suffixed_value, filled_with}
+use Rattle.vhdl_names_expressions.proofs.Breaking.{told_fault, in_turn}
+use Rattle.vhdl_names_expressions.proofs.Choosing.{chain_is_no_literal}
+use Rattle.vhdl_names_expressions.proofs.Fixing.{filled_as}
 
 -- ---- names with what follows them, where no attribute is offered
 
@@ -33,33 +52,95 @@ module _ (sight : Sight) (n : t.Ident) (y : t.Suffix) (a : Option t.Ident) (more
   behind = where_given (visibility.meaning sight n.text) (λ d. where_given (are.typed_suffix sight y) (more d))
 
   abbrev pub with_name : Broken
-  with_name = meaning sight n.text ∪ typed_suffix sight y ∪ unless LeftOut (is_none a) ∪ behind
+  with_name = meaning sight n ▸ typed_suffix sight y ▸ no_attribute a ▸ behind
 
-  pub name_meaning : (f : NameFault) → Tells (meaning sight n.text) f → Tells with_name f
-  name_meaning f h = told_left (meaning sight n.text) (typed_suffix sight y ∪ unless LeftOut (is_none a) ∪ behind) f h
+  pub name_meaning : (f : NameFault) → Tells (meaning sight n) f → Tells with_name f
+  name_meaning f h = told_left (meaning sight n) (typed_suffix sight y ▸ no_attribute a ▸ behind) f h
 
-  pub name_suffix : (f : NameFault) → Tells (typed_suffix sight y) f → Tells with_name f
-  name_suffix f h =
-      told_right (meaning sight n.text) (typed_suffix sight y ∪ unless LeftOut (is_none a) ∪ behind) f
-      (told_left (typed_suffix sight y) (unless LeftOut (is_none a) ∪ behind) f h)
+  pub name_suffix : (d : Meaning) (f : NameFault) → visibility.meaning sight n.text ≡ Some d → Tells (typed_suffix sight y) f → Tells with_name f
+  name_suffix d f e1 h =
+      told_right (meaning sight n) (typed_suffix sight y ▸ no_attribute a ▸ behind) f (meaning_kept sight n d e1)
+      (told_left (typed_suffix sight y) (no_attribute a ▸ behind) f h)
 
-  of_attribute : (f : NameFault) → Tells (unless LeftOut (is_none a) ∪ behind) f → Tells with_name f
-  of_attribute f h =
-      told_right (meaning sight n.text) (typed_suffix sight y ∪ unless LeftOut (is_none a) ∪ behind) f
-      (told_right (typed_suffix sight y) (unless LeftOut (is_none a) ∪ behind) f h)
+  module _ (d : Meaning) (s : Suffix) (e1 : visibility.meaning sight n.text ≡ Some d) (e2 : are.typed_suffix sight y ≡ Some s) where
+    of_attribute : (f : NameFault) → Tells (no_attribute a ▸ behind) f → Tells with_name f
+    of_attribute f h =
+        told_right (meaning sight n) (typed_suffix sight y ▸ no_attribute a ▸ behind) f (meaning_kept sight n d e1)
+        (told_right (typed_suffix sight y) (no_attribute a ▸ behind) f (typed_suffix_kept y sight s e2) h)
 
-  pub name_attribute : (f : NameFault) (at : ℕ) → is_none a ≡ false → f ≡ At LeftOut at → Tells with_name f
-  name_attribute f at given e =
-      of_attribute f (told_left (unless LeftOut (is_none a)) behind f (told_of (unless LeftOut (is_none a)) (At LeftOut at) f e (ap (λ b. unless LeftOut b LeftOut) given)))
+    pub name_attribute : (i : t.Ident) (f : NameFault) → a ≡ Some i → Tells (refused LeftOut i.at) f → Tells with_name f
+    name_attribute i f is h = of_attribute f (told_left (no_attribute a) behind f (told_same (refused LeftOut i.at) (no_attribute a) f (sym (ap no_attribute is)) h))
 
-  pub name_more : {X : Type 0} (d : Meaning) (s : Suffix) (r : Result X NameFault) → visibility.meaning sight n.text ≡ Some d → are.typed_suffix sight y ≡ Some s →
-      IfErr r (Tells (more d s)) → IfErr r (Tells with_name)
-  name_more d s (Ok x) e1 e2 h = tt
-  name_more d s (Err f) e1 e2 h =
-      of_attribute f
-      (told_right (unless LeftOut (is_none a)) behind f
-      (told_given (λ m. where_given (are.typed_suffix sight y) (more m)) (visibility.meaning sight n.text) d f e1
-      (told_given (more d) (are.typed_suffix sight y) s f e2 h)))
+    pub name_more : {X : Type 0} (r : Result X NameFault) → a ≡ None → IfErr r (Tells (more d s)) → IfErr r (Tells with_name)
+    name_more r none =
+        told_on _ _ r (λ f h. of_attribute f
+        (told_right (no_attribute a) behind f (ap no_attribute none)
+        (told_given (λ m. where_given (are.typed_suffix sight y) (more m)) (visibility.meaning sight n.text) d f e1
+        (told_given (more d) (are.typed_suffix sight y) s f e2 h))))
+
+-- ---- literals
+
+-- a character that is no value of the kind is of another type, or none of the nine values
+pub character_literal : (k : ElementKind) (at c : ℕ) → character_values k c ≡ None → literal (Elements k) (t.character at c) ≡ refused TypeMismatch at
+unfolding ◌▸◌
+character_literal Element at c h = none_of (nine_of c) h
+  where
+    none_of : (o : Option Nine) → option_map (λ v. v ∷ []) o ≡ None → lacking TypeMismatch at o ≡ refused TypeMismatch at
+    none_of None h = refl
+    none_of (Some v) h = absurd cc
+character_literal LogicVector at c h = refl
+character_literal Unsigned at c h = refl
+character_literal OpenVector at c h = refl
+
+pub string_literal : (k : ElementKind) (at : ℕ) (text : List ℕ) → is_vector k ≡ true → literal (Elements k) (t.string at text) ≡ lacking (string_problem text) at (values_of_string text)
+unfolding ◌▸◌
+string_literal k at text h = ap (λ b. unless TypeMismatch at b ▸ lacking (string_problem text) at (values_of_string text)) h
+
+pub no_string : (k : ElementKind) (at : ℕ) (text : List ℕ) → is_vector k ≡ false → literal (Elements k) (t.string at text) ≡ refused TypeMismatch at
+unfolding ◌▸◌
+no_string k at text h = ap (λ b. unless TypeMismatch at b ▸ lacking (string_problem text) at (values_of_string text)) h
+
+pub bits_literal : (k : ElementKind) (at : ℕ) (text : List ℕ) → is_vector k ≡ true → literal (Elements k) (t.bits at text) ≡ lacking LeftOut at (values_of_bits text)
+unfolding ◌▸◌
+bits_literal k at text h = ap (λ b. unless TypeMismatch at b ▸ lacking LeftOut at (values_of_bits text)) h
+
+pub no_bits : (k : ElementKind) (at : ℕ) (text : List ℕ) → is_vector k ≡ false → literal (Elements k) (t.bits at text) ≡ refused TypeMismatch at
+unfolding ◌▸◌
+no_bits k at text h = ap (λ b. unless TypeMismatch at b ▸ lacking LeftOut at (values_of_bits text)) h
+
+pub character_told : {X : Type 0} (k : ElementKind) (at c : ℕ) (see : X → List Nine) (r : Result X NameFault) → Gives see (character_values k c) r →
+    IfErr r (Tells (refused TypeMismatch at)) → IfErr r (Tells (literal (Elements k) (t.character at c)))
+character_told k at c see (Ok x) h j = tt
+character_told k at c see (Err NoMemory) h j = tt
+character_told k at c see (Err (At p place)) h j = told_same (refused TypeMismatch at) _ (At p place) (sym (character_literal k at c (h (at_is_told p place)))) j
+
+-- a literal is no value of an enumeration
+pub enumerated_character : (number count at c : ℕ) → literal (Enumeration number count) (t.character at c) ≡ refused TypeMismatch at
+unfolding ◌▸◌
+enumerated_character number count at c = refl
+
+pub enumerated_string : (number count at : ℕ) (text : List ℕ) → literal (Enumeration number count) (t.string at text) ≡ refused TypeMismatch at
+unfolding ◌▸◌
+enumerated_string number count at text = refl
+
+pub enumerated_bits : (number count at : ℕ) (text : List ℕ) → literal (Enumeration number count) (t.bits at text) ≡ refused TypeMismatch at
+unfolding ◌▸◌
+enumerated_bits number count at text = refl
+
+-- what is no literal is left out
+pub other_literal : (type : ObjectType) (e : t.Expr) → is_literal e ≡ false → literal type e ≡ refused LeftOut (start e)
+other_literal type (t.integer at s) h = refl
+other_literal type (t.character at c) h = absurd (true≢false h)
+other_literal type (t.string at s) h = absurd (true≢false h)
+other_literal type (t.bits at s) h = absurd (true≢false h)
+other_literal type (t.named n s a) h = refl
+other_literal type (t.parens at e) h = refl
+other_literal type (t.negation at e) h = refl
+other_literal type (t.signed sign at e) h = refl
+other_literal type (t.binary b op at d e) h = refl
+
+pub chain_literal : (type : ObjectType) (e : Expr) (box : Box Chain Global) → e ≡ x.Chain box → literal type (view e) ≡ refused LeftOut (start (view e))
+chain_literal type e box is = other_literal type (view e) (chain_is_no_literal e box is)
 
 -- ---- values of constants
 
@@ -70,7 +151,7 @@ value_is type d (names.range x) = refl
 
 abbrev pub fixed_by : Sight → ObjectType → Option t.Name → t.Expr → Broken
 fixed_by sight type (Some n) e = fixed sight type (t.named n.identifier n.suffix n.attribute)
-fixed_by sight type None e = lacking (TypeMismatch ∷ LeftOut ∷ []) (r.literal_value type e)
+fixed_by sight type None e = literal type e
 
 pub fixed_is : (sight : Sight) (type : ObjectType) (e : t.Expr) → fixed sight type e ≡ fixed_by sight type (as_name e) e
 fixed_is sight type (t.integer at s) = refl
@@ -83,56 +164,118 @@ fixed_is sight type (t.negation at e) = refl
 fixed_is sight type (t.signed sign at e) = refl
 fixed_is sight type (t.binary b op at d e) = refl
 
+character_is : (e : t.Expr) → is_character e ≡ is_some (as_character e)
+character_is (t.integer at s) = refl
+character_is (t.character at s) = refl
+character_is (t.string at s) = refl
+character_is (t.bits at s) = refl
+character_is (t.named n s a) = refl
+character_is (t.parens at e) = refl
+character_is (t.negation at e) = refl
+character_is (t.signed sign at e) = refl
+character_is (t.binary b op at d e) = refl
+
+-- ---- (others => e)
+
+pub not_vector : (type : ObjectType) → ((k : ElementKind) → type ≡ Elements k → ⊥) → is_vector_type type ≡ false
+not_vector (Elements k) other = absurd (other k refl)
+not_vector (Enumeration e count) other = refl
+
+-- where the type is none of vectors
+pub no_vectors : (type : ObjectType) (at : ℕ) (b : Broken) → is_vector_type type ≡ false → (unless TypeMismatch at (is_vector_type type) ▸ b) ≡ refused TypeMismatch at
+unfolding ◌▸◌
+no_vectors type at b h = ap (λ v. unless TypeMismatch at v ▸ b) h
+
+-- where it is of vectors
+of_vectors : (type : ObjectType) (k : ElementKind) (at : ℕ) (b : Broken) → type ≡ Elements k → is_vector k ≡ true → (unless TypeMismatch at (is_vector_type type) ▸ b) ≡ b
+unfolding ◌▸◌
+of_vectors type k at b is h = ap (λ t. unless TypeMismatch at (is_vector_type t) ▸ b) is ∙ ap (λ v. unless TypeMismatch at v ▸ b) h
+
+pub no_element : (type : ObjectType) (k : ElementKind) (x : Typed) (at place : ℕ) → type ≡ Elements k → is_vector k ≡ true → as_filled (Elements k) x ≡ None →
+    (unless TypeMismatch at (is_vector_type type) ▸ lacking TypeMismatch place (as_filled type x)) ≡ refused TypeMismatch place
+no_element type k x at place is h none =
+    of_vectors type k at (lacking TypeMismatch place (as_filled type x)) is h ∙ ap (lacking TypeMismatch place) (ap (λ t. as_filled t x) is ∙ none)
+
+pub other_filled : (k own : ElementKind) (v : Vector) → (own ≡ Element → ⊥) → as_filled (Elements k) (elements own v) ≡ None
+other_filled k Element v other = absurd (other refl)
+other_filled k LogicVector v other = refl
+other_filled k Unsigned v other = refl
+other_filled k OpenVector v other = refl
+
+abbrev filled_by : ObjectType → ℕ → ℕ → Option ℕ → Broken
+filled_by type at place o = unless LeftOut place (is_some o) ▸ unless TypeMismatch at (is_vector_type type) ▸ lacking TypeMismatch place (filled_with type o)
+
+pub no_character : (type : ObjectType) (at place : ℕ) (o : Option ℕ) → o ≡ None → filled_by type at place o ≡ refused LeftOut place
+unfolding ◌▸◌
+no_character type at place o h = ap (filled_by type at place) h
+
+a_character : (type : ObjectType) (at place : ℕ) (o : Option ℕ) (c : ℕ) → o ≡ Some c →
+    filled_by type at place o ≡ (unless TypeMismatch at (is_vector_type type) ▸ lacking TypeMismatch place (filled_with type (Some c)))
+unfolding ◌▸◌
+a_character type at place o c h = ap (filled_by type at place) h
+
+pub no_vector : (type : ObjectType) (at place : ℕ) (o : Option ℕ) (c : ℕ) → o ≡ Some c → is_vector_type type ≡ false → filled_by type at place o ≡ refused TypeMismatch at
+no_vector type at place o c is h = a_character type at place o c is ∙ no_vectors type at (lacking TypeMismatch place (filled_with type (Some c))) h
+
+none_with : (b : Bool) (o : Option Nine) → o ≡ None → (met b >> (o >>= λ v. Some (Fixed.filled v))) ≡ None
+none_with true o h = ap (λ p. p >>= λ v. Some (Fixed.filled v)) h
+none_with false o h = refl
+
+pub none_of_nine : (type : ObjectType) (k : ElementKind) (at place : ℕ) (o : Option ℕ) (c : ℕ) → type ≡ Elements k → o ≡ Some c → is_vector k ≡ true → nine_of c ≡ None →
+    filled_by type at place o ≡ refused TypeMismatch place
+none_of_nine type k at place o c of_kind is h none =
+    a_character type at place o c is
+    ∙ of_vectors type k at (lacking TypeMismatch place (filled_with type (Some c))) of_kind h
+    ∙ ap (lacking TypeMismatch place) (ap (λ t. filled_with t (Some c)) of_kind ∙ none_with (is_vector k) (nine_of c) none)
+
+-- (others => e), by the character that e is and where it starts
+pub filled_breaks : (sight : Sight) (type : ObjectType) (at place : ℕ) (e : t.Expr) (o : Option ℕ) → place ≡ start e → o ≡ as_character e →
+    (unless LeftOut place (is_some o) ▸ unless TypeMismatch at (is_vector_type type) ▸ lacking TypeMismatch place (filled_with type o)) ≡ fixed_value sight type (t.others at e)
+filled_breaks sight type at place e o same is =
+    ap (λ k. unless LeftOut k (is_some o) ▸ unless TypeMismatch at (is_vector_type type) ▸ lacking TypeMismatch k (filled_with type o)) same
+    ∙ ap (λ c. unless LeftOut (start e) (is_some c) ▸ unless TypeMismatch at (is_vector_type type) ▸ lacking TypeMismatch (start e) (filled_with type c)) is
+    ∙ ap (λ b. unless LeftOut (start e) b ▸ unless TypeMismatch at (is_vector_type type) ▸ lacking TypeMismatch (start e) (filled_with type (as_character e))) (sym (character_is e))
+    ∙ ap (λ v. unless LeftOut (start e) (is_character e) ▸ unless TypeMismatch at (is_vector_type type) ▸ lacking TypeMismatch (start e) v) (sym (filled_as type e))
+
 -- ---- names of objects
 
-grouped : (a b c d : Broken) (f : NameFault) → Tells (a ∪ b ∪ c ∪ d) f → Tells ((a ∪ b ∪ c) ∪ d) f
-grouped a b c d f h =
-    told_either a (b ∪ c ∪ d) f h
-    (λ k. told_left (a ∪ b ∪ c) d f (told_left a (b ∪ c) f k))
-    (λ k. told_either b (c ∪ d) f k
-    (λ m. told_left (a ∪ b ∪ c) d f (told_right a (b ∪ c) f (told_left b c f m)))
-    (λ m. told_either c d f m
-    (λ n. told_left (a ∪ b ∪ c) d f (told_right a (b ∪ c) f (told_right b c f n)))
-    (told_right (a ∪ b ∪ c) d f)))
+grouped : (a b c d : Broken) → (a ▸ b ▸ c ▸ d) ≡ ((a ▸ b ▸ c) ▸ d)
+grouped a b c d = sym (in_turn a (b ▸ c) d ∙ ap (λ z. a ▸ z) (in_turn b c d))
 
 pub object_told : (sight : Sight) (n : t.Name) (more : Meaning → Suffix → Broken) (f : NameFault) →
     Tells (with_name sight n.identifier n.suffix n.attribute more) f →
-    Tells (named sight n ∪ where_given (visibility.meaning sight n.identifier.text) (λ d. where_given (are.typed_suffix sight n.suffix) (more d))) f
-object_told sight n more =
-    grouped (meaning sight n.identifier.text) (typed_suffix sight n.suffix) (unless LeftOut (is_none n.attribute))
-    (where_given (visibility.meaning sight n.identifier.text) (λ d. where_given (are.typed_suffix sight n.suffix) (more d)))
+    Tells (named sight n ▸ where_given (visibility.meaning sight n.identifier.text) (λ d. where_given (are.typed_suffix sight n.suffix) (more d))) f
+object_told sight n more f =
+    told_same _ _ f
+    (grouped (meaning sight n.identifier) (typed_suffix sight n.suffix) (no_attribute n.attribute)
+    (where_given (visibility.meaning sight n.identifier.text) (λ d. where_given (are.typed_suffix sight n.suffix) (more d))))
 
 -- ---- subtype indications
 
 module _ (sight : Sight) (i : t.Subtype) where
   abbrev mark : Broken
-  mark = where_given (visibility.meaning sight i.mark.text) (λ d. unless (mark_problem d) (is_marked d i.range))
+  mark = where_given (visibility.meaning sight i.mark.text) (λ d. unless (mark_problem d) i.mark.at (is_marked d i.range))
 
-  pub subtype_meaning : (f : NameFault) → Tells (meaning sight i.mark.text) f → Tells (subtype sight i) f
-  subtype_meaning f h = told_left (meaning sight i.mark.text) (of_any (static_range sight) i.range ∪ mark) f h
+  pub subtype_meaning : (f : NameFault) → Tells (meaning sight i.mark) f → Tells (subtype sight i) f
+  subtype_meaning f h = told_left (meaning sight i.mark) (mark ▸ of_any (static_range sight) i.range) f h
 
-  subtype_mark : (d : Meaning) (f : NameFault) → visibility.meaning sight i.mark.text ≡ Some d → Tells (unless (mark_problem d) (is_marked d i.range)) f → Tells (subtype sight i) f
-  subtype_mark d f e h =
-      told_right (meaning sight i.mark.text) (of_any (static_range sight) i.range ∪ mark) f
-      (told_right (of_any (static_range sight) i.range) mark f
-      (told_given (λ m. unless (mark_problem m) (is_marked m i.range)) (visibility.meaning sight i.mark.text) d f e h))
+  subtype_behind : (d : Meaning) (f : NameFault) → visibility.meaning sight i.mark.text ≡ Some d → Tells (mark ▸ of_any (static_range sight) i.range) f → Tells (subtype sight i) f
+  subtype_behind d f e h = told_right (meaning sight i.mark) (mark ▸ of_any (static_range sight) i.range) f (meaning_kept sight i.mark d e) h
+
+  mark_is : (d : Meaning) (o : Option t.Range) → visibility.meaning sight i.mark.text ≡ Some d → i.range ≡ o → mark ≡ unless (mark_problem d) i.mark.at (is_marked d o)
+  mark_is d o e is =
+      ap (λ p. where_given p (λ d. unless (mark_problem d) i.mark.at (is_marked d i.range))) e ∙ ap (λ q. unless (mark_problem d) i.mark.at (is_marked d q)) is
 
   pub subtype_alone : {X : Type 0} (d : Meaning) (r : Result X NameFault) → visibility.meaning sight i.mark.text ≡ Some d → i.range ≡ None →
-      IfErr r (Tells (unless (mark_problem d) (is_marked d None))) → IfErr r (Tells (subtype sight i))
-  subtype_alone d r e none = told_on _ _ r (λ f h. subtype_mark d f e (told_along _ _ f (ap (λ o. unless (mark_problem d) (is_marked d o)) (sym none)) h))
+      IfErr r (Tells (unless (mark_problem d) i.mark.at (is_marked d None))) → IfErr r (Tells (subtype sight i))
+  subtype_alone d r e none =
+      told_on _ _ r (λ f h. subtype_behind d f e (told_left mark (of_any (static_range sight) i.range) f (told_same _ mark f (sym (mark_is d None e none)) h)))
 
   pub subtype_ranged : {X : Type 0} (d : Meaning) (x : t.Range) (r : Result X NameFault) → visibility.meaning sight i.mark.text ≡ Some d → i.range ≡ Some x →
-      IfErr r (Tells (static_range sight x ∪ unless (mark_problem d) (is_marked d (Some x)))) → IfErr r (Tells (subtype sight i))
+      IfErr r (Tells (unless (mark_problem d) i.mark.at (is_marked d (Some x)) ▸ static_range sight x)) → IfErr r (Tells (subtype sight i))
   subtype_ranged d x r e some =
-      told_on _ _ r
-      (λ f h. told_either (static_range sight x) (unless (mark_problem d) (is_marked d (Some x))) f h
-      (λ k. told_right (meaning sight i.mark.text) (of_any (static_range sight) i.range ∪ mark) f
-      (told_left (of_any (static_range sight) i.range) mark f (told_along _ _ f (ap (of_any (static_range sight)) (sym some)) k)))
-      (λ k. subtype_mark d f e (told_along _ _ f (ap (λ o. unless (mark_problem d) (is_marked d o)) (sym some)) k)))
-
--- a problem that is told where a condition doesn't hold
-pub misfit : (p q : NameProblem) (b : Bool) (at : ℕ) (f : NameFault) → b ≡ false → q ≡ p → f ≡ At q at → Tells (unless p b) f
-misfit p q b at f broken same e = told_of (unless p b) (At q at) f e (ap (λ z. unless p z q) broken ∙ ap (λ z. is z p) same ∙ is_same p)
+      told_on _ _ r (λ f h. subtype_behind d f e
+      (told_same _ _ f (sym (ap (λ m. m ▸ of_any (static_range sight) i.range) (mark_is d (Some x) e some) ∙ ap (λ o. unless (mark_problem d) i.mark.at (is_marked d (Some x)) ▸ of_any (static_range sight) o) some)) h))
 
 -- what is no type of vectors takes no range
 pub unmarked : (m : DeclaredMeaning) → ((kind : ElementKind) (is_resolved : Bool) → m ≡ d.VectorType kind is_resolved → ⊥) → (x : t.Range) → is_marked (meaning_view m) (Some x) ≡ false
@@ -153,3 +296,11 @@ unmarked (d.Function f) other x = refl
 unmarked (d.Component k) other x = refl
 unmarked d.Label other x = refl
 unmarked d.Unfinished other x = refl
+
+pub marked_range : (m : DeclaredMeaning) (kind : ElementKind) (is_resolved : Bool) → m ≡ d.VectorType kind is_resolved → (x : t.Range) → is_marked (meaning_view m) (Some x) ≡ true
+marked_range m kind is_resolved is x = ap (λ n. is_marked (meaning_view n) (Some x)) is
+
+-- a problem that is told where a condition doesn't hold
+pub misfit : (p q : NameProblem) (b : Bool) (at : ℕ) (f : NameFault) → b ≡ false → q ≡ p → f ≡ At q at → Tells (unless p at b) f
+misfit p q b at f broken same e =
+    told_fault (unless p at b) (At q at) f e (ap (unless p at) broken ∙ ap (λ z. refused z at) (sym same))

@@ -145,7 +145,7 @@ pub fixed_single : (sight : Sight) (type : ObjectType) (e : t.Expr) → r.fixed_
 unfolding r.fixed_value
 fixed_single sight type e = refl
 
-filled_as : (type : ObjectType) (e : t.Expr) → r.filled_value type e ≡ filled_with type (as_character e)
+pub filled_as : (type : ObjectType) (e : t.Expr) → r.filled_value type e ≡ filled_with type (as_character e)
 filled_as (Elements k) (t.integer at s) = refl
 filled_as (Enumeration k m) (t.integer at s) = refl
 filled_as (Elements k) (t.character at s) = refl

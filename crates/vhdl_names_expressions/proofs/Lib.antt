@@ -4,6 +4,7 @@ pub mod Choosing
 pub mod Each
 pub mod Fixing
 pub mod Marks
+pub mod Starting
 pub mod Breaking
 pub mod BreakingChoices
 pub mod BreakingValues

@@ -1,10 +1,9 @@
 //! Choices of case statements and selected assignments (IEEE 1076-2008, 10.9, 11.6).
 
-ghost use Rattle.std.specs.Prelude.{◌≡◌, ◌∷◌, [], map, true, IfErr};
-ghost use Rattle.vhdl_names_problems.specs.Broken.{Tells, is_of, any_of};
+ghost use Rattle.std.specs.Prelude.{◌≡◌, ◌∷◌, [], map, IfErr};
+ghost use Rattle.vhdl_names_problems.specs.Broken.{Tells, refused, any_of};
 ghost use Rattle.vhdl_names_problems.specs.Choices as broken;
-ghost use Rattle.vhdl_names_problems.specs.Subtypes.{value_problems};
-ghost use Rattle.vhdl_names_rules.specs.declared.fault.NameProblem.TheVariants.{TypeMismatch, LeftOut};
+ghost use Rattle.vhdl_names_problems.specs.Subtypes.{literal};
 ghost use Rattle.vhdl_names_rules.specs.Choices as rules;
 ghost use Rattle.vhdl_names_rules.specs.Gives.{Gives};
 ghost use Rattle.vhdl_names_rules.specs.Rules.{each};
@@ -15,8 +14,7 @@ ghost use Rattle.vhdl_names_types.specs.Views.{sight_view, meaning_view};
 ghost use Rattle.vhdl_names_expressions.specs.Chosen.{is_bare};
 ghost use Rattle.vhdl_names_units.specs.views.Answers.{choice_view, choices_view};
 
-use crate::expressions::start;
-use crate::literals::{literal_problem, literal_values, name_of};
+use crate::literals::{literal_values, name_of, no_literal};
 use std::alloc::Global;
 use vhdl_names_rules::{ElementKind, NameFault, NameProblem, ObjectType};
 use vhdl_names_types::{Meaning, Sight, meaning_of};
@@ -25,7 +23,7 @@ use vhdl_tree::{Choice as TreeChoice, Expr, Name, Suffix};
 
 /// What is wrong with a name of this meaning as a choice.
 fn choice_problem(meaning: &Meaning) -> NameProblem
-    ensures { is_of (value_problems (meaning_view meaning.now)) result ≡ true }
+    ensures { result ≡ broken.choice_problem (meaning_view meaning.now) }
 {
     match meaning {
         Meaning::Unfinished => NameProblem::Undeclared,
@@ -38,7 +36,7 @@ fn choice_problem(meaning: &Meaning) -> NameProblem
 /// The choice that a constant of this kind is, which a literal declares; its name is at byte `at`.
 fn constant_choice(kind: ElementKind, meaning: &Meaning, at: usize) -> Result<Choice, NameFault>
     ensures given { Gives choice_view (rules.named_choice (Elements kind) (meaning_view meaning.now)) result }
-    ensures told { IfErr result (Tells (is_of (value_problems (meaning_view meaning.now)))) }
+    ensures told { IfErr result (Tells (refused (broken.choice_problem (meaning_view meaning.now)) at)) }
 {
     match (kind, meaning) {
         (ElementKind::Element, Meaning::Constant(_, ElementKind::Element, Some(values)))
@@ -58,7 +56,7 @@ fn position_choice(
     at: usize,
 ) -> Result<Choice, NameFault>
     ensures given { Gives choice_view (rules.named_choice (Enumeration number count) (meaning_view meaning.now)) result }
-    ensures told { IfErr result (Tells (is_of (value_problems (meaning_view meaning.now)))) }
+    ensures told { IfErr result (Tells (refused (broken.choice_problem (meaning_view meaning.now)) at)) }
 {
     match meaning {
         Meaning::Literal {
@@ -74,7 +72,7 @@ fn position_choice(
 /// at byte `at`.
 fn named_choice(object_type: ObjectType, meaning: &Meaning, at: usize) -> Result<Choice, NameFault>
     ensures given { Gives choice_view (rules.named_choice object_type (meaning_view meaning.now)) result }
-    ensures told { IfErr result (Tells (is_of (value_problems (meaning_view meaning.now)))) }
+    ensures told { IfErr result (Tells (refused (broken.choice_problem (meaning_view meaning.now)) at)) }
 {
     match object_type {
         ObjectType::Elements(kind) => constant_choice(kind, meaning, at),
@@ -113,14 +111,14 @@ fn chosen_name(sight: &Sight, object_type: ObjectType, name: &Name) -> Result<Ch
 /// A literal as it stands, as a choice of a type.
 fn literal_choice(alloc: Global, object_type: ObjectType, e: &Expr) -> Result<Choice, NameFault>
     ensures given { Gives choice_view (rules.literal_choice object_type (view e.now)) result }
-    ensures told { IfErr result (Tells (is_of (TypeMismatch ∷ LeftOut ∷ []))) }
+    ensures told { IfErr result (Tells (literal object_type (view e.now))) }
 {
     match object_type {
         ObjectType::Elements(kind) => {
             let values = literal_values(alloc, kind, e)?;
             Ok(Choice::Values(values))
         }
-        ObjectType::Enumeration { .. } => Err(literal_problem(e).at(start(e))),
+        ObjectType::Enumeration { .. } => Err(no_literal(e)),
     }
 }
 
@@ -140,8 +138,8 @@ fn chosen(
     }
 }
 
-/// One choice that is not `others`.
-fn choice(
+/// One choice that is not `others`. It takes memory for what is analysed.
+pub fn choice(
     alloc: Global,
     sight: &Sight,
     object_type: ObjectType,

@@ -1,8 +1,8 @@
 //! What statements ask of an expression: a condition (IEEE 1076-2008, 9.2.9), a value of a type (9.3.3, 10.5) and what a case
 //! selects by (10.9). Each takes memory for what is analysed, and fails at the first byte where a rule is broken.
 
-ghost use Rattle.std.specs.Prelude.{◌≡◌, IfErr, ◌∷◌, []};
-ghost use Rattle.vhdl_names_problems.specs.Broken.{Tells, is_of};
+ghost use Rattle.std.specs.Prelude.{◌≡◌, IfErr};
+ghost use Rattle.vhdl_names_problems.specs.Broken.{Tells, refused, ◌▸◌, unless, lacking};
 ghost use Rattle.vhdl_names_problems.specs.Choices as choices;
 ghost use Rattle.vhdl_names_problems.specs.Expressions as broken;
 ghost use Rattle.vhdl_names_rules.specs.declared.fault.NameProblem.TheVariants.{TypeMismatch};
@@ -26,7 +26,7 @@ use vhdl_tree::{Expr, Value as TreeValue};
 /// The truth that an operand is, which starts at byte `at`; one element is one.
 fn as_test(operand: Typed, at: usize) -> Result<Test, NameFault>
     ensures given { Gives test_view (rules.as_test (typed_view operand)) result }
-    ensures told { IfErr result (Tells (is_of (TypeMismatch ∷ []))) }
+    ensures told { IfErr result (Tells (refused TypeMismatch at)) }
 {
     match operand {
         Typed::Truth(test) => Ok(test),
@@ -53,7 +53,7 @@ pub fn condition(alloc: Global, sight: &Sight, e: &Expr) -> Result<Test, NameFau
 #[tactic(auto, using(crate::proofs::Asking::not_static))]
 fn as_static_test(operand: Typed, at: usize) -> Result<StaticTest, NameFault>
     ensures given { Gives static_test_view (rules.as_static_test (typed_view operand)) result }
-    ensures told { IfErr result (Tells (is_of (TypeMismatch ∷ []))) }
+    ensures told { IfErr result (Tells (refused TypeMismatch at)) }
 {
     match operand {
         Typed::Truth(test) => match test.as_fixed() {
@@ -76,7 +76,7 @@ pub fn static_condition(alloc: Global, sight: &Sight, e: &Expr) -> Result<Static
 /// The value of a kind that an operand is, which starts at byte `at`.
 fn as_elements(kind: ElementKind, operand: Typed, at: usize) -> Result<Given, NameFault>
     ensures given { Gives given_view (rules.as_value (Elements kind) (typed_view operand)) result }
-    ensures told { IfErr result (Tells (is_of (TypeMismatch ∷ []))) }
+    ensures told { IfErr result (Tells (refused TypeMismatch at)) }
 {
     if let Typed::Elements(own, vector) = operand {
         if kind.fits(own) {
@@ -89,7 +89,7 @@ fn as_elements(kind: ElementKind, operand: Typed, at: usize) -> Result<Given, Na
 /// The value of an enumeration that an operand is, which starts at byte `at`.
 fn as_state(number: usize, count: usize, operand: Typed, at: usize) -> Result<Given, NameFault>
     ensures given { Gives given_view (rules.as_value (Enumeration number count) (typed_view operand)) result }
-    ensures told { IfErr result (Tells (is_of (TypeMismatch ∷ []))) }
+    ensures told { IfErr result (Tells (refused TypeMismatch at)) }
 {
     match operand {
         Typed::Enumerated {
@@ -104,7 +104,7 @@ fn as_state(number: usize, count: usize, operand: Typed, at: usize) -> Result<Gi
 /// The value of a type that an operand is, which starts at byte `at`.
 fn as_value(object_type: ObjectType, operand: Typed, at: usize) -> Result<Given, NameFault>
     ensures given { Gives given_view (rules.as_value object_type (typed_view operand)) result }
-    ensures told { IfErr result (Tells (is_of (TypeMismatch ∷ []))) }
+    ensures told { IfErr result (Tells (refused TypeMismatch at)) }
 {
     match object_type {
         ObjectType::Elements(kind) => as_elements(kind, operand, at),
@@ -122,7 +122,7 @@ fn as_filled(
     element_at: usize,
 ) -> Result<Given, NameFault>
     ensures given { Gives given_view (rules.as_filled object_type (typed_view operand)) result }
-    ensures told { IfErr result (Tells (is_of (TypeMismatch ∷ []))) }
+    ensures told { IfErr result (Tells (unless TypeMismatch at (broken.is_vector_type object_type) ▸ lacking TypeMismatch element_at (rules.as_filled object_type (typed_view operand)))) }
 {
     match object_type {
         ObjectType::Elements(kind) if kind.is_vector() => match operand {
@@ -165,7 +165,7 @@ pub fn given(
 /// The type and the value that a case selects by, of an operand which starts at byte `at`.
 fn as_selector(operand: Typed, at: usize) -> Result<(ObjectType, Value), NameFault>
     ensures given { Gives selector_view (selector_of (typed_view operand)) result }
-    ensures told { IfErr result (Tells (is_of (TypeMismatch ∷ []))) }
+    ensures told { IfErr result (Tells (refused TypeMismatch at)) }
 {
     match operand {
         Typed::Elements(ElementKind::OpenVector, vector) => Ok((

@@ -1,13 +1,13 @@
 //! The types of expressions (IEEE 1076-2008, clause 9). Faults are told in order of the text, those
 //! of operands before those of their operator.
 
-ghost use Rattle.std.specs.Prelude.{◌≡◌, ◌≢◌, Some, map, option_map, IfErr, ◌∷◌, []};
-ghost use Rattle.vhdl_names_problems.specs.Broken.{Broken, Tells, is_of, ◌∪◌};
+ghost use Rattle.std.specs.Prelude.{◌≡◌, true, Some, map, option_map, IfOk, IfErr, OnErr, None};
+ghost use Rattle.vhdl_names_problems.specs.Broken.{Tells, nothing, refused};
 ghost use Rattle.vhdl_names_problems.specs.Expressions as broken;
+ghost use Rattle.vhdl_names_problems.specs.Places as places;
 ghost use Rattle.vhdl_names_rules.specs.Expressions as rules;
 ghost use Rattle.vhdl_names_rules.specs.Gives.{Gives};
-ghost use Rattle.vhdl_names_rules.specs.Names.{denoted as denoted_of};
-ghost use Rattle.vhdl_names_rules.specs.declared.fault.NameFault.TheVariants.{NoMemory};
+ghost use Rattle.vhdl_names_rules.specs.Names.{plain, denoted as denoted_of};
 ghost use Rattle.vhdl_names_rules.specs.declared.fault.NameProblem.TheVariants.{TypeMismatch};
 ghost use Rattle.vhdl_names_rules.specs.views.Integers.{static_view, range_view};
 ghost use Rattle.vhdl_tree.specs.Tree as t;
@@ -23,10 +23,13 @@ use vhdl_names_types::{
     Meaning, Sight, Typed, TypedSuffix, attributed, bit_string_literal, character_literal, denoted,
     enclosed, integer_literal, inverse, meaning_of, operated, signed, string_literal,
 };
-use vhdl_tree::{Chain, Expr, Link, Name, Range, Suffix};
+use vhdl_tree::{Chain, Expr, Identifier, Link, Name, Range, Suffix};
 
 /// The byte at which an expression starts.
-pub fn start(e: &Expr) -> usize {
+#[tactic(auto, using(crate::proofs::Starting::chain_starts))]
+pub fn start(e: &Expr) -> usize
+    ensures { result ≡ places.start (view e.now) }
+{
     match e {
         Expr::Integer(literal) => literal.at,
         Expr::Character { at, .. } => *at,
@@ -43,7 +46,7 @@ pub fn start(e: &Expr) -> usize {
 /// The static integer that an operand is, which starts at byte `at`.
 pub fn as_integer(operand: Typed, at: usize) -> Result<Static, NameFault>
     ensures given { Gives static_view (rules.as_integer (typed_view operand)) result }
-    ensures told { IfErr result (Tells (is_of (TypeMismatch ∷ []))) }
+    ensures told { IfErr result (Tells (refused TypeMismatch at)) }
 {
     match operand {
         Typed::Integer(integer) => Ok(integer),
@@ -200,51 +203,53 @@ fn links(alloc: Global, sight: &Sight, links: &[Link], first: Typed) -> Result<T
     Ok(done)
 }
 
-/// Whether a name of this meaning is a type's, a component's or a label's, with nothing behind it.
-fn is_no_value(meaning: &Meaning, suffix: &Suffix) -> bool {
+/// Whether a name of this meaning is a type's, a component's or a label's.
+fn is_no_value(meaning: &Meaning) -> bool
+    ensures { result ≡ broken.is_no_value (meaning_view meaning.now) }
+{
     match meaning {
-        Meaning::IntegerType(_) | Meaning::ElementType { .. } | Meaning::VectorType(..) => {
-            matches!(suffix, Suffix::Plain)
-        }
-        Meaning::EnumerationType { .. } | Meaning::Component(_) | Meaning::Label => {
-            matches!(suffix, Suffix::Plain)
-        }
+        Meaning::IntegerType(_) | Meaning::ElementType { .. } | Meaning::VectorType(..) => true,
+        Meaning::EnumerationType { .. } | Meaning::Component(_) | Meaning::Label => true,
         _ => false,
     }
 }
 
-/// What is told of a name that is no value: its attribute, if it has one, is left out, as each is but
-/// 'event.
-fn attribute_fault(meaning: &Meaning, name: &Name, fault: NameFault) -> NameFault
-    ensures given { result ≢ NoMemory → fault ≢ NoMemory }
-    ensures told { (b : Broken) → Tells b fault → Tells (b ∪ broken.attribute (option_map ident_view name.now.attribute)) result }
+/// The attribute of a name, if it has one: no other than 'event is offered.
+fn offered(attribute: &Option<Identifier>) -> Result<(), NameFault>
+    ensures kept { IfOk result (λ _. broken.attribute (option_map ident_view attribute.now) ≡ nothing) }
+    ensures told { IfErr result (Tells (broken.attribute (option_map ident_view attribute.now))) }
 {
-    match (fault, &name.attribute) {
-        (NameFault::At { .. }, Some(attribute)) => {
-            let is_event = attribute.text.as_slice() == b"event".as_slice();
-            if !is_event && is_no_value(meaning, &name.suffix) {
-                NameProblem::LeftOut.at(attribute.at)
-            } else {
-                fault
-            }
-        }
-        _ => fault,
+    let Some(attribute) = attribute else {
+        return Ok(());
+    };
+    if attribute.text.as_slice() == b"event".as_slice() {
+        Ok(())
+    } else {
+        Err(NameProblem::LeftOut.at(attribute.at))
     }
 }
 
-/// What a name of this meaning is, with what follows its identifier but for an attribute.
-fn denoted_name(
-    alloc: Global,
+/// The attribute of a type, a component or a label with nothing behind its name is told in place of
+/// the name.
+fn of_no_value(
     meaning: &Meaning,
-    suffix: TypedSuffix,
-    name: &Name,
-) -> Result<Typed, NameFault>
-    ensures given { Gives typed_view (denoted_of (meaning_view meaning.now) (typed_suffix_view suffix)) result }
-    ensures told { IfErr result (Tells (is_of (broken.name_problems (meaning_view meaning.now)) ∪ broken.attribute (option_map ident_view name.now.attribute))) }
+    suffix: &TypedSuffix,
+    attribute: &Option<Identifier>,
+) -> Result<(), NameFault>
+    ensures kept { IfOk result (λ _. broken.of_no_value (meaning_view meaning.now) (typed_suffix_view suffix.now) (option_map ident_view attribute.now) ≡ nothing) }
+    ensures none { OnErr result (denoted_of (meaning_view meaning.now) (typed_suffix_view suffix.now) ≡ None) }
+    ensures told { IfErr result (Tells (broken.of_no_value (meaning_view meaning.now) (typed_suffix_view suffix.now) (option_map ident_view attribute.now))) }
 {
-    match denoted(alloc, meaning, suffix, name.identifier.at) {
-        Ok(value) => Ok(value),
-        Err(fault) => Err(attribute_fault(meaning, name, fault)),
+    match suffix {
+        TypedSuffix::Plain => {
+            if is_no_value(meaning) {
+                offered(attribute)
+            } else {
+                Ok(())
+            }
+        }
+        TypedSuffix::Arguments(..) => Ok(()),
+        TypedSuffix::Range(_) => Ok(()),
     }
 }
 
@@ -258,7 +263,8 @@ fn named(alloc: Global, sight: &Sight, name: &Name) -> Result<Typed, NameFault>
     let at = name.identifier.at;
     let meaning = meaning_of(sight, &name.identifier)?;
     let suffix = typed_suffix(alloc, sight, &name.suffix)?;
-    let value = denoted_name(alloc, meaning, suffix, name)?;
+    of_no_value(meaning, &suffix, &name.attribute)?;
+    let value = denoted(alloc, meaning, suffix, at)?;
     attributed(&name.attribute, value, at)
 }
 

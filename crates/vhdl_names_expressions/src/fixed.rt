@@ -1,9 +1,9 @@
 //! The values of constants that are no integers, and of defaults (IEEE 1076-2008, 6.4.2.2, 9.4).
 
-ghost use Rattle.std.specs.Prelude.{◌≡◌, map, option_map, true, IfErr, ◌∷◌, []};
-ghost use Rattle.vhdl_names_problems.specs.Broken.{Tells, is_of};
+ghost use Rattle.std.specs.Prelude.{◌≡◌, map, option_map, is_some, IfErr};
+ghost use Rattle.vhdl_names_problems.specs.Broken.{Tells, refused, ◌▸◌, unless, lacking};
+ghost use Rattle.vhdl_names_problems.specs.Expressions.{is_vector_type};
 ghost use Rattle.vhdl_names_problems.specs.Subtypes as broken;
-ghost use Rattle.vhdl_names_problems.specs.Subtypes.{value_problems, suffixed_problems};
 ghost use Rattle.vhdl_names_rules.specs.declared.fault.NameProblem.TheVariants.{TypeMismatch, LeftOut};
 ghost use Rattle.vhdl_names_rules.specs.Gives.{Gives};
 ghost use Rattle.vhdl_names_rules.specs.Subtypes as rules;
@@ -16,7 +16,7 @@ ghost use Rattle.vhdl_names_expressions.specs.Fixing.{encoded_fixed, filled_with
 ghost use Rattle.vhdl_names_units.specs.views.Answers.{fixed_view};
 
 use crate::expressions::{start, typed_suffix};
-use crate::literals::{literal_problem, literal_values, name_of};
+use crate::literals::{literal_values, name_of, no_literal};
 use std::alloc::Global;
 use vhdl_names_rules::{ElementKind, Function, NameFault, NameProblem, ObjectType, nine_of};
 use vhdl_names_types::{Meaning, Sight, Typed, TypedSuffix, meaning_of, two_arguments};
@@ -25,7 +25,7 @@ use vhdl_tree::{Expr, Name, Value as TreeValue};
 
 /// What is wrong with a name of this meaning as the value of a constant.
 fn value_problem(meaning: &Meaning) -> NameProblem
-    ensures { is_of (value_problems (meaning_view meaning.now)) result ≡ true }
+    ensures { result ≡ broken.value_problem (meaning_view meaning.now) }
 {
     match meaning {
         Meaning::Unfinished => NameProblem::Undeclared,
@@ -38,7 +38,7 @@ fn value_problem(meaning: &Meaning) -> NameProblem
 /// The value that a constant of this kind is; its name is at byte `at`.
 fn constant_value(kind: ElementKind, meaning: &Meaning, at: usize) -> Result<Fixed, NameFault>
     ensures given { Gives fixed_view (rules.named_value (Elements kind) (meaning_view meaning.now)) result }
-    ensures told { IfErr result (Tells (is_of (value_problems (meaning_view meaning.now)))) }
+    ensures told { IfErr result (Tells (refused (broken.value_problem (meaning_view meaning.now)) at)) }
 {
     match (kind, meaning) {
         (ElementKind::Element, Meaning::Constant(k, ElementKind::Element, _))
@@ -58,7 +58,7 @@ fn position_value(
     at: usize,
 ) -> Result<Fixed, NameFault>
     ensures given { Gives fixed_view (rules.named_value (Enumeration number count) (meaning_view meaning.now)) result }
-    ensures told { IfErr result (Tells (is_of (value_problems (meaning_view meaning.now)))) }
+    ensures told { IfErr result (Tells (refused (broken.value_problem (meaning_view meaning.now)) at)) }
 {
     match meaning {
         Meaning::Literal {
@@ -73,7 +73,7 @@ fn position_value(
 /// The value that a constant or a literal of an enumeration is; its name is at byte `at`.
 fn named_value(object_type: ObjectType, meaning: &Meaning, at: usize) -> Result<Fixed, NameFault>
     ensures given { Gives fixed_view (rules.named_value object_type (meaning_view meaning.now)) result }
-    ensures told { IfErr result (Tells (is_of (value_problems (meaning_view meaning.now)))) }
+    ensures told { IfErr result (Tells (refused (broken.value_problem (meaning_view meaning.now)) at)) }
 {
     match object_type {
         ObjectType::Elements(kind) => constant_value(kind, meaning, at),
@@ -84,7 +84,7 @@ fn named_value(object_type: ObjectType, meaning: &Meaning, at: usize) -> Result<
 /// to_unsigned of a number and a size; its name is at byte `at`.
 fn encoded(arguments: Option<(Typed, Typed)>, at: usize) -> Result<Fixed, NameFault>
     ensures given { Gives fixed_view (encoded_fixed (option_map (λ p. (typed_view p.0, typed_view p.1)) arguments)) result }
-    ensures told { IfErr result (Tells (is_of (TypeMismatch ∷ []))) }
+    ensures told { IfErr result (Tells (refused TypeMismatch at)) }
 {
     let Some((first, second)) = arguments else {
         return Err(NameProblem::TypeMismatch.at(at));
@@ -104,7 +104,7 @@ fn encoded_value(
     at: usize,
 ) -> Result<Fixed, NameFault>
     ensures given { Gives fixed_view (rules.encoded_value object_type (meaning_view meaning.now) (map typed_view arguments.items)) result }
-    ensures told { IfErr result (Tells (is_of (value_problems (meaning_view meaning.now)))) }
+    ensures told { IfErr result (Tells (refused (broken.call_problem object_type (meaning_view meaning.now)) at)) }
 {
     match (object_type, meaning) {
         (ObjectType::Elements(ElementKind::Unsigned), Meaning::Function(Function::ToUnsigned)) => {
@@ -122,7 +122,7 @@ fn suffixed(
     at: usize,
 ) -> Result<Fixed, NameFault>
     ensures given { Gives fixed_view (suffixed_value object_type (meaning_view meaning.now) (typed_suffix_view suffix)) result }
-    ensures told { IfErr result (Tells (is_of (suffixed_problems (meaning_view meaning.now) (typed_suffix_view suffix)))) }
+    ensures told { IfErr result (Tells (refused (broken.suffixed_problem object_type (meaning_view meaning.now) (typed_suffix_view suffix)) at)) }
 {
     match suffix {
         TypedSuffix::Plain => named_value(object_type, meaning, at),
@@ -153,14 +153,14 @@ fn fixed_name(
 /// A literal as it stands, as the value of a type.
 fn literal_value(alloc: Global, object_type: ObjectType, e: &Expr) -> Result<Fixed, NameFault>
     ensures given { Gives fixed_view (rules.literal_value object_type (view e.now)) result }
-    ensures told { IfErr result (Tells (is_of (TypeMismatch ∷ LeftOut ∷ []))) }
+    ensures told { IfErr result (Tells (broken.literal object_type (view e.now))) }
 {
     match object_type {
         ObjectType::Elements(kind) => {
             let values = literal_values(alloc, kind, e)?;
             Ok(Fixed::Literal(values))
         }
-        ObjectType::Enumeration { .. } => Err(literal_problem(e).at(start(e))),
+        ObjectType::Enumeration { .. } => Err(no_literal(e)),
     }
 }
 
@@ -207,7 +207,7 @@ fn filled(
     element_at: usize,
 ) -> Result<Fixed, NameFault>
     ensures given { Gives fixed_view (filled_with object_type code) result }
-    ensures told { IfErr result (Tells (is_of (TypeMismatch ∷ LeftOut ∷ []))) }
+    ensures told { IfErr result (Tells (unless LeftOut element_at (is_some code) ▸ unless TypeMismatch at (is_vector_type object_type) ▸ lacking TypeMismatch element_at (filled_with object_type code))) }
 {
     let Some(code) = code else {
         return Err(NameProblem::LeftOut.at(element_at));

@@ -10,7 +10,7 @@ mod literals;
 mod objects;
 mod subtypes;
 
-pub use alternatives::choices;
+pub use alternatives::{choice, choices};
 pub use asked::{condition, given, selector, static_condition};
 pub use expressions::{
     as_integer, start, static_integer, static_range, typed, typed_each, typed_suffix,

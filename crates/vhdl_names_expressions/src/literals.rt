@@ -1,9 +1,11 @@
 //! Literals as they stand, which constants, defaults and choices ask for (IEEE 1076-2008, 9.3.2), and
 //! expressions that are one name.
 
-ghost use Rattle.std.specs.Prelude.{◌≡◌, option_map, option_copied, true, IfErr, ◌∷◌, []};
-ghost use Rattle.vhdl_names_problems.specs.Broken.{Tells, is_of};
-ghost use Rattle.vhdl_names_rules.specs.declared.fault.NameProblem.TheVariants.{TypeMismatch, LeftOut};
+ghost use Rattle.std.specs.Prelude.{◌≡◌, ℕ, option_map, option_copied, IfErr};
+ghost use Rattle.vhdl_names_problems.specs.Broken.{Tells, refused};
+ghost use Rattle.vhdl_names_problems.specs.Subtypes as broken;
+ghost use Rattle.vhdl_names_rules.specs.declared.kind.ObjectType.TheVariants.{Elements, Enumeration};
+ghost use Rattle.vhdl_names_rules.specs.declared.fault.NameProblem.TheVariants.{TypeMismatch};
 ghost use Rattle.vhdl_names_rules.specs.Gives.{Gives};
 ghost use Rattle.vhdl_names_rules.specs.Subtypes as subtypes;
 ghost use Rattle.vhdl_tree.specs.View.{view, name_view};
@@ -42,7 +44,7 @@ fn character_values(
     at: usize,
 ) -> Result<Vec<Nine>, NameFault>
     ensures given { Gives (λ v. v.items) (character_values_of kind code) result }
-    ensures told { IfErr result (Tells (is_of (TypeMismatch ∷ []))) }
+    ensures told { IfErr result (Tells (refused TypeMismatch at)) }
 {
     match (kind, nine_of(code)) {
         (ElementKind::Element, Some(value)) => {
@@ -54,16 +56,22 @@ fn character_values(
     }
 }
 
-/// What is wrong with an expression, which is no name, as a value of an enumeration: a literal is of
+/// What is told of an expression, which is no name, as a value of an enumeration: a literal is of
 /// another type, and any other form is left out.
-pub(crate) fn literal_problem(e: &Expr) -> NameProblem
-    ensures { is_of (TypeMismatch ∷ LeftOut ∷ []) result ≡ true }
+#[tactic(auto, using(crate::proofs::BreakingValues::chain_literal))]
+pub(crate) fn no_literal(e: &Expr) -> NameFault
+    ensures { (number count : ℕ) → Tells (broken.literal (Enumeration number count) (view e.now)) result }
 {
     match e {
-        Expr::Character { .. } | Expr::StringLiteral(_) | Expr::BitString(_) => {
-            NameProblem::TypeMismatch
-        }
-        _ => NameProblem::LeftOut,
+        Expr::Character { at, .. } => NameProblem::TypeMismatch.at(*at),
+        Expr::StringLiteral(literal) => NameProblem::TypeMismatch.at(literal.at),
+        Expr::BitString(literal) => NameProblem::TypeMismatch.at(literal.at),
+        Expr::Integer(literal) => NameProblem::LeftOut.at(literal.at),
+        Expr::Name(name) => NameProblem::LeftOut.at(name.identifier.at),
+        Expr::Parens { at, .. } => NameProblem::LeftOut.at(*at),
+        Expr::Not { at, .. } => NameProblem::LeftOut.at(*at),
+        Expr::Signed { at, .. } => NameProblem::LeftOut.at(*at),
+        Expr::Chain(_) => NameProblem::LeftOut.at(start(e)),
     }
 }
 
@@ -76,7 +84,7 @@ pub(crate) fn literal_values(
     e: &Expr,
 ) -> Result<Vec<Nine>, NameFault>
     ensures given { Gives (λ v. v.items) (subtypes.literal_values kind (view e.now)) result }
-    ensures told { IfErr result (Tells (is_of (TypeMismatch ∷ LeftOut ∷ []))) }
+    ensures told { IfErr result (Tells (broken.literal (Elements kind) (view e.now))) }
 {
     match e {
         Expr::Character { at, code } => character_values(alloc, kind, *code, *at),

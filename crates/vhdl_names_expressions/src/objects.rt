@@ -1,9 +1,8 @@
 //! Names of signals, targets and variables (IEEE 1076-2008, 8.1, 10.5, 10.6). Each takes memory for
 //! what is analysed.
 
-ghost use Rattle.std.specs.Prelude.{◌≡◌, true, IfErr};
-ghost use Rattle.vhdl_names_problems.specs.Broken.{Tells, is_of};
-ghost use Rattle.vhdl_names_problems.specs.Expressions.{name_problems};
+ghost use Rattle.std.specs.Prelude.{IfErr};
+ghost use Rattle.vhdl_names_problems.specs.Broken.{Tells, refused};
 ghost use Rattle.vhdl_names_problems.specs.Statements as broken;
 ghost use Rattle.vhdl_names_rules.specs.Gives.{Gives};
 ghost use Rattle.vhdl_names_rules.specs.Statements as rules;
@@ -18,27 +17,18 @@ use vhdl_names_types::{Meaning, Sight, TypedSuffix, meaning_of, part_of};
 use vhdl_names_units::{SignalName, VariableName};
 use vhdl_tree::{Mode, Name};
 
-/// What is wrong with a name of this meaning where an object is wanted.
-fn object_problem(meaning: &Meaning) -> NameProblem
-    ensures { is_of (name_problems (meaning_view meaning.now)) result ≡ true }
-{
-    match meaning {
-        Meaning::Unfinished => NameProblem::Undeclared,
-        _ => NameProblem::WrongKind,
-    }
-}
-
 /// The signal or port that a name at byte `at` is, or the part of one.
 fn as_signal(meaning: &Meaning, suffix: TypedSuffix, at: usize) -> Result<SignalName, NameFault>
     ensures given { Gives signal_name_view (rules.as_signal (meaning_view meaning.now) (typed_suffix_view suffix)) result }
-    ensures told { IfErr result (Tells (is_of (name_problems (meaning_view meaning.now)))) }
+    ensures told { IfErr result (Tells (refused (broken.signal_problem (meaning_view meaning.now)) at)) }
 {
     let (signal, mode, object_type) = match meaning {
         Meaning::Port(k, mode, kind) => {
             (Signal::Port(*k), Some(*mode), ObjectType::Elements(*kind))
         }
         Meaning::Signal(k, object_type) => (Signal::Signal(*k), None, *object_type),
-        _ => return Err(object_problem(meaning).at(at)),
+        Meaning::Unfinished => return Err(NameProblem::Undeclared.at(at)),
+        _ => return Err(NameProblem::WrongKind.at(at)),
     };
     let (part, object_type) = part_of(object_type, suffix, at)?;
     Ok(SignalName {
@@ -70,7 +60,7 @@ pub fn target(alloc: Global, sight: &Sight, name: &Name) -> Result<SignalName, N
 {
     let target = signal(alloc, sight, name)?;
     match target.mode {
-        Some(Mode::In) => Err(NameProblem::WriteOfIn.at(target.place.at)),
+        Some(Mode::In) => Err(NameProblem::WriteOfIn.at(name.identifier.at)),
         _ => Ok(target),
     }
 }
@@ -78,7 +68,7 @@ pub fn target(alloc: Global, sight: &Sight, name: &Name) -> Result<SignalName, N
 /// The variable that a name at byte `at` is, or the part of one.
 fn as_variable(meaning: &Meaning, suffix: TypedSuffix, at: usize) -> Result<VariableName, NameFault>
     ensures given { Gives variable_name_view (rules.as_variable (meaning_view meaning.now) (typed_suffix_view suffix)) result }
-    ensures told { IfErr result (Tells (is_of (name_problems (meaning_view meaning.now)))) }
+    ensures told { IfErr result (Tells (refused (broken.variable_problem (meaning_view meaning.now)) at)) }
 {
     match meaning {
         Meaning::Variable(number, object_type) => {
@@ -90,7 +80,8 @@ fn as_variable(meaning: &Meaning, suffix: TypedSuffix, at: usize) -> Result<Vari
                 object_type,
             })
         }
-        _ => Err(object_problem(meaning).at(at)),
+        Meaning::Unfinished => Err(NameProblem::Undeclared.at(at)),
+        _ => Err(NameProblem::WrongKind.at(at)),
     }
 }
 

@@ -1,7 +1,7 @@
 //! Subtype indications (IEEE 1076-2008, 6.3).
 
 ghost use Rattle.std.specs.Prelude.{◌≡◌, Some, None, IfErr};
-ghost use Rattle.vhdl_names_problems.specs.Broken.{Tells, ◌∪◌, unless};
+ghost use Rattle.vhdl_names_problems.specs.Broken.{Tells, ◌▸◌, unless};
 ghost use Rattle.vhdl_names_problems.specs.Expressions.{static_range as range_breaks};
 ghost use Rattle.vhdl_names_problems.specs.Subtypes as broken;
 ghost use Rattle.vhdl_names_rules.specs.Gives.{Gives};
@@ -36,7 +36,7 @@ fn mark_problem(meaning: &Meaning) -> NameProblem
 /// What objects of a type mark without a range are, where the mark is at byte `at`.
 fn marked(meaning: &Meaning, at: usize) -> Result<Subtype, NameFault>
     ensures given { Gives subtype_view (rules.marked (meaning_view meaning.now) None) result }
-    ensures told { IfErr result (Tells (unless (broken.mark_problem (meaning_view meaning.now)) (broken.is_marked (meaning_view meaning.now) None))) }
+    ensures told { IfErr result (Tells (unless (broken.mark_problem (meaning_view meaning.now)) at (broken.is_marked (meaning_view meaning.now) None))) }
 {
     match meaning {
         Meaning::ElementType { is_resolved } => Ok(Subtype {
@@ -66,7 +66,7 @@ fn ranged(
     at: usize,
 ) -> Result<Subtype, NameFault>
     ensures given { Gives subtype_view (with_range (meaning_view meaning.now) (expressions.static_range (sight_view sight.now) (trees.range_view range.now))) result }
-    ensures told { IfErr result (Tells (range_breaks (sight_view sight.now) (trees.range_view range.now) ∪ unless (broken.mark_problem (meaning_view meaning.now)) (broken.is_marked (meaning_view meaning.now) (Some (trees.range_view range.now))))) }
+    ensures told { IfErr result (Tells (unless (broken.mark_problem (meaning_view meaning.now)) at (broken.is_marked (meaning_view meaning.now) (Some (trees.range_view range.now))) ▸ range_breaks (sight_view sight.now) (trees.range_view range.now))) }
 {
     match meaning {
         Meaning::VectorType(kind, is_resolved) => {

@@ -1,5 +1,5 @@
 -- Actuals, one after another.
-use Rattle.std.proofs.Common.{◌≡◌, ◌≢◌, ℕ, zero, suc, Bool, true, false, List, [], ◌∷◌, ◌++◌, map, drop, Option, Some, None, Box, Global, refl, ap, sym, ◌∙◌}
+use Rattle.std.proofs.Common.{◌≡◌, ℕ, zero, suc, Bool, true, false, List, [], ◌∷◌, ◌++◌, map, drop, Option, Some, None, Box, Global, refl, ap, sym, ◌∙◌, true≢false}
 use Rattle.std.specs.Prelude.{option_map, slice_get}
 use Rattle.std.specs.Borrow.{Bor}
 use Rattle.std.proofs.lemmas.Option.{slice_get-map}
@@ -14,17 +14,23 @@ use Rattle.vhdl_tree.specs.declared.operator.Operator.{Operator}
 use Rattle.vhdl_tree.proofs.Rows.{chain_is}
 use Rattle.vhdl_names_rules.specs.units.Expressions.{SignalPart}
 use Rattle.vhdl_names_rules.specs.Rules.{◌>>=◌}
-use Rattle.vhdl_names_rules.specs.Visibility.{Sight}
+use Rattle.vhdl_names_rules.specs.Visibility as visibility
+use Rattle.vhdl_names_rules.specs.Visibility.{Meaning, Sight}
+use Rattle.vhdl_names_rules.specs.Names.{Suffix}
+use Rattle.vhdl_names_rules.specs.Expressions.{typed_suffix}
 use Rattle.vhdl_names_rules.specs.Instances.{Formal, as_name, is_kind, may_join}
 use Rattle.vhdl_names_rules.specs.Statements.{SignalName, signal}
 use Rattle.vhdl_names_rules.specs.declared.fault.NameFault.{NameFault}
-use Rattle.vhdl_names_rules.specs.declared.fault.NameFault.TheVariants.{NoMemory}
+use Rattle.vhdl_names_rules.specs.declared.fault.NameProblem.{NameProblem}
 use Rattle.vhdl_names_rules.specs.declared.fault.NameProblem.TheVariants.{TypeMismatch, WriteOfIn, LeftOut}
-use Rattle.vhdl_names_problems.specs.Broken.{Broken, Tells, ◌∪◌, is_of, unless, lacking, where_given}
-use Rattle.vhdl_names_problems.specs.Statements.{signal as broken_signal}
-use Rattle.vhdl_names_problems.specs.Instances.{port_actual}
-use Rattle.vhdl_names_problems.proofs.Telling.{told_left, told_right, told_given}
-use Rattle.vhdl_names_instances.proofs.Told.{or_memory, told_along, told_either, tells_unless}
+use Rattle.vhdl_names_problems.specs.Broken.{Broken, Tells, refused, ◌▸◌, unless, lacking, where_given}
+use Rattle.vhdl_names_problems.specs.Places.{start}
+use Rattle.vhdl_names_problems.specs.Expressions.{meaning, no_attribute, typed_suffix as broken_suffix}
+use Rattle.vhdl_names_problems.specs.Statements.{named}
+use Rattle.vhdl_names_problems.specs.Instances.{names_value, actual_signal, port_actual}
+use Rattle.vhdl_names_problems.proofs.Telling.{IsKept, behind_kept, unless_kept, lacking_kept, told_same, told_left, told_right, told_given, told_unless, told_lacking}
+use Rattle.vhdl_names_problems.proofs.kept.Expressions.{meaning_kept, typed_suffix_kept}
+use Rattle.vhdl_names_problems.proofs.kept.Instances.{names_no_value, actual_signal_kept}
 use Rattle.vhdl_names_expressions.proofs.Each.{behind}
 use Rattle.vhdl_names_instances.specs.declared.actuals.PortType.{PortType}
 use Rattle.vhdl_names_instances.specs.Views.{actual_view}
@@ -98,50 +104,83 @@ module _ (sight : Sight) where
     pub actuals_end : entry sight ps es i ≡ Some None → whole ≡ Some ys
     actuals_end e = by_entry (Some None) e ∙ ap Some (append-nil ys)
 
+-- ---- the name of a value
+
+pub refused_first : (p : NameProblem) (at : ℕ) (b : Broken) → (refused p at ▸ b) ≡ refused p at
+unfolding ◌▸◌
+refused_first p at b = refl
+
+module _ (sight : Sight) (n : t.Name) where
+  abbrev meant : Option Meaning
+  meant = visibility.meaning sight n.identifier.text
+
+  pub value_is_no_signal : names_value meant n.suffix ≡ true → signal sight n ≡ None
+  value_is_no_signal h = go (signal sight n) refl
+    where
+      go : (o : Option SignalName) → signal sight n ≡ o → o ≡ None
+      go None e = refl
+      go (Some x) e = absurd (true≢false (sym h ∙ names_no_value sight n x e))
+
+  value_is_known : names_value meant n.suffix ≡ true → IsKept (meaning sight n.identifier)
+  value_is_known h = go meant refl h
+    where
+      go : (m : Option Meaning) → meant ≡ m → names_value m n.suffix ≡ true → IsKept (meaning sight n.identifier)
+      go None e h = absurd cc
+      go (Some d) e h = meaning_kept sight n.identifier d e
+
+  abbrev behind_suffix : Broken
+  behind_suffix = no_attribute n.attribute
+
+  -- what is told of its suffix, and of itself
+  pub suffix_told : (f : NameFault) → names_value meant n.suffix ≡ true → Tells (broken_suffix sight n.suffix) f → Tells (named sight n ▸ refused LeftOut n.identifier.at) f
+  suffix_told f h w =
+      told_left (named sight n) (refused LeftOut n.identifier.at) f
+      (told_right (meaning sight n.identifier) (broken_suffix sight n.suffix ▸ behind_suffix) f (value_is_known h) (told_left (broken_suffix sight n.suffix) behind_suffix f w))
+
+  pub value_told : (f : NameFault) (at : ℕ) → names_value meant n.suffix ≡ true → (s : Suffix) → typed_suffix sight n.suffix ≡ Some s
+      → (behind_suffix ▸ refused LeftOut n.identifier.at) ≡ refused LeftOut at → Tells (refused LeftOut at) f → Tells (named sight n ▸ refused LeftOut n.identifier.at) f
+  value_told f at h s e q w =
+      let named_is : named sight n ≡ behind_suffix =
+      behind_kept (meaning sight n.identifier) (broken_suffix sight n.suffix ▸ behind_suffix) (value_is_known h)
+      ∙ behind_kept (broken_suffix sight n.suffix) behind_suffix (typed_suffix_kept n.suffix sight s e) in
+      told_same (refused LeftOut at) (named sight n ▸ refused LeftOut n.identifier.at) f (sym (ap (λ b. b ▸ refused LeftOut n.identifier.at) named_is ∙ q)) w
+
 -- ---- what is told of an actual
 
--- an actual that is no signal, or an expression that is left out
-pub signal_told : {A : Type 0} (a : Broken) (o : Option A) (fault result : NameFault) → Tells a fault → (fault ≢ NoMemory → o ≡ None) → (result ≢ NoMemory → fault ≢ NoMemory)
-    → ((b : Broken) → Tells b fault → Tells (b ∪ is_of (LeftOut ∷ [])) result) → Tells (a ∪ lacking (LeftOut ∷ []) o) result
-signal_told a o fault result t none memory left =
-    or_memory (a ∪ lacking (LeftOut ∷ []) o) result
-    (λ n. told_along (λ o. a ∪ lacking (LeftOut ∷ []) o) None o (sym (none (memory n))) result (left a t))
-
 module _ (sight : Sight) (f : Formal) (e : t.Expr) (x : NameFault) where
-  abbrev of_signal : SignalName → Broken
-  of_signal s = unless TypeMismatch (is_kind f.kind s.type) ∪ unless WriteOfIn (may_join f.mode s.mode)
+  abbrev of_signal : t.Name → SignalName → Broken
+  of_signal n s = unless TypeMismatch n.identifier.at (is_kind f.kind s.type) ▸ unless WriteOfIn n.identifier.at (may_join f.mode s.mode)
 
   abbrev of_name : t.Name → Broken
-  of_name n = broken_signal sight n ∪ lacking (LeftOut ∷ []) (signal sight n) ∪ where_given (signal sight n) of_signal
+  of_name n = actual_signal sight n ▸ where_given (signal sight n) (of_signal n)
 
-  pub no_name_told : as_name e ≡ None → Tells (is_of (LeftOut ∷ [])) x → Tells (port_actual sight f e) x
-  no_name_told h w = told_left (lacking (LeftOut ∷ []) (as_name e)) (where_given (as_name e) of_name) x (told_along (lacking (LeftOut ∷ [])) None (as_name e) (sym h) x w)
+  pub no_name_told : as_name e ≡ None → Tells (refused LeftOut (start e)) x → Tells (port_actual sight f e) x
+  no_name_told h w =
+      told_left (lacking LeftOut (start e) (as_name e)) (where_given (as_name e) of_name) x (told_lacking LeftOut (start e) (as_name e) x (λ m. h) w)
 
-  named : (n : t.Name) → as_name e ≡ Some n → Tells (of_name n) x → Tells (port_actual sight f e) x
-  named n h w = told_right (lacking (LeftOut ∷ []) (as_name e)) (where_given (as_name e) of_name) x (told_given of_name (as_name e) n x h w)
+  at_name : (n : t.Name) → as_name e ≡ Some n → Tells (of_name n) x → Tells (port_actual sight f e) x
+  at_name n h w =
+      told_right (lacking LeftOut (start e) (as_name e)) (where_given (as_name e) of_name) x (lacking_kept LeftOut (start e) (as_name e) n h)
+      (told_given of_name (as_name e) n x h w)
 
-  pub no_signal_told : (n : t.Name) → as_name e ≡ Some n → Tells (broken_signal sight n ∪ lacking (LeftOut ∷ []) (signal sight n)) x → Tells (port_actual sight f e) x
-  no_signal_told n h w =
-      named n h
-      (told_either (broken_signal sight n) (lacking (LeftOut ∷ []) (signal sight n)) (of_name n) x
-      (told_left (broken_signal sight n) (lacking (LeftOut ∷ []) (signal sight n) ∪ where_given (signal sight n) of_signal) x)
-      (λ w. told_right (broken_signal sight n) (lacking (LeftOut ∷ []) (signal sight n) ∪ where_given (signal sight n) of_signal) x
-      (told_left (lacking (LeftOut ∷ []) (signal sight n)) (where_given (signal sight n) of_signal) x w)) w)
+  pub no_signal_told : (n : t.Name) → as_name e ≡ Some n → Tells (actual_signal sight n) x → Tells (port_actual sight f e) x
+  no_signal_told n h w = at_name n h (told_left (actual_signal sight n) (where_given (signal sight n) (of_signal n)) x w)
 
-  at_signal : (n : t.Name) → as_name e ≡ Some n → (s : SignalName) → signal sight n ≡ Some s → Tells (of_signal s) x → Tells (port_actual sight f e) x
+  at_signal : (n : t.Name) → as_name e ≡ Some n → (s : SignalName) → signal sight n ≡ Some s → Tells (of_signal n s) x → Tells (port_actual sight f e) x
   at_signal n h s k w =
-      named n h
-      (told_right (broken_signal sight n) (lacking (LeftOut ∷ []) (signal sight n) ∪ where_given (signal sight n) of_signal) x
-      (told_right (lacking (LeftOut ∷ []) (signal sight n)) (where_given (signal sight n) of_signal) x (told_given of_signal (signal sight n) s x k w)))
+      at_name n h
+      (told_right (actual_signal sight n) (where_given (signal sight n) (of_signal n)) x (actual_signal_kept sight n s k)
+      (told_given (of_signal n) (signal sight n) s x k w))
 
   pub other_kind_told : (n : t.Name) → as_name e ≡ Some n → (s : SignalName) → signal sight n ≡ Some s → is_kind f.kind s.type ≡ false
-      → Tells (is_of (TypeMismatch ∷ [])) x → Tells (port_actual sight f e) x
+      → Tells (refused TypeMismatch n.identifier.at) x → Tells (port_actual sight f e) x
   other_kind_told n h s k q w =
-      at_signal n h s k (told_left (unless TypeMismatch (is_kind f.kind s.type)) (unless WriteOfIn (may_join f.mode s.mode)) x
-      (tells_unless TypeMismatch (is_kind f.kind s.type) x q w))
+      at_signal n h s k (told_left (unless TypeMismatch n.identifier.at (is_kind f.kind s.type)) (unless WriteOfIn n.identifier.at (may_join f.mode s.mode)) x
+      (told_unless TypeMismatch n.identifier.at (is_kind f.kind s.type) x (λ m. q) w))
 
-  pub not_joined_told : (n : t.Name) → as_name e ≡ Some n → (s : SignalName) → signal sight n ≡ Some s → may_join f.mode s.mode ≡ false
-      → Tells (is_of (WriteOfIn ∷ [])) x → Tells (port_actual sight f e) x
-  not_joined_told n h s k q w =
-      at_signal n h s k (told_right (unless TypeMismatch (is_kind f.kind s.type)) (unless WriteOfIn (may_join f.mode s.mode)) x
-      (tells_unless WriteOfIn (may_join f.mode s.mode) x q w))
+  pub not_joined_told : (n : t.Name) → as_name e ≡ Some n → (s : SignalName) → signal sight n ≡ Some s → is_kind f.kind s.type ≡ true → may_join f.mode s.mode ≡ false
+      → Tells (refused WriteOfIn n.identifier.at) x → Tells (port_actual sight f e) x
+  not_joined_told n h s k a q w =
+      at_signal n h s k (told_right (unless TypeMismatch n.identifier.at (is_kind f.kind s.type)) (unless WriteOfIn n.identifier.at (may_join f.mode s.mode)) x
+      (unless_kept TypeMismatch n.identifier.at (is_kind f.kind s.type) a)
+      (told_unless WriteOfIn n.identifier.at (may_join f.mode s.mode) x (λ m. q) w))

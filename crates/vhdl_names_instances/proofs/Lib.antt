@@ -4,7 +4,7 @@ pub mod Instanced
 pub mod Instancing
 pub mod Mapping
 pub mod Porting
+pub mod Reading
 pub mod Tabling
 pub mod Taking
 pub mod Told
-pub mod Typing

@@ -1,32 +1,30 @@
 -- What is told of the maps of an instance, over what is seen of its entity.
-use Rattle.std.proofs.Common.{◌≡◌, List, map, Option, Some, ap, sym, ◌∙◌}
-use Rattle.std.specs.Prelude.{filter_map}
+use Rattle.std.proofs.Common.{◌≡◌, ℕ, true, List, map, Option, Some, None, refl, ap, sym, ◌∙◌}
+use Rattle.std.specs.Prelude.{filter_map, is_some}
 use Rattle.vhdl_tree.specs.Tree as t
-use Rattle.vhdl_tree.specs.Tree.{Expr, Association}
+use Rattle.vhdl_tree.specs.Tree.{Ident, Expr, Association}
 use Rattle.vhdl_names_rules.specs.declared.fault.NameFault.{NameFault}
-use Rattle.vhdl_names_rules.specs.Rules.{all_of}
+use Rattle.vhdl_names_rules.specs.units.Expressions.{Static, SignalPart}
+use Rattle.vhdl_names_rules.specs.units.Units as u
+use Rattle.vhdl_names_rules.specs.Rules.{◌>>=◌, each, if_any, all_of}
 use Rattle.vhdl_names_rules.specs.Visibility.{Name, Sight}
-use Rattle.vhdl_names_rules.specs.Instances as rules
-use Rattle.vhdl_names_rules.specs.Instances.{Formal, generic_name, port_formal, expression_of}
+use Rattle.vhdl_names_rules.specs.Expressions.{static}
+use Rattle.vhdl_names_rules.specs.Instances.{Formal, associated, generic_name, port_formal}
 use Rattle.vhdl_names_rules.specs.Interfaces.{EntityView}
-use Rattle.vhdl_names_problems.specs.Broken.{Broken, Tells, any_of, of_any}
-use Rattle.vhdl_names_problems.specs.Expressions.{static}
-use Rattle.vhdl_names_problems.specs.Instances.{associated, generic_map, port_map, maps}
-use Rattle.vhdl_names_problems.proofs.Telling.{told_left, told_right}
-use Rattle.vhdl_names_instances.specs.Table.{Seen, seen}
-use Rattle.vhdl_names_instances.specs.Breaking.{port_actuals}
-use Rattle.vhdl_names_instances.proofs.Told.{told_along}
-use Rattle.vhdl_names_instances.proofs.Porting.{generics_told, all_ports_told, names_told}
+use Rattle.vhdl_names_problems.specs.Broken.{Broken, Tells}
+use Rattle.vhdl_names_problems.specs.Instances.{generic_map, port_map, maps}
+use Rattle.vhdl_names_problems.proofs.Telling.{IsKept, told_same, told_left, told_right}
+use Rattle.vhdl_names_instances.specs.Table.{Seen, seen, type_of}
+use Rattle.vhdl_names_instances.specs.steps.Actuals.{port_actuals}
+use Rattle.vhdl_names_instances.specs.steps.Instances.{with_formals}
+use Rattle.vhdl_names_instances.specs.steps.Maps as steps
 
-module _ (sight : Sight) (e : EntityView) (s : Seen) (is : s ≡ seen e) (i : t.Instance) (f : NameFault) where
+module _ (sight : Sight) (e : EntityView) (s : Seen) (is : s ≡ seen e) (i : t.Instance) where
   abbrev generics : List Name
   generics = filter_map generic_name e.interface.declared
 
   abbrev ports : List Formal
   ports = filter_map port_formal e.interface.declared
-
-  abbrev names : List Name
-  names = map (λ (f : Formal). f.name) ports
 
   abbrev generic : Broken
   generic = generic_map sight generics (all_of i.generics)
@@ -34,28 +32,38 @@ module _ (sight : Sight) (e : EntityView) (s : Seen) (is : s ≡ seen e) (i : t.
   abbrev port : Broken
   port = port_map sight ports (all_of i.ports)
 
-  pub generic_map_told : (as' : List Association) → as' ≡ all_of i.generics → Tells (generic_map sight s.generics as') f → Tells (maps sight e i) f
-  generic_map_told as' h w =
-      told_left generic port f
-      (told_along (generic_map sight generics) as' (all_of i.generics) h f (told_along (λ (s : Seen). generic_map sight s.generics as') s (seen e) is f w))
+  generic_is : (as' : List Association) → as' ≡ all_of i.generics → generic_map sight s.generics as' ≡ generic
+  generic_is as' h = ap (λ (s : Seen). generic_map sight s.generics as') is ∙ ap (generic_map sight generics) h
 
-  pub port_map_told : (as' : List Association) → as' ≡ all_of i.ports → Tells (port_map sight ports as') f → Tells (maps sight e i) f
-  port_map_told as' h w = told_right generic port f (told_along (port_map sight ports) as' (all_of i.ports) h f w)
+  pub generic_map_told : (f : NameFault) (as' : List Association) → as' ≡ all_of i.generics → Tells (generic_map sight s.generics as') f → Tells (maps sight e i) f
+  generic_map_told f as' h w = told_left generic port f (told_same (generic_map sight s.generics as') generic f (generic_is as' h) w)
 
-  pub generic_names_told : (as' : List Association) → as' ≡ all_of i.generics → Tells (associated s.generics as') f → Tells (maps sight e i) f
-  generic_names_told as' h w =
-      generic_map_told as' h (told_left (associated s.generics as') (any_of (λ a. of_any (static sight) (expression_of a.actual)) as') f w)
+  pub port_map_told : (f : NameFault) (as' : List Association) → as' ≡ all_of i.generics → IsKept (generic_map sight s.generics as') → (bs : List Association) → bs ≡ all_of i.ports
+      → Tells (port_map sight ports bs) f → Tells (maps sight e i) f
+  port_map_told f as' h k bs g w = told_right generic port f (sym (generic_is as' h) ∙ k) (told_same (port_map sight ports bs) port f (ap (port_map sight ports) g) w)
 
-  pub generic_actuals_told : (as' : List Association) → as' ≡ all_of i.generics → (xs : List (Option Expr)) → rules.associated s.generics as' ≡ Some xs
-      → Tells (any_of (of_any (static sight)) xs) f → Tells (maps sight e i) f
-  generic_actuals_told as' h xs k w = generic_map_told as' h (generics_told sight s.generics as' xs k f w)
+-- where both maps are given, an instance is
+both_given : (o : Option (List (Option Expr))) (f : List (Option Expr) → Option (List (Option Static))) (p : Option (List (Option Expr)))
+    (g : List (Option Expr) → Option (List (Option SignalPart))) (made : List (Option Static) → List (Option SignalPart) → u.Instance)
+    → is_some (o >>= f) ≡ true → is_some (p >>= g) ≡ true → is_some (o >>= λ gs. f gs >>= λ x. p >>= λ ps. g ps >>= λ y. Some (made x y)) ≡ true
+both_given None f p g made h k = absurd cc
+both_given (Some gs) f None g made h k = absurd cc
+both_given (Some gs) f (Some ps) g made h k = go (f gs) (g ps) h k
+  where
+    go : (x : Option (List (Option Static))) (y : Option (List (Option SignalPart))) → is_some x ≡ true → is_some y ≡ true → is_some (x >>= λ x. y >>= λ y. Some (made x y)) ≡ true
+    go None y h k = absurd cc
+    go (Some x) None h k = absurd cc
+    go (Some x) (Some y) h k = refl
 
-  pub port_names_told : (as' : List Association) → as' ≡ all_of i.ports → Tells (associated s.ports as') f → Tells (maps sight e i) f
-  port_names_told as' h w =
-      port_map_told as' h (names_told sight ports as' f (told_along (λ (s : Seen). associated s.ports as') s (seen e) is f w))
-
-  pub port_actuals_told : (as' : List Association) → as' ≡ all_of i.ports → (xs : List (Option Expr)) → rules.associated s.ports as' ≡ Some xs
-      → Tells (port_actuals sight s.port_types xs) f → Tells (maps sight e i) f
-  port_actuals_told as' h xs k w =
-      port_map_told as' h (all_ports_told sight ports as' xs (ap (λ (s : Seen). rules.associated s.ports as') (sym is) ∙ k) f
-      (told_along (λ (s : Seen). port_actuals sight s.port_types xs) s (seen e) is f w))
+pub maps_given : (sight : Sight) (e : EntityView) (s : Seen) → s ≡ seen e → (label : Ident) (k : ℕ) (as' bs as'' bs' : List Association) → as' ≡ as'' → bs ≡ bs'
+    → is_some (steps.generics sight s.generics as') ≡ true → is_some (steps.ports sight (filter_map port_formal e.interface.declared) bs) ≡ true
+    → is_some (with_formals sight label k s as'' bs') ≡ true
+maps_given sight e s is label k as' bs as'' bs' p q h g =
+    ap (λ as'. is_some (with_formals sight label k s as' bs')) (sym p)
+    ∙ ap (λ bs. is_some (with_formals sight label k s as' bs)) (sym q)
+    ∙ ap (λ s. is_some (with_formals sight label k s as' bs)) is
+    ∙ both_given (associated (filter_map generic_name e.interface.declared) as') (λ gs. each (if_any (static sight)) gs)
+    (associated (map (λ (f : Formal). f.name) (filter_map port_formal e.interface.declared)) bs)
+    (λ ps. port_actuals sight (map type_of (filter_map port_formal e.interface.declared)) ps)
+    (λ generics ports. record { label = label.text; unit = k; generics = generics; ports = ports })
+    (ap (λ (s : Seen). is_some (steps.generics sight s.generics as')) (sym is) ∙ h) g

@@ -1,227 +1,216 @@
--- What is told of the actuals of formals is told of the associations that they stand in.
-use Rattle.std.proofs.Common.{◌≡◌, ℕ, zero, suc, Bool, true, false, cond, ◌||◌, List, [], ◌∷◌, ◌++◌, map, drop, Option, Some, None, refl, ap, sym, ◌∙◌, subst, inl, inr, true≢false}
-use Rattle.std.specs.Prelude.{◌⊎◌, bytes_eq, filter_map, find, zip, option_map, slice_get, if◌then◌else◌}
-use Rattle.std.specs.List.{list_all, cons_option}
-use Rattle.std.proofs.lemmas.List.{append-nil}
-use Rattle.std.proofs.lemmas.Slice.Eq.{bytes_eq-Decides}
+-- Actuals of generics and ports, by the names of their formals.
+use Rattle.std.proofs.Common.{◌≡◌, ℕ, zero, suc, ◌+◌, ◌<◌, ◌≤◌, length, arith, Bool, true, false, not, cond, ◌||◌, List, [], ◌∷◌, map, drop, Option, Some, None, Vec, Global, refl, ap, sym, ◌∙◌}
+use Rattle.std.specs.Prelude.{◌&&◌, bytes_eq, option_map, slice_get, is_some, if◌then◌else◌}
+use Rattle.std.specs.List.{list_all}
+use Rattle.std.proofs.lemmas.List.{drop_all, length-map}
+use Rattle.std.proofs.lemmas.Option.{slice_get-map}
 use Rattle.vhdl_tree.specs.Tree.{Expr, Association}
 use Rattle.vhdl_names_rules.specs.declared.fault.NameFault.{NameFault}
-use Rattle.vhdl_names_rules.specs.Rules.{◌>>=◌}
-use Rattle.vhdl_names_rules.specs.Visibility.{Name, Sight, is_among, are_distinct}
+use Rattle.vhdl_names_rules.specs.declared.fault.NameFault.TheVariants.{At, NoMemory}
+use Rattle.vhdl_names_rules.specs.units.Expressions.{Static}
+use Rattle.vhdl_names_rules.specs.Rules.{◌>>=◌, each, if_any}
+use Rattle.vhdl_names_rules.specs.Visibility.{Name, Sight}
+use Rattle.vhdl_names_rules.specs.Expressions.{static}
 use Rattle.vhdl_names_rules.specs.Instances as rules
-use Rattle.vhdl_names_rules.specs.Instances.{Formal, expression_of, actual_of, positional_first, formal_of, formals_of}
-use Rattle.vhdl_names_rules.proofs.laws.Rules.{comes, kept, both, some_is}
-use Rattle.vhdl_names_problems.specs.Broken.{Broken, Tells, nothing, ◌∪◌, any_of, of_any}
-use Rattle.vhdl_names_problems.specs.Instances.{formal_names, associated, port_actual, ports_named, port_association, generic_map, port_map}
-use Rattle.vhdl_names_problems.specs.Expressions.{static}
-use Rattle.vhdl_names_problems.proofs.Telling.{told_left, told_right}
+use Rattle.vhdl_names_rules.specs.Instances.{Formal, actual_of}
+use Rattle.vhdl_names_rules.proofs.laws.Rules.{both}
+use Rattle.vhdl_names_problems.specs.Broken.{Broken, Tells, nothing, any_of, where_given}
+use Rattle.vhdl_names_problems.specs.Expressions.{static as broken_static}
+use Rattle.vhdl_names_problems.specs.Instances.{port_actual, ports_named}
+use Rattle.vhdl_names_problems.proofs.Telling.{IsKept, behind_kept, told_same, told_left}
+use Rattle.vhdl_names_problems.proofs.kept.Expressions.{static_kept}
+use Rattle.vhdl_names_problems.proofs.kept.Instances.{port_actual_kept}
 use Rattle.vhdl_names_instances.specs.declared.actuals.PortType.{PortType}
-use Rattle.vhdl_names_instances.specs.Table.{type_of}
-use Rattle.vhdl_names_instances.specs.Taken.{AreTaken}
-use Rattle.vhdl_names_instances.specs.Breaking.{typed_as, entry, port_actuals}
-use Rattle.vhdl_names_instances.specs.steps.Actuals.{formal}
-use Rattle.vhdl_names_instances.specs.steps.Associations.{actuals}
-use Rattle.vhdl_names_instances.proofs.Told.{told_along, told_nothing, told_either}
+use Rattle.vhdl_names_instances.specs.Table.{type_of, items}
+use Rattle.vhdl_names_instances.specs.steps.Actuals as steps
+use Rattle.vhdl_names_instances.specs.steps.Maps.{is_static, fits_one, fits, port_named, fits_if_any, holds_if_any, reading, generics, ports}
+use Rattle.vhdl_names_instances.proofs.Reading.{are_actuals}
 use Rattle.vhdl_names_instances.proofs.Taking.{same_name}
 
--- ---- the entry of one place is told of all
+-- ---- what is given
 
-pub entry_told : (sight : Sight) (p : PortType) (e : Option Expr) (o : Option PortType) (q : Option (Option Expr)) → Some p ≡ o → Some e ≡ q
-    → (f : NameFault) → Tells (of_any (port_actual sight (formal p)) e) f → Tells (entry sight o q) f
-entry_told sight p e o q h k f w =
-    told_along (λ q. entry sight o q) (Some e) q k f (told_along (λ o. entry sight o (Some e)) (Some p) o h f w)
+some_value : {A : Type 0} (o : Option A) → is_some o ≡ true → (x : A) × (o ≡ Some x)
+some_value None h = absurd cc
+some_value (Some x) h = (x, refl)
 
-no_entry : (sight : Sight) (b : Broken) (o : Option PortType) (f : NameFault) → Tells (entry sight o None) f → Tells b f
-no_entry sight b None f w = told_nothing b f w
-no_entry sight b (Some p) f w = told_nothing b f w
+behind_both : {A B : Type 0} (o : Option A) (p : Option (List B)) (f : A → List B → Option (List B)) → ((x : A) (ys : List B) → is_some (f x ys) ≡ true)
+    → is_some o ≡ true → is_some p ≡ true → is_some (o >>= λ x. p >>= λ ys. f x ys) ≡ true
+behind_both None p f g h k = absurd cc
+behind_both (Some x) None f g h k = absurd cc
+behind_both (Some x) (Some ys) f g h k = g x ys
 
-pub all_entries : (sight : Sight) (ps : List PortType) (es : List (Option Expr)) (i : ℕ) (f : NameFault)
-    → Tells (entry sight (slice_get ps i) (slice_get es i)) f → Tells (port_actuals sight ps es) f
-all_entries sight [] es zero f w = w
-all_entries sight [] es (suc i) f w = w
-all_entries sight (p ∷ ps) [] zero f w = w
-all_entries sight (p ∷ ps) [] (suc i) f w = no_entry sight nothing (slice_get ps i) f w
-all_entries sight (p ∷ ps) (e ∷ es) zero f w = told_left (of_any (port_actual sight (formal p)) e) (port_actuals sight ps es) f w
-all_entries sight (p ∷ ps) (e ∷ es) (suc i) f w =
-    told_right (of_any (port_actual sight (formal p)) e) (port_actuals sight ps es) f (all_entries sight ps es i f w)
-
--- ---- the actual of a formal stands in an association
-
-abbrev of_actual : (Expr → Broken) → Association → Broken
-of_actual b a = of_any b (expression_of a.actual)
-
-one_told : (b : Expr → Broken) (n : Name) (ts : List Name) (as' : List Association) (f : NameFault) → Tells (of_any b (actual_of n ts as')) f → Tells (any_of (of_actual b) as') f
-one_told b n [] as' f w = told_nothing (any_of (of_actual b) as') f w
-one_told b n (t ∷ ts) [] f w = w
-one_told b n (t ∷ ts) (a ∷ as') f w = go (bytes_eq n t) w (one_told b n ts as' f)
+if_any_given : {B : Type 0} (f : Expr → Option B) (o : Option Expr) → holds_if_any (λ e. is_some (f e)) o ≡ true → is_some (if_any f o) ≡ true
+if_any_given f None h = refl
+if_any_given f (Some e) h = go (f e) h
   where
-    go : (x : Bool) → Tells (of_any b (if x then expression_of a.actual else actual_of n ts as')) f → (Tells (of_any b (actual_of n ts as')) f → Tells (any_of (of_actual b) as') f)
-        → Tells (any_of (of_actual b) (a ∷ as')) f
-    go true w more = told_left (of_actual b a) (any_of (of_actual b) as') f w
-    go false w more = told_right (of_actual b a) (any_of (of_actual b) as') f (more w)
+    go : {B : Type 0} (o : Option B) → is_some o ≡ true → is_some (o >>= λ y. Some (Some y)) ≡ true
+    go None h = absurd cc
+    go (Some y) h = refl
 
-pub actuals_told : (b : Expr → Broken) (ns ts : List Name) (as' : List Association) (f : NameFault) → Tells (any_of (of_any b) (actuals ns ts as')) f → Tells (any_of (of_actual b) as') f
-actuals_told b [] ts as' f w = told_nothing (any_of (of_actual b) as') f w
-actuals_told b (n ∷ ns) ts as' f w =
-    told_either (of_any b (actual_of n ts as')) (any_of (of_any b) (actuals ns ts as')) (any_of (of_actual b) as') f
-    (one_told b n ts as' f) (actuals_told b ns ts as' f) w
+-- nothing rests on a port's name
+port_by : (sight : Sight) (f : Formal) (e : Expr) → rules.port_actual sight f e ≡ rules.port_actual sight (steps.formal (type_of f)) e
+unfolding rules.port_actual
+port_by sight f e = refl
 
--- ---- ports of a name and type
+-- ---- generics
 
-abbrev HasPort : List Formal → Name → PortType → Type 0
-HasPort [] n p = ⊥
-HasPort (g ∷ gs) n p = ((bytes_eq n g.name ≡ true) × (p ≡ type_of g)) ⊎ HasPort gs n p
+pub static_keeps : (sight : Sight) (n : Name) (e : Expr) → is_static sight n e ≡ true → IsKept (broken_static sight e)
+static_keeps sight n e h = let s = some_value (static sight e) h in static_kept sight e s.0 s.1
 
--- as far as there are both
-abbrev pub Aligned : List Formal → List Name → List PortType → Type 0
-Aligned gs (n ∷ ns) (p ∷ ps) = HasPort gs n p × Aligned gs ns ps
-Aligned gs _ _ = Unit {0}
-
-one_port_more : (g : Formal) (gs : List Formal) (ns : List Name) (ps : List PortType) → Aligned gs ns ps → Aligned (g ∷ gs) ns ps
-one_port_more g gs [] ps h = tt
-one_port_more g gs (n ∷ ns) [] h = tt
-one_port_more g gs (n ∷ ns) (p ∷ ps) h = (inr h.0, one_port_more g gs ns ps h.1)
-
-pub own_types : (gs : List Formal) → Aligned gs (map (λ (g : Formal). g.name) gs) (map type_of gs)
-own_types [] = tt
-own_types (g ∷ gs) = (inl (same_name g.name, refl), one_port_more g gs (map (λ (g : Formal). g.name) gs) (map type_of gs) (own_types gs))
-
-typed : (gs : List Formal) (n : Name) → is_among n (map (λ (g : Formal). g.name) gs) ≡ true → (p : PortType) × (typed_as gs n ≡ Some p) × HasPort gs n p
-typed [] n h = cc
-typed (g ∷ gs) n h = go (bytes_eq n g.name) refl h (typed gs n)
+pub static_holds : (sight : Sight) (n : Name) (o : Option Expr) (x : Option Static) → if_any (static sight) o ≡ Some x → holds_if_any (is_static sight n) o ≡ true
+static_holds sight n None x h = refl
+static_holds sight n (Some e) x h = go (static sight e) h
   where
-    go : (x : Bool) → bytes_eq n g.name ≡ x → (x || is_among n (map (λ (g : Formal). g.name) gs)) ≡ true
-        → (is_among n (map (λ (g : Formal). g.name) gs) ≡ true → (p : PortType) × (typed_as gs n ≡ Some p) × HasPort gs n p)
-        → (p : PortType) × (option_map type_of (cond x (Some g) (find (λ f. bytes_eq n f.name) gs)) ≡ Some p) × HasPort (g ∷ gs) n p
-    go true e h more = (type_of g, refl, inl (e, refl))
-    go false e h more = let m = more h in (m.0, m.1, inr m.2)
+    go : (o : Option Static) → (o >>= λ y. Some (Some y)) ≡ Some x → is_some o ≡ true
+    go None h = absurd cc
+    go (Some y) h = refl
 
-pub taken_types : (gs : List Formal) (ts : List Name) → list_all (λ n. is_among n (map (λ (g : Formal). g.name) gs)) ts ≡ true → Aligned gs ts (filter_map (typed_as gs) ts)
-taken_types gs [] h = tt
-taken_types gs (t ∷ ts) h =
-    let b = both (is_among t (map (λ (g : Formal). g.name) gs)) (list_all (λ n. is_among n (map (λ (g : Formal). g.name) gs)) ts) h in
-    let m = typed gs t b.0 in
-    go (typed_as gs t) m.0 m.1 m.2 (taken_types gs ts b.1)
-  where
-    go : (o : Option PortType) (p : PortType) → o ≡ Some p → HasPort gs t p → Aligned gs ts (filter_map (typed_as gs) ts)
-        → Aligned gs (t ∷ ts) (cons_option o (filter_map (typed_as gs) ts))
-    go None p e h more = cc
-    go (Some q) p e h more = (port_along q p (sym (some_is q p e)) h, more)
-      where
-        port_along : (q p : PortType) → p ≡ q → HasPort gs t p → HasPort gs t q
-        port_along q p e h = cast gs h
-          where
-            cast : (gs : List Formal) → HasPort gs t p → HasPort gs t q
-            cast [] h = h
-            cast (g ∷ gs) (inl h) = inl (h.0, sym e ∙ h.1)
-            cast (g ∷ gs) (inr h) = inr (cast gs h)
+each_given : (sight : Sight) (ts : List Name) (as' : List Association) → ((n : Name) → holds_if_any (is_static sight n) (actual_of n ts as') ≡ true) → (ns : List Name)
+    → is_some (each (if_any (static sight)) (map (λ n. actual_of n ts as') ns)) ≡ true
+each_given sight ts as' h [] = refl
+each_given sight ts as' h (n ∷ ns) =
+    behind_both (if_any (static sight) (actual_of n ts as')) (each (if_any (static sight)) (map (λ n. actual_of n ts as') ns)) (λ y ys. Some (y ∷ ys)) (λ y ys. refl)
+    (if_any_given (static sight) (actual_of n ts as') (h n)) (each_given sight ts as' h ns)
 
--- ---- actuals of ports
+pub generics_given : (sight : Sight) (formals : List Name) (as' : List Association) (ts : List Name) → reading formals (is_static sight) 0 false [] as' ≡ Some ts
+    → is_some (generics sight formals as') ≡ true
+generics_given sight formals as' ts h =
+    let a = are_actuals formals (is_static sight) as' ts h in
+    ap (λ o. is_some (o >>= λ gs. each (if_any (static sight)) gs)) a.is ∙ each_given sight a.taken as' a.hold formals
 
-module _ (sight : Sight) (f : NameFault) where
-  of_port : (gs : List Formal) (n : Name) (p : PortType) (e : Option Expr) → HasPort gs n p → Tells (of_any (port_actual sight (formal p)) e) f
-      → Tells (any_of (λ g. of_any (port_actual sight g) e) (ports_named gs n)) f
-  of_port [] n p e h w = absurd h
-  of_port (g ∷ gs) n p e h w = go (bytes_eq n g.name) refl h (of_port gs n p e)
+-- ---- ports of one name
+
+module _ (sight : Sight) (n : Name) (e : Expr) where
+  abbrev pub of_ports : List Formal → Broken
+  of_ports fs = any_of (λ f. port_actual sight f e) (ports_named fs n)
+
+  abbrev pub all_fit : List Formal → Bool
+  all_fit fs = list_all (fits_one sight n e) fs
+
+  pub port_keeps : (fs : List Formal) → all_fit fs ≡ true → IsKept (of_ports fs)
+  port_keeps [] h = refl
+  port_keeps (f ∷ fs) h =
+      let b = both (fits_one sight n e f) (all_fit fs) h in
+      go (bytes_eq n f.name) b.0 (port_keeps fs b.1)
     where
-      all : List Formal → Broken
-      all = any_of (λ g. of_any (port_actual sight g) e)
+      go : (x : Bool) → (not x || is_some (rules.port_actual sight f e)) ≡ true → IsKept (of_ports fs)
+          → IsKept (any_of (λ f. port_actual sight f e) (cond x (f ∷ ports_named fs n) (ports_named fs n)))
+      go true h k =
+          let s = some_value (rules.port_actual sight f e) h in
+          behind_kept (port_actual sight f e) (of_ports fs) (port_actual_kept sight f e s.0 s.1) ∙ k
+      go false h k = k
 
-      go : (x : Bool) → bytes_eq n g.name ≡ x → HasPort (g ∷ gs) n p
-          → (HasPort gs n p → Tells (of_any (port_actual sight (formal p)) e) f → Tells (all (ports_named gs n)) f)
-          → Tells (all (cond x (g ∷ ports_named gs n) (ports_named gs n))) f
-      go true q (inl h) more = told_left (of_any (port_actual sight g) e) (all (ports_named gs n)) f (told_along (λ p. of_any (port_actual sight (formal p)) e) p (type_of g) h.1 f w)
-      go true q (inr h) more = told_right (of_any (port_actual sight g) e) (all (ports_named gs n)) f (more h w)
-      go false q (inl h) more = absurd (true≢false (sym h.0 ∙ q))
-      go false q (inr h) more = more h w
+  -- one port behind others
+  record IsAt (fs : List Formal) (i : ℕ) : Type 0 where
+    pub port : Formal
+    pub at : slice_get fs i ≡ Some port
+    pub rest : drop i fs ≡ port ∷ drop (suc i) fs
 
-  module _ (gs : List Formal) where
-    abbrev associations : List (Option Name) → List Association → Broken
-    associations os as' = any_of (port_association sight gs) (zip os as')
+  is_at : (fs : List Formal) (i : ℕ) → i < length fs → IsAt fs i
+  is_at [] i lt = absurd (omega (arith, lt))
+  is_at (f ∷ fs) zero lt = record { port = f; at = refl; rest = refl }
+  is_at (f ∷ fs) (suc i) lt = let m = is_at fs i (omega (arith, lt)) in record { port = m.port; at = m.at; rest = m.rest }
 
-    abbrev given_names : List Name → List (Option Name)
-    given_names ts = map (λ n. Some n) ts
+  module _ (fs : List Formal) (i : ℕ) (lt : i < length fs) where
+    abbrev here : IsAt fs i
+    here = is_at fs i lt
 
-    one_port : (n : Name) (p : PortType) → HasPort gs n p → (ts : List Name) (os : List (Option Name)) (as' : List Association)
-        → Tells (of_any (port_actual sight (formal p)) (actual_of n ts as')) f → Tells (associations (given_names ts ++ os) as') f
-    one_port n p h [] os as' w = told_nothing (associations os as') f w
-    one_port n p h (t ∷ ts) os [] w = w
-    one_port n p h (t ∷ ts) os (a ∷ as') w = go (bytes_eq n t) refl w (one_port n p h ts os as')
+    named_is : port_named fs i n ≡ (if bytes_eq n here.port.name then Some (type_of here.port) else None)
+    named_is = ap (λ o. o >>= λ f. if bytes_eq n f.name then Some (type_of f) else None) here.at
+
+    pub port_told : (whole : Broken) → whole ≡ of_ports (drop i fs) → (f : NameFault) → Tells (where_given (port_named fs i n) (λ p. port_actual sight (steps.formal p) e)) f
+        → Tells whole f
+    port_told whole w f h =
+        told_same (of_ports (here.port ∷ drop (suc i) fs)) whole f (sym (w ∙ ap of_ports here.rest))
+        (go (bytes_eq n here.port.name) (told_same _ _ f (ap (λ o. where_given o (λ p. port_actual sight (steps.formal p) e)) named_is) h))
       where
-        go : (x : Bool) → bytes_eq n t ≡ x → Tells (of_any (port_actual sight (formal p)) (if x then expression_of a.actual else actual_of n ts as')) f
-            → (Tells (of_any (port_actual sight (formal p)) (actual_of n ts as')) f → Tells (associations (given_names ts ++ os) as') f)
-            → Tells (port_association sight gs (Some t, a) ∪ associations (given_names ts ++ os) as') f
-        go true q w more =
-            told_left (port_association sight gs (Some t, a)) (associations (given_names ts ++ os) as') f
-            (told_along (λ m. any_of (λ g. of_any (port_actual sight g) (expression_of a.actual)) (ports_named gs m)) n t ((bytes_eq-Decides n t).0 q) f
-            (of_port gs n p (expression_of a.actual) h w))
-        go false q w more = told_right (port_association sight gs (Some t, a)) (associations (given_names ts ++ os) as') f (more w)
+        none_told : (b : Broken) (f : NameFault) → Tells nothing f → Tells b f
+        none_told b (At p at) h = absurd cc
+        none_told b NoMemory h = tt
 
-    all_ports : (ns : List Name) (ps : List PortType) → Aligned gs ns ps → (ts : List Name) (os : List (Option Name)) (as' : List Association)
-        → Tells (port_actuals sight ps (actuals ns ts as')) f → Tells (associations (given_names ts ++ os) as') f
-    all_ports [] [] h ts os as' w = told_nothing (associations (given_names ts ++ os) as') f w
-    all_ports [] (p ∷ ps) h ts os as' w = told_nothing (associations (given_names ts ++ os) as') f w
-    all_ports (n ∷ ns) [] h ts os as' w = told_nothing (associations (given_names ts ++ os) as') f w
-    all_ports (n ∷ ns) (p ∷ ps) h ts os as' w =
-        told_either (of_any (port_actual sight (formal p)) (actual_of n ts as')) (port_actuals sight ps (actuals ns ts as')) (associations (given_names ts ++ os) as') f
-        (one_port n p h.0 ts os as') (all_ports ns ps h.1 ts os as') w
+        go : (x : Bool) → Tells (where_given (if x then Some (type_of here.port) else None) (λ p. port_actual sight (steps.formal p) e)) f
+            → Tells (any_of (λ f. port_actual sight f e) (cond x (here.port ∷ ports_named (drop (suc i) fs) n) (ports_named (drop (suc i) fs) n))) f
+        go true h = told_left (port_actual sight here.port e) (of_ports (drop (suc i) fs)) f h
+        go false h = none_told _ f h
 
-    pub ports_told : (ns : List Name) (ps : List PortType) → Aligned gs ns ps → (as' : List Association) (ts : List Name) → AreTaken (map (λ (g : Formal). g.name) gs) as' ts
-        → Tells (port_actuals sight ps (actuals ns ts as')) f → Tells (port_map sight gs as') f
-    ports_told ns ps h as' ts taken w =
-        told_right (associated (map (λ (g : Formal). g.name) gs) as') (associations (formal_names (map (λ (g : Formal). g.name) gs) as') as') f
-        (told_along (λ os. associations os as') (given_names ts ++ taken.left) (formal_names (map (λ (g : Formal). g.name) gs) as') taken.in_order f
-        (all_ports ns ps h ts taken.left as' w))
+    fits_here : fits_if_any sight (port_named fs i n) e ≡ true → fits_one sight n e here.port ≡ true
+    fits_here h = go (bytes_eq n here.port.name) (ap (λ o. fits_if_any sight o e) (sym named_is) ∙ h)
+      where
+        go : (x : Bool) → fits_if_any sight (if x then Some (type_of here.port) else None) e ≡ true → (not x || is_some (rules.port_actual sight here.port e)) ≡ true
+        go true h = ap is_some (port_by sight here.port e) ∙ h
+        go false h = refl
 
--- formals by the names of a table
-pub taken_along : (ns ms : List Name) → ns ≡ ms → (as' : List Association) (ts : List Name) → AreTaken ns as' ts → AreTaken ms as' ts
-taken_along ns ms e as' ts t = let P : List Name → Type 0 = λ ns. AreTaken ns as' ts in subst P e t
+    pub ports_go : (whole : Broken) → whole ≡ of_ports (drop i fs) → fits_if_any sight (port_named fs i n) e ≡ true → whole ≡ of_ports (drop (i + 1) fs)
+    ports_go whole w h =
+        let s : suc i ≡ i + 1 = omega arith in
+        w ∙ ap of_ports here.rest ∙ go (bytes_eq n here.port.name) (fits_here h) ∙ ap (λ j. of_ports (drop j fs)) s
+      where
+        go : (x : Bool) → (not x || is_some (rules.port_actual sight here.port e)) ≡ true
+            → any_of (λ f. port_actual sight f e) (cond x (here.port ∷ ports_named (drop (suc i) fs) n) (ports_named (drop (suc i) fs) n)) ≡ of_ports (drop (suc i) fs)
+        go true h =
+            let s = some_value (rules.port_actual sight here.port e) h in
+            behind_kept (port_actual sight here.port e) (of_ports (drop (suc i) fs)) (port_actual_kept sight here.port e s.0 s.1)
+        go false h = refl
 
--- ---- where all associations are for formals
+    pub fits_go : (whole : Bool) → whole ≡ all_fit (drop i fs) → fits_if_any sight (port_named fs i n) e ≡ true → whole ≡ all_fit (drop (i + 1) fs)
+    fits_go whole w h =
+        let s : suc i ≡ i + 1 = omega arith in
+        w ∙ ap all_fit here.rest ∙ ap (λ b. b && all_fit (drop (suc i) fs)) (fits_here h) ∙ ap (λ j. all_fit (drop j fs)) s
 
-names_given : (formals : List Name) (as' : List Association) (fs : List Name) → formals_of formals as' ≡ Some fs → map (λ n. Some n) fs ≡ formal_names formals as'
-names_given formals [] fs h = ap (λ ns. map (λ n. Some n) ns) (sym (some_is [] fs h))
-names_given formals (a ∷ as') fs h =
-    let c = comes (formal_of formals a.formal) (λ n. formals_of (drop 1 formals) as' >>= λ ns. Some (n ∷ ns)) fs h in
-    let d = comes (formals_of (drop 1 formals) as') (λ ns. Some (c.value ∷ ns)) fs c.rest in
-    ap (λ ns. map (λ n. Some n) ns) (sym (some_is (c.value ∷ d.value) fs d.rest))
-    ∙ ap (λ l. Some c.value ∷ l) (names_given (drop 1 formals) as' d.value d.is)
-    ∙ ap (λ o. o ∷ formal_names (drop 1 formals) as') (sym c.is)
+  pub fits_end : (fs : List Formal) (i : ℕ) (whole : Bool) → length fs ≤ i → whole ≡ all_fit (drop i fs) → whole ≡ true
+  fits_end fs i whole le w = w ∙ ap all_fit (drop_all i fs le)
 
-pub record Associates (formals : List Name) (as' : List Association) (xs : List (Option Expr)) : Type 0 where
-  pub taken : List Name
-  pub is : xs ≡ actuals formals taken as'
-  pub are_taken : AreTaken formals as' taken
+-- a place within the table is one of a port
+pub within : (all : List Formal) (ks : List (Vec ℕ Global)) → map items ks ≡ map (λ (f : Formal). f.name) all → length ks ≡ length all
+within all ks h = sym (length-map ks items) ∙ ap length h ∙ length-map all (λ (f : Formal). f.name)
 
-pub associates : (formals : List Name) (as' : List Association) (xs : List (Option Expr)) → rules.associated formals as' ≡ Some xs → Associates formals as' xs
-unfolding rules.associated
-associates formals as' xs h =
-    let c = kept (positional_first as') _ xs h in
-    let d = comes (formals_of formals as') _ xs c.1 in
-    let e = kept (list_all (λ f. is_among f formals) d.value) _ xs d.rest in
-    let g = kept (are_distinct d.value) _ xs e.1 in
-    record {
-      taken = d.value;
-      is = sym (some_is (actuals formals d.value as') xs g.1);
-      are_taken = record { left = []; in_order = append-nil (map (λ n. Some n) d.value) ∙ names_given formals as' d.value d.is; are_formals = e.0 };
-    }
+-- the port at a place of the table
+pub port_at_place : (all : List Formal) (ks : List (Vec ℕ Global)) (types : List PortType) → map items ks ≡ map (λ (f : Formal). f.name) all → types ≡ map type_of all
+    → (i : ℕ) (n : Name) → (slice_get ks i >>= λ k. if bytes_eq n k.items then slice_get types i else None) ≡ port_named all i n
+port_at_place all ks types h g i n =
+    by_name (slice_get ks i)
+    ∙ ap (λ o. o >>= λ m. if bytes_eq n m then slice_get types i else None)
+    (sym (slice_get-map items ks i) ∙ ap (λ l. slice_get l i) h ∙ slice_get-map (λ (f : Formal). f.name) all i)
+    ∙ ap (λ t. option_map (λ (f : Formal). f.name) (slice_get all i) >>= λ m. if bytes_eq n m then t else None) (ap (λ l. slice_get l i) g ∙ slice_get-map type_of all i)
+    ∙ by_port (slice_get all i)
+  where
+    by_name : (o : Option (Vec ℕ Global)) → (o >>= λ k. if bytes_eq n k.items then slice_get types i else None)
+        ≡ (option_map items o >>= λ m. if bytes_eq n m then slice_get types i else None)
+    by_name None = refl
+    by_name (Some k) = refl
 
--- ---- actuals of generics, and of ports, where all associations are for formals
+    by_port : (o : Option Formal) → (option_map (λ (f : Formal). f.name) o >>= λ m. if bytes_eq n m then option_map type_of o else None)
+        ≡ (o >>= λ f. if bytes_eq n f.name then Some (type_of f) else None)
+    by_port None = refl
+    by_port (Some f) = refl
 
-pub generics_told : (sight : Sight) (formals : List Name) (as' : List Association) (xs : List (Option Expr)) → rules.associated formals as' ≡ Some xs
-    → (f : NameFault) → Tells (any_of (of_any (static sight)) xs) f → Tells (generic_map sight formals as') f
-generics_told sight formals as' xs h f w =
-    let c = associates formals as' xs h in
-    told_right (associated formals as') (any_of (of_actual (static sight)) as') f
-    (actuals_told (static sight) formals c.taken as' f (told_along (any_of (of_any (static sight))) xs (actuals formals c.taken as') c.is f w))
+-- ---- all ports
 
-pub all_ports_told : (sight : Sight) (gs : List Formal) (as' : List Association) (xs : List (Option Expr)) → rules.associated (map (λ (g : Formal). g.name) gs) as' ≡ Some xs
-    → (f : NameFault) → Tells (port_actuals sight (map type_of gs) xs) f → Tells (port_map sight gs as') f
-all_ports_told sight gs as' xs h f w =
-    let c = associates (map (λ (g : Formal). g.name) gs) as' xs h in
-    ports_told sight f gs (map (λ (g : Formal). g.name) gs) (map type_of gs) (own_types gs) as' c.taken c.are_taken
-    (told_along (port_actuals sight (map type_of gs)) xs (actuals (map (λ (g : Formal). g.name) gs) c.taken as') c.is f w)
+module _ (sight : Sight) (fs : List Formal) where
+  one_given : (g : Formal) (o : Option Expr) → holds_if_any (λ e. fits_one sight g.name e g) o ≡ true → is_some (steps.port_entry sight (type_of g) o) ≡ true
+  one_given g o h = if_any_given (rules.port_actual sight (steps.formal (type_of g))) o (go o h)
+    where
+      go : (o : Option Expr) → holds_if_any (λ e. fits_one sight g.name e g) o ≡ true → holds_if_any (λ e. is_some (rules.port_actual sight (steps.formal (type_of g)) e)) o ≡ true
+      go None h = refl
+      go (Some e) h =
+          ap is_some (sym (port_by sight g e)) ∙ sym (ap (λ b. not b || is_some (rules.port_actual sight g e)) (same_name g.name)) ∙ h
 
-pub names_told : (sight : Sight) (gs : List Formal) (as' : List Association) (f : NameFault) → Tells (associated (map (λ (g : Formal). g.name) gs) as') f → Tells (port_map sight gs as') f
-names_told sight gs as' f w =
-    told_left (associated (map (λ (g : Formal). g.name) gs) as') (any_of (port_association sight gs) (zip (formal_names (map (λ (g : Formal). g.name) gs) as') as')) f w
+  all_given : (ts : List Name) (as' : List Association) → ((n : Name) → holds_if_any (fits sight fs n) (actual_of n ts as') ≡ true) → (gs : List Formal)
+      → ((n : Name) (e : Expr) → fits sight fs n e ≡ true → fits sight gs n e ≡ true)
+      → is_some (steps.port_actuals sight (map type_of gs) (map (λ n. actual_of n ts as') (map (λ (f : Formal). f.name) gs))) ≡ true
+  all_given ts as' h [] within = refl
+  all_given ts as' h (g ∷ gs) within =
+      behind_both (steps.port_entry sight (type_of g) (actual_of g.name ts as'))
+      (steps.port_actuals sight (map type_of gs) (map (λ n. actual_of n ts as') (map (λ (f : Formal). f.name) gs))) (λ y ys. Some (y ∷ ys)) (λ y ys. refl)
+      (one_given g (actual_of g.name ts as') (go (actual_of g.name ts as') (h g.name)))
+      (all_given ts as' h gs (λ n e k. (both (fits_one sight n e g) (fits sight gs n e) (within n e k)).1))
+    where
+      go : (o : Option Expr) → holds_if_any (fits sight fs g.name) o ≡ true → holds_if_any (λ e. fits_one sight g.name e g) o ≡ true
+      go None h = refl
+      go (Some e) h = (both (fits_one sight g.name e g) (fits sight gs g.name e) (within g.name e h)).0
+
+  pub ports_given : (as' : List Association) (ts : List Name) → reading (map (λ (f : Formal). f.name) fs) (fits sight fs) 0 false [] as' ≡ Some ts
+      → is_some (ports sight fs as') ≡ true
+  ports_given as' ts h =
+      let a = are_actuals (map (λ (f : Formal). f.name) fs) (fits sight fs) as' ts h in
+      ap (λ o. is_some (o >>= λ ps. steps.port_actuals sight (map type_of fs) ps)) a.is ∙ all_given a.taken as' a.hold fs (λ n e k. k)

@@ -1,4 +1,5 @@
 pub mod Actuals
 pub mod Associations
 pub mod Instances
+pub mod Maps
 pub mod Tables

@@ -1,28 +1,27 @@
 //! The actuals of generics and ports (IEEE 1076-2008, 6.5.7.2 and 6.5.7.3).
 
-ghost use Rattle.std.specs.Prelude.{◌≡◌, ◌≢◌, IfErr, [], ◌∷◌, map, option_map, slice_get};
-ghost use Rattle.vhdl_names_instances.specs.Breaking as breaking;
+ghost use Rattle.std.specs.Prelude.{◌≡◌, true, IfErr, map, option_map, slice_get};
 ghost use Rattle.vhdl_names_instances.specs.Views.{actual_view, places_view, statics_view};
 ghost use Rattle.vhdl_names_instances.specs.steps.Actuals as steps;
-ghost use Rattle.vhdl_names_problems.specs.Broken.{Broken, Tells, ◌∪◌, is_of, lacking, any_of, of_any};
-ghost use Rattle.vhdl_names_problems.specs.Expressions.{static as broken_static};
+ghost use Rattle.vhdl_names_problems.specs.Broken.{Tells, ◌▸◌, of_any, refused};
+ghost use Rattle.vhdl_names_problems.specs.Expressions.{no_attribute, static as broken_static};
 ghost use Rattle.vhdl_names_problems.specs.Instances as broken;
-ghost use Rattle.vhdl_names_problems.specs.Statements.{signal as broken_signal};
+ghost use Rattle.vhdl_names_problems.specs.Statements.{named};
 ghost use Rattle.vhdl_names_rules.specs.Expressions.{static as static_of};
 ghost use Rattle.vhdl_names_rules.specs.Gives.{Gives};
 ghost use Rattle.vhdl_names_rules.specs.Instances as rules;
 ghost use Rattle.vhdl_names_rules.specs.Rules.{each, if_any};
 ghost use Rattle.vhdl_names_rules.specs.Statements.{signal as signal_of};
-ghost use Rattle.vhdl_names_rules.specs.declared.fault.NameFault.TheVariants.{NoMemory};
 ghost use Rattle.vhdl_names_rules.specs.declared.fault.NameProblem.TheVariants.{LeftOut};
+ghost use Rattle.vhdl_names_rules.specs.Visibility as visibility;
 ghost use Rattle.vhdl_names_rules.specs.views.Integers.{static_view};
 ghost use Rattle.vhdl_names_rules.specs.views.Vectors.{place_view};
-ghost use Rattle.vhdl_tree.specs.View.{view, name_view};
-ghost use Rattle.vhdl_names_types.specs.Views.{sight_view};
+ghost use Rattle.vhdl_tree.specs.View.{view, name_view, option_ident_view, suffix_view};
+ghost use Rattle.vhdl_names_types.specs.Views.{sight_view, meaning_view};
 ghost use Rattle.vhdl_names_units.specs.views.Answers.{signal_name_view};
 
 use std::alloc::Global;
-use vhdl_names_expressions::{signal, start, static_integer};
+use vhdl_names_expressions::{signal, start, static_integer, typed_suffix};
 use vhdl_names_rules::{ElementKind, NameFault, NameProblem, ObjectType, SignalPart, Static};
 use vhdl_names_types::{Meaning, Sight};
 use vhdl_names_units::SignalName;
@@ -76,7 +75,9 @@ fn may_join(mode: Mode, actual: Option<Mode>) -> bool
 }
 
 /// Whether a name of this meaning is a value, with what follows it.
-fn is_value(meaning: &Meaning, suffix: &Suffix) -> bool {
+fn is_value(meaning: &Meaning, suffix: &Suffix) -> bool
+    ensures { result ≡ broken.is_value (meaning_view meaning.now) (suffix_view suffix.now) }
+{
     match meaning {
         Meaning::Generic(_) | Meaning::IntegerConstant(_) => true,
         Meaning::GenerateParameter(_) | Meaning::LoopParameter(_) => true,
@@ -86,42 +87,52 @@ fn is_value(meaning: &Meaning, suffix: &Suffix) -> bool {
     }
 }
 
-/// Why a name is no actual of a port: an expression that is no signal's name is left out, and a name
-/// of another kind is no expression.
-fn actual_fault(sight: &Sight, name: &Name, fault: NameFault) -> NameFault
-    ensures given { result ≢ NoMemory → fault ≢ NoMemory }
-    ensures told { (b : Broken) → Tells b fault → Tells (b ∪ is_of (LeftOut ∷ [])) result }
+/// Whether a name is a value.
+fn names_value(sight: &Sight, name: &Name) -> bool
+    ensures { result ≡ broken.names_value (visibility.meaning (sight_view sight.now) name.now.identifier.text.items) (suffix_view name.now.suffix) }
 {
-    let NameFault::At {
-        problem: NameProblem::WrongKind,
-        at,
-    } = fault
-    else {
-        return fault;
-    };
     match sight.meaning(&name.identifier.text) {
-        Some(meaning) if at == name.identifier.at && is_value(meaning, &name.suffix) => {
-            NameProblem::LeftOut.at(at)
-        }
-        _ => fault,
+        None => false,
+        Some(meaning) => is_value(meaning, &name.suffix),
     }
+}
+
+/// The byte at which a value is left out: an attribute is left out at itself.
+fn left_out_place(name: &Name) -> usize
+    ensures { (no_attribute (option_ident_view name.now.attribute) ▸ refused LeftOut name.now.identifier.at) ≡ refused LeftOut result }
+{
+    match &name.attribute {
+        None => name.identifier.at,
+        Some(attribute) => attribute.at,
+    }
+}
+
+/// No signal, where a name is a value: it is an expression, which is left out.
+fn signal_of_value(alloc: Global, sight: &Sight, name: &Name) -> Result<SignalName, NameFault>
+    ensures given { broken.names_value (visibility.meaning (sight_view sight.now) name.now.identifier.text.items) (suffix_view name.now.suffix) ≡ true
+        → Gives signal_name_view (signal_of (sight_view sight.now) (name_view name.now)) result }
+    ensures told { broken.names_value (visibility.meaning (sight_view sight.now) name.now.identifier.text.items) (suffix_view name.now.suffix) ≡ true
+        → IfErr result (Tells (named (sight_view sight.now) (name_view name.now) ▸ refused LeftOut name.now.identifier.at)) }
+{
+    typed_suffix(alloc, sight, &name.suffix)?;
+    Err(NameProblem::LeftOut.at(left_out_place(name)))
 }
 
 /// The signal that an actual is.
 fn actual_signal(alloc: Global, sight: &Sight, name: &Name) -> Result<SignalName, NameFault>
     ensures given { Gives signal_name_view (signal_of (sight_view sight.now) (name_view name.now)) result }
-    ensures told { IfErr result (Tells (broken_signal (sight_view sight.now) (name_view name.now)
-        ∪ lacking (LeftOut ∷ []) (signal_of (sight_view sight.now) (name_view name.now)))) }
+    ensures told { IfErr result (Tells (broken.actual_signal (sight_view sight.now) (name_view name.now))) }
 {
-    match signal(alloc, sight, name) {
-        Ok(actual) => Ok(actual),
-        Err(fault) => Err(actual_fault(sight, name, fault)),
+    if names_value(sight, name) {
+        signal_of_value(alloc, sight, name)
+    } else {
+        signal(alloc, sight, name)
     }
 }
 
 /// The actual of a port: the name of a signal or port, or of a part of one.
 #[tactic(auto, unfolding(vhdl_names_rules::specs::Instances::port_actual))]
-fn port_actual(
+pub(crate) fn port_actual(
     alloc: Global,
     sight: &Sight,
     port: PortType,
@@ -135,10 +146,10 @@ fn port_actual(
         Some(name) => {
             let actual = actual_signal(alloc, sight, name)?;
             if !is_kind(port.kind, actual.object_type) {
-                return Err(NameProblem::TypeMismatch.at(actual.place.at));
+                return Err(NameProblem::TypeMismatch.at(name.identifier.at));
             }
             if !may_join(port.mode, actual.mode) {
-                return Err(NameProblem::WriteOfIn.at(actual.place.at));
+                return Err(NameProblem::WriteOfIn.at(name.identifier.at));
             }
             Ok(actual.place)
         }
@@ -152,8 +163,7 @@ fn port_entry(
     port: PortType,
     actual: &Option<&Expr>,
 ) -> Result<Option<SignalPart>, NameFault>
-    ensures given { Gives (option_map place_view) (steps.port_entry (sight_view sight.now) port (actual_view actual.now)) result }
-    ensures told { IfErr result (Tells (of_any (broken.port_actual (sight_view sight.now) (steps.formal port)) (actual_view actual.now))) }
+    ensures { Gives (option_map place_view) (steps.port_entry (sight_view sight.now) port (actual_view actual.now)) result }
 {
     match actual {
         None => Ok(None),
@@ -190,8 +200,7 @@ fn entry(
     actuals: &[Option<&Expr>],
     index: usize,
 ) -> Result<Option<Option<SignalPart>>, NameFault>
-    ensures given { Gives (option_map (option_map place_view)) (steps.entry (sight_view sight.now) ports.now (map actual_view actuals.now) index) result }
-    ensures told { IfErr result (Tells (breaking.entry (sight_view sight.now) (slice_get ports.now index) (slice_get (map actual_view actuals.now) index))) }
+    ensures { Gives (option_map (option_map place_view)) (steps.entry (sight_view sight.now) ports.now (map actual_view actuals.now) index) result }
 {
     match port_at(ports, index) {
         None => Ok(None),
@@ -203,14 +212,13 @@ fn entry(
 }
 
 /// The actuals of ports, in the order of the ports.
-pub fn port_actuals(
+pub(crate) fn port_actuals(
     alloc: Global,
     sight: &Sight,
     ports: &[PortType],
     actuals: &[Option<&Expr>],
 ) -> Result<Vec<Option<SignalPart>>, NameFault>
-    ensures given { Gives places_view (steps.port_actuals (sight_view sight.now) ports.now (map actual_view actuals.now)) result }
-    ensures told { IfErr result (Tells (breaking.port_actuals (sight_view sight.now) ports.now (map actual_view actuals.now))) }
+    ensures { Gives places_view (steps.port_actuals (sight_view sight.now) ports.now (map actual_view actuals.now)) result }
 {
     let mut all = Vec::new(alloc);
     for index in 0..ports.len() {
@@ -223,7 +231,7 @@ pub fn port_actuals(
 }
 
 /// The actual of a generic, if one is associated: a static integer.
-fn generic_entry(
+pub(crate) fn generic_entry(
     alloc: Global,
     sight: &Sight,
     actual: &Option<&Expr>,
@@ -239,13 +247,12 @@ fn generic_entry(
 
 /// The actuals of generics, in the order of the generics.
 #[tactic(auto, using(vhdl_names_labels::proofs::Lists::each_in_turn))]
-pub fn generic_actuals(
+pub(crate) fn generic_actuals(
     alloc: Global,
     sight: &Sight,
     actuals: &[Option<&Expr>],
 ) -> Result<Vec<Option<Static>>, NameFault>
-    ensures given { Gives statics_view (each (if_any (static_of (sight_view sight.now))) (map actual_view actuals.now)) result }
-    ensures told { IfErr result (Tells (any_of (of_any (broken_static (sight_view sight.now))) (map actual_view actuals.now))) }
+    ensures { Gives statics_view (each (if_any (static_of (sight_view sight.now))) (map actual_view actuals.now)) result }
 {
     let mut all = Vec::new(alloc);
     for actual in actuals {

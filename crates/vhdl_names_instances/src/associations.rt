@@ -1,13 +1,12 @@
 //! Which formal each association is for (IEEE 1076-2008, 6.5.7).
 
-ghost use Rattle.std.specs.Prelude.{◌≡◌, IfOk, IfErr, OnErr, false, not, [], ◌∷◌, map, option_map, Some};
+ghost use Rattle.std.specs.Prelude.{◌≡◌, IfOk, IfErr, OnErr, false, not, map, option_map, Some};
 ghost use Rattle.vhdl_names_instances.specs.Breaking as breaking;
-ghost use Rattle.vhdl_names_instances.specs.Taken.{AreTaken};
 ghost use Rattle.vhdl_names_instances.specs.steps.Associations as steps;
 ghost use Rattle.vhdl_names_instances.specs.Views.{actuals_view};
 ghost use Rattle.vhdl_names_labels.specs.Once.{names_view};
 ghost use Rattle.vhdl_names_problems.specs.Broken.{Tells, lacking, unless};
-ghost use Rattle.vhdl_names_problems.specs.Instances as broken;
+ghost use Rattle.vhdl_names_problems.specs.Places.{association_place};
 ghost use Rattle.vhdl_names_rules.specs.Gives.{Gives};
 ghost use Rattle.vhdl_names_rules.specs.Instances as rules;
 ghost use Rattle.vhdl_names_rules.specs.declared.fault.NameProblem.TheVariants.{Twice, WrongKind};
@@ -23,7 +22,9 @@ use vhdl_tree::{Actual, Association, Expr};
 pub type Names = IndexSet<Vec<u8>>;
 
 /// The byte at which an association starts.
-fn place(association: &Association) -> usize {
+fn place(association: &Association) -> usize
+    ensures { result ≡ association_place (association_view association.now) }
+{
     match (&association.formal, &association.actual) {
         (Some(formal), _) => formal.at,
         (None, Actual::Expr(e)) => start(e),
@@ -32,7 +33,7 @@ fn place(association: &Association) -> usize {
 }
 
 /// Whether an association names its formal.
-fn is_named(association: &Association) -> bool
+pub(crate) fn is_named(association: &Association) -> bool
     ensures { result ≡ rules.is_named (association_view association.now) }
 {
     match association.formal {
@@ -43,13 +44,13 @@ fn is_named(association: &Association) -> bool
 
 /// The name of the formal that an association at a place is for.
 #[tactic(auto, using(crate::proofs::Associating::named_at))]
-fn formal_at<'a>(
+pub(crate) fn formal_at<'a>(
     formals: &'a Names,
     index: usize,
     association: &'a Association,
 ) -> Result<&'a [u8], NameFault>
     ensures given { Gives (λ n. n.now) (steps.formal_at (names_view formals.now) index (option_ident_view association.now.formal)) result }
-    ensures told { IfErr result (Tells (lacking (WrongKind ∷ []) (steps.formal_at (names_view formals.now) index (option_ident_view association.now.formal)))) }
+    ensures told { IfErr result (Tells (lacking WrongKind (association_place (association_view association.now)) (steps.formal_at (names_view formals.now) index (option_ident_view association.now.formal)))) }
 {
     match &association.formal {
         Some(formal) => Ok(formal.text.as_slice()),
@@ -70,7 +71,7 @@ fn copied(alloc: Global, name: &[u8]) -> Result<Vec<u8>, AllocError>
 /// One more name, which none before it is. It stands at byte `at`.
 pub fn add_name(alloc: Global, taken: &mut Names, name: &[u8], at: usize) -> Result<(), NameFault>
     ensures given { Gives (λ _. names_view taken.new) (steps.one_name (names_view taken.old) name.now) result }
-    ensures told { IfErr result (Tells (unless Twice (not (steps.is_among name.now (names_view taken.old))))) }
+    ensures told { IfErr result (Tells (unless Twice at (not (steps.is_among name.now (names_view taken.old))))) }
     ensures kept { OnErr result (names_view taken.new ≡ names_view taken.old) }
 {
     let name = copied(alloc, name)?;
@@ -89,7 +90,7 @@ fn has_name(names: &Names, name: &[u8]) -> bool
 }
 
 /// One more association, which is for a formal that none before it is for.
-fn take(
+pub(crate) fn take(
     alloc: Global,
     formals: &Names,
     taken: &mut Names,
@@ -112,17 +113,15 @@ fn take(
     add_name(alloc, taken, name, place(association))
 }
 
-/// The names of the formals that associations are for, in the order of the associations: `taken`
-/// has none at first, and keeps those before an association that is refused.
-pub(crate) fn take_all(
+/// The names of the formals that associations are for, in the order of the associations, behind
+/// those that are taken.
+fn take_all(
     alloc: Global,
     formals: &Names,
     taken: &mut Names,
     list: &[Association],
 ) -> Result<(), NameFault>
-    ensures given { Gives (λ _. names_view taken.new) (steps.taking (names_view formals.now) 0 false (names_view taken.old) (map association_view list.now)) result }
-    ensures told { names_view taken.old ≡ [] → IfErr result (Tells (broken.associated (names_view formals.now) (map association_view list.now))) }
-    ensures kept { names_view taken.old ≡ [] → AreTaken (names_view formals.now) (map association_view list.now) (names_view taken.new) }
+    ensures { Gives (λ _. names_view taken.new) (steps.taking (names_view formals.now) 0 false (names_view taken.old) (map association_view list.now)) result }
 {
     let mut is_behind_named = false;
     for (index, association) in list.iter().enumerate() {
@@ -132,6 +131,16 @@ pub(crate) fn take_all(
     Ok(())
 }
 
+/// What an association associates, if it isn't open.
+pub(crate) fn expression_of(association: &Association) -> Option<&Expr>
+    ensures { option_map (λ e. view e.now) result ≡ rules.expression_of (association_view association.now).actual }
+{
+    match &association.actual {
+        Actual::Expr(e) => Some(e),
+        Actual::Open { .. } => None,
+    }
+}
+
 /// What an association at a place associates.
 #[tactic(auto, using(crate::proofs::Associating::association_at))]
 fn actual_at<'a>(list: &'a [Association], index: usize) -> Option<&'a Expr>
@@ -139,10 +148,7 @@ fn actual_at<'a>(list: &'a [Association], index: usize) -> Option<&'a Expr>
 {
     match list.get(index) {
         None => None,
-        Some(association) => match &association.actual {
-            Actual::Expr(e) => Some(e),
-            Actual::Open { .. } => None,
-        },
+        Some(association) => expression_of(association),
     }
 }
 
@@ -157,7 +163,7 @@ fn actual_of<'a>(taken: &Names, list: &'a [Association], name: &[u8]) -> Option<
 }
 
 /// What is associated with each formal.
-pub(crate) fn actuals<'a>(
+fn actuals<'a>(
     alloc: Global,
     formals: &Names,
     taken: &Names,
@@ -177,13 +183,12 @@ pub(crate) fn actuals<'a>(
 /// associated. It fails at the first association that is behind a named one and names none, is
 /// for no formal, or is for one that another is for; or where memory is refused.
 #[tactic(auto, using(crate::proofs::Associating::in_order))]
-pub fn associated<'a>(
+pub(crate) fn associated<'a>(
     alloc: Global,
     formals: &Names,
     list: &'a [Association],
 ) -> Result<Vec<Option<&'a Expr>>, NameFault>
-    ensures given { Gives actuals_view (rules.associated (names_view formals.now) (map association_view list.now)) result }
-    ensures told { IfErr result (Tells (broken.associated (names_view formals.now) (map association_view list.now))) }
+    ensures { Gives actuals_view (rules.associated (names_view formals.now) (map association_view list.now)) result }
 {
     let mut taken = IndexSet::new(alloc);
     take_all(alloc, formals, &mut taken, list)?;

@@ -1,18 +1,21 @@
 //! Instances (IEEE 1076-2008, 11.7).
 
-ghost use Rattle.std.specs.Prelude.{◌≡◌, IfErr, List, [], ◌∷◌, bytes_eq, map, option_map, slice_get};
+ghost use Rattle.std.specs.Prelude.{◌≡◌, ◌≢◌, ℕ, IfErr, List, Option, None, false, bytes_eq, map, option_map, slice_get};
 ghost use Rattle.std.specs.List.{position_from};
 ghost use Rattle.vhdl_names_instances.specs.Breaking as breaking;
 ghost use Rattle.vhdl_names_instances.specs.Table.{AreEntities, seen, seen_view, seens_view};
 ghost use Rattle.vhdl_names_instances.specs.steps.Instances as steps;
 ghost use Rattle.vhdl_names_labels.specs.Once.{names_view};
-ghost use Rattle.vhdl_names_problems.specs.Broken.{Tells, lacking};
+ghost use Rattle.vhdl_names_problems.specs.Broken.{Tells, lacking, refused};
 ghost use Rattle.vhdl_names_problems.specs.Instances as broken;
 ghost use Rattle.vhdl_names_rules.specs.Gives.{Gives};
 ghost use Rattle.vhdl_names_rules.specs.Instances as rules;
 ghost use Rattle.vhdl_names_rules.specs.Interfaces.{EntityView};
 ghost use Rattle.vhdl_names_rules.specs.Rules.{all_of};
+ghost use Rattle.vhdl_names_rules.specs.Visibility.{Name};
+ghost use Rattle.vhdl_names_rules.specs.declared.fault.NameFault.TheVariants.{NoMemory};
 ghost use Rattle.vhdl_names_rules.specs.declared.fault.NameProblem.TheVariants.{WrongKind};
+ghost use Rattle.vhdl_tree.specs.Tree.{Ident};
 ghost use Rattle.vhdl_tree.specs.View as tree;
 ghost use Rattle.vhdl_names_types.specs.Views.{sight_view, meaning_view};
 ghost use Rattle.vhdl_names_units.specs.views.Concurrent.{instance_view};
@@ -21,7 +24,7 @@ use crate::actuals::{PortType, generic_actuals, port_actuals};
 use crate::associations::{Names, associated};
 use crate::maps::maps;
 use std::alloc::Global;
-use vhdl_names_labels::{copied, earlier_in, is_text};
+use vhdl_names_labels::{copied, is_text};
 use vhdl_names_rules::{NameFault, NameProblem};
 use vhdl_names_types::{Meaning, Sight, meaning_of};
 use vhdl_names_units::Instance;
@@ -82,7 +85,10 @@ fn formals_at(entities: &InstanceEntities, number: usize) -> Option<&Formals>
 }
 
 /// The byte at which an architecture is named, or else the one at which its entity is.
-fn architecture_place(architecture: &Option<Identifier>, at: usize) -> usize {
+fn architecture_place(architecture: &Option<Identifier>, at: usize) -> usize
+    ensures { (own : Option Name) → rules.is_architecture (option_map tree.ident_view architecture.now) own ≡ false
+        → broken.architecture (option_map tree.ident_view architecture.now) own ≡ refused WrongKind result }
+{
     match architecture {
         Some(architecture) => architecture.at,
         None => at,
@@ -98,7 +104,7 @@ fn with_architecture(
     at: usize,
 ) -> Result<usize, NameFault>
     ensures given { Gives (λ k. k) (steps.with_architecture (seens_view entities.now.formals) (option_map tree.ident_view architecture.now) number) result }
-    ensures told { IfErr result (Tells (breaking.with_architecture (seens_view entities.now.formals) (option_map tree.ident_view architecture.now) number)) }
+    ensures told { IfErr result (Tells (breaking.with_architecture (seens_view entities.now.formals) (option_map tree.ident_view architecture.now) at number)) }
 {
     match formals_at(entities, number) {
         None => Err(NameProblem::Undeclared.at(at)),
@@ -136,7 +142,7 @@ fn entity_of(
 /// The entity that a component at byte `at` is.
 fn as_component(meaning: &Meaning, at: usize) -> Result<usize, NameFault>
     ensures given { Gives (λ k. k) (rules.as_component (meaning_view meaning.now)) result }
-    ensures told { IfErr result (Tells (lacking (WrongKind ∷ []) (rules.as_component (meaning_view meaning.now)))) }
+    ensures told { IfErr result (Tells (lacking WrongKind at (rules.as_component (meaning_view meaning.now)))) }
 {
     match meaning {
         Meaning::Component(number) => Ok(*number),
@@ -177,10 +183,8 @@ fn by_formals(
     formals: &Formals,
     instance: &syntax::Instance,
 ) -> Result<Instance, NameFault>
-    ensures given { Gives instance_view (steps.with_formals (sight_view sight.now) (tree.ident_view label.now) unit (seen_view formals.now)
+    ensures { Gives instance_view (steps.with_formals (sight_view sight.now) (tree.ident_view label.now) unit (seen_view formals.now)
         (all_of (option_map tree.associations_view instance.now.generics)) (all_of (option_map tree.associations_view instance.now.ports))) result }
-    ensures told { (seen_of : EntityView) → seen_view formals.now ≡ seen seen_of
-        → IfErr result (Tells (broken.maps (sight_view sight.now) seen_of (tree.instance_view instance.now))) }
 {
     let of_generics = associated(alloc, &formals.generics, listed(&instance.generics))?;
     let generics = generic_actuals(alloc, sight, &of_generics)?;
@@ -193,6 +197,30 @@ fn by_formals(
         generics,
         ports,
     })
+}
+
+/// What is told of maps with which something is wrong, as this fault shows: the first fault in order
+/// of the text.
+fn first_of_maps(
+    alloc: Global,
+    sight: &Sight,
+    formals: &Formals,
+    instance: &syntax::Instance,
+    fault: NameFault,
+) -> NameFault
+    ensures memory { result ≢ NoMemory → fault ≢ NoMemory }
+    ensures told { (seen_of : EntityView) → seen_view formals.now ≡ seen seen_of
+        → (label : Ident) → (unit : ℕ) → (fault ≢ NoMemory → steps.with_formals (sight_view sight.now) label unit (seen_view formals.now)
+        (all_of (option_map tree.associations_view instance.now.generics)) (all_of (option_map tree.associations_view instance.now.ports)) ≡ None)
+        → Tells (broken.maps (sight_view sight.now) seen_of (tree.instance_view instance.now)) result }
+{
+    match fault {
+        NameFault::NoMemory => NameFault::NoMemory,
+        NameFault::At { .. } => match maps(alloc, sight, formals, instance) {
+            Ok(()) => fault,
+            Err(first) => first,
+        },
+    }
 }
 
 /// An instance of the entity of a number, which has these formals. Of what is wrong with its maps the
@@ -212,7 +240,7 @@ fn with_formals(
 {
     match by_formals(alloc, sight, label, unit, formals, instance) {
         Ok(instance) => Ok(instance),
-        Err(fault) => Err(earlier_in(fault, maps(alloc, sight, formals, instance))),
+        Err(fault) => Err(first_of_maps(alloc, sight, formals, instance, fault)),
     }
 }
 
@@ -227,7 +255,7 @@ pub fn instance_in_turn(
     ensures given { Gives instance_view (steps.instance (names_view entities.now.names) (seens_view entities.now.formals)
         (sight_view sight.now) (tree.ident_view label.now) (tree.instance_view instance.now)) result }
     ensures told { (views : List EntityView) → AreEntities entities.now views
-        → IfErr result (Tells (broken.instance views (sight_view sight.now) (tree.instance_view instance.now))) }
+        → IfErr result (Tells (broken.instance views (sight_view sight.now) (tree.ident_view label.now) (tree.instance_view instance.now))) }
 {
     let unit = instantiated(entities, sight, &instance.unit)?;
     match formals_at(entities, unit) {
@@ -249,7 +277,7 @@ pub fn instance(
     ensures given { (views : List EntityView) → AreEntities entities.now views
         → Gives instance_view (rules.instance views (sight_view sight.now) (tree.ident_view label.now) (tree.instance_view instance.now)) result }
     ensures told { (views : List EntityView) → AreEntities entities.now views
-        → IfErr result (Tells (broken.instance views (sight_view sight.now) (tree.instance_view instance.now))) }
+        → IfErr result (Tells (broken.instance views (sight_view sight.now) (tree.ident_view label.now) (tree.instance_view instance.now))) }
 {
     instance_in_turn(alloc, entities, sight, label, instance)
 }

@@ -9,6 +9,6 @@ mod maps;
 mod tables;
 
 pub use actuals::PortType;
-pub use associations::{Names, add_name, associated};
+pub use associations::{Names, add_name};
 pub use instances::{Formals, InstanceEntities, instance, instance_in_turn};
 pub use tables::formals_of;

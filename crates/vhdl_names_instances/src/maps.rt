@@ -1,109 +1,215 @@
 //! The maps of an instance in order of the text (IEEE 1076-2008, 6.5.7): which fault is told where something is wrong with them.
 
-ghost use Rattle.std.specs.Prelude.{◌≡◌, ◌++◌, IfErr, IfOk, OnOk, List, [], filter_map, map};
-ghost use Rattle.std.specs.List.{cons_option};
-ghost use Rattle.vhdl_names_instances.specs.Breaking.{typed_as};
-ghost use Rattle.vhdl_names_instances.specs.Table.{seen, seen_view, type_of as type_of_formal};
+ghost use Rattle.std.specs.Prelude.{◌≡◌, ℕ, true, IfErr, IfOk, List, drop, is_some, map, option_map};
+ghost use Rattle.vhdl_names_instances.specs.Table.{seen, seen_view, type_of};
+ghost use Rattle.vhdl_names_instances.specs.steps.Actuals.{formal};
+ghost use Rattle.vhdl_names_instances.specs.steps.Instances.{with_formals};
+ghost use Rattle.vhdl_names_instances.specs.steps.Maps as steps;
 ghost use Rattle.vhdl_names_labels.specs.Once.{names_view};
-ghost use Rattle.vhdl_names_problems.specs.Broken.{Tells};
+ghost use Rattle.vhdl_names_problems.specs.Broken.{Tells, any_of, nothing, where_given};
+ghost use Rattle.vhdl_names_problems.specs.Expressions.{static as broken_static};
 ghost use Rattle.vhdl_names_problems.specs.Instances as broken;
 ghost use Rattle.vhdl_names_rules.specs.Instances.{Formal};
 ghost use Rattle.vhdl_names_rules.specs.Interfaces.{EntityView};
+ghost use Rattle.vhdl_names_rules.specs.Rules.{all_of};
 ghost use Rattle.vhdl_names_types.specs.Views.{sight_view};
+ghost use Rattle.vhdl_tree.specs.Tree.{Ident};
 ghost use Rattle.vhdl_tree.specs.View as tree;
 
-use crate::actuals::{PortType, generic_actuals, port_actuals, port_at};
-use crate::associations::{Names, actuals, take_all};
+use crate::actuals::{PortType, generic_entry, port_actual, port_at};
+use crate::associations::{Names, expression_of, formal_at, is_named, take};
 use crate::instances::{Formals, listed};
 use indexmap::IndexSet;
-use std::alloc::{AllocError, Global};
-use vhdl_names_labels::earlier_in;
+use std::alloc::Global;
+use vhdl_names_labels::is_text;
 use vhdl_names_rules::NameFault;
 use vhdl_names_types::Sight;
 use vhdl_tree as syntax;
-use vhdl_tree::Association;
+use vhdl_tree::{Association, Expr};
 
-/// A generic map, association by association: the formal, then the actual.
+/// One more association of a generic map: the formal that it is for, and then its actual.
+fn read_generic(
+    alloc: Global,
+    sight: &Sight,
+    formals: &Names,
+    taken: &mut Names,
+    index: usize,
+    is_behind_named: bool,
+    association: &Association,
+) -> Result<(), NameFault>
+    ensures told { IfErr result (Tells (broken.association (names_view formals.now) (λ n e. broken_static (sight_view sight.now) e)
+        (drop index (names_view formals.now)) is_behind_named (names_view taken.old) (tree.association_view association.now))) }
+    ensures read { IfOk result (λ _. steps.one_read (names_view formals.now) (steps.is_static (sight_view sight.now)) index is_behind_named
+        (names_view taken.old) (tree.association_view association.now) ≡ Some (names_view taken.new)) }
+{
+    take(alloc, formals, taken, index, is_behind_named, association)?;
+    generic_entry(alloc, sight, &expression_of(association))?;
+    Ok(())
+}
+
+/// A generic map, association by association.
 fn generic_map(
     alloc: Global,
     sight: &Sight,
     formals: &Names,
     list: &[Association],
 ) -> Result<(), NameFault>
-    ensures { IfErr result (Tells (broken.generic_map (sight_view sight.now) (names_view formals.now) (map tree.association_view list.now))) }
+    ensures told { IfErr result (Tells (broken.generic_map (sight_view sight.now) (names_view formals.now) (map tree.association_view list.now))) }
+    ensures kept { IfOk result (λ _. broken.generic_map (sight_view sight.now) (names_view formals.now) (map tree.association_view list.now) ≡ nothing) }
+    ensures given { IfOk result (λ _. is_some (steps.generics (sight_view sight.now) (names_view formals.now) (map tree.association_view list.now)) ≡ true) }
 {
     let mut taken = IndexSet::new(alloc);
-    let formals = take_all(alloc, formals, &mut taken, list);
-    let actuals = actuals(alloc, &taken, &taken, list)?;
-    match generic_actuals(alloc, sight, &actuals) {
-        Ok(_) => formals,
-        Err(fault) => Err(earlier_in(fault, formals)),
+    let mut is_behind_named = false;
+    for (index, association) in list.iter().enumerate() {
+        read_generic(
+            alloc,
+            sight,
+            formals,
+            &mut taken,
+            index,
+            is_behind_named,
+            association,
+        )?;
+        is_behind_named = is_named(association);
     }
+    Ok(())
 }
 
-/// The type of the port of a name, if there is one.
-fn type_of(formals: &Formals, name: &[u8]) -> Option<PortType>
-    ensures { (all : List Formal) → names_view formals.now.ports ≡ map (λ f. f.name) all → formals.now.port_types.items ≡ map type_of_formal all
-        → result ≡ typed_as all name.now }
+/// The type of the port at a place, if it has this name.
+fn port_named(formals: &Formals, index: usize, name: &[u8]) -> Option<PortType>
+    ensures { (all : List Formal) → names_view formals.now.ports ≡ map (λ f. f.name) all → formals.now.port_types.items ≡ map type_of all
+        → result ≡ steps.port_named all index name.now }
 {
-    match formals.ports.get_index_of(name) {
+    match formals.ports.get_index(index) {
         None => None,
-        Some(index) => port_at(&formals.port_types, index),
+        Some(own) => {
+            if is_text(name, own) {
+                port_at(&formals.port_types, index)
+            } else {
+                None
+            }
+        }
     }
 }
 
-/// The type of a port behind others, if there is one.
-fn add_type(types: &mut Vec<PortType>, port: Option<PortType>) -> Result<(), AllocError>
-    ensures { OnOk result (types.new.items ≡ types.old.items ++ cons_option port []) }
+/// What is associated with a name, for the port at a place if it has this name.
+fn one_port(
+    alloc: Global,
+    sight: &Sight,
+    formals: &Formals,
+    index: usize,
+    name: &[u8],
+    e: &Expr,
+) -> Result<(), NameFault>
+    ensures told { (all : List Formal) → names_view formals.now.ports ≡ map (λ f. f.name) all → formals.now.port_types.items ≡ map type_of all
+        → IfErr result (Tells (where_given (steps.port_named all index name.now) (λ p. broken.port_actual (sight_view sight.now) (formal p) (tree.view e.now)))) }
+    ensures fits { (all : List Formal) → names_view formals.now.ports ≡ map (λ f. f.name) all → formals.now.port_types.items ≡ map type_of all
+        → IfOk result (λ _. steps.fits_if_any (sight_view sight.now) (steps.port_named all index name.now) (tree.view e.now) ≡ true) }
 {
-    match port {
+    match port_named(formals, index, name) {
         None => Ok(()),
-        Some(port) => Ok(types.push(port)?),
+        Some(port) => {
+            port_actual(alloc, sight, port, e)?;
+            Ok(())
+        }
     }
 }
 
-/// The types of the ports of some names.
-fn types_of(alloc: Global, formals: &Formals, names: &Names) -> Result<Vec<PortType>, AllocError>
-    ensures { (all : List Formal) → names_view formals.now.ports ≡ map (λ f. f.name) all → formals.now.port_types.items ≡ map type_of_formal all
-        → IfOk result (λ v. v.items ≡ filter_map (typed_as all) (names_view names.now)) }
+/// What is associated with a name, for each port of this name.
+fn named_ports(
+    alloc: Global,
+    sight: &Sight,
+    formals: &Formals,
+    name: &[u8],
+    e: &Expr,
+) -> Result<(), NameFault>
+    ensures told { (all : List Formal) → names_view formals.now.ports ≡ map (λ f. f.name) all → formals.now.port_types.items ≡ map type_of all
+        → IfErr result (Tells (any_of (λ f. broken.port_actual (sight_view sight.now) f (tree.view e.now)) (broken.ports_named all name.now))) }
+    ensures fits { (all : List Formal) → names_view formals.now.ports ≡ map (λ f. f.name) all → formals.now.port_types.items ≡ map type_of all
+        → IfOk result (λ _. steps.fits (sight_view sight.now) all name.now (tree.view e.now) ≡ true) }
 {
-    let mut types = Vec::new(alloc);
-    for name in names.as_slice() {
-        add_type(&mut types, type_of(formals, name))?;
+    for index in 0..formals.ports.len() {
+        one_port(alloc, sight, formals, index, name, e)?;
     }
-    Ok(types)
+    Ok(())
 }
 
-/// A port map, association by association: the formal, then the actual.
+/// One more association of a port map: the formal that it is for, and then its actual.
+fn read_port(
+    alloc: Global,
+    sight: &Sight,
+    formals: &Formals,
+    taken: &mut Names,
+    index: usize,
+    is_behind_named: bool,
+    association: &Association,
+) -> Result<(), NameFault>
+    ensures told { (all : List Formal) → names_view formals.now.ports ≡ map (λ f. f.name) all → formals.now.port_types.items ≡ map type_of all
+        → IfErr result (Tells (broken.association (map (λ f. f.name) all) (λ n e. any_of (λ f. broken.port_actual (sight_view sight.now) f e) (broken.ports_named all n))
+        (drop index (map (λ f. f.name) all)) is_behind_named (names_view taken.old) (tree.association_view association.now))) }
+    ensures read { (all : List Formal) → names_view formals.now.ports ≡ map (λ f. f.name) all → formals.now.port_types.items ≡ map type_of all
+        → IfOk result (λ _. steps.one_read (map (λ f. f.name) all) (steps.fits (sight_view sight.now) all) index is_behind_named
+        (names_view taken.old) (tree.association_view association.now) ≡ Some (names_view taken.new)) }
+{
+    take(
+        alloc,
+        &formals.ports,
+        taken,
+        index,
+        is_behind_named,
+        association,
+    )?;
+    match expression_of(association) {
+        None => Ok(()),
+        Some(e) => {
+            let name = formal_at(&formals.ports, index, association)?;
+            named_ports(alloc, sight, formals, name, e)
+        }
+    }
+}
+
+/// A port map, association by association.
 fn port_map(
     alloc: Global,
     sight: &Sight,
     formals: &Formals,
     list: &[Association],
 ) -> Result<(), NameFault>
-    ensures { (all : List Formal) → names_view formals.now.ports ≡ map (λ f. f.name) all → formals.now.port_types.items ≡ map type_of_formal all
+    ensures told { (all : List Formal) → names_view formals.now.ports ≡ map (λ f. f.name) all → formals.now.port_types.items ≡ map type_of all
         → IfErr result (Tells (broken.port_map (sight_view sight.now) all (map tree.association_view list.now))) }
+    ensures given { (all : List Formal) → names_view formals.now.ports ≡ map (λ f. f.name) all → formals.now.port_types.items ≡ map type_of all
+        → IfOk result (λ _. is_some (steps.ports (sight_view sight.now) all (map tree.association_view list.now)) ≡ true) }
 {
     let mut taken = IndexSet::new(alloc);
-    let ports = take_all(alloc, &formals.ports, &mut taken, list);
-    let types = types_of(alloc, formals, &taken)?;
-    let actuals = actuals(alloc, &taken, &taken, list)?;
-    match port_actuals(alloc, sight, &types, &actuals) {
-        Ok(_) => ports,
-        Err(fault) => Err(earlier_in(fault, ports)),
+    let mut is_behind_named = false;
+    for (index, association) in list.iter().enumerate() {
+        read_port(
+            alloc,
+            sight,
+            formals,
+            &mut taken,
+            index,
+            is_behind_named,
+            association,
+        )?;
+        is_behind_named = is_named(association);
     }
+    Ok(())
 }
 
 /// The maps of an instance of an entity with these formals: they fail at the first byte where a rule
-/// is broken, or where memory is refused.
+/// is broken, or where memory is refused. Where no rule is broken, an instance is given.
 pub(crate) fn maps(
     alloc: Global,
     sight: &Sight,
     formals: &Formals,
     instance: &syntax::Instance,
 ) -> Result<(), NameFault>
-    ensures { (seen_of : EntityView) → seen_view formals.now ≡ seen seen_of
+    ensures told { (seen_of : EntityView) → seen_view formals.now ≡ seen seen_of
         → IfErr result (Tells (broken.maps (sight_view sight.now) seen_of (tree.instance_view instance.now))) }
+    ensures given { (seen_of : EntityView) → seen_view formals.now ≡ seen seen_of → (label : Ident) → (unit : ℕ)
+        → IfOk result (λ _. is_some (with_formals (sight_view sight.now) label unit (seen_view formals.now)
+        (all_of (option_map tree.associations_view instance.now.generics)) (all_of (option_map tree.associations_view instance.now.ports))) ≡ true) }
 {
     generic_map(alloc, sight, &formals.generics, listed(&instance.generics))?;
     port_map(alloc, sight, formals, listed(&instance.ports))

@@ -1,29 +1,26 @@
 -- An interface, its generics first and then its ports.
-use Rattle.std.proofs.Common.{◌≡◌, Bool, true, false, List, [], ◌++◌, Option, Some, None, refl, sym, ap, subst, ◌∙◌, true≢false}
+use Rattle.std.proofs.Common.{◌≡◌, Bool, true, false, List, [], ◌++◌, Option, Some, None, refl, sym, ap, subst, ◌∙◌}
 use Rattle.std.proofs.Common.{Result, Ok, Err, ◌≢◌}
 use Rattle.std.specs.Prelude.{IsErrAnd}
 use Rattle.vhdl_names_rules.specs.declared.fault.NameFault.{NameFault}
 use Rattle.vhdl_names_rules.specs.declared.fault.NameFault.TheVariants.{At, NoMemory}
-use Rattle.vhdl_names_rules.specs.declared.fault.NameProblem.TheVariants.{Twice, WrongKind}
 use Rattle.vhdl_names_rules.specs.Gives.{Gives}
 use Rattle.vhdl_tree.specs.Tree as t
 use Rattle.vhdl_names_rules.specs.units.Units as u
 use Rattle.vhdl_names_rules.specs.Rules.{◌>>=◌, met, all_of}
 use Rattle.vhdl_names_rules.specs.Visibility.{Declared, Sight, Declares, are_distinct, with_declared}
 use Rattle.vhdl_names_rules.specs.Declarations.{in_order, generic, port}
-use Rattle.vhdl_names_rules.specs.Visibility.{Name, names_of, ends}
+use Rattle.vhdl_names_rules.specs.Visibility.{Name, ends}
 use Rattle.vhdl_names_rules.specs.Packages.{Context, no_context, context, sight_of}
 use Rattle.vhdl_names_rules.specs.Interfaces.{Interface, EntityView, declared_names, interface, entity}
-use Rattle.vhdl_names_rules.specs.laws.Regions.{interface_names}
 use Rattle.vhdl_names_rules.proofs.laws.Rules.{some_is, comes, kept}
-use Rattle.vhdl_names_problems.specs.Broken.{Broken, Tells, nothing, ◌∪◌, unless, where_given}
+use Rattle.vhdl_names_problems.specs.Broken.{Broken, Tells, nothing, ◌▸◌, where_given}
 use Rattle.vhdl_names_problems.specs.Declarations as broken
 use Rattle.vhdl_names_problems.specs.Interfaces as interfaces_broken
-use Rattle.vhdl_names_problems.proofs.Telling.{told_left, told_right, told_given}
+use Rattle.vhdl_names_problems.proofs.Telling.{told_left, told_right, told_given, given_kept}
+use Rattle.vhdl_names_problems.proofs.kept.Declarations.{context_kept}
+use Rattle.vhdl_names_problems.proofs.kept.Interfaces.{generics_kept, interface_kept}
 use Rattle.vhdl_names_declarations.specs.Entered.{entering, entered}
-use Rattle.vhdl_names_declarations.specs.Standing.{standing_twice, generic_names, port_names, generics_broken, ports_broken}
-use Rattle.vhdl_names_declarations.proofs.Breaking.{told_either, twice_more, twice_entered}
-use Rattle.vhdl_names_declarations.proofs.Naming.{names_in_order, of_generic}
 use Rattle.vhdl_names_declarations.proofs.Orders.{first_is}
 use Rattle.vhdl_names_declarations.proofs.Regions.{names-append, still_twice}
 
@@ -82,39 +79,25 @@ interface_in_turn s gs ps empty = go (in_order with_declared generic s (all_of g
 
 -- ---- what is told of generics and ports is told of their interface
 
-abbrev generics_of : Sight → Option (List t.Generic) → Broken
-generics_of s gs = broken.in_order with_declared generic broken.generic s (all_of gs)
+abbrev generics_in : Sight → Option (List t.Generic) → Broken
+generics_in s gs = interfaces_broken.generics s (all_of gs)
 
-abbrev ports_of : Sight → Option (List t.Generic) → Option (List t.Port) → Broken
-ports_of s gs ps =
-    where_given (in_order with_declared generic s (all_of gs)) (λ g. broken.in_order with_declared port broken.port (with_declared s g.declared) (all_of ps))
+abbrev ports_behind : Sight → Option (List t.Generic) → Option (List t.Port) → Broken
+ports_behind s gs ps = where_given (in_order with_declared generic s (all_of gs)) (λ g. interfaces_broken.ports (with_declared s g.declared) (all_of ps))
 
-abbrev once : Option (List t.Generic) → Option (List t.Port) → Broken
-once gs ps = unless Twice (are_distinct (interface_names gs ps))
+pub generics_told : (s : Sight) (gs : Option (List t.Generic)) (ps : Option (List t.Port)) (f : NameFault) →
+    Tells (interfaces_broken.generics s (all_of gs)) f → Tells (interfaces_broken.interface s gs ps) f
+generics_told s gs ps f h = told_left (generics_in s gs) (ports_behind s gs ps) f h
 
-pub generics_told : (s : Sight) (gs : Option (List t.Generic)) (ps : Option (List t.Port)) (f : NameFault) → s.region ≡ [] →
-    Tells (generics_broken s (all_of gs)) f → Tells (interfaces_broken.interface s gs ps) f
-generics_told s gs ps f empty =
-    told_either (generics_of s gs) (standing_twice s.region (generic_names (all_of gs))) (interfaces_broken.interface s gs ps) f
-    (told_left (generics_of s gs) (ports_of s gs ps ∪ once gs ps) f)
-    (λ h. told_right (generics_of s gs) (ports_of s gs ps ∪ once gs ps) f (told_right (ports_of s gs ps) (once gs ps) f
-    (subst (λ r. Tells (standing_twice r (interface_names gs ps)) f) empty (twice_more s.region (generic_names (all_of gs)) (port_names (all_of ps)) f h))))
-
-pub ports_told : (s w : Sight) (gs : Option (List t.Generic)) (ps : Option (List t.Port)) (x : List u.Generic) (f : NameFault) → s.region ≡ [] →
-    entering (in_order with_declared generic) s (all_of gs) ≡ Some (pair w x) → Tells (ports_broken w (all_of ps)) f → Tells (interfaces_broken.interface s gs ps) f
-ports_told s w gs ps x f empty given h =
+pub ports_told : (s w : Sight) (gs : Option (List t.Generic)) (ps : Option (List t.Port)) (x : List u.Generic) (f : NameFault) →
+    entering (in_order with_declared generic) s (all_of gs) ≡ Some (pair w x) → Tells (interfaces_broken.ports w (all_of ps)) f → Tells (interfaces_broken.interface s gs ps) f
+ports_told s w gs ps x f given h =
     let g = comes (in_order with_declared generic s (all_of gs)) (entered s) (pair w x) given in
     let k = kept (are_distinct (declared_names (s.region ++ g.value.declared))) (Some (pair (with_declared s g.value.declared) g.value.analysed)) (pair w x) g.rest in
     let same = first_is (with_declared s g.value.declared) w g.value.analysed x k.1 in
-    let names = names_in_order with_declared generic (λ (g : t.Generic). names_of g.names) of_generic (all_of gs) s g.value g.is in
-    told_either (broken.in_order with_declared port broken.port (with_declared s g.value.declared) (all_of ps)) (standing_twice (s.region ++ g.value.declared) (port_names (all_of ps)))
-    (interfaces_broken.interface s gs ps) f
-    (λ h. told_right (generics_of s gs) (ports_of s gs ps ∪ once gs ps) f (told_left (ports_of s gs ps) (once gs ps) f
-    (told_given (λ g. broken.in_order with_declared port broken.port (with_declared s g.declared) (all_of ps)) (in_order with_declared generic s (all_of gs)) g.value f g.is h)))
-    (λ h. told_right (generics_of s gs) (ports_of s gs ps ∪ once gs ps) f (told_right (ports_of s gs ps) (once gs ps) f
-    (subst (λ r. Tells (standing_twice r (interface_names gs ps)) f) empty
-    (twice_entered s.region g.value.declared (generic_names (all_of gs)) (port_names (all_of ps)) f names h))))
-    (subst (λ r. Tells (ports_broken r (all_of ps)) f) (sym same) h)
+    told_right (generics_in s gs) (ports_behind s gs ps) f (generics_kept s (all_of gs) g.value g.is k.0)
+    (told_given (λ g. interfaces_broken.ports (with_declared s g.declared) (all_of ps)) (in_order with_declared generic s (all_of gs)) g.value f g.is
+    (subst (λ r. Tells (interfaces_broken.ports r (all_of ps)) f) (sym same) h))
 
 -- ---- and of the entity
 
@@ -122,25 +105,30 @@ abbrev of_interface : List t.ContextItem → t.Entity → Broken
 of_interface items e = where_given (context no_context items) (λ c. interfaces_broken.interface (sight_of c []) e.generics e.ports)
 
 abbrev ends_so : t.Entity → Broken
-ends_so e = unless WrongKind (ends e.name.text e.end_name)
+ends_so e = broken.end_name e.name e.end_name
 
 module _ (items : List t.ContextItem) (e : t.Entity) (f : NameFault) where
   pub context_told : Tells (broken.context no_context items) f → Tells (interfaces_broken.entity items e) f
-  context_told = told_left (broken.context no_context items) (of_interface items e ∪ ends_so e) f
+  context_told = told_left (broken.context no_context items) (of_interface items e ▸ ends_so e) f
 
-  pub interface_told : (c : Context) (s : Sight) → context no_context items ≡ Some c → Some (sight_of c []) ≡ Some s →
-      Tells (interfaces_broken.interface s e.generics e.ports) f → Tells (interfaces_broken.entity items e) f
-  interface_told c s h k told =
-      told_right (broken.context no_context items) (of_interface items e ∪ ends_so e) f (told_left (of_interface items e) (ends_so e) f
-      (told_given (λ c. interfaces_broken.interface (sight_of c []) e.generics e.ports) (context no_context items) c f h
-      (subst (λ s. Tells (interfaces_broken.interface s e.generics e.ports) f) (sym (some_is (sight_of c []) s k)) told)))
+  module _ (c : Context) (s : Sight) (h : context no_context items ≡ Some c) (k : Some (sight_of c []) ≡ Some s) where
+    pub interface_told : Tells (interfaces_broken.interface s e.generics e.ports) f → Tells (interfaces_broken.entity items e) f
+    interface_told told =
+        told_right (broken.context no_context items) (of_interface items e ▸ ends_so e) f (context_kept items no_context c h)
+        (told_left (of_interface items e) (ends_so e) f
+        (told_given (λ c. interfaces_broken.interface (sight_of c []) e.generics e.ports) (context no_context items) c f h
+        (subst (λ s. Tells (interfaces_broken.interface s e.generics e.ports) f) (sym (some_is (sight_of c []) s k)) told)))
 
-  pub end_told : Tells (ends_so e) f → Tells (interfaces_broken.entity items e) f
-  end_told h = told_right (broken.context no_context items) (of_interface items e ∪ ends_so e) f (told_right (of_interface items e) (ends_so e) f h)
+    pub end_told : (i : Interface) → interface s e.generics e.ports ≡ Some i → Tells (ends_so e) f → Tells (interfaces_broken.entity items e) f
+    end_told i given told =
+        let g : interface (sight_of c []) e.generics e.ports ≡ Some i = ap (λ s. interface s e.generics e.ports) (some_is (sight_of c []) s k) ∙ given in
+        told_right (broken.context no_context items) (of_interface items e ▸ ends_so e) f (context_kept items no_context c h)
+        (told_right (of_interface items e) (ends_so e) f
+        (given_kept (λ c. interfaces_broken.interface (sight_of c []) e.generics e.ports) (context no_context items) c h (interface_kept (sight_of c []) e.generics e.ports i refl g)) told)
 
 -- of nothing that is broken nothing is told
 pub told_nothing : (b : Broken) (f : NameFault) → Tells nothing f → Tells b f
-told_nothing b (At p at) h = absurd (true≢false (sym h))
+told_nothing b (At p at) h = absurd cc
 told_nothing b NoMemory h = tt
 
 -- ---- entities

@@ -1,15 +1,14 @@
 //! What is in sight where an architecture begins (IEEE 1076-2008, 3.3 and 12.4).
 
 ghost use Rattle.std.specs.Prelude.{◌≡◌, ◌∷◌, [], map, Some, IfOk, IfErr};
-ghost use Rattle.vhdl_names_declarations.specs.Entered.{more};
+ghost use Rattle.vhdl_names_declarations.specs.Entered.{ident, more};
 ghost use Rattle.vhdl_names_rules.specs.Visibility.{declare};
 ghost use Rattle.vhdl_names_interfaces.specs.Views.{entity_view, sight_behind};
 ghost use Rattle.vhdl_names_rules.specs.Gives.{Gives};
 ghost use Rattle.vhdl_tree.specs.View as view;
 ghost use Rattle.vhdl_names_types.specs.Views.{meaning_view, region_view, sight_view};
-ghost use Rattle.vhdl_names_problems.specs.Broken.{Tells, is_of, nothing};
+ghost use Rattle.vhdl_names_problems.specs.Broken.{Tells, nothing};
 ghost use Rattle.vhdl_names_problems.specs.Declarations as broken;
-ghost use Rattle.vhdl_names_rules.specs.declared.fault.NameProblem.TheVariants.{Twice};
 
 use crate::interface::EntityInterface;
 use indexmap::IndexMap;
@@ -68,7 +67,7 @@ fn copy_one(
     meaning: &Meaning,
 ) -> Result<(), NameFault>
     ensures given { Gives (λ _. region_view copy.new) (more (region_view copy.old) (declare name.now (meaning_view meaning.now) ∷ [])) result }
-    ensures told { IfErr result (Tells (is_of (Twice ∷ []))) }
+    ensures told { IfErr result (Tells (broken.standing_twice (region_view copy.old) (ident 0 name.now ∷ []))) }
 {
     let meaning = copied_meaning(alloc, meaning)?;
     declare_name(alloc, copy, name, 0, meaning)?;

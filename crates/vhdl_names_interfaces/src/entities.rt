@@ -4,7 +4,7 @@ ghost use Rattle.std.specs.Prelude.{◌≡◌, ◌≢◌, ◌++◌, ◌∷◌, [
 ghost use Rattle.vhdl_names_interfaces.specs.Views.{entity_view, entities_view, named_view, one_more};
 ghost use Rattle.vhdl_names_rules.specs.Gives.{Gives};
 ghost use Rattle.vhdl_names_rules.specs.Interfaces as rules;
-ghost use Rattle.vhdl_names_problems.specs.Broken.{Tells, is_of};
+ghost use Rattle.vhdl_names_problems.specs.Broken.{Tells, refused};
 ghost use Rattle.vhdl_names_rules.specs.declared.fault.NameFault.TheVariants.{NoMemory};
 ghost use Rattle.vhdl_names_rules.specs.declared.fault.NameProblem.TheVariants.{Undeclared, Twice};
 
@@ -25,7 +25,7 @@ pub fn add_entity<'a>(
     entity: EntityInterface<'a>,
 ) -> Result<(), NameFault>
     ensures given { Gives (λ _. entities_view entities.new) (one_more (entities_view entities.old) (entity_view entity.entry)) result }
-    ensures told { IfErr result (Tells (is_of (Twice ∷ []))) }
+    ensures told { IfErr result (Tells (refused Twice entity.entry.tree.now.name.at)) }
     ensures kept { IfErr result (λ f. f ≢ NoMemory → entities_view entities.new ≡ entities_view entities.old) }
 {
     let name = &entity.tree.name;
@@ -43,7 +43,7 @@ pub fn entity_named<'e, 'a>(
     name: &Identifier,
 ) -> Result<(usize, &'e EntityInterface<'a>), NameFault>
     ensures given { Gives (λ x. (x.0, named_view name.now.text.items x.1.now)) (rules.entity_named (entities_view entities.now) name.now.text.items) result }
-    ensures told { IfErr result (Tells (is_of (Undeclared ∷ []))) }
+    ensures told { IfErr result (Tells (refused Undeclared name.now.at)) }
 {
     match entities.get_full(name.text.as_slice()) {
         Some((number, _, entity)) => Ok((number, entity)),

@@ -14,7 +14,6 @@ ghost use Rattle.vhdl_names_types.specs.Views.{sight_view, region_view};
 ghost use Rattle.vhdl_names_units.specs.views.Declarations.{all_generics_view, all_ports_view};
 ghost use Rattle.vhdl_names_problems.specs.Broken.{Tells};
 ghost use Rattle.vhdl_names_problems.specs.Interfaces as broken;
-ghost use Rattle.vhdl_names_declarations.specs.Standing.{generics_broken, ports_broken};
 
 use indexmap::IndexMap;
 use std::alloc::Global;
@@ -50,7 +49,7 @@ fn generics_if_any(
     ensures given { Gives (λ v. (sight_view sight.new, all_generics_view v))
         (entering (in_order with_declared generic) (sight_view sight.old) (all_of (view.option_generics_view all.now))) result }
     ensures kept { OnOk result (sight.new ≡ record sight.old { region = sight.new.region }) }
-    ensures told { IfErr result (Tells (generics_broken (sight_view sight.old) (all_of (view.option_generics_view all.now)))) }
+    ensures told { IfErr result (Tells (broken.generics (sight_view sight.old) (all_of (view.option_generics_view all.now)))) }
 {
     match all {
         Some(all) => generics(alloc, sight, all),
@@ -67,7 +66,7 @@ fn ports_if_any(
     ensures given { Gives (λ v. (sight_view sight.new, all_ports_view v))
         (entering (in_order with_declared port) (sight_view sight.old) (all_of (view.option_ports_view all.now))) result }
     ensures kept { OnOk result (sight.new ≡ record sight.old { region = sight.new.region }) }
-    ensures told { IfErr result (Tells (ports_broken (sight_view sight.old) (all_of (view.option_ports_view all.now)))) }
+    ensures told { IfErr result (Tells (broken.ports (sight_view sight.old) (all_of (view.option_ports_view all.now)))) }
 {
     match all {
         Some(all) => ports(alloc, sight, all),

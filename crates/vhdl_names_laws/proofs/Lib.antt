@@ -21,5 +21,4 @@ pub mod Labels
 pub mod Named
 pub mod Spelled
 pub mod Texts
-pub mod kept
 pub mod given

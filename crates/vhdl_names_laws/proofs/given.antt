@@ -5,7 +5,6 @@ pub mod Values
 pub mod Choices
 pub mod Statements
 pub mod Declarations
-pub mod Named
 pub mod Interfaces
 pub mod Associations
 pub mod Instances

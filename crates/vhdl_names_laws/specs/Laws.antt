@@ -1,5 +1,5 @@
 -- What names give is sound: what elaboration may take for granted of units that a file has. And it has units just where it breaks no rule.
-use Rattle.std.specs.Prelude.{◌≡◌, ℕ, Bool, true, false, List, [], map, Some, None, IsTrue}
+use Rattle.std.specs.Prelude.{◌≡◌, ℕ, Bool, List, [], map, Some, None, IsTrue}
 use Rattle.std.specs.List.{list_all}
 use Rattle.vhdl_lexer.specs.declared.token.Token.{Token}
 use Rattle.vhdl_lexer.specs.Cut.{Cuts, AreWithin}
@@ -22,6 +22,7 @@ use Rattle.vhdl_names_rules.specs.sound.Units.{are_sound}
 use Rattle.vhdl_names_rules.specs.Files.{units_of}
 use Rattle.vhdl_names_rules.specs.Interfaces.{EntityView, component}
 use Rattle.vhdl_names_rules.specs.sound.Named.{are_named}
+use Rattle.vhdl_names_problems.specs.Broken.{nothing}
 use Rattle.vhdl_names_problems.specs.Files as broken
 use Rattle.vhdl_names_laws.specs.Words.{small, HasWords}
 use Rattle.vhdl_names_laws.specs.Texts.{IsTextOfEntity}
@@ -69,10 +70,10 @@ abbrev pub ComponentsAreTexts : Type 0
 ComponentsAreTexts = (entities : List EntityView) (sight : Sight) (c : t.Component) (x : Declares u.Declaration)
     → component entities sight c ≡ Some x → IsTextOfEntity entities c
 
--- A well-typed file breaks no rule, whatever the problem that it would bear.
+-- A well-typed file breaks no rule.
 abbrev pub WellTypedFilesBreakNoRule : Type 0
-WellTypedFilesBreakNoRule = (f : File) (units : Units) (p : NameProblem) → units_of f ≡ Some units → broken.file f p ≡ false
+WellTypedFilesBreakNoRule = (f : File) (units : Units) → units_of f ≡ Some units → broken.file f ≡ nothing
 
--- And one that isn't well typed breaks a rule.
+-- And one that isn't well typed breaks a rule, of which the first has a problem and a byte.
 abbrev pub IllTypedFilesBreakARule : Type 0
-IllTypedFilesBreakARule = (f : File) → units_of f ≡ None → (p : NameProblem) × (broken.file f p ≡ true)
+IllTypedFilesBreakARule = (f : File) → units_of f ≡ None → (p : NameProblem) × (at : ℕ) × (broken.file f ≡ Some (p, at))

@@ -48,7 +48,8 @@ pub fn well_typed_files_break_no_rule()
     ensures { WellTypedFilesBreakNoRule }
 {}
 
-/// A file that isn't well typed breaks a rule of `vhdl_names_problems`: no rule of the language is left out there.
+/// A file that isn't well typed breaks a rule of `vhdl_names_problems`: no rule of the language is left out there, and the first has a problem and
+/// a byte.
 pub fn ill_typed_files_break_a_rule()
     ensures { IllTypedFilesBreakARule }
 {}

@@ -1,8 +1,13 @@
 pub mod Broken
+pub mod Twice
+pub mod Places
+pub mod Labels
 pub mod Missing
+pub mod Operators
 pub mod Expressions
 pub mod Subtypes
 pub mod Choices
+pub mod Covered
 pub mod Statements
 pub mod Declarations
 pub mod Interfaces

@@ -1,5 +1,5 @@
 -- What names are, by the arguments that stand alone.
-use Rattle.std.proofs.Common.{◌≡◌, Bool, true, false, true≢false, List, [], ◌∷◌, map, Option, None, Vec, Box, Global, refl, ap, ◌∙◌}
+use Rattle.std.proofs.Common.{◌≡◌, ℕ, Bool, true, false, true≢false, List, [], ◌∷◌, map, Option, None, Vec, Box, Global, refl, ap, ◌∙◌}
 use Rattle.std.specs.Prelude.{◌&&◌, option_map}
 use Rattle.std.specs.List.{list_all}
 use mathlib.Core.Former.{Count}
@@ -16,6 +16,12 @@ use Rattle.vhdl_names_rules.specs.declared.vector.Vector.TheBlock.{Row_of-Vector
 use Rattle.vhdl_names_rules.specs.declared.vector.VectorLink.{VectorLink}
 use Rattle.vhdl_names_rules.specs.declared.vector.VectorLink.TheVariants as l
 use Rattle.vhdl_names_rules.specs.declared.vector.SignalPart.{SignalPart}
+use Rattle.vhdl_names_rules.specs.declared.vector.Part.{Part}
+use Rattle.vhdl_names_rules.specs.declared.kind.Function.{Function}
+use Rattle.vhdl_names_rules.specs.declared.kind.Function.TheVariants.{EdgeCall, ByCount, ToUnsigned}
+use Rattle.vhdl_names_rules.specs.declared.fault.NameProblem.TheVariants.{TypeMismatch}
+use Rattle.vhdl_names_rules.specs.Visibility as visibility
+use Rattle.vhdl_names_problems.specs.Operators.{edge_problem, name_problem}
 use Rattle.vhdl_names_rules.specs.Names as rules
 use Rattle.vhdl_names_rules.specs.Names.{arguments}
 use Rattle.vhdl_names_rules.specs.Operators as o
@@ -25,7 +31,7 @@ use Rattle.vhdl_names_rules.specs.views.Integers.{static_view, start_view, stati
 use Rattle.vhdl_names_rules.proofs.rows.Integers.{view_chain}
 use Rattle.vhdl_names_rules.specs.views.Vectors.{vector_view, links_view, linked}
 use Rattle.vhdl_names_types.specs.declared.types.Typed.{Typed}
-use Rattle.vhdl_names_types.specs.Steps.{sole, two, indexed, conversion, counting, encoded_by, edge_by, is_signal}
+use Rattle.vhdl_names_types.specs.Steps.{sole, two, indexed, conversion, counting, encoded_by, edge_by, edge_call_problem, is_signal}
 use Rattle.vhdl_names_types.specs.Views.{typed_view}
 
 -- ---- one argument
@@ -273,3 +279,41 @@ pub is_static_chain : (x : Static) (start : Box StaticStart Global) (links : Vec
     rules.is_static (static_view x) ≡ (rules.is_static (start_view start.value) && list_all (λ l. rules.is_static (static_view l.operand)) links.items)
 is_static_chain x start links e =
     ap (λ y. rules.is_static (static_view y)) e ∙ ap rules.is_static (view_chain start links) ∙ is_static_chained (start_view start.value) links.items
+
+-- ---- what is wrong with a name
+
+chain_edge : (left : u.Vector) (x : VectorLink) (n : Count) (row : Row_of-VectorLink n) → edge_problem (elements Element (links_view (linked left x) row)) ≡ TypeMismatch
+chain_edge left (l.Vector op at y) n end_of-VectorLink = refl
+chain_edge left (l.Integer op at s) n end_of-VectorLink = refl
+chain_edge left x n (more_of-VectorLink y rest) = chain_edge (linked left x) y _ rest
+
+-- an element that is no variable and no constant
+pub other_edge : (x : Vector) → ((at k : ℕ) (p : Part) → x ≡ v.Variable at k p → ⊥) → ((at k : ℕ) (p : Part) → x ≡ v.Constant at k p → ⊥) →
+    edge_problem (elements Element (vector_view x)) ≡ TypeMismatch
+other_edge (v.Signal p) not_variable not_constant = refl
+other_edge (v.Variable at k p) not_variable not_constant = absurd (not_variable at k p refl)
+other_edge (v.Constant at k p) not_variable not_constant = absurd (not_constant at k p refl)
+other_edge (v.Character at x) not_variable not_constant = refl
+other_edge (v.EnclosedCharacter at x) not_variable not_constant = refl
+other_edge (v.Literal at xs) not_variable not_constant = refl
+other_edge (v.Not' at b x) not_variable not_constant = refl
+other_edge (v.Chain' b first x shape rest) not_variable not_constant = chain_edge (vector_view first) x _ rest
+other_edge (v.IntegerWith' op at s b x) not_variable not_constant = refl
+other_edge (v.Encoded at s t) not_variable not_constant = refl
+other_edge (v.Counted' at op b x s) not_variable not_constant = refl
+
+call_problem : (e : Edge) (xs : List o.Typed) → name_problem (visibility.function (EdgeCall e)) (arguments true xs) ≡ edge_call_problem (sole xs)
+call_problem e [] = refl
+call_problem e (x ∷ []) = refl
+call_problem e (x ∷ y ∷ ys) = refl
+
+-- an edge call by the argument that stands alone
+pub call_problem_sole : (e : Edge) (xs : List Typed) →
+    name_problem (visibility.function (EdgeCall e)) (arguments true (map typed_view xs)) ≡ edge_call_problem (option_map typed_view (sole xs))
+call_problem_sole e xs = call_problem e (map typed_view xs) ∙ ap edge_call_problem (sole_map typed_view xs)
+
+-- any other call
+pub other_call : (f : Function) (s : rules.Suffix) → ((e : Edge) → f ≡ EdgeCall e → ⊥) → name_problem (visibility.function f) s ≡ TypeMismatch
+other_call (EdgeCall e) s other = absurd (other e refl)
+other_call (ByCount op) s other = refl
+other_call ToUnsigned s other = refl

@@ -1,16 +1,14 @@
 -- An architecture in the order in which the code comes to its parts.
-use Rattle.std.specs.Prelude.{List, Option, Some, Result, Ok, Err, Vec, map, option_map}
+use Rattle.std.specs.Prelude.{ℕ, List, Option, Some, None, Vec, map, set, option_map}
 use Rattle.std.specs.Global.{Global}
 use Rattle.vhdl_tree.specs.Tree as t
-use Rattle.vhdl_tree.specs.Tree.{ContextItem}
+use Rattle.vhdl_tree.specs.Tree.{ContextItem, DesignUnit, LibraryUnit}
 use Rattle.vhdl_names_rules.specs.units.Units as u
-use Rattle.vhdl_names_rules.specs.declared.fault.NameFault.{NameFault}
-use Rattle.vhdl_names_rules.specs.declared.fault.NameFault.TheVariants.{At, NoMemory}
 use Rattle.vhdl_names_rules.specs.declared.fault.NameProblem.TheVariants.{WrongKind}
 use Rattle.vhdl_names_rules.specs.Rules.{◌>>=◌, ◌>>◌, rule, if_any}
 use Rattle.vhdl_names_rules.specs.Visibility.{Declared, Sight, ends, with_declared}
 use Rattle.vhdl_names_rules.specs.Declarations.{in_order}
-use Rattle.vhdl_names_rules.specs.Interfaces.{EntityView}
+use Rattle.vhdl_names_rules.specs.Interfaces.{EntityView, entity_named}
 use Rattle.vhdl_names_rules.specs.Concurrent.{concurrents, concurrent_labels}
 use Rattle.vhdl_names_rules.specs.Files.{declaration, labelled}
 use Rattle.vhdl_names_rules.specs.Files as rules
@@ -25,18 +23,13 @@ use Rattle.vhdl_names.specs.steps.Outlines.{described_of}
 abbrev pub with_region : Sight → List Declared → Sight
 with_region sight ds = record sight { region = ds }
 
--- the statements, behind these declarations and their labels
-abbrev pub behind_labels : List EntityView → Sight → List u.Declaration → t.Architecture → Option u.Architecture
-behind_labels all sight ds a = do
-  body ← concurrents all sight (t.concurrents_of a.statements)
-  rule WrongKind (ends a.name.text a.end_name)
-  Some (record { declarations = ds; statements = body })
-
 -- the labels and statements, behind these declarations
 abbrev pub body : List EntityView → Sight → List u.Declaration → t.Architecture → Option u.Architecture
 body all sight ds a = do
   region ← more sight.region (labelled (concurrent_labels (t.concurrents_of a.statements)))
-  behind_labels all (with_region sight region) ds a
+  statements ← concurrents all (with_region sight region) (t.concurrents_of a.statements)
+  rule WrongKind (ends a.name.text a.end_name)
+  Some (record { declarations = ds; statements = statements })
 
 abbrev pub architecture : List EntityView → EntityView → List ContextItem → t.Architecture → Option u.Architecture
 architecture all e items a = do
@@ -51,10 +44,18 @@ own all as' e = if_any (λ p. rules.architecture all e p.0 p.1) (described_of e.
 abbrev pub options_view : Vec (Option Architecture) Global → List (Option u.Architecture)
 options_view v = map (option_map architecture_view) v.items
 
--- of two answers in order of the text the first that is refused; want of memory comes before all
-abbrev pub first_of : {A : Type 0} → Result A NameFault → Result A NameFault → Result A NameFault
-first_of (Ok x) next = next
-first_of (Err NoMemory) next = Err NoMemory
-first_of (Err (At p at)) (Ok x) = Err (At p at)
-first_of (Err (At p at)) (Err NoMemory) = Err NoMemory
-first_of (Err (At p at)) (Err (At q place)) = Err (At p at)
+-- with one more architecture, as that of its entity
+abbrev pub with_described : List EntityView → List (Option u.Architecture) → List ContextItem × t.Architecture → Option (List (Option u.Architecture))
+with_described es os a = placed (entity_named es a.1.entity.text)
+  where
+    placed : Option (ℕ × EntityView) → Option (List (Option u.Architecture))
+    placed None = Some os
+    placed (Some (k, e)) = rules.architecture es e a.0 a.1 >>= λ x. Some (set os k (Some x))
+
+-- with one more unit, which may be an architecture
+abbrev pub with_unit : List EntityView → List (Option u.Architecture) → DesignUnit → Option (List (Option u.Architecture))
+with_unit es os d = of_unit d.context d.unit
+  where
+    of_unit : List ContextItem → LibraryUnit → Option (List (Option u.Architecture))
+    of_unit items (t.LibraryUnit.entity e) = Some os
+    of_unit items (t.architecture a) = with_described es os (items, a)

@@ -1,21 +1,21 @@
 -- The entities of a file, unit by unit.
-use Rattle.std.specs.Prelude.{List, Option, Some, option_map}
+use Rattle.std.specs.Prelude.{List, [], ◌∷◌, Option, Some, option_map}
 use Rattle.vhdl_tree.specs.Tree as t
 use Rattle.vhdl_tree.specs.Tree.{ContextItem, DesignUnit, LibraryUnit}
 use Rattle.vhdl_names_rules.specs.Rules.{◌>>=◌}
 use Rattle.vhdl_names_rules.specs.Interfaces.{EntityView, entity}
-use Rattle.vhdl_names_interfaces.specs.Views.{one_more}
+use Rattle.vhdl_names_problems.specs.Files.{with_entities}
 use Rattle.vhdl_names.specs.Views.{Keyed}
 use Rattle.vhdl_names.specs.steps.Outlines.{described_of}
 
 -- with the architectures of the file
 module _ (as' : List Keyed) where
   -- an entity, seen with its architecture's name
-  abbrev pub viewed_by : List ContextItem → t.Entity → Option EntityView
-  viewed_by items e = entity items e (option_map (λ a. a.1.name.text) (described_of e.name.text as'))
+  abbrev pub viewed_by : List ContextItem × t.Entity → Option EntityView
+  viewed_by e = entity e.0 e.1 (option_map (λ a. a.1.name.text) (described_of e.1.name.text as'))
 
   abbrev pub with_entity : List EntityView → List ContextItem → t.Entity → Option (List EntityView)
-  with_entity es items e = viewed_by items e >>= λ v. one_more es v
+  with_entity es items e = viewed_by (items, e) >>= λ v. Some (with_entities es (v ∷ []))
 
   abbrev pub with_unit : List EntityView → DesignUnit → Option (List EntityView)
   with_unit es d = of_unit d.context d.unit

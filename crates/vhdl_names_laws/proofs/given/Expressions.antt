@@ -1,16 +1,15 @@
 -- An expression that breaks no rule has a type (IEEE 1076-2008, clauses 8 and 9).
-use Rattle.std.proofs.Common.{◌≡◌, Bool, true, false, cond, [], ◌∷◌, Option, Some, None, ap, sym, ◌∙◌}
-use Rattle.std.specs.Prelude.{bytes_eq, codes}
+use Rattle.std.proofs.Common.{◌≡◌, ℕ, [], ◌∷◌, Option, Some, None}
 use Rattle.vhdl_tree.specs.Tree as t
 use Rattle.vhdl_tree.specs.Tree.{Expr, Exprs, Ident}
 use Rattle.vhdl_names_rules.specs.declared.kind.ObjectType.{ObjectType}
 use Rattle.vhdl_names_rules.specs.declared.kind.ElementKind.TheVariants.{Element, OpenVector}
-use Rattle.vhdl_names_rules.specs.declared.fault.NameProblem.TheVariants.{Undeclared, WrongKind, TypeMismatch, NotVisible, LeftOut}
+use Rattle.vhdl_names_rules.specs.declared.fault.NameProblem.TheVariants.{TypeMismatch, LeftOut}
 use Rattle.vhdl_names_rules.specs.units.Expressions as u
 use Rattle.vhdl_names_rules.specs.units.Expressions.{Static}
 use Rattle.vhdl_names_rules.specs.Rules.{◌>>=◌}
 use Rattle.vhdl_names_rules.specs.Visibility as visibility
-use Rattle.vhdl_names_rules.specs.Visibility.{Name, Meaning, Sight}
+use Rattle.vhdl_names_rules.specs.Visibility.{Sight}
 use Rattle.vhdl_names_rules.specs.Literals.{number_of, nine_of, values_of_string, values_of_bits}
 use Rattle.vhdl_names_rules.specs.Operators as o
 use Rattle.vhdl_names_rules.specs.Operators.{Typed, inverse, operated}
@@ -18,80 +17,70 @@ use Rattle.vhdl_names_rules.specs.Names as names
 use Rattle.vhdl_names_rules.specs.Names.{Suffix, denoted, attributed, edge_signal}
 use Rattle.vhdl_names_rules.specs.Expressions as are
 use Rattle.vhdl_names_rules.specs.Expressions.{as_integer, signed, enclosed, beside, is_one_name, as_test, as_static_test, as_value, as_filled}
-use Rattle.vhdl_names_problems.specs.Broken.{nothing, ◌∪◌, lacking, where_given}
+use Rattle.vhdl_names_problems.specs.Broken.{◌▸◌, unless, lacking, where_given}
+use Rattle.vhdl_names_problems.specs.Places.{start}
 use Rattle.vhdl_names_problems.specs.Missing.{problem_of}
+use Rattle.vhdl_names_problems.specs.Operators.{string_problem, operator_problem, edge_problem, name_problem}
 use Rattle.vhdl_names_problems.specs.Expressions as broken
-use Rattle.vhdl_names_problems.specs.Expressions.{mismatch, is_finished, name_problems, operator_problems}
-use Rattle.vhdl_names_laws.proofs.kept.Keeping.{IsKept}
+use Rattle.vhdl_names_problems.specs.Expressions.{is_event, is_vector_type}
+use Rattle.vhdl_names_problems.proofs.Telling.{IsKept}
 use Rattle.vhdl_names_laws.proofs.given.Giving.{IsGiven, this, bound, ruled, mapped_given, parts, holds, given, of_given}
 
 -- ---- names
 
-pub meaning_given : (sight : Sight) (n : Name) → IsKept (broken.meaning sight n) → IsGiven (visibility.meaning sight n)
-meaning_given sight n h = given (problem_of n) [] (visibility.meaning sight n) h
+pub meaning_given : (sight : Sight) (n : Ident) → IsKept (broken.meaning sight n) → IsGiven (visibility.meaning sight n.text)
+meaning_given sight n h = given (problem_of n.text) n.at (visibility.meaning sight n.text) h
 
-attributed_given : (a : Option Ident) (x : Typed) → IsKept (broken.attribute a) → IsKept (broken.event_of a x) → IsGiven (attributed a x)
-attributed_given None x h k = this x
-attributed_given (Some a) x h k =
-    let event : Bool = bytes_eq a.text (codes "event") in
-    let e = holds LeftOut event h in
-    let wanted : IsKept (lacking (WrongKind ∷ TypeMismatch ∷ []) (edge_signal x)) =
-    λ p. ap (λ event. cond event (lacking (WrongKind ∷ TypeMismatch ∷ []) (edge_signal x)) nothing p) (sym e) ∙ k p in
-    let g = given WrongKind (TypeMismatch ∷ []) (edge_signal x) wanted in
-    ruled event _ e (bound (edge_signal x) (λ p. Some (o.truth (u.event p))) g.value g.is (this (o.truth (u.event g.value))))
-
-pub problems_given : {A : Type 0} (d : Meaning) (x : Option A) → IsKept (lacking (name_problems d) x) → IsGiven x
-problems_given {A} d x h = go (is_finished d) h
-  where
-    go : (b : Bool) → IsKept (lacking (cond b (WrongKind ∷ TypeMismatch ∷ []) (Undeclared ∷ [])) x) → IsGiven x
-    go true h = given WrongKind (TypeMismatch ∷ []) x h
-    go false h = given Undeclared [] x h
-
-operated_given : {A : Type 0} (numbers : Bool) (x : Option A) → IsKept (lacking (operator_problems numbers) x) → IsGiven x
-operated_given true x h = given TypeMismatch (LeftOut ∷ []) x h
-operated_given false x h = given TypeMismatch (LeftOut ∷ NotVisible ∷ []) x h
-
-named_given : (sight : Sight) (n : Name) (a : Option Ident) (q : Option Suffix) (s : Suffix) → q ≡ Some s → IsKept (broken.named sight n q a)
-    → IsGiven (visibility.meaning sight n >>= λ d. denoted d s >>= attributed a)
-named_given sight n a q s e h =
+attributed_given : (at : ℕ) (a : Option Ident) (x : Typed) → IsKept (broken.attributed at a x) → IsGiven (attributed a x)
+attributed_given at None x h = this x
+attributed_given at (Some a) x h =
     let k = parts _ _ h in
-    let l = parts _ _ k.1 in
-    let d = meaning_given sight n k.0 in
-    let w = of_given (broken.with_suffix a d.value) q s e (of_given (λ d. where_given q (broken.with_suffix a d)) (visibility.meaning sight n) d.value d.is l.1) in
-    let m = parts (lacking (name_problems d.value) (denoted d.value s)) (where_given (denoted d.value s) (broken.event_of a)) w in
-    let x = problems_given d.value (denoted d.value s) m.0 in
-    let y = attributed_given a x.value l.0 (of_given (broken.event_of a) (denoted d.value s) x.value x.is m.1) in
-    bound (visibility.meaning sight n) (λ d. denoted d s >>= attributed a) d.value d.is (bound (denoted d.value s) (attributed a) x.value x.is y)
+    let g = given (edge_problem x) at (edge_signal x) k.1 in
+    ruled (is_event a) _ (holds LeftOut a.at (is_event a) k.0)
+    (bound (edge_signal x) (λ p. Some (o.truth (u.event p))) g.value g.is (this (o.truth (u.event g.value))))
+
+named_given : (sight : Sight) (n : Ident) (a : Option Ident) (q : Option Suffix) (s : Suffix) → q ≡ Some s → IsKept (broken.meaning sight n) → IsKept (broken.named sight n q a)
+    → IsGiven (visibility.meaning sight n.text >>= λ d. denoted d s >>= attributed a)
+named_given sight n a q s e m h =
+    let d = meaning_given sight n m in
+    let w = of_given (broken.with_suffix n.at a d.value) q s e
+    (of_given (λ d. where_given q (broken.with_suffix n.at a d)) (visibility.meaning sight n.text) d.value d.is h) in
+    let k = parts _ _ w in
+    let l = parts (lacking (name_problem d.value s) n.at (denoted d.value s)) (where_given (denoted d.value s) (broken.attributed n.at a)) k.1 in
+    let x = given (name_problem d.value s) n.at (denoted d.value s) l.0 in
+    let y = attributed_given n.at a x.value (of_given (broken.attributed n.at a) (denoted d.value s) x.value x.is l.1) in
+    bound (visibility.meaning sight n.text) (λ d. denoted d s >>= attributed a) d.value d.is (bound (denoted d.value s) (attributed a) x.value x.is y)
 
 -- ---- expressions
 
-wanted_given : (q : Option Typed) (x : Typed) → q ≡ Some x → IsKept (broken.integer_wanted q) → IsGiven (as_integer x)
-wanted_given q x e h = given TypeMismatch [] (as_integer x) (of_given (λ x. lacking mismatch (as_integer x)) q x e h)
+wanted_given : (at : ℕ) (q : Option Typed) (x : Typed) → q ≡ Some x → IsKept (broken.integer_wanted at q) → IsGiven (as_integer x)
+wanted_given at q x e h = given TypeMismatch at (as_integer x) (of_given (λ x. lacking TypeMismatch at (as_integer x)) q x e h)
 
 mutual
   unfolding are.typed broken.typed
 
   pub typed_given : (e : Expr) (sight : Sight) → IsKept (broken.typed sight e) → IsGiven (are.typed sight e)
-  typed_given (t.integer at text) sight h = mapped_given (λ n. o.integer (u.number n)) (number_of text) (given LeftOut [] (number_of text) h)
-  typed_given (t.character at c) sight h = mapped_given (λ v. o.elements Element (u.character v)) (nine_of c) (given TypeMismatch [] (nine_of c) h)
+  typed_given (t.integer at text) sight h = mapped_given (λ n. o.integer (u.number n)) (number_of text) (given LeftOut at (number_of text) h)
+  typed_given (t.character at c) sight h = mapped_given (λ v. o.elements Element (u.character v)) (nine_of c) (given TypeMismatch at (nine_of c) h)
   typed_given (t.string at text) sight h =
-      mapped_given (λ vs. o.elements OpenVector (u.Vector.literal vs)) (values_of_string text) (given TypeMismatch (LeftOut ∷ []) (values_of_string text) h)
+      mapped_given (λ vs. o.elements OpenVector (u.Vector.literal vs)) (values_of_string text) (given (string_problem text) at (values_of_string text) h)
   typed_given (t.bits at text) sight h =
-      mapped_given (λ vs. o.elements OpenVector (u.Vector.literal vs)) (values_of_bits text) (given LeftOut [] (values_of_bits text) h)
+      mapped_given (λ vs. o.elements OpenVector (u.Vector.literal vs)) (values_of_bits text) (given LeftOut at (values_of_bits text) h)
   typed_given (t.named n suffix a) sight h =
       let k = parts _ _ h in
-      let s = suffix_given suffix sight k.0 in
+      let l = parts _ _ k.1 in
+      let s = suffix_given suffix sight l.0 in
       bound (are.typed_suffix sight suffix) (λ s. visibility.meaning sight n.text >>= λ d. denoted d s >>= attributed a) s.value s.is
-      (named_given sight n.text a (are.typed_suffix sight suffix) s.value s.is k.1)
+      (named_given sight n a (are.typed_suffix sight suffix) s.value s.is k.0 l.1)
   typed_given (t.parens at e) sight h = mapped_given enclosed (are.typed sight e) (typed_given e sight h)
   typed_given (t.negation at e) sight h =
       let k = parts _ _ h in
       let x = typed_given e sight k.0 in
-      bound (are.typed sight e) inverse x.value x.is (given TypeMismatch [] (inverse x.value) (of_given (λ x. lacking mismatch (inverse x)) (are.typed sight e) x.value x.is k.1))
+      bound (are.typed sight e) inverse x.value x.is (given TypeMismatch at (inverse x.value) (of_given (λ x. lacking TypeMismatch at (inverse x)) (are.typed sight e) x.value x.is k.1))
   typed_given (t.signed sign at e) sight h =
       let k = parts _ _ h in
       let x = typed_given e sight k.0 in
-      let s = wanted_given (are.typed sight e) x.value x.is k.1 in
+      let s = wanted_given at (are.typed sight e) x.value x.is k.1 in
       bound (are.typed sight e) (λ x. as_integer x >>= λ s. Some (o.integer (signed sign s))) x.value x.is
       (bound (as_integer x.value) (λ s. Some (o.integer (signed sign s))) s.value s.is (this (o.integer (signed sign s.value))))
   typed_given (t.binary begins op at d e) sight h =
@@ -99,11 +88,11 @@ mutual
       let l = parts _ _ k.1 in
       let x = typed_given d sight k.0 in
       let y = typed_given e sight l.0 in
-      let w = of_given (λ y. lacking (operator_problems sight.numbers) (operated sight.numbers op x.value (beside d y))) (are.typed sight e) y.value y.is
-      (of_given (λ x. where_given (are.typed sight e) (λ y. lacking (operator_problems sight.numbers) (operated sight.numbers op x (beside d y)))) (are.typed sight d) x.value x.is l.1) in
+      let w = of_given (λ y. lacking (operator_problem op x.value (beside d y)) at (operated sight.numbers op x.value (beside d y))) (are.typed sight e) y.value y.is
+      (of_given (λ x. where_given (are.typed sight e) (λ y. lacking (operator_problem op x (beside d y)) at (operated sight.numbers op x (beside d y)))) (are.typed sight d) x.value x.is l.1) in
       bound (are.typed sight d) (λ x. are.typed sight e >>= λ y. operated sight.numbers op x (beside d y)) x.value x.is
       (bound (are.typed sight e) (λ y. operated sight.numbers op x.value (beside d y)) y.value y.is
-      (operated_given sight.numbers (operated sight.numbers op x.value (beside d y.value)) w))
+      (given (operator_problem op x.value (beside d y.value)) at (operated sight.numbers op x.value (beside d y.value)) w))
 
   pub suffix_given : (s : t.Suffix) (sight : Sight) → IsKept (broken.typed_suffix sight s) → IsGiven (are.typed_suffix sight s)
   suffix_given t.plain sight h = this names.plain
@@ -113,9 +102,9 @@ mutual
       let l = parts _ _ k.0 in
       let m = parts _ _ k.1 in
       let x = typed_given d sight l.0 in
-      let left = wanted_given (are.typed sight d) x.value x.is l.1 in
+      let left = wanted_given (start d) (are.typed sight d) x.value x.is l.1 in
       let y = typed_given e sight m.0 in
-      let right = wanted_given (are.typed sight e) y.value y.is m.1 in
+      let right = wanted_given (start e) (are.typed sight e) y.value y.is m.1 in
       bound (are.typed sight d) _ x.value x.is
       (bound (as_integer x.value) _ left.value left.is
       (bound (are.typed sight e) _ y.value y.is
@@ -133,12 +122,12 @@ mutual
 
 -- ---- what is asked of an expression
 
-asked_given : {A : Type 0} (f : Typed → Option A) (sight : Sight) (e : Expr) → IsKept (broken.typed sight e ∪ where_given (are.typed sight e) (λ x. lacking mismatch (f x)))
+asked_given : {A : Type 0} (f : Typed → Option A) (sight : Sight) (e : Expr) → IsKept (broken.typed sight e ▸ where_given (are.typed sight e) (λ x. lacking TypeMismatch (start e) (f x)))
     → IsGiven (are.typed sight e >>= f)
 asked_given f sight e h =
-    let k = parts (broken.typed sight e) (where_given (are.typed sight e) (λ x. lacking mismatch (f x))) h in
+    let k = parts (broken.typed sight e) (where_given (are.typed sight e) (λ x. lacking TypeMismatch (start e) (f x))) h in
     let x = typed_given e sight k.0 in
-    bound (are.typed sight e) f x.value x.is (given TypeMismatch [] (f x.value) (of_given (λ x. lacking mismatch (f x)) (are.typed sight e) x.value x.is k.1))
+    bound (are.typed sight e) f x.value x.is (given TypeMismatch (start e) (f x.value) (of_given (λ x. lacking TypeMismatch (start e) (f x)) (are.typed sight e) x.value x.is k.1))
 
 pub static_given : (sight : Sight) (e : Expr) → IsKept (broken.static sight e) → IsGiven (are.static sight e)
 unfolding are.static
@@ -163,4 +152,8 @@ static_condition_given sight e h = asked_given as_static_test sight e h
 pub value_given_given : (sight : Sight) (type : ObjectType) (v : t.Value) → IsKept (broken.value_given sight type v) → IsGiven (are.value_given sight type v)
 unfolding are.value_given
 value_given_given sight type (t.single e) h = asked_given (as_value type) sight e h
-value_given_given sight type (t.others at e) h = asked_given (as_filled type) sight e h
+value_given_given sight type (t.others at e) h =
+    let k = parts _ _ h in
+    let x = typed_given e sight k.0 in
+    let l = parts _ _ (of_given (λ x. unless TypeMismatch at (is_vector_type type) ▸ lacking TypeMismatch (start e) (as_filled type x)) (are.typed sight e) x.value x.is k.1) in
+    bound (are.typed sight e) (as_filled type) x.value x.is (given TypeMismatch (start e) (as_filled type x.value) l.1)

@@ -1,12 +1,12 @@
 -- What breaks no rule is given.
-use Rattle.std.proofs.Common.{◌≡◌, Bool, true, false, ◌||◌, List, [], ◌∷◌, Option, Some, None, refl, ap, sym, ◌∙◌}
+use Rattle.std.proofs.Common.{◌≡◌, ℕ, zero, suc, Bool, true, false, List, [], ◌∷◌, Option, Some, None, refl, ap, sym, ◌∙◌}
 use Rattle.std.specs.Prelude.{option_map}
+use Rattle.std.specs.List.{slice_get}
 use Rattle.vhdl_names_rules.specs.declared.fault.NameProblem.{NameProblem}
 use Rattle.vhdl_names_rules.specs.Rules.{◌>>=◌, ◌>>◌, met, each, if_any}
-use Rattle.vhdl_names_problems.specs.Broken.{Broken, ◌∪◌, is, is_of, unless, lacking, where_given, any_of, of_any}
-use Rattle.vhdl_names_problems.proofs.Telling.{is_same}
-use Rattle.vhdl_names_rules.proofs.laws.Rules.{neither}
-use Rattle.vhdl_names_laws.proofs.kept.Keeping.{IsKept}
+use Rattle.vhdl_names_problems.specs.Broken.{Broken, ◌▸◌, unless, lacking, where_given, any_of, of_any}
+use Rattle.vhdl_names_rules.proofs.laws.Rules.{some_is}
+use Rattle.vhdl_names_problems.proofs.Telling.{IsKept, kept_left, kept_right}
 
 -- a thing is given
 pub record IsGiven {A : Type 0} (o : Option A) : Type 0 where
@@ -33,28 +33,23 @@ mapped_given f o g = record { value = f g.value; is = ap (option_map f) g.is }
 
 -- ---- parts
 
-pub parts : (a b : Broken) → IsKept (a ∪ b) → IsKept a × IsKept b
-unfolding ◌∪◌
-parts a b h = (λ p. (neither (a p) (b p) (h p)).0, λ p. (neither (a p) (b p) (h p)).1)
+pub parts : (a b : Broken) → IsKept (a ▸ b) → IsKept a × IsKept b
+parts a b h = (kept_left a b h, kept_right a b h)
 
-pub holds : (q : NameProblem) (b : Bool) → IsKept (unless q b) → b ≡ true
-holds q true h = refl
-holds q false h =
-    let e : is q q ≡ false = h q in
-    let f : is q q ≡ true = is_same q in
-    absurd cc
+pub holds : (q : NameProblem) (at : ℕ) (b : Bool) → IsKept (unless q at b) → b ≡ true
+holds q at true h = refl
+holds q at false h = absurd cc
 
-given_by : {A : Type 0} (qs : List NameProblem) (o : Option A) (q : NameProblem) → is_of qs q ≡ true → IsKept (lacking qs o) → IsGiven o
-given_by qs None q k h =
-    let e : is_of qs q ≡ false = h q in
-    absurd cc
-given_by qs (Some x) q k h = this x
+-- what must hold, and doesn't
+pub fails : (q : NameProblem) (at : ℕ) (b : Broken) → IsKept (unless q at false ▸ b) → ⊥
+fails q at b h = let e : false ≡ true = holds q at false (kept_left (unless q at false) b h) in cc
 
-pub given : {A : Type 0} (q : NameProblem) (qs : List NameProblem) (o : Option A) → IsKept (lacking (q ∷ qs) o) → IsGiven o
-given q qs o h = given_by (q ∷ qs) o q (ap (λ t. t || is_of qs q) (is_same q)) h
+pub given : {A : Type 0} (q : NameProblem) (at : ℕ) (o : Option A) → IsKept (lacking q at o) → IsGiven o
+given q at None h = absurd cc
+given q at (Some x) h = this x
 
 pub of_given : {A : Type 0} (f : A → Broken) (o : Option A) (x : A) → o ≡ Some x → IsKept (where_given o f) → IsKept (f x)
-of_given f o x e h p = ap (λ o. where_given o f p) (sym e) ∙ h p
+of_given f o x e h = ap (λ o. where_given o f) (sym e) ∙ h
 
 -- ---- each of several things
 
@@ -69,3 +64,9 @@ each_given f g one (x ∷ xs) h =
     let y = one x p.0 in
     let ys = each_given f g one xs p.1 in
     bound (g x) (λ y. each g xs >>= λ ys. Some (y ∷ ys)) y.value y.is (bound (each g xs) (λ ys. Some (y.value ∷ ys)) ys.value ys.is (this (y.value ∷ ys.value)))
+
+-- where none of several things breaks a rule, that at a place doesn't
+pub any_at : {A : Type 0} (f : A → Broken) (xs : List A) (k : ℕ) (x : A) → IsKept (any_of f xs) → slice_get xs k ≡ Some x → IsKept (f x)
+any_at f [] k x h e = absurd cc
+any_at f (y ∷ xs) zero x h e = ap f (sym (some_is y x e)) ∙ (parts (f y) (any_of f xs) h).0
+any_at f (y ∷ xs) (suc k) x h e = any_at f xs k x (parts (f y) (any_of f xs) h).1 e

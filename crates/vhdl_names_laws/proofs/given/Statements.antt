@@ -1,63 +1,96 @@
 -- Sequential statements that break no rule are given (IEEE 1076-2008, clause 10).
-use Rattle.std.proofs.Common.{◌≡◌, not, List, [], ◌∷◌, length, Option, Some, ap, sym, ◌∙◌, arith}
+use Rattle.std.proofs.Common.{◌≡◌, true, not, List, [], ◌∷◌, length, Option, Some, None, refl, ap, sym, ◌∙◌, arith}
 use Rattle.std.specs.Prelude.{is_none}
 use Rattle.vhdl_tree.specs.Tree as t
 use Rattle.vhdl_tree.specs.Tree.{Ident}
-use Rattle.vhdl_names_rules.specs.declared.fault.NameProblem.TheVariants.{WrongKind, WriteOfIn, LeftOut}
+use Rattle.vhdl_names_rules.specs.declared.kind.ObjectType.{ObjectType}
+use Rattle.vhdl_names_rules.specs.declared.fault.NameProblem.{NameProblem}
+use Rattle.vhdl_names_rules.specs.declared.fault.NameProblem.TheVariants.{WrongKind, WriteOfIn}
 use Rattle.vhdl_names_rules.specs.units.Statements as s
-use Rattle.vhdl_names_rules.specs.Rules.{◌>>=◌, ◌>>◌, met}
+use Rattle.vhdl_names_rules.specs.Rules.{◌>>=◌, ◌>>◌, met, each}
 use Rattle.vhdl_names_rules.specs.Visibility.{Meaning, Sight, meaning, label_ends, within_loop}
 use Rattle.vhdl_names_rules.specs.Names.{Suffix}
 use Rattle.vhdl_names_rules.specs.Expressions.{typed, typed_suffix, static_range, condition, value_given}
-use Rattle.vhdl_names_rules.specs.Choices.{covered, selector, arranged}
+use Rattle.vhdl_names_rules.specs.Choices.{choices, covered, selector, arranged}
 use Rattle.vhdl_names_rules.specs.Statements as are
 use Rattle.vhdl_names_rules.specs.Statements.{SignalName, VariableName, as_signal, as_variable, is_input, choice_lists}
-use Rattle.vhdl_names_problems.specs.Broken.{◌∪◌, unless, lacking, where_given}
+use Rattle.vhdl_names_problems.specs.Broken.{◌▸◌, unless, lacking, where_given}
 use Rattle.vhdl_names_problems.specs.Expressions as expressions
-use Rattle.vhdl_names_problems.specs.Expressions.{name_problems}
+use Rattle.vhdl_names_problems.specs.Expressions.{no_attribute}
 use Rattle.vhdl_names_problems.specs.Statements as broken
+use Rattle.vhdl_names_problems.specs.Statements.{signal_problem, variable_problem, end_label}
 use Rattle.vhdl_names_rules.proofs.laws.Rules.{comes, some_is}
-use Rattle.vhdl_names_laws.proofs.kept.Keeping.{IsKept}
-use Rattle.vhdl_names_laws.proofs.kept.Statements.{object_named}
-use Rattle.vhdl_names_laws.proofs.given.Giving.{IsGiven, this, bound, ruled, mapped_given, parts, holds, of_given}
-use Rattle.vhdl_names_laws.proofs.given.Expressions.{meaning_given, problems_given, suffix_given, static_range_given, condition_given, value_given_given}
-use Rattle.vhdl_names_laws.proofs.given.Choices.{case_given}
+use Rattle.vhdl_names_problems.proofs.Telling.{IsKept}
+use Rattle.vhdl_names_problems.proofs.kept.Statements.{object_named}
+use Rattle.vhdl_names_laws.proofs.given.Giving.{IsGiven, this, bound, ruled, mapped_given, parts, holds, given, of_given}
+use Rattle.vhdl_names_laws.proofs.given.Expressions.{meaning_given, suffix_given, static_range_given, condition_given, value_given_given}
+use Rattle.vhdl_names_laws.proofs.given.Choices.{choices_given, covered_is, of_alternatives, each_length, arranged_given, selected_given}
 
 -- ---- names of signals and variables
 
-object_given : {A : Type 0} (f : Meaning → Suffix → Option A) (sight : Sight) (n : t.Name)
-    → IsKept (broken.named sight n ∪ where_given (meaning sight n.identifier.text) (λ d. where_given (typed_suffix sight n.suffix) (λ s. lacking (name_problems d) (f d s))))
+none_given : (a : Option Ident) → IsKept (no_attribute a) → is_none a ≡ true
+none_given None h = refl
+none_given (Some i) h = absurd cc
+
+object_given : {A : Type 0} (problem : Meaning → NameProblem) (f : Meaning → Suffix → Option A) (sight : Sight) (n : t.Name)
+    → IsKept (broken.named sight n ▸ where_given (meaning sight n.identifier.text) (λ d. where_given (typed_suffix sight n.suffix) (λ s. lacking (problem d) n.identifier.at (f d s))))
     → IsGiven (object_named f sight n)
-object_given f sight n h =
+object_given problem f sight n h =
     let k = parts _ _ h in
     let l = parts _ _ k.0 in
     let m = parts _ _ l.1 in
-    let d = meaning_given sight n.identifier.text l.0 in
+    let d = meaning_given sight n.identifier l.0 in
     let x = suffix_given n.suffix sight m.0 in
-    let y = problems_given d.value (f d.value x.value)
-    (of_given (λ s. lacking (name_problems d.value) (f d.value s)) (typed_suffix sight n.suffix) x.value x.is
-    (of_given (λ d. where_given (typed_suffix sight n.suffix) (λ s. lacking (name_problems d) (f d s))) (meaning sight n.identifier.text) d.value d.is k.1)) in
-    ruled (is_none n.attribute) _ (holds LeftOut (is_none n.attribute) m.1)
+    let y = given (problem d.value) n.identifier.at (f d.value x.value)
+    (of_given (λ s. lacking (problem d.value) n.identifier.at (f d.value s)) (typed_suffix sight n.suffix) x.value x.is
+    (of_given (λ d. where_given (typed_suffix sight n.suffix) (λ s. lacking (problem d) n.identifier.at (f d s))) (meaning sight n.identifier.text) d.value d.is k.1)) in
+    ruled (is_none n.attribute) _ (none_given n.attribute m.1)
     (bound (typed_suffix sight n.suffix) (λ s. meaning sight n.identifier.text >>= λ d. f d s) x.value x.is
     (bound (meaning sight n.identifier.text) (λ d. f d x.value) d.value d.is y))
 
 pub signal_given : (sight : Sight) (n : t.Name) → IsKept (broken.signal sight n) → IsGiven (are.signal sight n)
 unfolding are.signal
-signal_given sight n h = object_given as_signal sight n h
+signal_given sight n h = object_given signal_problem as_signal sight n h
 
 pub target_given : (sight : Sight) (n : t.Name) → IsKept (broken.target sight n) → IsGiven (are.target sight n)
 unfolding are.target
 target_given sight n h =
     let k = parts _ _ h in
     let x = signal_given sight n k.0 in
-    let e = holds WriteOfIn (not (is_input x.value.mode)) (of_given (λ x. unless WriteOfIn (not (is_input x.mode))) (are.signal sight n) x.value x.is k.1) in
+    let e = holds WriteOfIn n.identifier.at (not (is_input x.value.mode)) (of_given (λ x. unless WriteOfIn n.identifier.at (not (is_input x.mode))) (are.signal sight n) x.value x.is k.1) in
     bound (are.signal sight n) (λ x. met (not (is_input x.mode)) >> Some x) x.value x.is (ruled (not (is_input x.value.mode)) (Some x.value) e (this x.value))
 
-variable_given : (sight : Sight) (n : t.Name) → IsKept (broken.variable sight n) → IsGiven (are.variable sight n)
+pub variable_given : (sight : Sight) (n : t.Name) → IsKept (broken.variable sight n) → IsGiven (are.variable sight n)
 unfolding are.variable
-variable_given sight n h = object_given as_variable sight n h
+variable_given sight n h = object_given variable_problem as_variable sight n h
+
+-- ---- assignments
+
+pub record IsAssigned (sight : Sight) (n : t.Name) (v : t.Value) : Type 0 where
+  pub target : SignalName
+  pub is : are.target sight n ≡ Some target
+  pub value : IsGiven (value_given sight target.type v)
+
+pub assigned_given : (sight : Sight) (n : t.Name) (v : t.Value) → IsKept (broken.assigned sight n v) → IsAssigned sight n v
+assigned_given sight n v h =
+    let k = parts _ _ h in
+    let x = target_given sight n k.0 in
+    record {
+      target = x.value;
+      is = x.is;
+      value = value_given_given sight x.value.type v (of_given (λ x. expressions.value_given sight x.type v) (are.target sight n) x.value x.is k.1);
+    }
 
 -- ---- statements
+
+pub end_label_given : (label end : Option Ident) → IsKept (end_label label end) → label_ends label end ≡ true
+end_label_given label None h = refl
+end_label_given label (Some e) h = holds WrongKind e.at (label_ends label (Some e)) h
+
+-- the choices of alternatives, and what they do
+record AreAlternatives (sight : Sight) (type : ObjectType) (alts : t.Alternatives) : Type 0 where
+  chosen : IsGiven (each (choices sight type) (choice_lists alts))
+  bodies : IsGiven (are.alternatives sight alts)
 
 alternatives_length : (alts : t.Alternatives) (sight : Sight) (xs : List s.Statements) → are.alternatives sight alts ≡ Some xs → length xs ≡ length (choice_lists alts)
 unfolding are.statement
@@ -74,11 +107,9 @@ mutual
   statement_given : (y : t.Statement) (sight : Sight) (label : Option Ident) → IsKept (broken.statement sight label y) → IsGiven (are.statement sight label y)
   statement_given (t.null_of at) sight label h = this s.null_of
   statement_given (t.assigned n v) sight label h =
-      let k = parts _ _ h in
-      let x = target_given sight n k.0 in
-      let g = value_given_given sight x.value.type v (of_given (λ x. expressions.value_given sight x.type v) (are.target sight n) x.value x.is k.1) in
-      bound (are.target sight n) (λ x. value_given sight x.type v >>= λ g. Some (s.assign x.place g)) x.value x.is
-      (bound (value_given sight x.value.type v) (λ g. Some (s.assign x.value.place g)) g.value g.is (this (s.assign x.value.place g.value)))
+      let x = assigned_given sight n v h in
+      bound (are.target sight n) (λ x. value_given sight x.type v >>= λ g. Some (s.assign x.place g)) x.target x.is
+      (bound (value_given sight x.target.type v) (λ g. Some (s.assign x.target.place g)) x.value.value x.value.is (this (s.assign x.target.place x.value.value)))
   statement_given (t.variable_assigned n v) sight label h =
       let k = parts _ _ h in
       let x = variable_given sight n k.0 in
@@ -88,29 +119,32 @@ mutual
   statement_given (t.if_of at bs o end) sight label h =
       let k = parts _ _ h in
       let l = parts _ _ k.1 in
-      let last = otherwise_given o sight l.1 in
-      let branches = conditionals_given bs sight last.value l.0 in
-      ruled (label_ends label end) _ (holds WrongKind (label_ends label end) k.0)
+      let last = otherwise_given o sight l.0 in
+      let branches = conditionals_given bs sight last.value k.0 in
+      ruled (label_ends label end) _ (end_label_given label end l.1)
       (bound (are.otherwise sight o) (λ last. are.conditionals sight last bs >>= λ branches. Some (s.if_of branches)) last.value last.is
       (bound (are.conditionals sight last.value bs) (λ branches. Some (s.if_of branches)) branches.value branches.is (this (s.if_of branches.value))))
   statement_given (t.case_of at e alts end) sight label h =
       let k = parts _ _ h in
       let l = parts _ _ k.1 in
-      let c = case_given sight e (choice_lists alts) l.0 in
-      let bodies = alternatives_given alts sight l.1 in
-      let all = c.arranged_are bodies.value (alternatives_length alts sight bodies.value bodies.is) in
-      ruled (label_ends label end) _ (holds WrongKind (label_ends label end) k.0)
+      let c = selected_given sight e _ k.0 in
+      let type : ObjectType = c.by.0 in
+      let all = alternatives_given alts sight type (of_alternatives sight type at (choice_lists alts) (broken.alternatives sight type alts) c.rest) in
+      let done = arranged_given at (choice_lists alts) all.chosen.value all.bodies.value l.1 (each_length (choices sight type) (choice_lists alts) all.chosen.value all.chosen.is)
+      (alternatives_length alts sight all.bodies.value all.bodies.is) in
+      ruled (label_ends label end) _ (end_label_given label end l.0)
       (bound (typed sight e) _ c.operand c.typed_is
       (bound (selector c.operand) _ c.by c.selected
-      (bound (covered sight c.by.0 (choice_lists alts)) _ c.choices c.covered_is
-      (bound (are.alternatives sight alts) _ bodies.value bodies.is
-      (bound (arranged c.choices bodies.value) (λ all. Some (s.case_of c.by.1 all)) all.value all.is (this (s.case_of c.by.1 all.value)))))))
+      (bound (covered sight type (choice_lists alts)) _ all.chosen.value
+      (covered_is sight type at (choice_lists alts) (broken.alternatives sight type alts) all.chosen.value all.chosen.is c.rest)
+      (bound (are.alternatives sight alts) _ all.bodies.value all.bodies.is
+      (bound (arranged all.chosen.value all.bodies.value) (λ all. Some (s.case_of c.by.1 all)) done.value done.is (this (s.case_of c.by.1 done.value)))))))
   statement_given (t.for_of at n r body end) sight label h =
       let k = parts _ _ h in
       let l = parts _ _ k.1 in
-      let range = static_range_given sight r l.0 in
-      let turn = statements_given body (within_loop sight n) l.1 in
-      ruled (label_ends label end) _ (holds WrongKind (label_ends label end) k.0)
+      let range = static_range_given sight r k.0 in
+      let turn = statements_given body (within_loop sight n) l.0 in
+      ruled (label_ends label end) _ (end_label_given label end l.1)
       (bound (static_range sight r) (λ range. are.statements (within_loop sight n) body >>= λ turn. Some (s.for_of range turn)) range.value range.is
       (bound (are.statements (within_loop sight n) body) (λ turn. Some (s.for_of range.value turn)) turn.value turn.is (this (s.for_of range.value turn.value))))
 
@@ -139,11 +173,19 @@ mutual
   otherwise_given t.no_else sight h = this s.no_else
   otherwise_given (t.else_do body) sight h = mapped_given s.otherwise (are.statements sight body) (statements_given body sight h)
 
-  alternatives_given : (alts : t.Alternatives) (sight : Sight) → IsKept (broken.alternatives sight alts) → IsGiven (are.alternatives sight alts)
-  alternatives_given t.no_alternatives sight h = this []
-  alternatives_given (t.alternative cs body more) sight h =
+  alternatives_given : (alts : t.Alternatives) (sight : Sight) (type : ObjectType) → IsKept (broken.alternatives sight type alts) → AreAlternatives sight type alts
+  alternatives_given t.no_alternatives sight type h = record { chosen = this []; bodies = this [] }
+  alternatives_given (t.alternative cs body more) sight type h =
       let k = parts _ _ h in
-      let x = statements_given body sight k.0 in
-      let xs = alternatives_given more sight k.1 in
-      bound (are.statements sight body) (λ x. are.alternatives sight more >>= λ xs. Some (x ∷ xs)) x.value x.is
-      (bound (are.alternatives sight more) (λ xs. Some (x.value ∷ xs)) xs.value xs.is (this (x.value ∷ xs.value)))
+      let l = parts _ _ k.1 in
+      let c = choices_given sight type cs k.0 in
+      let x = statements_given body sight l.0 in
+      let rest = alternatives_given more sight type l.1 in
+      record {
+        chosen =
+            bound (choices sight type cs) (λ c. each (choices sight type) (choice_lists more) >>= λ cs. Some (c ∷ cs)) c.value c.is
+            (bound (each (choices sight type) (choice_lists more)) (λ cs. Some (c.value ∷ cs)) rest.chosen.value rest.chosen.is (this (c.value ∷ rest.chosen.value)));
+        bodies =
+            bound (are.statements sight body) (λ x. are.alternatives sight more >>= λ xs. Some (x ∷ xs)) x.value x.is
+            (bound (are.alternatives sight more) (λ xs. Some (x.value ∷ xs)) rest.bodies.value rest.bodies.is (this (x.value ∷ rest.bodies.value)));
+      }

@@ -1,327 +1,326 @@
--- What is told of the choices of alternatives, one by one or all together, is told of what is covered.
-use Rattle.std.proofs.Common.{◌≡◌, ◌≢◌, ℕ, zero, suc, ◌+◌, ◌-◌, ◌<◌, arith, Bool, true, false, List, [], ◌∷◌, ◌++◌, map, length, get_or, take, drop, drop-cons, Option, Some, None, refl, ap, sym, ◌∙◌}
-use Rattle.std.specs.Prelude.{not, ◌||◌, ◌&&◌}
-use Rattle.std.specs.List.{flat_map, filter_map, slice_range}
+-- Choices that are read one by one, told apart by their keys, are told as they stand.
+use Rattle.std.proofs.Common.{◌≡◌, ◌≢◌, ℕ, zero, suc, ◌+◌, ◌<◌, ◌==◌, nat_eq, arith, Bool, true, false, List, [], ◌∷◌, ◌++◌, map, length, get_or, drop, drop-cons, Option, Some, None, Result, Ok, Err, IfOk, IfErr, refl, ap, sym, ◌∙◌}
+use Rattle.std.specs.Prelude.{not, ◌&&◌, ◌||◌}
+use Rattle.std.specs.List.{flat_map, filter_map, list_any}
 use Rattle.std.specs.Borrow.{Bor}
-use Rattle.std.proofs.lemmas.List.{map-append}
+use Rattle.std.proofs.lemmas.List.{append-nil, append_assoc, map-append}
 use Rattle.std.proofs.lemmas.List.Elements.{filter_map-append}
 use Rattle.vhdl_tree.specs.declared.expression.Choice.{Choice}
 use Rattle.vhdl_tree.specs.Tree as t
 use Rattle.vhdl_tree.specs.View.{choice_view}
 use Rattle.vhdl_names_rules.specs.declared.kind.ObjectType.{ObjectType}
 use Rattle.vhdl_names_rules.specs.declared.fault.NameFault.{NameFault}
-use Rattle.vhdl_names_rules.specs.declared.fault.NameFault.TheVariants.{At, NoMemory}
+use Rattle.vhdl_names_rules.specs.declared.fault.NameFault.TheVariants.{NoMemory}
 use Rattle.vhdl_names_rules.specs.declared.fault.NameProblem.{NameProblem}
-use Rattle.vhdl_names_rules.specs.declared.fault.NameProblem.TheVariants.{WrongKind, NoOthers, ChoiceTwice, LeftOut}
+use Rattle.vhdl_names_rules.specs.declared.fault.NameProblem.TheVariants.{WrongKind, ChoiceTwice}
 use Rattle.vhdl_names_rules.specs.units.Statements as s
 use Rattle.vhdl_names_rules.specs.Rules.{◌>>=◌, each, then_some}
-use Rattle.vhdl_names_rules.specs.Visibility.{Name, Sight, are_distinct}
+use Rattle.vhdl_names_rules.specs.Gives.{Gives}
+use Rattle.vhdl_names_rules.specs.Visibility.{Name, Sight, are_distinct, is_among}
 use Rattle.vhdl_names_rules.specs.Choices as are
-use Rattle.vhdl_names_rules.specs.Choices.{are_distinct_choices, only_last_others, is_last_others, names_all}
-use Rattle.vhdl_names_problems.specs.Broken.{Broken, Tells, nothing, ◌∪◌, is, is_of, unless, lacking, where_given, any_of}
-use Rattle.vhdl_names_problems.specs.Choices.{choice, choices, covered, is_empty, all_given}
-use Rattle.vhdl_names_problems.proofs.Telling.{told_left, told_right, told_given, told_lacking, told_any}
-use Rattle.vhdl_names_units.specs.views.Sequential.{Chosen}
+use Rattle.vhdl_names_rules.specs.Choices.{is_others, only_last_others}
+use Rattle.vhdl_names_problems.specs.Broken.{Broken, Tells, nothing, refused, ◌▸◌, unless, where_given}
+use Rattle.vhdl_names_problems.specs.Places.{choice_place}
+use Rattle.vhdl_names_problems.specs.Choices.{choice}
+use Rattle.vhdl_names_problems.specs.Covered as broken
+use Rattle.vhdl_names_problems.specs.Covered.{is_empty}
+use Rattle.vhdl_names_problems.proofs.Telling.{IsKept, both_kept, behind_kept, unless_kept, given_kept, told_same, told_left, told_right, told_given, told_unless, kept_left, kept_right}
+use Rattle.vhdl_names_problems.proofs.kept.Choices.{choice_kept}
 use Rattle.vhdl_names_labels.specs.Lists.{in_turn}
 use Rattle.vhdl_names_labels.specs.Once.{one_name, key_of}
-use Rattle.vhdl_names_labels.proofs.Lists.{bound}
-use Rattle.vhdl_names_labels.proofs.Once.{once, distinct_keys}
-use Rattle.vhdl_names_statements.specs.steps.Cases.{Divided, all_choices, but_last, with_choices, has_all, choice_list, all_lists}
+use Rattle.vhdl_names_labels.proofs.Once.{among_keys}
+use Rattle.vhdl_names_labels.proofs.Once as names
+use Rattle.vhdl_names_statements.specs.steps.Cases.{choice_list, all_lists}
 use Rattle.vhdl_names_statements.specs.steps.Told as told
-use Rattle.vhdl_names_statements.specs.steps.Told.{with_choice, with_list}
-use Rattle.vhdl_names_statements.proofs.steps.Cases.{Pairs, all_there, no_choices, no_bodies, choices_of, flat_each, turned-append, has_names}
-use Rattle.vhdl_names_statements.proofs.steps.Cases as steps
-use Rattle.vhdl_names_statements.proofs.steps.Told.{told_nothing, told_either, told_each, told_along}
+use Rattle.vhdl_names_statements.specs.steps.Told.{keys_of, with_choice, with_list, with_lists, others_alone}
 
--- what is lacking is told only where it isn't there
-told_twice : (o : Option (List Name)) (b : Bool) (f : NameFault) → (o ≡ None → b ≡ false) → Tells (lacking (ChoiceTwice ∷ []) o) f → Tells (unless ChoiceTwice b) f
-told_twice o b NoMemory e h = tt
-told_twice None b (At p at) e h = ap (λ x. not x && is p ChoiceTwice) (e refl) ∙ only (is p ChoiceTwice) h
+-- ---- keys that are taken
+
+-- what is there isn't lacking
+there : {A : Type 0} (b : Bool) (x y : A) → then_some b x ≡ Some y → (b ≡ true) × (x ≡ y)
+there true x y e = (refl, cc)
+there false x y e = cc
+
+lacks : {A : Type 0} (b : Bool) (x : A) → then_some b x ≡ None → b ≡ false
+lacks true x e = cc
+lacks false x e = refl
+
+pub turned-append : (ks ms ns : List Name) → in_turn one_name ks (ms ++ ns) ≡ (in_turn one_name ks ms >>= λ z. in_turn one_name z ns)
+turned-append ks [] ns = refl
+turned-append ks (m ∷ ms) ns = go (one_name ks m) (λ z. turned-append z ms ns)
   where
-    only : (b : Bool) → (b || false) ≡ true → b ≡ true
-    only true h = refl
-    only false h = h
-told_twice (Some ks) b (At p at) e h = told_nothing (unless ChoiceTwice b) (At p at) h
+    go : (o : Option (List Name)) → ((z : List Name) → in_turn one_name z (ms ++ ns) ≡ (in_turn one_name z ms >>= λ y. in_turn one_name y ns))
+        → (o >>= λ z. in_turn one_name z (ms ++ ns)) ≡ ((o >>= λ z. in_turn one_name z ms) >>= λ y. in_turn one_name y ns)
+    go None h = refl
+    go (Some z) h = h z
 
--- ---- choices that are given
+-- what is asked of a thing that is given, in other words
+alike : {A : Type 0} (o : Option A) (f g : A → Broken) → ((x : A) → f x ≡ g x) → where_given o f ≡ where_given o g
+alike None f g h = refl
+alike (Some x) f g h = h x
 
-each_given : {A B : Type 0} (f : A → Option B) (xs : List A) (ys : List B) → each f xs ≡ Some ys → filter_map f xs ≡ ys
-each_given f [] ys e = cc
-each_given {A} {B} f (x ∷ xs) ys e = go (f x) refl (each f xs) (λ zs b. each_given f xs zs b) e
-  where
-    go : (o : Option B) → f x ≡ o → (p : Option (List B)) → ((zs : List B) → p ≡ Some zs → filter_map f xs ≡ zs)
-        → (o >>= λ y. p >>= λ ys. Some (y ∷ ys)) ≡ Some ys → filter_map f (x ∷ xs) ≡ ys
-    go None a p more e = cc
-    go (Some y) a None more e = cc
-    go (Some y) a (Some zs) more e =
-        let whole : y ∷ zs ≡ ys = cc in
-        rw a (ap (λ l. y ∷ l) (more zs refl) ∙ whole)
-
--- one of a list, and what is behind it
-record One (xs : List Choice) (i : ℕ) : Type 0 where
-  x : Choice
-  is : x ≡ get_or xs i x
-  alone : take 1 (drop i xs) ≡ x ∷ []
-  next : drop i xs ≡ x ∷ drop (suc i) xs
-
-one_of : (xs : List Choice) (i : ℕ) → i < length xs → One xs i
-one_of [] i lt = absurd (omega (arith, lt))
-one_of (x ∷ xs) zero lt = record { x = x; is = refl; alone = refl; next = refl }
-one_of (x ∷ xs) (suc i) lt =
-    let o = one_of xs i (omega (arith, lt)) in
-    record { x = o.x; is = o.is; alone = o.alone; next = o.next }
-
-part_is : (xs : List Choice) (i : ℕ) (o : One xs i) → slice_range xs i (i + 1) ≡ o.x ∷ []
-part_is xs i o = let e : (i + 1) - i ≡ 1 = omega arith in ap (λ n. take n (drop i xs)) e ∙ o.alone
-
--- choices that are there where choices and bodies are
-pub choices_there : (f : Option (List (List s.Choice))) (g : Option (List s.Statements)) (h : Option (List Chosen)) → Pairs f g h → (all : List Chosen) → h ≡ Some all
-    → f ≡ Some (choices_of all)
-choices_there f g h (all_there more p q r) all e =
-    let same : more ≡ all = cc in
-    p ∙ ap (λ a. Some (choices_of a)) same
-choices_there f g h (no_choices p r) all e = cc
-choices_there f g h (no_bodies q r) all e = cc
+both_alike : (a b c d : Broken) → a ≡ b → c ≡ d → a ▸ c ≡ b ▸ d
+both_alike a b c d e f = ap (λ x. x ▸ c) e ∙ ap (λ x. b ▸ x) f
 
 module _ (sight : Sight) (type : ObjectType) where
-  abbrev given : List t.Choice → List s.Choice
-  given cs = filter_map (are.choice sight type) cs
+  -- ---- one choice
 
-  pub choices_given : (cs : List t.Choice) (ys : List s.Choice) → are.choices sight type cs ≡ Some ys → given cs ≡ ys
-  choices_given [] ys e = each_given (are.choice sight type) [] ys e
-  choices_given (t.otherwise at ∷ []) ys e = cc
-  choices_given (t.otherwise at ∷ d ∷ ds) ys e = each_given (are.choice sight type) (t.otherwise at ∷ d ∷ ds) ys e
-  choices_given (t.chosen x ∷ cs) ys e = each_given (are.choice sight type) (t.chosen x ∷ cs) ys e
-
-  pub lists_given : (lists : List (List t.Choice)) (css : List (List s.Choice)) → each (are.choices sight type) lists ≡ Some css
-      → all_given sight type lists ≡ flat_map (λ cs. cs) css
-  lists_given [] css e = let n : [] ≡ css = cc in ap (flat_map (λ (cs : List s.Choice). cs)) n
-  lists_given (cs ∷ lists) css e = go (are.choices sight type cs) refl (each (are.choices sight type) lists) (λ zs b. lists_given lists zs b) e
+  given_key : (c : t.Choice) (x : s.Choice) → are.choice sight type c ≡ Some x → keys_of sight type (c ∷ []) ≡ key_of x ∷ []
+  given_key c x e = go (are.choice sight type c) refl
     where
-      go : (o : Option (List s.Choice)) → are.choices sight type cs ≡ o
-          → (p : Option (List (List s.Choice))) → ((zs : List (List s.Choice)) → p ≡ Some zs → all_given sight type lists ≡ flat_map (λ cs. cs) zs)
-          → (o >>= λ y. p >>= λ ys. Some (y ∷ ys)) ≡ Some css → all_given sight type (cs ∷ lists) ≡ flat_map (λ cs. cs) css
-      go None a p more e = cc
-      go (Some y) a None more e = cc
-      go (Some y) a (Some zs) more e =
-          let whole : y ∷ zs ≡ css = cc in
-          filter_map-append (are.choice sight type) cs (flat_map (λ cs. cs) lists)
-          ∙ ap (λ l. l ++ all_given sight type lists) (choices_given cs y a)
-          ∙ ap (λ l. y ++ l) (more zs refl)
-          ∙ ap (flat_map (λ (cs : List s.Choice). cs)) whole
+      go : (o : Option s.Choice) → are.choice sight type c ≡ o → keys_of sight type (c ∷ []) ≡ key_of x ∷ []
+      go None h = let no : let n : Option s.Choice = None in n ≡ Some x = sym h ∙ e in cc
+      go (Some y) h = let same : y ≡ x = let k : Some y ≡ Some x = sym h ∙ e in cc in rw h (ap (λ z. key_of z ∷ []) same)
 
-  -- ---- one choice by itself
+  abbrev told_apart : List Name → t.Choice → s.Choice → Broken
+  told_apart keys c x = unless ChoiceTwice (choice_place c) (not (is_among (key_of x) keys))
 
-  one_alone : (c : t.Choice) (f : NameFault) → Tells (choices sight type (c ∷ [])) f → Tells (choice sight type c) f
-  one_alone (t.otherwise at) f h = told_nothing (choice sight type (t.otherwise at)) f h
-  one_alone (t.chosen e) f h =
-      told_either (choice sight type (t.chosen e)) nothing (choice sight type (t.chosen e)) f h (λ k. k) (told_nothing (choice sight type (t.chosen e)) f)
+  pub once_refused : (keys : List Name) (c : t.Choice) (f : NameFault) → Tells (choice sight type c) f → Tells (told.once sight type keys c) f
+  once_refused keys c f h = told_left (choice sight type c) (where_given (are.choice sight type c) (told_apart keys c)) f h
 
-  abbrev alone : t.Choice → Broken
-  alone c = choices sight type (c ∷ [])
+  module _ (keys new : List Name) (c : t.Choice) (x : s.Choice) (is : are.choice sight type c ≡ Some x) where
+    pub once_twice : (f : NameFault) → (f ≢ NoMemory → one_name keys (key_of x) ≡ None) → Tells (refused ChoiceTwice (choice_place c)) f → Tells (told.once sight type keys c) f
+    once_twice f none h =
+        told_right (choice sight type c) (where_given (are.choice sight type c) (told_apart keys c)) f (choice_kept sight type c x is)
+        (told_given (told_apart keys c) (are.choice sight type c) x f is
+        (told_unless ChoiceTwice (choice_place c) (not (is_among (key_of x) keys)) f (λ n. lacks (not (is_among (key_of x) keys)) (keys ++ key_of x ∷ []) (none n)) h))
 
-  pub each_alone : (cs : List t.Choice) (f : NameFault) → Tells (any_of (λ c. choices sight type (c ∷ [])) cs) f → Tells (choices sight type cs) f
-  each_alone [] f h = h
-  each_alone (t.otherwise at ∷ []) f h = told_either nothing nothing nothing f h (λ k. k) (λ k. k)
-  each_alone (t.otherwise at ∷ d ∷ ds) f h = told_each alone (choice sight type) (t.otherwise at ∷ d ∷ ds) f (λ c k. one_alone c f k) h
-  each_alone (t.chosen e ∷ cs) f h = told_each alone (choice sight type) (t.chosen e ∷ cs) f (λ c k. one_alone c f k) h
+    once_kept : one_name keys (key_of x) ≡ Some new → IsKept (told.once sight type keys c)
+    once_kept h =
+        both_kept (choice sight type c) (where_given (are.choice sight type c) (told_apart keys c)) (choice_kept sight type c x is)
+        (given_kept (told_apart keys c) (are.choice sight type c) x is
+        (unless_kept ChoiceTwice (choice_place c) (not (is_among (key_of x) keys)) (there (not (is_among (key_of x) keys)) (keys ++ key_of x ∷ []) new h).0))
 
-  -- ---- choices that stand twice
+    once_added : one_name keys (key_of x) ≡ Some new → new ≡ with_choice sight type keys c
+    once_added h = sym (there (not (is_among (key_of x) keys)) (keys ++ key_of x ∷ []) new h).1 ∙ ap (λ k. keys ++ k) (sym (given_key c x is))
 
-  one_by_one : (keys : List Name) (cs : List t.Choice) → with_list sight type keys cs ≡ in_turn one_name keys (map key_of (given cs))
-  one_by_one keys [] = refl
-  one_by_one keys (c ∷ cs) =
-      bound (with_choice sight type keys c) (λ z. with_list sight type z cs) (λ z. in_turn one_name z (map key_of (given cs))) (λ z. one_by_one z cs)
-      ∙ sym (turned-append keys (map key_of (given (c ∷ []))) (map key_of (given cs)))
-      ∙ ap (in_turn one_name keys) (sym (map-append key_of (given (c ∷ [])) (given cs)) ∙ ap (map key_of) (sym (filter_map-append (are.choice sight type) (c ∷ []) cs)))
+    -- an answer of the table of keys
+    pub answer_told : {X : Type 0} (r : Result X NameFault) → Gives (λ _. new) (one_name keys (key_of x)) r
+        → IfErr r (Tells (refused ChoiceTwice (choice_place c))) → IfErr r (Tells (told.once sight type keys c))
+    answer_told (Ok y) g h = tt
+    answer_told (Err f) g h = once_twice f g h
 
-  list_by_list : (keys : List Name) (lists : List (List t.Choice)) → in_turn (with_list sight type) keys lists ≡ in_turn one_name keys (map key_of (all_given sight type lists))
-  list_by_list keys [] = refl
-  list_by_list keys (cs ∷ lists) =
-      bound (with_list sight type keys cs) (λ z. in_turn (with_list sight type) z lists) (λ z. in_turn one_name z (map key_of (all_given sight type lists))) (λ z. list_by_list z lists)
-      ∙ ap (λ o. o >>= λ z. in_turn one_name z (map key_of (all_given sight type lists))) (one_by_one keys cs)
-      ∙ sym (turned-append keys (map key_of (given cs)) (map key_of (all_given sight type lists)))
-      ∙ ap (in_turn one_name keys)
-      (sym (map-append key_of (given cs) (all_given sight type lists)) ∙ ap (map key_of) (sym (filter_map-append (are.choice sight type) cs (flat_map (λ cs. cs) lists))))
+    pub answer_kept : {X : Type 0} (r : Result X NameFault) → Gives (λ _. new) (one_name keys (key_of x)) r → IfOk r (λ _. IsKept (told.once sight type keys c))
+    answer_kept (Ok y) g = once_kept g
+    answer_kept (Err f) g = tt
 
-  distinct_given : (lists : List (List t.Choice)) → in_turn (with_list sight type) [] lists ≡ None → are_distinct_choices (all_given sight type lists) ≡ false
-  distinct_given lists e =
-      go (are_distinct_choices (all_given sight type lists))
-      (ap (λ b. then_some b (map key_of (all_given sight type lists))) (sym (distinct_keys (all_given sight type lists)))
-      ∙ sym (once (map key_of (all_given sight type lists))) ∙ sym (list_by_list [] lists) ∙ e)
+    pub answer_added : {X : Type 0} (r : Result X NameFault) → Gives (λ _. new) (one_name keys (key_of x)) r → IfOk r (λ _. new ≡ with_choice sight type keys c)
+    answer_added (Ok y) g = once_added g
+    answer_added (Err f) g = tt
+
+  -- ---- one choice after another
+
+  module _ (xs : List Choice) (i : ℕ) (x : Choice) (lt : i < length xs) (is : x ≡ get_or xs i x) where
+    next : drop i xs ≡ x ∷ drop (i + 1) xs
+    next =
+        let e : suc i ≡ i + 1 = omega arith in
+        drop-cons xs i x lt ∙ ap (λ y. y ∷ drop (suc i) xs) (sym is) ∙ ap (λ k. x ∷ drop k xs) e
+
+    pub next_told : (old keys : List Name) (f : NameFault)
+        → told.each_once sight type old (map choice_view xs) ≡ told.each_once sight type keys (map choice_view (drop i xs))
+        → Tells (told.once sight type keys (choice_view x)) f → Tells (told.each_once sight type old (map choice_view xs)) f
+    next_told old keys f inv h =
+        let rest = told.each_once sight type (with_choice sight type keys (choice_view x)) (map choice_view (drop (i + 1) xs)) in
+        told_same (told.once sight type keys (choice_view x) ▸ rest) (told.each_once sight type old (map choice_view xs)) f
+        (sym (inv ∙ ap (λ l. told.each_once sight type keys (map choice_view l)) next))
+        (told_left (told.once sight type keys (choice_view x)) rest f h)
+
+    pub next_left : (old keys new : List Name)
+        → told.each_once sight type old (map choice_view xs) ≡ told.each_once sight type keys (map choice_view (drop i xs))
+        → IsKept (told.once sight type keys (choice_view x)) → new ≡ with_choice sight type keys (choice_view x)
+        → told.each_once sight type old (map choice_view xs) ≡ told.each_once sight type new (map choice_view (drop (i + 1) xs))
+    next_left old keys new inv kept added =
+        let rest = told.each_once sight type (with_choice sight type keys (choice_view x)) (map choice_view (drop (i + 1) xs)) in
+        inv ∙ ap (λ l. told.each_once sight type keys (map choice_view l)) next
+        ∙ behind_kept (told.once sight type keys (choice_view x)) rest kept
+        ∙ ap (λ k. told.each_once sight type k (map choice_view (drop (i + 1) xs))) (sym added)
+
+    pub next_added : (old keys new : List Name)
+        → with_list sight type old (map choice_view xs) ≡ with_list sight type keys (map choice_view (drop i xs))
+        → new ≡ with_choice sight type keys (choice_view x)
+        → with_list sight type old (map choice_view xs) ≡ with_list sight type new (map choice_view (drop (i + 1) xs))
+    next_added old keys new inv added =
+        inv ∙ ap (λ l. with_list sight type keys (map choice_view l)) next
+        ∙ ap (λ k. with_list sight type k (map choice_view (drop (i + 1) xs))) (sym added)
+
+  -- ---- one alternative
+
+  pub no_others : (keys : List Name) (is_last : Bool) (cs : List t.Choice) → others_alone cs ≡ None
+      → told.alternative_in_place sight type keys is_last cs ≡ told.each_once sight type keys cs
+  no_others keys is_last [] e = refl
+  no_others keys is_last (t.otherwise at ∷ []) e = cc
+  no_others keys is_last (t.otherwise at ∷ d ∷ ds) e = refl
+  no_others keys is_last (t.chosen x ∷ cs) e = refl
+
+  pub others_placed : (keys : List Name) (is_last : Bool) (cs : List t.Choice) (at : ℕ) → others_alone cs ≡ Some at
+      → told.alternative_in_place sight type keys is_last cs ≡ unless WrongKind at is_last
+  others_placed keys is_last [] at e = cc
+  others_placed keys is_last (t.otherwise b ∷ []) at e = let same : b ≡ at = cc in ap (λ x. unless WrongKind x is_last) same
+  others_placed keys is_last (t.otherwise b ∷ d ∷ ds) at e = cc
+  others_placed keys is_last (t.chosen x ∷ cs) at e = cc
+
+  pub others_added : (keys : List Name) (cs : List t.Choice) (at : ℕ) → others_alone cs ≡ Some at → keys ≡ with_list sight type keys cs
+  others_added keys [] at e = cc
+  others_added keys (t.otherwise b ∷ []) at e = sym (append-nil keys)
+  others_added keys (t.otherwise b ∷ d ∷ ds) at e = cc
+  others_added keys (t.chosen x ∷ cs) at e = cc
+
+  -- ---- one alternative after another
+
+  module _ (bs : List (Bor (List Choice))) (i : ℕ) (x : Bor (List Choice)) (lt : i < length bs) (is : x ≡ get_or bs i x) where
+    next_list : drop i bs ≡ x ∷ drop (i + 1) bs
+    next_list =
+        let e : suc i ≡ i + 1 = omega arith in
+        drop-cons bs i x lt ∙ ap (λ y. y ∷ drop (suc i) bs) (sym is) ∙ ap (λ k. x ∷ drop k bs) e
+
+    abbrev behind : List (List t.Choice)
+    behind = all_lists (drop (i + 1) bs)
+
+    pub list_told : (keys : List Name) (l : Bool) (f : NameFault)
+        → told.in_place sight type [] (all_lists bs) ≡ told.in_place sight type keys (all_lists (drop i bs)) → l ≡ is_empty behind
+        → Tells (told.alternative_in_place sight type keys l (choice_list x)) f → Tells (told.in_place sight type [] (all_lists bs)) f
+    list_told keys l f inv last h =
+        let here = told.alternative_in_place sight type keys (is_empty behind) (choice_list x) in
+        let rest = told.in_place sight type (with_list sight type keys (choice_list x)) behind in
+        told_same (here ▸ rest) (told.in_place sight type [] (all_lists bs)) f (sym (inv ∙ ap (λ l. told.in_place sight type keys (all_lists l)) next_list))
+        (told_left here rest f
+        (told_same (told.alternative_in_place sight type keys l (choice_list x)) here f (ap (λ l. told.alternative_in_place sight type keys l (choice_list x)) last) h))
+
+    pub list_left : (keys new : List Name) (l : Bool)
+        → told.in_place sight type [] (all_lists bs) ≡ told.in_place sight type keys (all_lists (drop i bs)) → l ≡ is_empty behind
+        → IsKept (told.alternative_in_place sight type keys l (choice_list x)) → new ≡ with_list sight type keys (choice_list x)
+        → told.in_place sight type [] (all_lists bs) ≡ told.in_place sight type new (all_lists (drop (i + 1) bs))
+    list_left keys new l inv last kept added =
+        let here = told.alternative_in_place sight type keys (is_empty behind) (choice_list x) in
+        let rest = told.in_place sight type (with_list sight type keys (choice_list x)) behind in
+        inv ∙ ap (λ l. told.in_place sight type keys (all_lists l)) next_list
+        ∙ behind_kept here rest (ap (λ l. told.alternative_in_place sight type keys l (choice_list x)) (sym last) ∙ kept)
+        ∙ ap (λ k. told.in_place sight type k behind) (sym added)
+
+    pub list_added : (keys new : List Name)
+        → with_lists sight type [] (all_lists bs) ≡ with_lists sight type keys (all_lists (drop i bs))
+        → new ≡ with_list sight type keys (choice_list x)
+        → with_lists sight type [] (all_lists bs) ≡ with_lists sight type new (all_lists (drop (i + 1) bs))
+    list_added keys new inv added =
+        inv ∙ ap (λ l. with_lists sight type keys (all_lists l)) next_list ∙ ap (λ k. with_lists sight type k behind) (sym added)
+
+  -- ---- by keys or as they stand
+
+  keys-append : (xs ys : List t.Choice) → keys_of sight type xs ++ keys_of sight type ys ≡ keys_of sight type (xs ++ ys)
+  keys-append xs ys =
+      sym (map-append key_of (filter_map (are.choice sight type) xs) (filter_map (are.choice sight type) ys))
+      ∙ ap (map key_of) (sym (filter_map-append (are.choice sight type) xs ys))
+
+  once_same : (before : List t.Choice) (c : t.Choice) → told.once sight type (keys_of sight type before) c ≡ broken.once sight type before c
+  once_same before c =
+      ap (λ b. choice sight type c ▸ b)
+      (alike (are.choice sight type c) (told_apart (keys_of sight type before) c) (λ x. unless ChoiceTwice (choice_place c) (not (broken.stands sight type before x)))
+      (λ x. ap (λ b. unless ChoiceTwice (choice_place c) (not b)) (among_keys x (filter_map (are.choice sight type) before))))
+
+  each_same : (before cs : List t.Choice) → told.each_once sight type (keys_of sight type before) cs ≡ broken.each_once sight type before cs
+  each_same before [] = refl
+  each_same before (c ∷ cs) =
+      both_alike _ _ _ _ (once_same before c)
+      (ap (λ k. told.each_once sight type k cs) (keys-append before (c ∷ [])) ∙ each_same (before ++ c ∷ []) cs)
+
+  list_same : (before cs : List t.Choice) → with_list sight type (keys_of sight type before) cs ≡ keys_of sight type (before ++ cs)
+  list_same before [] = ap (keys_of sight type) (sym (append-nil before))
+  list_same before (c ∷ cs) =
+      ap (λ k. with_list sight type k cs) (keys-append before (c ∷ [])) ∙ list_same (before ++ c ∷ []) cs
+      ∙ ap (keys_of sight type) (append_assoc before (c ∷ []) cs)
+
+  alternative_same : (before cs : List t.Choice) (l : Bool) → told.alternative_in_place sight type (keys_of sight type before) l cs ≡ broken.alternative_in_place sight type before l cs
+  alternative_same before [] l = refl
+  alternative_same before (t.otherwise at ∷ []) l = refl
+  alternative_same before (t.otherwise at ∷ d ∷ ds) l = each_same before (t.otherwise at ∷ d ∷ ds)
+  alternative_same before (t.chosen x ∷ cs) l = each_same before (t.chosen x ∷ cs)
+
+  place_same : (before : List t.Choice) (lists : List (List t.Choice)) → told.in_place sight type (keys_of sight type before) lists ≡ broken.in_place sight type before lists
+  place_same before [] = refl
+  place_same before (cs ∷ rest) =
+      both_alike _ _ _ _ (alternative_same before cs (is_empty rest))
+      (ap (λ k. told.in_place sight type k rest) (list_same before cs) ∙ place_same (before ++ cs) rest)
+
+  pub in_place_same : (lists : List (List t.Choice)) → told.in_place sight type [] lists ≡ broken.in_place sight type [] lists
+  in_place_same lists = place_same [] lists
+
+  lists_same : (before : List t.Choice) (lists : List (List t.Choice))
+      → with_lists sight type (keys_of sight type before) lists ≡ keys_of sight type (before ++ flat_map (λ cs. cs) lists)
+  lists_same before [] = ap (keys_of sight type) (sym (append-nil before))
+  lists_same before (cs ∷ rest) =
+      ap (λ k. with_lists sight type k rest) (list_same before cs) ∙ lists_same (before ++ cs) rest
+      ∙ ap (keys_of sight type) (append_assoc before cs (flat_map (λ cs. cs) rest))
+
+  pub all_keys : (lists : List (List t.Choice)) → with_lists sight type [] lists ≡ keys_of sight type (flat_map (λ cs. cs) lists)
+  all_keys lists = lists_same [] lists
+
+  -- ---- what is in place
+
+  others_not : (keys : List Name) (cs : List t.Choice) → IsKept (told.alternative_in_place sight type keys false cs) → is_others cs ≡ false
+  others_not keys [] h = refl
+  others_not keys (t.otherwise at ∷ []) h = absurd cc
+  others_not keys (t.otherwise at ∷ d ∷ ds) h = refl
+  others_not keys (t.chosen x ∷ cs) h = refl
+
+  pub only_last : (keys : List Name) (lists : List (List t.Choice)) → IsKept (told.in_place sight type keys lists) → only_last_others lists ≡ true
+  only_last keys [] h = refl
+  only_last keys (cs ∷ []) h = refl
+  only_last keys (cs ∷ ds ∷ rest) h =
+      ap (λ b. not b && only_last_others (ds ∷ rest)) (others_not keys cs (kept_left _ _ h))
+      ∙ only_last (with_list sight type keys cs) (ds ∷ rest) (kept_right _ _ h)
+
+  -- keys that are none of those before them
+  holds : (p : NameProblem) (at : ℕ) (b : Bool) → IsKept (unless p at b) → b ≡ true
+  holds p at true h = refl
+  holds p at false h = absurd cc
+
+  one_taken : (keys : List Name) (c : t.Choice) → IsKept (told.once sight type keys c) → in_turn one_name keys (keys_of sight type (c ∷ [])) ≡ Some (with_choice sight type keys c)
+  one_taken keys c h = go (are.choice sight type c) refl (kept_right (choice sight type c) (where_given (are.choice sight type c) (told_apart keys c)) h)
     where
-      go : (b : Bool) → then_some b (map key_of (all_given sight type lists)) ≡ None → b ≡ false
-      go true e = cc
-      go false e = refl
+      go : (o : Option s.Choice) → are.choice sight type c ≡ o → IsKept (where_given (are.choice sight type c) (told_apart keys c))
+          → in_turn one_name keys (keys_of sight type (c ∷ [])) ≡ Some (with_choice sight type keys c)
+      go None e k = rw e (ap Some (sym (append-nil keys)))
+      go (Some x) e k =
+          let free : not (is_among (key_of x) keys) ≡ true =
+          holds ChoiceTwice (choice_place c) (not (is_among (key_of x) keys)) (sym (ap (λ o. where_given o (told_apart keys c)) e) ∙ k) in
+          rw e (ap (λ b. then_some b (keys ++ key_of x ∷ []) >>= λ z. Some z) free)
 
-  -- ---- the next of some choices
+  each_taken : (keys : List Name) (cs : List t.Choice) → IsKept (told.each_once sight type keys cs) → in_turn one_name keys (keys_of sight type cs) ≡ Some (with_list sight type keys cs)
+  each_taken keys [] h = refl
+  each_taken keys (c ∷ cs) h =
+      ap (in_turn one_name keys) (sym (keys-append (c ∷ []) cs))
+      ∙ turned-append keys (keys_of sight type (c ∷ [])) (keys_of sight type cs)
+      ∙ ap (λ o. o >>= λ z. in_turn one_name z (keys_of sight type cs)) (one_taken keys c (kept_left _ _ h))
+      ∙ each_taken (with_choice sight type keys c) cs (kept_right _ _ h)
 
-  next_choice : (keys after : List Name) (c : t.Choice) (ys : List s.Choice) → are.choices sight type (c ∷ []) ≡ Some ys
-      → in_turn one_name keys (map key_of ys) ≡ Some after → with_choice sight type keys c ≡ Some after
-  next_choice keys after c ys e h = ap (λ l. in_turn one_name keys (map key_of l)) (choices_given (c ∷ []) ys e) ∙ h
+  alternative_taken : (keys : List Name) (l : Bool) (cs : List t.Choice) → IsKept (told.alternative_in_place sight type keys l cs)
+      → in_turn one_name keys (keys_of sight type cs) ≡ Some (with_list sight type keys cs)
+  alternative_taken keys l [] h = refl
+  alternative_taken keys l (t.otherwise at ∷ []) h = ap Some (sym (append-nil keys))
+  alternative_taken keys l (t.otherwise at ∷ d ∷ ds) h = each_taken keys (t.otherwise at ∷ d ∷ ds) h
+  alternative_taken keys l (t.chosen x ∷ cs) h = each_taken keys (t.chosen x ∷ cs) h
 
-  module _ (xs : List Choice) (i : ℕ) (lt : i < length xs) (part : List Choice) (is : part ≡ slice_range xs i (i + 1)) where
-    abbrev one : One xs i
-    one = one_of xs i lt
+  all_taken : (keys : List Name) (lists : List (List t.Choice)) → IsKept (told.in_place sight type keys lists)
+      → in_turn one_name keys (keys_of sight type (flat_map (λ cs. cs) lists)) ≡ Some (with_lists sight type keys lists)
+  all_taken keys [] h = refl
+  all_taken keys (cs ∷ rest) h =
+      ap (in_turn one_name keys) (sym (keys-append cs (flat_map (λ cs. cs) rest)))
+      ∙ turned-append keys (keys_of sight type cs) (keys_of sight type (flat_map (λ cs. cs) rest))
+      ∙ ap (λ o. o >>= λ z. in_turn one_name z (keys_of sight type (flat_map (λ cs. cs) rest))) (alternative_taken keys (is_empty rest) cs (kept_left _ _ h))
+      ∙ all_taken (with_list sight type keys cs) rest (kept_right _ _ h)
 
-    abbrev viewed : List t.Choice
-    viewed = map choice_view xs
+  pub distinct_keys : (lists : List (List t.Choice)) → IsKept (told.in_place sight type [] lists) → are_distinct (keys_of sight type (flat_map (λ cs. cs) lists)) ≡ true
+  distinct_keys lists h =
+      let ks = keys_of sight type (flat_map (λ cs. cs) lists) in
+      (there (are_distinct ks) ks (with_lists sight type [] lists) (sym (names.once ks) ∙ all_taken [] lists h)).0
 
-    seen_part : map choice_view part ≡ choice_view one.x ∷ []
-    seen_part = ap (map choice_view) (is ∙ part_is xs i one)
+-- ---- the last of several
 
-    pub written_next : (old keys after : List Name) (ys : List s.Choice)
-        → with_list sight type old viewed ≡ with_list sight type keys (map choice_view (drop i xs))
-        → are.choices sight type (map choice_view part) ≡ Some ys → in_turn one_name keys (map key_of ys) ≡ Some after
-        → with_list sight type old viewed ≡ with_list sight type after (map choice_view (drop (i + 1) xs))
-    written_next old keys after ys inv e h =
-        let next : suc i ≡ i + 1 = omega arith in
-        inv ∙ ap (λ l. with_list sight type keys (map choice_view l)) one.next
-        ∙ ap (λ o. o >>= λ z. with_list sight type z (map choice_view (drop (suc i) xs)))
-        (next_choice keys after (choice_view one.x) ys (ap (are.choices sight type) (sym seen_part) ∙ e) h)
-        ∙ ap (λ k. with_list sight type after (map choice_view (drop k xs))) next
-
-    pub written_refused : (old : List Name) (f : NameFault) → Tells (choices sight type (map choice_view part)) f → Tells (told.written sight type old viewed) f
-    written_refused old f h =
-        told_left (any_of alone viewed) (lacking (ChoiceTwice ∷ []) (with_list sight type old viewed)) f
-        (told_any alone choice_view xs i one.x f lt one.is
-        (told_along (choices sight type (map choice_view part)) (alone (choice_view one.x)) f (ap (choices sight type) seen_part) h))
-
-    pub written_twice : (old keys : List Name) (ys : List s.Choice) (f : NameFault)
-        → with_list sight type old viewed ≡ with_list sight type keys (map choice_view (drop i xs))
-        → are.choices sight type (map choice_view part) ≡ Some ys → (f ≢ NoMemory → in_turn one_name keys (map key_of ys) ≡ None)
-        → Tells (is_of (ChoiceTwice ∷ [])) f → Tells (told.written sight type old viewed) f
-    written_twice old keys ys f inv e none h =
-        told_right (any_of alone viewed) (lacking (ChoiceTwice ∷ []) (with_list sight type old viewed)) f
-        (told_lacking (ChoiceTwice ∷ []) (with_list sight type old viewed) f
-        (λ n. inv ∙ ap (λ l. with_list sight type keys (map choice_view l)) one.next
-        ∙ ap (λ o. o >>= λ z. with_list sight type z (map choice_view (drop (suc i) xs)))
-        (ap (λ l. in_turn one_name keys (map key_of l)) (choices_given (choice_view one.x ∷ []) ys (ap (are.choices sight type) (sym seen_part) ∙ e)) ∙ none n)) h)
-
-  -- ---- what is covered
-
-  module _ (lists : List (List t.Choice)) (f : NameFault) where
-    abbrev some_one : Broken
-    some_one = unless LeftOut (not (is_empty lists))
-
-    abbrev last_others : Broken
-    last_others = unless WrongKind (only_last_others lists)
-
-    abbrev each_choice : Broken
-    each_choice = any_of (choices sight type) lists
-
-    abbrev twice : Broken
-    twice = unless ChoiceTwice (are_distinct_choices (all_given sight type lists))
-
-    abbrev no_others : Broken
-    no_others = where_given (each (are.choices sight type) lists) (λ css. unless NoOthers (is_last_others lists || names_all type (flat_map (λ cs. cs) css)))
-
-    pub covered_some : Tells some_one f → Tells (covered sight type lists) f
-    covered_some h = told_left some_one (last_others ∪ (each_choice ∪ (twice ∪ no_others))) f h
-
-    pub covered_last : Tells last_others f → Tells (covered sight type lists) f
-    covered_last h = told_right some_one (last_others ∪ (each_choice ∪ (twice ∪ no_others))) f (told_left last_others (each_choice ∪ (twice ∪ no_others)) f h)
-
-    after_last : Tells (each_choice ∪ (twice ∪ no_others)) f → Tells (covered sight type lists) f
-    after_last h = told_right some_one (last_others ∪ (each_choice ∪ (twice ∪ no_others))) f (told_right last_others (each_choice ∪ (twice ∪ no_others)) f h)
-
-    pub covered_each : Tells each_choice f → Tells (covered sight type lists) f
-    covered_each h = after_last (told_left each_choice (twice ∪ no_others) f h)
-
-    pub covered_twice : Tells twice f → Tells (covered sight type lists) f
-    covered_twice h = after_last (told_right each_choice (twice ∪ no_others) f (told_left twice no_others f h))
-
-    pub covered_all : Tells no_others f → Tells (covered sight type lists) f
-    covered_all h = after_last (told_right each_choice (twice ∪ no_others) f (told_right twice no_others f h))
-
-    -- choices that are refused one by one, after those before them
-    pub written_told : (keys : List Name) (cs : List t.Choice) (rest : List (List t.Choice))
-        → in_turn (with_list sight type) [] lists ≡ in_turn (with_list sight type) keys (cs ∷ rest)
-        → (Tells (choices sight type cs) f → Tells each_choice f) → Tells (told.written sight type keys cs) f → Tells (covered sight type lists) f
-    written_told keys cs rest e among h =
-        told_either (any_of (λ c. choices sight type (c ∷ [])) cs) (lacking (ChoiceTwice ∷ []) (with_list sight type keys cs)) (covered sight type lists) f h
-        (λ k. covered_each (among (each_alone cs f k)))
-        (λ k. covered_twice (told_twice (with_list sight type keys cs) (are_distinct_choices (all_given sight type lists)) f
-        (λ n. distinct_given lists (e ∙ ap (λ o. o >>= λ z. in_turn (with_list sight type) z rest) n)) k))
-
-    -- what choices that are given are asked
-    pub uncovered_told : (all : List Chosen) → each (are.choices sight type) lists ≡ Some (choices_of all)
-        → Tells (told.uncovered type lists (all_choices all)) f → Tells (covered sight type lists) f
-    uncovered_told all e h =
-        let u = unless ChoiceTwice (are_distinct (map key_of (all_choices all))) in
-        let n = unless NoOthers (is_last_others lists || names_all type (all_choices all)) in
-        let same : all_given sight type lists ≡ all_choices all = lists_given lists (choices_of all) e ∙ flat_each all in
-        told_either last_others (u ∪ n) (covered sight type lists) f h covered_last
-        (λ r. told_either u n (covered sight type lists) f r
-        (λ k. covered_twice (told_along u twice f (ap (unless ChoiceTwice) (distinct_keys (all_choices all) ∙ ap are_distinct_choices (sym same))) k))
-        (λ k. covered_all (told_given (λ (css : List (List s.Choice)). unless NoOthers (is_last_others lists || names_all type (flat_map (λ cs. cs) css)))
-        (each (are.choices sight type) lists) (choices_of all) f e
-        (told_along n (unless NoOthers (is_last_others lists || names_all type (flat_map (λ cs. cs) (choices_of all)))) f
-        (ap (λ cs. unless NoOthers (is_last_others lists || names_all type cs)) (sym (flat_each all))) k))))
-
-    -- no alternative at all
-    pub none_told : (all : List Chosen) → each (are.choices sight type) lists ≡ Some (choices_of all)
-        → Tells (lacking (LeftOut ∷ []) (but_last all)) f → Tells (covered sight type lists) f
-    none_told all e h = covered_some (go all lists e h)
-      where
-        there : (a : Chosen) (more : List Chosen) → lacking (LeftOut ∷ []) (but_last (a ∷ more)) ≡ nothing
-        there a [] = refl
-        there a (b ∷ more) = step (but_last (b ∷ more)) (there b more)
-          where
-            step : (o : Option Divided) → lacking (LeftOut ∷ []) o ≡ nothing
-                → lacking {A = Divided} (LeftOut ∷ []) (o >>= λ d. Some (record { alternatives = a ∷ d.alternatives; last = d.last })) ≡ nothing
-            step None e = e
-            step (Some d) e = refl
-
-        empty : (f : NameFault) → Tells (is_of (LeftOut ∷ [])) f → Tells (unless LeftOut false) f
-        empty (At p at) h = only (is p LeftOut) h
-          where
-            only : (b : Bool) → (b || false) ≡ true → b ≡ true
-            only true h = refl
-            only false h = h
-        empty NoMemory h = tt
-
-        lost : {A : Type 0} (o : Option A) (p : Option (List A)) → (o >>= λ y. p >>= λ ys. Some (y ∷ ys)) ≡ Some [] → Some tt ≡ let n : Option (Unit {0}) = None in n
-        lost None p e = cc
-        lost (Some y) None e = cc
-        lost (Some y) (Some ys) e = cc
-
-        go : (all : List Chosen) (ls : List (List t.Choice)) → each (are.choices sight type) ls ≡ Some (choices_of all)
-            → Tells (lacking (LeftOut ∷ []) (but_last all)) f → Tells (unless LeftOut (not (is_empty ls))) f
-        go (a ∷ more) ls e h = told_nothing (unless LeftOut (not (is_empty ls))) f (told_along (lacking (LeftOut ∷ []) (but_last (a ∷ more))) nothing f (there a more) h)
-        go [] [] e h = empty f h
-        go [] (l ∷ ls) e h = let no : Some tt ≡ None = lost (are.choices sight type l) (each (are.choices sight type) ls) e in cc
-
--- one of several lists, whose choices are refused
-pub fault_told : (sight : Sight) (type : ObjectType) (bs : List (Bor (List Choice))) (i : ℕ) (x : Bor (List Choice)) (keys : List Name) (f : NameFault)
-    → i < length bs → x ≡ get_or bs i x
-    → in_turn (with_list sight type) [] (all_lists bs) ≡ in_turn (with_list sight type) keys (all_lists (drop i bs))
-    → Tells (told.written sight type keys (choice_list x)) f → Tells (covered sight type (all_lists bs)) f
-fault_told sight type bs i x keys f lt is inv h =
-    written_told sight type (all_lists bs) f keys (choice_list x) (all_lists (drop (suc i) bs))
-    (inv ∙ ap (λ l. in_turn (with_list sight type) keys (all_lists l)) (drop-cons bs i x lt ∙ ap (λ y. y ∷ drop (suc i) bs) (sym is)))
-    (λ k. told_any (choices sight type) choice_list bs i x f lt is k) h
-
--- ---- tables of keys
-
-pub neither : (a b : Bool) → a ≡ false → b ≡ false → (a || b) ≡ false
-neither a b e g = ap (λ x. x || b) e ∙ g
-
--- neither others nor each literal stands there
-pub not_all : (type : ObjectType) (lists : List (List t.Choice)) (all : List Chosen) (keys : List Name) → in_turn with_choices [] all ≡ Some keys
-    → (is_last_others lists || has_all type keys) ≡ false → (is_last_others lists || names_all type (all_choices all)) ≡ false
-not_all type lists all keys e n = go (are_distinct (map key_of (all_choices all))) (sym (steps.told all) ∙ e)
+pub last_is : (bs : List (Bor (List Choice))) (i : ℕ) → i < length bs → (i + 1 == length bs) ≡ is_empty (all_lists (drop (i + 1) bs))
+last_is [] i lt = absurd (omega (arith, lt))
+last_is (b ∷ bs) zero lt = go bs
   where
-    go : (b : Bool) → then_some b (map key_of (all_choices all)) ≡ Some keys → (is_last_others lists || names_all type (all_choices all)) ≡ false
-    go true q =
-        let same : map key_of (all_choices all) ≡ keys = cc in
-        ap (λ b. is_last_others lists || b) (sym (has_names type (all_choices all)) ∙ ap (has_all type) same) ∙ n
-    go false q = cc
-
--- no two choices are the same, or it isn't told
-pub told_apart_told : (all : List Chosen) (f : NameFault) → (f ≢ NoMemory → in_turn with_choices [] all ≡ None) → f ≢ NoMemory → are_distinct (map key_of (all_choices all)) ≡ false
-told_apart_told all f none n = go (are_distinct (map key_of (all_choices all))) (sym (steps.told all) ∙ none n)
-  where
-    go : (b : Bool) → then_some b (map key_of (all_choices all)) ≡ None → b ≡ false
-    go true q = cc
-    go false q = refl
+    go : (bs : List (Bor (List Choice))) → (1 == suc (length bs)) ≡ is_empty (all_lists bs)
+    go [] = refl
+    go (c ∷ bs) = refl
+last_is (b ∷ bs) (suc i) lt = last_is bs i (omega (arith, lt))

@@ -9,7 +9,7 @@ use Rattle.vhdl_names_rules.specs.Rules.{each}
 use Rattle.vhdl_names_rules.specs.Visibility.{Sight, label_ends}
 use Rattle.vhdl_names_rules.specs.Choices as are
 use Rattle.vhdl_names_rules.specs.Statements.{SignalName, target}
-use Rattle.vhdl_names_problems.specs.Broken.{Broken, Tells, ◌∪◌, unless, lacking, any_of}
+use Rattle.vhdl_names_problems.specs.Broken.{Broken, Tells, ◌▸◌, unless, lacking, any_of}
 use Rattle.vhdl_names_problems.specs.Choices.{choices, covered}
 use Rattle.vhdl_names_problems.specs.Statements as broken
 use Rattle.vhdl_names_problems.specs.Concurrent.{values}
@@ -35,18 +35,18 @@ module _ (sight : Sight) (type : ObjectType) (label : Option Ident) (alts : List
   bodies = broken.alternatives sight (t.alternatives_of alts)
 
   pub parts_ends : Tells ends f → Tells (told.parts sight type label alts end) f
-  parts_ends h = told_left ends (covers ∪ bodies) f h
+  parts_ends h = told_left ends (covers ▸ bodies) f h
 
   pub parts_cover : Tells covers f → Tells (told.parts sight type label alts end) f
-  parts_cover h = told_right ends (covers ∪ bodies) f (told_left covers bodies f h)
+  parts_cover h = told_right ends (covers ▸ bodies) f (told_left covers bodies f h)
 
-  pub parts_fault : Tells (told.alternatives sight type alts ∪ covers) f → Tells (told.parts sight type label alts end) f
+  pub parts_fault : Tells (told.alternatives sight type alts ▸ covers) f → Tells (told.parts sight type label alts end) f
   parts_fault h =
       let cs = any_of (choices sight type) (cases.choice_lists alts) in
-      told_either (cs ∪ bodies) covers (ends ∪ (covers ∪ bodies)) f h
-      (λ l. told_either cs bodies (ends ∪ (covers ∪ bodies)) f l
+      told_either (cs ▸ bodies) covers (ends ▸ (covers ▸ bodies)) f h
+      (λ l. told_either cs bodies (ends ▸ (covers ▸ bodies)) f l
       (λ k. parts_cover (covered_each sight type (cases.choice_lists alts) f k))
-      (λ k. told_right ends (covers ∪ bodies) f (told_right covers bodies f k)))
+      (λ k. told_right ends (covers ▸ bodies) f (told_right covers bodies f k)))
       (λ k. parts_cover k)
 
   -- the alternatives that are analysed
@@ -70,7 +70,7 @@ module _ (sight : Sight) (type : ObjectType) (a : t.SelectedAssignment) (f : Nam
 
   pub selected_cover : Tells (covered sight type lists) f → Tells (told.selected sight type a) f
   selected_cover h =
-      told_right (broken.target sight a.target) (covered sight type lists ∪ given_values) f (told_left (covered sight type lists) given_values f h)
+      told_right (broken.target sight a.target) (covered sight type lists ▸ given_values) f (told_left (covered sight type lists) given_values f h)
 
   waveforms_there : (x : SignalName) → target sight a.target ≡ Some x → (all : List Chosen) → each (steps.chosen sight type a.target) a.waveforms ≡ Some all
       → each (are.choices sight type) lists ≡ Some (by_cases.choices_of all)

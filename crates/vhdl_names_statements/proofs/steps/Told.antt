@@ -22,7 +22,7 @@ use Rattle.vhdl_names_rules.specs.Operators.{Typed}
 use Rattle.vhdl_names_rules.specs.Expressions.{typed}
 use Rattle.vhdl_names_rules.specs.Choices.{selector}
 use Rattle.vhdl_names_expressions.specs.Asked.{selected_by}
-use Rattle.vhdl_names_problems.specs.Broken.{Broken, Tells, nothing, ◌∪◌, is, is_of, unless, where_given, any_of}
+use Rattle.vhdl_names_problems.specs.Broken.{Broken, Tells, nothing, ◌▸◌, is, is_of, unless, where_given, any_of}
 use Rattle.vhdl_names_problems.specs.Expressions.{condition, static_range}
 use Rattle.vhdl_names_problems.specs.Choices as asked
 use Rattle.vhdl_names_problems.specs.Choices.{choices, covered}
@@ -44,8 +44,8 @@ pub told_nothing : (b : Broken) (f : NameFault) → Tells nothing f → Tells b 
 told_nothing b (At p at) h = absurd (true≢false (sym h))
 told_nothing b NoMemory h = tt
 
-pub told_either : (a b c : Broken) (f : NameFault) → Tells (a ∪ b) f → (Tells a f → Tells c f) → (Tells b f → Tells c f) → Tells c f
-unfolding ◌∪◌
+pub told_either : (a b c : Broken) (f : NameFault) → Tells (a ▸ b) f → (Tells a f → Tells c f) → (Tells b f → Tells c f) → Tells c f
+unfolding ◌▸◌
 told_either a b c (At p at) h l r = go (a p) refl h
   where
     go : (x : Bool) → a p ≡ x → (x || b p) ≡ true → c p ≡ true
@@ -77,7 +77,7 @@ told_unless q false (At p at) none h = only (is p q) h
 pub told_each : {A : Type 0} (b c : A → Broken) (xs : List A) (f : NameFault) → ((x : A) → Tells (b x) f → Tells (c x) f) → Tells (any_of b xs) f → Tells (any_of c xs) f
 told_each b c [] f h t = t
 told_each b c (x ∷ xs) f h t =
-    told_either (b x) (any_of b xs) (c x ∪ any_of c xs) f t
+    told_either (b x) (any_of b xs) (c x ▸ any_of c xs) f t
     (λ l. told_left (c x) (any_of c xs) f (h x l))
     (λ r. told_right (c x) (any_of c xs) f (told_each b c xs f h r))
 
@@ -87,7 +87,7 @@ pub statements_any : (sight : Sight) (qs : List t.Sequential)
     → any_of (λ (q : t.Sequential). broken.statement sight q.label q.statement) qs ≡ broken.statements sight (t.statements_of qs)
 unfolding broken.statements
 statements_any sight [] = refl
-statements_any sight (q ∷ qs) = ap (λ b. broken.statement sight q.label q.statement ∪ b) (statements_any sight qs)
+statements_any sight (q ∷ qs) = ap (λ b. broken.statement sight q.label q.statement ▸ b) (statements_any sight qs)
 
 pub conditionals_any : (sight : Sight) (bs : List t.Conditional) (f : NameFault)
     → Tells (any_of (told.guarded sight) bs) f → Tells (broken.conditionals sight (t.conditionals_of bs)) f
@@ -97,9 +97,9 @@ conditionals_any sight (b ∷ bs) f h =
     let c = condition sight b.condition in
     let x = broken.statements sight (t.statements_of b.statements) in
     let r = broken.conditionals sight (t.conditionals_of bs) in
-    told_either (c ∪ x) (any_of (told.guarded sight) bs) (c ∪ (x ∪ r)) f h
-    (λ l. told_either c x (c ∪ (x ∪ r)) f l (λ k. told_left c (x ∪ r) f k) (λ k. told_right c (x ∪ r) f (told_left x r f k)))
-    (λ k. told_right c (x ∪ r) f (told_right x r f (conditionals_any sight bs f k)))
+    told_either (c ▸ x) (any_of (told.guarded sight) bs) (c ▸ (x ▸ r)) f h
+    (λ l. told_either c x (c ▸ (x ▸ r)) f l (λ k. told_left c (x ▸ r) f k) (λ k. told_right c (x ▸ r) f (told_left x r f k)))
+    (λ k. told_right c (x ▸ r) f (told_right x r f (conditionals_any sight bs f k)))
 
 pub alternatives_any : (sight : Sight) (type : ObjectType) (alts : List t.Alternative) (f : NameFault)
     → Tells (any_of (told.alternative sight type) alts) f → Tells (told.alternatives sight type alts) f
@@ -110,13 +110,13 @@ alternatives_any sight type (a ∷ alts) f h =
     let cs = any_of (choices sight type) (cases.choice_lists alts) in
     let x = broken.statements sight (t.statements_of a.statements) in
     let xs = broken.alternatives sight (t.alternatives_of alts) in
-    told_either (c ∪ x) (any_of (told.alternative sight type) alts) ((c ∪ cs) ∪ (x ∪ xs)) f h
-    (λ l. told_either c x ((c ∪ cs) ∪ (x ∪ xs)) f l
-    (λ k. told_left (c ∪ cs) (x ∪ xs) f (told_left c cs f k))
-    (λ k. told_right (c ∪ cs) (x ∪ xs) f (told_left x xs f k)))
-    (λ r. told_either cs xs ((c ∪ cs) ∪ (x ∪ xs)) f (alternatives_any sight type alts f r)
-    (λ k. told_left (c ∪ cs) (x ∪ xs) f (told_right c cs f k))
-    (λ k. told_right (c ∪ cs) (x ∪ xs) f (told_right x xs f k)))
+    told_either (c ▸ x) (any_of (told.alternative sight type) alts) ((c ▸ cs) ▸ (x ▸ xs)) f h
+    (λ l. told_either c x ((c ▸ cs) ▸ (x ▸ xs)) f l
+    (λ k. told_left (c ▸ cs) (x ▸ xs) f (told_left c cs f k))
+    (λ k. told_right (c ▸ cs) (x ▸ xs) f (told_left x xs f k)))
+    (λ r. told_either cs xs ((c ▸ cs) ▸ (x ▸ xs)) f (alternatives_any sight type alts f r)
+    (λ k. told_left (c ▸ cs) (x ▸ xs) f (told_right c cs f k))
+    (λ k. told_right (c ▸ cs) (x ▸ xs) f (told_right x xs f k)))
 
 -- ---- one of a list, in whose sight what is in sight is the same
 
@@ -175,18 +175,18 @@ module _ (sight : Sight) (label : Option Ident) (i : If) (f : NameFault) where
   abbrev if_otherwise : Broken
   if_otherwise = broken.otherwise sight (t.otherwise_of (tree.option_sequentials_view (out-If i).otherwise))
 
-  if_told : Tells (if_label ∪ (if_branches ∪ if_otherwise)) f → Tells (broken.statement sight label (tree.if_view i)) f
+  if_told : Tells (if_label ▸ (if_branches ▸ if_otherwise)) f → Tells (broken.statement sight label (tree.if_view i)) f
   unfolding broken.statement
-  if_told h = told_along (if_label ∪ (if_branches ∪ if_otherwise)) (broken.statement sight label (tree.if_view i)) f (sym (ap (broken.statement sight label) (if_is i))) h
+  if_told h = told_along (if_label ▸ (if_branches ▸ if_otherwise)) (broken.statement sight label (tree.if_view i)) f (sym (ap (broken.statement sight label) (if_is i))) h
 
   pub if_ends : Tells if_label f → Tells (broken.statement sight label (tree.if_view i)) f
-  if_ends h = if_told (told_left if_label (if_branches ∪ if_otherwise) f h)
+  if_ends h = if_told (told_left if_label (if_branches ▸ if_otherwise) f h)
 
   pub if_branch : Tells if_branches f → Tells (broken.statement sight label (tree.if_view i)) f
-  if_branch h = if_told (told_right if_label (if_branches ∪ if_otherwise) f (told_left if_branches if_otherwise f h))
+  if_branch h = if_told (told_right if_label (if_branches ▸ if_otherwise) f (told_left if_branches if_otherwise f h))
 
   pub if_else : Tells if_otherwise f → Tells (broken.statement sight label (tree.if_view i)) f
-  if_else h = if_told (told_right if_label (if_branches ∪ if_otherwise) f (told_right if_branches if_otherwise f h))
+  if_else h = if_told (told_right if_label (if_branches ▸ if_otherwise) f (told_right if_branches if_otherwise f h))
 
 module _ (sight : Sight) (label : Option Ident) (l : For) (f : NameFault) where
   abbrev for_label : Broken
@@ -198,18 +198,18 @@ module _ (sight : Sight) (label : Option Ident) (l : For) (f : NameFault) where
   abbrev for_turn : Broken
   for_turn = broken.statements (within_loop sight (tree.ident_view (out-For l).parameter)) (t.statements_of (tree.sequentials_view (out-For l).statements))
 
-  for_told : Tells (for_label ∪ (for_range ∪ for_turn)) f → Tells (broken.statement sight label (tree.for_view l)) f
+  for_told : Tells (for_label ▸ (for_range ▸ for_turn)) f → Tells (broken.statement sight label (tree.for_view l)) f
   unfolding broken.statement
-  for_told h = told_along (for_label ∪ (for_range ∪ for_turn)) (broken.statement sight label (tree.for_view l)) f (sym (ap (broken.statement sight label) (for_is l))) h
+  for_told h = told_along (for_label ▸ (for_range ▸ for_turn)) (broken.statement sight label (tree.for_view l)) f (sym (ap (broken.statement sight label) (for_is l))) h
 
   pub loop_ends : Tells for_label f → Tells (broken.statement sight label (tree.for_view l)) f
-  loop_ends h = for_told (told_left for_label (for_range ∪ for_turn) f h)
+  loop_ends h = for_told (told_left for_label (for_range ▸ for_turn) f h)
 
   pub loop_range : Tells for_range f → Tells (broken.statement sight label (tree.for_view l)) f
-  loop_range h = for_told (told_right for_label (for_range ∪ for_turn) f (told_left for_range for_turn f h))
+  loop_range h = for_told (told_right for_label (for_range ▸ for_turn) f (told_left for_range for_turn f h))
 
   pub loop_turn : Tells for_turn f → Tells (broken.statement sight label (tree.for_view l)) f
-  loop_turn h = for_told (told_right for_label (for_range ∪ for_turn) f (told_right for_range for_turn f h))
+  loop_turn h = for_told (told_right for_label (for_range ▸ for_turn) f (told_right for_range for_turn f h))
 
 -- ---- what is selected by
 
@@ -240,25 +240,25 @@ module _ (sight : Sight) (label : Option Ident) (c : Case) (f : NameFault) where
   abbrev case_bodies : Broken
   case_bodies = broken.alternatives sight (t.alternatives_of (tree.alternatives_view (out-Case c).alternatives))
 
-  case_told : Tells (case_label ∪ (case_covers ∪ case_bodies)) f → Tells (broken.statement sight label (tree.case_view c)) f
+  case_told : Tells (case_label ▸ (case_covers ▸ case_bodies)) f → Tells (broken.statement sight label (tree.case_view c)) f
   unfolding broken.statement
   case_told h =
-      told_along (case_label ∪ (case_covers ∪ case_bodies)) (broken.statement sight label (tree.case_view c)) f
-      (ap (λ lists. case_label ∪ (covered_by sight (tree.view (out-Case c).selector) lists ∪ case_bodies))
+      told_along (case_label ▸ (case_covers ▸ case_bodies)) (broken.statement sight label (tree.case_view c)) f
+      (ap (λ lists. case_label ▸ (covered_by sight (tree.view (out-Case c).selector) lists ▸ case_bodies))
       (sym (lists_each (tree.alternatives_view (out-Case c).alternatives)))
       ∙ sym (ap (broken.statement sight label) (case_is c))) h
 
   pub case_selector : Tells (asked.selected_by sight (tree.view (out-Case c).selector)) f → Tells (broken.statement sight label (tree.case_view c)) f
   case_selector h =
-      case_told (told_right case_label (case_covers ∪ case_bodies) f (told_left case_covers case_bodies f (told_left (asked.selected_by sight (tree.view (out-Case c).selector)) _ f h)))
+      case_told (told_right case_label (case_covers ▸ case_bodies) f (told_left case_covers case_bodies f (told_left (asked.selected_by sight (tree.view (out-Case c).selector)) _ f h)))
 
   pub case_parts : (by : ObjectType × Value) → selected_by sight (tree.view (out-Case c).selector) ≡ Some by
       → Tells (told.parts sight by.0 label (tree.alternatives_view (out-Case c).alternatives) (tree.option_ident_view (out-Case c).end_label)) f
       → Tells (broken.statement sight label (tree.case_view c)) f
   case_parts by is h =
-      case_told (told_either case_label (covered sight by.0 case_lists ∪ case_bodies) (case_label ∪ (case_covers ∪ case_bodies)) f h
-      (λ k. told_left case_label (case_covers ∪ case_bodies) f k)
-      (λ r. told_right case_label (case_covers ∪ case_bodies) f
-      (told_either (covered sight by.0 case_lists) case_bodies (case_covers ∪ case_bodies) f r
+      case_told (told_either case_label (covered sight by.0 case_lists ▸ case_bodies) (case_label ▸ (case_covers ▸ case_bodies)) f h
+      (λ k. told_left case_label (case_covers ▸ case_bodies) f k)
+      (λ r. told_right case_label (case_covers ▸ case_bodies) f
+      (told_either (covered sight by.0 case_lists) case_bodies (case_covers ▸ case_bodies) f r
       (λ k. told_left case_covers case_bodies f (covered_told sight (tree.view (out-Case c).selector) by case_lists f is k))
       (λ k. told_right case_covers case_bodies f k))))

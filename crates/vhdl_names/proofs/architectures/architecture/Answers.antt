@@ -14,7 +14,7 @@ use Rattle.std.specs.Prelude.{◌++◌, flat_map}
 use Rattle.vhdl_names_rules.specs.declared.fault.NameProblem.TheVariants.{Twice}
 use Rattle.vhdl_names_rules.specs.Interfaces.{declared_names}
 use Rattle.vhdl_names_rules.specs.laws.Regions.{names_in}
-use Rattle.vhdl_names_problems.specs.Broken.{◌∪◌, unless}
+use Rattle.vhdl_names_problems.specs.Broken.{◌▸◌, unless}
 use Rattle.vhdl_names_problems.specs.Declarations.{in_order as in_turn_broken}
 use Rattle.vhdl_names_problems.specs.Files as broken
 use Rattle.vhdl_names_problems.proofs.Telling.{told_on}
@@ -76,7 +76,7 @@ returns-in_err-declarations-clause-told c =
     passed_told (broken.architecture es e items a) c.in_err-declarations.field-0.0 _ c.from_residual-in_err-declarations.result c.from_residual-in_err-declarations.ensures.1 (λ e p. p)
     (declarations_told es e items a c.in_err-declarations.field-0.0 s c.in_ok-sight.ensures.given
     (told_along (λ l. in_turn_broken with_declared (declaration es) (broken.declaration es) s (map view.declaration_view l)
-    ∪ unless Twice (are_distinct (declared_names s.region ++ flat_map names_in (map view.declaration_view l)))) _ d.tree.now.declarations.items c.deref.ensures.value c.in_err-declarations.field-0.0
+    ▸ unless Twice (are_distinct (declared_names s.region ++ flat_map names_in (map view.declaration_view l)))) _ d.tree.now.declarations.items c.deref.ensures.value c.in_err-declarations.field-0.0
     c.in_err-declarations.ensures.told))
 
 pub returns-clause-told : goal.returns-clause-told

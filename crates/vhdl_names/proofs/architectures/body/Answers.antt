@@ -5,7 +5,7 @@ use Rattle.vhdl_names_rules.specs.declared.fault.NameProblem.TheVariants.{Twice,
 use Rattle.vhdl_names_rules.specs.Visibility.{are_distinct, ends}
 use Rattle.vhdl_names_rules.specs.Interfaces.{declared_names}
 use Rattle.vhdl_names_rules.specs.Concurrent.{concurrent_labels}
-use Rattle.vhdl_names_problems.specs.Broken.{◌∪◌, unless}
+use Rattle.vhdl_names_problems.specs.Broken.{◌▸◌, unless}
 use Rattle.vhdl_names_problems.specs.Concurrent.{concurrents}
 use Rattle.vhdl_names_problems.specs.Files.{with_labels}
 use Rattle.vhdl_names_problems.proofs.Telling.{told_left, told_right, told_on}
@@ -33,12 +33,12 @@ returns-in-Err-clause-told c = λ all are.
     let at_end = unless WrongKind (ends a.name.text a.end_name) in
     or_memory (breaking.body all s a) c.earlier_in.result
     (λ n. c.earlier_in.ensures.told (breaking.body all s a)
-    (told_left twice (statements ∪ at_end) c.in-Err.fault
+    (told_left twice (statements ▸ at_end) c.in-Err.fault
     (told_along (λ l. unless Twice (are_distinct (declared_names s.region ++ concurrent_labels (t.concurrents_of (map view.concurrent_view l))))) c.deref.result.now
     c.args.tree.now.statements.items c.deref.ensures.value c.in-Err.fault c.in-Err.ensures.told))
     (told_on (concurrents all (with_region s (region_view c.declare_each.new.region)) (t.concurrents_of (map view.concurrent_view c.deref-in-Err.result.now))) (breaking.body all s a)
     c.concurrents.result
-    (λ f w. told_right twice (statements ∪ at_end) f (told_left statements at_end f
+    (λ f w. told_right twice (statements ▸ at_end) f (told_left statements at_end f
     (told_along (λ r. concurrents all (with_region s r) (t.concurrents_of a.statements)) (region_view c.declare_each.new.region) (with_labels s.region labels)
     (c.in-Err.ensures.past (c.earlier_in.ensures.given n)
     ∙ ap (λ l. with_labels s.region (concurrent_labels (t.concurrents_of (map view.concurrent_view l)))) c.deref.ensures.value) f

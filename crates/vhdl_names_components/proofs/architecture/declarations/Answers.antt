@@ -1,4 +1,4 @@
-use Rattle.std.proofs.Common.{rules, arith, ◌≡◌, ◌≢◌, ◌<◌, map, flat_map, length, None, refl, ap, sym, ◌∙◌}
+use Rattle.std.proofs.Common.{rules, arith, ◌≡◌, ◌≢◌, ◌<◌, map, flat_map, length, None, ap, sym, ◌∙◌}
 use Rattle.std.proofs.lemmas.Grind.{common_steps}
 use Rattle.std.proofs.lemmas.List.{length-map}
 use Rattle.vhdl_names_rules.specs.declared.fault.NameFault.TheVariants.{NoMemory}
@@ -9,13 +9,13 @@ use Rattle.vhdl_tree.specs.View as tree
 use Rattle.vhdl_names_types.specs.Views.{sight_view, entry_view}
 use Rattle.vhdl_names_units.specs.views.Declarations.{declaration_view, declarations_view}
 use Rattle.vhdl_names_interfaces.specs.Views.{entities_view}
-use Rattle.vhdl_names_components.specs.Components.{analysed_view, declarations_broken}
+use Rattle.vhdl_names_components.specs.Components.{analysed_view}
 use Rattle.vhdl_names_declarations.specs.Entered.{entering}
-use Rattle.vhdl_names_rules.specs.laws.Regions.{names_in}
 use Rattle.vhdl_names_problems.specs.Broken.{Tells}
+use Rattle.vhdl_names_problems.specs.Declarations as declarations_broken
 use Rattle.vhdl_names_problems.specs.Files as broken
 use Rattle.vhdl_names_declarations.proofs.Breaking.{told_at, told_behind}
-use Rattle.vhdl_names_components.proofs.Naming.{of_declaration}
+use Rattle.vhdl_names_problems.proofs.kept.Architectures.{declaration_kept}
 use Rattle.vhdl_names_declarations.proofs.Listed.{in_region, left, begins, fails, goes, ends, counts_before, place_within}
 use Rattle.vhdl_names_declarations.proofs.Regions.{names_apart}
 use Rattle.vhdl_names_components.proofs.architecture.declarations.Goals as goal
@@ -59,7 +59,7 @@ loop-one-preserved c =
       c.of-counts-in-loop-one.ensures,
       c.in_ok-next.ensures.outermost,
       λ f h. c.loop-one.invariant.3 f
-          (told_behind in_region with_declared (λ s ds. refl) (declaration (entities_view c.args.entities.now)) (broken.declaration (entities_view c.args.entities.now)) names_in (of_declaration (entities_view c.args.entities.now)) tree.declaration_view (sight_view c.loop-one.sight) (sight_view c.declaration.new.sight) c.args.all.now c.loop-one.one-index c.one-item.result (analysed_view c.in_ok-next.next) f lt c.one-item.is c.in_ok-next.ensures.given h),
+          (told_behind in_region with_declared (declaration (entities_view c.args.entities.now)) (broken.declaration (entities_view c.args.entities.now)) (declaration_kept (entities_view c.args.entities.now)) tree.declaration_view (sight_view c.loop-one.sight) (sight_view c.declaration.new.sight) c.args.all.now c.loop-one.one-index c.one-item.result (analysed_view c.in_ok-next.next) f lt c.one-item.is c.in_ok-next.ensures.given h),
     )
 
 pub returns-clause-outermost : goal.returns-clause-outermost
@@ -72,6 +72,6 @@ returns-clause-given c =
 pub returns-in_err-next-clause-told : goal.returns-in_err-next-clause-told
 returns-in_err-next-clause-told c =
     let lt : c.loop-one.one-index < length c.args.all.now = omega arith in
-    let f : Tells (declarations_broken (entities_view c.args.entities.now) (sight_view c.args.sight.now) (map tree.declaration_view c.args.all.now)) c.in_err-next.field-0.0 =
-    c.loop-one.invariant.3 c.in_err-next.field-0.0 (told_at in_region with_declared (λ s ds. refl) (declaration (entities_view c.args.entities.now)) (broken.declaration (entities_view c.args.entities.now)) names_in (of_declaration (entities_view c.args.entities.now)) tree.declaration_view (sight_view c.loop-one.sight) c.args.all.now c.loop-one.one-index c.one-item.result c.in_err-next.field-0.0 lt c.one-item.is c.in_err-next.ensures.told) in
+    let f : Tells (declarations_broken.in_order with_declared (declaration (entities_view c.args.entities.now)) (broken.declaration (entities_view c.args.entities.now)) (sight_view c.args.sight.now) (map tree.declaration_view c.args.all.now)) c.in_err-next.field-0.0 =
+    c.loop-one.invariant.3 c.in_err-next.field-0.0 (told_at in_region with_declared (declaration (entities_view c.args.entities.now)) (broken.declaration (entities_view c.args.entities.now)) (declaration_kept (entities_view c.args.entities.now)) tree.declaration_view (sight_view c.loop-one.sight) c.args.all.now c.loop-one.one-index c.one-item.result c.in_err-next.field-0.0 lt c.one-item.is c.in_err-next.ensures.told) in
     first_of (search rules, grind (arith, common_steps))

@@ -9,7 +9,8 @@ use Rattle.vhdl_names_declarations.specs.Counts.{AreCounts}
 use Rattle.vhdl_names_declarations.specs.Entered.{entering}
 use Rattle.vhdl_names_rules.specs.declared.fault.NameFault.{NameFault}
 use Rattle.vhdl_names_problems.specs.Broken.{Tells}
-use Rattle.vhdl_names_components.specs.Components.{declarations_broken}
+use Rattle.vhdl_names_problems.specs.Declarations as declarations_broken
+use Rattle.vhdl_names_problems.specs.Files as broken
 use Rattle.vhdl_names_declarations.proofs.Listed.{left}
 use Rattle.vhdl_names_interfaces.specs.Views.{entities_view}
 use Rattle.vhdl_names_components.proofs.architecture.declarations.Given as goal
@@ -23,5 +24,5 @@ invariant-loop-one l =
     ≡ left declares declaration_view (sight_view l.sight) (declarations_view l.done) l.all l.one-index)
     × AreCounts l.counts (region_view l.sight.region)
     × (region_view l.sight.enclosing ≡ [])
-    × ((f : NameFault) → Tells (declarations_broken (entities_view l.entities) (sight_view l.sight) (map declaration_view (drop l.one-index l.all))) f
-    → Tells (declarations_broken (entities_view l.entities) (sight_view l.initial.sight) (map declaration_view l.all)) f)
+    × ((f : NameFault) → Tells (declarations_broken.in_order with_declared (declaration (entities_view l.entities)) (broken.declaration (entities_view l.entities)) (sight_view l.sight) (map declaration_view (drop l.one-index l.all))) f
+    → Tells (declarations_broken.in_order with_declared (declaration (entities_view l.entities)) (broken.declaration (entities_view l.entities)) (sight_view l.initial.sight) (map declaration_view l.all)) f)

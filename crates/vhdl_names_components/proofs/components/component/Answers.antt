@@ -1,13 +1,14 @@
-use Rattle.std.proofs.Common.{rules, arith, ◌∷◌, [], sym, ap, ◌∙◌}
+use Rattle.std.proofs.Common.{rules, arith, subst}
 use Rattle.std.proofs.lemmas.Grind.{common_steps}
-use Rattle.vhdl_names_rules.specs.Visibility as visibility
-use Rattle.vhdl_names_rules.specs.Visibility.{Sight, declare}
+use Rattle.vhdl_names_rules.specs.Visibility.{Sight}
 use Rattle.vhdl_tree.specs.View.{component_view}
 use Rattle.vhdl_names_types.specs.Views.{sight_view}
 use Rattle.vhdl_names_problems.specs.Broken.{Tells}
-use Rattle.vhdl_names_declarations.specs.Entered.{more}
+use Rattle.vhdl_names_problems.specs.Interfaces as broken
+use Rattle.vhdl_names_problems.specs.Interfaces.{same_text}
+use Rattle.vhdl_names_problems.proofs.Telling.{told_left, told_on}
 use Rattle.vhdl_names_interfaces.specs.Views.{entities_view, named_view}
-use Rattle.vhdl_names_components.proofs.Telling.{component_in, no_entity, other_entity, own_region, other_end, named_twice, named_last, not_there}
+use Rattle.vhdl_names_components.proofs.Telling.{named_twice, behind, no_entity, other_entity, own_region, other_end, named_last}
 use Rattle.vhdl_names_components.proofs.components.component.Goals as goal
 
 pub returns-in_err-is_new-clause-told : goal.returns-in_err-is_new-clause-told
@@ -15,8 +16,8 @@ returns-in_err-is_new-clause-told c =
     let es = entities_view c.args.entities.now in
     let s = sight_view c.args.sight.now in
     let d = component_view c.args.component.now in
-    let f : Tells (component_in (entities_view c.args.entities.now) (sight_view c.args.sight.now) (component_view c.args.component.now)) c.in_err-is_new.field-0.0 =
-    named_twice es s d c.in_err-is_new.field-0.0 visibility.unfinished (λ n. not_there (more s.region (declare d.name.text visibility.unfinished ∷ [])) (c.in_err-is_new.ensures.given n)) c.in_err-is_new.ensures.told in
+    let f : Tells (broken.component (entities_view c.args.entities.now) (sight_view c.args.sight.now) (component_view c.args.component.now)) c.in_err-is_new.field-0.0 =
+    told_left (named_twice s d) (behind es s d) c.in_err-is_new.field-0.0 c.in_err-is_new.ensures.told in
     first_of (search rules, grind (arith, common_steps))
 
 pub returns-in_err-number-clause-told : goal.returns-in_err-number-clause-told
@@ -24,8 +25,8 @@ returns-in_err-number-clause-told c =
     let es = entities_view c.args.entities.now in
     let s = sight_view c.args.sight.now in
     let d = component_view c.args.component.now in
-    let f : Tells (component_in (entities_view c.args.entities.now) (sight_view c.args.sight.now) (component_view c.args.component.now)) c.in_err-number.field-0.0 =
-    no_entity es s d c.in_err-number.field-0.0 c.in_err-number.ensures.given c.in_err-number.ensures.told in
+    let f : Tells (broken.component (entities_view c.args.entities.now) (sight_view c.args.sight.now) (component_view c.args.component.now)) c.in_err-number.field-0.0 =
+    no_entity es s d c.in_ok-is_new.ensures.given c.in_err-number.field-0.0 c.in_err-number.ensures.given c.in_err-number.ensures.told in
     first_of (search rules, grind (arith, common_steps))
 
 pub returns-in_err-is_entity-clause-told : goal.returns-in_err-is_entity-clause-told
@@ -33,8 +34,8 @@ returns-in_err-is_entity-clause-told c =
     let es = entities_view c.args.entities.now in
     let s = sight_view c.args.sight.now in
     let d = component_view c.args.component.now in
-    let f : Tells (component_in (entities_view c.args.entities.now) (sight_view c.args.sight.now) (component_view c.args.component.now)) c.in_err-is_entity.field-0.0 =
-    other_entity es s d c.in_err-is_entity.field-0.0 (c.in_ok-number.number, named_view d.name.text c.in_ok-number.entity.now) c.in_ok-number.ensures.given c.in_err-is_entity.ensures.told in
+    let f : Tells (broken.component (entities_view c.args.entities.now) (sight_view c.args.sight.now) (component_view c.args.component.now)) c.in_err-is_entity.field-0.0 =
+    other_entity es s d c.in_ok-is_new.ensures.given (c.in_ok-number.number, named_view d.name.text c.in_ok-number.entity.now) c.in_ok-number.ensures.given c.in_err-is_entity.field-0.0 c.in_err-is_entity.ensures.told in
     first_of (search rules, grind (arith, common_steps))
 
 pub returns-in_err-own_region-clause-told : goal.returns-in_err-own_region-clause-told
@@ -42,8 +43,9 @@ returns-in_err-own_region-clause-told c =
     let es = entities_view c.args.entities.now in
     let s = sight_view c.args.sight.now in
     let d = component_view c.args.component.now in
-    let f : Tells (component_in (entities_view c.args.entities.now) (sight_view c.args.sight.now) (component_view c.args.component.now)) c.in_err-own_region.field-0.0 =
-    own_region es s d c.in_err-own_region.field-0.0 c.in_err-own_region.ensures.told in
+    let f : Tells (broken.component (entities_view c.args.entities.now) (sight_view c.args.sight.now) (component_view c.args.component.now)) c.in_err-own_region.field-0.0 =
+    own_region es s d c.in_ok-is_new.ensures.given (c.in_ok-number.number, named_view d.name.text c.in_ok-number.entity.now) c.in_ok-number.ensures.given
+    c.in_ok-is_entity.ensures.given c.in_err-own_region.field-0.0 c.in_err-own_region.ensures.told in
     first_of (search rules, grind (arith, common_steps))
 
 pub returns-in_err-ends-clause-told : goal.returns-in_err-ends-clause-told
@@ -51,16 +53,16 @@ returns-in_err-ends-clause-told c =
     let es = entities_view c.args.entities.now in
     let s = sight_view c.args.sight.now in
     let d = component_view c.args.component.now in
-    let f : Tells (component_in (entities_view c.args.entities.now) (sight_view c.args.sight.now) (component_view c.args.component.now)) c.in_err-ends.field-0.0 =
-    other_end es s d c.in_err-ends.field-0.0 c.in_err-ends.ensures.told in
+    let f : Tells (broken.component (entities_view c.args.entities.now) (sight_view c.args.sight.now) (component_view c.args.component.now)) c.in_err-ends.field-0.0 =
+    other_end es s d c.in_ok-is_new.ensures.given (c.in_ok-number.number, named_view d.name.text c.in_ok-number.entity.now) c.in_ok-number.ensures.given
+    c.in_ok-is_entity.ensures.given c.in_ok-own_region.ensures.given c.in_err-ends.field-0.0 c.in_err-ends.ensures.told in
     first_of (search rules, grind (arith, common_steps))
 
 pub returns-clause-told : goal.returns-clause-told
 returns-clause-told c =
     let es = entities_view c.args.entities.now in
     let s = sight_view c.args.sight.now in
+    let w = sight_view c.own_region.new.sight in
     let d = component_view c.args.component.now in
-    let same = ap (λ (x : Sight). x.region) (sym c.in_ok-own_region.ensures.kept) in
-    named_last es s d _ _ c.declare.result
-    (λ f none told. named_twice es s d f (visibility.component c.in_ok-number.number) (λ n. ap (λ r. more r (declare d.name.text (visibility.component c.in_ok-number.number) ∷ [])) same ∙ none n) told)
-    c.declare.ensures.given c.declare.ensures.told
+    told_on (named_twice w d) (broken.component es s d) c.declare.result
+    (λ f h. named_last es s d c.in_ok-is_new.ensures.given f (subst (λ (x : Sight). Tells (named_twice x d) f) c.in_ok-own_region.ensures.kept h)) c.declare.ensures.told

@@ -14,7 +14,7 @@ use Rattle.vhdl_names_concurrent.proofs.Generating.{generate_gives, no_scheme}
 use Rattle.vhdl_names_rules.specs.declared.fault.NameProblem.TheVariants.{Twice, WrongKind}
 use Rattle.vhdl_names_rules.specs.Visibility.{are_distinct, ends}
 use Rattle.vhdl_names_rules.specs.Concurrent.{concurrent_labels, sight_within}
-use Rattle.vhdl_names_problems.specs.Broken.{Tells, unless, ◌∪◌}
+use Rattle.vhdl_names_problems.specs.Broken.{Tells, unless, ◌▸◌}
 use Rattle.vhdl_names_problems.specs.Concurrent as broken
 use Rattle.vhdl_names_problems.proofs.Telling.{told_left, told_right, told_on}
 use Rattle.vhdl_names_concurrent.specs.steps.Told as told
@@ -84,7 +84,7 @@ generate-returns-in_err-by-clause-told m c = λ es are.
     let b = told.labelled es (sight_within s k) cs in
     let e = unless WrongKind (ends label.text end) in
     let f = c.in_err-by.field-0.0 in
-    let h : Tells (told.generate es s label k cs end) c.in_err-by.field-0.0 = told_left a (b ∪ e) f c.in_err-by.ensures.told in
+    let h : Tells (told.generate es s label k cs end) c.in_err-by.field-0.0 = told_left a (b ▸ e) f c.in_err-by.ensures.told in
     first_of (search rules, grind (arith, common_steps))
 
 pub generate-returns-in_err-body-clause-told : goal.generate-returns-in_err-body-clause-told
@@ -98,7 +98,7 @@ generate-returns-in_err-body-clause-told m c = λ es are.
     let b = told.labelled es (sight_within s k) cs in
     let e = unless WrongKind (ends label.text end) in
     let f = c.in_err-body.field-0.0 in
-    let h : Tells (told.generate es s label k cs end) c.in_err-body.field-0.0 = told_right a (b ∪ e) f (told_left b e f (by.entered_told es _ _ cs f c.in_ok-enter_generate.ensures.given
+    let h : Tells (told.generate es s label k cs end) c.in_err-body.field-0.0 = told_right a (b ▸ e) f (told_left b e f (by.entered_told es _ _ cs f c.in_ok-enter_generate.ensures.given
     (by.told_along _ _ f (ap (λ xs. told.labelled es (sight_view c.enter_generate.new.sight) (map tree.concurrent_view xs)) c.deref.ensures.value) (c.in_err-body.ensures.told es are)))) in
     first_of (search rules, grind (arith, common_steps))
 
@@ -113,7 +113,7 @@ generate-returns-in_err-ends-clause-told m c = λ es are.
     let b = told.labelled es (sight_within s k) cs in
     let e = unless WrongKind (ends label.text end) in
     let f = c.in_err-ends.field-0.0 in
-    let h : Tells (told.generate es s label k cs end) c.in_err-ends.field-0.0 = told_right a (b ∪ e) f (told_right b e f c.in_err-ends.ensures.told) in
+    let h : Tells (told.generate es s label k cs end) c.in_err-ends.field-0.0 = told_right a (b ▸ e) f (told_right b e f c.in_err-ends.ensures.told) in
     first_of (search rules, grind (arith, common_steps))
 
 pub statement-returns-in_err-selected-in-Selected-clause-told : goal.statement-returns-in_err-selected-in-Selected-clause-told

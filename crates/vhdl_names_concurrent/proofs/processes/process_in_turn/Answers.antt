@@ -5,7 +5,7 @@ use Rattle.vhdl_names_types.specs.Views.{sight_view}
 use Rattle.vhdl_names_rules.specs.Visibility.{with_variables}
 use Rattle.vhdl_names_rules.specs.Declarations as declarations
 use Rattle.vhdl_names_declarations.specs.Standing.{standing_twice, variable_names}
-use Rattle.vhdl_names_problems.specs.Broken.{Tells, ◌∪◌}
+use Rattle.vhdl_names_problems.specs.Broken.{Tells, ◌▸◌}
 use Rattle.vhdl_names_problems.specs.Declarations.{in_order, variables}
 use Rattle.vhdl_names_problems.specs.Concurrent as broken
 use Rattle.vhdl_names_statements.proofs.steps.Told.{told_along}
@@ -36,7 +36,7 @@ returns-in_err-variables-clause-told c =
     let h : Tells (broken.process s l p) c.in_err-variables.field-0.0 =
     process_variables s l p c.in_err-variables.field-0.0 c.requires.outside
     (told_along _ _ c.in_err-variables.field-0.0
-    (ap (λ xs. in_order with_variables declarations.variables variables s (map tree.variables_view xs) ∪ standing_twice s.variables (variable_names (map tree.variables_view xs)))
+    (ap (λ xs. in_order with_variables declarations.variables variables s (map tree.variables_view xs) ▸ standing_twice s.variables (variable_names (map tree.variables_view xs)))
     c.deref.ensures.value) c.in_err-variables.ensures.told) in
     first_of (search rules, grind (arith, common_steps))
 

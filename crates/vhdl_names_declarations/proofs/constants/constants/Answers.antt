@@ -1,4 +1,4 @@
-use Rattle.std.proofs.Common.{rules, arith, ◌≡◌, ◌≢◌, ◌+◌, ◌<◌, ◌≤◌, List, [], ◌∷◌, ◌++◌, length, map, Option, Some, None, ap, ◌∙◌, sym, subst}
+use Rattle.std.proofs.Common.{rules, arith, ◌≡◌, ◌≢◌, length, map, Some, None, ap, ◌∙◌, sym, subst}
 use Rattle.std.proofs.lemmas.Grind.{common_steps}
 use Rattle.std.proofs.lemmas.List.{length-map}
 use Rattle.vhdl_names_rules.specs.declared.fault.NameFault.TheVariants.{NoMemory}
@@ -16,11 +16,11 @@ use Rattle.vhdl_names_declarations.specs.Settled.{settled}
 use Rattle.vhdl_names_declarations.proofs.Classes.{constants_is, constant_number, number_below}
 use Rattle.vhdl_names_declarations.proofs.Turns.{refused, unknown, known, settled_region, grows_by, first_below, more_is}
 use Rattle.vhdl_names_declarations.proofs.constants.constants.Goals as goal
-use Rattle.vhdl_names_problems.specs.Broken.{Tells, ◌∪◌}
+use Rattle.vhdl_names_problems.specs.Broken.{Tells}
 use Rattle.vhdl_names_problems.specs.Declarations as broken
 use Rattle.vhdl_names_problems.proofs.Telling.{told_left, told_right}
-use Rattle.vhdl_names_declarations.specs.Standing.{standing_twice, constants_broken}
-use Rattle.vhdl_names_declarations.proofs.Breaking.{twice_told}
+use Rattle.vhdl_names_problems.specs.Declarations.{standing_twice}
+use Rattle.vhdl_names_declarations.proofs.Breaking.{standing_once}
 use Rattle.vhdl_names_declarations.proofs.Regions.{names-all}
 
 pub returns-in_err-hide-clause-given : goal.returns-in_err-hide-clause-given
@@ -81,11 +81,9 @@ pub returns-in_err-hide-clause-told : goal.returns-in_err-hide-clause-told
 returns-in_err-hide-clause-told c =
     let s = sight_view c.args.sight.now in
     let g = tree.constants_view c.args.declaration.now in
-    let ns = names_of g.names in
-    let f : Tells (broken.constants (sight_view c.args.sight.now) (tree.constants_view c.args.declaration.now) ∪ standing_twice (sight_view c.args.sight.now).region (names_of (tree.constants_view c.args.declaration.now).names)) c.in_err-hide.field-0.0 =
-    told_right (broken.constants s g) (standing_twice s.region ns) c.in_err-hide.field-0.0
-    (twice_told s.region (all_declared visibility.unfinished ns) ns c.in_err-hide.field-0.0
-    (λ n. ap (λ l. more s.region (all_declared visibility.unfinished (names_of (map ident_view l)))) (sym c.deref.ensures.value) ∙ c.in_err-hide.ensures.given n) (names-all visibility.unfinished ns) c.in_err-hide.ensures.told) in
+    let f : Tells (broken.constants (sight_view c.args.sight.now) (tree.constants_view c.args.declaration.now)) c.in_err-hide.field-0.0 =
+    told_left (standing_twice s.region g.names) (broken.typed_constants (within s g.names) g) c.in_err-hide.field-0.0
+    (subst (λ l. Tells (standing_twice s.region (map ident_view l)) c.in_err-hide.field-0.0) c.deref.ensures.value c.in_err-hide.ensures.told) in
     first_of (search rules, grind (arith, common_steps))
 
 pub returns-in_err-typed-clause-told : goal.returns-in_err-typed-clause-told
@@ -94,7 +92,7 @@ returns-in_err-typed-clause-told c =
     let g = tree.constants_view c.args.declaration.now in
     let hid : more (sight_view c.args.sight.now).region (all_declared visibility.unfinished (names_of (tree.constants_view c.args.declaration.now).names)) ≡ Some (region_view c.hide.new.region) =
     ap (λ l. more (sight_view c.args.sight.now).region (all_declared visibility.unfinished (names_of (map ident_view l)))) (sym c.deref.ensures.value) ∙ c.in_ok-hide.ensures.given in
-    let f : Tells (broken.constants (sight_view c.args.sight.now) (tree.constants_view c.args.declaration.now) ∪ standing_twice (sight_view c.args.sight.now).region (names_of (tree.constants_view c.args.declaration.now).names)) c.in_err-typed.field-0.0 =
-    told_left (broken.constants s g) (standing_twice s.region (names_of g.names)) c.in_err-typed.field-0.0
-    (subst (λ r. Tells (constants_broken (record s { region = r }) g) c.in_err-typed.field-0.0) (more_is s.region (all_declared visibility.unfinished (names_of g.names)) (region_view c.hide.new.region) hid) c.in_err-typed.ensures.told) in
+    let once = standing_once s.region (all_declared visibility.unfinished (names_of g.names)) g.names (names-all visibility.unfinished (names_of g.names)) (region_view c.hide.new.region) hid in
+    let f : Tells (broken.constants (sight_view c.args.sight.now) (tree.constants_view c.args.declaration.now)) c.in_err-typed.field-0.0 =
+    told_right (standing_twice s.region g.names) (broken.typed_constants (within s g.names) g) c.in_err-typed.field-0.0 once (subst (λ r. Tells (broken.typed_constants (record s { region = r }) g) c.in_err-typed.field-0.0) (more_is s.region (all_declared visibility.unfinished (names_of g.names)) (region_view c.hide.new.region) hid) c.in_err-typed.ensures.told) in
     first_of (search rules, grind (arith, common_steps))

@@ -1,14 +1,14 @@
-use Rattle.std.proofs.Common.{rules, arith, ◌≡◌, Some, sym, subst, ◌∙◌}
+use Rattle.std.proofs.Common.{rules, arith, sym, subst, ◌∙◌}
 use Rattle.std.proofs.lemmas.Grind.{common_steps}
 use Rattle.vhdl_tree.specs.View as tree
 use Rattle.vhdl_names_rules.specs.Visibility.{Meaning, meaning}
 use Rattle.vhdl_names_rules.specs.Subtypes.{as_integer_type}
 use Rattle.vhdl_names_types.specs.Views.{sight_view, meaning_view}
-use Rattle.vhdl_names_problems.specs.Broken.{Tells, ◌∪◌, where_given}
+use Rattle.vhdl_names_problems.specs.Broken.{Tells, where_given}
 use Rattle.vhdl_names_problems.specs.Declarations as broken
 use Rattle.vhdl_names_problems.specs.Expressions as expressions_broken
 use Rattle.vhdl_names_problems.proofs.Telling.{told_left, told_right, told_given, told_on}
-use Rattle.vhdl_names_declarations.specs.Standing.{constants_broken}
+use Rattle.vhdl_names_problems.proofs.kept.Expressions.{meaning_kept}
 use Rattle.vhdl_names_declarations.proofs.constants.typed_constant.Goals as goal
 
 pub returns-in_err-mark-clause-told : goal.returns-in_err-mark-clause-told
@@ -16,8 +16,8 @@ returns-in_err-mark-clause-told c =
     let s = sight_view c.args.sight.now in
     let d = tree.constants_view c.args.declaration.now in
     let by = λ (m : Meaning). broken.constants_by s d (as_integer_type m) in
-    let f : Tells (constants_broken (sight_view c.args.sight.now) (tree.constants_view c.args.declaration.now)) c.in_err-mark.field-0.0 =
-    told_left (expressions_broken.meaning s d.subtype.mark.text) (where_given (meaning s d.subtype.mark.text) by) c.in_err-mark.field-0.0 c.in_err-mark.ensures.told in
+    let f : Tells (broken.typed_constants (sight_view c.args.sight.now) (tree.constants_view c.args.declaration.now)) c.in_err-mark.field-0.0 =
+    told_left (expressions_broken.meaning s d.subtype.mark) (where_given (meaning s d.subtype.mark.text) by) c.in_err-mark.field-0.0 c.in_err-mark.ensures.told in
     first_of (search rules, grind (arith, common_steps))
 
 pub returns-in-Some-clause-told : goal.returns-in-Some-clause-told
@@ -26,8 +26,8 @@ returns-in-Some-clause-told c =
     let d = tree.constants_view c.args.declaration.now in
     let n = d.subtype.mark.text in
     let by = λ (m : Meaning). broken.constants_by s d (as_integer_type m) in
-    told_on (broken.integer_constants s d) (constants_broken s d) c.integer.result
-    (λ f h. told_right (expressions_broken.meaning s n) (where_given (meaning s n) by) f
+    told_on (broken.integer_constants s d) (broken.typed_constants s d) c.integer.result
+    (λ f h. told_right (expressions_broken.meaning s d.subtype.mark) (where_given (meaning s n) by) f (meaning_kept s d.subtype.mark (meaning_view c.in_ok-mark.mark.now) c.in_ok-mark.ensures.meant)
     (told_given by (meaning s n) (meaning_view c.in_ok-mark.mark.now) f c.in_ok-mark.ensures.meant
     (subst (λ o. Tells (broken.constants_by s d o) f) (sym c.in-Some.is ∙ c.as_integer_type.ensures) h))) c.integer.ensures.told
 
@@ -37,7 +37,7 @@ returns-in-None-clause-told c =
     let d = tree.constants_view c.args.declaration.now in
     let n = d.subtype.mark.text in
     let by = λ (m : Meaning). broken.constants_by s d (as_integer_type m) in
-    told_on (broken.other_constants s d) (constants_broken s d) c.other.result
-    (λ f h. told_right (expressions_broken.meaning s n) (where_given (meaning s n) by) f
+    told_on (broken.other_constants s d) (broken.typed_constants s d) c.other.result
+    (λ f h. told_right (expressions_broken.meaning s d.subtype.mark) (where_given (meaning s n) by) f (meaning_kept s d.subtype.mark (meaning_view c.in_ok-mark.mark.now) c.in_ok-mark.ensures.meant)
     (told_given by (meaning s n) (meaning_view c.in_ok-mark.mark.now) f c.in_ok-mark.ensures.meant
     (subst (λ o. Tells (broken.constants_by s d o) f) (sym c.in-None.is ∙ c.as_integer_type.ensures) h))) c.other.ensures.told

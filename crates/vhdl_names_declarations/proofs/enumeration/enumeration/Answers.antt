@@ -1,24 +1,22 @@
-use Rattle.std.proofs.Common.{rules, arith, ◌≡◌, ◌≢◌, ◌+◌, ◌<◌, ◌≤◌, List, [], ◌∷◌, length, map, Some, None, refl, ap, ◌∙◌, sym, subst}
+use Rattle.std.proofs.Common.{rules, arith, ◌≡◌, ◌≢◌, ◌≤◌, [], ◌∷◌, length, map, None, refl, ap, ◌∙◌, sym, subst}
 use Rattle.std.proofs.lemmas.Grind.{common_steps}
 use Rattle.std.proofs.lemmas.List.{length-map}
-use Rattle.vhdl_names_rules.specs.declared.fault.NameFault.TheVariants.{At, NoMemory}
-use Rattle.vhdl_names_rules.specs.declared.fault.NameProblem.TheVariants.{LeftOut}
+use Rattle.vhdl_names_rules.specs.declared.fault.NameFault.TheVariants.{NoMemory}
+use Rattle.vhdl_names_rules.specs.Interfaces.{declared_names}
 use Rattle.vhdl_names_rules.specs.Rules.{◌>>=◌}
 use Rattle.vhdl_names_rules.specs.Declarations as d
 use Rattle.vhdl_names_rules.specs.Visibility as visibility
-use Rattle.vhdl_names_rules.specs.Visibility.{names_of, declare, Declared}
+use Rattle.vhdl_names_rules.specs.Visibility.{names_of, declare}
 use Rattle.vhdl_tree.specs.View.{ident_view, enumeration_view}
 use Rattle.vhdl_names_types.specs.Views.{region_view, sight_view}
 use Rattle.vhdl_names_declarations.specs.Entered.{more, entering}
-use Rattle.vhdl_names_declarations.proofs.Declaring.{too_many, too_many_told, enumeration_is, in_region}
+use Rattle.vhdl_names_declarations.proofs.Declaring.{too_many, too_many_told, few_enough, enumeration_is, in_region}
 use Rattle.vhdl_names_declarations.proofs.enumeration.enumeration.Goals as goal
-use Rattle.vhdl_names_problems.specs.Broken.{Tells, ◌∪◌}
+use Rattle.vhdl_names_problems.specs.Broken.{Tells}
 use Rattle.vhdl_names_problems.specs.Declarations as broken
-use Rattle.vhdl_names_problems.proofs.Telling.{told_left, told_right}
-use Rattle.vhdl_names_declarations.specs.Standing.{standing_twice, enumeration_names}
-use Rattle.vhdl_names_declarations.proofs.Breaking.{twice_told, twice_more, twice_entered}
-use Rattle.vhdl_names_declarations.proofs.Naming.{names-literals}
-use Rattle.vhdl_names_declarations.proofs.Turns.{more_is}
+use Rattle.vhdl_names_problems.specs.Declarations.{standing_twice}
+use Rattle.vhdl_names_problems.proofs.Telling.{told_same}
+use Rattle.vhdl_names_declarations.proofs.Breaking.{twice_more, standing_behind}
 
 pub returns-then-count-gt256-clause-given : goal.returns-then-count-gt256-clause-given
 returns-then-count-gt256-clause-given c = λ n.
@@ -67,33 +65,30 @@ returns-clause-given c =
 pub returns-then-count-gt256-clause-told : goal.returns-then-count-gt256-clause-told
 returns-then-count-gt256-clause-told c =
     let size = length-map c.args.declaration.now.literals.items ident_view in
-    let f = At LeftOut c.args.declaration.now.name.at in
-    subst (Tells (broken.enumeration (enumeration_view c.args.declaration.now) ∪ standing_twice (sight_view c.args.sight.now).region (enumeration_names (enumeration_view c.args.declaration.now)))) (sym c.at.ensures)
-    (told_left (broken.enumeration (enumeration_view c.args.declaration.now)) (standing_twice (sight_view c.args.sight.now).region (enumeration_names (enumeration_view c.args.declaration.now))) f (too_many_told (enumeration_view c.args.declaration.now) c.args.declaration.now.name.at (omega (arith, size))))
+    subst (Tells (broken.enumeration (sight_view c.args.sight.now) (enumeration_view c.args.declaration.now))) (sym c.at.ensures)
+    (too_many_told (sight_view c.args.sight.now) (enumeration_view c.args.declaration.now) (omega (arith, size)))
 
 pub returns-in_err-declare-clause-told : goal.returns-in_err-declare-clause-told
 returns-in_err-declare-clause-told c =
     let s = sight_view c.args.sight.now in
     let d' = enumeration_view c.args.declaration.now in
-    let first = declare d'.name.text (visibility.enumeration_type c.args.number c.len-count.result) in
-    let f : Tells (broken.enumeration (enumeration_view c.args.declaration.now) ∪ standing_twice (sight_view c.args.sight.now).region (enumeration_names (enumeration_view c.args.declaration.now))) c.in_err-declare.field-0.0 =
-    told_right (broken.enumeration d') (standing_twice s.region (enumeration_names d')) c.in_err-declare.field-0.0
-    (twice_more s.region (d'.name.text ∷ []) (names_of d'.literals) c.in_err-declare.field-0.0
-    (twice_told s.region (first ∷ []) (d'.name.text ∷ []) c.in_err-declare.field-0.0 c.in_err-declare.ensures.given refl c.in_err-declare.ensures.told)) in
+    let size = length-map c.args.declaration.now.literals.items ident_view in
+    let few : length (enumeration_view c.args.declaration.now).literals ≤ 256 = omega (arith, size) in
+    let f : Tells (broken.enumeration (sight_view c.args.sight.now) (enumeration_view c.args.declaration.now)) c.in_err-declare.field-0.0 =
+    told_same (standing_twice s.region (d'.name ∷ d'.literals)) (broken.enumeration s d') c.in_err-declare.field-0.0 (sym (few_enough s d' few))
+    (twice_more (declared_names s.region) (d'.name ∷ []) d'.literals c.in_err-declare.field-0.0 c.in_err-declare.ensures.told) in
     first_of (search rules, grind (arith, common_steps))
 
 pub returns-in_err-literals-clause-told : goal.returns-in_err-literals-clause-told
 returns-in_err-literals-clause-told c =
     let s = sight_view c.args.sight.now in
     let d' = enumeration_view c.args.declaration.now in
+    let size = length-map c.args.declaration.now.literals.items ident_view in
+    let few : length (enumeration_view c.args.declaration.now).literals ≤ 256 = omega (arith, size) in
     let r = region_view c.declare.new.region in
-    let e = c.args.number in
     let first = declare d'.name.text (visibility.enumeration_type c.args.number c.len-count.result) in
-    let ls = d.literals e (length c.deref.result.now) 0 (names_of (map ident_view c.deref.result.now)) in
-    let names = names-literals e (length c.deref.result.now) 0 (names_of (map ident_view c.deref.result.now)) ∙ ap (λ l. names_of (map ident_view l)) c.deref.ensures.value in
-    let f : Tells (broken.enumeration (enumeration_view c.args.declaration.now) ∪ standing_twice (sight_view c.args.sight.now).region (enumeration_names (enumeration_view c.args.declaration.now))) c.in_err-literals.field-0.0 =
-    told_right (broken.enumeration d') (standing_twice s.region (enumeration_names d')) c.in_err-literals.field-0.0
-    (twice_entered s.region (first ∷ []) (d'.name.text ∷ []) (names_of d'.literals) c.in_err-literals.field-0.0 refl
-    (subst (λ l. Tells (standing_twice l (names_of d'.literals)) c.in_err-literals.field-0.0) (more_is s.region (first ∷ []) r c.in_ok-declare.ensures.given)
-    (twice_told r ls (names_of d'.literals) c.in_err-literals.field-0.0 c.in_err-literals.ensures.given names c.in_err-literals.ensures.told))) in
+    let f : Tells (broken.enumeration (sight_view c.args.sight.now) (enumeration_view c.args.declaration.now)) c.in_err-literals.field-0.0 =
+    told_same (standing_twice r d'.literals) (broken.enumeration s d') c.in_err-literals.field-0.0
+    (sym (few_enough s d' few ∙ standing_behind s.region (first ∷ []) (d'.name ∷ []) refl r c.in_ok-declare.ensures.given d'.literals))
+    (subst (λ l. Tells (standing_twice r (map ident_view l)) c.in_err-literals.field-0.0) c.deref.ensures.value c.in_err-literals.ensures.told) in
     first_of (search rules, grind (arith, common_steps))

@@ -1,11 +1,9 @@
-use Rattle.std.proofs.Common.{rules, arith, ◌≡◌, ◌≢◌, ◌+◌, ◌<◌, ◌≤◌, List, [], ◌∷◌, ◌++◌, length, map, option_map, Option, Some, None, ap, ◌∙◌, sym}
+use Rattle.std.proofs.Common.{rules, arith, ◌≡◌, ◌≢◌, length, map, option_map, Option, Some, None, ap, ◌∙◌, sym, subst}
 use Rattle.std.proofs.lemmas.Grind.{common_steps}
 use Rattle.std.proofs.lemmas.List.{length-map}
-use Rattle.indexmap.specs.IndexMap.{index_map_len}
 use Rattle.vhdl_names_rules.specs.declared.operator.IntegerType.{IntegerType}
 use Rattle.vhdl_names_rules.specs.units.Expressions.{Static}
 use Rattle.vhdl_names_rules.specs.declared.fault.NameFault.TheVariants.{NoMemory}
-use Rattle.vhdl_names_rules.specs.Rules.{◌>>=◌}
 use Rattle.vhdl_names_rules.specs.Declarations as d
 use Rattle.vhdl_names_rules.specs.Declarations.{for_each}
 use Rattle.vhdl_names_rules.specs.views.Integers.{static_view}
@@ -18,11 +16,11 @@ use Rattle.vhdl_names_declarations.specs.Typed.{typed_generic}
 use Rattle.vhdl_names_declarations.proofs.Declaring.{generic_is, generics_of}
 use Rattle.vhdl_names_declarations.proofs.Turns.{refused, unknown, known, settled_region, grows_by, first_below}
 use Rattle.vhdl_names_declarations.proofs.generics.generic.Goals as goal
-use Rattle.vhdl_names_problems.specs.Broken.{Tells, ◌∪◌}
+use Rattle.vhdl_names_problems.specs.Broken.{Tells}
 use Rattle.vhdl_names_problems.specs.Declarations as broken
 use Rattle.vhdl_names_problems.proofs.Telling.{told_left, told_right}
-use Rattle.vhdl_names_declarations.specs.Standing.{standing_twice}
-use Rattle.vhdl_names_declarations.proofs.Breaking.{twice_told}
+use Rattle.vhdl_names_problems.specs.Declarations.{standing_twice}
+use Rattle.vhdl_names_declarations.proofs.Breaking.{standing_once}
 use Rattle.vhdl_names_declarations.proofs.Regions.{names-all}
 
 pub returns-in_err-hide-clause-given : goal.returns-in_err-hide-clause-given
@@ -72,17 +70,18 @@ pub returns-in_err-hide-clause-told : goal.returns-in_err-hide-clause-told
 returns-in_err-hide-clause-told c =
     let s = sight_view c.args.sight.now in
     let g = generic_view c.args.generic.now in
-    let ns = names_of g.names in
-    let f : Tells (broken.generic (sight_view c.args.sight.now) (generic_view c.args.generic.now) ∪ standing_twice (sight_view c.args.sight.now).region (names_of (generic_view c.args.generic.now).names)) c.in_err-hide.field-0.0 =
-    told_right (broken.generic s g) (standing_twice s.region ns) c.in_err-hide.field-0.0
-    (twice_told s.region (all_declared visibility.unfinished ns) ns c.in_err-hide.field-0.0
-    (λ n. ap (λ l. more s.region (all_declared visibility.unfinished (names_of (map ident_view l)))) (sym c.deref.ensures.value) ∙ c.in_err-hide.ensures.given n) (names-all visibility.unfinished ns) c.in_err-hide.ensures.told) in
+    let f : Tells (broken.generic (sight_view c.args.sight.now) (generic_view c.args.generic.now)) c.in_err-hide.field-0.0 =
+    told_left (standing_twice s.region g.names) (broken.typed_generic s g) c.in_err-hide.field-0.0
+    (subst (λ l. Tells (standing_twice s.region (map ident_view l)) c.in_err-hide.field-0.0) c.deref.ensures.value c.in_err-hide.ensures.told) in
     first_of (search rules, grind (arith, common_steps))
 
 pub returns-in_err-integer_type-clause-told : goal.returns-in_err-integer_type-clause-told
 returns-in_err-integer_type-clause-told c =
     let s = sight_view c.args.sight.now in
     let g = generic_view c.args.generic.now in
-    let f : Tells (broken.generic (sight_view c.args.sight.now) (generic_view c.args.generic.now) ∪ standing_twice (sight_view c.args.sight.now).region (names_of (generic_view c.args.generic.now).names)) c.in_err-integer_type.field-0.0 =
-    told_left (broken.generic s g) (standing_twice s.region (names_of g.names)) c.in_err-integer_type.field-0.0 c.in_err-integer_type.ensures.told in
+    let hid : more (sight_view c.args.sight.now).region (all_declared visibility.unfinished (names_of (generic_view c.args.generic.now).names)) ≡ Some (region_view c.hide.new.region) =
+    ap (λ l. more (sight_view c.args.sight.now).region (all_declared visibility.unfinished (names_of (map ident_view l)))) (sym c.deref.ensures.value) ∙ c.in_ok-hide.ensures.given in
+    let once = standing_once s.region (all_declared visibility.unfinished (names_of g.names)) g.names (names-all visibility.unfinished (names_of g.names)) (region_view c.hide.new.region) hid in
+    let f : Tells (broken.generic (sight_view c.args.sight.now) (generic_view c.args.generic.now)) c.in_err-integer_type.field-0.0 =
+    told_right (standing_twice s.region g.names) (broken.typed_generic s g) c.in_err-integer_type.field-0.0 once c.in_err-integer_type.ensures.told in
     first_of (search rules, grind (arith, common_steps))

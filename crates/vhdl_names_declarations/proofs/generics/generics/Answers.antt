@@ -1,19 +1,19 @@
-use Rattle.std.proofs.Common.{rules, arith, ◌≡◌, ◌≢◌, ◌+◌, ◌<◌, ◌≤◌, [], ◌++◌, map, flat_map, length, Some, None, refl, ap, sym, ◌∙◌}
+use Rattle.std.proofs.Common.{rules, arith, ◌≡◌, ◌≢◌, ◌<◌, map, flat_map, length, None, refl, ap, sym, ◌∙◌}
 use Rattle.std.proofs.lemmas.Grind.{common_steps}
 use Rattle.std.proofs.lemmas.List.{length-map}
 use Rattle.vhdl_names_rules.specs.declared.fault.NameFault.TheVariants.{NoMemory}
 use Rattle.vhdl_names_rules.specs.Declarations.{in_order, generic}
-use Rattle.vhdl_names_rules.specs.Visibility.{with_declared, names_of}
+use Rattle.vhdl_names_rules.specs.Visibility.{with_declared}
 use Rattle.vhdl_tree.specs.View.{generic_view}
 use Rattle.vhdl_names_types.specs.declared.sight.Sight.{Sight}
-use Rattle.vhdl_names_types.specs.Views.{sight_view, region_view, entry_view}
+use Rattle.vhdl_names_types.specs.Views.{sight_view, entry_view}
 use Rattle.vhdl_names_units.specs.views.Declarations.{generics_view, all_generics_view}
 use Rattle.vhdl_names_declarations.specs.Entered.{entering}
 use Rattle.vhdl_names_problems.specs.Broken.{Tells}
 use Rattle.vhdl_names_problems.specs.Declarations as broken
-use Rattle.vhdl_names_declarations.specs.Standing.{generics_broken}
+use Rattle.vhdl_names_problems.specs.Interfaces as interfaces_broken
 use Rattle.vhdl_names_declarations.proofs.Breaking.{told_at, told_behind}
-use Rattle.vhdl_names_declarations.proofs.Naming.{of_generic}
+use Rattle.vhdl_names_problems.proofs.kept.Declarations.{generic_kept}
 use Rattle.vhdl_names_declarations.proofs.Listed.{in_region, left, begins, fails, goes, ends, counts_before, place_within, all_more}
 use Rattle.vhdl_names_declarations.proofs.Regions.{names_apart}
 use Rattle.vhdl_names_declarations.proofs.generics.generics.Goals as goal
@@ -57,7 +57,7 @@ loop-one-preserved c =
       c.of-counts-in-loop-one.ensures,
       c.in_ok-next.ensures.kept ∙ ap (λ (s : Sight). record s { region = c.generic.new.sight.region }) c.loop-one.invariant.2,
       λ f h. c.loop-one.invariant.3 f
-          (told_behind in_region with_declared (λ s ds. refl) generic broken.generic (λ g. names_of g.names) of_generic generic_view (sight_view c.loop-one.sight) (sight_view c.generic.new.sight) c.args.all.now c.loop-one.one-index c.one-item.result (generics_view c.in_ok-next.next) f lt c.one-item.is c.in_ok-next.ensures.given h),
+          (told_behind in_region with_declared generic broken.generic generic_kept generic_view (sight_view c.loop-one.sight) (sight_view c.generic.new.sight) c.args.all.now c.loop-one.one-index c.one-item.result (generics_view c.in_ok-next.next) f lt c.one-item.is c.in_ok-next.ensures.given h),
     )
 
 pub returns-clause-kept : goal.returns-clause-kept
@@ -70,6 +70,6 @@ returns-clause-given c =
 pub returns-in_err-next-clause-told : goal.returns-in_err-next-clause-told
 returns-in_err-next-clause-told c =
     let lt : c.loop-one.one-index < length c.args.all.now = omega arith in
-    let f : Tells (generics_broken (sight_view c.args.sight.now) (map generic_view c.args.all.now)) c.in_err-next.field-0.0 =
-    c.loop-one.invariant.3 c.in_err-next.field-0.0 (told_at in_region with_declared (λ s ds. refl) generic broken.generic (λ g. names_of g.names) of_generic generic_view (sight_view c.loop-one.sight) c.args.all.now c.loop-one.one-index c.one-item.result c.in_err-next.field-0.0 lt c.one-item.is c.in_err-next.ensures.told) in
+    let f : Tells (interfaces_broken.generics (sight_view c.args.sight.now) (map generic_view c.args.all.now)) c.in_err-next.field-0.0 =
+    c.loop-one.invariant.3 c.in_err-next.field-0.0 (told_at in_region with_declared generic broken.generic generic_kept generic_view (sight_view c.loop-one.sight) c.args.all.now c.loop-one.one-index c.one-item.result c.in_err-next.field-0.0 lt c.one-item.is c.in_err-next.ensures.told) in
     first_of (search rules, grind (arith, common_steps))

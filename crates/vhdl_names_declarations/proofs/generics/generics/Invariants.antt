@@ -7,7 +7,7 @@ use Rattle.vhdl_names_units.specs.views.Declarations.{all_generics_view}
 use Rattle.vhdl_names_declarations.specs.Counts.{AreCounts}
 use Rattle.vhdl_names_rules.specs.declared.fault.NameFault.{NameFault}
 use Rattle.vhdl_names_problems.specs.Broken.{Tells}
-use Rattle.vhdl_names_declarations.specs.Standing.{generics_broken}
+use Rattle.vhdl_names_problems.specs.Interfaces as interfaces_broken
 use Rattle.vhdl_names_declarations.specs.Entered.{entering}
 use Rattle.vhdl_names_declarations.proofs.Listed.{left}
 use Rattle.vhdl_names_declarations.proofs.generics.generics.Given as goal
@@ -18,4 +18,4 @@ invariant-loop-one l =
     (entering (in_order with_declared generic) (sight_view l.initial.sight) (map generic_view l.all) ≡ left generic generic_view (sight_view l.sight) (all_generics_view l.done) l.all l.one-index)
     × AreCounts l.counts (region_view l.sight.region)
     × (l.sight ≡ record l.initial.sight { region = l.sight.region })
-    × ((f : NameFault) → Tells (generics_broken (sight_view l.sight) (map generic_view (drop l.one-index l.all))) f → Tells (generics_broken (sight_view l.initial.sight) (map generic_view l.all)) f)
+    × ((f : NameFault) → Tells (interfaces_broken.generics (sight_view l.sight) (map generic_view (drop l.one-index l.all))) f → Tells (interfaces_broken.generics (sight_view l.initial.sight) (map generic_view l.all)) f)

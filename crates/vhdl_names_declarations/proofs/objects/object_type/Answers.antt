@@ -1,9 +1,10 @@
-use Rattle.std.proofs.Common.{rules, arith, ◌≡◌, Some, ap, ◌∙◌}
+use Rattle.std.proofs.Common.{rules, arith}
 use Rattle.std.proofs.lemmas.Grind.{common_steps}
-use Rattle.vhdl_names_problems.specs.Broken.{Tells, ◌∪◌, where_given, of_any}
+use Rattle.vhdl_names_problems.specs.Broken.{Tells, where_given, of_any}
 use Rattle.vhdl_names_problems.specs.Declarations as broken
 use Rattle.vhdl_names_problems.specs.Subtypes as subtypes_broken
 use Rattle.vhdl_names_problems.proofs.Telling.{told_left, told_right, told_given}
+use Rattle.vhdl_names_problems.proofs.kept.Values.{subtype_kept}
 use Rattle.vhdl_names_rules.specs.Subtypes.{Subtype, subtype}
 use Rattle.vhdl_tree.specs.View as tree
 use Rattle.vhdl_names_types.specs.Views.{sight_view}
@@ -31,5 +32,5 @@ returns-in_err-default-clause-told c =
     let by = λ (x : Subtype). of_any (subtypes_broken.fixed_value s x.type) v in
     let last = where_given (subtype s i) by in
     let f : Tells (broken.object (sight_view c.args.sight.now) (tree.subtype_view c.args.indication.now) (tree.option_value_view c.args.value.now)) c.in_err-default.field-0.0 =
-    told_right first last c.in_err-default.field-0.0 (told_given by (subtype s i) (subtype_view c.in_ok-subtype.subtype) c.in_err-default.field-0.0 c.in_ok-subtype.ensures.given c.in_err-default.ensures.told) in
+    told_right first last c.in_err-default.field-0.0 (subtype_kept s i (subtype_view c.in_ok-subtype.subtype) c.in_ok-subtype.ensures.given) (told_given by (subtype s i) (subtype_view c.in_ok-subtype.subtype) c.in_err-default.field-0.0 c.in_ok-subtype.ensures.given c.in_err-default.ensures.told) in
     first_of (search rules, grind (arith, common_steps))

@@ -1,18 +1,17 @@
-use Rattle.std.proofs.Common.{rules, arith, ◌≡◌, ◌≢◌, ◌+◌, ◌<◌, ◌≤◌, [], ◌++◌, map, flat_map, length, Some, None, refl, ap, sym, ◌∙◌}
+use Rattle.std.proofs.Common.{rules, arith, ◌≡◌, ◌≢◌, ◌<◌, map, flat_map, length, None, ap, sym, ◌∙◌}
 use Rattle.std.proofs.lemmas.Grind.{common_steps}
 use Rattle.std.proofs.lemmas.List.{length-map}
 use Rattle.vhdl_names_rules.specs.declared.fault.NameFault.TheVariants.{NoMemory}
 use Rattle.vhdl_names_rules.specs.Declarations.{in_order, variables}
-use Rattle.vhdl_names_rules.specs.Visibility.{with_variables, names_of}
+use Rattle.vhdl_names_rules.specs.Visibility.{with_variables}
 use Rattle.vhdl_tree.specs.View.{variables_view}
-use Rattle.vhdl_names_types.specs.Views.{sight_view, region_view, entry_view}
+use Rattle.vhdl_names_types.specs.Views.{sight_view, entry_view}
 use Rattle.vhdl_names_units.specs.views.Declarations.{object_view, objects_view}
 use Rattle.vhdl_names_declarations.specs.Entered.{entering_variables}
 use Rattle.vhdl_names_problems.specs.Broken.{Tells}
 use Rattle.vhdl_names_problems.specs.Declarations as broken
-use Rattle.vhdl_names_declarations.specs.Standing.{variables_broken}
 use Rattle.vhdl_names_declarations.proofs.Breaking.{told_at, told_behind}
-use Rattle.vhdl_names_declarations.proofs.Naming.{of_variables}
+use Rattle.vhdl_names_problems.proofs.kept.Declarations.{variables_kept}
 use Rattle.vhdl_names_declarations.proofs.Listed.{of_process, left_variables, begins_variables, fails_variables, goes_variables, ends_variables, counts_before_variables, place_within_variables, all_more}
 use Rattle.vhdl_names_declarations.proofs.Regions.{names_apart}
 use Rattle.vhdl_names_declarations.proofs.objects.variables.Goals as goal
@@ -54,7 +53,7 @@ loop-one-preserved c =
           (ap (flat_map object_view) c.in_ok-push.ensures.items ∙ all_more object_view c.loop-one.done.items c.in_ok-next.next),
       c.of-counts-in-loop-one.ensures,
       λ f h. c.loop-one.invariant.2 f
-          (told_behind of_process with_variables (λ s ds. refl) variables broken.variables (λ g. names_of g.names) of_variables variables_view (sight_view c.loop-one.sight) (sight_view c.variables_of_one.new.sight) c.args.all.now c.loop-one.one-index c.one-item.result (object_view c.in_ok-next.next) f lt c.one-item.is c.in_ok-next.ensures.given h),
+          (told_behind of_process with_variables variables broken.variables variables_kept variables_view (sight_view c.loop-one.sight) (sight_view c.variables_of_one.new.sight) c.args.all.now c.loop-one.one-index c.one-item.result (object_view c.in_ok-next.next) f lt c.one-item.is c.in_ok-next.ensures.given h),
     )
 
 pub returns-clause-given : goal.returns-clause-given
@@ -64,6 +63,6 @@ returns-clause-given c =
 pub returns-in_err-next-clause-told : goal.returns-in_err-next-clause-told
 returns-in_err-next-clause-told c =
     let lt : c.loop-one.one-index < length c.args.all.now = omega arith in
-    let f : Tells (variables_broken (sight_view c.args.sight.now) (map variables_view c.args.all.now)) c.in_err-next.field-0.0 =
-    c.loop-one.invariant.2 c.in_err-next.field-0.0 (told_at of_process with_variables (λ s ds. refl) variables broken.variables (λ g. names_of g.names) of_variables variables_view (sight_view c.loop-one.sight) c.args.all.now c.loop-one.one-index c.one-item.result c.in_err-next.field-0.0 lt c.one-item.is c.in_err-next.ensures.told) in
+    let f : Tells (broken.in_order with_variables variables broken.variables (sight_view c.args.sight.now) (map variables_view c.args.all.now)) c.in_err-next.field-0.0 =
+    c.loop-one.invariant.2 c.in_err-next.field-0.0 (told_at of_process with_variables variables broken.variables variables_kept variables_view (sight_view c.loop-one.sight) c.args.all.now c.loop-one.one-index c.one-item.result c.in_err-next.field-0.0 lt c.one-item.is c.in_err-next.ensures.told) in
     first_of (search rules, grind (arith, common_steps))

@@ -7,7 +7,7 @@ use Rattle.vhdl_names_units.specs.views.Declarations.{objects_view}
 use Rattle.vhdl_names_declarations.specs.Counts.{AreCounts}
 use Rattle.vhdl_names_rules.specs.declared.fault.NameFault.{NameFault}
 use Rattle.vhdl_names_problems.specs.Broken.{Tells}
-use Rattle.vhdl_names_declarations.specs.Standing.{variables_broken}
+use Rattle.vhdl_names_problems.specs.Declarations as broken
 use Rattle.vhdl_names_declarations.specs.Entered.{entering_variables}
 use Rattle.vhdl_names_declarations.proofs.Listed.{left_variables}
 use Rattle.vhdl_names_declarations.proofs.objects.variables.Given as goal
@@ -17,4 +17,4 @@ abbrev pub invariant-loop-one : goal.invariant-loop-one
 invariant-loop-one l =
     (entering_variables (in_order with_variables variables) (sight_view l.initial.sight) (map variables_view l.all) ≡ left_variables variables variables_view (sight_view l.sight) (objects_view l.done) l.all l.one-index)
     × AreCounts l.counts (region_view l.sight.variables)
-    × ((f : NameFault) → Tells (variables_broken (sight_view l.sight) (map variables_view (drop l.one-index l.all))) f → Tells (variables_broken (sight_view l.initial.sight) (map variables_view l.all)) f)
+    × ((f : NameFault) → Tells (broken.in_order with_variables variables broken.variables (sight_view l.sight) (map variables_view (drop l.one-index l.all))) f → Tells (broken.in_order with_variables variables broken.variables (sight_view l.initial.sight) (map variables_view l.all)) f)

@@ -1,8 +1,7 @@
-use Rattle.std.proofs.Common.{rules, arith, ◌≡◌, ◌≢◌, ◌+◌, ◌<◌, ◌≤◌, List, [], ◌∷◌, ◌++◌, length, map, option_map, Option, Some, None, ap, ◌∙◌, sym, subst}
+use Rattle.std.proofs.Common.{rules, arith, ◌≡◌, ◌≢◌, length, map, option_map, Option, Some, None, ap, ◌∙◌, sym, subst}
 use Rattle.std.proofs.lemmas.Grind.{common_steps}
 use Rattle.std.proofs.lemmas.List.{length-map}
 use Rattle.vhdl_names_rules.specs.declared.fault.NameFault.TheVariants.{NoMemory}
-use Rattle.vhdl_names_rules.specs.units.Units as u
 use Rattle.vhdl_names_rules.specs.units.Units.{Fixed}
 use Rattle.vhdl_names_rules.specs.Subtypes.{Subtype, object}
 use Rattle.vhdl_names_rules.specs.Declarations as d
@@ -13,16 +12,16 @@ use Rattle.vhdl_tree.specs.View as tree
 use Rattle.vhdl_tree.specs.View.{ident_view}
 use Rattle.vhdl_names_types.specs.Views.{region_view, sight_view, entry_view}
 use Rattle.vhdl_names_units.specs.views.Answers.{subtype_view, fixed_view}
-use Rattle.vhdl_names_declarations.specs.Entered.{more, entering, entering_variables}
-use Rattle.vhdl_names_declarations.specs.Typed.{typed_object, typed_port}
-use Rattle.vhdl_names_declarations.proofs.Classes.{variables_is, variable_class, variables_of, map-map}
-use Rattle.vhdl_names_declarations.proofs.Turns.{refused, unknown, known, settled_region, grows_by, first_below, more_is}
+use Rattle.vhdl_names_declarations.specs.Entered.{more, entering_variables}
+use Rattle.vhdl_names_declarations.specs.Typed.{typed_object}
+use Rattle.vhdl_names_declarations.proofs.Classes.{variables_is, variable_class, variables_of}
+use Rattle.vhdl_names_declarations.proofs.Turns.{refused, unknown, known, settled_region, more_is}
 use Rattle.vhdl_names_declarations.proofs.objects.variables_of_one.Goals as goal
-use Rattle.vhdl_names_problems.specs.Broken.{Tells, ◌∪◌}
+use Rattle.vhdl_names_problems.specs.Broken.{Tells}
 use Rattle.vhdl_names_problems.specs.Declarations as broken
 use Rattle.vhdl_names_problems.proofs.Telling.{told_left, told_right}
-use Rattle.vhdl_names_declarations.specs.Standing.{standing_twice}
-use Rattle.vhdl_names_declarations.proofs.Breaking.{twice_told}
+use Rattle.vhdl_names_problems.specs.Declarations.{standing_twice}
+use Rattle.vhdl_names_declarations.proofs.Breaking.{standing_once}
 use Rattle.vhdl_names_declarations.proofs.Regions.{names-all}
 
 pub returns-in_err-hide-clause-given : goal.returns-in_err-hide-clause-given
@@ -66,11 +65,9 @@ pub returns-in_err-hide-clause-told : goal.returns-in_err-hide-clause-told
 returns-in_err-hide-clause-told c =
     let s = sight_view c.args.sight.now in
     let g = tree.variables_view c.args.declaration.now in
-    let ns = names_of g.names in
-    let f : Tells (broken.variables (sight_view c.args.sight.now) (tree.variables_view c.args.declaration.now) ∪ standing_twice (sight_view c.args.sight.now).variables (names_of (tree.variables_view c.args.declaration.now).names)) c.in_err-hide.field-0.0 =
-    told_right (broken.variables s g) (standing_twice s.variables ns) c.in_err-hide.field-0.0
-    (twice_told s.variables (all_declared visibility.unfinished ns) ns c.in_err-hide.field-0.0
-    (λ n. ap (λ l. more s.variables (all_declared visibility.unfinished (names_of (map ident_view l)))) (sym c.deref.ensures.value) ∙ c.in_err-hide.ensures.given n) (names-all visibility.unfinished ns) c.in_err-hide.ensures.told) in
+    let f : Tells (broken.variables (sight_view c.args.sight.now) (tree.variables_view c.args.declaration.now)) c.in_err-hide.field-0.0 =
+    told_left (standing_twice s.variables g.names) (broken.object (within_variables s g.names) g.subtype g.default) c.in_err-hide.field-0.0
+    (subst (λ l. Tells (standing_twice s.variables (map ident_view l)) c.in_err-hide.field-0.0) c.deref.ensures.value c.in_err-hide.ensures.told) in
     first_of (search rules, grind (arith, common_steps))
 
 pub returns-in_err-subtype-clause-told : goal.returns-in_err-subtype-clause-told
@@ -79,7 +76,7 @@ returns-in_err-subtype-clause-told c =
     let g = tree.variables_view c.args.declaration.now in
     let hid : more (sight_view c.args.sight.now).variables (all_declared visibility.unfinished (names_of (tree.variables_view c.args.declaration.now).names)) ≡ Some (region_view c.hide.new.region) =
     ap (λ l. more (sight_view c.args.sight.now).variables (all_declared visibility.unfinished (names_of (map ident_view l)))) (sym c.deref.ensures.value) ∙ c.in_ok-hide.ensures.given in
-    let f : Tells (broken.variables (sight_view c.args.sight.now) (tree.variables_view c.args.declaration.now) ∪ standing_twice (sight_view c.args.sight.now).variables (names_of (tree.variables_view c.args.declaration.now).names)) c.in_err-subtype.field-0.0 =
-    told_left (broken.variables s g) (standing_twice s.variables (names_of g.names)) c.in_err-subtype.field-0.0
-    (subst (λ r. Tells (broken.object (record s { variables = r }) g.subtype g.default) c.in_err-subtype.field-0.0) (more_is s.variables (all_declared visibility.unfinished (names_of g.names)) (region_view c.hide.new.region) hid) c.in_err-subtype.ensures.told) in
+    let once = standing_once s.variables (all_declared visibility.unfinished (names_of g.names)) g.names (names-all visibility.unfinished (names_of g.names)) (region_view c.hide.new.region) hid in
+    let f : Tells (broken.variables (sight_view c.args.sight.now) (tree.variables_view c.args.declaration.now)) c.in_err-subtype.field-0.0 =
+    told_right (standing_twice s.variables g.names) (broken.object (within_variables s g.names) g.subtype g.default) c.in_err-subtype.field-0.0 once (subst (λ r. Tells (broken.object (record s { variables = r }) g.subtype g.default) c.in_err-subtype.field-0.0) (more_is s.variables (all_declared visibility.unfinished (names_of g.names)) (region_view c.hide.new.region) hid) c.in_err-subtype.ensures.told) in
     first_of (search rules, grind (arith, common_steps))

@@ -1,14 +1,18 @@
-use Rattle.std.proofs.Common.{rules, arith, ◌≡◌, ◌≢◌, ◌+◌, ◌<◌, length, get_or, drop, map, [], ◌∷◌, Some, None, ap, sym, ◌∙◌}
+use Rattle.std.proofs.Common.{rules, arith, ◌≡◌, ◌≢◌, ◌+◌, ◌<◌, length, get_or, drop, map, [], ◌∷◌, None, ap, sym, ◌∙◌}
 use Rattle.std.proofs.lemmas.Grind.{common_steps}
 use Rattle.vhdl_names_rules.specs.declared.fault.NameFault.TheVariants.{NoMemory}
 use Rattle.vhdl_names_rules.specs.Rules.{◌>>=◌}
 use Rattle.vhdl_names_rules.specs.Visibility.{declare}
-use Rattle.vhdl_names_types.specs.Views.{region_view, meaning_view}
-use Rattle.vhdl_names_declarations.specs.Entered.{more}
+use Rattle.vhdl_names_types.specs.Views.{region_view}
+use Rattle.vhdl_names_declarations.specs.Entered.{ident, more}
 use Rattle.vhdl_names_rules.specs.declared.operator.IntegerType.TheVariants.{Integer}
 use Rattle.vhdl_names_declarations.specs.declared.packages.Builtin.TheVariants.{Integers}
 use Rattle.vhdl_names_declarations.specs.declared.packages.Row.{Row}
 use Rattle.vhdl_names_declarations.specs.Rows.{row_view}
+use Rattle.vhdl_names_rules.specs.declared.fault.NameProblem.TheVariants.{Twice}
+use Rattle.vhdl_names_rules.specs.Interfaces.{declared_names}
+use Rattle.vhdl_names_problems.specs.Broken.{Tells, refused}
+use Rattle.vhdl_names_declarations.proofs.Breaking.{twice_alone}
 use Rattle.vhdl_names_declarations.proofs.Regions.{next_of, none_left}
 use Rattle.vhdl_names_declarations.proofs.packages.add_rows.Goals as goal
 
@@ -30,3 +34,11 @@ returns-in_err-declare_name-clause-given c =
 pub returns-clause-given : goal.returns-clause-given
 returns-clause-given c =
     c.loop-row.invariant ∙ none_left row_view c.loop-row.region.entries c.args.rows.now c.loop-row.row-index (omega arith) c.len-apart-2.ensures.unique
+
+pub returns-in_err-declare_name-clause-told : goal.returns-in_err-declare_name-clause-told
+unfolding no_row
+returns-in_err-declare_name-clause-told c =
+    let name = (get_or c.args.rows.now c.loop-row.row-index no_row).name.now in
+    let f : Tells (refused Twice 0) c.in_err-declare_name.field-0.0 =
+    twice_alone (declared_names (region_view c.loop-row.region)) (ident 0 name) c.in_err-declare_name.field-0.0 c.in_err-declare_name.ensures.told in
+    first_of (search rules, grind (arith, common_steps))

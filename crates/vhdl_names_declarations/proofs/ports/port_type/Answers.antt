@@ -1,11 +1,11 @@
-use Rattle.std.proofs.Common.{rules, arith, ◌≡◌, Some, ap, ◌∙◌}
+use Rattle.std.proofs.Common.{rules, arith}
 use Rattle.std.proofs.lemmas.Grind.{common_steps}
-use Rattle.vhdl_names_problems.specs.Broken.{Tells, ◌∪◌, where_given, of_any}
+use Rattle.vhdl_names_problems.specs.Broken.{Tells, ◌▸◌, where_given, of_any}
 use Rattle.vhdl_names_problems.specs.Declarations as broken
 use Rattle.vhdl_names_problems.specs.Subtypes as subtypes_broken
-use Rattle.vhdl_names_problems.proofs.Telling.{told_left, told_right, told_given, told_lacking}
+use Rattle.vhdl_names_problems.proofs.Telling.{told_left, told_right, told_given, told_lacking, lacking_kept}
+use Rattle.vhdl_names_problems.proofs.kept.Values.{subtype_kept}
 use Rattle.vhdl_names_rules.specs.declared.fault.NameProblem.TheVariants.{LeftOut}
-use Rattle.std.specs.Prelude.{◌∷◌, []}
 use Rattle.vhdl_names_rules.specs.Declarations.{as_kind}
 use Rattle.vhdl_names_rules.specs.Subtypes.{Subtype, subtype}
 use Rattle.vhdl_tree.specs.View as tree
@@ -18,9 +18,9 @@ returns-in_err-subtype-clause-told c =
     let s = sight_view c.args.sight.now in
     let p = tree.port_view c.args.port.now in
     let first = subtypes_broken.subtype s p.subtype in
-    let by = λ (x : Subtype). broken.nine_valued x ∪ of_any (subtypes_broken.fixed_value s x.type) p.default in
+    let by = λ (x : Subtype). broken.nine_valued p.subtype.mark x ▸ of_any (subtypes_broken.fixed_value s x.type) p.default in
     let last = where_given (subtype s p.subtype) by in
-    let f : Tells (broken.port (sight_view c.args.sight.now) (tree.port_view c.args.port.now)) c.in_err-subtype.field-0.0 =
+    let f : Tells (broken.typed_port (sight_view c.args.sight.now) (tree.port_view c.args.port.now)) c.in_err-subtype.field-0.0 =
     told_left first last c.in_err-subtype.field-0.0 c.in_err-subtype.ensures.told in
     first_of (search rules, grind (arith, common_steps))
 
@@ -29,12 +29,12 @@ returns-in_err-kind-clause-told c =
     let s = sight_view c.args.sight.now in
     let p = tree.port_view c.args.port.now in
     let first = subtypes_broken.subtype s p.subtype in
-    let by = λ (x : Subtype). broken.nine_valued x ∪ of_any (subtypes_broken.fixed_value s x.type) p.default in
+    let by = λ (x : Subtype). broken.nine_valued p.subtype.mark x ▸ of_any (subtypes_broken.fixed_value s x.type) p.default in
     let last = where_given (subtype s p.subtype) by in
     let x = subtype_view c.in_ok-subtype.subtype in
     let default = of_any (subtypes_broken.fixed_value s x.type) p.default in
-    let f : Tells (broken.port (sight_view c.args.sight.now) (tree.port_view c.args.port.now)) c.in_err-kind.field-0.0 =
-    told_right first last c.in_err-kind.field-0.0 (told_given by (subtype s p.subtype) x c.in_err-kind.field-0.0 c.in_ok-subtype.ensures.given (told_left (broken.nine_valued x) default c.in_err-kind.field-0.0 (told_lacking (LeftOut ∷ []) (as_kind x.type) c.in_err-kind.field-0.0 c.in_err-kind.ensures.given c.in_err-kind.ensures.told))) in
+    let f : Tells (broken.typed_port (sight_view c.args.sight.now) (tree.port_view c.args.port.now)) c.in_err-kind.field-0.0 =
+    told_right first last c.in_err-kind.field-0.0 (subtype_kept s p.subtype (subtype_view c.in_ok-subtype.subtype) c.in_ok-subtype.ensures.given) (told_given by (subtype s p.subtype) x c.in_err-kind.field-0.0 c.in_ok-subtype.ensures.given (told_left (broken.nine_valued p.subtype.mark x) default c.in_err-kind.field-0.0 (told_lacking LeftOut p.subtype.mark.at (as_kind x.type) c.in_err-kind.field-0.0 c.in_err-kind.ensures.given c.in_err-kind.ensures.told))) in
     first_of (search rules, grind (arith, common_steps))
 
 pub returns-in_err-default-clause-told : goal.returns-in_err-default-clause-told
@@ -42,10 +42,10 @@ returns-in_err-default-clause-told c =
     let s = sight_view c.args.sight.now in
     let p = tree.port_view c.args.port.now in
     let first = subtypes_broken.subtype s p.subtype in
-    let by = λ (x : Subtype). broken.nine_valued x ∪ of_any (subtypes_broken.fixed_value s x.type) p.default in
+    let by = λ (x : Subtype). broken.nine_valued p.subtype.mark x ▸ of_any (subtypes_broken.fixed_value s x.type) p.default in
     let last = where_given (subtype s p.subtype) by in
     let x = subtype_view c.in_ok-subtype.subtype in
     let default = of_any (subtypes_broken.fixed_value s x.type) p.default in
-    let f : Tells (broken.port (sight_view c.args.sight.now) (tree.port_view c.args.port.now)) c.in_err-default.field-0.0 =
-    told_right first last c.in_err-default.field-0.0 (told_given by (subtype s p.subtype) x c.in_err-default.field-0.0 c.in_ok-subtype.ensures.given (told_right (broken.nine_valued x) default c.in_err-default.field-0.0 c.in_err-default.ensures.told)) in
+    let f : Tells (broken.typed_port (sight_view c.args.sight.now) (tree.port_view c.args.port.now)) c.in_err-default.field-0.0 =
+    told_right first last c.in_err-default.field-0.0 (subtype_kept s p.subtype (subtype_view c.in_ok-subtype.subtype) c.in_ok-subtype.ensures.given) (told_given by (subtype s p.subtype) x c.in_err-default.field-0.0 c.in_ok-subtype.ensures.given (told_right (broken.nine_valued p.subtype.mark x) default c.in_err-default.field-0.0 (lacking_kept LeftOut p.subtype.mark.at (as_kind x.type) c.in_ok-kind.kind c.in_ok-kind.ensures.given) c.in_err-default.ensures.told)) in
     first_of (search rules, grind (arith, common_steps))

@@ -1,9 +1,14 @@
-use Rattle.std.proofs.Common.{◌≡◌, ◌≢◌, true, false, None, Some, sym, ap, ◌∙◌}
+use Rattle.std.proofs.Common.{◌≡◌, false, [], ◌∷◌, None, sym, ap, subst, ◌∙◌}
 use Rattle.std.specs.Prelude.{bytes_eq, is_some}
 use Rattle.std.specs.Map.{lookup}
 use Rattle.indexmap.proofs.CallerLemmas.{insert_entry-new}
-use Rattle.vhdl_names_types.specs.Views.{meaning_view}
-use Rattle.vhdl_names_declarations.proofs.Regions.{absent, refused, grown}
+use Rattle.vhdl_names_types.specs.Views.{meaning_view, region_view}
+use Rattle.vhdl_names_rules.specs.Interfaces.{declared_names}
+use Rattle.vhdl_names_problems.specs.Broken.{Tells}
+use Rattle.vhdl_names_problems.specs.Declarations.{standing_twice}
+use Rattle.vhdl_names_declarations.specs.Entered.{ident}
+use Rattle.vhdl_names_declarations.proofs.Breaking.{twice_here}
+use Rattle.vhdl_names_declarations.proofs.Regions.{absent, refused, grown, among_keys}
 use Rattle.vhdl_names_declarations.proofs.region.declare_name.Goals as goal
 
 pub returns-then-contains_key-clause-given : goal.returns-then-contains_key-clause-given
@@ -18,3 +23,10 @@ returns-clause-given c =
     let gone : lookup (λ m. bytes_eq c.in_ok-key.key.items m.items) es ≡ None = ap (λ x. lookup (λ m. bytes_eq x m.items) es) same ∙ absent es c.args.name.now new in
     grown es _ c.args.name.now c.in_ok-key.key c.args.meaning c.len-apart.ensures.unique new same
     (c.in_ok-insert.ensures.entries ∙ insert_entry-new _ c.args.region.now c.in_ok-key.key c.args.meaning gone)
+
+pub returns-then-contains_key-clause-told : goal.returns-then-contains_key-clause-told
+returns-then-contains_key-clause-told c =
+    let ds = region_view c.args.region.now in
+    let i = ident c.args.at c.args.name.now in
+    subst (Tells (standing_twice ds (i ∷ []))) (sym c.at.ensures)
+    (twice_here (declared_names ds) i [] (sym (among_keys c.args.name.now c.args.region.now.entries) ∙ (sym c.contains_key.ensures ∙ c.if-contains_key.true)))

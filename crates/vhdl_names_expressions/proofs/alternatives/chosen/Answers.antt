@@ -1,12 +1,10 @@
-use Rattle.std.proofs.Common.{option_map, option_copied, [], ◌∷◌, refl, ap, sym, ◌∙◌}
+use Rattle.std.proofs.Common.{option_map, option_copied, ap, sym, ◌∙◌}
 use Rattle.vhdl_tree.specs.View.{view, name_view}
-use Rattle.vhdl_names_rules.specs.declared.fault.NameProblem.TheVariants.{TypeMismatch, LeftOut}
-use Rattle.vhdl_names_rules.specs.Choices.{literal_choice}
 use Rattle.vhdl_names_types.proofs.Along.{gives_along}
 use Rattle.vhdl_names_types.specs.Views.{sight_view}
 use Rattle.vhdl_names_expressions.proofs.Choosing.{chosen_by, chosen_is}
 use Rattle.vhdl_names_units.specs.views.Answers.{choice_view}
-use Rattle.vhdl_names_expressions.proofs.Breaking.{told_as, refused_told}
+use Rattle.vhdl_names_expressions.proofs.Breaking.{told_as}
 use Rattle.vhdl_names_expressions.proofs.BreakingChoices as breaking
 use Rattle.vhdl_names_expressions.proofs.alternatives.chosen.Goals as goal
 
@@ -46,4 +44,4 @@ returns-in-None-clause-told c =
     (sym
     (breaking.chosen_is s c.args.object_type e
     ∙ ap (λ o. breaking.chosen_by s c.args.object_type o e) (c.name_of.ensures ∙ ap (λ o. option_map name_view (option_copied o)) c.in-None.is)))
-    (refused_told choice_view (literal_choice c.args.object_type e) _ _ (TypeMismatch ∷ LeftOut ∷ []) refl c.literal_choice.ensures.given c.literal_choice.ensures.told)
+    c.literal_choice.ensures.told

@@ -8,7 +8,7 @@ use Rattle.vhdl_names_units.specs.views.Answers.{choice_view}
 use Rattle.vhdl_names_types.specs.Views.{sight_view, meaning_view}
 use Rattle.vhdl_names_problems.specs.Broken.{Tells}
 use Rattle.vhdl_names_problems.specs.Choices as broken
-use Rattle.vhdl_names_expressions.proofs.Breaking.{told_of}
+use Rattle.vhdl_names_expressions.proofs.Breaking.{told_fault}
 use Rattle.vhdl_names_expressions.proofs.BreakingChoices.{chosen_meaning, chosen_behind, chosen_bare}
 use Rattle.vhdl_names_expressions.proofs.alternatives.chosen_name.Goals as goal
 
@@ -24,8 +24,8 @@ pub returns-then-not-is_bare_name-clause-told : goal.returns-then-not-is_bare_na
 returns-then-not-is_bare_name-clause-told c =
     let s = sight_view c.args.sight.now in
     let n = c.args.name.now in
-    told_of (broken.chosen s c.args.object_type (t.named (ident_view n.identifier) (suffix_view n.suffix) (option_ident_view n.attribute))) (At LeftOut n.identifier.at) c.at.result c.at.ensures
-    (chosen_behind s c.args.object_type (ident_view n.identifier) (suffix_view n.suffix) (option_ident_view n.attribute) n.identifier.at (sym c.is_bare_name.ensures ∙ c.if-not-is_bare_name.true))
+    told_fault (broken.chosen s c.args.object_type (t.named (ident_view n.identifier) (suffix_view n.suffix) (option_ident_view n.attribute))) (At LeftOut n.identifier.at) c.at.result c.at.ensures
+    (chosen_behind s c.args.object_type (ident_view n.identifier) (suffix_view n.suffix) (option_ident_view n.attribute) (meaning_view c.in_ok-meaning.meaning.now) c.in_ok-meaning.ensures.meant (sym c.is_bare_name.ensures ∙ c.if-not-is_bare_name.true))
 
 pub returns-clause-told : goal.returns-clause-told
 returns-clause-told c =

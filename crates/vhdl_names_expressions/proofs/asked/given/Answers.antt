@@ -1,14 +1,18 @@
 use Rattle.std.proofs.Common.{rules, arith, sym, ap}
 use Rattle.std.proofs.lemmas.Grind.{common_steps}
 use Rattle.vhdl_tree.specs.View.{view, value_view}
+use Rattle.vhdl_names_rules.specs.declared.fault.NameProblem.TheVariants.{TypeMismatch}
 use Rattle.vhdl_names_rules.specs.Expressions as are
 use Rattle.vhdl_names_rules.specs.Expressions.{as_value, as_filled}
 use Rattle.vhdl_names_units.specs.views.Answers.{given_view}
 use Rattle.vhdl_names_types.specs.Views.{sight_view, typed_view}
-use Rattle.vhdl_names_problems.specs.Broken.{Tells, lacking, where_given}
+use Rattle.vhdl_names_problems.specs.Broken.{Tells, ◌▸◌, unless, lacking, where_given}
+use Rattle.vhdl_names_problems.specs.Places.{start}
 use Rattle.vhdl_names_problems.specs.Expressions as broken
-use Rattle.vhdl_names_problems.proofs.Telling.{told_left}
-use Rattle.vhdl_names_expressions.proofs.Breaking.{told_along, told_as, asked_told}
+use Rattle.vhdl_names_problems.specs.Expressions.{is_vector_type}
+use Rattle.vhdl_names_problems.proofs.Telling.{told_same, told_left}
+use Rattle.vhdl_names_problems.proofs.kept.Expressions.{typed_kept}
+use Rattle.vhdl_names_expressions.proofs.Breaking.{told_as, asked_told, wanted_told}
 use Rattle.vhdl_names_expressions.proofs.asked.given.Goals as goal
 
 pub returns-in_err-operand-in-Expr-clause-told : goal.returns-in_err-operand-in-Expr-clause-told
@@ -16,8 +20,8 @@ returns-in_err-operand-in-Expr-clause-told c =
     let s = sight_view c.args.sight.now in
     let e = view c.in-Expr.e in
     let f : Tells (broken.value_given s c.args.object_type (value_view c.args.value.now)) c.in_err-operand-in-Expr.field-0.0 =
-    told_along _ _ c.in_err-operand-in-Expr.field-0.0 (sym (ap (λ v. broken.value_given s c.args.object_type (value_view v)) c.in-Expr.is))
-    (told_left (broken.typed s e) (where_given (are.typed s e) (λ x. lacking broken.mismatch (as_value c.args.object_type x))) c.in_err-operand-in-Expr.field-0.0
+    told_same _ _ c.in_err-operand-in-Expr.field-0.0 (sym (ap (λ v. broken.value_given s c.args.object_type (value_view v)) c.in-Expr.is))
+    (told_left (broken.typed s e) (where_given (are.typed s e) (λ x. lacking TypeMismatch (start e) (as_value c.args.object_type x))) c.in_err-operand-in-Expr.field-0.0
     c.in_err-operand-in-Expr.ensures.told) in
     first_of (search rules, grind (arith, common_steps))
 
@@ -26,7 +30,8 @@ returns-in_ok-operand-in-Expr-clause-told c =
     let s = sight_view c.args.sight.now in
     let e = view c.in-Expr.e in
     told_as _ _ _ (sym (ap (λ v. broken.value_given s c.args.object_type (value_view v)) c.in-Expr.is))
-    (asked_told (broken.typed s e) (are.typed s e) (λ x. broken.mismatch) (as_value c.args.object_type) given_view (typed_view c.in_ok-operand-in-Expr.operand) _ c.in_ok-operand-in-Expr.ensures.given
+    (wanted_told (broken.typed s e) (are.typed s e) TypeMismatch _ (start e) (as_value c.args.object_type) given_view (typed_view c.in_ok-operand-in-Expr.operand) _
+    (typed_kept e s (typed_view c.in_ok-operand-in-Expr.operand) c.in_ok-operand-in-Expr.ensures.given) c.in_ok-operand-in-Expr.ensures.given c.start.ensures
     c.as_value.ensures.given c.as_value.ensures.told)
 
 pub returns-in_err-operand-in-Others-clause-told : goal.returns-in_err-operand-in-Others-clause-told
@@ -34,15 +39,18 @@ returns-in_err-operand-in-Others-clause-told c =
     let s = sight_view c.args.sight.now in
     let e = view c.in-Others.element in
     let f : Tells (broken.value_given s c.args.object_type (value_view c.args.value.now)) c.in_err-operand-in-Others.field-0.0 =
-    told_along _ _ c.in_err-operand-in-Others.field-0.0 (sym (ap (λ v. broken.value_given s c.args.object_type (value_view v)) c.in-Others.is))
-    (told_left (broken.typed s e) (where_given (are.typed s e) (λ x. lacking broken.mismatch (as_filled c.args.object_type x))) c.in_err-operand-in-Others.field-0.0
-    c.in_err-operand-in-Others.ensures.told) in
+    told_same _ _ c.in_err-operand-in-Others.field-0.0 (sym (ap (λ v. broken.value_given s c.args.object_type (value_view v)) c.in-Others.is))
+    (told_left (broken.typed s e)
+    (where_given (are.typed s e) (λ x. unless TypeMismatch c.in-Others.at (is_vector_type c.args.object_type) ▸ lacking TypeMismatch (start e) (as_filled c.args.object_type x)))
+    c.in_err-operand-in-Others.field-0.0 c.in_err-operand-in-Others.ensures.told) in
     first_of (search rules, grind (arith, common_steps))
 
 pub returns-in_ok-operand-in-Others-clause-told : goal.returns-in_ok-operand-in-Others-clause-told
 returns-in_ok-operand-in-Others-clause-told c =
     let s = sight_view c.args.sight.now in
     let e = view c.in-Others.element in
+    let x = typed_view c.in_ok-operand-in-Others.operand in
     told_as _ _ _ (sym (ap (λ v. broken.value_given s c.args.object_type (value_view v)) c.in-Others.is))
-    (asked_told (broken.typed s e) (are.typed s e) (λ x. broken.mismatch) (as_filled c.args.object_type) given_view (typed_view c.in_ok-operand-in-Others.operand) _ c.in_ok-operand-in-Others.ensures.given
-    c.as_filled.ensures.given c.as_filled.ensures.told)
+    (asked_told (broken.typed s e) (are.typed s e) (λ x. unless TypeMismatch c.in-Others.at (is_vector_type c.args.object_type) ▸ lacking TypeMismatch (start e) (as_filled c.args.object_type x)) x _
+    (typed_kept e s x c.in_ok-operand-in-Others.ensures.given) c.in_ok-operand-in-Others.ensures.given
+    (told_as _ _ _ (ap (λ k. unless TypeMismatch c.in-Others.at (is_vector_type c.args.object_type) ▸ lacking TypeMismatch k (as_filled c.args.object_type x)) c.start-in-Others.ensures) c.as_filled.ensures.told))

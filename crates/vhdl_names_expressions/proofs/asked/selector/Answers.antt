@@ -1,15 +1,18 @@
 use Rattle.std.proofs.Common.{rules, arith}
 use Rattle.std.proofs.lemmas.Grind.{common_steps}
 use Rattle.vhdl_tree.specs.View.{view}
+use Rattle.vhdl_names_rules.specs.declared.fault.NameProblem.TheVariants.{TypeMismatch}
 use Rattle.vhdl_names_rules.specs.Expressions as are
 use Rattle.vhdl_names_rules.specs.Choices.{selector as wanted}
 use Rattle.vhdl_names_units.specs.views.Answers.{selector_view}
 use Rattle.vhdl_names_types.specs.Views.{sight_view, typed_view}
 use Rattle.vhdl_names_problems.specs.Broken.{Tells, lacking, where_given}
-use Rattle.vhdl_names_problems.specs.Expressions.{typed, mismatch}
+use Rattle.vhdl_names_problems.specs.Places.{start}
+use Rattle.vhdl_names_problems.specs.Expressions.{typed}
 use Rattle.vhdl_names_problems.specs.Choices as broken
 use Rattle.vhdl_names_problems.proofs.Telling.{told_left}
-use Rattle.vhdl_names_expressions.proofs.Breaking.{asked_told}
+use Rattle.vhdl_names_problems.proofs.kept.Expressions.{typed_kept}
+use Rattle.vhdl_names_expressions.proofs.Breaking.{wanted_told}
 use Rattle.vhdl_names_expressions.proofs.asked.selector.Goals as goal
 
 pub returns-in_err-value-clause-told : goal.returns-in_err-value-clause-told
@@ -17,11 +20,12 @@ returns-in_err-value-clause-told c =
     let s = sight_view c.args.sight.now in
     let e = view c.args.e.now in
     let f : Tells (broken.selected_by s e) c.in_err-value.field-0.0 =
-    told_left (typed s e) (where_given (are.typed s e) (λ x. lacking mismatch (wanted x))) c.in_err-value.field-0.0 c.in_err-value.ensures.told in
+    told_left (typed s e) (where_given (are.typed s e) (λ x. lacking TypeMismatch (start e) (wanted x))) c.in_err-value.field-0.0 c.in_err-value.ensures.told in
     first_of (search rules, grind (arith, common_steps))
 
 pub returns-clause-told : goal.returns-clause-told
 returns-clause-told c =
     let s = sight_view c.args.sight.now in
     let e = view c.args.e.now in
-    asked_told (typed s e) (are.typed s e) (λ x. mismatch) wanted selector_view (typed_view c.in_ok-value.value) _ c.in_ok-value.ensures.given c.as_selector.ensures.given c.as_selector.ensures.told
+    wanted_told (typed s e) (are.typed s e) TypeMismatch _ (start e) wanted selector_view (typed_view c.in_ok-value.value) _
+    (typed_kept e s (typed_view c.in_ok-value.value) c.in_ok-value.ensures.given) c.in_ok-value.ensures.given c.start.ensures c.as_selector.ensures.given c.as_selector.ensures.told

@@ -14,11 +14,14 @@ use Rattle.vhdl_names_types.specs.Views.{sight_view, meaning_view, typed_view, t
 use Rattle.vhdl_names_types.proofs.Along.{gives_along}
 use Rattle.vhdl_names_expressions.proofs.Chains.{started_is, link_goes, chain_begun, all_linked_none, link_fails, front, each_fails, each_goes, each_ends, arguments_whole}
 use Rattle.vhdl_tree.specs.View.{ident_view, suffix_view, range_view}
+use Rattle.vhdl_names_rules.specs.declared.fault.NameProblem.TheVariants.{TypeMismatch}
 use Rattle.vhdl_names_problems.specs.Broken.{Tells}
+use Rattle.vhdl_names_problems.specs.Places as places
 use Rattle.vhdl_names_problems.specs.Expressions as broken
-use Rattle.vhdl_names_problems.proofs.Telling.{told_on}
+use Rattle.vhdl_names_problems.proofs.Telling.{told_same, told_on}
+use Rattle.vhdl_names_problems.proofs.kept.Expressions.{typed_kept}
 use Rattle.vhdl_names_expressions.specs.Breaking.{link_breaks, all_break, started_breaks}
-use Rattle.vhdl_names_expressions.proofs.Breaking.{told_as, asked_told, chain_first, chain_further, link_told, rest_told, operator_on, link_first, range_first, range_second, static_first, slice_told, parens_told, negation_first, negation_told, sign_first, sign_told, integer_told, character_told, string_told, bits_told, named_suffix, named_meaning, named_denoted, named_attributed, each_told, arguments_on, begun_first, begun_second}
+use Rattle.vhdl_names_expressions.proofs.Breaking.{told_as, wanted_told, chain_first, chain_further, link_told, rest_goes, operator_on, link_first, range_first, range_second, static_first, slice_told, parens_told, negation_first, negation_told, sign_first, sign_told, integer_told, character_told, string_told, bits_told, named_suffix, named_meaning, named_no_value, named_denoted, named_attributed, each_told, each_left, arguments_on, begun_first, begun_second}
 use Rattle.vhdl_names_expressions.proofs.expressions.+typed.Goals as goal
 
 pub links-returns-in_err-done-clause-given : goal.links-returns-in_err-done-clause-given
@@ -79,7 +82,7 @@ typed_each-returns-in_err-value-clause-given t c =
     let s = sight_view c.args.sight.now in
     let lt : c.loop-argument.argument-index < length c.args.arguments.now = omega arith in
     let f : c.in_err-value.field-0.0 ≢ NoMemory → typed_each s (exprs_of (map view c.args.arguments.now)) ≡ None =
-    λ n. each_fails s _ (map typed_view c.loop-argument.done.items) c.args.arguments.now c.loop-argument.argument-index c.argument-item.result c.loop-argument.invariant lt c.argument-item.is
+    λ n. each_fails s _ (map typed_view c.loop-argument.done.items) c.args.arguments.now c.loop-argument.argument-index c.argument-item.result c.loop-argument.invariant.0 lt c.argument-item.is
     (c.in_err-value.ensures.given n) in
     first_of (search rules, grind (arith, common_steps))
 
@@ -88,16 +91,19 @@ typed_each-loop-argument-preserved t c =
     let s = sight_view c.args.sight.now in
     let i = c.loop-argument.argument-index in
     let lt : c.loop-argument.argument-index < length c.args.arguments.now = omega arith in
-    let next : suc c.loop-argument.argument-index ≡ c.loop-argument.argument-index + 1 = omega arith in
-    each_goes s _ (map typed_view c.loop-argument.done.items) c.args.arguments.now i c.argument-item.result (typed_view c.in_ok-value.value) c.loop-argument.invariant lt c.argument-item.is
-    c.in_ok-value.ensures.given
-    ∙ ap (λ xs. front xs (typed_each s (exprs_of (map view (drop (suc i) c.args.arguments.now)))))
-    (sym (ap (map typed_view) c.in_ok-push.ensures.items ∙ map-append typed_view c.loop-argument.done.items (c.in_ok-value.value ∷ [])))
-    ∙ ap (λ k. front (map typed_view c.push.new.self.items) (typed_each s (exprs_of (map view (drop k c.args.arguments.now))))) next
+    let next : suc c.loop-argument.argument-index ≡ c.loop-argument.argument-index + 1 = omega arith in (
+      each_goes s _ (map typed_view c.loop-argument.done.items) c.args.arguments.now i c.argument-item.result (typed_view c.in_ok-value.value) c.loop-argument.invariant.0 lt c.argument-item.is
+          c.in_ok-value.ensures.given
+          ∙ ap (λ xs. front xs (typed_each s (exprs_of (map view (drop (suc i) c.args.arguments.now)))))
+          (sym (ap (map typed_view) c.in_ok-push.ensures.items ∙ map-append typed_view c.loop-argument.done.items (c.in_ok-value.value ∷ [])))
+          ∙ ap (λ k. front (map typed_view c.push.new.self.items) (typed_each s (exprs_of (map view (drop k c.args.arguments.now))))) next,
+      c.loop-argument.invariant.1
+          ∙ each_left s c.args.arguments.now i (c.loop-argument.argument-index + 1) c.argument-item.result (typed_view c.in_ok-value.value) lt c.argument-item.is next c.in_ok-value.ensures.given,
+    )
 
 pub typed_each-returns-clause-given : goal.typed_each-returns-clause-given
 typed_each-returns-clause-given t c =
-    each_ends (sight_view c.args.sight.now) _ (map typed_view c.loop-argument.done.items) c.args.arguments.now c.loop-argument.argument-index c.loop-argument.invariant (omega arith)
+    each_ends (sight_view c.args.sight.now) _ (map typed_view c.loop-argument.done.items) c.args.arguments.now c.loop-argument.argument-index c.loop-argument.invariant.0 (omega arith)
 
 -- ---- what is told
 
@@ -106,7 +112,7 @@ links-returns-in_err-done-clause-told t c =
     let s = sight_view c.args.sight.now in
     let lt : c.loop-next.next-index < length c.args.links.now = omega arith in
     let f : Tells (all_break s (Some (typed_view c.args.first)) c.args.links.now) c.in_err-done.field-0.0 =
-    c.loop-next.invariant.1 c.in_err-done.field-0.0
+    told_same _ _ c.in_err-done.field-0.0 (sym c.loop-next.invariant.1)
     (link_told s (typed_view c.loop-next.done) c.args.links.now c.loop-next.next-index c.next-item.result c.in_err-done.field-0.0 lt c.next-item.is c.in_err-done.ensures.told) in
     first_of (search rules, grind (arith, common_steps))
 
@@ -117,7 +123,7 @@ links-loop-next-preserved t c =
     let lt : c.loop-next.next-index < length c.args.links.now = omega arith in
     let next : suc c.loop-next.next-index ≡ c.loop-next.next-index + 1 = omega arith in (
       c.loop-next.invariant.0 ∙ link_goes s (typed_view c.loop-next.done) (typed_view c.in_ok-done.done) c.args.links.now i (c.loop-next.next-index + 1) c.next-item.result lt c.next-item.is next c.in_ok-done.ensures.given,
-      λ f h. c.loop-next.invariant.1 f (rest_told s (typed_view c.loop-next.done) (typed_view c.in_ok-done.done) c.args.links.now i (c.loop-next.next-index + 1) c.next-item.result f lt c.next-item.is next c.in_ok-done.ensures.given h),
+      c.loop-next.invariant.1 ∙ rest_goes s (typed_view c.loop-next.done) (typed_view c.in_ok-done.done) c.args.links.now i (c.loop-next.next-index + 1) c.next-item.result lt c.next-item.is next c.in_ok-done.ensures.given,
     )
 
 pub begun-returns-in_err-first-clause-told : goal.begun-returns-in_err-first-clause-told
@@ -155,7 +161,8 @@ typed_each-returns-in_err-value-clause-told t c =
     let s = sight_view c.args.sight.now in
     let lt : c.loop-argument.argument-index < length c.args.arguments.now = omega arith in
     let f : Tells (broken.typed_each s (exprs_of (map view c.args.arguments.now))) c.in_err-value.field-0.0 =
-    each_told s c.args.arguments.now c.loop-argument.argument-index c.argument-item.result c.in_err-value.field-0.0 lt c.argument-item.is c.in_err-value.ensures.told in
+    told_same _ _ c.in_err-value.field-0.0 (sym c.loop-argument.invariant.1)
+    (each_told s c.args.arguments.now c.loop-argument.argument-index c.argument-item.result c.in_err-value.field-0.0 lt c.argument-item.is c.in_err-value.ensures.told) in
     first_of (search rules, grind (arith, common_steps))
 
 pub named-returns-in_err-meaning-clause-told : goal.named-returns-in_err-meaning-clause-told
@@ -171,7 +178,17 @@ named-returns-in_err-suffix-clause-told t c =
     let s = sight_view c.args.sight.now in
     let n = c.args.name.now in
     let f : Tells (broken.typed s (tree.named (ident_view n.identifier) (suffix_view n.suffix) (option_map ident_view n.attribute))) c.in_err-suffix.field-0.0 =
-    named_suffix s (ident_view n.identifier) (suffix_view n.suffix) (option_map ident_view n.attribute) c.in_err-suffix.field-0.0 c.in_err-suffix.ensures.told in
+    named_suffix s (ident_view n.identifier) (suffix_view n.suffix) (option_map ident_view n.attribute) (meaning_view c.in_ok-meaning.meaning.now) c.in_err-suffix.field-0.0
+    c.in_ok-meaning.ensures.meant c.in_err-suffix.ensures.told in
+    first_of (search rules, grind (arith, common_steps))
+
+pub named-returns-in_err-of_no_value-clause-told : goal.named-returns-in_err-of_no_value-clause-told
+named-returns-in_err-of_no_value-clause-told t c =
+    let s = sight_view c.args.sight.now in
+    let n = c.args.name.now in
+    let f : Tells (broken.typed s (tree.named (ident_view n.identifier) (suffix_view n.suffix) (option_map ident_view n.attribute))) c.in_err-of_no_value.field-0.0 =
+    named_no_value s (ident_view n.identifier) (suffix_view n.suffix) (option_map ident_view n.attribute) (meaning_view c.in_ok-meaning.meaning.now) (typed_suffix_view c.in_ok-suffix.suffix)
+    c.in_ok-meaning.ensures.meant c.in_ok-suffix.ensures.given c.in_err-of_no_value.field-0.0 c.in_err-of_no_value.ensures.told in
     first_of (search rules, grind (arith, common_steps))
 
 pub named-returns-in_err-value-clause-told : goal.named-returns-in_err-value-clause-told
@@ -179,17 +196,17 @@ named-returns-in_err-value-clause-told t c =
     let s = sight_view c.args.sight.now in
     let n = c.args.name.now in
     let f : Tells (broken.typed s (tree.named (ident_view n.identifier) (suffix_view n.suffix) (option_map ident_view n.attribute))) c.in_err-value.field-0.0 =
-    named_denoted s (ident_view n.identifier) (suffix_view n.suffix) (option_map ident_view n.attribute) c.in_err-value.field-0.0
-    (meaning_view c.in_ok-meaning.meaning.now) (typed_suffix_view c.in_ok-suffix.suffix) c.in_ok-meaning.ensures.meant c.in_ok-suffix.ensures.given c.in_err-value.ensures.given c.in_err-value.ensures.told in
+    named_denoted s (ident_view n.identifier) (suffix_view n.suffix) (option_map ident_view n.attribute) (meaning_view c.in_ok-meaning.meaning.now) (typed_suffix_view c.in_ok-suffix.suffix)
+    c.in_ok-meaning.ensures.meant c.in_ok-suffix.ensures.given c.in_err-value.field-0.0 c.in_ok-of_no_value.ensures.kept c.in_err-value.ensures.told in
     first_of (search rules, grind (arith, common_steps))
 
 pub named-returns-clause-told : goal.named-returns-clause-told
 named-returns-clause-told t c =
     let n = c.args.name.now in
     told_on _ _ _
-    (λ f. named_attributed (sight_view c.args.sight.now) (ident_view n.identifier) (suffix_view n.suffix) (option_map ident_view n.attribute) f
-    (meaning_view c.in_ok-meaning.meaning.now) (typed_suffix_view c.in_ok-suffix.suffix) (typed_view c.in_ok-value.value)
-    c.in_ok-meaning.ensures.meant c.in_ok-suffix.ensures.given c.in_ok-value.ensures.given)
+    (λ f. named_attributed (sight_view c.args.sight.now) (ident_view n.identifier) (suffix_view n.suffix) (option_map ident_view n.attribute)
+    (meaning_view c.in_ok-meaning.meaning.now) (typed_suffix_view c.in_ok-suffix.suffix) c.in_ok-meaning.ensures.meant c.in_ok-suffix.ensures.given
+    (typed_view c.in_ok-value.value) f c.in_ok-of_no_value.ensures.kept c.in_ok-value.ensures.given)
     c.attributed.ensures.told
 
 pub link-returns-in_err-operand-clause-told : goal.link-returns-in_err-operand-clause-told
@@ -201,8 +218,8 @@ link-returns-in_err-operand-clause-told t c =
 
 pub link-returns-clause-told : goal.link-returns-clause-told
 link-returns-clause-told t c =
-    operator_on (sight_view c.args.sight.now) c.args.after_parens (typed_view c.args.first) (typed_view c.in_ok-operand.operand) (typed_view c.beside-operand.result) c.args.link.now typed_view _
-    c.in_ok-operand.ensures.given c.beside-operand.ensures c.operated.ensures.given c.operated.ensures.told
+    operator_on (sight_view c.args.sight.now) c.args.after_parens (typed_view c.args.first) (typed_view c.in_ok-operand.operand) (typed_view c.beside-operand.result) c.args.link.now _
+    c.in_ok-operand.ensures.given c.beside-operand.ensures c.operated.ensures.told
 
 pub static_integer-returns-in_err-value-clause-told : goal.static_integer-returns-in_err-value-clause-told
 static_integer-returns-in_err-value-clause-told t c =
@@ -215,7 +232,8 @@ pub static_integer-returns-clause-told : goal.static_integer-returns-clause-told
 static_integer-returns-clause-told t c =
     let s = sight_view c.args.sight.now in
     let e = view c.args.e.now in
-    asked_told (broken.typed s e) (typed s e) (λ x. broken.mismatch) as_integer static_view (typed_view c.in_ok-value.value) _ c.in_ok-value.ensures.given c.as_integer.ensures.given c.as_integer.ensures.told
+    wanted_told (broken.typed s e) (typed s e) TypeMismatch _ (places.start e) as_integer static_view (typed_view c.in_ok-value.value) _
+    (typed_kept e s (typed_view c.in_ok-value.value) c.in_ok-value.ensures.given) c.in_ok-value.ensures.given c.start.ensures c.as_integer.ensures.given c.as_integer.ensures.told
 
 pub static_range-returns-in_err-left-clause-told : goal.static_range-returns-in_err-left-clause-told
 static_range-returns-in_err-left-clause-told t c =
@@ -228,7 +246,7 @@ pub static_range-returns-in_err-right-clause-told : goal.static_range-returns-in
 static_range-returns-in_err-right-clause-told t c =
     let s = sight_view c.args.sight.now in
     let f : Tells (broken.static_range s (range_view c.args.range.now)) c.in_err-right.field-0.0 =
-    range_second s (range_view c.args.range.now) c.in_err-right.field-0.0 c.in_err-right.ensures.told in
+    range_second s (range_view c.args.range.now) (static_view c.in_ok-left.left) c.in_err-right.field-0.0 c.in_ok-left.ensures.given c.in_err-right.ensures.told in
     first_of (search rules, grind (arith, common_steps))
 
 pub typed-returns-in_err-operand-in-Parens-clause-told : goal.typed-returns-in_err-operand-in-Parens-clause-told
@@ -254,29 +272,29 @@ typed-returns-in_err-operand-in-Signed-clause-told t c =
 
 pub typed-returns-in-Integer-clause-told : goal.typed-returns-in-Integer-clause-told
 typed-returns-in-Integer-clause-told t c =
-    integer_told (sight_view c.args.sight.now) c.args.e.now _ c.in-Integer.literal typed_view c.in-Integer.is c.integer_literal.ensures.given c.integer_literal.ensures.told
+    integer_told (sight_view c.args.sight.now) c.args.e.now _ c.in-Integer.literal c.in-Integer.is c.integer_literal.ensures.told
 
 pub typed-returns-in-StringLiteral-clause-told : goal.typed-returns-in-StringLiteral-clause-told
 typed-returns-in-StringLiteral-clause-told t c =
-    string_told (sight_view c.args.sight.now) c.args.e.now _ c.in-StringLiteral.literal typed_view c.in-StringLiteral.is c.string_literal.ensures.given c.string_literal.ensures.told
+    string_told (sight_view c.args.sight.now) c.args.e.now _ c.in-StringLiteral.literal c.in-StringLiteral.is c.string_literal.ensures.told
 
 pub typed-returns-in-BitString-clause-told : goal.typed-returns-in-BitString-clause-told
 typed-returns-in-BitString-clause-told t c =
-    bits_told (sight_view c.args.sight.now) c.args.e.now _ c.in-BitString.literal typed_view c.in-BitString.is c.bit_string_literal.ensures.given c.bit_string_literal.ensures.told
+    bits_told (sight_view c.args.sight.now) c.args.e.now _ c.in-BitString.literal c.in-BitString.is c.bit_string_literal.ensures.told
 
 pub typed-returns-in-Character-clause-told : goal.typed-returns-in-Character-clause-told
 typed-returns-in-Character-clause-told t c =
-    character_told (sight_view c.args.sight.now) c.args.e.now _ c.in-Character.at c.in-Character.code typed_view c.in-Character.is c.character_literal.ensures.given c.character_literal.ensures.told
+    character_told (sight_view c.args.sight.now) c.args.e.now _ c.in-Character.at c.in-Character.code c.in-Character.is c.character_literal.ensures.told
 
 pub typed-returns-in_ok-operand-in-Not-clause-told : goal.typed-returns-in_ok-operand-in-Not-clause-told
 typed-returns-in_ok-operand-in-Not-clause-told t c =
-    negation_told (sight_view c.args.sight.now) c.args.e.now c.deref-in-Not.result.now c.in-Not.at c.in-Not.operand typed_view (typed_view c.in_ok-operand-in-Not.operand) _
-    c.in-Not.is c.deref-in-Not.ensures c.in_ok-operand-in-Not.ensures.given c.inverse.ensures.given c.inverse.ensures.told
+    negation_told (sight_view c.args.sight.now) c.args.e.now c.deref-in-Not.result.now c.in-Not.at c.in-Not.operand (typed_view c.in_ok-operand-in-Not.operand) _
+    c.in-Not.is c.deref-in-Not.ensures c.in_ok-operand-in-Not.ensures.given c.inverse.ensures.told
 
 pub typed-returns-in_ok-operand-in-Signed-clause-told : goal.typed-returns-in_ok-operand-in-Signed-clause-told
 typed-returns-in_ok-operand-in-Signed-clause-told t c =
-    sign_told (sight_view c.args.sight.now) c.args.e.now c.deref-in-Signed.result.now c.in-Signed.at c.in-Signed.operand c.in-Signed.sign typed_view (typed_view c.in_ok-operand-in-Signed.operand) _
-    c.in-Signed.is c.deref-in-Signed.ensures c.in_ok-operand-in-Signed.ensures.given c.signed.ensures.given c.signed.ensures.told
+    sign_told (sight_view c.args.sight.now) c.args.e.now c.deref-in-Signed.result.now c.in-Signed.at c.in-Signed.operand c.in-Signed.sign (typed_view c.in_ok-operand-in-Signed.operand) _
+    c.in-Signed.is c.deref-in-Signed.ensures c.in_ok-operand-in-Signed.ensures.given c.signed.ensures.told
 
 pub typed_suffix-returns-in_err-range-in-Range-clause-told : goal.typed_suffix-returns-in_err-range-in-Range-clause-told
 typed_suffix-returns-in_err-range-in-Range-clause-told t c =

@@ -1,23 +1,23 @@
 use Rattle.std.proofs.Common.{◌≡◌, drop, map, Some}
 use Rattle.vhdl_tree.specs.Tree.{exprs_of}
 use Rattle.vhdl_tree.specs.View.{view}
-use Rattle.vhdl_names_rules.specs.Expressions.{typed_each}
-use Rattle.vhdl_names_rules.specs.declared.fault.NameFault.{NameFault}
-use Rattle.vhdl_names_problems.specs.Broken.{Tells}
+use Rattle.vhdl_names_rules.specs.Expressions as are
+use Rattle.vhdl_names_problems.specs.Expressions.{typed_each}
 use Rattle.vhdl_names_expressions.specs.Breaking.{all_break}
 use Rattle.vhdl_names_expressions.specs.Steps.{all_linked}
 use Rattle.vhdl_names_types.specs.Views.{sight_view, typed_view}
 use Rattle.vhdl_names_expressions.proofs.Chains.{front}
 use Rattle.vhdl_names_expressions.proofs.expressions.+typed.Given as goal
 
--- the links that are left, on what is done, give the whole, and what they break, the whole breaks
+-- the links that are left, on what is done, give the whole, and what they break first, the whole breaks first
 abbrev pub invariant-links-loop-next : goal.invariant-links-loop-next
 invariant-links-loop-next l =
     (all_linked (sight_view l.sight) (Some (typed_view l.fn.first)) l.links ≡ all_linked (sight_view l.sight) (Some (typed_view l.done)) (drop l.next-index l.links))
-    × ((f : NameFault) → Tells (all_break (sight_view l.sight) (Some (typed_view l.done)) (drop l.next-index l.links)) f → Tells (all_break (sight_view l.sight) (Some (typed_view l.fn.first)) l.links) f)
+    × (all_break (sight_view l.sight) (Some (typed_view l.fn.first)) l.links ≡ all_break (sight_view l.sight) (Some (typed_view l.done)) (drop l.next-index l.links))
 
--- what is done, and then the arguments that are left, is the whole
+-- what is done, and then the arguments that are left, is the whole, and what they break first, the whole breaks first
 abbrev pub invariant-typed_each-loop-argument : goal.invariant-typed_each-loop-argument
 invariant-typed_each-loop-argument l =
-    typed_each (sight_view l.sight) (exprs_of (map view l.arguments))
-    ≡ front (map typed_view l.done.items) (typed_each (sight_view l.sight) (exprs_of (map view (drop l.argument-index l.arguments))))
+    (are.typed_each (sight_view l.sight) (exprs_of (map view l.arguments))
+    ≡ front (map typed_view l.done.items) (are.typed_each (sight_view l.sight) (exprs_of (map view (drop l.argument-index l.arguments)))))
+    × (typed_each (sight_view l.sight) (exprs_of (map view l.arguments)) ≡ typed_each (sight_view l.sight) (exprs_of (map view (drop l.argument-index l.arguments))))

@@ -12,7 +12,8 @@ use Rattle.vhdl_names_types.specs.Views.{sight_view}
 use Rattle.vhdl_names_problems.specs.Broken.{Tells, unless, where_given}
 use Rattle.vhdl_names_problems.specs.Statements as broken
 use Rattle.vhdl_names_problems.proofs.Telling.{told_left, told_right, told_given}
-use Rattle.vhdl_names_expressions.proofs.Breaking.{told_of}
+use Rattle.vhdl_names_problems.proofs.kept.Statements.{signal_kept}
+use Rattle.vhdl_names_expressions.proofs.Breaking.{told_fault}
 use Rattle.vhdl_names_expressions.proofs.objects.target.Goals as goal
 
 pub returns-in_err-target-clause-told : goal.returns-in_err-target-clause-told
@@ -20,16 +21,16 @@ returns-in_err-target-clause-told c =
     let s = sight_view c.args.sight.now in
     let n = name_view c.args.name.now in
     let f : Tells (broken.target s n) c.in_err-target.field-0.0 =
-    told_left (broken.signal s n) (where_given (are.signal s n) (λ x. unless WriteOfIn (not (is_input x.mode)))) c.in_err-target.field-0.0 c.in_err-target.ensures.told in
+    told_left (broken.signal s n) (where_given (are.signal s n) (λ x. unless WriteOfIn n.identifier.at (not (is_input x.mode)))) c.in_err-target.field-0.0 c.in_err-target.ensures.told in
     first_of (search rules, grind (arith, common_steps))
 
 pub returns-in-Some-In-clause-told : goal.returns-in-Some-In-clause-told
 returns-in-Some-In-clause-told c =
     let s = sight_view c.args.sight.now in
     let n = name_view c.args.name.now in
-    let mode = c.in_ok-target.target.mode in
     let is : c.in_ok-target.target.mode ≡ Some In = first_of (search rules, cc, grind (arith, common_steps)) in
-    told_right (broken.signal s n) (where_given (are.signal s n) (λ x. unless WriteOfIn (not (is_input x.mode)))) c.at.result
-    (told_given (λ x. unless WriteOfIn (not (is_input x.mode))) (are.signal s n) (signal_name_view c.in_ok-target.target) c.at.result c.in_ok-target.ensures.given
-    (told_of (unless WriteOfIn (not (is_input mode))) (At WriteOfIn c.in_ok-target.target.place.at) c.at.result c.at.ensures
-    (ap (λ m. unless WriteOfIn (not (is_input m)) WriteOfIn) is)))
+    told_right (broken.signal s n) (where_given (are.signal s n) (λ x. unless WriteOfIn n.identifier.at (not (is_input x.mode)))) c.at.result
+    (signal_kept s n (signal_name_view c.in_ok-target.target) c.in_ok-target.ensures.given)
+    (told_given (λ x. unless WriteOfIn n.identifier.at (not (is_input x.mode))) (are.signal s n) (signal_name_view c.in_ok-target.target) c.at.result c.in_ok-target.ensures.given
+    (told_fault (unless WriteOfIn n.identifier.at (not (is_input c.in_ok-target.target.mode))) (At WriteOfIn n.identifier.at) c.at.result c.at.ensures
+    (ap (λ m. unless WriteOfIn n.identifier.at (not (is_input m))) is)))

@@ -1,13 +1,13 @@
-use Rattle.std.proofs.Common.{rules, arith, Some}
+use Rattle.std.proofs.Common.{rules, arith, Some, ap}
 use Rattle.std.proofs.lemmas.Grind.{common_steps}
 use Rattle.vhdl_tree.specs.View.{range_view}
 use Rattle.vhdl_names_types.specs.Views.{sight_view, meaning_view}
-use Rattle.vhdl_names_problems.specs.Broken.{Tells, ◌∪◌, unless}
+use Rattle.vhdl_names_problems.specs.Broken.{Tells, ◌▸◌, unless}
 use Rattle.vhdl_names_problems.specs.Expressions.{static_range}
 use Rattle.vhdl_names_problems.specs.Subtypes.{mark_problem, is_marked}
 use Rattle.vhdl_names_problems.proofs.Telling.{told_left, told_right}
 use Rattle.vhdl_names_expressions.proofs.Marks.{no_range}
-use Rattle.vhdl_names_expressions.proofs.BreakingValues.{unmarked, misfit}
+use Rattle.vhdl_names_expressions.proofs.BreakingValues.{unmarked, marked_range, misfit}
 use Rattle.vhdl_names_expressions.proofs.subtypes.ranged.Goals as goal
 
 pub returns-in_err-range-in-VectorType-clause-told : goal.returns-in_err-range-in-VectorType-clause-told
@@ -15,8 +15,9 @@ returns-in_err-range-in-VectorType-clause-told c =
     let s = sight_view c.args.sight.now in
     let d = meaning_view c.args.meaning.now in
     let r = range_view c.args.range.now in
-    let f : Tells (static_range s r ∪ unless (mark_problem d) (is_marked d (Some r))) c.in_err-range-in-VectorType.field-0.0 =
-    told_left (static_range s r) (unless (mark_problem d) (is_marked d (Some r))) c.in_err-range-in-VectorType.field-0.0 c.in_err-range-in-VectorType.ensures.told in
+    let f : Tells (unless (mark_problem d) c.args.at (is_marked d (Some r)) ▸ static_range s r) c.in_err-range-in-VectorType.field-0.0 =
+    told_right (unless (mark_problem d) c.args.at (is_marked d (Some r))) (static_range s r) c.in_err-range-in-VectorType.field-0.0
+    (ap (unless (mark_problem d) c.args.at) (marked_range c.args.meaning.now _ _ c.in-VectorType.is r)) c.in_err-range-in-VectorType.ensures.told in
     first_of (search rules, grind (arith, common_steps))
 
 pub returns-in_default-clause-given : goal.returns-in_default-clause-given
@@ -27,5 +28,5 @@ returns-in_default-clause-told c =
     let s = sight_view c.args.sight.now in
     let d = meaning_view c.args.meaning.now in
     let r = range_view c.args.range.now in
-    told_right (static_range s r) (unless (mark_problem d) (is_marked d (Some r))) c.at.result
+    told_left (unless (mark_problem d) c.args.at (is_marked d (Some r))) (static_range s r) c.at.result
     (misfit (mark_problem d) c.mark_problem.result (is_marked d (Some r)) c.args.at c.at.result (unmarked c.args.meaning.now c.in_default.not-VectorType r) c.mark_problem.ensures c.at.ensures)

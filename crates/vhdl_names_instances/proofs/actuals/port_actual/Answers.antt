@@ -1,8 +1,9 @@
-use Rattle.std.proofs.Common.{rules, arith, ◌≡◌, false, [], ◌∷◌, refl, sym, ◌∙◌, subst}
+use Rattle.std.proofs.Common.{rules, arith, ◌≡◌, true, false, ap, refl, sym, ◌∙◌, subst}
 use Rattle.std.proofs.lemmas.Grind.{common_steps}
 use Rattle.vhdl_tree.specs.View.{view, name_view}
 use Rattle.vhdl_names_rules.specs.declared.fault.NameProblem.TheVariants.{TypeMismatch, WriteOfIn, LeftOut}
-use Rattle.vhdl_names_problems.specs.Broken.{Tells, is_of}
+use Rattle.vhdl_names_problems.specs.Broken.{Tells, refused}
+use Rattle.vhdl_names_problems.specs.Places.{start}
 use Rattle.vhdl_names_problems.specs.Instances.{port_actual}
 use Rattle.vhdl_names_types.specs.Views.{sight_view}
 use Rattle.vhdl_names_units.specs.views.Answers.{signal_name_view}
@@ -13,7 +14,7 @@ use Rattle.vhdl_names_instances.proofs.actuals.port_actual.Goals as goal
 pub returns-in-None-clause-told : goal.returns-in-None-clause-told
 returns-in-None-clause-told c =
     no_name_told (sight_view c.args.sight.now) (formal c.args.port) (view c.args.e.now) c.at.result (sym c.in-None.ensures)
-    (subst (Tells (is_of (LeftOut ∷ []))) (sym c.at.ensures) refl)
+    (subst (Tells (refused LeftOut (start (view c.args.e.now)))) (sym c.at.ensures) (ap (refused LeftOut) (sym c.start.ensures)))
 
 pub returns-in_err-actual-in-Some-clause-told : goal.returns-in_err-actual-in-Some-clause-told
 returns-in_err-actual-in-Some-clause-told c =
@@ -27,11 +28,12 @@ returns-then-not-is_kind-clause-told c =
     let q : c.is_kind.result ≡ false = first_of (search rules, grind (arith, common_steps)) in
     other_kind_told (sight_view c.args.sight.now) (formal c.args.port) (view c.args.e.now) c.at-then-not-is_kind.result (name_view c.in-Some.name.now) (sym c.in-Some.ensures)
     (signal_name_view c.in_ok-actual-in-Some.actual) c.in_ok-actual-in-Some.ensures.given (sym c.is_kind.ensures ∙ q)
-    (subst (Tells (is_of (TypeMismatch ∷ []))) (sym c.at-then-not-is_kind.ensures) refl)
+    (subst (Tells (refused TypeMismatch c.in-Some.name.now.identifier.at)) (sym c.at-then-not-is_kind.ensures) refl)
 
 pub returns-then-not-may_join-clause-told : goal.returns-then-not-may_join-clause-told
 returns-then-not-may_join-clause-told c =
+    let k : c.is_kind.result ≡ true = first_of (search rules, grind (arith, common_steps)) in
     let q : c.may_join.result ≡ false = first_of (search rules, grind (arith, common_steps)) in
     not_joined_told (sight_view c.args.sight.now) (formal c.args.port) (view c.args.e.now) c.at-then-not-may_join.result (name_view c.in-Some.name.now) (sym c.in-Some.ensures)
-    (signal_name_view c.in_ok-actual-in-Some.actual) c.in_ok-actual-in-Some.ensures.given (sym c.may_join.ensures ∙ q)
-    (subst (Tells (is_of (WriteOfIn ∷ []))) (sym c.at-then-not-may_join.ensures) refl)
+    (signal_name_view c.in_ok-actual-in-Some.actual) c.in_ok-actual-in-Some.ensures.given (sym c.is_kind.ensures ∙ k) (sym c.may_join.ensures ∙ q)
+    (subst (Tells (refused WriteOfIn c.in-Some.name.now.identifier.at)) (sym c.at-then-not-may_join.ensures) refl)

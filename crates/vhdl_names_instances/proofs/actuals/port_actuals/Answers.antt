@@ -8,26 +8,23 @@ use Rattle.vhdl_names_types.specs.Views.{sight_view}
 use Rattle.vhdl_names_expressions.proofs.Each.{behind}
 use Rattle.vhdl_names_instances.specs.Views.{actual_view}
 use Rattle.vhdl_names_instances.specs.steps.Actuals as steps
-use Rattle.vhdl_names_problems.specs.Broken.{Tells}
-use Rattle.vhdl_names_instances.specs.Breaking as breaking
-use Rattle.vhdl_names_instances.proofs.Porting.{all_entries}
 use Rattle.vhdl_names_instances.proofs.Actual.{port_fails, port_goes, actuals_end}
 use Rattle.vhdl_names_instances.proofs.actuals.port_actuals.Goals as goal
 
-pub returns-in_err-entry-clause-given : goal.returns-in_err-entry-clause-given
-returns-in_err-entry-clause-given c =
+pub returns-in_err-entry : goal.returns-in_err-entry
+returns-in_err-entry c =
     let s = sight_view c.args.sight.now in
     let es = map actual_view c.args.actuals.now in
     let f : c.in_err-entry.field-0.0 ≢ NoMemory → steps.port_actuals s c.args.ports.now es ≡ None =
-    λ n. port_fails s _ _ c.args.ports.now es c.loop-index.index c.loop-index.invariant (c.in_err-entry.ensures.given n) in
+    λ n. port_fails s _ _ c.args.ports.now es c.loop-index.index c.loop-index.invariant (c.in_err-entry.ensures n) in
     first_of (search rules, grind (arith, common_steps))
 
-pub returns-in-None-clause-given : goal.returns-in-None-clause-given
-returns-in-None-clause-given c =
+pub returns-in-None : goal.returns-in-None
+returns-in-None c =
     let s = sight_view c.args.sight.now in
     let es = map actual_view c.args.actuals.now in
     actuals_end s _ _ c.args.ports.now es c.loop-index.index c.loop-index.invariant
-    (c.in_ok-entry.ensures.given ∙ ap (λ o. Some (option_map (option_map place_view) o)) c.in-None.is)
+    (c.in_ok-entry.ensures ∙ ap (λ o. Some (option_map (option_map place_view) o)) c.in-None.is)
 
 pub loop-index-preserved : goal.loop-index-preserved
 loop-index-preserved c =
@@ -37,15 +34,7 @@ loop-index-preserved c =
     let x = option_map place_view c.in-Some.place in
     let e : suc c.loop-index.index ≡ c.loop-index.index + 1 = omega arith in
     port_goes s _ _ ps es c.loop-index.index c.loop-index.invariant x
-    (c.in_ok-entry.ensures.given ∙ ap (λ o. Some (option_map (option_map place_view) o)) c.in-Some.is)
+    (c.in_ok-entry.ensures ∙ ap (λ o. Some (option_map (option_map place_view) o)) c.in-Some.is)
     ∙ ap (λ j. behind (map (option_map place_view) c.loop-index.all.items ++ x ∷ []) (steps.port_actuals s (drop j ps) (drop j es))) e
     ∙ ap (λ ys. behind ys (steps.port_actuals s (drop (c.loop-index.index + 1) ps) (drop (c.loop-index.index + 1) es)))
     (sym (ap (map (option_map place_view)) c.in_ok-push-in-Some.ensures.items ∙ map-append (option_map place_view) c.loop-index.all.items (c.in-Some.place ∷ [])))
-
-pub returns-in_err-entry-clause-told : goal.returns-in_err-entry-clause-told
-returns-in_err-entry-clause-told c =
-    let s = sight_view c.args.sight.now in
-    let es = map actual_view c.args.actuals.now in
-    let f : Tells (breaking.port_actuals (sight_view c.args.sight.now) c.args.ports.now (map actual_view c.args.actuals.now)) c.in_err-entry.field-0.0 =
-    all_entries s c.args.ports.now es c.loop-index.index c.in_err-entry.field-0.0 c.in_err-entry.ensures.told in
-    first_of (search rules, grind (arith, common_steps))

@@ -1,11 +1,12 @@
-use Rattle.std.proofs.Common.{rules, arith, ◌≡◌, false, not, ◌||◌, [], ◌∷◌, refl, ap, sym, ◌∙◌, subst}
+use Rattle.std.proofs.Common.{rules, arith, ◌≡◌, true, false, not, ◌||◌, ap, sym, ◌∙◌, subst}
 use Rattle.std.proofs.lemmas.Grind.{common_steps}
 use Rattle.vhdl_tree.specs.View.{association_view}
 use Rattle.vhdl_names_rules.specs.declared.fault.NameProblem.TheVariants.{Undeclared, Twice, WrongKind}
 use Rattle.vhdl_names_rules.specs.Visibility.{is_among}
 use Rattle.vhdl_names_rules.specs.Instances.{is_named}
 use Rattle.vhdl_names_labels.specs.Once.{names_view}
-use Rattle.vhdl_names_problems.specs.Broken.{Tells, is_of, unless}
+use Rattle.vhdl_names_problems.specs.Broken.{Tells, refused, unless}
+use Rattle.vhdl_names_problems.specs.Places.{association_place}
 use Rattle.vhdl_names_problems.proofs.Telling.{told_on}
 use Rattle.vhdl_names_instances.specs.Breaking.{one_association}
 use Rattle.vhdl_names_instances.proofs.Taking.{behind_told, no_formal_told, unknown_told, twice_told}
@@ -17,8 +18,9 @@ returns-in_err-name-clause-told c =
     let fs = names_view c.args.formals.now in
     let ts = names_view c.args.taken.now in
     let a = association_view c.args.association.now in
+    let p : (not c.args.is_behind_named || is_named a) ≡ true = first_of (search rules, grind (arith, common_steps)) in
     passed_told (one_association fs c.args.index c.args.is_behind_named ts a) c.in_err-name.field-0.0 _ c.from_residual.result c.from_residual.ensures.1 (λ e p. p)
-    (no_formal_told fs c.args.index c.args.is_behind_named ts a c.in_err-name.field-0.0 c.in_err-name.ensures.told)
+    (no_formal_told fs c.args.index c.args.is_behind_named ts a c.in_err-name.field-0.0 p c.in_err-name.ensures.told)
 
 pub returns-then-not-is_named-clause-told : goal.returns-then-not-is_named-clause-told
 returns-then-not-is_named-clause-told c =
@@ -27,21 +29,25 @@ returns-then-not-is_named-clause-told c =
     let a = association_view c.args.association.now in
     let q : c.is_named.result ≡ false = first_of (search rules, grind (arith, common_steps)) in
     behind_told fs c.args.index c.args.is_behind_named ts a c.at.result (ap (λ b. not b || is_named a) c.if-is_behind_named.true ∙ sym c.is_named.ensures ∙ q)
-    (subst (Tells (is_of (WrongKind ∷ []))) (sym c.at.ensures) refl)
+    (subst (Tells (refused WrongKind (association_place a))) (sym c.at.ensures) (ap (refused WrongKind) (sym c.place.ensures)))
 
 pub returns-then-not-has_name-clause-told : goal.returns-then-not-has_name-clause-told
 returns-then-not-has_name-clause-told c =
     let fs = names_view c.args.formals.now in
     let ts = names_view c.args.taken.now in
     let a = association_view c.args.association.now in
+    let p : (not c.args.is_behind_named || is_named a) ≡ true = first_of (search rules, grind (arith, common_steps)) in
     let q : c.has_name.result ≡ false = first_of (search rules, grind (arith, common_steps)) in
-    unknown_told fs c.args.index c.args.is_behind_named ts a c.at-then-not-has_name.result c.in_ok-name.name.now c.in_ok-name.ensures.given (sym c.has_name.ensures ∙ q)
-    (subst (Tells (is_of (Undeclared ∷ []))) (sym c.at-then-not-has_name.ensures) refl)
+    unknown_told fs c.args.index c.args.is_behind_named ts a c.at-then-not-has_name.result p c.in_ok-name.name.now c.in_ok-name.ensures.given (sym c.has_name.ensures ∙ q)
+    (subst (Tells (refused Undeclared (association_place a))) (sym c.at-then-not-has_name.ensures) (ap (refused Undeclared) (sym c.place-then-not-has_name.ensures)))
 
 pub returns-clause-told : goal.returns-clause-told
 returns-clause-told c =
     let fs = names_view c.args.formals.now in
     let ts = names_view c.args.taken.now in
     let a = association_view c.args.association.now in
-    told_on (unless Twice (not (is_among c.in_ok-name.name.now ts))) (one_association fs c.args.index c.args.is_behind_named ts a) c.add_name.result
-    (λ f w. twice_told fs c.args.index c.args.is_behind_named ts a f c.in_ok-name.name.now c.in_ok-name.ensures.given w) c.add_name.ensures.told
+    let p : (not c.args.is_behind_named || is_named a) ≡ true = first_of (search rules, grind (arith, common_steps)) in
+    let q : c.has_name.result ≡ true = first_of (search rules, grind (arith, common_steps)) in
+    told_on (unless Twice c.place-2.result (not (is_among c.in_ok-name.name.now ts))) (one_association fs c.args.index c.args.is_behind_named ts a) c.add_name.result
+    (λ f w. twice_told fs c.args.index c.args.is_behind_named ts a f p c.in_ok-name.name.now c.in_ok-name.ensures.given (sym c.has_name.ensures ∙ q)
+    (subst (λ at. Tells (unless Twice at (not (is_among c.in_ok-name.name.now ts))) f) c.place-2.ensures w)) c.add_name.ensures.told

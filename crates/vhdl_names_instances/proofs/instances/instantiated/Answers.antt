@@ -1,4 +1,4 @@
-use Rattle.std.proofs.Common.{[], ◌∷◌, ap, sym}
+use Rattle.std.proofs.Common.{ap, sym}
 use Rattle.vhdl_names_rules.specs.declared.fault.NameProblem.TheVariants.{WrongKind}
 use Rattle.vhdl_names_rules.specs.Visibility as visibility
 use Rattle.vhdl_names_rules.specs.Instances.{as_component}
@@ -7,6 +7,7 @@ use Rattle.vhdl_names_problems.specs.Expressions.{meaning}
 use Rattle.std.specs.Prelude.{option_map}
 use Rattle.vhdl_names_problems.specs.Instances as broken
 use Rattle.vhdl_names_problems.proofs.Telling.{told_left, told_right, told_given, told_on}
+use Rattle.vhdl_names_problems.proofs.kept.Expressions.{meaning_kept}
 use Rattle.vhdl_names_instances.specs.Breaking as breaking
 use Rattle.vhdl_names_instances.proofs.Told.{told_along, passed_told}
 use Rattle.vhdl_names_instances.proofs.Instanced.{entity_of_told}
@@ -39,19 +40,20 @@ returns-in-Entity-clause-told c = λ es are.
 pub returns-in_err-meaning-in-Component-clause-told : goal.returns-in_err-meaning-in-Component-clause-told
 returns-in_err-meaning-in-Component-clause-told c = λ es are.
     let s = sight_view c.args.sight.now in
-    let n = c.in-Component.name.text.items in
+    let n = tree.ident_view c.in-Component.name in
     let fault = c.in_err-meaning-in-Component.field-0.0 in
     passed_told (broken.instantiated es s (tree.instantiated_view c.args.unit.now)) fault _ c.from_residual.result c.from_residual.ensures.1 (λ e p. p)
     (told_along (λ u. broken.instantiated es s (tree.instantiated_view u)) _ c.args.unit.now (sym c.in-Component.is) fault
-    (told_left (meaning s n) (where_given (visibility.meaning s n) (λ d. lacking (WrongKind ∷ []) (as_component d))) fault c.in_err-meaning-in-Component.ensures.told))
+    (told_left (meaning s n) (where_given (visibility.meaning s n.text) (λ d. lacking WrongKind n.at (as_component d))) fault c.in_err-meaning-in-Component.ensures.told))
 
 pub returns-in_ok-meaning-in-Component-clause-told : goal.returns-in_ok-meaning-in-Component-clause-told
 returns-in_ok-meaning-in-Component-clause-told c = λ es are.
     let s = sight_view c.args.sight.now in
-    let n = c.in-Component.name.text.items in
+    let n = tree.ident_view c.in-Component.name in
     let m = meaning_view c.in_ok-meaning-in-Component.meaning.now in
-    told_on (lacking (WrongKind ∷ []) (as_component m)) (broken.instantiated es s (tree.instantiated_view c.args.unit.now)) c.as_component.result
+    told_on (lacking WrongKind n.at (as_component m)) (broken.instantiated es s (tree.instantiated_view c.args.unit.now)) c.as_component.result
     (λ f w. told_along (λ u. broken.instantiated es s (tree.instantiated_view u)) _ c.args.unit.now (sym c.in-Component.is) f
-    (told_right (meaning s n) (where_given (visibility.meaning s n) (λ d. lacking (WrongKind ∷ []) (as_component d))) f
-    (told_given (λ d. lacking (WrongKind ∷ []) (as_component d)) (visibility.meaning s n) m f c.in_ok-meaning-in-Component.ensures.meant w)))
+    (told_right (meaning s n) (where_given (visibility.meaning s n.text) (λ d. lacking WrongKind n.at (as_component d))) f
+    (meaning_kept s n m c.in_ok-meaning-in-Component.ensures.meant)
+    (told_given (λ d. lacking WrongKind n.at (as_component d)) (visibility.meaning s n.text) m f c.in_ok-meaning-in-Component.ensures.meant w)))
     c.as_component.ensures.told

@@ -1,39 +1,66 @@
-use Rattle.std.proofs.Common.{map, ap}
+use Rattle.std.proofs.Common.{arith, ◌<◌, ◌≤◌, length, false, map, ap, sym}
+use Rattle.vhdl_tree.specs.Tree.{Expr}
 use Rattle.vhdl_tree.specs.View.{association_view}
-use Rattle.vhdl_names_problems.specs.Broken.{any_of, of_any}
-use Rattle.vhdl_names_problems.specs.Expressions.{static}
-use Rattle.vhdl_names_problems.specs.Instances.{associated, generic_map}
-use Rattle.vhdl_names_problems.proofs.Telling.{told_left, told_right, told_on}
-use Rattle.vhdl_names_types.specs.Views.{sight_view}
+use Rattle.vhdl_names_rules.specs.Visibility.{Name}
 use Rattle.vhdl_names_labels.specs.Once.{names_view}
-use Rattle.vhdl_names_rules.specs.Instances.{expression_of}
-use Rattle.vhdl_names_instances.specs.Views.{actual_view}
+use Rattle.vhdl_names_problems.specs.Broken.{Broken}
+use Rattle.vhdl_names_problems.specs.Expressions.{static}
+use Rattle.vhdl_names_problems.specs.Instances.{associations, generic_map}
+use Rattle.vhdl_names_types.specs.Views.{sight_view}
 use Rattle.vhdl_names_instances.specs.Table.{items}
-use Rattle.vhdl_names_instances.specs.steps.Associations.{actuals}
-use Rattle.vhdl_names_instances.proofs.Told.{told_along}
-use Rattle.vhdl_names_instances.proofs.Porting.{actuals_told}
+use Rattle.vhdl_names_instances.specs.steps.Maps.{is_static, reading}
+use Rattle.vhdl_names_instances.proofs.Porting.{static_keeps, generics_given}
+use Rattle.vhdl_names_instances.proofs.Reading.{told_here, broken_here, reading_here, broken_end, reading_end}
+use Rattle.vhdl_names_instances.proofs.Told.{passed_told}
 use Rattle.vhdl_names_instances.proofs.maps.generic_map.Goals as goal
 
-pub returns-in-Ok : goal.returns-in-Ok
-returns-in-Ok c =
+pub loop-index-init : goal.loop-index-init
+loop-index-init c =
     let s = sight_view c.args.sight.now in
     let fs = names_view c.args.formals.now in
     let as' = map association_view c.args.list.now in
-    told_on (associated fs as') (generic_map s fs as') c.take_all-formals.result
-    (λ f. told_left (associated fs as') (any_of (λ a. of_any (static s) (expression_of a.actual)) as') f)
-    (c.take_all-formals.ensures.told (ap (map items) c.new-taken.ensures.empty))
+    let none = sym (ap (map items) c.new-taken.ensures.empty) in
+    (ap (λ ts. associations fs (λ n e. static s e) fs false ts as') none, ap (λ ts. reading fs (is_static s) 0 false ts as') none)
 
-pub returns : goal.returns
-returns c =
+pub returns-in_err-read_generic-clause-told : goal.returns-in_err-read_generic-clause-told
+returns-in_err-read_generic-clause-told c =
     let s = sight_view c.args.sight.now in
     let fs = names_view c.args.formals.now in
-    let as' = map association_view c.args.list.now in
-    let ts = names_view c.take_all-formals.new.taken in
-    let own = any_of (λ a. of_any (static s) (expression_of a.actual)) as' in
-    c.earlier_in.ensures.told (generic_map s fs as')
-    (told_right (associated fs as') own c.in-Err.fault
-    (actuals_told (static s) ts ts as' c.in-Err.fault
-    (told_along (any_of (of_any (static s))) (map actual_view c.in_ok-actuals.actuals.items) (actuals ts ts as') c.in_ok-actuals.ensures c.in-Err.fault
-    (told_along (λ l. any_of (of_any (static s)) (map actual_view l)) _ c.in_ok-actuals.actuals.items c.deref.ensures.value c.in-Err.fault c.in-Err.ensures.told))))
-    (told_on (associated fs as') (generic_map s fs as') c.take_all-formals.result (λ f. told_left (associated fs as') own f)
-    (c.take_all-formals.ensures.told (ap (map items) c.new-taken.ensures.empty)))
+    let actual : Name → Expr → Broken = λ n e. static s e in
+    let whole = generic_map s fs (map association_view c.args.list.now) in
+    let fault = c.in_err-read_generic.field-0.0 in
+    let lt : c.loop-index.index < length c.args.list.now = omega arith in
+    passed_told whole fault _ c.from_residual.result c.from_residual.ensures.1 (λ e p. p)
+    (told_here fs actual c.args.list.now c.loop-index.index c.index-list-index.result lt c.index-list-index.is c.loop-index.is_behind_named (names_view c.loop-index.taken) whole
+    c.loop-index.invariant.0 fault c.in_err-read_generic.ensures.told)
+
+pub loop-index-preserved : goal.loop-index-preserved
+loop-index-preserved c =
+    let s = sight_view c.args.sight.now in
+    let fs = names_view c.args.formals.now in
+    let actual : Name → Expr → Broken = λ n e. static s e in
+    let cs = c.args.list.now in
+    let i = c.loop-index.index in
+    let ts = names_view c.loop-index.taken in
+    let ts' = names_view c.read_generic.new.taken in
+    let lt : c.loop-index.index < length c.args.list.now = omega arith in (
+      broken_here fs actual (is_static s) (static_keeps s) cs i c.index-list-index.result lt c.index-list-index.is c.loop-index.is_behind_named ts _ c.loop-index.invariant.0
+          c.is_named-is_behind_named.result c.is_named-is_behind_named.ensures ts' c.in_ok-read_generic.ensures.read,
+      reading_here fs actual (is_static s) (static_keeps s) cs i c.index-list-index.result lt c.index-list-index.is c.loop-index.is_behind_named ts _ c.loop-index.invariant.1
+          c.is_named-is_behind_named.result c.is_named-is_behind_named.ensures ts' c.in_ok-read_generic.ensures.read,
+    )
+
+pub returns-clause-kept : goal.returns-clause-kept
+returns-clause-kept c =
+    let le : length c.args.list.now ≤ c.loop-index.index = omega arith in
+    broken_end (names_view c.args.formals.now) (λ n e. static (sight_view c.args.sight.now) e) c.args.list.now c.loop-index.index c.loop-index.is_behind_named (names_view c.loop-index.taken) _ le
+    c.loop-index.invariant.0
+
+pub returns-clause-given : goal.returns-clause-given
+returns-clause-given c =
+    let s = sight_view c.args.sight.now in
+    let fs = names_view c.args.formals.now in
+    let ts = names_view c.loop-index.taken in
+    let le : length c.args.list.now ≤ c.loop-index.index = omega arith in
+    generics_given s fs (map association_view c.args.list.now) ts
+    (reading_end fs (is_static s) c.args.list.now c.loop-index.index c.loop-index.is_behind_named ts _ le c.loop-index.invariant.1)

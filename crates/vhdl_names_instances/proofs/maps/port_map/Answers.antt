@@ -1,42 +1,59 @@
-use Rattle.std.proofs.Common.{map, ap}
-use Rattle.std.specs.Prelude.{filter_map, zip}
+use Rattle.std.proofs.Common.{arith, ◌<◌, ◌≤◌, length, false, map, ap, sym}
+use Rattle.vhdl_tree.specs.Tree.{Expr}
 use Rattle.vhdl_tree.specs.View.{association_view}
-use Rattle.vhdl_names_problems.specs.Broken.{any_of}
-use Rattle.vhdl_names_problems.specs.Instances.{associated, formal_names, port_association, port_map}
-use Rattle.vhdl_names_problems.proofs.Telling.{told_left, told_on}
-use Rattle.vhdl_names_types.specs.Views.{sight_view}
-use Rattle.vhdl_names_labels.specs.Once.{names_view}
+use Rattle.vhdl_names_rules.specs.Visibility.{Name}
 use Rattle.vhdl_names_rules.specs.Instances.{Formal}
-use Rattle.vhdl_names_instances.specs.Breaking.{port_actuals, typed_as}
-use Rattle.vhdl_names_instances.specs.Views.{actual_view}
+use Rattle.vhdl_names_labels.specs.Once.{names_view}
+use Rattle.vhdl_names_problems.specs.Broken.{Broken, any_of}
+use Rattle.vhdl_names_problems.specs.Instances.{associations, port_actual, ports_named, port_map}
+use Rattle.vhdl_names_types.specs.Views.{sight_view}
 use Rattle.vhdl_names_instances.specs.Table.{items}
-use Rattle.vhdl_names_instances.specs.steps.Associations.{actuals}
-use Rattle.vhdl_names_instances.proofs.Told.{told_along}
-use Rattle.vhdl_names_instances.proofs.Porting.{ports_told, taken_types, taken_along}
+use Rattle.vhdl_names_instances.specs.steps.Maps.{fits, reading}
+use Rattle.vhdl_names_instances.proofs.Porting.{port_keeps, ports_given}
+use Rattle.vhdl_names_instances.proofs.Reading.{told_here, broken_here, reading_here, reading_end}
+use Rattle.vhdl_names_instances.proofs.Told.{passed_told}
 use Rattle.vhdl_names_instances.proofs.maps.port_map.Goals as goal
 
-pub returns-in-Ok : goal.returns-in-Ok
-returns-in-Ok c = λ all h k.
+pub loop-index-init : goal.loop-index-init
+loop-index-init c = λ all h k.
     let s = sight_view c.args.sight.now in
+    let fs = map (λ (f : Formal). f.name) all in
     let as' = map association_view c.args.list.now in
-    told_on (associated (names_view c.args.formals.now.ports) as') (port_map s all as') c.take_all-ports.result
-    (λ f w. told_left (associated (map (λ (f : Formal). f.name) all) as') (any_of (port_association s all) (zip (formal_names (map (λ (f : Formal). f.name) all) as') as')) f
-    (told_along (λ ns. associated ns as') (names_view c.args.formals.now.ports) (map (λ (f : Formal). f.name) all) h f w))
-    (c.take_all-ports.ensures.told (ap (map items) c.new-taken.ensures.empty))
+    let none = sym (ap (map items) c.new-taken.ensures.empty) in
+    (ap (λ ts. associations fs (λ n e. any_of (λ f. port_actual s f e) (ports_named all n)) fs false ts as') none, ap (λ ts. reading fs (fits s all) 0 false ts as') none)
 
-pub returns : goal.returns
-returns c = λ all h k.
+pub returns-in_err-read_port-clause-told : goal.returns-in_err-read_port-clause-told
+returns-in_err-read_port-clause-told c = λ all h k.
     let s = sight_view c.args.sight.now in
-    let as' = map association_view c.args.list.now in
-    let ts = names_view c.take_all-ports.new.taken in
-    let taken = taken_along (names_view c.args.formals.now.ports) (map (λ (f : Formal). f.name) all) h as' ts (c.take_all-ports.ensures.kept (ap (map items) c.new-taken.ensures.empty)) in
-    c.earlier_in.ensures.told (port_map s all as')
-    (ports_told s c.in-Err.fault all ts (filter_map (typed_as all) ts) (taken_types all ts taken.are_formals) as' ts taken
-    (told_along (λ ps. port_actuals s ps (actuals ts ts as')) _ (filter_map (typed_as all) ts) (c.in_ok-types.ensures all h k) c.in-Err.fault
-    (told_along (port_actuals s c.in_ok-types.types.items) (map actual_view c.in_ok-actuals.actuals.items) (actuals ts ts as') c.in_ok-actuals.ensures c.in-Err.fault
-    (told_along (λ l. port_actuals s c.in_ok-types.types.items (map actual_view l)) _ c.in_ok-actuals.actuals.items c.deref-2.ensures.value c.in-Err.fault
-    (told_along (λ ps. port_actuals s ps (map actual_view c.deref-2.result.now)) _ c.in_ok-types.types.items c.deref.ensures.value c.in-Err.fault c.in-Err.ensures.told)))))
-    (told_on (associated (names_view c.args.formals.now.ports) as') (port_map s all as') c.take_all-ports.result
-    (λ f w. told_left (associated (map (λ (f : Formal). f.name) all) as') (any_of (port_association s all) (zip (formal_names (map (λ (f : Formal). f.name) all) as') as')) f
-    (told_along (λ ns. associated ns as') (names_view c.args.formals.now.ports) (map (λ (f : Formal). f.name) all) h f w))
-    (c.take_all-ports.ensures.told (ap (map items) c.new-taken.ensures.empty)))
+    let fs = map (λ (f : Formal). f.name) all in
+    let actual : Name → Expr → Broken = λ n e. any_of (λ f. port_actual s f e) (ports_named all n) in
+    let whole = port_map s all (map association_view c.args.list.now) in
+    let fault = c.in_err-read_port.field-0.0 in
+    let lt : c.loop-index.index < length c.args.list.now = omega arith in
+    passed_told whole fault _ c.from_residual.result c.from_residual.ensures.1 (λ e p. p)
+    (told_here fs actual c.args.list.now c.loop-index.index c.index-list-index.result lt c.index-list-index.is c.loop-index.is_behind_named (names_view c.loop-index.taken) whole
+    (c.loop-index.invariant all h k).0 fault (c.in_err-read_port.ensures.told all h k))
+
+pub loop-index-preserved : goal.loop-index-preserved
+loop-index-preserved c = λ all h k.
+    let s = sight_view c.args.sight.now in
+    let fs = map (λ (f : Formal). f.name) all in
+    let actual : Name → Expr → Broken = λ n e. any_of (λ f. port_actual s f e) (ports_named all n) in
+    let cs = c.args.list.now in
+    let i = c.loop-index.index in
+    let ts = names_view c.loop-index.taken in
+    let ts' = names_view c.read_port.new.taken in
+    let lt : c.loop-index.index < length c.args.list.now = omega arith in (
+      broken_here fs actual (fits s all) (λ n e. port_keeps s n e all) cs i c.index-list-index.result lt c.index-list-index.is c.loop-index.is_behind_named ts _
+          (c.loop-index.invariant all h k).0 c.is_named-is_behind_named.result c.is_named-is_behind_named.ensures ts' (c.in_ok-read_port.ensures.read all h k),
+      reading_here fs actual (fits s all) (λ n e. port_keeps s n e all) cs i c.index-list-index.result lt c.index-list-index.is c.loop-index.is_behind_named ts _
+          (c.loop-index.invariant all h k).1 c.is_named-is_behind_named.result c.is_named-is_behind_named.ensures ts' (c.in_ok-read_port.ensures.read all h k),
+    )
+
+pub returns-clause-given : goal.returns-clause-given
+returns-clause-given c = λ all h k.
+    let s = sight_view c.args.sight.now in
+    let ts = names_view c.loop-index.taken in
+    let le : length c.args.list.now ≤ c.loop-index.index = omega arith in
+    ports_given s all (map association_view c.args.list.now) ts
+    (reading_end (map (λ (f : Formal). f.name) all) (fits s all) c.args.list.now c.loop-index.index c.loop-index.is_behind_named ts _ le (c.loop-index.invariant all h k).1)

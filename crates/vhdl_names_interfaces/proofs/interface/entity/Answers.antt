@@ -1,7 +1,7 @@
-use Rattle.std.proofs.Common.{rules, arith, ◌≡◌, ◌≢◌, [], map, option_map, Some, None, sym, ap, ◌∙◌}
+use Rattle.std.proofs.Common.{rules, arith, ◌≡◌, ◌≢◌, map, option_map, Some, None, sym, ap, ◌∙◌}
 use Rattle.std.proofs.lemmas.Grind.{common_steps}
 use Rattle.vhdl_names_rules.specs.declared.fault.NameFault.TheVariants.{NoMemory}
-use Rattle.vhdl_names_rules.specs.Rules.{◌>>=◌, met}
+use Rattle.vhdl_names_rules.specs.Rules.{◌>>=◌}
 use Rattle.vhdl_names_rules.specs.Packages.{sight_of}
 use Rattle.vhdl_names_rules.specs.Interfaces as r
 use Rattle.vhdl_tree.specs.View as view
@@ -68,8 +68,11 @@ pub returns-in_err-ends-clause-told : goal.returns-in_err-ends-clause-told
 returns-in_err-ends-clause-told c =
     let items = map view.context_view c.args.items.now in
     let e = view.entity_view c.args.tree.now in
+    let k = context_view c.in_ok-context.context in
+    let i = interface_in (sight_view c.interface_of.new.sight).region (c.in_ok-generics.generics, c.in_ok-generics.ports) in
+    let seen = ap (λ l. Some (sight_of k (map entry_view l))) (sym c.new.ensures.empty) ∙ c.in_ok-sight.ensures.sight in
     tells.passed_on (broken.entity items e) c.in_err-ends.field-0.0 _ c.from_residual-in_err-ends.result c.from_residual-in_err-ends.ensures.1 (λ e p. p)
-    (end_told items e c.in_err-ends.field-0.0 c.in_err-ends.ensures.told)
+    (end_told items e c.in_err-ends.field-0.0 k (sight_view c.in_ok-sight.sight) c.in_ok-context.ensures.given seen i c.in_ok-generics.ensures.given c.in_err-ends.ensures.told)
 
 pub returns-in_err-sight-clause-told : goal.returns-in_err-sight-clause-told
 returns-in_err-sight-clause-told c =

@@ -1,4 +1,4 @@
-use Rattle.std.proofs.Common.{rules, arith, ◌≡◌, []}
+use Rattle.std.proofs.Common.{rules, arith}
 use Rattle.std.proofs.lemmas.Grind.{common_steps}
 use Rattle.vhdl_tree.specs.View as view
 use Rattle.vhdl_names_types.specs.Views.{sight_view}
@@ -14,7 +14,7 @@ returns-in_err-generics-clause-told c =
     let gs = view.option_generics_view c.args.generics.now in
     let ps = view.option_ports_view c.args.ports.now in
     let f : Tells (broken.interface (sight_view c.args.sight.now) (view.option_generics_view c.args.generics.now) (view.option_ports_view c.args.ports.now)) c.in_err-generics.field-0.0 =
-    generics_told s gs ps c.in_err-generics.field-0.0 c.requires c.in_err-generics.ensures.told in
+    generics_told s gs ps c.in_err-generics.field-0.0 c.in_err-generics.ensures.told in
     first_of (search rules, grind (arith, common_steps))
 
 pub returns-in_err-ports-clause-told : goal.returns-in_err-ports-clause-told
@@ -23,5 +23,5 @@ returns-in_err-ports-clause-told c =
     let gs = view.option_generics_view c.args.generics.now in
     let ps = view.option_ports_view c.args.ports.now in
     let f : Tells (broken.interface (sight_view c.args.sight.now) (view.option_generics_view c.args.generics.now) (view.option_ports_view c.args.ports.now)) c.in_err-ports.field-0.0 =
-    ports_told s (sight_view c.generics_if_any.new.sight) gs ps (all_generics_view c.in_ok-generics.generics) c.in_err-ports.field-0.0 c.requires c.in_ok-generics.ensures.given c.in_err-ports.ensures.told in
+    ports_told s (sight_view c.generics_if_any.new.sight) gs ps (all_generics_view c.in_ok-generics.generics) c.in_err-ports.field-0.0 c.in_ok-generics.ensures.given c.in_err-ports.ensures.told in
     first_of (search rules, grind (arith, common_steps))

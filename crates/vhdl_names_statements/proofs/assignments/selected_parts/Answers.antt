@@ -5,7 +5,7 @@ use Rattle.vhdl_names_rules.specs.declared.fault.NameProblem.TheVariants.{LeftOu
 use Rattle.vhdl_names_rules.specs.Rules.{each}
 use Rattle.vhdl_names_types.specs.Views.{sight_view}
 use Rattle.vhdl_names_units.specs.views.Sequential as views
-use Rattle.vhdl_names_problems.specs.Broken.{Tells, ◌∪◌, any_of, lacking}
+use Rattle.vhdl_names_problems.specs.Broken.{Tells, ◌▸◌, any_of, lacking}
 use Rattle.vhdl_names_problems.specs.Choices.{covered}
 use Rattle.vhdl_names_problems.specs.Statements as broken
 use Rattle.vhdl_names_problems.proofs.Telling.{told_left, told_on}
@@ -49,7 +49,7 @@ returns-in-Err-clause-told c =
     let b = chosen_values s a.target f k a.waveforms in
     let lists : all_lists c.deref-in-Err.result.now ≡ steps.choice_lists a.waveforms =
     ap all_lists c.deref-in-Err.ensures.value ∙ c.in_ok-lists.ensures ∙ ap (λ ws. steps.choice_lists (map tree.waveform_view ws)) c.deref.ensures.value in
-    parts_told s a f k (told_along _ _ f (ap (λ l. b ∪ covered s k l) lists)
+    parts_told s a f k (told_along _ _ f (ap (λ l. b ▸ covered s k l) lists)
     (c.first_fault.ensures.told b (waveforms_told s a.target c.in-Err.fault k a.waveforms
     (told_along _ _ c.in-Err.fault (ap (λ ws. any_of (told.chosen s k a.target) (map tree.waveform_view ws)) c.deref-2.ensures.value) c.in-Err.ensures.told))))
 

@@ -5,7 +5,7 @@ use Rattle.vhdl_names_rules.specs.declared.fault.NameProblem.TheVariants.{WrongK
 use Rattle.vhdl_names_rules.specs.Rules.{met}
 use Rattle.vhdl_names_rules.specs.Visibility.{are_distinct}
 use Rattle.vhdl_names_rules.specs.Choices.{only_last_others, is_last_others, names_all}
-use Rattle.vhdl_names_problems.specs.Broken.{Tells, unless, ◌∪◌}
+use Rattle.vhdl_names_problems.specs.Broken.{Tells, unless, ◌▸◌}
 use Rattle.vhdl_names_problems.proofs.Telling.{told_left, told_right, told_on}
 use Rattle.vhdl_names_labels.specs.Once.{key_of, names_view}
 use Rattle.vhdl_names_statements.specs.steps.Told as told
@@ -30,9 +30,9 @@ returns-in-Err-clause-told c =
     let u = unless ChoiceTwice (are_distinct (map key_of (steps.all_choices all))) in
     let n = unless NoOthers (is_last_others lists || names_all k (steps.all_choices all)) in
     c.earlier_in.ensures.told (told.uncovered k lists (steps.all_choices all))
-    (told_right o (u ∪ n) c.in-Err.fault (told_left u n c.in-Err.fault (told_unless ChoiceTwice (are_distinct (map key_of (steps.all_choices all))) c.in-Err.fault
+    (told_right o (u ▸ n) c.in-Err.fault (told_left u n c.in-Err.fault (told_unless ChoiceTwice (are_distinct (map key_of (steps.all_choices all))) c.in-Err.fault
     (λ g. ap met (told_apart_told all c.in-Err.fault c.in-Err.ensures.given g)) c.in-Err.ensures.told)))
-    (told_on o (told.uncovered k lists (steps.all_choices all)) _ (λ f. told_left o (u ∪ n) f) c.others_last.ensures.told)
+    (told_on o (told.uncovered k lists (steps.all_choices all)) _ (λ f. told_left o (u ▸ n) f) c.others_last.ensures.told)
 
 pub returns-in_err-others_last-clause-told : goal.returns-in_err-others_last-clause-told
 returns-in_err-others_last-clause-told c =
@@ -42,7 +42,7 @@ returns-in_err-others_last-clause-told c =
     let o = unless WrongKind (only_last_others lists) in
     let u = unless ChoiceTwice (are_distinct (map key_of (steps.all_choices all))) in
     let n = unless NoOthers (is_last_others lists || names_all k (steps.all_choices all)) in
-    let h : Tells (told.uncovered k lists (steps.all_choices all)) c.in_err-others_last.field-0.0 = told_left o (u ∪ n) c.in_err-others_last.field-0.0 c.in_err-others_last.ensures.told in
+    let h : Tells (told.uncovered k lists (steps.all_choices all)) c.in_err-others_last.field-0.0 = told_left o (u ▸ n) c.in_err-others_last.field-0.0 c.in_err-others_last.ensures.told in
     first_of (search rules, grind (arith, common_steps))
 
 pub returns-clause-told : goal.returns-clause-told
@@ -60,5 +60,5 @@ returns-clause-told c =
           neither (is_last_others lists) (steps.has_all k (names_view c.in-Ok.keys)) (sym c.ends_in_others.ensures ∙ w.if-ends_in_others.false)
           (sym w.names_all.ensures ∙ sym w.value-is ∙ c.if-names_all.false)
     ] in
-    told_right o (u ∪ n) c.at.result (told_right u n c.at.result (told_unless NoOthers (is_last_others lists || names_all k (steps.all_choices all)) c.at.result
+    told_right o (u ▸ n) c.at.result (told_right u n c.at.result (told_unless NoOthers (is_last_others lists || names_all k (steps.all_choices all)) c.at.result
     (λ g. ap met (not_all k lists all (names_view c.in-Ok.keys) c.in-Ok.ensures.given e)) (first_of (search rules, grind (arith, common_steps)))))

@@ -12,7 +12,7 @@ use Rattle.vhdl_names_units.specs.views.Sequential.{statement_view, alternatives
 use Rattle.vhdl_names_types.proofs.Along.{gives_along}
 use Rattle.vhdl_names_statements.proofs.steps.Sequential.{if_gives, loop_gives, left_loop}
 use Rattle.vhdl_names_statements.proofs.steps.Cases.{case_gives}
-use Rattle.vhdl_names_problems.specs.Broken.{Broken, Tells, ◌∪◌, lacking}
+use Rattle.vhdl_names_problems.specs.Broken.{Broken, Tells, ◌▸◌, lacking}
 use Rattle.vhdl_names_problems.specs.Expressions.{condition}
 use Rattle.vhdl_names_problems.specs.Choices.{choices, covered}
 use Rattle.vhdl_names_problems.specs.Statements as broken
@@ -248,7 +248,7 @@ case_parts-returns-in-Err-clause-told m c =
     let b = told.alternatives s k alts in
     let lists : cases.all_lists c.deref-in-Err.result.now ≡ cases.choice_lists alts =
     ap cases.all_lists c.deref-in-Err.ensures.value ∙ c.in_ok-lists.ensures ∙ ap (λ xs. cases.choice_lists (map tree.alternative_view xs)) c.deref.ensures.value in
-    part.parts_fault s k l alts end f (by.told_along _ _ f (ap (λ x. b ∪ covered x k (cases.all_lists c.deref-in-Err.result.now)) c.in-Err.ensures.kept ∙ ap (λ xs. b ∪ covered s k xs) lists)
+    part.parts_fault s k l alts end f (by.told_along _ _ f (ap (λ x. b ▸ covered x k (cases.all_lists c.deref-in-Err.result.now)) c.in-Err.ensures.kept ∙ ap (λ xs. b ▸ covered s k xs) lists)
     (c.first_fault.ensures.told b
     (by.told_along _ _ c.in-Err.fault (ap (λ xs. told.alternatives s k (map tree.alternative_view xs)) c.deref-2.ensures.value) c.in-Err.ensures.told)))
 

@@ -1,4 +1,4 @@
-use Rattle.std.proofs.Common.{rules, arith, ◌≡◌, ◌+◌, ◌^◌, ◌<◌, length, take, map, sym, subst, ◌∙◌}
+use Rattle.std.proofs.Common.{arith, ◌+◌, ◌^◌, ◌<◌, length, take, sym, subst}
 use Rattle.std.proofs.lemmas.List.{length-map}
 use Rattle.vhdl_names_types.specs.Views.{region_view, entry_view}
 use Rattle.vhdl_names_declarations.specs.Counts.{AreCounts}

@@ -1,0 +1,16 @@
+use Rattle.std.proofs.Common.{◌≡◌, false, [], map, drop}
+use Rattle.vhdl_tree.specs.View.{association_view}
+use Rattle.vhdl_names_labels.specs.Once.{names_view}
+use Rattle.vhdl_names_problems.specs.Expressions.{static}
+use Rattle.vhdl_names_problems.specs.Instances.{associations, generic_map}
+use Rattle.vhdl_names_types.specs.Views.{sight_view}
+use Rattle.vhdl_names_instances.specs.steps.Maps.{is_static, reading}
+use Rattle.vhdl_names_instances.proofs.maps.generic_map.Given as goal
+
+abbrev pub invariant-loop-index : goal.invariant-loop-index
+invariant-loop-index l =
+    (generic_map (sight_view l.sight) (names_view l.formals) (map association_view l.list)
+    ≡ associations (names_view l.formals) (λ n e. static (sight_view l.sight) e) (drop l.index (names_view l.formals)) l.is_behind_named (names_view l.taken)
+    (map association_view (drop l.index l.list)))
+    × (reading (names_view l.formals) (is_static (sight_view l.sight)) 0 false [] (map association_view l.list)
+    ≡ reading (names_view l.formals) (is_static (sight_view l.sight)) l.index l.is_behind_named (names_view l.taken) (map association_view (drop l.index l.list)))
