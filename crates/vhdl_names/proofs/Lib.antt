@@ -1,11 +1,10 @@
-pub mod Among
 pub mod Behind
-pub mod Bodies
 pub mod Describing
 pub mod Entering
-pub mod Filed
 pub mod Filing
+pub mod Finding
 pub mod Labels
+pub mod Naming
 pub mod Outlining
 pub mod Passing
 pub mod Past
