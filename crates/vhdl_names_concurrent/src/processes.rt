@@ -3,7 +3,6 @@
 ghost use Rattle.std.specs.Prelude.{◌≡◌, List, [], map, IfErr, OnOk};
 ghost use Rattle.vhdl_names_concurrent.specs.Views.{all_places_view};
 ghost use Rattle.vhdl_names_concurrent.specs.steps.Processes as steps;
-ghost use Rattle.vhdl_names_concurrent.specs.steps.Told as told;
 ghost use Rattle.vhdl_names_problems.specs.Broken.{Tells, any_of};
 ghost use Rattle.vhdl_names_problems.specs.Concurrent as broken;
 ghost use Rattle.vhdl_names_problems.specs.Statements as statements;
@@ -11,6 +10,7 @@ ghost use Rattle.vhdl_names_rules.specs.Concurrent as rules;
 ghost use Rattle.vhdl_names_rules.specs.Gives.{Gives};
 ghost use Rattle.vhdl_names_rules.specs.Rules.{each};
 ghost use Rattle.vhdl_names_rules.specs.Visibility.{Sight as SightView, Declared, with_variables};
+ghost use Rattle.vhdl_tree.specs.Tree.{statements_of};
 ghost use Rattle.vhdl_tree.specs.View as tree;
 ghost use Rattle.vhdl_names_types.specs.Views.{sight_view};
 ghost use Rattle.vhdl_names_units.specs.views.Concurrent.{sensitivity_view, process_view};
@@ -57,7 +57,7 @@ fn sensitivity(
     list: &syntax::Sensitivity,
 ) -> Result<Sensitivity, NameFault>
     ensures given { Gives sensitivity_view (rules.sensitivity (sight_view sight.now) (tree.sensitivity_view list.now)) result }
-    ensures told { IfErr result (Tells (broken.sensitivity (sight_view sight.now) (tree.sensitivity_view list.now))) }
+    ensures told { IfErr result (Tells (broken.sensitivity (sight_view sight.now) at (tree.sensitivity_view list.now))) }
 {
     match list {
         syntax::Sensitivity::Absent => Err(NameProblem::NoSensitivity.at(at)),
@@ -77,7 +77,7 @@ fn body(
 ) -> Result<Vec<Statement>, NameFault>
     ensures given { Gives body_view (steps.body (sight_view sight.old) (map tree.sequential_view list.now)) result }
     ensures kept { sight_view sight.new ≡ sight_view sight.old }
-    ensures told { IfErr result (Tells (told.body (sight_view sight.old) (map tree.sequential_view list.now))) }
+    ensures told { IfErr result (Tells (broken.body (sight_view sight.old) (statements_of (map tree.sequential_view list.now)))) }
 {
     let statements = analysed(alloc, sight, list);
     match statement_labels_are_distinct(alloc, list) {

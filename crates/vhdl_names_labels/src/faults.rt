@@ -1,8 +1,9 @@
 //! Which of several faults is told: the first in order of the text.
 
-ghost use Rattle.std.specs.Prelude.{◌≡◌, ◌≢◌, IfErr};
+ghost use Rattle.std.specs.Prelude.{◌≡◌, ◌≢◌, IfErr, IfOk};
 ghost use Rattle.vhdl_names_labels.specs.Faults as rules;
-ghost use Rattle.vhdl_names_problems.specs.Broken.{Broken, Tells};
+ghost use Rattle.vhdl_names_problems.specs.Broken as broken;
+ghost use Rattle.vhdl_names_problems.specs.Broken.{Broken, Tells, nothing};
 ghost use Rattle.vhdl_names_rules.specs.declared.fault.NameFault.TheVariants.{NoMemory};
 
 use vhdl_names_rules::NameFault;
@@ -11,7 +12,7 @@ use vhdl_names_rules::NameFault;
 pub fn earlier(fault: NameFault, other: NameFault) -> NameFault
     ensures first { result ≡ rules.earlier fault other }
     ensures memory { result ≢ NoMemory → (fault ≢ NoMemory) × (other ≢ NoMemory) }
-    ensures told { (b : Broken) → Tells b fault → Tells b other → Tells b result }
+    ensures told { (a b : Broken) → Tells a fault → Tells b other → Tells (broken.earlier a b) result }
 {
     match (fault, other) {
         (NameFault::At { at, .. }, NameFault::At { at: place, .. }) => {
@@ -25,7 +26,7 @@ pub fn earlier(fault: NameFault, other: NameFault) -> NameFault
 pub fn earlier_in<T: Drop>(fault: NameFault, answer: Result<T, NameFault>) -> NameFault
     ensures given { result ≢ NoMemory → fault ≢ NoMemory }
     ensures other { IfErr answer (λ other. result ≢ NoMemory → other ≢ NoMemory) }
-    ensures told { (b : Broken) → Tells b fault → IfErr answer (Tells b) → Tells b result }
+    ensures told { (a b : Broken) → Tells a fault → IfErr answer (Tells b) → IfOk answer (λ _. b ≡ nothing) → Tells (broken.earlier a b) result }
 {
     match answer {
         Ok(_) => fault,

@@ -1,7 +1,9 @@
 //! Labels and end names (IEEE 1076-2008, 10.1, 11.1).
 
 ghost use Rattle.std.specs.Prelude.{◌≡◌, IfErr, IfOk, bytes_eq, option_map};
-ghost use Rattle.vhdl_names_problems.specs.Broken.{Tells, unless};
+ghost use Rattle.vhdl_names_problems.specs.Broken.{Tells};
+ghost use Rattle.vhdl_names_problems.specs.Declarations.{end_name};
+ghost use Rattle.vhdl_names_problems.specs.Statements.{end_label};
 ghost use Rattle.vhdl_names_rules.specs.declared.fault.NameProblem.TheVariants.{WrongKind};
 ghost use Rattle.vhdl_names_rules.specs.Rules.{rule};
 ghost use Rattle.vhdl_names_rules.specs.Visibility as visibility;
@@ -22,7 +24,7 @@ pub fn is_text(text: &[u8], other: &[u8]) -> bool
 /// An end name, if there is one, repeats the name at the beginning.
 pub fn ends(name: &Identifier, end: &Option<Identifier>) -> Result<(), NameFault>
     ensures given { Gives (λ _. tt) (rule WrongKind (visibility.ends name.now.text.items (option_map tree.ident_view end.now))) result }
-    ensures told { IfErr result (Tells (unless WrongKind (visibility.ends name.now.text.items (option_map tree.ident_view end.now)))) }
+    ensures told { IfErr result (Tells (end_name (tree.ident_view name.now) (option_map tree.ident_view end.now))) }
 {
     match end {
         None => Ok(()),
@@ -39,7 +41,7 @@ pub fn ends(name: &Identifier, end: &Option<Identifier>) -> Result<(), NameFault
 /// An end label repeats the label; where no label stands, none stands at the end.
 pub fn label_ends(label: &Option<Identifier>, end: &Option<Identifier>) -> Result<(), NameFault>
     ensures given { Gives (λ _. tt) (rule WrongKind (visibility.label_ends (option_map tree.ident_view label.now) (option_map tree.ident_view end.now))) result }
-    ensures told { IfErr result (Tells (unless WrongKind (visibility.label_ends (option_map tree.ident_view label.now) (option_map tree.ident_view end.now)))) }
+    ensures told { IfErr result (Tells (end_label (option_map tree.ident_view label.now) (option_map tree.ident_view end.now))) }
 {
     match (label, end) {
         (Some(label), _) => ends(label, end),

@@ -1,5 +1,5 @@
 -- Which rules the choices of a whole case statement or selected assignment break, as they stand (IEEE 1076-2008, 10.9 and 11.6).
-use Rattle.std.specs.Prelude.{ℕ, Bool, not, ◌||◌, List, [], ◌∷◌, ◌++◌, flat_map, filter_map}
+use Rattle.std.specs.Prelude.{ℕ, Bool, true, false, not, ◌||◌, List, [], ◌∷◌, ◌++◌, flat_map, filter_map}
 use Rattle.std.specs.List.{list_any}
 use Rattle.vhdl_tree.specs.Tree as t
 use Rattle.vhdl_names_rules.specs.declared.kind.ObjectType.{ObjectType}
@@ -9,7 +9,7 @@ use Rattle.vhdl_names_rules.specs.Rules.{each}
 use Rattle.vhdl_names_rules.specs.Visibility.{Sight}
 use Rattle.vhdl_names_rules.specs.Choices as are
 use Rattle.vhdl_names_rules.specs.Choices.{same_choice, is_last_others, names_all}
-use Rattle.vhdl_names_problems.specs.Broken.{Broken, nothing, refused, ◌▸◌, earlier, unless, where_given}
+use Rattle.vhdl_names_problems.specs.Broken.{Broken, nothing, ◌▸◌, earlier, unless, where_given}
 use Rattle.vhdl_names_problems.specs.Places.{choice_place}
 use Rattle.vhdl_names_problems.specs.Choices.{choice}
 
@@ -30,12 +30,18 @@ each_once sight type before (c ∷ cs) = once sight type before c ▸ each_once 
 
 -- ---- one alternative after another
 
--- an alternative that is others alone is the last one
+-- others alone stands in the last one
+abbrev pub alternative_in_place : Sight → ObjectType → List t.Choice → (is_last : Bool) → List t.Choice → Broken
+alternative_in_place sight type before is_last (t.otherwise at ∷ []) = unless WrongKind at is_last
+alternative_in_place sight type before is_last cs = each_once sight type before cs
+
+abbrev pub is_empty : {A : Type 0} → List A → Bool
+is_empty [] = true
+is_empty (x ∷ xs) = false
+
 abbrev pub in_place : Sight → ObjectType → List t.Choice → List (List t.Choice) → Broken
 in_place sight type before [] = nothing
-in_place sight type before ((t.otherwise at ∷ []) ∷ []) = nothing
-in_place sight type before ((t.otherwise at ∷ []) ∷ more ∷ rest) = refused WrongKind at
-in_place sight type before (cs ∷ rest) = each_once sight type before cs ▸ in_place sight type (before ++ cs) rest
+in_place sight type before (cs ∷ rest) = alternative_in_place sight type before (is_empty rest) cs ▸ in_place sight type (before ++ cs) rest
 
 -- others or each literal has to stand there, and an alternative: that is known at the end
 abbrev pub complete : Sight → ObjectType → ℕ → List (List t.Choice) → Broken
@@ -49,5 +55,4 @@ covered sight type at alternatives broken = earlier (in_place sight type [] alte
 
 -- there is an alternative
 abbrev pub any_alternative : {A : Type 0} → ℕ → List A → Broken
-any_alternative at [] = refused LeftOut at
-any_alternative at (x ∷ xs) = nothing
+any_alternative at xs = unless LeftOut at (not (is_empty xs))

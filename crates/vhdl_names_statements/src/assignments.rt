@@ -16,7 +16,7 @@ ghost use Rattle.vhdl_names_statements.specs.steps.Told as told;
 ghost use Rattle.vhdl_names_units.specs.views.Concurrent.{one_process};
 ghost use Rattle.vhdl_names_units.specs.views.Sequential as views;
 
-use crate::choices::{but_last, covered, first_fault};
+use crate::choices::{but_last, covered};
 use crate::statements::assigned;
 use std::alloc::{AllocError, Global};
 use vhdl_names_expressions::{choices, condition, selector, target};
@@ -78,7 +78,7 @@ fn waveform(
     item: &syntax::Branch,
 ) -> Result<Branch, NameFault>
     ensures given { Gives views.branch_view (steps.waveform (sight_view sight.now) (tree.name_view target.now) (tree.branch_view item.now)) result }
-    ensures told { IfErr result (Tells (told.waveform (sight_view sight.now) (tree.name_view target.now) (tree.branch_view item.now))) }
+    ensures told { IfErr result (Tells (problems.branch (sight_view sight.now) (tree.name_view target.now) (tree.branch_view item.now))) }
 {
     let statements = alone(alloc, sight, target, &item.value)?;
     let condition = condition(alloc, sight, &item.condition)?;
@@ -94,7 +94,7 @@ fn waveforms(
     list: &[syntax::Branch],
 ) -> Result<Vec<Branch>, NameFault>
     ensures given { Gives views.branches_view (each (steps.waveform (sight_view sight.now) (tree.name_view target.now)) (map tree.branch_view list.now)) result }
-    ensures told { IfErr result (Tells (any_of (told.waveform (sight_view sight.now) (tree.name_view target.now)) (map tree.branch_view list.now))) }
+    ensures told { IfErr result (Tells (any_of (problems.branch (sight_view sight.now) (tree.name_view target.now)) (map tree.branch_view list.now))) }
 {
     let mut all = Vec::new(alloc);
     for item in list {
@@ -186,7 +186,7 @@ fn chosen(
     item: &syntax::Waveform,
 ) -> Result<Alternative, NameFault>
     ensures given { Gives views.alternative_view (steps.chosen (sight_view sight.now) selected (tree.name_view target.now) (tree.waveform_view item.now)) result }
-    ensures told { IfErr result (Tells (told.chosen (sight_view sight.now) selected (tree.name_view target.now) (tree.waveform_view item.now))) }
+    ensures told { IfErr result (Tells (problems.waveform (sight_view sight.now) selected (tree.name_view target.now) (tree.waveform_view item.now))) }
 {
     let statements = alone(alloc, sight, target, &item.value)?;
     let choices = choices(alloc, sight, selected, &item.choices)?;
@@ -204,7 +204,7 @@ fn all_chosen(
 ) -> Result<Vec<Alternative>, NameFault>
     ensures given { Gives views.alternatives_view
         (each (steps.chosen (sight_view sight.now) selected (tree.name_view target.now)) (map tree.waveform_view list.now)) result }
-    ensures told { IfErr result (Tells (any_of (told.chosen (sight_view sight.now) selected (tree.name_view target.now)) (map tree.waveform_view list.now))) }
+    ensures told { IfErr result (Tells (any_of (problems.waveform (sight_view sight.now) selected (tree.name_view target.now)) (map tree.waveform_view list.now))) }
 {
     let mut all = Vec::new(alloc);
     for item in list {
@@ -237,14 +237,12 @@ fn selected_parts(
 ) -> Result<(Vec<Alternative>, Vec<Statement>), NameFault>
     ensures given { Gives (λ p. cases.divided (views.alternatives_view p.0) (views.statements_view p.1))
         (steps.parts (sight_view sight.now) by (tree.selected_assignment_view assignment.now)) result }
-    ensures told { IfErr result (Tells (told.selected (sight_view sight.now) by (tree.selected_assignment_view assignment.now))) }
+    ensures told { IfErr result (Tells (problems.waveforms (sight_view sight.now) by (tree.selected_assignment_view assignment.now))) }
 {
     let _ = target(alloc, sight, &assignment.target)?;
     let lists = choice_lists(alloc, &assignment.waveforms)?;
-    let all = match all_chosen(alloc, sight, by, &assignment.target, &assignment.waveforms) {
-        Ok(all) => covered(alloc, by, assignment.at, &lists, all)?,
-        Err(fault) => return Err(first_fault(alloc, sight, by, &lists, fault)),
-    };
+    let all = all_chosen(alloc, sight, by, &assignment.target, &assignment.waveforms);
+    let all = covered(alloc, sight, by, assignment.at, &lists, all)?;
     but_last(assignment.at, all)
 }
 

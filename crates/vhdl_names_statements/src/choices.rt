@@ -1,28 +1,28 @@
 //! What the choices of a case cover (IEEE 1076-2008, 10.9).
 
-ghost use Rattle.std.specs.Prelude.{◌≡◌, ◌≢◌, ◌||◌, ◌∷◌, [], map, IfErr, IfOk, Some};
-ghost use Rattle.std.specs.List.{list_all, list_any, range_with_len};
+ghost use Rattle.std.specs.Prelude.{◌≡◌, ◌||◌, ◌∷◌, [], List, map, Option, IfErr, IfOk};
+ghost use Rattle.std.specs.List.{list_all, range_with_len};
 ghost use Rattle.vhdl_names_rules.specs.Choices as rules;
-ghost use Rattle.vhdl_names_problems.specs.Broken.{Broken, Tells, ◌▸◌, is_of, lacking, unless};
-ghost use Rattle.vhdl_names_problems.specs.Choices as broken;
-ghost use Rattle.vhdl_names_rules.specs.declared.fault.NameProblem.TheVariants.{ChoiceTwice, LeftOut, WrongKind};
+ghost use Rattle.vhdl_names_problems.specs.Broken.{Broken, Tells, nothing, refused, unless};
+ghost use Rattle.vhdl_names_problems.specs.Covered as broken;
+ghost use Rattle.vhdl_names_problems.specs.Places.{choice_place};
+ghost use Rattle.vhdl_names_rules.specs.declared.fault.NameProblem.TheVariants.{ChoiceTwice, NoOthers, WrongKind};
 ghost use Rattle.vhdl_names_rules.specs.Rules.{rule};
 ghost use Rattle.vhdl_names_rules.specs.Visibility.{is_among};
 ghost use Rattle.vhdl_names_rules.specs.Gives.{Gives};
-ghost use Rattle.vhdl_names_rules.specs.declared.fault.NameFault.TheVariants.{NoMemory};
 ghost use Rattle.vhdl_tree.specs.View as tree;
 ghost use Rattle.vhdl_names_units.specs.views.Answers.{choice_view};
 ghost use Rattle.vhdl_names_types.specs.Views.{sight_view};
 ghost use Rattle.vhdl_names_statements.specs.steps.Cases as steps;
 ghost use Rattle.vhdl_names_statements.specs.steps.Told as told;
-ghost use Rattle.vhdl_names_labels.specs.Lists.{in_turn};
 ghost use Rattle.vhdl_names_labels.specs.Once.{one_name, names_view, key_of};
 ghost use Rattle.vhdl_names_units.specs.views.Sequential as views;
+ghost use Rattle.vhdl_names_units.specs.views.Sequential.{Chosen};
 
 use indexmap::IndexSet;
 use std::alloc::{AllocError, Global};
-use vhdl_names_expressions::{choices, start};
-use vhdl_names_labels::{earlier, earlier_in};
+use vhdl_names_expressions::{choice, start};
+use vhdl_names_labels::earlier_in;
 use vhdl_names_rules::{NameFault, NameProblem, ObjectType};
 use vhdl_names_types::Sight;
 use vhdl_names_units::{Alternative, Choice, Statement};
@@ -47,7 +47,7 @@ fn key(alloc: Global, choice: &Choice) -> Result<Vec<usize>, AllocError>
 /// One more choice, which none before it is. It stands at byte `at`.
 fn add_choice(alloc: Global, keys: &mut Keys, choice: &Choice, at: usize) -> Result<(), NameFault>
     ensures given { Gives (λ _. names_view keys.new) (one_name (names_view keys.old) (key_of (choice_view choice.now))) result }
-    ensures told { IfErr result (Tells (is_of (ChoiceTwice ∷ []))) }
+    ensures told { IfErr result (Tells (refused ChoiceTwice at)) }
 {
     let key = key(alloc, choice)?;
     if keys.insert(key)? {
@@ -57,47 +57,106 @@ fn add_choice(alloc: Global, keys: &mut Keys, choice: &Choice, at: usize) -> Res
     }
 }
 
-/// The byte at which a choice stands, if it is there.
-fn place(written: &[syntax::Choice], index: usize) -> usize {
-    match written.get(index) {
-        Some(syntax::Choice::Expr(e)) => start(e),
-        Some(syntax::Choice::Others { at }) => *at,
-        None => 0,
+/// The byte at which a choice stands.
+fn place(written: &syntax::Choice) -> usize
+    ensures { result ≡ choice_place (tree.choice_view written.now) }
+{
+    match written {
+        syntax::Choice::Expr(e) => start(e),
+        syntax::Choice::Others { at } => *at,
     }
 }
 
-/// The choices of one alternative.
-fn add_choices(
+/// A choice by itself, which none before it is.
+fn add_written(
     alloc: Global,
+    sight: &Sight,
+    selected: ObjectType,
     keys: &mut Keys,
-    choices: &[Choice],
-    written: &[syntax::Choice],
+    written: &syntax::Choice,
 ) -> Result<(), NameFault>
-    ensures given { Gives (λ _. names_view keys.new) (in_turn one_name (names_view keys.old) (map key_of (map choice_view choices.now))) result }
-    ensures told { IfErr result (Tells (is_of (ChoiceTwice ∷ []))) }
+    ensures added { IfOk result (λ _. names_view keys.new ≡ told.with_choice (sight_view sight.now) selected (names_view keys.old) (tree.choice_view written.now)) }
+    ensures kept { IfOk result (λ _. told.once (sight_view sight.now) selected (names_view keys.old) (tree.choice_view written.now) ≡ nothing) }
+    ensures told { IfErr result (Tells (told.once (sight_view sight.now) selected (names_view keys.old) (tree.choice_view written.now))) }
 {
-    for (index, choice) in choices.iter().enumerate() {
-        add_choice(alloc, keys, choice, place(written, index))?;
+    let analysed = choice(alloc, sight, selected, written)?;
+    add_choice(alloc, keys, &analysed, place(written))
+}
+
+/// Choices one after another, up to the first that is refused or stands twice.
+fn add_each(
+    alloc: Global,
+    sight: &Sight,
+    selected: ObjectType,
+    keys: &mut Keys,
+    list: &[syntax::Choice],
+) -> Result<(), NameFault>
+    ensures added { IfOk result (λ _. names_view keys.new ≡ told.with_list (sight_view sight.now) selected (names_view keys.old) (map tree.choice_view list.now)) }
+    ensures kept { IfOk result (λ _. told.each_once (sight_view sight.now) selected (names_view keys.old) (map tree.choice_view list.now) ≡ nothing) }
+    ensures told { IfErr result (Tells (told.each_once (sight_view sight.now) selected (names_view keys.old) (map tree.choice_view list.now))) }
+{
+    for written in list {
+        add_written(alloc, sight, selected, keys, written)?;
     }
     Ok(())
 }
 
-/// The keys of all choices, no two of which are the same.
+/// Where `others` stands, if it stands alone.
+fn others_alone(list: &[syntax::Choice]) -> Option<usize>
+    ensures { result ≡ told.others_alone (map tree.choice_view list.now) }
+{
+    match list {
+        [syntax::Choice::Others { at }] => Some(*at),
+        _ => None,
+    }
+}
+
+/// `others` alone at byte `at` stands in the last alternative.
+fn others_last(at: usize, is_last: bool) -> Result<(), NameFault>
+    ensures kept { IfOk result (λ _. unless WrongKind at is_last ≡ nothing) }
+    ensures told { IfErr result (Tells (unless WrongKind at is_last)) }
+{
+    if is_last {
+        Ok(())
+    } else {
+        Err(NameProblem::WrongKind.at(at))
+    }
+}
+
+/// The choices of one alternative.
+fn add_list(
+    alloc: Global,
+    sight: &Sight,
+    selected: ObjectType,
+    keys: &mut Keys,
+    is_last: bool,
+    list: &[syntax::Choice],
+) -> Result<(), NameFault>
+    ensures added { IfOk result (λ _. names_view keys.new ≡ told.with_list (sight_view sight.now) selected (names_view keys.old) (map tree.choice_view list.now)) }
+    ensures kept { IfOk result (λ _. told.alternative_in_place (sight_view sight.now) selected (names_view keys.old) is_last (map tree.choice_view list.now) ≡ nothing) }
+    ensures told { IfErr result (Tells (told.alternative_in_place (sight_view sight.now) selected (names_view keys.old) is_last (map tree.choice_view list.now))) }
+{
+    match others_alone(list) {
+        None => add_each(alloc, sight, selected, keys, list),
+        Some(at) => others_last(at, is_last),
+    }
+}
+
+/// The keys of all choices, in order of the text, up to the first that is refused, out of place or
+/// stands twice.
 fn told_apart(
     alloc: Global,
-    alternatives: &[Alternative],
+    sight: &Sight,
+    selected: ObjectType,
     lists: &[&[syntax::Choice]],
 ) -> Result<Keys, NameFault>
-    ensures given { Gives names_view (in_turn steps.with_choices [] (map views.alternative_view alternatives.now)) result }
-    ensures told { IfErr result (Tells (is_of (ChoiceTwice ∷ []))) }
+    ensures added { IfOk result (λ keys. names_view keys ≡ told.with_lists (sight_view sight.now) selected [] (steps.all_lists lists.now)) }
+    ensures kept { IfOk result (λ _. told.in_place (sight_view sight.now) selected [] (steps.all_lists lists.now) ≡ nothing) }
+    ensures told { IfErr result (Tells (told.in_place (sight_view sight.now) selected [] (steps.all_lists lists.now))) }
 {
     let mut keys = IndexSet::new(alloc);
-    for (index, alternative) in alternatives.iter().enumerate() {
-        let written: &[syntax::Choice] = match lists.get(index) {
-            Some(list) => list,
-            None => &[],
-        };
-        add_choices(alloc, &mut keys, &alternative.choices, written)?;
+    for (index, list) in lists.iter().enumerate() {
+        add_list(alloc, sight, selected, &mut keys, index + 1 == lists.len(), list)?;
     }
     Ok(keys)
 }
@@ -109,40 +168,6 @@ fn is_others(choices: &[syntax::Choice]) -> bool
     match choices {
         [syntax::Choice::Others { .. }] => true,
         _ => false,
-    }
-}
-
-/// Whether one of some alternatives is `others`.
-fn has_others(lists: &[&[syntax::Choice]]) -> bool
-    ensures { result ≡ list_any (λ list. rules.is_others (steps.choice_list list)) lists.now }
-{
-    lists.iter().any(|list| is_others(list))
-}
-
-/// The byte at which the first `others` stands.
-fn others_place(lists: &[&[syntax::Choice]]) -> usize {
-    for list in lists {
-        if is_others(list) {
-            return place(list, 0);
-        }
-    }
-    0
-}
-
-/// `others` stands in no alternative but the last.
-fn others_last(lists: &[&[syntax::Choice]]) -> Result<(), NameFault>
-    ensures given { Gives (λ _. tt) (rule WrongKind (rules.only_last_others (steps.all_lists lists.now))) result }
-    ensures told { IfErr result (Tells (unless WrongKind (rules.only_last_others (steps.all_lists lists.now)))) }
-{
-    match lists.split_last() {
-        None => Ok(()),
-        Some((_, before)) => {
-            if has_others(before) {
-                Err(NameProblem::WrongKind.at(others_place(before)))
-            } else {
-                Ok(())
-            }
-        }
     }
 }
 
@@ -185,86 +210,47 @@ fn has_position(keys: &Keys, position: usize) -> bool
     keys.contains([9, position].as_slice())
 }
 
-/// Choices one after another, after those before them, up to the first that is refused or stands
-/// twice.
-fn add_written(
-    alloc: Global,
-    sight: &Sight,
-    selected: ObjectType,
-    keys: &mut Keys,
-    written: &[syntax::Choice],
-) -> Result<(), NameFault>
-    ensures added { IfOk result (λ _. told.with_list (sight_view sight.now) selected (names_view keys.old) (map tree.choice_view written.now) ≡ Some (names_view keys.new)) }
-    ensures told { IfErr result (Tells (told.written (sight_view sight.now) selected (names_view keys.old) (map tree.choice_view written.now))) }
-{
-    for index in 0..written.len() {
-        let one = &written[index..index + 1];
-        let analysed = choices(alloc, sight, selected, one)?;
-        add_choices(alloc, keys, &analysed, one)?;
-    }
-    Ok(())
-}
-
-/// The first in order of the text of what is wrong with the alternatives of a case, where `fault`
-/// is told of one: this, `others` out of place, or a choice that stands twice.
-pub(crate) fn first_fault(
-    alloc: Global,
-    sight: &Sight,
-    selected: ObjectType,
-    lists: &[&[syntax::Choice]],
-    fault: NameFault,
-) -> NameFault
-    ensures given { result ≢ NoMemory → fault ≢ NoMemory }
-    ensures told { (b : Broken) → Tells b fault → Tells (b ▸ broken.covered (sight_view sight.now) selected (steps.all_lists lists.now)) result }
-{
-    let first = earlier_in(fault, others_last(lists));
-    let mut keys = IndexSet::new(alloc);
-    for list in lists {
-        if let Err(other) = add_written(alloc, sight, selected, &mut keys, list) {
-            return earlier(first, other);
-        }
-    }
-    first
-}
-
-/// What the choices of all alternatives are asked; the case starts at byte `at`.
-#[tactic(auto, using(crate::proofs::steps::Cases::covered_by))]
-fn cover(
-    alloc: Global,
+/// `others` or each literal has its choice; the case starts at byte `at`.
+fn complete(
     selected: ObjectType,
     at: usize,
     lists: &[&[syntax::Choice]],
-    alternatives: &[Alternative],
+    keys: &Keys,
 ) -> Result<(), NameFault>
-    ensures given { Gives (λ _. tt) (steps.cover selected (steps.all_lists lists.now) (steps.all_choices (map views.alternative_view alternatives.now))) result }
-    ensures told { IfErr result (Tells (told.uncovered selected (steps.all_lists lists.now) (steps.all_choices (map views.alternative_view alternatives.now)))) }
+    ensures given { Gives (λ _. tt) (rule NoOthers (rules.is_last_others (steps.all_lists lists.now) || steps.has_all selected (names_view keys.now))) result }
+    ensures told { IfErr result (Tells (unless NoOthers at (rules.is_last_others (steps.all_lists lists.now) || steps.has_all selected (names_view keys.now)))) }
 {
-    let keys = match told_apart(alloc, alternatives, lists) {
-        Ok(keys) => keys,
-        Err(fault) => return Err(earlier_in(fault, others_last(lists))),
-    };
-    others_last(lists)?;
-    if ends_in_others(lists) || names_all(selected, &keys) {
+    if ends_in_others(lists) || names_all(selected, keys) {
         Ok(())
     } else {
         Err(NameProblem::NoOthers.at(at))
     }
 }
 
-/// Alternatives whose choices are as they are asked to be. Where they aren't, they are let go here.
+/// Alternatives whose choices are as they are asked to be; the case starts at byte `at`. Of what is
+/// wrong with the alternatives and with all their choices the earlier is told, and at last what is
+/// missing.
 pub(crate) fn covered(
     alloc: Global,
+    sight: &Sight,
     selected: ObjectType,
     at: usize,
     lists: &[&[syntax::Choice]],
-    alternatives: Vec<Alternative>,
+    all: Result<Vec<Alternative>, NameFault>,
 ) -> Result<Vec<Alternative>, NameFault>
-    ensures same { IfOk result (λ all. all ≡ alternatives) }
-    ensures asked { Gives (λ _. tt) (steps.cover selected (steps.all_lists lists.now) (steps.all_choices (views.alternatives_view alternatives))) result }
-    ensures told { IfErr result (Tells (told.uncovered selected (steps.all_lists lists.now) (steps.all_choices (views.alternatives_view alternatives)))) }
+    ensures given { (found : Option (List Chosen)) → Gives views.alternatives_view found all → IfOk all (told.HasChoices (sight_view sight.now) selected (steps.all_lists lists.now))
+        → Gives views.alternatives_view (steps.covering selected (steps.all_lists lists.now) found) result }
+    ensures told { (b : Broken) → IfErr all (Tells b) → IfOk all (λ _. b ≡ nothing) → IfOk all (told.HasChoices (sight_view sight.now) selected (steps.all_lists lists.now))
+        → IfErr result (Tells (broken.covered (sight_view sight.now) selected at (steps.all_lists lists.now) b)) }
 {
-    cover(alloc, selected, at, lists, &alternatives)?;
-    Ok(alternatives)
+    match told_apart(alloc, sight, selected, lists) {
+        Err(fault) => Err(earlier_in(fault, all)),
+        Ok(keys) => {
+            let all = all?;
+            complete(selected, at, lists, &keys)?;
+            Ok(all)
+        }
+    }
 }
 
 /// Alternatives but the last, which is done otherwise. The case starts at byte `at`.
@@ -273,7 +259,7 @@ pub(crate) fn but_last(
     alternatives: Vec<Alternative>,
 ) -> Result<(Vec<Alternative>, Vec<Statement>), NameFault>
     ensures given { Gives (λ p. steps.divided (views.alternatives_view p.0) (views.statements_view p.1)) (steps.but_last (views.alternatives_view alternatives)) result }
-    ensures told { IfErr result (Tells (lacking (LeftOut ∷ []) (steps.but_last (views.alternatives_view alternatives)))) }
+    ensures told { IfErr result (Tells (broken.any_alternative at (views.alternatives_view alternatives))) }
 {
     let mut rest = alternatives;
     match rest.pop() {

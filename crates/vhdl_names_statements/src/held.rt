@@ -1,7 +1,8 @@
 //! What was analysed, and the end label behind it. Where it is refused, what was analysed is let go here.
 
 ghost use Rattle.std.specs.Prelude.{◌≡◌, IfErr, IfOk, option_map};
-ghost use Rattle.vhdl_names_problems.specs.Broken.{Tells, unless};
+ghost use Rattle.vhdl_names_problems.specs.Broken.{Tells};
+ghost use Rattle.vhdl_names_problems.specs.Statements.{end_label};
 ghost use Rattle.vhdl_names_rules.specs.declared.fault.NameProblem.TheVariants.{WrongKind};
 ghost use Rattle.vhdl_names_rules.specs.Rules.{rule};
 ghost use Rattle.vhdl_names_rules.specs.Visibility as visibility;
@@ -20,7 +21,7 @@ pub(crate) fn ended<T: Drop>(
 ) -> Result<T, NameFault>
     ensures same { IfOk result (λ x. x ≡ found) }
     ensures asked { Gives (λ _. tt) (rule WrongKind (visibility.label_ends (option_map tree.ident_view label.now) (option_map tree.ident_view end.now))) result }
-    ensures told { IfErr result (Tells (unless WrongKind (visibility.label_ends (option_map tree.ident_view label.now) (option_map tree.ident_view end.now)))) }
+    ensures told { IfErr result (Tells (end_label (option_map tree.ident_view label.now) (option_map tree.ident_view end.now))) }
 {
     label_ends(label, end)?;
     Ok(found)

@@ -18,7 +18,7 @@ ghost use Rattle.vhdl_names_statements.specs.steps.Cases as cases;
 ghost use Rattle.vhdl_names_statements.specs.steps.Sequential as steps;
 ghost use Rattle.vhdl_names_statements.specs.steps.Told as told;
 
-use crate::choices::{but_last, choice_lists, covered, first_fault};
+use crate::choices::{but_last, choice_lists, covered};
 use crate::held::ended;
 use std::alloc::Global;
 use vhdl_names_expressions::{choices, condition, given, selector, static_range, target, variable};
@@ -247,13 +247,11 @@ fn case_parts(
         (tree.alternatives_view (out-Case case.now).alternatives) (tree.option_ident_view (out-Case case.now).end_label)) result }
     ensures kept { sight_view sight.new ≡ sight_view sight.old }
     ensures told { IfErr result (Tells (told.parts (sight_view sight.old) selected (option_map tree.ident_view label.now)
-        (tree.alternatives_view (out-Case case.now).alternatives) (tree.option_ident_view (out-Case case.now).end_label))) }
+        (out-Case case.now).at (tree.alternatives_view (out-Case case.now).alternatives) (tree.option_ident_view (out-Case case.now).end_label))) }
 {
     let lists = choice_lists(alloc, &case.alternatives)?;
-    let all = match alternatives(alloc, sight, selected, &case.alternatives) {
-        Ok(all) => covered(alloc, selected, case.at, &lists, all)?,
-        Err(fault) => return Err(first_fault(alloc, sight, selected, &lists, fault)),
-    };
+    let all = alternatives(alloc, sight, selected, &case.alternatives);
+    let all = covered(alloc, sight, selected, case.at, &lists, all)?;
     let all = ended(label, &case.end_label, all)?;
     but_last(case.at, all)
 }
@@ -269,7 +267,7 @@ fn alternatives(
 ) -> Result<Vec<Alternative>, NameFault>
     ensures given { Gives views.alternatives_view (each (cases.chosen (sight_view sight.old) selected) (map tree.alternative_view list.now)) result }
     ensures kept { sight_view sight.new ≡ sight_view sight.old }
-    ensures told { IfErr result (Tells (told.alternatives (sight_view sight.old) selected (map tree.alternative_view list.now))) }
+    ensures told { IfErr result (Tells (broken.alternatives (sight_view sight.old) selected (t.alternatives_of (map tree.alternative_view list.now)))) }
 {
     let mut all = Vec::new(alloc);
     for item in list {

@@ -8,14 +8,15 @@ use Rattle.vhdl_tree.specs.declared.operator.Sign.{Sign}
 use Rattle.vhdl_names_rules.specs.Rules.{◌>>=◌}
 use Rattle.vhdl_names_rules.specs.Expressions.{as_integer, signed}
 use Rattle.vhdl_names_rules.specs.Literals.{number_of}
-use Rattle.std.specs.Prelude.{ℕ, Bool, true, false, not, List, [], ◌∷◌, Option, Some, None, option_map}
+use Rattle.std.specs.Prelude.{ℕ, Bool, true, false, List, [], ◌∷◌, Option, Some, None, option_map}
 use Rattle.vhdl_values.specs.declared.kinds.Edge.{Edge}
 use Rattle.vhdl_names_rules.specs.declared.kind.ElementKind.{ElementKind}
 use Rattle.vhdl_names_rules.specs.declared.kind.ElementKind.TheVariants.{Element, LogicVector, Unsigned, OpenVector}
 use Rattle.vhdl_names_rules.specs.Names.{edge_signal}
-use Rattle.vhdl_names_rules.specs.Operators.{Typed, integer, elements, enumerated, truth, is_number}
+use Rattle.vhdl_names_rules.specs.Operators.{Typed, integer, elements, truth}
 use Rattle.vhdl_names_rules.specs.declared.fault.NameProblem.{NameProblem}
-use Rattle.vhdl_names_rules.specs.declared.fault.NameProblem.TheVariants.{TypeMismatch, LeftOut}
+use Rattle.vhdl_names_rules.specs.declared.fault.NameProblem.TheVariants.{TypeMismatch}
+use Rattle.vhdl_names_problems.specs.Operators.{edge_problem}
 use Rattle.vhdl_names_rules.specs.units.Expressions.{Static, Part, Vector, Value, Test}
 use Rattle.vhdl_names_types.specs.declared.literals.Base.{Base}
 use Rattle.vhdl_names_types.specs.declared.literals.Base.TheVariants as b
@@ -24,16 +25,6 @@ use Rattle.vhdl_names_types.specs.declared.literals.Base.TheVariants as b
 abbrev pub same_by : Cmp → Value → Value → Test
 same_by Ne = u.unlike
 same_by _ = u.alike
-
--- ordering an element, a std_logic_vector or an enumeration is left out; else operands that aren't ordered are of a wrong type
-abbrev pub is_unordered : Typed → Bool
-is_unordered (elements k x) = not (is_number k)
-is_unordered (enumerated e n x) = true
-is_unordered _ = false
-
-abbrev pub order_problem : Bool → NameProblem
-order_problem true = LeftOut
-order_problem false = TypeMismatch
 
 -- the digits of a base
 abbrev pub class_of : Base → ByteClass
@@ -84,6 +75,11 @@ is_signal _ = false
 abbrev pub edge_by : Edge → Option Typed → Option Typed
 edge_by e (Some x) = option_map (λ p. truth (u.edge e p)) (edge_signal x)
 edge_by e None = None
+
+-- why it isn't given
+abbrev pub edge_call_problem : Option Typed → NameProblem
+edge_call_problem (Some x) = edge_problem x
+edge_call_problem None = TypeMismatch
 
 -- ---- operands
 

@@ -1,17 +1,19 @@
 //! Edges of signals: rising_edge, falling_edge and 'event (IEEE 1076-2008, 16.2.4; IEEE 1164), of a signal's static name (8.1).
 
-ghost use Rattle.vhdl_names_problems.specs.Broken.{Tells, is_of};
-ghost use Rattle.vhdl_names_rules.specs.declared.fault.NameProblem.TheVariants.{WrongKind, TypeMismatch};
-ghost use Rattle.std.specs.Prelude.{◌≡◌, true, false, None, option_map, IfOk, IfErr, OnErr, ◌∷◌, []};
+ghost use Rattle.vhdl_names_problems.specs.Broken.{Tells, refused, lacking};
+ghost use Rattle.vhdl_names_problems.specs.Operators.{edge_problem as problem_of, name_problem};
+ghost use Rattle.std.specs.Prelude.{◌≡◌, true, false, None, option_map, IfOk, IfErr, OnErr};
 ghost use Rattle.std.specs.List.{list_all};
 ghost use Rattle.vhdl_names_rules.specs.Gives.{Gives};
 ghost use Rattle.vhdl_names_rules.specs.Names as rules;
 ghost use Rattle.vhdl_names_rules.specs.Operators as table;
+ghost use Rattle.vhdl_names_rules.specs.Visibility as visibility;
 ghost use Rattle.vhdl_names_rules.specs.declared.kind.ElementKind.TheVariants.{Element};
+ghost use Rattle.vhdl_names_rules.specs.declared.kind.Function.TheVariants.{EdgeCall};
 ghost use Rattle.vhdl_names_rules.specs.units.Expressions as units;
 ghost use Rattle.vhdl_names_rules.specs.views.Integers.{static_view, start_view};
 ghost use Rattle.vhdl_names_rules.specs.views.Vectors.{part_view, place_view, vector_view};
-ghost use Rattle.vhdl_names_types.specs.Steps.{edge_by, is_signal};
+ghost use Rattle.vhdl_names_types.specs.Steps.{edge_by, edge_call_problem, is_signal};
 ghost use Rattle.vhdl_names_types.specs.Views.{typed_view, typed_suffix_view};
 
 use crate::parts::sole_argument;
@@ -26,6 +28,7 @@ use vhdl_values::Edge;
 fn as_place(vector: Vector) -> Result<SignalPart, Vector>
     ensures place { IfOk result (λ p. vector_view vector ≡ units.of_signal (place_view p)) }
     ensures other { IfErr result (λ v. is_signal (vector_view vector) ≡ false) }
+    ensures same { IfErr result (λ v. v ≡ vector) }
 {
     match vector {
         Vector::Signal(place) => Ok(place),
@@ -81,7 +84,7 @@ fn is_static_part(part: &Part) -> bool
 
 /// What is wrong with an operand that is no signal.
 fn edge_problem(vector: &Vector) -> NameProblem
-    ensures { is_of (WrongKind ∷ TypeMismatch ∷ []) result ≡ true }
+    ensures { result ≡ problem_of (table.elements Element (vector_view vector.now)) }
 {
     match vector {
         Vector::Variable(..) | Vector::Constant(..) => NameProblem::WrongKind,
@@ -93,7 +96,7 @@ fn edge_problem(vector: &Vector) -> NameProblem
 fn element_of(operand: Typed, at: usize) -> Result<Vector, NameFault>
     ensures element { IfOk result (λ v. typed_view operand ≡ table.elements Element (vector_view v)) }
     ensures other { OnErr result (rules.edge_signal (typed_view operand) ≡ None) }
-    ensures told { IfErr result (Tells (is_of (WrongKind ∷ TypeMismatch ∷ []))) }
+    ensures told { IfErr result (Tells (refused (problem_of (typed_view operand)) at)) }
 {
     match operand {
         Typed::Elements(ElementKind::Element, vector) => Ok(vector),
@@ -106,7 +109,7 @@ fn element_of(operand: Typed, at: usize) -> Result<Vector, NameFault>
 #[tactic(auto, using(crate::proofs::Meant::no_edge))]
 fn static_signal(vector: Vector, at: usize) -> Result<SignalPart, NameFault>
     ensures given { Gives place_view (rules.edge_signal (table.elements Element (vector_view vector))) result }
-    ensures told { IfErr result (Tells (is_of (WrongKind ∷ TypeMismatch ∷ []))) }
+    ensures told { IfErr result (Tells (refused (problem_of (table.elements Element (vector_view vector))) at)) }
 {
     match as_place(vector) {
         Ok(place) => {
@@ -123,7 +126,7 @@ fn static_signal(vector: Vector, at: usize) -> Result<SignalPart, NameFault>
 /// The signal of one element that an edge call or 'event at byte `at` asks for.
 pub(crate) fn edge_signal(operand: Typed, at: usize) -> Result<SignalPart, NameFault>
     ensures given { Gives place_view (rules.edge_signal (typed_view operand)) result }
-    ensures told { IfErr result (Tells (is_of (WrongKind ∷ TypeMismatch ∷ []))) }
+    ensures told { IfErr result (Tells (lacking (problem_of (typed_view operand)) at (rules.edge_signal (typed_view operand)))) }
 {
     let vector = element_of(operand, at)?;
     static_signal(vector, at)
@@ -132,7 +135,7 @@ pub(crate) fn edge_signal(operand: Typed, at: usize) -> Result<SignalPart, NameF
 /// An edge of a signal, for a call at byte `at`.
 fn edge_call(edge: Edge, operand: Option<Typed>, at: usize) -> Result<Typed, NameFault>
     ensures given { Gives typed_view (edge_by edge (option_map typed_view operand)) result }
-    ensures told { IfErr result (Tells (is_of (WrongKind ∷ TypeMismatch ∷ []))) }
+    ensures told { IfErr result (Tells (refused (edge_call_problem (option_map typed_view operand)) at)) }
 {
     match operand {
         Some(operand) => {
@@ -147,7 +150,7 @@ fn edge_call(edge: Edge, operand: Option<Typed>, at: usize) -> Result<Typed, Nam
 #[tactic(auto, using(crate::proofs::Meant::edge_sole))]
 pub(crate) fn edge_of(edge: Edge, suffix: TypedSuffix, at: usize) -> Result<Typed, NameFault>
     ensures given { Gives typed_view (rules.edge_of edge (typed_suffix_view suffix)) result }
-    ensures told { IfErr result (Tells (is_of (WrongKind ∷ TypeMismatch ∷ []))) }
+    ensures told { IfErr result (Tells (refused (name_problem (visibility.function (EdgeCall edge)) (typed_suffix_view suffix)) at)) }
 {
     match suffix {
         TypedSuffix::Arguments(true, arguments) => edge_call(edge, sole_argument(arguments), at),

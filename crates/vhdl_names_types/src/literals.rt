@@ -1,13 +1,15 @@
 //! The values of string and bit string literals (IEEE 1076-2008, 15.7, 15.8). They take the memory
 //! of a list.
 
-ghost use Rattle.vhdl_names_problems.specs.Broken.{Tells, is_of, nothing};
-ghost use Rattle.vhdl_names_rules.specs.declared.fault.NameProblem.TheVariants.{TypeMismatch, LeftOut};
-ghost use Rattle.std.specs.Prelude.{◌≡◌, ◌==◌, ◌++◌, ◌<◌, not, length, position, filter, flat_map, Some, IfOk, IfSome, option_map, IfErr, ◌∷◌, []};
+ghost use Rattle.vhdl_names_problems.specs.Broken.{Tells, nothing, refused, lacking};
+ghost use Rattle.vhdl_names_problems.specs.Operators.{characters_problem, string_problem};
+ghost use Rattle.vhdl_names_rules.specs.declared.fault.NameProblem.TheVariants.{LeftOut};
+ghost use Rattle.std.specs.Prelude.{◌≡◌, ◌==◌, ◌++◌, ◌<◌, not, length, position, filter, flat_map, Some, IfOk, IfSome, option_map, IfErr};
 ghost use Rattle.vhdl_lexer.specs.Bytes.{quote, underscore};
 ghost use Rattle.vhdl_lexer.specs.Words.{base_class};
 ghost use Rattle.vhdl_names_rules.specs.Gives.{Gives};
 ghost use Rattle.vhdl_names_rules.specs.Literals as rules;
+ghost use Rattle.vhdl_names_rules.specs.Rules.{each};
 ghost use Rattle.vhdl_names_types.specs.Steps.{class_of};
 
 use std::alloc::{AllocFailed, Global};
@@ -54,7 +56,7 @@ fn quoted(text: &[u8]) -> &[u8]
 /// The values of a literal at byte `at`, which is not empty.
 fn at_least_one(values: Vec<Nine>, at: usize) -> Result<Vec<Nine>, NameFault>
     ensures given { Gives (λ v. v.items) (rules.at_least_one values.items) result }
-    ensures told { IfErr result (Tells (is_of (LeftOut ∷ []))) }
+    ensures told { IfErr result (Tells (refused LeftOut at)) }
 {
     if values.is_empty() {
         return Err(NameProblem::LeftOut.at(at));
@@ -62,19 +64,28 @@ fn at_least_one(values: Vec<Nine>, at: usize) -> Result<Vec<Nine>, NameFault>
     Ok(values)
 }
 
-/// The values of a string.
+/// The values of the characters of a string at byte `at`.
 #[tactic(auto, using(crate::proofs::Quotations::at_end))]
-pub fn string_values(alloc: Global, literal: &Literal) -> Result<Vec<Nine>, NameFault>
-    ensures given { Gives (λ v. v.items) (rules.values_of_string literal.now.text.items) result }
-    ensures told { IfErr result (Tells (is_of (TypeMismatch ∷ LeftOut ∷ []))) }
+fn values_of(alloc: Global, characters: &[u8], at: usize) -> Result<Vec<Nine>, NameFault>
+    ensures given { Gives (λ v. v.items) (each rules.nine_of characters.now) result }
+    ensures told { IfErr result (Tells (refused (characters_problem characters.now) at)) }
 {
     let mut values = Vec::new(alloc);
-    for b in quoted(&literal.text) {
+    for b in characters {
         match nine_of(*b) {
-            None => return Err(NameProblem::TypeMismatch.at(literal.at)),
+            None => return Err(NameProblem::TypeMismatch.at(at)),
             Some(value) => values.push(value)?,
         }
     }
+    Ok(values)
+}
+
+/// The values of a string.
+pub fn string_values(alloc: Global, literal: &Literal) -> Result<Vec<Nine>, NameFault>
+    ensures given { Gives (λ v. v.items) (rules.values_of_string literal.now.text.items) result }
+    ensures told { IfErr result (Tells (lacking (string_problem literal.now.text.items) literal.now.at (rules.values_of_string literal.now.text.items))) }
+{
+    let values = values_of(alloc, quoted(&literal.text), literal.at)?;
     at_least_one(values, literal.at)
 }
 
@@ -130,7 +141,7 @@ fn push_digit(values: &mut Vec<Nine>, base: Base, digit: u8) -> Result<(), Alloc
 /// The bits of digits of a base, underscores counting for nothing.
 fn bits(alloc: Global, base: Base, digits: &[u8]) -> Result<Vec<Nine>, NameFault>
     ensures given { Gives (λ v. v.items) (Some (flat_map (λ b. rules.bits_of (class_of base) (rules.digit_value b)) (filter (λ b. not (b == underscore)) digits.now))) result }
-    ensures told { IfErr result (Tells (nothing)) }
+    ensures told { IfErr result (Tells nothing) }
 {
     let mut values = Vec::new(alloc);
     for digit in digits {
@@ -145,7 +156,7 @@ fn bits(alloc: Global, base: Base, digits: &[u8]) -> Result<Vec<Nine>, NameFault
 #[tactic(auto, using(crate::proofs::Quotations::bits_of_base))]
 pub fn bit_string_values(alloc: Global, literal: &Literal) -> Result<Vec<Nine>, NameFault>
     ensures given { Gives (λ v. v.items) (rules.values_of_bits literal.now.text.items) result }
-    ensures told { IfErr result (Tells (is_of (LeftOut ∷ []))) }
+    ensures told { IfErr result (Tells (lacking LeftOut literal.now.at (rules.values_of_bits literal.now.text.items))) }
 {
     let [letter, text @ ..] = literal.text.as_slice() else {
         return Err(NameProblem::LeftOut.at(literal.at));

@@ -1,10 +1,11 @@
 //! What names in expressions are (IEEE 1076-2008, clause 8): objects with their indexed and slice
 //! names, conversions and calls of the packages' functions (9.3.4, 9.3.6), and 'event (16.2.4).
 
-ghost use Rattle.vhdl_names_problems.specs.Broken.{Tells, is_of, ◌▸◌};
+ghost use Rattle.vhdl_names_problems.specs.Broken.{Tells, refused, lacking};
 ghost use Rattle.vhdl_names_problems.specs.Expressions as broken;
-ghost use Rattle.vhdl_names_rules.specs.declared.fault.NameProblem.TheVariants.{WrongKind, TypeMismatch};
-ghost use Rattle.std.specs.Prelude.{◌≡◌, option_map, IfErr, ◌∷◌, []};
+ghost use Rattle.vhdl_names_problems.specs.Operators.{name_problem};
+ghost use Rattle.vhdl_names_rules.specs.declared.fault.NameProblem.TheVariants.{TypeMismatch};
+ghost use Rattle.std.specs.Prelude.{◌≡◌, option_map, IfErr};
 ghost use Rattle.vhdl_names_rules.specs.Gives.{Gives};
 ghost use Rattle.vhdl_names_rules.specs.Names as rules;
 ghost use Rattle.vhdl_names_rules.specs.Operators as table;
@@ -35,7 +36,7 @@ fn read_signal(
     at: usize,
 ) -> Result<Typed, NameFault>
     ensures given { Gives typed_view (rules.read_signal (signal_view signal) kind (typed_suffix_view suffix)) result }
-    ensures told { IfErr result (Tells (is_of (TypeMismatch ∷ []))) }
+    ensures told { IfErr result (Tells (refused TypeMismatch at)) }
 {
     let (part, kind) = part(kind, suffix, at)?;
     Ok(Typed::Elements(kind, Vector::Signal(SignalPart { at, signal, part })))
@@ -49,7 +50,7 @@ fn read_variable(
     at: usize,
 ) -> Result<Typed, NameFault>
     ensures given { Gives typed_view (rules.read_by (units.of_variable number) kind (typed_suffix_view suffix)) result }
-    ensures told { IfErr result (Tells (is_of (TypeMismatch ∷ []))) }
+    ensures told { IfErr result (Tells (refused TypeMismatch at)) }
 {
     let (part, kind) = part(kind, suffix, at)?;
     Ok(Typed::Elements(kind, Vector::Variable(at, number, part)))
@@ -63,7 +64,7 @@ fn read_constant(
     at: usize,
 ) -> Result<Typed, NameFault>
     ensures given { Gives typed_view (rules.read_by (units.of_constant number) kind (typed_suffix_view suffix)) result }
-    ensures told { IfErr result (Tells (is_of (TypeMismatch ∷ []))) }
+    ensures told { IfErr result (Tells (refused TypeMismatch at)) }
 {
     let (part, kind) = part(kind, suffix, at)?;
     Ok(Typed::Elements(kind, Vector::Constant(at, number, part)))
@@ -72,7 +73,7 @@ fn read_constant(
 /// A vector as one of another kind.
 fn conversion_of(kind: ElementKind, operand: Option<Typed>, at: usize) -> Result<Typed, NameFault>
     ensures given { Gives typed_view (conversion kind (option_map typed_view operand)) result }
-    ensures told { IfErr result (Tells (is_of (TypeMismatch ∷ []))) }
+    ensures told { IfErr result (Tells (refused TypeMismatch at)) }
 {
     match operand {
         Some(
@@ -89,7 +90,7 @@ fn conversion_of(kind: ElementKind, operand: Option<Typed>, at: usize) -> Result
 #[tactic(auto, using(crate::proofs::Meant::converted_sole))]
 fn converted(kind: ElementKind, suffix: TypedSuffix, at: usize) -> Result<Typed, NameFault>
     ensures given { Gives typed_view (rules.converted kind (typed_suffix_view suffix)) result }
-    ensures told { IfErr result (Tells (is_of (TypeMismatch ∷ []))) }
+    ensures told { IfErr result (Tells (refused TypeMismatch at)) }
 {
     match suffix {
         TypedSuffix::Arguments(_, arguments) => conversion_of(kind, sole_argument(arguments), at),
@@ -100,7 +101,7 @@ fn converted(kind: ElementKind, suffix: TypedSuffix, at: usize) -> Result<Typed,
 /// A number and a count, which a call at byte `at` is of.
 fn number_and_count(arguments: Vec<Typed>, at: usize) -> Result<(Vector, Static), NameFault>
     ensures given { Gives (λ p. (vector_view p.0, static_view p.1)) (counting (option_map (λ p. (typed_view p.0, typed_view p.1)) (two arguments.items))) result }
-    ensures told { IfErr result (Tells (is_of (TypeMismatch ∷ []))) }
+    ensures told { IfErr result (Tells (refused TypeMismatch at)) }
 {
     let Some((first, second)) = two_arguments(arguments) else {
         return Err(NameProblem::TypeMismatch.at(at));
@@ -118,7 +119,7 @@ fn number_and_count(arguments: Vec<Typed>, at: usize) -> Result<(Vector, Static)
 /// to_unsigned, whose name is at byte `at`, of a number and a size.
 fn encoded(arguments: Vec<Typed>, at: usize) -> Result<Typed, NameFault>
     ensures given { Gives typed_view (encoded_by (option_map (λ p. (typed_view p.0, typed_view p.1)) (two arguments.items))) result }
-    ensures told { IfErr result (Tells (is_of (TypeMismatch ∷ []))) }
+    ensures told { IfErr result (Tells (refused TypeMismatch at)) }
 {
     let Some((first, second)) = two_arguments(arguments) else {
         return Err(NameProblem::TypeMismatch.at(at));
@@ -144,7 +145,7 @@ fn called(
     at: usize,
 ) -> Result<Typed, NameFault>
     ensures given { Gives typed_view (rules.called function (typed_suffix_view suffix)) result }
-    ensures told { IfErr result (Tells (is_of (WrongKind ∷ TypeMismatch ∷ []))) }
+    ensures told { IfErr result (Tells (refused (name_problem (visibility.function function) (typed_suffix_view suffix)) at)) }
 {
     if let Function::EdgeCall(edge) = function {
         return edge_of(edge, suffix, at);
@@ -180,7 +181,7 @@ fn signal_of(
     at: usize,
 ) -> Result<Typed, NameFault>
     ensures given { Gives typed_view (rules.denoted (visibility.signal number object_type) (typed_suffix_view suffix)) result }
-    ensures told { IfErr result (Tells (is_of (TypeMismatch ∷ []))) }
+    ensures told { IfErr result (Tells (refused TypeMismatch at)) }
 {
     let signal = Signal::Signal(number);
     match object_type {
@@ -203,7 +204,7 @@ fn variable_of(
     at: usize,
 ) -> Result<Typed, NameFault>
     ensures given { Gives typed_view (rules.denoted (visibility.variable number object_type) (typed_suffix_view suffix)) result }
-    ensures told { IfErr result (Tells (is_of (TypeMismatch ∷ []))) }
+    ensures told { IfErr result (Tells (refused TypeMismatch at)) }
 {
     match object_type {
         ObjectType::Elements(kind) => read_variable(number, kind, suffix, at),
@@ -225,7 +226,7 @@ pub fn denoted(
     at: usize,
 ) -> Result<Typed, NameFault>
     ensures given { Gives typed_view (rules.denoted (meaning_view meaning.now) (typed_suffix_view suffix)) result }
-    ensures told { IfErr result (Tells (is_of (broken.name_problems (meaning_view meaning.now)))) }
+    ensures told { IfErr result (Tells (lacking (name_problem (meaning_view meaning.now) (typed_suffix_view suffix)) at (rules.denoted (meaning_view meaning.now) (typed_suffix_view suffix)))) }
 {
     match meaning {
         Meaning::Generic(k) => if_plain(suffix, Typed::Integer(Static::Generic(*k)), at),
@@ -267,7 +268,7 @@ pub fn attributed(
     at: usize,
 ) -> Result<Typed, NameFault>
     ensures given { Gives typed_view (rules.attributed (option_map ident_view attribute.now) (typed_view operand)) result }
-    ensures told { IfErr result (Tells (broken.attribute (option_map ident_view attribute.now) ▸ broken.event_of (option_map ident_view attribute.now) (typed_view operand))) }
+    ensures told { IfErr result (Tells (broken.attributed at (option_map ident_view attribute.now) (typed_view operand))) }
 {
     match attribute {
         None => Ok(operand),

@@ -1,8 +1,9 @@
 //! Operands: literals (IEEE 1076-2008, 9.3.2), and what stands behind a sign or in parentheses.
 
-ghost use Rattle.vhdl_names_problems.specs.Broken.{Tells, is_of};
+ghost use Rattle.vhdl_names_problems.specs.Broken.{Tells, lacking};
+ghost use Rattle.vhdl_names_problems.specs.Operators.{string_problem};
 ghost use Rattle.vhdl_names_rules.specs.declared.fault.NameProblem.TheVariants.{TypeMismatch, LeftOut};
-ghost use Rattle.std.specs.Prelude.{◌≡◌, option_map, IfErr, ◌∷◌, []};
+ghost use Rattle.std.specs.Prelude.{◌≡◌, option_map, IfErr};
 ghost use Rattle.vhdl_names_rules.specs.Expressions as rules;
 ghost use Rattle.vhdl_names_rules.specs.Gives.{Gives};
 ghost use Rattle.vhdl_names_rules.specs.Literals as literals;
@@ -23,7 +24,7 @@ use vhdl_tree::{Literal, Sign};
 /// An integer literal, of at most 2,147,483,647 (IEEE 1076-2008, 5.2.3.2); a greater one is LeftOut.
 pub fn integer_literal(literal: &Literal) -> Result<Typed, NameFault>
     ensures given { Gives typed_view (integer_of literal.now.text.items) result }
-    ensures told { IfErr result (Tells (is_of (LeftOut ∷ []))) }
+    ensures told { IfErr result (Tells (lacking LeftOut literal.now.at (literals.number_of literal.now.text.items))) }
 {
     match integer_value(&literal.text) {
         Some(number) => Ok(Typed::Integer(Static::Number(number))),
@@ -34,7 +35,7 @@ pub fn integer_literal(literal: &Literal) -> Result<Typed, NameFault>
 /// A character literal at byte `at`, of one of the nine values (15.6), or else there is TypeMismatch.
 pub fn character_literal(code: u8, at: usize) -> Result<Typed, NameFault>
     ensures given { Gives typed_view (option_map (λ v. table.elements Element (u.character v)) (literals.nine_of code)) result }
-    ensures told { IfErr result (Tells (is_of (TypeMismatch ∷ []))) }
+    ensures told { IfErr result (Tells (lacking TypeMismatch at (literals.nine_of code))) }
 {
     match nine_of(code) {
         Some(value) => Ok(Typed::Elements(ElementKind::Element, Vector::Character(at, value))),
@@ -45,7 +46,7 @@ pub fn character_literal(code: u8, at: usize) -> Result<Typed, NameFault>
 /// A string literal, a vector of the nine values (15.7). It takes the memory of a list.
 pub fn string_literal(alloc: Global, literal: &Literal) -> Result<Typed, NameFault>
     ensures given { Gives typed_view (option_map (λ vs. table.elements OpenVector (u.Vector.literal vs)) (literals.values_of_string literal.now.text.items)) result }
-    ensures told { IfErr result (Tells (is_of (TypeMismatch ∷ LeftOut ∷ []))) }
+    ensures told { IfErr result (Tells (lacking (string_problem literal.now.text.items) literal.now.at (literals.values_of_string literal.now.text.items))) }
 {
     let values = string_values(alloc, literal)?;
     Ok(Typed::Elements(ElementKind::OpenVector, Vector::Literal(literal.at, values)))
@@ -54,7 +55,7 @@ pub fn string_literal(alloc: Global, literal: &Literal) -> Result<Typed, NameFau
 /// A bit string literal, a vector of zeros and ones (15.8). It takes the memory of a list.
 pub fn bit_string_literal(alloc: Global, literal: &Literal) -> Result<Typed, NameFault>
     ensures given { Gives typed_view (option_map (λ vs. table.elements OpenVector (u.Vector.literal vs)) (literals.values_of_bits literal.now.text.items)) result }
-    ensures told { IfErr result (Tells (is_of (LeftOut ∷ []))) }
+    ensures told { IfErr result (Tells (lacking LeftOut literal.now.at (literals.values_of_bits literal.now.text.items))) }
 {
     let values = bit_string_values(alloc, literal)?;
     Ok(Typed::Elements(ElementKind::OpenVector, Vector::Literal(literal.at, values)))
@@ -64,7 +65,7 @@ pub fn bit_string_literal(alloc: Global, literal: &Literal) -> Result<Typed, Nam
 /// memory of a box.
 pub fn signed(alloc: Global, sign: Sign, operand: Typed, at: usize) -> Result<Typed, NameFault>
     ensures given { Gives typed_view (signed_by sign (typed_view operand)) result }
-    ensures told { IfErr result (Tells (is_of (TypeMismatch ∷ []))) }
+    ensures told { IfErr result (Tells (lacking TypeMismatch at (rules.as_integer (typed_view operand)))) }
 {
     match operand {
         Typed::Integer(integer) => match sign {

@@ -1,15 +1,15 @@
 //! Operators on typed operands (IEEE 1076-2008, 9.2; numeric_std for unsigned, 16.8). Each takes the
 //! memory of a list or a box.
 
-ghost use Rattle.vhdl_names_problems.specs.Broken.{Tells, is_of, ◌▸◌, unless};
-ghost use Rattle.vhdl_names_problems.specs.Expressions.{operator_problems};
+ghost use Rattle.vhdl_names_problems.specs.Broken.{Tells, refused, lacking};
+ghost use Rattle.vhdl_names_problems.specs.Operators.{is_numeric, is_unordered, arithmetic_problem, order_problem, operator_problem};
 ghost use Rattle.vhdl_names_rules.specs.declared.fault.NameProblem.TheVariants.{TypeMismatch, LeftOut, NotVisible};
-ghost use Rattle.std.specs.Prelude.{◌≡◌, ◌&&◌, ◌||◌, true, false, IfOk, OnErr, IfErr, ◌∷◌, []};
+ghost use Rattle.std.specs.Prelude.{◌≡◌, ◌&&◌, ◌||◌, if◌then◌else◌, true, false, IfOk, OnErr, IfErr};
 ghost use Rattle.vhdl_names_rules.specs.Gives.{Gives};
 ghost use Rattle.vhdl_names_rules.specs.Operators as table;
 ghost use Rattle.vhdl_names_rules.specs.views.Integers.{static_view};
 ghost use Rattle.vhdl_names_rules.specs.views.Vectors.{value_view};
-ghost use Rattle.vhdl_names_types.specs.Steps.{same_by, is_unordered, order_problem as order_problem_of};
+ghost use Rattle.vhdl_names_types.specs.Steps.{same_by};
 ghost use Rattle.vhdl_names_types.specs.Views.{typed_view};
 
 use crate::types::Typed;
@@ -29,7 +29,7 @@ fn logical(
     operands: (Typed, Typed),
 ) -> Result<Typed, NameFault>
     ensures given { Gives typed_view (table.logical operator (typed_view operands.0) (typed_view operands.1)) result }
-    ensures told { IfErr result (Tells (is_of (TypeMismatch ∷ []))) }
+    ensures told { IfErr result (Tells (refused TypeMismatch at)) }
 {
     let (left, right) = operands;
     let problem = NameProblem::TypeMismatch;
@@ -55,7 +55,7 @@ fn logical(
 /// not, at byte `at`.
 pub fn inverse(alloc: Global, at: usize, operand: Typed) -> Result<Typed, NameFault>
     ensures given { Gives typed_view (table.inverse (typed_view operand)) result }
-    ensures told { IfErr result (Tells (is_of (TypeMismatch ∷ []))) }
+    ensures told { IfErr result (Tells (lacking TypeMismatch at (table.inverse (typed_view operand)))) }
 {
     match operand {
         Typed::Elements(kind, x) => Ok(Typed::Elements(kind, Vector::inverse(alloc, at, x)?)),
@@ -67,7 +67,7 @@ pub fn inverse(alloc: Global, at: usize, operand: Typed) -> Result<Typed, NameFa
 /// &, at byte `at`.
 fn concatenated(alloc: Global, at: usize, operands: (Typed, Typed)) -> Result<Typed, NameFault>
     ensures given { Gives typed_view (table.concatenated (typed_view operands.0) (typed_view operands.1)) result }
-    ensures told { IfErr result (Tells (is_of (TypeMismatch ∷ []))) }
+    ensures told { IfErr result (Tells (refused TypeMismatch at)) }
 {
     let (left, right) = operands;
     let problem = NameProblem::TypeMismatch;
@@ -94,7 +94,7 @@ fn integral(
     operands: (Typed, Typed),
 ) -> Result<Typed, NameFault>
     ensures given { Gives typed_view (table.integral operator (typed_view operands.0) (typed_view operands.1)) result }
-    ensures told { IfErr result (Tells (is_of (TypeMismatch ∷ []))) }
+    ensures told { IfErr result (Tells (refused TypeMismatch at)) }
 {
     let (left, right) = operands;
     let problem = NameProblem::TypeMismatch;
@@ -109,7 +109,6 @@ fn integral(
 
 /// What an operator of numeric_std asks for: operands that it takes for numbers, else there is this
 /// problem, and its use clause.
-#[tactic(auto, using(vhdl_names_problems::proofs::Telling::told_left, vhdl_names_problems::proofs::Telling::told_right, vhdl_names_problems::proofs::Telling::told_more, vhdl_names_problems::proofs::Telling::is_same))]
 fn numeric(
     numbers: bool,
     are_numbers: bool,
@@ -118,8 +117,8 @@ fn numeric(
 ) -> Result<(), NameFault>
     ensures visible { IfOk result (λ _. numbers ≡ true) }
     ensures fitting { IfOk result (λ _. are_numbers ≡ true) }
-    ensures refused { OnErr result ((numbers && are_numbers) ≡ false) }
-    ensures told { IfErr result (Tells (is_of (problem ∷ []) ▸ unless NotVisible numbers)) }
+    ensures lacks { OnErr result ((numbers && are_numbers) ≡ false) }
+    ensures told { IfErr result (Tells (refused (if are_numbers then NotVisible else problem) at)) }
 {
     if !are_numbers {
         return Err(problem.at(at));
@@ -131,7 +130,6 @@ fn numeric(
 }
 
 /// + - *, at byte `at`, on integers and on numbers.
-#[tactic(auto, using(vhdl_names_problems::proofs::Telling::told_left, vhdl_names_problems::proofs::Telling::told_right, vhdl_names_problems::proofs::Telling::told_more, vhdl_names_problems::proofs::Telling::is_same))]
 fn arithmetic(
     alloc: Global,
     numbers: bool,
@@ -141,7 +139,7 @@ fn arithmetic(
     operands: (Typed, Typed),
 ) -> Result<Typed, NameFault>
     ensures given { Gives typed_view (table.arithmetic numbers operator by (typed_view operands.0) (typed_view operands.1)) result }
-    ensures told { IfErr result (Tells (is_of (TypeMismatch ∷ []) ▸ unless NotVisible numbers)) }
+    ensures told { IfErr result (Tells (refused (arithmetic_problem (typed_view operands.0) (typed_view operands.1)) at)) }
 {
     let (left, right) = operands;
     let problem = NameProblem::TypeMismatch;
@@ -192,7 +190,7 @@ fn same(comparison: Cmp, at: usize, left: Value, right: Value) -> Typed
 /// = and /=, at byte `at`.
 fn equality(at: usize, comparison: Cmp, operands: (Typed, Typed)) -> Result<Typed, NameFault>
     ensures given { Gives typed_view (table.equality comparison (same_by comparison) (typed_view operands.0) (typed_view operands.1)) result }
-    ensures told { IfErr result (Tells (is_of (TypeMismatch ∷ []))) }
+    ensures told { IfErr result (Tells (refused TypeMismatch at)) }
 {
     let (left, right) = operands;
     let problem = NameProblem::TypeMismatch;
@@ -241,9 +239,9 @@ fn is_left_out(operand: &Typed) -> bool
     }
 }
 
-/// What is wrong with operands that are not ordered.
-fn order_problem(operands: &(Typed, Typed)) -> NameProblem
-    ensures { result ≡ order_problem_of (is_unordered (typed_view operands.now.0) || is_unordered (typed_view operands.now.1)) }
+/// What is wrong with operands that are no numbers.
+fn unordered(operands: &(Typed, Typed)) -> NameProblem
+    ensures { result ≡ if is_unordered (typed_view operands.now.0) || is_unordered (typed_view operands.now.1) then LeftOut else TypeMismatch }
 {
     if is_left_out(&operands.0) || is_left_out(&operands.1) {
         NameProblem::LeftOut
@@ -253,7 +251,6 @@ fn order_problem(operands: &(Typed, Typed)) -> NameProblem
 }
 
 /// < <= > >=, at byte `at`; where the operands are no numbers, there is this problem.
-#[tactic(auto, using(vhdl_names_problems::proofs::Telling::told_left, vhdl_names_problems::proofs::Telling::told_right, vhdl_names_problems::proofs::Telling::told_more, vhdl_names_problems::proofs::Telling::is_same))]
 fn ordered(
     numbers: bool,
     at: usize,
@@ -262,7 +259,7 @@ fn ordered(
     operands: (Typed, Typed),
 ) -> Result<Typed, NameFault>
     ensures given { Gives typed_view (table.ordering numbers comparison (typed_view operands.0) (typed_view operands.1)) result }
-    ensures told { IfErr result (Tells (is_of (problem ∷ []) ▸ unless NotVisible numbers)) }
+    ensures told { IfErr result (Tells (refused (if is_numeric (typed_view operands.0) && is_numeric (typed_view operands.1) then NotVisible else problem) at)) }
 {
     let (left, right) = operands;
     match left {
@@ -290,7 +287,6 @@ fn ordered(
 }
 
 /// < <= > >=, at byte `at`.
-#[tactic(auto, using(vhdl_names_problems::proofs::Telling::told_left, vhdl_names_problems::proofs::Telling::told_right, vhdl_names_problems::proofs::Telling::told_more, vhdl_names_problems::proofs::Telling::is_same))]
 fn ordering(
     numbers: bool,
     at: usize,
@@ -298,9 +294,9 @@ fn ordering(
     operands: (Typed, Typed),
 ) -> Result<Typed, NameFault>
     ensures given { Gives typed_view (table.ordering numbers comparison (typed_view operands.0) (typed_view operands.1)) result }
-    ensures told { IfErr result (Tells (is_of (TypeMismatch ∷ LeftOut ∷ []) ▸ unless NotVisible numbers)) }
+    ensures told { IfErr result (Tells (refused (order_problem (typed_view operands.0) (typed_view operands.1)) at)) }
 {
-    let problem = order_problem(&operands);
+    let problem = unordered(&operands);
     ordered(numbers, at, comparison, problem, operands)
 }
 
@@ -315,7 +311,7 @@ pub fn operated(
     right: Typed,
 ) -> Result<Typed, NameFault>
     ensures given { Gives typed_view (table.operated numbers operator (typed_view left) (typed_view right)) result }
-    ensures told { IfErr result (Tells (is_of (operator_problems numbers))) }
+    ensures told { IfErr result (Tells (lacking (operator_problem operator (typed_view left) (typed_view right)) at (table.operated numbers operator (typed_view left) (typed_view right)))) }
 {
     let operands = (left, right);
     match operator {

@@ -1,8 +1,8 @@
 //! Parts of objects: indexed and slice names (IEEE 1076-2008, 8.4, 8.5), and arguments that stand alone.
 
-ghost use Rattle.vhdl_names_problems.specs.Broken.{Tells, is_of};
+ghost use Rattle.vhdl_names_problems.specs.Broken.{Tells, refused};
 ghost use Rattle.vhdl_names_rules.specs.declared.fault.NameProblem.TheVariants.{TypeMismatch};
-ghost use Rattle.std.specs.Prelude.{◌≡◌, option_map, IfErr, ◌∷◌, []};
+ghost use Rattle.std.specs.Prelude.{◌≡◌, option_map, IfErr};
 ghost use Rattle.vhdl_names_rules.specs.Gives.{Gives};
 ghost use Rattle.vhdl_names_rules.specs.Names as rules;
 ghost use Rattle.vhdl_names_rules.specs.views.Vectors.{part_view};
@@ -39,7 +39,7 @@ fn element(
     at: usize,
 ) -> Result<(Part, ElementKind), NameFault>
     ensures given { Gives (λ p. (part_view p.0, p.1)) (indexed kind (option_map typed_view index)) result }
-    ensures told { IfErr result (Tells (is_of (TypeMismatch ∷ []))) }
+    ensures told { IfErr result (Tells (refused TypeMismatch at)) }
 {
     match index {
         Some(Typed::Integer(index)) => match kind {
@@ -61,7 +61,7 @@ pub(crate) fn part(
     at: usize,
 ) -> Result<(Part, ElementKind), NameFault>
     ensures given { Gives (λ p. (part_view p.0, p.1)) (rules.part kind (typed_suffix_view suffix)) result }
-    ensures told { IfErr result (Tells (is_of (TypeMismatch ∷ []))) }
+    ensures told { IfErr result (Tells (refused TypeMismatch at)) }
 {
     match suffix {
         TypedSuffix::Plain => Ok((Part::Whole, kind)),
@@ -80,7 +80,7 @@ pub fn part_of(
     at: usize,
 ) -> Result<(Part, ObjectType), NameFault>
     ensures given { Gives (λ p. (part_view p.0, p.1)) (rules.part_of object_type (typed_suffix_view suffix)) result }
-    ensures told { IfErr result (Tells (is_of (TypeMismatch ∷ []))) }
+    ensures told { IfErr result (Tells (refused TypeMismatch at)) }
 {
     match object_type {
         ObjectType::Elements(kind) => {
@@ -97,7 +97,7 @@ pub fn part_of(
 /// A value whose name at byte `at` has nothing behind it.
 pub(crate) fn if_plain(suffix: TypedSuffix, value: Typed, at: usize) -> Result<Typed, NameFault>
     ensures given { Gives typed_view (rules.if_plain (typed_suffix_view suffix) (typed_view value)) result }
-    ensures told { IfErr result (Tells (is_of (TypeMismatch ∷ []))) }
+    ensures told { IfErr result (Tells (refused TypeMismatch at)) }
 {
     match suffix {
         TypedSuffix::Plain => Ok(value),

@@ -9,6 +9,7 @@ ghost use Rattle.vhdl_names_problems.specs.Broken.{Tells};
 ghost use Rattle.vhdl_names_problems.specs.Expressions as broken;
 ghost use Rattle.vhdl_names_problems.specs.Missing.{is_named, offered, left_out, problem_of};
 ghost use Rattle.vhdl_names_types.specs.Sights.{found};
+ghost use Rattle.vhdl_tree.specs.View.{ident_view};
 
 use crate::meaning::{Declared, Meaning};
 use indexmap::IndexMap;
@@ -202,7 +203,7 @@ fn missing(name: &[u8]) -> NameProblem
 pub fn meaning_of<'a>(sight: &'a Sight, name: &Identifier) -> Result<&'a Meaning, NameFault>
     ensures meant { Gives (λ m. meaning_view m.now) (visibility.meaning (sight_view sight.now) name.now.text.items) result }
     ensures fault { IfErr result (λ f. f ≡ At (problem_of name.now.text.items) name.now.at) }
-    ensures told { IfErr result (Tells (broken.meaning (sight_view sight.now) name.now.text.items)) }
+    ensures told { IfErr result (Tells (broken.meaning (sight_view sight.now) (ident_view name.now))) }
 {
     match sight.meaning(&name.text) {
         Some(meaning) => Ok(meaning),

@@ -1,23 +1,19 @@
--- Which rules processes and generates break, in the parts in which the code comes to them.
-use Rattle.std.specs.Prelude.{List, Option}
+-- Which rules generates break, in the parts in which the code comes to them.
+use Rattle.std.specs.Prelude.{List, [], Option}
 use Rattle.vhdl_tree.specs.Tree as t
 use Rattle.vhdl_tree.specs.Tree.{Ident}
-use Rattle.vhdl_names_rules.specs.declared.fault.NameProblem.TheVariants.{Twice, WrongKind}
-use Rattle.vhdl_names_rules.specs.Visibility.{Sight, are_distinct, ends}
+use Rattle.vhdl_names_rules.specs.Visibility.{Sight}
 use Rattle.vhdl_names_rules.specs.Interfaces.{EntityView}
-use Rattle.vhdl_names_rules.specs.Statements.{statement_labels}
-use Rattle.vhdl_names_rules.specs.Concurrent.{concurrent_labels, sight_within}
-use Rattle.vhdl_names_problems.specs.Broken.{Broken, ◌▸◌, unless}
-use Rattle.vhdl_names_problems.specs.Statements.{statements}
+use Rattle.vhdl_names_rules.specs.Concurrent.{sight_within}
+use Rattle.vhdl_names_problems.specs.Broken.{Broken, ◌▸◌, earlier}
+use Rattle.vhdl_names_problems.specs.Twice.{twice}
+use Rattle.vhdl_names_problems.specs.Labels.{labels_of}
+use Rattle.vhdl_names_problems.specs.Declarations.{end_name}
 use Rattle.vhdl_names_problems.specs.Concurrent.{scheme, concurrents}
 
--- the statements of a process, behind its variables
-abbrev pub body : Sight → List t.Sequential → Broken
-body sight qs = unless Twice (are_distinct (statement_labels (t.statements_of qs))) ▸ statements sight (t.statements_of qs)
-
--- the statements directly in a generate
+-- the statements directly in a generate, among which their labels stand
 abbrev pub labelled : List EntityView → Sight → List t.Concurrent → Broken
-labelled entities sight cs = unless Twice (are_distinct (concurrent_labels (t.concurrents_of cs))) ▸ concurrents entities sight (t.concurrents_of cs)
+labelled entities sight cs = earlier (twice [] (labels_of (t.concurrents_of cs))) (concurrents entities sight (t.concurrents_of cs))
 
 abbrev pub generate : List EntityView → Sight → Ident → t.Scheme → List t.Concurrent → Option Ident → Broken
-generate entities sight label k cs end = scheme sight k ▸ labelled entities (sight_within sight k) cs ▸ unless WrongKind (ends label.text end)
+generate entities sight label k cs end = scheme sight k ▸ labelled entities (sight_within sight k) cs ▸ end_name label end

@@ -15,8 +15,7 @@ use Rattle.vhdl_names_rules.specs.Visibility.{Name, Sight, label_ends, is_among,
 use Rattle.vhdl_names_rules.specs.Choices.{choices, only_last_others, is_last_others, names_all}
 use Rattle.vhdl_names_expressions.specs.Asked.{selected_by}
 use Rattle.vhdl_names_units.specs.views.Sequential.{Chosen, chosen_by, statements_of, alternatives_of}
-use Rattle.vhdl_names_labels.specs.Lists.{in_turn}
-use Rattle.vhdl_names_labels.specs.Once.{one_name, key_of}
+use Rattle.vhdl_names_labels.specs.Once.{key_of}
 use Rattle.vhdl_names_statements.specs.steps.Sequential.{all_labelled}
 
 -- the choices of an alternative, and what it does
@@ -36,6 +35,13 @@ cover type lists cs = do
   rule ChoiceTwice (are_distinct (map key_of cs))
   rule NoOthers (is_last_others lists || names_all type cs)
 
+abbrev pub choices_of : List Chosen → List (List s.Choice)
+choices_of all = map (λ (a : Chosen). a.choices) all
+
+-- alternatives whose choices are as they are asked to be
+abbrev pub covering : ObjectType → List (List t.Choice) → Option (List Chosen) → Option (List Chosen)
+covering type lists found = found >>= λ all. cover type lists (all_choices all) >>= λ _. Some all
+
 -- alternatives but the last, which is done otherwise
 pub record Divided : Type 0 where
   pub alternatives : List Chosen
@@ -52,8 +58,7 @@ choice_lists = map (λ a. a.choices)
 -- what is done by a value of this type, the last alternative apart
 abbrev pub parts : Sight → ObjectType → Option Ident → List t.Alternative → Option Ident → Option Divided
 parts sight type label alts end = do
-  all ← each (chosen sight type) alts
-  cover type (choice_lists alts) (all_choices all)
+  all ← covering type (choice_lists alts) (each (chosen sight type) alts)
   rule WrongKind (label_ends label end)
   but_last all
 
@@ -64,10 +69,6 @@ selection sight label e alts end = do
   Some (s.case_of by.1 (alternatives_of d.alternatives (statements_of d.last)))
 
 -- ---- tables of choices
-
--- the keys of one alternative's choices, after those before them
-abbrev pub with_choices : List Name → Chosen → Option (List Name)
-with_choices keys a = in_turn one_name keys (map key_of a.choices)
 
 -- each literal of an enumeration has its key
 abbrev pub has_all : ObjectType → List Name → Bool

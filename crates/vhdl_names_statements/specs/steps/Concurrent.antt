@@ -13,7 +13,7 @@ use Rattle.vhdl_names_rules.specs.Statements.{target}
 use Rattle.vhdl_names_rules.specs.Concurrent.{assigning}
 use Rattle.vhdl_names_expressions.specs.Asked.{selected_by}
 use Rattle.vhdl_names_units.specs.views.Sequential.{Guarded, guarded_by, Chosen, chosen_by, statements_of, branches_of, last_of, alternatives_of}
-use Rattle.vhdl_names_statements.specs.steps.Cases.{Divided, all_choices, cover, but_last}
+use Rattle.vhdl_names_statements.specs.steps.Cases.{Divided, covering, but_last}
 use Rattle.vhdl_names_statements.specs.steps.Sequential.{assigned}
 
 -- an assignment alone
@@ -58,8 +58,7 @@ choice_lists = map (λ w. w.choices)
 abbrev pub parts : Sight → ObjectType → t.SelectedAssignment → Option Divided
 parts sight type a = do
   target sight a.target
-  all ← each (chosen sight type a.target) a.waveforms
-  cover type (choice_lists a.waveforms) (all_choices all)
+  all ← covering type (choice_lists a.waveforms) (each (chosen sight type a.target) a.waveforms)
   but_last all
 
 abbrev pub selected : Sight → Option Ident → t.SelectedAssignment → Option u.Concurrent

@@ -1,71 +1,84 @@
 -- Which rules statements and assignments break, in the parts in which the code comes to them.
-use Rattle.std.specs.Prelude.{List, [], ◌∷◌, map, filter_map, Option, ◌||◌}
+use Rattle.std.specs.Prelude.{◌≡◌, ℕ, Bool, not, List, [], ◌∷◌, ◌++◌, map, filter_map, Option, Some, None, Vec}
+use Rattle.std.specs.Global.{Global}
 use Rattle.vhdl_tree.specs.Tree as t
 use Rattle.vhdl_tree.specs.Tree.{Ident}
 use Rattle.vhdl_names_rules.specs.declared.kind.ObjectType.{ObjectType}
-use Rattle.vhdl_names_rules.specs.units.Statements as s
-use Rattle.vhdl_names_rules.specs.declared.fault.NameProblem.TheVariants.{WrongKind, NoOthers, ChoiceTwice}
-use Rattle.vhdl_names_rules.specs.Visibility.{Name, Sight, label_ends, are_distinct}
-use Rattle.vhdl_names_rules.specs.Choices.{choice, only_last_others, is_last_others, names_all}
-use Rattle.vhdl_names_problems.specs.Broken.{Broken, ◌▸◌, unless, lacking, any_of, of_any}
+use Rattle.vhdl_names_rules.specs.declared.fault.NameProblem.TheVariants.{WrongKind, ChoiceTwice}
+use Rattle.vhdl_names_rules.specs.Rules.{each}
+use Rattle.vhdl_names_rules.specs.Visibility.{Name, Sight, is_among}
+use Rattle.vhdl_names_rules.specs.Choices as are
+use Rattle.vhdl_names_problems.specs.Broken.{Broken, nothing, ◌▸◌, unless, where_given, any_of, of_any}
+use Rattle.vhdl_names_problems.specs.Places.{choice_place}
 use Rattle.vhdl_names_problems.specs.Expressions.{condition}
-use Rattle.vhdl_names_problems.specs.Choices.{choices, covered}
+use Rattle.vhdl_names_problems.specs.Choices.{choice, choices}
+use Rattle.vhdl_names_problems.specs.Covered.{is_empty, covered, any_alternative}
 use Rattle.vhdl_names_problems.specs.Statements as broken
-use Rattle.vhdl_names_problems.specs.Concurrent.{values}
-use Rattle.vhdl_names_labels.specs.Lists.{in_turn}
-use Rattle.vhdl_names_labels.specs.Once.{one_name, key_of}
+use Rattle.vhdl_names_problems.specs.Concurrent.{branch}
+use Rattle.vhdl_names_units.specs.declared.sequential.Alternative.{Alternative}
+use Rattle.vhdl_names_units.specs.views.Sequential.{alternatives_view}
+use Rattle.vhdl_names_labels.specs.Once.{key_of}
 use Rattle.vhdl_names_statements.specs.steps.Cases as cases
-use Rattle.vhdl_names_statements.specs.steps.Concurrent as concurrent
 
 -- ---- statements with statements in them
 
 abbrev pub guarded : Sight → t.Conditional → Broken
 guarded sight b = condition sight b.condition ▸ broken.statements sight (t.statements_of b.statements)
 
--- what choices of all alternatives are asked
-abbrev pub uncovered : ObjectType → List (List t.Choice) → List s.Choice → Broken
-uncovered type lists cs =
-    unless WrongKind (only_last_others lists)
-    ▸ unless ChoiceTwice (are_distinct (map key_of cs))
-    ▸ unless NoOthers (is_last_others lists || names_all type cs)
-
 abbrev pub alternative : Sight → ObjectType → t.Alternative → Broken
 alternative sight type a = choices sight type a.choices ▸ broken.statements sight (t.statements_of a.statements)
 
-abbrev pub alternatives : Sight → ObjectType → List t.Alternative → Broken
-alternatives sight type alts = any_of (choices sight type) (cases.choice_lists alts) ▸ broken.alternatives sight (t.alternatives_of alts)
+-- a case by a value of this type, which starts at this byte
+abbrev pub parts : Sight → ObjectType → Option Ident → ℕ → List t.Alternative → Option Ident → Broken
+parts sight type label at alts end =
+    covered sight type at (cases.choice_lists alts) (broken.alternatives sight type (t.alternatives_of alts))
+    ▸ broken.end_label label end ▸ any_alternative at (cases.choice_lists alts)
 
--- a case by a value of this type
-abbrev pub parts : Sight → ObjectType → Option Ident → List t.Alternative → Option Ident → Broken
-parts sight type label alts end =
-    unless WrongKind (label_ends label end) ▸ covered sight type (cases.choice_lists alts) ▸ broken.alternatives sight (t.alternatives_of alts)
+-- ---- choices as they stand, told apart by their keys
 
--- ---- choices one by one, as they stand there
+-- the keys of those that are given
+abbrev pub keys_of : Sight → ObjectType → List t.Choice → List Name
+keys_of sight type cs = map key_of (filter_map (are.choice sight type) cs)
 
--- with a choice that is given, after those before it
-abbrev pub with_choice : Sight → ObjectType → List Name → t.Choice → Option (List Name)
-with_choice sight type keys c = in_turn one_name keys (map key_of (filter_map (choice sight type) (c ∷ [])))
+-- with those of choices, one after another
+abbrev pub with_choice : Sight → ObjectType → List Name → t.Choice → List Name
+with_choice sight type keys c = keys ++ keys_of sight type (c ∷ [])
 
-abbrev pub with_list : Sight → ObjectType → List Name → List t.Choice → Option (List Name)
-with_list sight type keys cs = in_turn (with_choice sight type) keys cs
+abbrev pub with_list : Sight → ObjectType → List Name → List t.Choice → List Name
+with_list sight type keys [] = keys
+with_list sight type keys (c ∷ cs) = with_list sight type (with_choice sight type keys c) cs
 
--- each choice by itself, and one that stands twice
-abbrev pub written : Sight → ObjectType → List Name → List t.Choice → Broken
-written sight type keys cs =
-    any_of (λ c. choices sight type (c ∷ [])) cs ▸ lacking (ChoiceTwice ∷ []) (with_list sight type keys cs)
+abbrev pub with_lists : Sight → ObjectType → List Name → List (List t.Choice) → List Name
+with_lists sight type keys [] = keys
+with_lists sight type keys (cs ∷ rest) = with_lists sight type (with_list sight type keys cs) rest
+
+abbrev pub once : Sight → ObjectType → List Name → t.Choice → Broken
+once sight type keys c =
+    choice sight type c ▸ where_given (are.choice sight type c) (λ x. unless ChoiceTwice (choice_place c) (not (is_among (key_of x) keys)))
+
+abbrev pub each_once : Sight → ObjectType → List Name → List t.Choice → Broken
+each_once sight type keys [] = nothing
+each_once sight type keys (c ∷ cs) = once sight type keys c ▸ each_once sight type (with_choice sight type keys c) cs
+
+-- where others stands, if it stands alone
+abbrev pub others_alone : List t.Choice → Option ℕ
+others_alone (t.otherwise at ∷ []) = Some at
+others_alone _ = None
+
+abbrev pub alternative_in_place : Sight → ObjectType → List Name → Bool → List t.Choice → Broken
+alternative_in_place sight type keys is_last (t.otherwise at ∷ []) = unless WrongKind at is_last
+alternative_in_place sight type keys is_last cs = each_once sight type keys cs
+
+abbrev pub in_place : Sight → ObjectType → List Name → List (List t.Choice) → Broken
+in_place sight type keys [] = nothing
+in_place sight type keys (cs ∷ rest) =
+    alternative_in_place sight type keys (is_empty rest) cs ▸ in_place sight type (with_list sight type keys cs) rest
+
+-- alternatives whose choices are those that stand there
+abbrev pub HasChoices : Sight → ObjectType → List (List t.Choice) → Vec Alternative Global → Type 0
+HasChoices sight type lists all = each (are.choices sight type) lists ≡ Some (cases.choices_of (alternatives_view all))
 
 -- ---- concurrent assignments
 
-abbrev pub waveform : Sight → t.Name → t.Branch → Broken
-waveform sight n b = broken.assigned sight n b.value ▸ condition sight b.condition
-
 abbrev pub conditional : Sight → t.Name → List t.Branch → Option t.Value → Broken
-conditional sight n bs o = any_of (waveform sight n) bs ▸ of_any (broken.assigned sight n) o
-
-abbrev pub chosen : Sight → ObjectType → t.Name → t.Waveform → Broken
-chosen sight type n w = broken.assigned sight n w.value ▸ choices sight type w.choices
-
--- a selected assignment by a value of this type
-abbrev pub selected : Sight → ObjectType → t.SelectedAssignment → Broken
-selected sight type a =
-    broken.target sight a.target ▸ covered sight type (concurrent.choice_lists a.waveforms) ▸ values sight a.target (map (λ w. w.value) a.waveforms)
+conditional sight n bs o = any_of (branch sight n) bs ▸ of_any (broken.assigned sight n) o
