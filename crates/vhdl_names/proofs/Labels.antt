@@ -1,5 +1,5 @@
 -- Labels declared one after another, past those that stand twice.
-use Rattle.std.proofs.Common.{◌≡◌, ◌≢◌, ℕ, suc, ◌+◌, ◌<◌, ◌≤◌, length, drop, get_or, map, arith, Bool, true, false, List, [], ◌∷◌, ◌++◌, Option, Some, None, Result, Ok, Err, IfOk, IfErr, refl, ap, sym, ◌∙◌, append_assoc, append-nil, true≢false}
+use Rattle.std.proofs.Common.{◌≡◌, ◌≢◌, ℕ, suc, ◌+◌, ◌<◌, ◌≤◌, length, drop, get_or, map, arith, Bool, true, false, List, [], ◌∷◌, ◌++◌, Option, Some, None, Result, Ok, Err, IfOk, IfErr, refl, ap, sym, ◌∙◌, append-nil, true≢false}
 use Rattle.std.specs.Prelude.{if◌then◌else◌}
 use Rattle.std.proofs.Math.Seq.{drop-cons}
 use Rattle.std.proofs.lemmas.List.{map-append, drop_all}
@@ -25,22 +25,11 @@ use Rattle.vhdl_names_problems.specs.Declarations.{standing_twice}
 use Rattle.vhdl_names_problems.specs.Files.{with_labels}
 use Rattle.vhdl_names_problems.proofs.Telling.{told_same, at_is_told}
 use Rattle.vhdl_names_problems.proofs.kept.Twice.{apart, distinct_next, names_append}
+use Rattle.vhdl_names_problems.proofs.kept.Labels.{labels_named}
+use Rattle.vhdl_names_problems.proofs.kept.Architectures.{names_labelled, labels_enter}
 use Rattle.vhdl_names_declarations.specs.Entered.{more}
 use Rattle.vhdl_names_declarations.proofs.Regions.{more_split}
 use Rattle.vhdl_names.specs.Finding.{Finds, HasMemory, first_of}
-
-names_labelled : (ls : List Name) → declared_names (labelled ls) ≡ ls
-names_labelled [] = refl
-names_labelled (l ∷ ls) = ap (λ ns. l ∷ ns) (names_labelled ls)
-
--- all labels, where no name stands twice
-pub all_labels : (ds : List Declared) (ls : List Name) → are_distinct (declared_names ds ++ ls) ≡ true → with_labels ds ls ≡ ds ++ labelled ls
-all_labels ds [] h = sym (append-nil ds)
-all_labels ds (l ∷ ls) h =
-    ap (λ b. if b then with_labels ds ls else with_labels (ds ++ declare l label ∷ []) ls) (apart (declared_names ds) l ls h)
-    ∙ all_labels (ds ++ declare l label ∷ []) ls
-    (ap (λ ns. are_distinct (ns ++ ls)) (names_append ds (declare l label ∷ [])) ∙ ap are_distinct (append_assoc (declared_names ds) (l ∷ []) ls) ∙ h)
-    ∙ append_assoc ds (declare l label ∷ []) (labelled ls)
 
 more_names : (ds : List Declared) (ls : List Name) → are_distinct (declared_names (ds ++ labelled ls)) ≡ are_distinct (declared_names ds ++ ls)
 more_names ds ls = ap are_distinct (names_append ds (labelled ls) ∙ ap (λ ns. declared_names ds ++ ns) (names_labelled ls))
@@ -48,7 +37,7 @@ more_names ds ls = ap are_distinct (names_append ds (labelled ls) ∙ ap (λ ns.
 pub with_more : (ds : List Declared) (ls : List Name) (r : List Declared) → more ds (labelled ls) ≡ Some r → with_labels ds ls ≡ r
 with_more ds ls r h =
     let k = kept (are_distinct (declared_names (ds ++ labelled ls))) (Some (ds ++ labelled ls)) r h in
-    all_labels ds ls (sym (more_names ds ls) ∙ k.0) ∙ some_is (ds ++ labelled ls) r k.1
+    labels_enter ls ds (sym (more_names ds ls) ∙ k.0) ∙ some_is (ds ++ labelled ls) r k.1
 
 no_more : (ds : List Declared) (ls : List Name) → more ds (labelled ls) ≡ None → are_distinct (declared_names ds ++ ls) ≡ false
 no_more ds ls h = sym (more_names ds ls) ∙ go (are_distinct (declared_names (ds ++ labelled ls))) h
@@ -117,12 +106,13 @@ next_refused ds (l ∷ m ∷ ls) left one d h = absurd one
 twice_front : (names : List Name) (is left : List Ident) (f : NameFault) → Tells (twice names is) f → Tells (twice names (is ++ left)) f
 twice_front names [] left (At p at) h = absurd cc
 twice_front names [] left NoMemory h = tt
-twice_front names (i ∷ is) left f h = go (is_among i.text names) h
+twice_front names (i ∷ is) left f h = go (is_among i.text names) (twice_front (names ++ i.text ∷ []) is left f) h
   where
-    go : (b : Bool) → Tells (if b then refused Twice i.at else twice (names ++ i.text ∷ []) is) f
+    go : (b : Bool) → (Tells (twice (names ++ i.text ∷ []) is) f → Tells (twice (names ++ i.text ∷ []) (is ++ left)) f)
+        → Tells (if b then refused Twice i.at else twice (names ++ i.text ∷ []) is) f
         → Tells (if b then refused Twice i.at else twice (names ++ i.text ∷ []) (is ++ left)) f
-    go true h = h
-    go false h = twice_front (names ++ i.text ∷ []) is left f h
+    go true more h = h
+    go false more h = more h
 
 -- ---- one statement after another
 
@@ -205,11 +195,6 @@ label_name (t.process l p) = name_if_any l
 label_name (t.instance l i) = refl
 label_name (t.generated l at s word cs end) = refl
 
-pub label_all : (cs : t.Concurrents) → names_of (labels_of cs) ≡ concurrent_labels cs
-label_all t.no_concurrents = refl
-label_all (t.concurrent c cs) =
-    map-append name_of (label_of c) (labels_of cs) ∙ ap (λ ns. ns ++ names_of (labels_of cs)) (label_name c) ∙ ap (λ ns. concurrent_label c ++ ns) (label_all cs)
-
 abbrev pub labels_in : List Concurrent → List Ident
 labels_in cs = labels_of (t.concurrents_of (map concurrent_view cs))
 
@@ -236,12 +221,12 @@ module _ (old : List Declared) (cs : List Concurrent) (region : List Declared) (
 
   pub all_past : (told : Result (Unit {0}) NameFault) → Labelled old (labels_in cs) region told (labels_in (drop i cs)) → HasMemory told
       → region ≡ with_labels old (concurrent_labels (t.concurrents_of (map concurrent_view cs)))
-  all_past told x n = ap (λ l. with_labels region (names_of l)) (sym gone) ∙ x.past n ∙ ap (with_labels old) (label_all all)
+  all_past told x n = ap (λ l. with_labels region (names_of l)) (sym gone) ∙ x.past n ∙ ap (with_labels old) (labels_named all)
 
   pub all_given : (told : Result (Unit {0}) NameFault) → Labelled old (labels_in cs) region told (labels_in (drop i cs))
       → IfOk told (λ _. more old (labelled (concurrent_labels (t.concurrents_of (map concurrent_view cs)))) ≡ Some region)
   all_given (Ok u) x =
-      ap (λ ns. more old (labelled ns)) (sym (label_all all)) ∙ x.given ∙ ap (λ l. more region (labelled (names_of l))) gone
+      ap (λ ns. more old (labelled ns)) (sym (labels_named all)) ∙ x.given ∙ ap (λ l. more region (labelled (names_of l))) gone
       ∙ ap (λ b. met b >>= λ _. let o : Option (List Declared) = Some (region ++ []) in o) (ap (λ l. are_distinct (declared_names l)) (append-nil region) ∙ x.apart tt)
       ∙ ap Some (append-nil region)
   all_given (Err f) x = tt

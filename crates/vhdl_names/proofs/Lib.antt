@@ -1,13 +1,17 @@
 pub mod Behind
+pub mod Bodies
 pub mod Describing
 pub mod Entering
+pub mod Filed
 pub mod Filing
 pub mod Finding
 pub mod Labels
+pub mod Mentioning
 pub mod Naming
 pub mod Outlining
 pub mod Passing
 pub mod Past
+pub mod Placing
 pub mod Seeing
 pub mod Tabling
 pub mod Walking

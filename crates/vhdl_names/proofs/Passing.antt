@@ -45,9 +45,9 @@ module _ (us : List DesignUnit) (i : ℕ) (d : DesignUnit) (lt : i < length us) 
 
   pub name_next : (o : OutlineView) (told r : Result (Unit {0}) NameFault) (p : OutlineView) → Named (map view.unit_view us) o told (left_at us i)
       → Gives (λ _. p) (with_unit o (view.unit_view d)) r → IfErr r (Tells (one_unit o (view.unit_view d).unit)) → Named (map view.unit_view us) p (first_of told r) (left_at us (i + 1))
-  name_next o told r p x g t =
+  name_next o told r p x g w =
       let P : List t.DesignUnit → Type 0 = λ ds. Named all o told ds in
-      next_named all o unit.context (left_at us (i + 1)) unit.unit told r p (subst P next x) g t
+      next_named all o unit.context (left_at us (i + 1)) unit.unit told r p (subst P next x) g w
 
   pub name_past : {A : Type 0} (o : OutlineView) (r : Result A NameFault) (p : OutlineView) → Outlined (map view.unit_view us) o (left_at us i)
       → Gives (λ _. p) (with_unit o (view.unit_view d)) r → OnErr r (p ≡ o) → HasMemory r → Outlined (map view.unit_view us) p (left_at us (i + 1))
@@ -64,6 +64,6 @@ module _ (us : List DesignUnit) (i : ℕ) (d : DesignUnit) (lt : i < length us) 
   pub entity_next : (as' : List Keyed) (es : List EntityView) (told r : Result (Unit {0}) NameFault) (vs : List EntityView) → Entered as' (map view.unit_view us) es told (left_at us i)
       → Gives (λ _. vs) (steps.with_unit as' es (view.unit_view d)) r → IfErr r (Tells (any_of broken (entities_of (view.unit_view d ∷ []))))
       → IfErr r (λ f. f ≢ NoMemory → vs ≡ es) → Entered as' (map view.unit_view us) vs (first_of told r) (left_at us (i + 1))
-  entity_next as' es told r vs x g t k =
+  entity_next as' es told r vs x g w k =
       let P : List t.DesignUnit → Type 0 = λ ds. Entered as' all es told ds in
-      next_entered as' all es unit.context unit.unit (left_at us (i + 1)) told r vs (subst P next x) g t k
+      next_entered as' all es unit.context unit.unit (left_at us (i + 1)) told r vs (subst P next x) g w k
