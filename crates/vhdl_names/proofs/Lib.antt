@@ -1,14 +1,15 @@
 pub mod Behind
-pub mod Bodies
 pub mod Describing
 pub mod Entering
 pub mod Filed
 pub mod Filing
 pub mod Finding
+pub mod Hiding
 pub mod Labels
 pub mod Mentioning
 pub mod Naming
 pub mod Outlining
+pub mod Parts
 pub mod Passing
 pub mod Past
 pub mod Placing

@@ -13,6 +13,7 @@ ghost use Rattle.vhdl_tree.specs.View as view;
 use crate::outline::has_name;
 use crate::tables::Given;
 use vhdl_names_interfaces::Entities;
+use vhdl_names_rules::{NameFault, NameProblem};
 use vhdl_tree::{Architecture, Concurrent, Declaration, Generate, Identifier, Instance, Instantiated};
 
 /// Whether a name is that of an entity that is given.
@@ -109,10 +110,41 @@ fn is_among(given: &Given<'_, '_>, statements: &[Concurrent], at: usize) -> bool
 
 /// Whether an architecture names an entity that isn't given at byte `at`: by a component, or by an
 /// instance.
-pub fn mentions(given: &Given<'_, '_>, architecture: &Architecture, at: usize) -> bool
+fn mentions(given: &Given<'_, '_>, architecture: &Architecture, at: usize) -> bool
     ensures { result ≡ one_is_hidden given.now at
         (broken.mentions (view.architecture_view architecture.now)) }
 {
     is_declared(given, &architecture.declarations, at)
         || is_among(given, &architecture.statements, at)
+}
+
+/// Whether this is the problem of a name that nothing declares.
+fn is_undeclared(problem: NameProblem) -> bool
+    ensures { result ≡ views.is_undeclared problem }
+{
+    match problem {
+        NameProblem::Undeclared => true,
+        NameProblem::Twice
+        | NameProblem::WrongKind
+        | NameProblem::TypeMismatch
+        | NameProblem::NotVisible
+        | NameProblem::WriteOfIn
+        | NameProblem::NoOthers
+        | NameProblem::ChoiceTwice
+        | NameProblem::SecondArchitecture
+        | NameProblem::NoSensitivity
+        | NameProblem::LeftOut => false,
+    }
+}
+
+/// Whether a fault of an architecture is told where it names an entity that isn't given.
+pub fn is_of_hidden(given: &Given<'_, '_>, architecture: &Architecture, fault: NameFault) -> bool
+    ensures { result ≡ views.is_of_hidden given.now (view.architecture_view architecture.now) fault }
+{
+    match fault {
+        NameFault::NoMemory => false,
+        NameFault::At { problem, at } => {
+            is_undeclared(problem) && mentions(given, architecture, at)
+        }
+    }
 }

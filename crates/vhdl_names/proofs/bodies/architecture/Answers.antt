@@ -16,7 +16,7 @@ use Rattle.vhdl_names_problems.proofs.kept.Architectures.{architecture_kept}
 use Rattle.vhdl_tree.specs.Tree as t
 use Rattle.vhdl_names.specs.steps.Architectures as steps
 use Rattle.vhdl_names.proofs.Behind.{then_body}
-use Rattle.vhdl_names.proofs.Bodies.{context_told, declarations_told, at_body}
+use Rattle.vhdl_names.proofs.Parts.{context_told, declarations_told, at_body}
 use Rattle.vhdl_names.proofs.Finding.{passed_told, ok_along, ok_finds}
 use Rattle.vhdl_names.proofs.bodies.architecture.Goals as goal
 
