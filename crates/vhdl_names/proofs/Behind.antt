@@ -1,11 +1,9 @@
 -- An architecture, in the order of its parts.
-use Rattle.std.proofs.Common.{◌≡◌, ◌≢◌, Bool, true, false, List, ◌++◌, Option, Some, None, refl, ap, sym, ◌∙◌}
+use Rattle.std.proofs.Common.{◌≡◌, Bool, true, false, List, ◌++◌, Option, Some, refl, ap, sym, ◌∙◌}
 use Rattle.vhdl_tree.specs.Tree as t
 use Rattle.vhdl_tree.specs.Tree.{ContextItem}
 use Rattle.vhdl_names_rules.specs.units.Units as u
-use Rattle.vhdl_names_rules.specs.declared.fault.NameFault.{NameFault}
-use Rattle.vhdl_names_rules.specs.declared.fault.NameFault.TheVariants.{NoMemory}
-use Rattle.vhdl_names_rules.specs.Rules.{◌>>=◌, ◌>>◌, met, if_any}
+use Rattle.vhdl_names_rules.specs.Rules.{◌>>=◌, ◌>>◌, met}
 use Rattle.vhdl_names_rules.specs.Visibility.{Name, Declared, Sight, Declares, are_distinct, ends, with_declared}
 use Rattle.vhdl_names_rules.specs.Packages.{context, sight_of}
 use Rattle.vhdl_names_rules.specs.Declarations.{in_order}
@@ -18,8 +16,6 @@ use Rattle.vhdl_names_declarations.proofs.Regions.{more_split}
 use Rattle.vhdl_names_interfaces.specs.Views.{sight_behind, named_view}
 use Rattle.vhdl_names_interfaces.specs.declared.interface.EntityInterface.{EntityInterface}
 use Rattle.vhdl_names_interfaces.specs.Views as i
-use Rattle.vhdl_names.specs.Views.{Keyed}
-use Rattle.vhdl_names.specs.steps.Outlines.{described_of}
 use Rattle.vhdl_names.specs.steps.Architectures as steps
 use Rattle.vhdl_names.specs.steps.Architectures.{with_region}
 
@@ -78,28 +74,6 @@ module _ (all : List EntityView) (e : EntityView) (items : List ContextItem) (a 
   abbrev behind : Option Sight → Option u.Architecture
   behind o = o >>= λ s. (entering (in_order with_declared (declaration all)) s a.declarations >>= λ w. steps.body all w.0 w.1 a)
 
-  pub no_sight : (fault : NameFault) → (fault ≢ NoMemory → sight_behind e items ≡ None) → fault ≢ NoMemory → architecture all e items a ≡ None
-  no_sight fault h n = in_parts ∙ ap behind (h n)
-
-  pub no_declarations : (s : Sight) → sight_behind e items ≡ Some s → (fault : NameFault)
-      → (fault ≢ NoMemory → entering (in_order with_declared (declaration all)) s a.declarations ≡ None) → fault ≢ NoMemory → architecture all e items a ≡ None
-  no_declarations s h fault k n = in_parts ∙ ap behind h ∙ ap (λ o. o >>= λ w. steps.body all w.0 w.1 a) (k n)
-
   pub then_body : (s w : Sight) (ds : List u.Declaration) → sight_behind e items ≡ Some s
       → entering (in_order with_declared (declaration all)) s a.declarations ≡ Some (w, ds) → architecture all e items a ≡ steps.body all w ds a
   then_body s w ds h k = in_parts ∙ ap behind h ∙ ap (λ o. o >>= λ w. steps.body all w.0 w.1 a) k
-
--- ---- an entity's own architecture
-
-module _ (all : List EntityView) (as' : List Keyed) (n : Name) (e : EntityInterface) (p : List ContextItem × t.Architecture) (h : Some p ≡ described_of n as') where
-  abbrev of_any : Option (List ContextItem × t.Architecture) → Option (Option u.Architecture)
-  of_any = if_any (λ p. architecture all (named_view n e) p.0 p.1)
-
-  pub own_fails : (fault : NameFault) → (fault ≢ NoMemory → architecture all (i.entity_view e) p.0 p.1 ≡ None) → fault ≢ NoMemory
-      → steps.own all as' (named_view n e) ≡ None
-  own_fails fault k m =
-      ap of_any (sym h) ∙ ap (λ o. o >>= λ y. let r : Option (Option u.Architecture) = Some (Some y) in r) (whatever_name all n e p.0 p.1 ∙ k m)
-
-  pub own_goes : (x : u.Architecture) → architecture all (i.entity_view e) p.0 p.1 ≡ Some x → steps.own all as' (named_view n e) ≡ Some (Some x)
-  own_goes x k =
-      ap of_any (sym h) ∙ ap (λ o. o >>= λ y. let r : Option (Option u.Architecture) = Some (Some y) in r) (whatever_name all n e p.0 p.1 ∙ k)

@@ -1,173 +1,160 @@
--- The entities of a file one after another, past those that are at fault, and what is told of one.
-use Rattle.std.proofs.Common.{◌≡◌, Bool, true, false, not, List, [], ◌∷◌, ◌++◌, Option, Some, None, Result, Ok, Err, IfErr, refl, ap, sym, ◌∙◌, subst, append_assoc}
-use Rattle.std.specs.Prelude.{◌||◌, bytes_eq, filter_map, if◌then◌else◌}
+-- The entities of a file one after another, past those that are at fault, and the first that is.
+use Rattle.std.proofs.Common.{◌≡◌, ◌≢◌, Bool, true, false, not, List, [], ◌∷◌, ◌++◌, map, Option, Some, None, Result, Ok, Err, IfOk, IfErr, refl, ap, sym, ◌∙◌}
+use Rattle.std.specs.Prelude.{filter_map, if◌then◌else◌}
 use Rattle.std.specs.List.{cons_option}
-use Rattle.std.proofs.lemmas.List.{map-append}
-use Rattle.std.proofs.lemmas.List.Elements.{filter_map-append}
-use Rattle.std.proofs.lemmas.List.Folds.{list_any-append}
 use Rattle.vhdl_tree.specs.Tree as t
 use Rattle.vhdl_tree.specs.Tree.{ContextItem, DesignUnit, LibraryUnit}
 use Rattle.vhdl_names_rules.specs.declared.fault.NameFault.{NameFault}
-use Rattle.vhdl_names_rules.specs.declared.fault.NameProblem.TheVariants.{Twice}
-use Rattle.vhdl_names_rules.specs.Rules.{◌>>=◌, met}
+use Rattle.vhdl_names_rules.specs.declared.fault.NameFault.TheVariants.{At, NoMemory}
+use Rattle.vhdl_names_rules.specs.Rules.{◌>>=◌, met, each}
 use Rattle.vhdl_names_rules.specs.Gives.{Gives}
-use Rattle.vhdl_names_rules.specs.Visibility.{Name, is_among, are_distinct}
+use Rattle.vhdl_names_rules.specs.Visibility.{is_among}
 use Rattle.vhdl_names_rules.specs.Interfaces.{EntityView}
-use Rattle.vhdl_names_rules.specs.Files.{as_entity, entities_of, entity_names}
-use Rattle.vhdl_names_rules.proofs.laws.Rules.{comes, kept, some_is, not_true}
-use Rattle.vhdl_names_problems.specs.Broken.{Broken, Tells, is_of, unless, any_of}
+use Rattle.vhdl_names_rules.specs.Files.{entities_of}
+use Rattle.vhdl_names_rules.proofs.laws.Rules.{comes, some_is}
+use Rattle.vhdl_names_problems.specs.Broken.{Broken, Tells, nothing, ◌▸◌, any_of}
 use Rattle.vhdl_names_problems.specs.Interfaces.{entity}
 use Rattle.vhdl_names_problems.specs.Files.{with_entities}
-use Rattle.vhdl_names_problems.proofs.Telling.{told_left, told_right}
+use Rattle.vhdl_names_problems.proofs.Telling.{behind_kept, told_left, told_same, at_is_told}
+use Rattle.vhdl_names_problems.proofs.kept.Interfaces.{entity_kept}
 use Rattle.vhdl_names_interfaces.specs.Views.{one_more}
-use Rattle.vhdl_names_instances.proofs.Taking.{repeated}
-use Rattle.vhdl_names_instances.proofs.Told.{or_memory, told_along, told_nothing, told_either, told_unless, tells_unless, told_at}
+use Rattle.vhdl_names.specs.Finding.{Finds, HasMemory, first_of}
 use Rattle.vhdl_names.specs.Views.{Keyed}
-use Rattle.vhdl_names.specs.Breaking.{one_entity, entities}
-use Rattle.vhdl_names.specs.steps.Entities.{viewed_by, with_entity, with_unit}
+use Rattle.vhdl_names.specs.steps.Entities.{viewed_by, with_unit}
 use Rattle.vhdl_names.proofs.Tabling.{names_in}
-use Rattle.vhdl_names.proofs.Outlining.{names-append}
-use Rattle.vhdl_names.proofs.Filing.{entity_name}
 
-no_not : (x : Bool) → not x ≡ false → x ≡ true
-no_not true h = refl
-no_not false h = sym h
-
-among-append : (n : Name) (xs ys : List Name) → is_among n (xs ++ ys) ≡ (is_among n xs || is_among n ys)
-among-append n xs ys = list_any-append (bytes_eq n) xs ys
-
-abbrev broken : List ContextItem × t.Entity → Broken
+abbrev pub broken : List ContextItem × t.Entity → Broken
 broken e = entity e.0 e.1
-
-abbrev broken_entities : List DesignUnit → Broken
-broken_entities ds = any_of broken (entities_of ds)
-
-abbrev twice : List DesignUnit → Broken
-twice ds = unless Twice (are_distinct (entity_names ds))
-
--- what is entered of the units before the rest
-pub record Entered (ds : List DesignUnit) (es : List EntityView) (rest : List DesignUnit) : Type 0 where
-  pub before : List DesignUnit
-  pub units : before ++ rest ≡ ds
-  pub names : (n : Name) → is_among n (names_in es) ≡ true → is_among n (entity_names before) ≡ true
-
-pub none_entered : (ds : List DesignUnit) (es : List EntityView) → es ≡ [] → Entered ds es ds
-none_entered ds es h = record { before = []; units = refl; names = λ n e. sym (ap (λ l. is_among n (names_in l)) h) ∙ e }
 
 -- all that are given of the rest, behind these
 abbrev pub given_behind : List Keyed → List EntityView → List DesignUnit → List EntityView
-given_behind as' es ds = with_entities es (filter_map (λ e. viewed_by as' e.0 e.1) (entities_of ds))
+given_behind as' es ds = with_entities es (filter_map (viewed_by as') (entities_of ds))
 
-module _ (ds : List DesignUnit) (es : List EntityView) (items : List ContextItem) (rest : List DesignUnit) where
+-- each is given
+abbrev pub AllViewed : List Keyed → List DesignUnit → Type 0
+AllViewed as' ds = each (viewed_by as') (entities_of ds) ≡ Some (filter_map (viewed_by as') (entities_of ds))
+
+one_behind : (es : List EntityView) (v : EntityView) (vs : List EntityView) → with_entities es (v ∷ vs) ≡ with_entities (with_entities es (v ∷ [])) vs
+one_behind es v vs = go (is_among v.name (names_in es))
+  where
+    go : (b : Bool) → (if b then with_entities es vs else with_entities (es ++ v ∷ []) vs) ≡ with_entities (if b then es else es ++ v ∷ []) vs
+    go true = refl
+    go false = refl
+
+module _ (as' : List Keyed) (es : List EntityView) (items : List ContextItem) (rest : List DesignUnit) where
   abbrev of_unit : LibraryUnit → DesignUnit
   of_unit x = record { context = items; unit = x }
 
-  -- ---- what is told of the next one
+  given_more : (o : Option EntityView) (vs : List EntityView) → (o >>= λ v. let r : Option (List EntityView) = Some (with_entities es (v ∷ [])) in r) ≡ Some vs
+      → with_entities es (cons_option o (filter_map (viewed_by as') (entities_of rest))) ≡ given_behind as' vs rest
+  given_more None vs h = cc
+  given_more (Some v) vs h =
+      one_behind es v (filter_map (viewed_by as') (entities_of rest)) ∙ ap (λ vs. given_behind as' vs rest) (some_is (with_entities es (v ∷ [])) vs h)
 
-  pub entered_told : (y : LibraryUnit) → Entered ds es (of_unit y ∷ rest) → (f : NameFault) → Tells (one_entity es items y) f → Tells (entities ds) f
-  entered_told (t.LibraryUnit.entity e) x f =
-      told_either (entity items e) (unless Twice (not (is_among e.name.text (names_in es)))) (entities ds) f
-      (λ w. told_left (broken_entities ds) (twice ds) f
-      (told_along broken_entities (x.before ++ of_unit (t.LibraryUnit.entity e) ∷ rest) ds x.units f
-      (told_along (any_of broken) (entities_of x.before ++ (items, e) ∷ entities_of rest) (entities_of (x.before ++ of_unit (t.LibraryUnit.entity e) ∷ rest))
-      (sym (filter_map-append as_entity x.before (of_unit (t.LibraryUnit.entity e) ∷ rest))) f
-      (told_at broken (entities_of x.before) (items, e) (entities_of rest) f w))))
-      (told_unless Twice (not (is_among e.name.text (names_in es))) (entities ds) f
-      (λ h w. told_right (broken_entities ds) (twice ds) f
-      (tells_unless Twice (are_distinct (entity_names ds)) f
-      (ap (λ l. are_distinct (entity_names l)) (sym x.units) ∙ ap are_distinct (names-append x.before (of_unit (t.LibraryUnit.entity e) ∷ rest))
-      ∙ repeated e.name.text (entity_names x.before) (entity_names rest) (x.names e.name.text (no_not (is_among e.name.text (names_in es)) h))) w)))
-  entered_told (t.architecture a) x f = told_nothing (entities ds) f
+  given_past : (o : Option EntityView) → (o >>= λ v. let r : Option (List EntityView) = Some (with_entities es (v ∷ [])) in r) ≡ None
+      → with_entities es (cons_option o (filter_map (viewed_by as') (entities_of rest))) ≡ given_behind as' es rest
+  given_past None h = refl
+  given_past (Some v) h = cc
 
-  -- ---- what is entered behind it
+  pub unit_more : (y : LibraryUnit) (vs : List EntityView) → with_unit as' es (of_unit y) ≡ Some vs → given_behind as' es (of_unit y ∷ rest) ≡ given_behind as' vs rest
+  unit_more (t.LibraryUnit.entity e) vs h = given_more (viewed_by as' (items, e)) vs h
+  unit_more (t.architecture a) vs h = ap (λ vs. given_behind as' vs rest) (some_is es vs h)
 
-  pub entered_past : (y : LibraryUnit) → Entered ds es (of_unit y ∷ rest) → Entered ds es rest
-  entered_past y x = record {
-    before = x.before ++ of_unit y ∷ [];
-    units = append_assoc x.before (of_unit y ∷ []) rest ∙ x.units;
-    names = λ n h. ap (is_among n) (names-append x.before (of_unit y ∷ [])) ∙ among-append n (entity_names x.before) (entity_names (of_unit y ∷ []))
-        ∙ or_left (is_among n (entity_names x.before)) (is_among n (entity_names (of_unit y ∷ []))) (x.names n h);
+  pub unit_past : (y : LibraryUnit) → with_unit as' es (of_unit y) ≡ None → given_behind as' es (of_unit y ∷ rest) ≡ given_behind as' es rest
+  unit_past (t.LibraryUnit.entity e) h = given_past (viewed_by as' (items, e)) h
+  unit_past (t.architecture a) h = cc
+
+  -- ---- where it is given
+
+  left_kept : (y : LibraryUnit) (vs : List EntityView) → with_unit as' es (of_unit y) ≡ Some vs
+      → any_of broken (entities_of (of_unit y ∷ rest)) ≡ any_of broken (entities_of rest)
+  left_kept (t.LibraryUnit.entity e) vs h =
+      let c = comes (viewed_by as' (items, e)) (λ v. let r : Option (List EntityView) = Some (with_entities es (v ∷ [])) in r) vs h in
+      behind_kept (entity items e) (any_of broken (entities_of rest)) (entity_kept items e _ c.value c.is)
+  left_kept (t.architecture a) vs h = refl
+
+  all_viewed : (y : LibraryUnit) (vs : List EntityView) → with_unit as' es (of_unit y) ≡ Some vs → AllViewed as' rest → AllViewed as' (of_unit y ∷ rest)
+  all_viewed (t.LibraryUnit.entity e) vs h k =
+      let c = comes (viewed_by as' (items, e)) (λ v. let r : Option (List EntityView) = Some (with_entities es (v ∷ [])) in r) vs h in
+      ap (λ o. o >>= λ v. each (viewed_by as') (entities_of rest) >>= λ ys. Some (v ∷ ys)) c.is
+      ∙ ap (λ o. o >>= λ ys. let r : Option (List EntityView) = Some (c.value ∷ ys) in r) k
+      ∙ ap (λ o. let r : Option (List EntityView) = Some (cons_option o (filter_map (viewed_by as') (entities_of rest))) in r) (sym c.is)
+  all_viewed (t.architecture a) vs h k = k
+
+  -- ---- where it is at fault
+
+  front : (a b : Broken) (f : NameFault) → Tells (a ▸ nothing) f → Tells (a ▸ b) f
+  unfolding ◌▸◌
+  front None b (At p at) h = absurd cc
+  front (Some x) b (At p at) h = h
+  front a b NoMemory h = tt
+
+  front_told : (y : LibraryUnit) (f : NameFault) → Tells (any_of broken (entities_of (of_unit y ∷ []))) f → Tells (any_of broken (entities_of (of_unit y ∷ rest))) f
+  front_told (t.LibraryUnit.entity e) f h = front (entity items e) (any_of broken (entities_of rest)) f h
+  front_told (t.architecture a) (At p at) h = absurd cc
+  front_told (t.architecture a) NoMemory h = tt
+
+-- ---- unit by unit
+
+-- what is entered of the units before the rest, and what is told of them
+pub record Entered (as' : List Keyed) (ds : List DesignUnit) (es : List EntityView) (told : Result (Unit {0}) NameFault) (rest : List DesignUnit) : Type 0 where
+  pub given : HasMemory told → given_behind as' [] ds ≡ given_behind as' es rest
+  pub left : IfOk told (λ _. any_of broken (entities_of ds) ≡ any_of broken (entities_of rest))
+  pub first : IfErr told (Tells (any_of broken (entities_of ds)))
+  pub all : IfOk told (λ _. AllViewed as' rest → AllViewed as' ds)
+
+pub none_entered : (as' : List Keyed) (ds : List DesignUnit) (es : List EntityView) → es ≡ [] → Entered as' ds es (Ok tt) ds
+none_entered as' ds es h = record { given = λ n. ap (λ es. given_behind as' es ds) (sym h); left = refl; first = tt; all = λ k. k }
+
+module _ (as' : List Keyed) (ds : List DesignUnit) (es : List EntityView) (items : List ContextItem) (y : LibraryUnit) (rest : List DesignUnit) where
+  abbrev unit : DesignUnit
+  unit = record { context = items; unit = y }
+
+  pub next_entered : (told r : Result (Unit {0}) NameFault) (vs : List EntityView) → Entered as' ds es told (record { context = items; unit = y } ∷ rest)
+      → Gives (λ _. vs) (with_unit as' es (record { context = items; unit = y })) r → IfErr r (Tells (any_of broken (entities_of (record { context = items; unit = y } ∷ []))))
+      → IfErr r (λ f. f ≢ NoMemory → vs ≡ es) → Entered as' ds vs (first_of told r) rest
+  next_entered (Ok u) (Ok v) vs x g t k = record {
+    given = λ n. x.given tt ∙ unit_more as' es items rest y vs g;
+    left = x.left ∙ left_kept as' es items rest y vs g;
+    first = tt;
+    all = λ h. x.all (all_viewed as' es items rest y vs g h);
   }
-    where
-      or_left : (a b : Bool) → a ≡ true → (a || b) ≡ true
-      or_left true b h = refl
-      or_left false b h = cc
+  next_entered (Ok u) (Err f) vs x g t k = record {
+    given = λ n. x.given tt ∙ unit_past as' es items rest y (g n) ∙ ap (λ es. given_behind as' es rest) (sym (k n));
+    left = tt;
+    first = told_same (any_of broken (entities_of (unit ∷ rest))) (any_of broken (entities_of ds)) f (sym x.left) (front_told as' es items rest y f t);
+    all = tt;
+  }
+  next_entered (Err NoMemory) r vs x g t k = record { given = λ n. absurd (n refl); left = tt; first = tt; all = tt }
+  next_entered (Err (At p at)) (Ok v) vs x g t k =
+      record { given = λ n. x.given n ∙ unit_more as' es items rest y vs g; left = tt; first = x.first; all = tt }
+  next_entered (Err (At p at)) (Err NoMemory) vs x g t k = record { given = λ n. absurd (n refl); left = tt; first = tt; all = tt }
+  next_entered (Err (At p at)) (Err (At q place)) vs x g t k = record {
+    given = λ n. x.given n ∙ unit_past as' es items rest y (g (at_is_told q place)) ∙ ap (λ es. given_behind as' es rest) (sym (k (at_is_told q place)));
+    left = tt;
+    first = x.first;
+    all = tt;
+  }
 
-  module _ (as' : List Keyed) where
-    -- one more entity
-    record Added (e : t.Entity) (vs : List EntityView) : Type 0 where
-      pub view : EntityView
-      pub is : viewed_by as' items e ≡ Some view
-      pub new : is_among view.name (names_in es) ≡ false
-      pub all : vs ≡ es ++ view ∷ []
+-- ---- behind all of them
 
-    added : (e : t.Entity) (vs : List EntityView) → with_entity as' es items e ≡ Some vs → Added e vs
-    added e vs h =
-        let c = comes (viewed_by as' items e) (λ v. one_more es v) vs h in
-        let k = kept (not (is_among c.value.name (names_in es))) (Some (es ++ c.value ∷ [])) vs c.rest in
-        record { view = c.value; is = c.is; new = not_true (is_among c.value.name (names_in es)) k.0; all = sym (some_is (es ++ c.value ∷ []) vs k.1) }
+pub entities_found : (as' : List Keyed) (ds : List DesignUnit) (es : List EntityView) (told : Result (Unit {0}) NameFault) → Entered as' ds es told [] → Finds (any_of broken (entities_of ds)) told
+entities_found as' ds es (Ok u) x = x.left
+entities_found as' ds es (Err f) x = x.first
 
-    pub entered : (y : LibraryUnit) (vs : List EntityView) → Entered ds es (of_unit y ∷ rest) → with_unit as' es (of_unit y) ≡ Some vs → Entered ds vs rest
-    entered (t.LibraryUnit.entity e) vs x h =
-        let m = added e vs h in
-        record {
-          before = x.before ++ of_unit (t.LibraryUnit.entity e) ∷ [];
-          units = append_assoc x.before (of_unit (t.LibraryUnit.entity e) ∷ []) rest ∙ x.units;
-          names = λ n q.
-              ap (is_among n) (names-append x.before (of_unit (t.LibraryUnit.entity e) ∷ [])) ∙ among-append n (entity_names x.before) (e.name.text ∷ [])
-              ∙ either n (is_among n (names_in es)) (x.names n)
-              (ap (λ m. is_among n (names_in es) || (bytes_eq n m || false)) (sym (entity_name items e _ m.view m.is))
-              ∙ sym (among-append n (names_in es) (m.view.name ∷ []))
-              ∙ ap (is_among n) (sym (map-append (λ (e : EntityView). e.name) es (m.view ∷ []))) ∙ ap (λ l. is_among n (names_in l)) (sym m.all) ∙ q);
-        }
-      where
-        or_right : (x y : Bool) → y ≡ true → (x || y) ≡ true
-        or_right true y h = refl
-        or_right false y h = h
+pub entities_viewed : (as' : List Keyed) (ds : List DesignUnit) (es : List EntityView) (told : Result (Unit {0}) NameFault) → Entered as' ds es told [] → IfOk told (λ _. AllViewed as' ds)
+entities_viewed as' ds es (Ok u) x = x.all refl
+entities_viewed as' ds es (Err f) x = tt
 
-        either : (n : Name) (b : Bool) → (b ≡ true → is_among n (entity_names x.before) ≡ true) → (b || is_among n (e.name.text ∷ [])) ≡ true
-            → (is_among n (entity_names x.before) || is_among n (e.name.text ∷ [])) ≡ true
-        either n true g q = ap (λ b. b || is_among n (e.name.text ∷ [])) (g refl)
-        either n false g q = or_right (is_among n (entity_names x.before)) (is_among n (e.name.text ∷ [])) q
-    entered (t.architecture a) vs x h =
-        let P : List EntityView → Type 0 = λ vs. Entered ds vs rest in
-        subst P (some_is es vs h) (entered_past (t.architecture a) x)
+-- ---- one more entity, of one name the first alone
 
-    -- ---- all that are given
-
-    pub given_more : (y : LibraryUnit) (vs : List EntityView) → with_unit as' es (of_unit y) ≡ Some vs → given_behind as' es (of_unit y ∷ rest) ≡ given_behind as' vs rest
-    given_more (t.LibraryUnit.entity e) vs h =
-        let m = added e vs h in
-        ap (λ o. with_entities es (cons_option o (filter_map (λ e. viewed_by as' e.0 e.1) (entities_of rest)))) m.is
-        ∙ ap (λ b. if b then given_behind as' es rest else given_behind as' (es ++ m.view ∷ []) rest) m.new
-        ∙ ap (λ vs. given_behind as' vs rest) (sym m.all)
-    given_more (t.architecture a) vs h = ap (λ vs. given_behind as' vs rest) (some_is es vs h)
-
-    pub given_past : (y : LibraryUnit) → with_unit as' es (of_unit y) ≡ None → given_behind as' es (of_unit y ∷ rest) ≡ given_behind as' es rest
-    given_past (t.LibraryUnit.entity e) h = go (viewed_by as' items e) h
-      where
-        there : (v : EntityView) (b : Bool) → (met (not b) >>= λ _. let r : Option (List EntityView) = Some (es ++ v ∷ []) in r) ≡ None
-            → (if b then given_behind as' es rest else given_behind as' (es ++ v ∷ []) rest) ≡ given_behind as' es rest
-        there v true h = refl
-        there v false h = cc
-
-        go : (o : Option EntityView) → (o >>= λ v. one_more es v) ≡ None
-            → with_entities es (cons_option o (filter_map (λ e. viewed_by as' e.0 e.1) (entities_of rest))) ≡ given_behind as' es rest
-        go None h = refl
-        go (Some v) h = there v (is_among v.name (names_in es)) h
-    given_past (t.architecture a) h = cc
-
--- ---- an entity whose name stands before it
-
-pub twice_entered : {X : Type 0} (es vs : List EntityView) (v : EntityView) (items : List ContextItem) (e : t.Entity) (r : Result X NameFault) → v.name ≡ e.name.text
-    → Gives (λ _. vs) (one_more es v) r → IfErr r (Tells (is_of (Twice ∷ []))) → IfErr r (Tells (one_entity es items (t.LibraryUnit.entity e)))
-twice_entered es vs v items e (Ok x) n g w = tt
-twice_entered es vs v items e (Err f) n g w =
-    told_right (entity items e) (unless Twice (not (is_among e.name.text (names_in es)))) f
-    (or_memory (unless Twice (not (is_among e.name.text (names_in es)))) f
-    (λ m. tells_unless Twice (not (is_among e.name.text (names_in es))) f
-    (ap (λ n. not (is_among n (names_in es))) (sym n) ∙ there (not (is_among v.name (names_in es))) (g m)) w))
+pub added : (es vs : List EntityView) (v : EntityView) (r : Result (Unit {0}) NameFault) → Gives (λ _. vs) (one_more es v) r → IfErr r (λ f. f ≢ NoMemory → vs ≡ es) → HasMemory r
+    → with_entities es (v ∷ []) ≡ vs
+added es vs v r g k n = go (is_among v.name (names_in es)) r g k n
   where
-    there : (b : Bool) → (met b >>= λ _. let r : Option (List EntityView) = Some (es ++ v ∷ []) in r) ≡ None → b ≡ false
-    there true h = cc
-    there false h = refl
+    go : (b : Bool) (r : Result (Unit {0}) NameFault) → Gives (λ _. vs) (met (not b) >>= λ _. let o : Option (List EntityView) = Some (es ++ v ∷ []) in o) r
+        → IfErr r (λ f. f ≢ NoMemory → vs ≡ es) → HasMemory r → (if b then es else es ++ v ∷ []) ≡ vs
+    go true (Ok u) g k n = cc
+    go false (Ok u) g k n = some_is (es ++ v ∷ []) vs g
+    go true (Err f) g k n = sym (k n)
+    go false (Err f) g k n = let no : Some (es ++ v ∷ []) ≡ None = g n in absurd cc

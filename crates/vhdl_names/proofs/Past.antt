@@ -1,4 +1,4 @@
--- The names of a file's units one after another, past those that are at fault, and what is told of one.
+-- The names of a file's units one after another, past those that are at fault.
 use Rattle.std.proofs.Common.{◌≡◌, ℕ, ◌+◌, Bool, true, false, cond, not, List, [], ◌∷◌, ◌++◌, map, length, Option, Some, None, refl, ap, sym, ◌∙◌, subst, append_assoc, append-nil}
 use Rattle.std.specs.Prelude.{◌&&◌, ◌||◌, bytes_eq, find, flat_map, option_map, if◌then◌else◌}
 use Rattle.std.specs.List.{list_all, enumerate_from}
@@ -9,20 +9,15 @@ use Rattle.std.proofs.lemmas.List.Folds.{list_any-append}
 use Rattle.std.proofs.lemmas.Slice.Eq.{bytes_eq-Decides}
 use Rattle.vhdl_tree.specs.Tree as t
 use Rattle.vhdl_tree.specs.Tree.{ContextItem, DesignUnit, LibraryUnit}
-use Rattle.vhdl_names_rules.specs.declared.fault.NameFault.{NameFault}
 use Rattle.vhdl_names_rules.specs.declared.fault.NameProblem.TheVariants.{Undeclared, Twice, SecondArchitecture}
 use Rattle.vhdl_names_rules.specs.Rules.{◌>>=◌, ◌>>◌, met, then_some}
 use Rattle.vhdl_names_rules.specs.Visibility.{Name, is_among, are_distinct}
 use Rattle.vhdl_names_rules.specs.Files.{as_architecture, entity_names, described_names, architectures_of, stands_after, stand_after}
 use Rattle.vhdl_names_rules.proofs.laws.Rules.{comes, kept, both, some_is}
 use Rattle.vhdl_names_labels.specs.Once.{one_name}
-use Rattle.vhdl_names_problems.specs.Broken.{Broken, Tells, ◌▸◌, unless}
 use Rattle.vhdl_names_problems.specs.Files.{placed_architectures}
-use Rattle.vhdl_names_problems.proofs.Telling.{told_left, told_right}
-use Rattle.vhdl_names_instances.proofs.Taking.{repeated, then_is}
-use Rattle.vhdl_names_instances.proofs.Told.{told_either, told_unless, tells_unless}
+use Rattle.vhdl_names.proofs.Naming.{then_is}
 use Rattle.vhdl_names.specs.Views.{Keyed, OutlineView}
-use Rattle.vhdl_names.specs.Breaking.{one_unit, outline}
 use Rattle.vhdl_names.specs.steps.Outlines.{keyed, names_of, one_described, with_unit, no_outline, described_of}
 use Rattle.vhdl_names.proofs.Outlining.{placed, placed_from, names-append}
 
@@ -71,32 +66,8 @@ placed_whole ds h = all_placed ds ∙ where_placed [] ds (sym (placed_from [] ds
 
 -- ---- names
 
-described-append : (ds es : List DesignUnit) → described_names (ds ++ es) ≡ described_names ds ++ described_names es
-described-append ds es =
-    ap (map (λ (a : List ContextItem × t.Architecture). a.1.entity.text)) (filter_map-append as_architecture ds es)
-    ∙ map-append (λ (a : List ContextItem × t.Architecture). a.1.entity.text) (architectures_of ds) (architectures_of es)
-
 among-append : (n : Name) (xs ys : List Name) → is_among n (xs ++ ys) ≡ (is_among n xs || is_among n ys)
 among-append n xs ys = list_any-append (bytes_eq n) xs ys
-
-or_left : (a b : Bool) → a ≡ true → (a || b) ≡ true
-or_left true b h = refl
-or_left false b h = cc
-
-no_not : (x : Bool) → not x ≡ false → x ≡ true
-no_not true h = refl
-no_not false h = sym h
-
-not_behind : (ns : List Name) (before ds : List DesignUnit) → placed (ns ++ entity_names before) ds ≡ false → placed ns (before ++ ds) ≡ false
-not_behind ns [] ds h = ap (λ l. placed l ds) (sym (append-nil ns)) ∙ h
-not_behind ns (b ∷ bs) ds h =
-    no (list_all (λ n. is_among n ns) (described_names (b ∷ []))) (placed (ns ++ entity_names (b ∷ [])) (bs ++ ds))
-    (not_behind (ns ++ entity_names (b ∷ [])) bs ds
-    (ap (λ l. placed l ds) (append_assoc ns (entity_names (b ∷ [])) (entity_names bs) ∙ ap (λ l. ns ++ l) (sym (names-append (b ∷ []) bs))) ∙ h))
-  where
-    no : (x y : Bool) → y ≡ false → (x && y) ≡ false
-    no true y h = h
-    no false y h = refl
 
 -- ---- architectures by name
 
@@ -129,7 +100,6 @@ pub record Outlined (ds : List DesignUnit) (o : OutlineView) (rest : List Design
   pub before : List DesignUnit
   pub units : before ++ rest ≡ ds
   pub entities : (n : Name) → is_among n o.entities ≡ is_among n (entity_names before)
-  pub described : (n : Name) → is_among n (names_of o.architectures) ≡ true → is_among n (described_names before) ≡ true
   pub seen : (n : Name) → described_of n (o.architectures ++ map keyed (placed_behind (entity_names before) rest)) ≡ described_of n (map keyed (placed_behind [] ds))
 
 pub none_outlined : (ds : List DesignUnit) (o : OutlineView) → o ≡ no_outline → Outlined ds o ds
@@ -137,22 +107,14 @@ none_outlined ds o h = record {
   before = [];
   units = refl;
   entities = λ n. ap (λ (o : OutlineView). is_among n o.entities) h;
-  described = λ n e. sym (ap (λ (o : OutlineView). is_among n (names_of o.architectures)) h) ∙ e;
   seen = λ n. ap (λ (o : OutlineView). described_of n (o.architectures ++ map keyed (placed_behind [] ds))) h;
 }
 
 pub all_outlined : (ds : List DesignUnit) (o : OutlineView) → Outlined ds o [] → (n : Name) → described_of n o.architectures ≡ described_of n (map keyed (placed_architectures ds))
 all_outlined ds o x n = ap (described_of n) (sym (append-nil o.architectures)) ∙ x.seen n ∙ ap (λ l. described_of n (map keyed l)) (sym (all_placed ds))
 
--- the rules of names
-abbrev twice : List DesignUnit → Broken
-twice ds = unless Twice (are_distinct (entity_names ds))
-
-abbrev second : List DesignUnit → Broken
-second ds = unless SecondArchitecture (are_distinct (described_names ds))
-
-abbrev before_entity : List DesignUnit → Broken
-before_entity ds = unless Undeclared (stand_after ds)
+pub all_named : (ds : List DesignUnit) (o : OutlineView) → Outlined ds o [] → (n : Name) → is_among n o.entities ≡ is_among n (entity_names ds)
+all_named ds o x n = x.entities n ∙ ap (λ l. is_among n (entity_names l)) (sym (append-nil x.before) ∙ x.units)
 
 module _ (ds : List DesignUnit) (o : OutlineView) (items : List ContextItem) (rest : List DesignUnit) where
   abbrev of_entity : t.Entity → DesignUnit
@@ -160,34 +122,6 @@ module _ (ds : List DesignUnit) (o : OutlineView) (items : List ContextItem) (re
 
   abbrev of_architecture : t.Architecture → DesignUnit
   of_architecture a = record { context = items; unit = t.architecture a }
-
-  -- ---- what is told of the next one
-
-  entity_told : (e : t.Entity) → Outlined ds o (of_entity e ∷ rest) → (f : NameFault) → Tells (one_unit o (t.LibraryUnit.entity e)) f → Tells (outline ds) f
-  entity_told e x f =
-      told_unless Twice (not (is_among e.name.text o.entities)) (outline ds) f
-      (λ h w. told_left (twice ds) (second ds ▸ before_entity ds) f
-      (tells_unless Twice (are_distinct (entity_names ds)) f
-      (ap (λ l. are_distinct (entity_names l)) (sym x.units) ∙ ap are_distinct (names-append x.before (of_entity e ∷ rest))
-      ∙ repeated e.name.text (entity_names x.before) (entity_names rest) (sym (x.entities e.name.text) ∙ no_not (is_among e.name.text o.entities) h)) w))
-
-  architecture_told : (a : t.Architecture) → Outlined ds o (of_architecture a ∷ rest) → (f : NameFault) → Tells (one_unit o (t.architecture a)) f → Tells (outline ds) f
-  architecture_told a x f =
-      told_either (unless Undeclared (is_among n o.entities)) (unless SecondArchitecture (not (is_among n (names_of o.architectures)))) (outline ds) f
-      (told_unless Undeclared (is_among n o.entities) (outline ds) f
-      (λ h w. told_right (twice ds) (second ds ▸ before_entity ds) f (told_right (second ds) (before_entity ds) f
-      (tells_unless Undeclared (stand_after ds) f
-      (placed_from [] ds ∙ ap (placed []) (sym x.units)
-      ∙ not_behind [] x.before (of_architecture a ∷ rest)
-      (ap (λ b. (b && true) && placed (entity_names x.before ++ []) rest) (sym (x.entities n) ∙ h))) w))))
-      (told_unless SecondArchitecture (not (is_among n (names_of o.architectures))) (outline ds) f
-      (λ h w. told_right (twice ds) (second ds ▸ before_entity ds) f (told_left (second ds) (before_entity ds) f
-      (tells_unless SecondArchitecture (are_distinct (described_names ds)) f
-      (ap (λ l. are_distinct (described_names l)) (sym x.units) ∙ ap are_distinct (described-append x.before (of_architecture a ∷ rest))
-      ∙ repeated n (described_names x.before) (described_names rest) (x.described n (no_not (is_among n (names_of o.architectures)) h))) w))))
-    where
-      n : Name
-      n = a.entity.text
 
   -- ---- what is gathered behind it
 
@@ -199,37 +133,23 @@ module _ (ds : List DesignUnit) (o : OutlineView) (items : List ContextItem) (re
     units = append_assoc x.before (of_entity e ∷ []) rest ∙ x.units;
     entities = λ n. same n ∙ among-append n o.entities (e.name.text ∷ []) ∙ ap (λ b. b || is_among n (e.name.text ∷ [])) (x.entities n)
         ∙ sym (among-append n (entity_names x.before) (e.name.text ∷ [])) ∙ ap (is_among n) (sym (names-append x.before (of_entity e ∷ [])));
-    described = λ n h. ap (is_among n) (described-append x.before (of_entity e ∷ []) ∙ append-nil (described_names x.before)) ∙ x.described n h;
     seen = λ n. ap (λ l. described_of n (o.architectures ++ map keyed (placed_behind l rest))) (names-append x.before (of_entity e ∷ [])) ∙ x.seen n;
   }
 
   -- an architecture, where those that are seen stay the same
   architecture_more : (a : t.Architecture) (ks : List Keyed) (x : Outlined ds o (of_architecture a ∷ rest))
-      → ((n : Name) → is_among n (names_of ks) ≡ true → (is_among n (names_of o.architectures) || bytes_eq n a.entity.text) ≡ true)
       → ((n : Name) → described_of n (ks ++ map keyed (placed_behind (entity_names x.before) rest))
       ≡ described_of n (o.architectures ++ map keyed (placed_behind (entity_names x.before) (of_architecture a ∷ rest))))
       → Outlined ds (record o { architectures = ks }) rest
-  architecture_more a ks x names same = record {
+  architecture_more a ks x same = record {
     before = x.before ++ of_architecture a ∷ [];
     units = append_assoc x.before (of_architecture a ∷ []) rest ∙ x.units;
     entities = λ n. x.entities n ∙ ap (is_among n) (sym (none x.before));
-    described = λ n h. ap (is_among n) (described-append x.before (of_architecture a ∷ [])) ∙ among-append n (described_names x.before) (a.entity.text ∷ [])
-        ∙ either n (is_among n (names_of o.architectures)) (x.described n) (names n h);
     seen = λ n. ap (λ l. described_of n (ks ++ map keyed (placed_behind l rest))) (none x.before) ∙ same n ∙ x.seen n;
   }
     where
       none : (before : List DesignUnit) → entity_names (before ++ of_architecture a ∷ []) ≡ entity_names before
       none before = names-append before (of_architecture a ∷ []) ∙ append-nil (entity_names before)
-
-      either : (n : Name) (b : Bool) → (b ≡ true → is_among n (described_names x.before) ≡ true) → (b || bytes_eq n a.entity.text) ≡ true
-          → (is_among n (described_names x.before) || is_among n (a.entity.text ∷ [])) ≡ true
-      either n true h e = or_left (is_among n (described_names x.before)) (is_among n (a.entity.text ∷ [])) (h refl)
-      either n false h e = or_right (is_among n (described_names x.before)) (bytes_eq n a.entity.text) e
-        where
-          or_right : (x y : Bool) → y ≡ true → (x || (y || false)) ≡ true
-          or_right true y h = refl
-          or_right false true h = refl
-          or_right false false h = h
 
   -- what is placed where its entity stands before it, or not
   placed_if : (a : t.Architecture) (x : Outlined ds o (of_architecture a ∷ rest)) (b : Bool) → is_among a.entity.text o.entities ≡ b
@@ -278,22 +198,16 @@ module _ (ds : List DesignUnit) (o : OutlineView) (items : List ContextItem) (re
       then_is (not (is_among a.entity.text (names_of o.architectures))) (o.architectures ++ keyed (items, a) ∷ []) d.value d.is in
       along (record o { architectures = d.value }) p (some_is (record o { architectures = d.value }) p d.rest)
       (architecture_more a d.value x
-      (λ n e. sym (ap (λ l. is_among n (names_of l)) is ∙ ap (is_among n) (map-append (λ (k : Keyed). k.name) o.architectures (keyed (items, a) ∷ []))
-      ∙ among-append n (names_of o.architectures) (a.entity.text ∷ []) ∙ ap (λ b. is_among n (names_of o.architectures) || b) (or_none (bytes_eq n a.entity.text))) ∙ e)
       (λ n. ap (λ l. described_of n (l ++ map keyed (placed_behind (entity_names x.before) rest))) is
       ∙ ap (described_of n) (append_assoc o.architectures (keyed (items, a) ∷ []) (map keyed (placed_behind (entity_names x.before) rest)))
       ∙ ap (λ l. described_of n (o.architectures ++ map keyed l)) (sym (placed_if a x true c.0))))
     where
-      or_none : (b : Bool) → (b || false) ≡ b
-      or_none true = refl
-      or_none false = refl
-
       along : (q p : OutlineView) → q ≡ p → Outlined ds q rest → Outlined ds p rest
       along q p e x = let P : OutlineView → Type 0 = λ v. Outlined ds v rest in subst P e x
 
   architecture_past : (a : t.Architecture) → Outlined ds o (of_architecture a ∷ rest) → with_unit o (of_architecture a) ≡ None → Outlined ds o rest
   architecture_past a x h =
-      architecture_more a o.architectures x (λ n e. or_left (is_among n (names_of o.architectures)) (bytes_eq n a.entity.text) e)
+      architecture_more a o.architectures x
       (λ n. by n (is_among a.entity.text o.entities) refl h)
     where
       twice_there : (b : Bool) → (then_some (not b) (o.architectures ++ keyed (items, a) ∷ []) >>= λ l. let p : Option OutlineView = Some (record o { architectures = l }) in p) ≡ None → b ≡ true
@@ -310,10 +224,6 @@ module _ (ds : List DesignUnit) (o : OutlineView) (items : List ContextItem) (re
       by n false e h = ap (λ l. described_of n (o.architectures ++ map keyed l)) (sym (placed_if a x false e))
 
   -- ---- the same of any unit
-
-  pub unit_told : (x : LibraryUnit) → Outlined ds o (record { context = items; unit = x } ∷ rest) → (f : NameFault) → Tells (one_unit o x) f → Tells (outline ds) f
-  unit_told (t.LibraryUnit.entity e) x f w = entity_told e x f w
-  unit_told (t.architecture a) x f w = architecture_told a x f w
 
   pub unit_gathered : (y : LibraryUnit) (p : OutlineView) → Outlined ds o (record { context = items; unit = y } ∷ rest) → with_unit o (record { context = items; unit = y }) ≡ Some p
       → Outlined ds p rest

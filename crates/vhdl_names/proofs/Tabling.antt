@@ -1,8 +1,8 @@
 -- The table of what instances see, entity by entity.
-use Rattle.std.proofs.Common.{◌≡◌, ℕ, Bool, true, false, not, List, [], ◌∷◌, ◌++◌, map, Option, Some, Vec, Global, refl, ap, sym, ◌∙◌, append_assoc, append-nil}
-use Rattle.std.specs.Prelude.{◌&&◌, ◌||◌, bytes_eq}
+use Rattle.std.proofs.Common.{◌≡◌, ℕ, Bool, true, false, cond, not, List, [], ◌∷◌, ◌++◌, map, Option, Some, Vec, Global, refl, ap, sym, ◌∙◌, append_assoc, append-nil}
+use Rattle.std.specs.Prelude.{◌&&◌, ◌||◌, bytes_eq, is_some}
 use Rattle.std.specs.List.{IsDistinct, AllByRecursion}
-use Rattle.std.specs.Map.{keys_of}
+use Rattle.std.specs.Map.{keys_of, lookup}
 use Rattle.std.proofs.lemmas.Map.Keys.{IsDistinct-head, IsDistinct-tail}
 use Rattle.vhdl_names_rules.specs.Rules.{◌>>=◌, then_some}
 use Rattle.vhdl_names_rules.specs.Visibility.{Name, is_among, are_distinct}
@@ -54,3 +54,13 @@ entries_apart [] h = refl
 entries_apart (e ∷ es) h =
     ap (λ b. not b && are_distinct (names_in (map entry_view es))) (none_among e.0 es (IsDistinct-head (λ a b. bytes_eq a.items b.items) e.0 (keys_of es) h))
     ∙ entries_apart es (IsDistinct-tail (λ a b. bytes_eq a.items b.items) e.0 (keys_of es) h)
+
+-- the name of an entity that a table has
+pub among_entries : (n : Name) (es : List Entry) → is_some (lookup (λ k. bytes_eq n k.items) es) ≡ is_among n (names_in (map entry_view es))
+among_entries n [] = refl
+among_entries n (e ∷ es) = by (bytes_eq n e.0.items) (among_entries n es)
+  where
+    by : (b : Bool) → is_some (lookup (λ k. bytes_eq n k.items) es) ≡ is_among n (names_in (map entry_view es))
+        → is_some (cond b (Some e.1) (lookup (λ k. bytes_eq n k.items) es)) ≡ b || is_among n (names_in (map entry_view es))
+    by true h = refl
+    by false h = h

@@ -1,9 +1,9 @@
 -- Entries of a table one after another, by their places.
-use Rattle.std.proofs.Common.{◌≡◌, ℕ, zero, suc, ◌+◌, ◌≤◌, List, [], ◌∷◌, ◌++◌, map, length, drop, Option, Some, None, ap, sym, ◌∙◌, arith}
+use Rattle.std.proofs.Common.{◌≡◌, ℕ, zero, suc, ◌+◌, ◌≤◌, List, [], ◌∷◌, map, length, drop, Option, Some, None, ap, sym, ◌∙◌, arith}
 use Rattle.std.specs.Prelude.{slice_get}
 use Rattle.std.proofs.lemmas.List.{length-map, drop_all}
 use Rattle.vhdl_names_rules.specs.Rules.{◌>>=◌}
-use Rattle.vhdl_names_labels.specs.Lists.{in_turn, one_more}
+use Rattle.vhdl_names_labels.specs.Lists.{in_turn}
 
 module _ {A B E : Type 0} (f : A → B → Option A) (view : E → B) where
   drop_at : (es : List E) (i : ℕ) (e : E) → slice_get es i ≡ Some e → drop i (map view es) ≡ view e ∷ drop (suc i) (map view es)
@@ -25,13 +25,3 @@ module _ {A B E : Type 0} (f : A → B → Option A) (view : E → B) where
   ends x es i le =
       let size = length-map es view in
       ap (in_turn f x) (drop_all i (map view es) (omega (arith, size, le)))
-
--- what each gives, on what is done
-module _ {B C E : Type 0} (f : B → Option C) (view : E → B) (done : List C) (es : List E) (i : ℕ) (e : E) (at : slice_get es i ≡ Some e) where
-  pub each_fails : f (view e) ≡ None → in_turn (one_more f) done (drop i (map view es)) ≡ None
-  each_fails h = fails (one_more f) view done es i e at (ap (λ o. o >>= λ y. Some (done ++ y ∷ [])) h)
-
-  pub each_goes : (y : C) (done' : List C) → f (view e) ≡ Some y → done' ≡ done ++ y ∷ []
-      → in_turn (one_more f) done (drop i (map view es)) ≡ in_turn (one_more f) done' (drop (i + 1) (map view es))
-  each_goes y done' h k =
-      goes (one_more f) view done done' es i e at (ap (λ o. o >>= λ y. Some (done ++ y ∷ [])) h ∙ ap Some (sym k))

@@ -1,11 +1,15 @@
 -- What contracts see of a file's entities and architectures before they are analysed.
-use Rattle.std.specs.Prelude.{ℕ, Bool, ◌&&◌, nat_eq, List, map, Vec}
+use Rattle.std.specs.Prelude.{ℕ, Bool, true, false, ◌&&◌, nat_eq, List, map, Vec}
 use Rattle.std.specs.List.{list_any}
 use Rattle.std.specs.Global.{Global}
 use Rattle.indexmap.specs.IndexMap.{IndexMap}
 use Rattle.vhdl_tree.specs.Tree as t
 use Rattle.vhdl_tree.specs.Tree.{ContextItem, Ident}
 use Rattle.vhdl_tree.specs.View as tree
+use Rattle.vhdl_names_rules.specs.declared.fault.NameFault.{NameFault}
+use Rattle.vhdl_names_rules.specs.declared.fault.NameFault.TheVariants.{At, NoMemory}
+use Rattle.vhdl_names_rules.specs.declared.fault.NameProblem.{NameProblem}
+use Rattle.vhdl_names_rules.specs.declared.fault.NameProblem.TheVariants.{Undeclared, Twice, WrongKind, TypeMismatch, NotVisible, WriteOfIn, NoOthers, ChoiceTwice, SecondArchitecture, NoSensitivity, LeftOut}
 use Rattle.vhdl_names_rules.specs.Visibility.{Name}
 use Rattle.vhdl_names_labels.specs.Once.{names_view}
 use Rattle.vhdl_names_interfaces.specs.Views.{entities_view}
@@ -43,3 +47,21 @@ is_hidden g = broken.is_hidden (names_view g.names.now) (entities_view g.entitie
 -- whether one of these identifiers stands at this byte and is such a name
 abbrev pub one_is_hidden : Given → ℕ → List Ident → Bool
 one_is_hidden g at is = list_any (λ i. nat_eq i.at at && is_hidden g i.text) is
+
+abbrev pub is_undeclared : NameProblem → Bool
+is_undeclared Undeclared = true
+is_undeclared Twice = false
+is_undeclared WrongKind = false
+is_undeclared TypeMismatch = false
+is_undeclared NotVisible = false
+is_undeclared WriteOfIn = false
+is_undeclared NoOthers = false
+is_undeclared ChoiceTwice = false
+is_undeclared SecondArchitecture = false
+is_undeclared NoSensitivity = false
+is_undeclared LeftOut = false
+
+-- whether a fault of an architecture is told where it names such an entity
+abbrev pub is_of_hidden : Given → t.Architecture → NameFault → Bool
+is_of_hidden g a (At p at) = is_undeclared p && one_is_hidden g at (broken.mentions a)
+is_of_hidden g a NoMemory = false

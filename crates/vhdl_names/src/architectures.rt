@@ -1,6 +1,6 @@
 //! The architectures of a file, in order of the text (IEEE 1076-2008, 3.3).
 
-ghost use Rattle.std.specs.Prelude.{◌≡◌, ◌×◌, ◌∷◌, [], false, true, IfOk, length, List, map, Option, Some, None, option_map, replicate};
+ghost use Rattle.std.specs.Prelude.{◌≡◌, ◌∷◌, [], false, true, IfOk, length, List, map, Option, Some, None, option_map, replicate};
 ghost use Rattle.vhdl_names.specs.Finding.{Finds};
 ghost use Rattle.vhdl_names.specs.Views.{is_hidden};
 ghost use Rattle.vhdl_names.specs.steps.Architectures as steps;
@@ -19,11 +19,11 @@ ghost use Rattle.vhdl_tree.specs.View as view;
 ghost use Rattle.vhdl_names_units.specs.views.Units.{architecture_view};
 
 use crate::bodies::architecture;
-use crate::mentions::mentions;
+use crate::mentions::is_of_hidden;
 use crate::tables::Given;
 use std::alloc::{AllocError, Global};
 use vhdl_names_declarations::{Context, context_after};
-use vhdl_names_rules::{NameFault, NameProblem};
+use vhdl_names_rules::NameFault;
 use vhdl_names_units::Architecture;
 use vhdl_tree as syntax;
 use vhdl_tree::{ContextItem, DesignUnit, File, LibraryUnit};
@@ -53,13 +53,13 @@ fn up_to_hidden(
 {
     match read {
         Ok(architecture) => Ok(Some(architecture)),
-        Err(
-            NameFault::At {
-                problem: NameProblem::Undeclared,
-                at,
-            },
-        ) if mentions(given, tree, at) => Ok(None),
-        Err(fault) => Err(fault),
+        Err(fault) => {
+            if is_of_hidden(given, tree, fault) {
+                Ok(None)
+            } else {
+                Err(fault)
+            }
+        }
     }
 }
 

@@ -49,10 +49,11 @@ fn add_viewed<'a>(
 {
     let architecture = architecture_name(outline, &tree.name.text);
     let viewed = entity(alloc, items, tree, architecture)?;
-    if entities.contains_key(tree.name.text.as_slice()) {
-        return Ok(());
+    match add_entity(alloc, entities, viewed) {
+        Ok(()) => Ok(()),
+        Err(NameFault::NoMemory) => Err(NameFault::NoMemory),
+        Err(NameFault::At { .. }) => Ok(()),
     }
-    add_entity(alloc, entities, viewed)
 }
 
 /// One more unit, which may be an entity.

@@ -60,7 +60,7 @@ fn add_described<'a>(
 }
 
 /// Whether a name is among some.
-fn has_name(names: &Names, name: &[u8]) -> bool
+pub fn has_name(names: &Names, name: &[u8]) -> bool
     ensures { result ≡ is_among name.now (names_view names.now) }
 {
     names.contains(name)

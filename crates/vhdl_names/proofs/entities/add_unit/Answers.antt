@@ -1,16 +1,18 @@
-use Rattle.std.proofs.Common.{map, sym}
+use Rattle.std.proofs.Common.{◌≡◌, [], ◌∷◌, map, ap, sym, ◌∙◌}
 use Rattle.vhdl_tree.specs.Tree as t
 use Rattle.vhdl_tree.specs.View as view
-use Rattle.vhdl_names_problems.proofs.Telling.{told_on}
-use Rattle.vhdl_names_interfaces.specs.Views.{entities_view}
-use Rattle.vhdl_names_instances.proofs.Told.{told_along}
-use Rattle.vhdl_names.specs.Breaking.{one_entity}
+use Rattle.vhdl_names_problems.specs.Broken.{any_of, nothing}
+use Rattle.vhdl_names_problems.specs.Interfaces.{entity}
+use Rattle.vhdl_names_problems.proofs.Telling.{told_left, told_same, told_on}
+use Rattle.vhdl_names_rules.specs.Files.{entities_of}
+use Rattle.vhdl_names.proofs.Entering.{broken}
 use Rattle.vhdl_names.proofs.entities.add_unit.Goals as goal
 
 pub returns-in-Entity-clause-told : goal.returns-in-Entity-clause-told
 returns-in-Entity-clause-told c =
-    let es = entities_view c.args.entities.now in
     let items = view.contexts_view c.args.unit.now.context in
-    told_on _ (one_entity es items (view.library_unit_view c.args.unit.now.unit)) c.add_viewed.result
-    (λ f w. told_along (λ u. one_entity es items (view.library_unit_view u)) _ c.args.unit.now.unit (sym c.in-Entity.is) f
-    (told_along (λ l. one_entity es (map view.context_view l) (t.LibraryUnit.entity (view.entity_view c.in-Entity.tree))) _ c.args.unit.now.context.items c.deref.ensures.value f w)) c.add_viewed.ensures.told
+    let e = view.entity_view c.in-Entity.tree in
+    told_on _ (any_of broken (entities_of (view.unit_view c.args.unit.now ∷ []))) c.add_viewed.result
+    (λ f w. told_same (any_of broken (entities_of (record { context = items; unit = t.LibraryUnit.entity e } ∷ []))) (any_of broken (entities_of (view.unit_view c.args.unit.now ∷ []))) f
+    (ap (λ u. any_of broken (entities_of (record { context = items; unit = view.library_unit_view u } ∷ []))) (sym c.in-Entity.is))
+    (told_left (entity items e) nothing f (told_same _ (entity items e) f (ap (λ l. entity (map view.context_view l) e) c.deref.ensures.value) w))) c.add_viewed.ensures.told

@@ -1,20 +1,20 @@
-use Rattle.std.proofs.Common.{◌≡◌, true, false, not, None, [], ◌∷◌, refl, sym, ap, ◌∙◌, subst}
+use Rattle.std.proofs.Common.{◌≡◌, true, false, not, None, refl, sym, ap, ◌∙◌}
 use Rattle.vhdl_names_rules.specs.declared.fault.NameProblem.TheVariants.{SecondArchitecture}
 use Rattle.vhdl_names_rules.specs.Visibility.{is_among}
-use Rattle.vhdl_names_problems.specs.Broken.{Tells, is_of}
-use Rattle.vhdl_names_instances.proofs.Told.{tells_unless}
+use Rattle.vhdl_names_problems.proofs.Telling.{told_unless}
 use Rattle.vhdl_names.specs.steps.Outlines.{names_of}
 use Rattle.std.specs.Prelude.{bytes_eq, is_some}
 use Rattle.std.specs.Map.{lookup}
 use Rattle.indexmap.proofs.CallerLemmas.{insert_entry-new}
 use Rattle.vhdl_names.specs.Views.{described_view, architectures_view}
-use Rattle.vhdl_names.proofs.Describing.{among, absent, refused, grown}
+use Rattle.vhdl_names.proofs.Describing.{among, absent, refused as there, grown}
+use Rattle.vhdl_names.proofs.Finding.{tells_at}
 use Rattle.vhdl_names.proofs.outline.add_described.Goals as goal
 
 pub returns-then-contains_key-clause-given : goal.returns-then-contains_key-clause-given
 returns-then-contains_key-clause-given c = λ n.
     let es = c.args.architectures.now.entries in
-    refused es (described_view c.args.described)
+    there es (described_view c.args.described)
     (ap (λ x. is_some (lookup (λ k. bytes_eq x k.items) es)) (sym c.as_slice.ensures.value) ∙ sym c.contains_key.ensures ∙ c.if-contains_key.true)
 
 pub returns-clause-given : goal.returns-clause-given
@@ -32,7 +32,8 @@ pub returns-then-contains_key-clause-told : goal.returns-then-contains_key-claus
 returns-then-contains_key-clause-told c =
     let es = c.args.architectures.now.entries in
     let n = c.args.described.tree.now.entity.text.items in
-    let there : is_among c.args.described.tree.now.entity.text.items (names_of (architectures_view c.args.architectures.now)) ≡ true =
+    let at = c.args.described.tree.now.entity.at in
+    let has : is_among c.args.described.tree.now.entity.text.items (names_of (architectures_view c.args.architectures.now)) ≡ true =
     sym (among n es) ∙ ap (λ x. is_some (lookup (λ k. bytes_eq x k.items) es)) (sym c.as_slice.ensures.value) ∙ sym c.contains_key.ensures ∙ c.if-contains_key.true in
-    tells_unless SecondArchitecture (not (is_among n (names_of (architectures_view c.args.architectures.now)))) c.at.result (ap not there)
-    (subst (Tells (is_of (SecondArchitecture ∷ []))) (sym c.at.ensures) refl)
+    told_unless SecondArchitecture at (not (is_among n (names_of (architectures_view c.args.architectures.now)))) c.at.result (λ _. ap not has)
+    (tells_at SecondArchitecture at c.at.result c.at.ensures)

@@ -1,0 +1,29 @@
+use Rattle.std.proofs.Common.{rules, arith, length, ◌<◌, ◌≡◌, true, false, map, ap, sym, ◌∙◌}
+use Rattle.std.proofs.lemmas.Grind.{common_steps}
+use Rattle.vhdl_tree.specs.Tree as tree
+use Rattle.vhdl_tree.specs.View as view
+use Rattle.vhdl_names_problems.specs.Files as broken
+use Rattle.vhdl_names.specs.Views.{one_is_hidden}
+use Rattle.vhdl_names.proofs.Mentioning.{statement_skipped, statement_stopped, none_named, in_generate}
+use Rattle.vhdl_names.proofs.mentions.+instances.Goals as goal
+
+pub is_within-returns-in-Generate : goal.is_within-returns-in-Generate
+is_within-returns-in-Generate t c =
+    c.is_generated.ensures ∙ sym (ap (λ x. one_is_hidden c.args.given.now c.args.at (broken.of_concurrent (view.concurrent_view x))) c.in-Generate.is ∙ in_generate c.args.given.now c.args.at c.in-Generate.generate)
+
+pub is_among-loop-statement-preserved : goal.is_among-loop-statement-preserved
+is_among-loop-statement-preserved t c =
+    let lt : c.loop-statement.statement-index < length c.args.statements.now = omega arith in
+    let q : c.is_within.result ≡ false = first_of (search rules, grind (arith, common_steps)) in
+    c.loop-statement.invariant
+    ∙ statement_skipped c.args.given.now c.args.at c.args.statements.now c.loop-statement.statement-index c.statement-item.result lt c.statement-item.is (sym c.is_within.ensures ∙ q)
+
+pub is_among-returns-then-is_within : goal.is_among-returns-then-is_within
+is_among-returns-then-is_within t c =
+    let lt : c.loop-statement.statement-index < length c.args.statements.now = omega arith in
+    let q : c.is_within.result ≡ true = first_of (search rules, grind (arith, common_steps)) in
+    sym (c.loop-statement.invariant
+    ∙ statement_stopped c.args.given.now c.args.at c.args.statements.now c.loop-statement.statement-index c.statement-item.result lt c.statement-item.is (sym c.is_within.ensures ∙ q))
+
+pub is_among-returns : goal.is_among-returns
+is_among-returns t c = sym (c.loop-statement.invariant ∙ none_named c.args.given.now c.args.at c.args.statements.now c.loop-statement.statement-index (omega arith))
