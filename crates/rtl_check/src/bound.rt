@@ -41,7 +41,7 @@ pub fn follows_driver(net: &Net, process: usize) -> bool
     requires { process < length net.now.processes }
     ensures { result ≡ b.follows_driver (core net.now) (m.process (core net.now) process) }
 {
-    let _nets = net.nets();
+    net.is_elaborated();
     let processes = net.processes();
     let wakes = processes[process].wakes.as_slice();
     for wake in wakes {

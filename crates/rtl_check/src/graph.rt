@@ -80,7 +80,7 @@ fn row_of(
         return Ok(None);
     }
     nets_meet_the_laws();
-    let _nets = net.nets();
+    net.is_elaborated();
     let processes = net.processes();
     let wakes = processes[process].wakes.as_slice();
     let mut feeders = Vec::new(alloc);

@@ -37,7 +37,7 @@ pub fn judge(
     ensures once { IfOk result JudgesLoopsOnce }
 {
     tables_are_of_nets();
-    let _nets = net.nets();
+    net.is_elaborated();
     let mut faults = faults_of(alloc, net, kinds, clocks)?;
     if !faults.is_empty() {
         return Ok(Judged::Faulty(faults));

@@ -13,7 +13,7 @@ use std::alloc::Global;
 pub fn kinds_of(alloc: Global, net: &Net) -> Result<Vec<ProcessKind>, NoMemory>
     ensures { IfOk result (λ kinds. AreKinds (core net.now) kinds.items) }
 {
-    let _nets = net.nets();
+    net.is_elaborated();
     let inputs = net.inputs();
     let mut kinds = Vec::new(alloc);
     let processes = net.processes();
@@ -28,7 +28,7 @@ pub fn kind_at(net: &Net, process: usize) -> ProcessKind
     requires { process < length net.now.processes }
     ensures { IsKind (m.process (core net.now) process) result }
 {
-    let _nets = net.nets();
+    net.is_elaborated();
     let inputs = net.inputs();
     let processes = net.processes();
     kind_of(inputs, &processes[process].body)

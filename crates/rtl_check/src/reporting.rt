@@ -47,7 +47,7 @@ pub fn report_of(
 {
     tables_are_of_nets();
     simulation_laws::faults_are_listed();
-    let _nets = net.nets();
+    net.is_elaborated();
     let edges = clock_edges(alloc, net, kinds, clocks)?;
     let bound = bound_of(net, kinds, clocks, levels.greatest);
     Ok(Report {

@@ -43,7 +43,7 @@ fn rule_at(
     requires there { process < length kinds.now }
     ensures { OnOk result (AddsFaults (core net.now) (one_place (rule_number rule) process) faults.old.items faults.new.items) }
 {
-    let _nets = net.nets();
+    net.is_elaborated();
     let inputs = net.inputs();
     let processes = net.processes();
     let each = &processes[process];

@@ -86,7 +86,7 @@ fn highest_of(net: &Net, levels: &[Option<u32>], process: usize) -> Highest
     requires { process < length net.now.processes }
     ensures { result ≡ s.highest_of (core net.now) levels.now process }
 {
-    let _nets = net.nets();
+    net.is_elaborated();
     let processes = net.processes();
     let wakes = processes[process].wakes.as_slice();
     let mut highest = Highest {
@@ -144,7 +144,7 @@ pub fn are_levels(net: &Net, levels: &[Option<u32>], from: &[Option<usize>]) -> 
     ensures { s.HasNoMixed (core net.now) → IsTrue result ↔ s.ShowFroms (core net.now) levels.now from.now }
 {
     nets_meet_the_laws();
-    let _nets = net.nets();
+    net.is_elaborated();
     let processes = net.processes();
     if levels.len() != processes.len() {
         return false;

@@ -60,7 +60,7 @@ impl<'a> Exec for Tree<'a> {
 pub fn trees(alloc: Global, net: &Net) -> Result<Vec<Tree<'_>>, AllocError>
     ensures { IfOk result (λ trees. trees.items ≡ processes_of net.now) }
 {
-    let _nets = net.nets();
+    net.is_elaborated();
     let mut trees = Vec::new(alloc);
     for number in 0..net.processes().len() {
         trees.push(Tree { net, number })?;

@@ -21,7 +21,7 @@ pub(crate) type SignalTable = HashMap<Vec<u8>, usize>;
 pub(crate) fn table_of(alloc: Global, net: &Net) -> Result<SignalTable, AllocError>
     ensures { IfOk result (λ table. HasNumbers net.now table) }
 {
-    let _count = net.nets();
+    net.is_elaborated();
     let scopes = net.scopes();
     let signals = net.signals();
     let mut table = HashMap::new(alloc);
@@ -98,7 +98,7 @@ pub(crate) fn signal_named<'n>(
     ensures found { IfOk result (λ found. option_map (λ p. (p.0, signal_view p.1.now)) found ≡ lines.signal_named net.now name.now) }
     ensures width { IfOk result (λ found. IfSome found (λ p. IsWidth (length p.1.now.nets.items))) }
 {
-    let _count = net.nets();
+    net.is_elaborated();
     let Some(number) = number_named(alloc, table, name)? else {
         return Ok(None);
     };

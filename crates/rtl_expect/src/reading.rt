@@ -93,7 +93,7 @@ fn expectation_of(
     requires { HasNumbers net.now table.now }
     ensures { IsExpected (in_line line (expected_in net.now line (forms.form_of (map (λ word. word.now) words.now)))) result }
 {
-    let _count = net.nets();
+    net.is_elaborated();
     let Some(Form::At { time, name, value }) = form_of(words) else {
         return Err(ExpectProblem::BadLine.in_line(line));
     };

@@ -45,7 +45,7 @@ fn push_found<S: Sink>(net: &Net, time: u64, number: usize, found: &Codes, sink:
     ensures { Goes (S.state sink.old) (S.state sink.new)
         (spec.of_signal_found net.now time (slice_get net.now.signals number) found.now.items) }
 {
-    let _count = net.nets();
+    net.is_elaborated();
     let Some(signal) = net.signals().get(number) else {
         return;
     };

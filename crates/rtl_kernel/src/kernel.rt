@@ -77,7 +77,7 @@ impl<'a, E: Exec> Kernel<'a, E> {
           state = start_state (core_netlist (flat net.now)) (initial_inputs (flat net.now) initial.now);
         }) }
     {
-        let _nets = net.nets();
+        net.is_elaborated();
         let processes = net.processes();
         let layout = wake_groups(alloc, net)?;
         let cuts = driver_cuts(alloc, layout.of_net(), processes)?;

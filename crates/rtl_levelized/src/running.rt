@@ -58,7 +58,7 @@ pub fn run_levels_watched<V: Watch, W: Sink>(
     ensures told { IfOk result (λ _. Admits net.now text.now (λ s bound. IsToldRun net.now s bound (λ stands. V.told watch.old stands watch.new))) }
     ensures failing { IfErr result (λ _. WasToldRun net.now text.now (λ stands. V.told watch.old stands watch.new)) }
 {
-    let _count = net.nets();
+    net.is_elaborated();
     let admitted = admit(alloc, net, text)?;
     let bodies = codes(alloc, net)?;
     let stepping = Stepping {

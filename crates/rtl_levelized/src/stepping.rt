@@ -68,7 +68,7 @@ impl<E: Exec> Stepping<'_, E> {
     {
         accepted_nets_are_synchronous();
         laws::each_machine_goes_on_alike();
-        let _count = self.net.nets();
+        self.net.is_elaborated();
         self.stimulus.load(agenda)?;
         let blocks = Blocks::new(alloc, self.net)?;
         let initial = self.stimulus.initial();
@@ -102,7 +102,7 @@ impl<E: Exec> Stepping<'_, E> {
         ensures failing { IfErr result (λ _. IsToldRunFirst self.now.net.now self.now.stimulus.now self.now.bound (λ stands. V.told watch.old stands watch.new)) }
     {
         laws::each_machine_goes_on_alike();
-        let _count = self.net.nets();
+        self.net.is_elaborated();
         let stop = self.stimulus.stop();
         let mut progress = self.begin(alloc, machine, out)?;
         while let Some(time) = agenda.next() {

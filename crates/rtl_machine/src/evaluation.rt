@@ -54,7 +54,7 @@ fn first_values(alloc: Global, net: &Net, admitted: &Admitted) -> Result<Vec<u8>
     ensures first { IfOk result (λ values. IsFirstOf net.now admitted.now.stimulus admitted.now.bound values.items) }
     ensures as_many { IfOk result (λ values. length values.items ≡ length net.now.types) }
 {
-    let _count = net.nets();
+    net.is_elaborated();
     let bodies = codes(alloc, net)?;
     let mut kernel = Kernel::new(alloc, net, &bodies, admitted.stimulus.initial())?;
     kernel.start(&mut Forward);
@@ -77,7 +77,7 @@ fn settled_values(
     ensures as_many { IfOk result (λ values. length values.items ≡ length net.now.types) }
 {
     accepted_nets_are_synchronous();
-    let _count = net.nets();
+    net.is_elaborated();
     match kernel.settle(admitted.bound, &mut Forward) {
         Ok(_) => Vec::from_slice(alloc, kernel.values()),
         Err(_) => unreachable!(),

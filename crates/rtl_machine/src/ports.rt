@@ -16,7 +16,7 @@ use vhdl_values::Nine;
 pub fn push_ports<W: Sink>(net: &Net, values: &[u8], out: &mut W)
     ensures { Goes (W.state out.old) (W.state out.new) (port_lines net.now values.now) }
 {
-    let _count = net.nets();
+    net.is_elaborated();
     for signal in net.signals() {
         push_port(net, values, signal, out);
     }
@@ -37,7 +37,7 @@ fn is_out_port(net: &Net, signal: &Signal) -> bool
     requires some { 1 ≤ length signal.now.nets.items }
     ensures { result ≡ spec.is_out_port net.now (signal_view signal.now) }
 {
-    let _count = net.nets();
+    net.is_elaborated();
     signal.scope == 0 && signal.port && !contains_rising(net.inputs(), signal.nets[0])
 }
 

@@ -72,7 +72,7 @@ pub fn run_watched<P: Pick, V: Watch, W: Sink>(
     ensures told { IfOk result (λ _. Admits net.now text.now (λ s bound. IsToldRun net.now s bound (λ stands. V.told watch.old stands watch.new))) }
     ensures failing { IfErr result (λ _. WasToldRun net.now text.now (λ stands. V.told watch.old stands watch.new)) }
 {
-    let _count = net.nets();
+    net.is_elaborated();
     let admitted = admit(alloc, net, text)?;
     let bodies = codes(alloc, net)?;
     let simulation = Simulation {
@@ -144,7 +144,7 @@ pub fn trace_watched<E: Exec, A: Agenda, P: Pick, V: Watch, W: Sink>(
 {
     accepted_nets_are_synchronous();
     simulation_laws::one_greatest_count();
-    let _count = simulation.net.nets();
+    simulation.net.is_elaborated();
     match simulation.run_watched(alloc, agenda, pick, watch, out) {
         Ok(summary) => Ok(summary),
         Err(RunFault::NoSettling { .. }) => unreachable!(),

@@ -77,7 +77,12 @@ impl Model for Net {
 }
 
 impl Net {
-    /// How many nets there are. A caller in another crate also learns here what holds of every netlist.
+    /// What holds of every netlist, for a proof that asks it: nothing is computed.
+    pub fn is_elaborated(&self)
+        ensures { IsNet self.now }
+    {}
+
+    /// How many nets there are.
     pub fn nets(&self) -> usize
         ensures count { result ≡ length self.now.types }
         ensures elaborated { IsNet self.now }

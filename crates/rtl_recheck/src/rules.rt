@@ -64,7 +64,7 @@ fn keeps_rules(net: &Net, clocks: &[(usize, Edge)], process: usize) -> bool
     requires clocks { AreClocks (core net.now) clocks.now }
     ensures { IsTrue result ↔ KeepsRules (core net.now) process }
 {
-    let _nets = net.nets();
+    net.is_elaborated();
     let inputs = net.inputs();
     let processes = net.processes();
     keeps_by(inputs, clocks, &processes[process], kind_at(net, process))

@@ -48,7 +48,7 @@ pub fn stores_nothing(net: &Net, process: usize) -> bool
     requires { process < length net.now.processes }
     ensures { IsTrue result ↔ StoresNothing (core net.now) process }
 {
-    let _nets = net.nets();
+    net.is_elaborated();
     let processes = net.processes();
     let each = &processes[process];
     stores_none(&each.body, elements_of(&each.variables))

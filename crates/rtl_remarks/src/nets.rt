@@ -15,7 +15,7 @@ fn has_no_driver(net: &Net, number: usize) -> bool
     requires there { number < length net.now.types }
     ensures { result ≡ spec.has_no_driver net.now number }
 {
-    let _count = net.nets();
+    net.is_elaborated();
     !contains_rising(net.inputs(), number) && net.sources(number).is_empty()
 }
 

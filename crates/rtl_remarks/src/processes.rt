@@ -35,7 +35,7 @@ pub(crate) fn push_not_reset(
 ) -> Result<(), NoMemory>
     ensures { OnOk result (remarks.new.items ≡ remarks.old.items ++ spec.of_processes (spec.not_reset net.now) 0 net.now.processes) }
 {
-    let _count = net.nets();
+    net.is_elaborated();
     let inputs = net.inputs();
     let processes = net.processes();
     for number in 0..processes.len() {
@@ -66,7 +66,7 @@ fn push_clock(inputs: &[usize], process: &Process, clocks: &mut Vec<usize>) -> R
 pub(crate) fn clocks_of(alloc: Global, net: &Net) -> Result<Vec<usize>, NoMemory>
     ensures { IfOk result (λ clocks. AreThose (spec.is_clock net.now) clocks.items) }
 {
-    let _count = net.nets();
+    net.is_elaborated();
     let inputs = net.inputs();
     let processes = net.processes();
     let mut clocks = Vec::new(alloc);

@@ -90,7 +90,7 @@ impl<E: Exec> Simulation<'_, E> {
         ensures failing { IfErr result (λ fault. WasTold self.now.net.now self.now.stimulus.now self.now.limit (λ stands. V.told watch.old stands watch.new)
             (λ stands before now time. V.stuck watch.old stands before now time watch.new) fault) }
     {
-        let _count = self.net.nets();
+        self.net.is_elaborated();
         self.stimulus.load(agenda)?;
         let blocks = Blocks::new(alloc, self.net)?;
         let mut kernel = Kernel::new(alloc, self.net, self.bodies, self.stimulus.initial())?;
@@ -123,7 +123,7 @@ impl<E: Exec> Simulation<'_, E> {
         ensures failing { IfErr result (λ fault. WasTold self.now.net.now self.now.stimulus.now self.now.limit (λ stands. V.told watch.old stands watch.new)
             (λ stands before now time. V.stuck watch.old stands before now time watch.new) fault) }
     {
-        let _count = self.net.nets();
+        self.net.is_elaborated();
         let stop = self.stimulus.stop();
         header(self.net, out)?;
         let mut progress = self.begin(alloc, kernel, pick, watch, out)?;

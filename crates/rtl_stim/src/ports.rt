@@ -18,7 +18,7 @@ pub fn inputs_of(alloc: Global, net: &Net) -> Result<InputTable, AllocError>
     requires { HasOwnPorts net.now }
     ensures { IfOk result (λ inputs. kept.inputs_view inputs ≡ ports.inputs_of net.now) }
 {
-    let _count = net.nets();
+    net.is_elaborated();
     let mut inputs = IndexMap::new(alloc);
     for signal in net.signals() {
         if is_in_port(net, signal) {
@@ -45,7 +45,7 @@ fn is_in_port(net: &Net, signal: &Signal) -> bool
 fn is_input(net: &Net, number: usize) -> bool
     ensures { result ≡ ports.is_input net.now number }
 {
-    let _count = net.nets();
+    net.is_elaborated();
     net.inputs().binary_search(&number).is_ok()
 }
 

@@ -149,7 +149,7 @@ pub fn first_race(net: &Net, clocks: &[(usize, Edge)], stimulus: &Stimulus) -> O
         × IsFirstRace (core_netlist (flat net.now)) clocks.now (inputs_at stimulus.now) m race.input race.clock) }
     ensures none { IfNone result ((last : ℕ) → HasNoRace (core_netlist (flat net.now)) (inputs_at stimulus.now) last) }
 {
-    let _count = net.nets();
+    net.is_elaborated();
     let mut now = 0;
     while let Some(time) = stimulus.next_change(clocks, now) {
         if let Some(race) = race_at(net.inputs(), clocks, stimulus, time) {

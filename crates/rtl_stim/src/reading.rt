@@ -30,7 +30,7 @@ impl Stimulus {
         requires { HasOwnPorts net.now }
         ensures { IsRead net.now text.now result }
     {
-        let _count = net.nets();
+        net.is_elaborated();
         let inputs = inputs_of(alloc, net)?;
         let schedule = read_schedule(alloc, text, &inputs)?;
         Ok(with_initial(alloc, inputs, schedule)?)
@@ -51,7 +51,7 @@ impl Stimulus {
         requires { HasOwnPorts net.now }
         ensures { IsPaired net.now (map pair_view pairs.now) result }
     {
-        let _count = net.nets();
+        net.is_elaborated();
         let inputs = inputs_of(alloc, net)?;
         let schedule = read_pairs(alloc, pairs, &inputs)?;
         Ok(with_initial(alloc, inputs, schedule)?)

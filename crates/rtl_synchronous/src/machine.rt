@@ -83,7 +83,7 @@ impl<'a, E: Exec> Machine<'a, E> {
         ensures net { IfOk result (λ m. m.net ≡ net.now) }
         ensures first { IfOk result (λ m. IsFirst (core net.now) (initial_inputs (flat net.now) initial.now) m.values) }
     {
-        let _count = net.nets();
+        net.is_elaborated();
         let schedule = Schedule::new(alloc, net, levels)?;
         let mut runs = room_for(alloc, net, bodies)?;
         let mut values = starting_codes(alloc, net)?;
@@ -190,7 +190,7 @@ fn come_to_rest<E: Exec>(
     ensures none_woken { HasNoMark woken.new.items }
     ensures none_dirty { HasNoMark dirty.new.items }
 {
-    let _count = net.nets();
+    net.is_elaborated();
     run_marked(net, bodies, woken, before, values, runs);
     take_marked(net, runs, schedule, woken, values, dirty);
     sweep(net, bodies, schedule, runs, values, dirty);

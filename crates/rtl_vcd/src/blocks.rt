@@ -96,7 +96,7 @@ fn bounds(nets: &[usize]) -> (usize, usize)
 pub(crate) fn blocks_of(alloc: Global, net: &Net) -> Result<Vec<Block>, AllocError>
     ensures { IfOk result (λ bs. AreBlocks (length net.now.types) bs.items net.now.signals) }
 {
-    let _count = net.nets();
+    net.is_elaborated();
     let signals = net.signals();
     let mut blocks = Vec::new(alloc);
     let mut next = 0;
@@ -114,7 +114,7 @@ fn block_at(net: &Net, first: usize) -> Block
     ensures some { 0 < result.names }
     ensures block { IsBlockOf (length net.now.types) result (take result.names (drop first net.now.signals)) }
 {
-    let _count = net.nets();
+    net.is_elaborated();
     let signals = net.signals();
     let mut block = Block::of(&signals[first]);
     for number in first + 1..signals.len() {

@@ -25,7 +25,7 @@ pub fn header<W: Sink>(net: &Net, out: &mut W) -> Result<(), VcdFault>
     ensures ok { OnOk result (IsIntact (W.state out.new)) }
     ensures err { OnErr result (HasFailed (W.state out.new)) }
 {
-    let _count = net.nets();
+    net.is_elaborated();
     push_text(out, b"$timescale 1 ns $end\n");
     push_scopes(net.scopes(), net.signals(), out);
     push_closing_after(net.scopes(), out);

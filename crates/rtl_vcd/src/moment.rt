@@ -117,7 +117,7 @@ fn push_moment<W: Sink>(
     ensures text { Goes (W.state out.old) (W.state out.new) (moment_text net.now.signals step.now.time step.now.old.now step.now.new.now) }
     ensures printed { result ≡ are_some (changes net.now.signals step.now.old.now step.now.new.now) }
 {
-    let _count = net.nets();
+    net.is_elaborated();
     let signals = net.signals();
     let mut page = Page::new();
     let mut next = 0;

@@ -81,7 +81,7 @@ impl Run {
 pub(crate) fn runs_of(alloc: Global, net: &Net) -> Result<Vec<Option<Run>>, AllocError>
     ensures { IfOk result (λ rs. AreReady 0 net.now.signals rs.items) }
 {
-    let _count = net.nets();
+    net.is_elaborated();
     let signals = net.signals();
     let mut runs = Vec::new(alloc);
     for (number, signal) in signals.iter().enumerate() {

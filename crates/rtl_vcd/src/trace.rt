@@ -24,7 +24,7 @@ pub fn first<W: Sink>(net: &Net, values: &[u8], out: &mut W) -> Result<(), VcdFa
     ensures ok { OnOk result (IsIntact (W.state out.new)) }
     ensures err { OnErr result (HasFailed (W.state out.new)) }
 {
-    let _count = net.nets();
+    net.is_elaborated();
     push_time(out, 0);
     push_text(out, b"$dumpvars\n");
     push_all(net.signals(), values, out);

@@ -19,7 +19,7 @@ pub(crate) fn element_of(
 ) -> Result<Vec<u8>, NoMemory>
     ensures { IfOk result (λ text. text.items ≡ variable_name net.now process variable place) }
 {
-    let _count = net.nets();
+    net.is_elaborated();
     let Some(process) = net.processes().get(process) else {
         return Ok(Vec::new(alloc));
     };

@@ -20,7 +20,7 @@ pub fn push_arrows_to<W: Sink>(
 ) -> Result<(), NoMemory>
     ensures { Prints result (W.state out.old) (W.state out.new) (spec.arrows_to net.now number) }
 {
-    let _count = net.nets();
+    net.is_elaborated();
     let Some(process) = net.processes().get(number) else {
         return Ok(());
     };

@@ -61,7 +61,7 @@ fn push_net<W: Sink>(net: &Net, number: usize, out: &mut W) -> Result<(), NoMemo
     requires there { number < length net.now.types }
     ensures { Prints result (W.state out.old) (W.state out.new) (net_line net.now number) }
 {
-    let _count = net.nets();
+    net.is_elaborated();
     let name = net.net_name(number)?;
     push_number(out, number as u64);
     push_text(out, b" ");

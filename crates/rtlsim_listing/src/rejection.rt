@@ -240,7 +240,7 @@ fn push_stored<W: Sink>(
 fn push_variable<W: Sink>(net: &Net, process: usize, variable: usize, place: usize, out: &mut W)
     ensures { Goes (W.state out.old) (W.state out.new) (spec.variable_name net.now process variable place) }
 {
-    let _count = net.nets();
+    net.is_elaborated();
     let Some(process) = net.processes().get(process) else {
         return;
     };

@@ -21,7 +21,7 @@ push_feeders-requires c =
     let i = c.loop-wake.wake-index in
     let are = c.as_slice-wakes.ensures ∙ sym (ap (λ (q : Process). q.wakes.items) c.index-processes-process.is) in
     let l : i < length x.wakes.items = subst (λ (ns : List ℕ). i < length ns) are c.loop-wake-test.true in
-    subst (λ (ns : List ℕ). get_or ns i 0 < length net.types) (sym are) (nets_of_wakes net c.nets-nets.ensures.elaborated c.args.process x there at i 0 l)
+    subst (λ (ns : List ℕ). get_or ns i 0 < length net.types) (sym are) (nets_of_wakes net c.is_elaborated.ensures c.args.process x there at i 0 l)
 
 pub returns : goal.returns
 returns c =
@@ -30,7 +30,7 @@ returns c =
     let ks = c.args.kinds.now in
     let there = within c.requires.there c.requires.kinds.each_process (many_processes net) in
     let at = c.index-processes-process.is ∙ ap (λ (ps : List Process). get_or ps c.args.process x) c.processes-processes.ensures in
-    let N = c.nets-nets.ensures.elaborated in
+    let N = c.is_elaborated.ensures in
     let all = take_all c.loop-wake.wake-index c.as_slice-wakes.result.now c.loop-wake-test.false ∙ (c.as_slice-wakes.ensures ∙ sym (ap (λ (q : Process). q.wakes.items) c.index-processes-process.is)) in
     row_some net ks c.requires.kinds (c.nets_meet_the_laws.ensures net N).elaborated.wiring c.args.process x there at
     (λ n (k, l, e). subst (λ (j : ℕ). j < length net.types) e (nets_of_wakes net N c.args.process x there at k n l))

@@ -18,7 +18,7 @@ order_of-requires c =
     let is = c.deref.ensures.value in
     record {
       closed = subst t.IsClosed (sym is) (closed (core c.args.net.now) table c.in_ok-table.ensures);
-      few = small (ap (λ (xs : t.Table). length xs) is) c.in_ok-table.ensures.each_process (many_processes c.args.net.now) c.nets-nets.ensures.elaborated.processes_limit;
+      few = small (ap (λ (xs : t.Table). length xs) is) c.in_ok-table.ensures.each_process (many_processes c.args.net.now) c.is_elaborated.ensures.processes_limit;
     }
 
 pub returns-then-not-is_empty-clause-once : goal.returns-then-not-is_empty-clause-once

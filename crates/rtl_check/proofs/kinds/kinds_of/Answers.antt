@@ -15,7 +15,7 @@ use Rattle.rtl_check.proofs.Processes.{many_processes, process_is, kind_is, kind
 use Rattle.rtl_check.proofs.kinds.kinds_of.Goals as goal
 
 pub kind_of-requires : goal.kind_of-requires
-kind_of-requires c = subst IsStrictlyIncreasing (sym c.inputs-inputs.ensures) c.nets-nets.ensures.elaborated.in_range.inputs_rise
+kind_of-requires c = subst IsStrictlyIncreasing (sym c.inputs-inputs.ensures) c.is_elaborated.ensures.in_range.inputs_rise
 
 pub loop-process-preserved : goal.loop-process-preserved
 loop-process-preserved c =

@@ -12,7 +12,7 @@ pub bound_of-bound-requires-clause-few : goal.bound_of-bound-requires-clause-few
 bound_of-bound-requires-clause-few c =
     let l = c.requires.levels in
     let fits = greatest_fits l.table c.args.levels.levels.items c.args.levels.from.items c.args.levels.greatest l.are_levels in
-    small fits l.is_table.each_process (many_processes c.args.net.now) c.nets-nets.ensures.elaborated.processes_limit
+    small fits l.is_table.each_process (many_processes c.args.net.now) c.is_elaborated.ensures.processes_limit
 
 pub returns-clause-report : goal.returns-clause-report
 returns-clause-report c =

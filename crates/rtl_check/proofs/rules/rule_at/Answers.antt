@@ -15,7 +15,7 @@ breaking_nets-requires-clause-reads c =
     let x = c.index-processes-process.result in
     let there = within c.requires.there c.requires.kinds.each_process (many_processes net) in
     let at = c.index-processes-process.is ∙ ap (λ (ps : List Process). get_or ps c.args.process x) c.processes-processes.ensures in
-    (reads_listed net c.nets-nets.ensures.elaborated c.args.process x there at).rise
+    (reads_listed net c.is_elaborated.ensures c.args.process x there at).rise
 
 pub breaking_nets-requires-clause-wakes : goal.breaking_nets-requires-clause-wakes
 breaking_nets-requires-clause-wakes c =
@@ -23,7 +23,7 @@ breaking_nets-requires-clause-wakes c =
     let x = c.index-processes-process.result in
     let there = within c.requires.there c.requires.kinds.each_process (many_processes net) in
     let at = c.index-processes-process.is ∙ ap (λ (ps : List Process). get_or ps c.args.process x) c.processes-processes.ensures in
-    wakes_rise net c.nets-nets.ensures.elaborated c.args.process x there at
+    wakes_rise net c.is_elaborated.ensures c.args.process x there at
 
 pub returns : goal.returns
 returns c =
@@ -32,7 +32,7 @@ returns c =
     let there = within c.requires.there c.requires.kinds.each_process (many_processes net) in
     let at = c.index-processes-process.is ∙ ap (λ (ps : List Process). get_or ps c.args.process x) c.processes-processes.ensures in
     if_done _ _ c.push_faults.result
-    (λ pushed. rule_done net c.nets-nets.ensures.elaborated c.args.process x there at c.args.kinds.now c.requires.kinds c.args.clocks.now c.requires.clocks k.Combinational c.args.rule c.in_ok-nets.nets.items
+    (λ pushed. rule_done net c.is_elaborated.ensures c.args.process x there at c.args.kinds.now c.requires.kinds c.args.clocks.now c.requires.clocks k.Combinational c.args.rule c.in_ok-nets.nets.items
     c.args.faults.now.items c.push_faults.new.faults.items c.in_ok-nets.ensures.rise
     (λ n. c.in_ok-nets.ensures.are n ∙ ap (λ (ins : List ℕ). breaks ins c.args.clocks.now x (get_or c.args.kinds.now c.args.process k.Combinational) c.args.rule n) c.inputs-inputs.ensures)
     (subst (λ (ns : List ℕ). Pushes c.args.rule c.args.process ns c.args.faults.now.items c.push_faults.new.faults.items) c.deref.ensures.value pushed))

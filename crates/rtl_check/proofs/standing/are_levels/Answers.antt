@@ -16,7 +16,7 @@ returns-then-not-stands c =
     let net = c.args.net.now in
     let levels = c.args.levels.now in
     let from = c.args.from.now in
-    let wired = (c.nets_meet_the_laws.ensures net c.nets-nets.ensures.elaborated).elaborated.wiring in
+    let wired = (c.nets_meet_the_laws.ensures net c.is_elaborated.ensures).elaborated.wiring in
     let p = c.loop-process.process in
     let there : p < length (core net).processes = omega (arith, c.loop-process-test.true, many_processes net, ap (λ (ps : List Process). length ps) c.processes-processes.ensures, c.loop-process.auto.process-end) in
     λ clear. (λ e. absurd cc, λ S. let t = c.stands.ensures.1 (stand (core net) levels from wired clear S p there) in let h : true ≡ false = sym t ∙ c.if-not-stands.true in cc)
@@ -26,7 +26,7 @@ returns c =
     let net = c.args.net.now in
     let levels = c.args.levels.now in
     let from = c.args.from.now in
-    let wired = (c.nets_meet_the_laws.ensures net c.nets-nets.ensures.elaborated).elaborated.wiring in
+    let wired = (c.nets_meet_the_laws.ensures net c.is_elaborated.ensures).elaborated.wiring in
     let many = ap (λ (ps : List Process). length ps) c.processes-processes.ensures in
     let all : c.loop-process.process ≡ length (core net).processes = omega (arith, c.loop-process-test.false, c.loop-process.auto.process-end, many, many_processes net) in
     λ clear. (

@@ -16,7 +16,7 @@ with_sources-highest-requires c =
     let i = c.loop-wake.wake-index in
     let are = c.as_slice-wakes.ensures ∙ sym (ap (λ (q : Process). q.wakes.items) c.index-processes-process.is) in
     let l : i < length x.wakes.items = subst (λ (ns : List ℕ). i < length ns) are c.loop-wake-test.true in
-    subst (λ (ns : List ℕ). get_or ns i 0 < length net.types) (sym are) (nets_of_wakes net c.nets-nets.ensures.elaborated c.args.process x c.requires at i 0 l)
+    subst (λ (ns : List ℕ). get_or ns i 0 < length net.types) (sym are) (nets_of_wakes net c.is_elaborated.ensures c.args.process x c.requires at i 0 l)
 
 pub returns : goal.returns
 returns c =

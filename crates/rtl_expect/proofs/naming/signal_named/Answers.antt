@@ -31,5 +31,5 @@ returns-clause-width c =
     let net = c.args.net.now in
     let name = c.args.name.now in
     let found = found_from net.scopes 0 net.signals name c.in-Some.number (sym c.in-Some.is ∙ c.in_ok-number.ensures ∙ c.requires.table name) in
-    width_there net c.nets-count.ensures.elaborated c.signals-signals.result.now c.signals-signals.ensures c.in-Some.number c.index-signals-number.result
+    width_there net c.is_elaborated.ensures c.signals-signals.result.now c.signals-signals.ensures c.in-Some.number c.index-signals-number.result
     (number_there net c.signals-signals.result.now name c.in-Some.number c.signals-signals.ensures found) c.index-signals-number.is

@@ -8,7 +8,7 @@ use Rattle.rtl_expect.proofs.naming.table_of.Goals as goal
 pub add_signal-requires-clause-there : goal.add_signal-requires-clause-there
 add_signal-requires-clause-there c =
     let there : c.loop-number.number - 1 < length c.signals-signals.result.now = omega (arith, c.loop-number-test.true, c.loop-number.invariant.0) in
-    let within = scope_there c.args.net.now c.nets-count.ensures.elaborated c.signals-signals.result.now c.signals-signals.ensures (c.loop-number.number - 1)
+    let within = scope_there c.args.net.now c.is_elaborated.ensures c.signals-signals.result.now c.signals-signals.ensures (c.loop-number.number - 1)
     c.index-signals-number.result _ there c.index-signals-number.is in
     omega (arith, within, ap length c.scopes-scopes.ensures, length-map c.scopes-scopes.result.now scope_view)
 

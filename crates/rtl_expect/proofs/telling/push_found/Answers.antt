@@ -14,7 +14,7 @@ pub push_name-requires-clause-there : goal.push_name-requires-clause-there
 push_name-requires-clause-there g c =
     let lookup = c.in-Some.ensures.lookup in
     let there : c.args.number < length c.signals.result.now = let is = lookup.0 in grind (arith, nat_tests, is) in
-    let within = scope_there c.args.net.now c.nets-count.ensures.elaborated c.signals.result.now c.signals.ensures c.args.number c.in-Some.signal.now _ there lookup.1 in
+    let within = scope_there c.args.net.now c.is_elaborated.ensures c.signals.result.now c.signals.ensures c.args.number c.in-Some.signal.now _ there lookup.1 in
     omega (arith, within, ap length c.scopes.ensures, length-map c.scopes.result.now scope_view)
 
 pub returns : goal.returns

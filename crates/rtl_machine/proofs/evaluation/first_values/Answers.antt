@@ -25,4 +25,4 @@ settled_values-requires-clause-begun c =
     let state = c.start.new.self.state in
     let ran = subst (λ (k : Simulation). HasRun (core_netlist (flat k.net)) k.state state) c.in_ok-kernel.ensures c.start.ensures.ran in
     let run = subst (λ (vs : List Nine). HasRun (core net) (start_state (core net) (initial_inputs (flat net) vs)) state) c.initial.ensures ran in
-    first_begun net c.nets-count.ensures.elaborated s c.requires.ports c.requires.inputs state run
+    first_begun net c.is_elaborated.ensures s c.requires.ports c.requires.inputs state run

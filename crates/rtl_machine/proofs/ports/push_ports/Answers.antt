@@ -8,7 +8,7 @@ use Rattle.rtl_machine.proofs.ports.push_ports.Goals as goal
 
 pub push_port-requires : goal.push_port-requires
 push_port-requires g c = record {
-  some = has_nets c.args.net.now c.nets-count.ensures.elaborated c.signals-signal-items.result.now c.signals-signal-items.ensures c.loop-signal.signal-index
+  some = has_nets c.args.net.now c.is_elaborated.ensures c.signals-signal-items.result.now c.signals-signal-items.ensures c.loop-signal.signal-index
       c.signal-item.result c.loop-signal-test.true c.signal-item.is;
 }
 
@@ -22,7 +22,7 @@ loop-signal-preserved g c =
     let before = g.W.Sink.state c.loop-signal.out in
     let new = g.W.Sink.state c.push_port.new.out in
     let text = port_text net c.args.values.now in
-    let view = view_there net c.nets-count.ensures.elaborated signals views at s c.loop-signal-test.true c.signal-item.is in
-    let there = place_there net c.nets-count.ensures.elaborated signals views at s c.loop-signal-test.true c.signal-item.is in
+    let view = view_there net c.is_elaborated.ensures signals views at s c.loop-signal-test.true c.signal-item.is in
+    let there = place_there net c.is_elaborated.ensures signals views at s c.loop-signal-test.true c.signal-item.is in
     Goes-next (g.W.Sink.state c.args.out.now) before new [] text net.signals at (signal_view s) there c.loop-signal.invariant
     (subst (λ (v : SignalView). Goes before new (text v)) (sym view) c.push_port.ensures)

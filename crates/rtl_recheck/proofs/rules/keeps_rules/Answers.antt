@@ -11,7 +11,7 @@ keeps_by-requires-clause-wakes c =
     let p = c.args.process in
     let x = c.index-processes-process.result in
     let at = c.index-processes-process.is ∙ ap (λ (ps : List Process). get_or ps p x) c.processes-processes.ensures in
-    wakes_rise c.args.net.now c.nets-nets.ensures.elaborated p x c.requires.there at
+    wakes_rise c.args.net.now c.is_elaborated.ensures p x c.requires.there at
 
 pub returns : goal.returns
 returns c =
@@ -21,7 +21,7 @@ returns c =
     let x = c.index-processes-process.result in
     let kind = c.kind_at.result in
     let at = c.index-processes-process.is ∙ ap (λ (ps : List Process). get_or ps p x) c.processes-processes.ensures in
-    let listed = reads_listed net c.nets-nets.ensures.elaborated p x c.requires.there at in
+    let listed = reads_listed net c.is_elaborated.ensures p x c.requires.there at in
     let so : IsTrue c.keeps_by.result ↔ KeepsBy net.inputs (clock_nets clocks) x kind =
     subst (λ (ns : List ℕ). IsTrue c.keeps_by.result ↔ KeepsBy ns (clock_nets clocks) x kind) c.inputs-inputs.ensures c.keeps_by.ensures in (
       λ t. rules_to net clocks c.requires.clocks p x c.requires.there at listed kind c.kind_at.ensures (so.0 t),

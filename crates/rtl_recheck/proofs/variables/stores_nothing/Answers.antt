@@ -28,4 +28,4 @@ elements_of-requires c =
     let p = c.args.process in
     let x = c.index-processes-process.result in
     let at = c.index-processes-process.is ∙ ap (λ (ps : List Process). get_or ps p x) c.processes-processes.ensures in
-    subst (All HasFew) (sym c.deref-2.ensures.value) (few net p x c.requires at c.nets-nets.ensures.elaborated)
+    subst (All HasFew) (sym c.deref-2.ensures.value) (few net p x c.requires at c.is_elaborated.ensures)

@@ -21,4 +21,4 @@ loop-number-preserved c =
     subst (λ (ins : List ℕ). AreThose (leaves_out p (reset_branch (clocking ins (body_of p)))) left) c.inputs-inputs.ensures c.in_ok-left.ensures in
     next_process (not_reset net) net.processes i p _ _ _ l at c.loop-number.invariant
     (c.in_ok-push_each_left.ensures
-    ∙ ap (λ xs. c.loop-number.remarks.items ++ xs) (ap (map (λ n. NotReset i n)) c.deref.ensures.value ∙ left_remarks net c.nets-count.ensures.elaborated i p l at left those))
+    ∙ ap (λ xs. c.loop-number.remarks.items ++ xs) (ap (map (λ n. NotReset i n)) c.deref.ensures.value ∙ left_remarks net c.is_elaborated.ensures i p l at left those))

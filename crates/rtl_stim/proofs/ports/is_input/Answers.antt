@@ -9,6 +9,6 @@ use Rattle.rtl_stim.proofs.ports.is_input.Goals as goal
 pub returns : goal.returns
 returns c =
     let xs = c.inputs.result.now in
-    let rise = rising xs (subst IsStrictlyIncreasing (sym c.inputs.ensures) c.nets-count.ensures.elaborated.in_range.inputs_rise) in
+    let rise = rising xs (subst IsStrictlyIncreasing (sym c.inputs.ensures) c.is_elaborated.ensures.in_range.inputs_rise) in
     c.is_ok.ensures.value ∙ found_among xs c.args.number c.binary_search.result (searched xs c.args.number c.binary_search.result c.binary_search.ensures.position rise)
     ∙ ap (λ ns. list_any (λ m. m == c.args.number) ns) c.inputs.ensures

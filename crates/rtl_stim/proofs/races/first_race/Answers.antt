@@ -19,7 +19,7 @@ returns-in-Some-race_at-clause-found c =
     let within = c.in-Some.ensures.within in
     let none : (u : ℕ) → 0 < u → u < t → HasNoneHere s clocks f.inputs u =
     λ u some before. ⊎_elim (λ after. none_if_quiet f s clocks c.requires.clocks c.requires.inputs u (c.in-Some.ensures.quiet u after before)) (λ past. c.loop-time.invariant u some past) (cases_lt c.loop-time.now u) in
-    let is = first f s clocks c.requires.clocks c.requires.inputs t race.input race.clock here c.nets-count.ensures.elaborated.in_range.inputs_rise (omega (arith, within.0)) within.1 none in
+    let is = first f s clocks c.requires.clocks c.requires.inputs t race.input race.clock here c.is_elaborated.ensures.in_range.inputs_rise (omega (arith, within.0)) within.1 none in
     (is.0, is.1, is.2 ∙ sym c.in-Some-race_at.ensures.found.0, is.3)
 
 pub loop-time-preserved : goal.loop-time-preserved

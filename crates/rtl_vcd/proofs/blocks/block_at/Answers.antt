@@ -9,7 +9,7 @@ pub of-block-requires : goal.of-block-requires
 of-block-requires c =
     let within : c.args.first < length c.signals-signals.result.now =
     omega (arith, c.requires.there, ap length c.signals-signals.ensures, length-map c.signals-signals.result.now signal_view) in
-    let shown = shown_of_net c.args.net.now c.nets-count.ensures.elaborated c.signals-signals.result.now c.signals-signals.ensures c.args.first c.index-signals-first.result within c.index-signals-first.is in
+    let shown = shown_of_net c.args.net.now c.is_elaborated.ensures c.signals-signals.result.now c.signals-signals.ensures c.args.first c.index-signals-first.result within c.index-signals-first.is in
     record { some = omega (arith, shown.width.0) }
 
 pub loop-number-init : goal.loop-number-init
@@ -20,7 +20,7 @@ loop-number-init c =
     let types = length c.args.net.now.types in
     let block = c.of-block.result in
     let within : first < length signals = omega (arith, c.requires.there, ap length c.signals-signals.ensures, length-map signals signal_view) in
-    let shown = shown_of_net c.args.net.now c.nets-count.ensures.elaborated signals c.signals-signals.ensures first name within c.index-signals-first.is in
+    let shown = shown_of_net c.args.net.now c.is_elaborated.ensures signals c.signals-signals.ensures first name within c.index-signals-first.is in
     let names : take (0 + 1) (drop first (map signal_view signals)) ≡ signal_view name ∷ [] =
     take_next signals first 0 first name within (omega arith) c.index-signals-first.is in
     let count : 0 + 1 ≡ block.names = omega (arith, c.of-block.ensures.names) in (
@@ -31,13 +31,13 @@ loop-number-init c =
 
 pub with-more-requires-clause-some : goal.with-more-requires-clause-some
 with-more-requires-clause-some c =
-    let shown = shown_of_net c.args.net.now c.nets-count.ensures.elaborated c.signals-signals.result.now c.signals-signals.ensures c.loop-number.number c.index-signals-number.result c.loop-number-test.true c.index-signals-number.is in
+    let shown = shown_of_net c.args.net.now c.is_elaborated.ensures c.signals-signals.result.now c.signals-signals.ensures c.loop-number.number c.index-signals-number.result c.loop-number-test.true c.index-signals-number.is in
     omega (arith, shown.width.0)
 
 pub is_dense-requires : goal.is_dense-requires
 is_dense-requires c =
     let signals = c.signals-signals.result.now in
-    let shown = shown_of_net c.args.net.now c.nets-count.ensures.elaborated signals c.signals-signals.ensures c.loop-number.number c.index-signals-number.result c.loop-number-test.true c.index-signals-number.is in
+    let shown = shown_of_net c.args.net.now c.is_elaborated.ensures signals c.signals-signals.ensures c.loop-number.number c.index-signals-number.result c.loop-number-test.true c.index-signals-number.is in
     let is = c.with-more.ensures.block (length c.args.net.now.types) (take c.loop-number.block.names (drop c.args.first (map signal_view signals))) shown c.loop-number.invariant.1 in
     record { order = is.order }
 
@@ -50,7 +50,7 @@ loop-number-preserved c =
     let types = length c.args.net.now.types in
     let before = c.loop-number.block.names in
     let block = c.with-more.result in
-    let shown = shown_of_net c.args.net.now c.nets-count.ensures.elaborated signals c.signals-signals.ensures number name c.loop-number-test.true c.index-signals-number.is in
+    let shown = shown_of_net c.args.net.now c.is_elaborated.ensures signals c.signals-signals.ensures number name c.loop-number-test.true c.index-signals-number.is in
     let names = take_next signals first before number name c.loop-number-test.true c.loop-number.invariant.0 c.index-signals-number.is in
     let count : before + 1 ≡ block.names = omega (arith, c.with-more.ensures.names) in (
       omega (arith, c.with-more.ensures.names, c.loop-number.invariant.0),

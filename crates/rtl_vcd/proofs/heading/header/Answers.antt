@@ -7,7 +7,7 @@ use Rattle.rtl_vcd.proofs.Scopes.{in_order}
 use Rattle.rtl_vcd.proofs.heading.header.Goals as goal
 
 pub push_scopes-requires-clause-order : goal.push_scopes-requires-clause-order
-push_scopes-requires-clause-order g c = in_order c.signals.result.now (rw c.signals.ensures c.nets-count.ensures.elaborated.signals_in_order)
+push_scopes-requires-clause-order g c = in_order c.signals.result.now (rw c.signals.ensures c.is_elaborated.ensures.signals_in_order)
 
 pub returns-clause-text : goal.returns-clause-text
 returns-clause-text g c =

@@ -18,12 +18,12 @@ none = record { names = 0; least = 0; greatest = 0 }
 
 pub push_changes-is_printed-requires-clause-before : goal.push_changes-is_printed-requires-clause-before
 push_changes-is_printed-requires-clause-before g c =
-    part_shown c.args.net.now c.nets-count.ensures.elaborated c.signals-signals.result.now c.signals-signals.ensures (length c.args.step.now.old.now)
+    part_shown c.args.net.now c.is_elaborated.ensures c.signals-signals.result.now c.signals-signals.ensures (length c.args.step.now.old.now)
     c.loop-block.next (get_or c.args.blocks.now c.loop-block.block-index none).names c.requires.before
 
 pub push_changes-is_printed-requires-clause-after : goal.push_changes-is_printed-requires-clause-after
 push_changes-is_printed-requires-clause-after g c =
-    part_shown c.args.net.now c.nets-count.ensures.elaborated c.signals-signals.result.now c.signals-signals.ensures (length c.args.step.now.new.now)
+    part_shown c.args.net.now c.is_elaborated.ensures c.signals-signals.result.now c.signals-signals.ensures (length c.args.step.now.new.now)
     c.loop-block.next (get_or c.args.blocks.now c.loop-block.block-index none).names c.requires.after
 
 pub push_changes-is_printed-requires-clause-runs : goal.push_changes-is_printed-requires-clause-runs

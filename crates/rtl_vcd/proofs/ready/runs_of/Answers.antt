@@ -8,7 +8,7 @@ use Rattle.rtl_vcd.proofs.ready.runs_of.Goals as goal
 
 pub run_of-requires : goal.run_of-requires
 run_of-requires c =
-    let shown = shown_of_net c.args.net.now c.nets-count.ensures.elaborated c.signals-signals.result.now c.signals-signals.ensures
+    let shown = shown_of_net c.args.net.now c.is_elaborated.ensures c.signals-signals.result.now c.signals-signals.ensures
     c.loop-number.number c.index-signals-number.result c.loop-number-test.true c.index-signals-number.is in
     omega (arith, shown.width.0)
 

@@ -13,7 +13,7 @@ push_arrows_by-requires g c =
     let found : slice_get net.processes c.args.number ≡ Some x =
     subst (λ (ps : List Process). slice_get ps c.args.number ≡ Some x) c.processes.ensures
     (process_there c.processes.result.now c.args.number x c.in-Some.ensures.lookup.3.0 (c.in-Some.ensures.lookup.3.1 x)) in
-    record { there = subst (λ (ns : List ℕ). All (λ n. n < length net.types) ns) (sym c.as_slice.ensures) (wakes_there net c.nets-count.ensures.elaborated c.args.number x found) }
+    record { there = subst (λ (ns : List ℕ). All (λ n. n < length net.types) ns) (sym c.as_slice.ensures) (wakes_there net c.is_elaborated.ensures c.args.number x found) }
 
 pub returns : goal.returns
 returns g c =

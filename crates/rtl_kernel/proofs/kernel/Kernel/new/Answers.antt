@@ -17,7 +17,7 @@ use Rattle.rtl_kernel.proofs.kernel.Kernel.new.Goals as goal
 
 pub driver_cuts-requires : goal.driver_cuts-requires
 driver_cuts-requires g c =
-    rw (c.processes-processes.ensures, c.of_net.ensures.value, c.in_ok-layout.ensures.as_many) (nets_there c.args.net.now c.nets-nets.ensures.elaborated.in_range)
+    rw (c.processes-processes.ensures, c.of_net.ensures.value, c.in_ok-layout.ensures.as_many) (nets_there c.args.net.now c.is_elaborated.ensures.in_range)
 
 pub new-requires-clause-runs : goal.new-requires-clause-runs
 new-requires-clause-runs g c = subst (λ (h : Grouping). AreRuns h.of_net h.first) (sym c.layout.view_is) c.in_ok-layout.ensures.runs
@@ -27,7 +27,7 @@ new-requires-clause-each_group g c = subst (λ (h : Grouping). length h.listed �
 
 pub new-requires-clause-each_net : goal.new-requires-clause-each_net
 new-requires-clause-each_net g c =
-    let R = c.nets-nets.ensures.elaborated.in_range in
+    let R = c.is_elaborated.ensures.in_range in
     let many = ap (λ (h : Grouping). length h.of_net) c.layout.view_is ∙ c.in_ok-layout.ensures.as_many in
     let codes = ap length (c.deref.ensures.value ∙ c.in_ok-starting_codes.ensures) in
     omega (arith, many, R.each_starts, codes)
@@ -35,14 +35,14 @@ new-requires-clause-each_net g c =
 pub set_each-requires-clause-there : goal.set_each-requires-clause-there
 set_each-requires-clause-there g c =
     let net = c.args.net.now in
-    let R = c.nets-nets.ensures.elaborated.in_range in
+    let R = c.is_elaborated.ensures.in_range in
     let start : c.in_ok-values.values.current ≡ net.starts = ap (λ (v : TwoValues). v.current) c.in_ok-values.ensures ∙ c.deref.ensures.value ∙ c.in_ok-starting_codes.ensures in
     λ k d l. rw (c.inputs.ensures, start, R.each_starts) (slice_get_within net.types _ nine_valued (R.inputs k d (rw (c.inputs.ensures) at l)))
 
 pub invariant_of-result : goal.invariant_of-result
 invariant_of-result g c =
     let net = c.args.net.now in
-    let N = c.nets-nets.ensures.elaborated in
+    let N = c.is_elaborated.ensures in
     let v = c.begin.new.self in
     let start : c.in_ok-values.values.current ≡ net.starts = ap (λ (v : TwoValues). v.current) c.in_ok-values.ensures ∙ c.deref.ensures.value ∙ c.in_ok-starting_codes.ensures in
     let same : v.groups ≡ c.in_ok-layout.layout = ap (λ (v : TwoValues). v.groups) c.begin.ensures ∙ c.set_each.ensures.groups ∙ ap (λ (v : TwoValues). v.groups) c.in_ok-values.ensures ∙ c.layout.view_is in
@@ -64,7 +64,7 @@ invariant_of-result g c =
 pub returns : goal.returns
 returns g c =
     let net = c.args.net.now in
-    let N = c.nets-nets.ensures.elaborated in
+    let N = c.is_elaborated.ensures in
     let start : c.in_ok-values.values.current ≡ net.starts = ap (λ (v : TwoValues). v.current) c.in_ok-values.ensures ∙ c.deref.ensures.value ∙ c.in_ok-starting_codes.ensures in
     let state = is_started g.E.Exec.process g.E.Exec.types g.E.Exec.most net c.args.bodies.now
     c.begin.new.self c.in_ok-drivers.drivers c.in_ok-resumed.resumed c.args.initial.now

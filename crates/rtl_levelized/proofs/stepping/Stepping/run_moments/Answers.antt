@@ -62,7 +62,7 @@ step-requires-clause-inputs g c =
     let last = is_at_last net s I.run out (g.W.Sink.state c.loop-time.out) p I.come I.m I.is_last in
     let behind = g.A.Agenda.state c.next.new.self in
     let turn = comes_next s c.stop-stop.ensures.holds p I.m I.is_last last.1 last.0 (g.A.Agenda.state c.loop-time.agenda) (g.met.A.Agenda.orderly c.loop-time.agenda) I.waits c.in-Some.time behind c.in-Some.ensures.least in
-    changes_inputs c.each_machine_goes_on_alike.ensures net c.nets-count.ensures.elaborated c.requires.accepted.accepted s c.requires.ports c.requires.inputs bound I.run I.synchronous
+    changes_inputs c.each_machine_goes_on_alike.ensures net c.is_elaborated.ensures c.requires.accepted.accepted s c.requires.ports c.requires.inputs bound I.run I.synchronous
     I.m c.in-Some.time behind.taken turn.next c.loop-time.machine.values I.values c.loop-time.machine.net I.net c.changes.result.now c.changes.ensures
 
 pub step-requires-clause-raceless : goal.step-requires-clause-raceless
@@ -76,7 +76,7 @@ step-requires-clause-raceless g c =
     let last = is_at_last net s I.run out (g.W.Sink.state c.loop-time.out) p I.come I.m I.is_last in
     let behind = g.A.Agenda.state c.next.new.self in
     let turn = comes_next s c.stop-stop.ensures.holds p I.m I.is_last last.1 last.0 (g.A.Agenda.state c.loop-time.agenda) (g.met.A.Agenda.orderly c.loop-time.agenda) I.waits c.in-Some.time behind c.in-Some.ensures.least in
-    changes_race c.each_machine_goes_on_alike.ensures net c.nets-count.ensures.elaborated c.requires.accepted.accepted s c.requires.ports c.requires.inputs bound I.run I.synchronous
+    changes_race c.each_machine_goes_on_alike.ensures net c.is_elaborated.ensures c.requires.accepted.accepted s c.requires.ports c.requires.inputs bound I.run I.synchronous
     I.m c.in-Some.time behind.taken turn.next c.loop-time.machine.values I.values c.loop-time.machine.net I.net c.changes.result.now c.changes.ensures c.requires.raceless
 
 pub refill-requires-clause-waited : goal.refill-requires-clause-waited
@@ -124,7 +124,7 @@ loop-time-smaller g c =
     let last = is_at_last net s I.run out (g.W.Sink.state c.loop-time.out) p I.come I.m I.is_last in
     let behind = g.A.Agenda.state c.next.new.self in
     let turn = comes_next s c.stop-stop.ensures.holds p I.m I.is_last last.1 last.0 (g.A.Agenda.state c.loop-time.agenda) (g.met.A.Agenda.orderly c.loop-time.agenda) I.waits c.in-Some.time behind c.in-Some.ensures.least in
-    let now = steps_to c.each_machine_goes_on_alike.ensures net c.nets-count.ensures.elaborated c.requires.accepted.accepted s c.requires.ports c.requires.inputs bound I.run I.synchronous
+    let now = steps_to c.each_machine_goes_on_alike.ensures net c.is_elaborated.ensures c.requires.accepted.accepted s c.requires.ports c.requires.inputs bound I.run I.synchronous
     I.m c.in-Some.time behind.taken turn.next c.loop-time.machine.values I.values c.loop-time.machine.net I.net c.changes.result.now c.changes.ensures c.step.new.self.values c.step.ensures.step in
     let has = c.in_ok-go_on.ensures.goes_on I.run I.synchronous out c.requires.intact I.come (is_next net s I.run p I.m c.in-Some.time behind.taken turn c.step.new.self.values now) in
     omega (arith, turn.after, turn.within, has.2)
@@ -140,7 +140,7 @@ loop-time-preserved g c =
     let last = is_at_last net s I.run out (g.W.Sink.state c.loop-time.out) p I.come I.m I.is_last in
     let behind = g.A.Agenda.state c.next.new.self in
     let turn = comes_next s c.stop-stop.ensures.holds p I.m I.is_last last.1 last.0 (g.A.Agenda.state c.loop-time.agenda) (g.met.A.Agenda.orderly c.loop-time.agenda) I.waits c.in-Some.time behind c.in-Some.ensures.least in
-    let now = steps_to c.each_machine_goes_on_alike.ensures net c.nets-count.ensures.elaborated c.requires.accepted.accepted s c.requires.ports c.requires.inputs bound I.run I.synchronous
+    let now = steps_to c.each_machine_goes_on_alike.ensures net c.is_elaborated.ensures c.requires.accepted.accepted s c.requires.ports c.requires.inputs bound I.run I.synchronous
     I.m c.in-Some.time behind.taken turn.next c.loop-time.machine.values I.values c.loop-time.machine.net I.net c.changes.result.now c.changes.ensures c.step.new.self.values c.step.ensures.step in
     let has = c.in_ok-go_on.ensures.goes_on I.run I.synchronous out c.requires.intact I.come (is_next net s I.run p I.m c.in-Some.time behind.taken turn c.step.new.self.values now) in
     record {
@@ -171,7 +171,7 @@ returns-in_err-go_on-clause-traces g c =
     let last = is_at_last net s I.run out (g.W.Sink.state c.loop-time.out) p I.come I.m I.is_last in
     let behind = g.A.Agenda.state c.next.new.self in
     let turn = comes_next s c.stop-stop.ensures.holds p I.m I.is_last last.1 last.0 (g.A.Agenda.state c.loop-time.agenda) (g.met.A.Agenda.orderly c.loop-time.agenda) I.waits c.in-Some.time behind c.in-Some.ensures.least in
-    let now = steps_to c.each_machine_goes_on_alike.ensures net c.nets-count.ensures.elaborated c.requires.accepted.accepted s c.requires.ports c.requires.inputs bound I.run I.synchronous
+    let now = steps_to c.each_machine_goes_on_alike.ensures net c.is_elaborated.ensures c.requires.accepted.accepted s c.requires.ports c.requires.inputs bound I.run I.synchronous
     I.m c.in-Some.time behind.taken turn.next c.loop-time.machine.values I.values c.loop-time.machine.net I.net c.changes.result.now c.changes.ensures c.step.new.self.values c.step.ensures.step in
     err_with (TracesLevels net s bound out (g.W.Sink.state c.go_on.new.out)) c.from_residual-in_err-go_on.result c.in_err-go_on.field-0.0 c.from_residual-in_err-go_on.ensures.1
     (c.in_err-go_on.ensures.goes_on I.run I.synchronous out c.requires.intact I.come (is_next net s I.run p I.m c.in-Some.time behind.taken turn c.step.new.self.values now))

@@ -20,7 +20,7 @@ returns-in_err-load-clause-traces g c =
     let s = c.args.self.now.stimulus.now in
     let bound = c.args.self.now.bound in
     let out = g.W.Sink.state c.args.out.now in
-    let run = c.accepted_nets_are_synchronous.ensures net bound (inputs_at s) c.nets-count.ensures.elaborated c.requires.accepted c.requires.raceless in
+    let run = c.accepted_nets_are_synchronous.ensures net bound (inputs_at s) c.is_elaborated.ensures c.requires.accepted c.requires.raceless in
     err_with (TracesLevels net s bound out out) c.from_residual.result Memory c.from_residual.ensures.1 (nothing_leaves net s bound run.0 run.1 out, c.requires.intact)
 
 pub returns-in_err-blocks-clause-traces : goal.returns-in_err-blocks-clause-traces
@@ -29,7 +29,7 @@ returns-in_err-blocks-clause-traces g c =
     let s = c.args.self.now.stimulus.now in
     let bound = c.args.self.now.bound in
     let out = g.W.Sink.state c.args.out.now in
-    let run = c.accepted_nets_are_synchronous.ensures net bound (inputs_at s) c.nets-count.ensures.elaborated c.requires.accepted c.requires.raceless in
+    let run = c.accepted_nets_are_synchronous.ensures net bound (inputs_at s) c.is_elaborated.ensures c.requires.accepted c.requires.raceless in
     err_with (TracesLevels net s bound out out) c.from_residual-in_err-blocks.result Memory c.from_residual-in_err-blocks.ensures.1 (nothing_leaves net s bound run.0 run.1 out, c.requires.intact)
 
 pub returns-in_err-machine-clause-traces : goal.returns-in_err-machine-clause-traces
@@ -38,7 +38,7 @@ returns-in_err-machine-clause-traces g c =
     let s = c.args.self.now.stimulus.now in
     let bound = c.args.self.now.bound in
     let out = g.W.Sink.state c.args.out.now in
-    let run = c.accepted_nets_are_synchronous.ensures net bound (inputs_at s) c.nets-count.ensures.elaborated c.requires.accepted c.requires.raceless in
+    let run = c.accepted_nets_are_synchronous.ensures net bound (inputs_at s) c.is_elaborated.ensures c.requires.accepted c.requires.raceless in
     err_with (TracesLevels net s bound out out) c.from_residual-in_err-machine.result Memory c.from_residual-in_err-machine.ensures.1 (nothing_leaves net s bound run.0 run.1 out, c.requires.intact)
 
 pub run_moments-requires-clause-run : goal.run_moments-requires-clause-run
@@ -46,7 +46,7 @@ run_moments-requires-clause-run g c =
     let net = c.args.self.now.net.now in
     let s = c.args.self.now.stimulus.now in
     let bound = c.args.self.now.bound in
-    let is_net = c.nets-count.ensures.elaborated in
+    let is_net = c.is_elaborated.ensures in
     let run = c.accepted_nets_are_synchronous.ensures net bound (inputs_at s) is_net c.requires.accepted c.requires.raceless in
     let values = c.in_ok-machine.machine.values in
     let first = subst (λ (vs : List Nine). IsFirst (core net) (initial_inputs (flat net) vs) values) c.initial-initial.ensures c.in_ok-machine.ensures.first in
@@ -57,7 +57,7 @@ returns-in_err-load-clause-failing g c =
     let net = c.args.self.now.net.now in
     let s = c.args.self.now.stimulus.now in
     let bound = c.args.self.now.bound in
-    let run = c.accepted_nets_are_synchronous.ensures net bound (inputs_at s) c.nets-count.ensures.elaborated c.requires.accepted c.requires.raceless in
+    let run = c.accepted_nets_are_synchronous.ensures net bound (inputs_at s) c.is_elaborated.ensures c.requires.accepted c.requires.raceless in
     any_err _ c.from_residual.result (told_nothing net s bound run.0 run.1 _ (g.met.V.Watch.nothing c.args.watch.now))
 
 pub returns-in_err-blocks-clause-failing : goal.returns-in_err-blocks-clause-failing
@@ -65,7 +65,7 @@ returns-in_err-blocks-clause-failing g c =
     let net = c.args.self.now.net.now in
     let s = c.args.self.now.stimulus.now in
     let bound = c.args.self.now.bound in
-    let run = c.accepted_nets_are_synchronous.ensures net bound (inputs_at s) c.nets-count.ensures.elaborated c.requires.accepted c.requires.raceless in
+    let run = c.accepted_nets_are_synchronous.ensures net bound (inputs_at s) c.is_elaborated.ensures c.requires.accepted c.requires.raceless in
     any_err _ c.from_residual-in_err-blocks.result (told_nothing net s bound run.0 run.1 _ (g.met.V.Watch.nothing c.args.watch.now))
 
 pub returns-in_err-machine-clause-failing : goal.returns-in_err-machine-clause-failing
@@ -73,5 +73,5 @@ returns-in_err-machine-clause-failing g c =
     let net = c.args.self.now.net.now in
     let s = c.args.self.now.stimulus.now in
     let bound = c.args.self.now.bound in
-    let run = c.accepted_nets_are_synchronous.ensures net bound (inputs_at s) c.nets-count.ensures.elaborated c.requires.accepted c.requires.raceless in
+    let run = c.accepted_nets_are_synchronous.ensures net bound (inputs_at s) c.is_elaborated.ensures c.requires.accepted c.requires.raceless in
     any_err _ c.from_residual-in_err-machine.result (told_nothing net s bound run.0 run.1 _ (g.met.V.Watch.nothing c.args.watch.now))

@@ -71,7 +71,7 @@ apply-requires-clause-inputs g c =
     let I = c.loop-time.invariant in
     let behind = g.A.Agenda.state c.next.new.self in
     let turn = comes_next s c.stop-stop.ensures.holds c.loop-time.progress I.m I.is_last I.there I.at (g.A.Agenda.state c.loop-time.agenda) (g.met.A.Agenda.orderly c.loop-time.agenda) I.waits c.in-Some.time behind c.in-Some.ensures.least in
-    changes_inputs s c.loop-time.progress I.m c.in-Some.time behind.taken turn net c.nets-count.ensures.elaborated c.requires.ports c.requires.inputs c.loop-time.kernel.net I.net c.changes.result.now c.changes.ensures
+    changes_inputs s c.loop-time.progress I.m c.in-Some.time behind.taken turn net c.is_elaborated.ensures c.requires.ports c.requires.inputs c.loop-time.kernel.net I.net c.changes.result.now c.changes.ensures
 
 pub refill-requires-clause-waited : goal.refill-requires-clause-waited
 refill-requires-clause-waited g c =
@@ -104,7 +104,7 @@ loop-time-smaller g c =
     let turn = comes_next s c.stop-stop.ensures.holds c.loop-time.progress I.m I.is_last I.there I.at (g.A.Agenda.state c.loop-time.agenda) (g.met.A.Agenda.orderly c.loop-time.agenda) I.waits c.in-Some.time behind c.in-Some.ensures.least in
     let limit = c.args.self.now.limit in
     let out = g.W.Sink.state c.args.out.now in
-    let is_next = begins_next s c.loop-time.progress I.m c.in-Some.time behind.taken turn net c.nets-count.ensures.elaborated c.requires.ports c.requires.inputs c.loop-time.kernel.net I.net c.changes.result.now c.changes.ensures limit c.loop-time.kernel.state c.apply.new.self.state (ap length (sym I.values) ∙ I.as_many) I.settled c.apply.ensures.ran in
+    let is_next = begins_next s c.loop-time.progress I.m c.in-Some.time behind.taken turn net c.is_elaborated.ensures c.requires.ports c.requires.inputs c.loop-time.kernel.net I.net c.changes.result.now c.changes.ensures limit c.loop-time.kernel.state c.apply.new.self.state (ap length (sym I.values) ∙ I.as_many) I.settled c.apply.ensures.ran in
     let has = c.in_ok-go_on.ensures.goes_on out I.come is_next in
     omega (arith, turn.after, turn.within, has.2)
 
@@ -117,7 +117,7 @@ loop-time-preserved g c =
     let turn = comes_next s c.stop-stop.ensures.holds c.loop-time.progress I.m I.is_last I.there I.at (g.A.Agenda.state c.loop-time.agenda) (g.met.A.Agenda.orderly c.loop-time.agenda) I.waits c.in-Some.time behind c.in-Some.ensures.least in
     let limit = c.args.self.now.limit in
     let out = g.W.Sink.state c.args.out.now in
-    let is_next = begins_next s c.loop-time.progress I.m c.in-Some.time behind.taken turn net c.nets-count.ensures.elaborated c.requires.ports c.requires.inputs c.loop-time.kernel.net I.net c.changes.result.now c.changes.ensures limit c.loop-time.kernel.state c.apply.new.self.state (ap length (sym I.values) ∙ I.as_many) I.settled c.apply.ensures.ran in
+    let is_next = begins_next s c.loop-time.progress I.m c.in-Some.time behind.taken turn net c.is_elaborated.ensures c.requires.ports c.requires.inputs c.loop-time.kernel.net I.net c.changes.result.now c.changes.ensures limit c.loop-time.kernel.state c.apply.new.self.state (ap length (sym I.values) ∙ I.as_many) I.settled c.apply.ensures.ran in
     let has = c.in_ok-go_on.ensures.goes_on out I.come is_next in
     let last = at_last net s limit out (g.W.Sink.state c.go_on.new.out) c.go_on.new.progress has.0 c.loop-time.progress.summary.moments (sym has.1) in
     record {
@@ -150,7 +150,7 @@ returns-in_err-go_on-clause-answers g c =
     let turn = comes_next s c.stop-stop.ensures.holds c.loop-time.progress I.m I.is_last I.there I.at (g.A.Agenda.state c.loop-time.agenda) (g.met.A.Agenda.orderly c.loop-time.agenda) I.waits c.in-Some.time behind c.in-Some.ensures.least in
     let limit = c.args.self.now.limit in
     let out = g.W.Sink.state c.args.out.now in
-    let is_next = begins_next s c.loop-time.progress I.m c.in-Some.time behind.taken turn net c.nets-count.ensures.elaborated c.requires.ports c.requires.inputs c.loop-time.kernel.net I.net c.changes.result.now c.changes.ensures limit c.loop-time.kernel.state c.apply.new.self.state (ap length (sym I.values) ∙ I.as_many) I.settled c.apply.ensures.ran in
+    let is_next = begins_next s c.loop-time.progress I.m c.in-Some.time behind.taken turn net c.is_elaborated.ensures c.requires.ports c.requires.inputs c.loop-time.kernel.net I.net c.changes.result.now c.changes.ensures limit c.loop-time.kernel.state c.apply.new.self.state (ap length (sym I.values) ∙ I.as_many) I.settled c.apply.ensures.ran in
     err_with (Answers net s limit out (g.W.Sink.state c.go_on.new.out)) c.from_residual-in_err-go_on.result c.in_err-go_on.field-0.0 c.from_residual-in_err-go_on.ensures.1
     (c.in_err-go_on.ensures.goes_on out I.come is_next)
 
@@ -250,7 +250,7 @@ returns-in_err-go_on-clause-failing g c =
     let are = stands_more net s limit I.m c.in-Some.time c.loop-time.kernel.state I.stands I.are I.many I.settled c.deref.result.now
     (sym I.values ∙ sym c.deref.ensures.value) (sym (until_next s I.m c.in-Some.time behind.taken turn.next)) in
     let many = one_stand_more I.stands x ∙ ap suc I.many in
-    let is_next = begins_next s c.loop-time.progress I.m c.in-Some.time behind.taken turn net c.nets-count.ensures.elaborated c.requires.ports c.requires.inputs c.loop-time.kernel.net I.net c.changes.result.now c.changes.ensures limit c.loop-time.kernel.state c.apply.new.self.state (ap length (sym I.values) ∙ I.as_many) I.settled c.apply.ensures.ran in
+    let is_next = begins_next s c.loop-time.progress I.m c.in-Some.time behind.taken turn net c.is_elaborated.ensures c.requires.ports c.requires.inputs c.loop-time.kernel.net I.net c.changes.result.now c.changes.ensures limit c.loop-time.kernel.state c.apply.new.self.state (ap length (sym I.values) ∙ I.as_many) I.settled c.apply.ensures.ran in
     let Told : List Stand → Type 0 = λ stands. g.V.Watch.told c.args.watch.now stands c.go_on.new.watch in
     let Stuck : List Stand → List ℕ → List ℕ → ℕ → Type 0 = λ stands before now time. g.V.Watch.stuck c.args.watch.now stands before now time c.go_on.new.watch in
     told_of net s limit Told Stuck c.from_residual-in_err-go_on.result c.in_err-go_on.field-0.0 c.from_residual-in_err-go_on.ensures.1

@@ -11,14 +11,14 @@ use Rattle.rtl_stim.proofs.Stops.{stops_in_time}
 use Rattle.rtl_stim.proofs.stimulus.Stimulus.read.Goals as goal
 
 pub read_schedule-requires : goal.read_schedule-requires
-read_schedule-requires c = subst AreVectors (sym c.in_ok-inputs.ensures) (are_vectors c.args.net.now c.nets-count.ensures.elaborated)
+read_schedule-requires c = subst AreVectors (sym c.in_ok-inputs.ensures) (are_vectors c.args.net.now c.is_elaborated.ensures)
 
 pub with_initial-requires-clause-stimulus : goal.with_initial-requires-clause-stimulus
 with_initial-requires-clause-stimulus c = record {
-  own_nets = subst HaveOwnNets (sym c.in_ok-inputs.ensures) (have_own_nets c.args.net.now c.nets-count.ensures.elaborated c.requires);
+  own_nets = subst HaveOwnNets (sym c.in_ok-inputs.ensures) (have_own_nets c.args.net.now c.is_elaborated.ensures c.requires);
   each_course = omega (arith, length-map c.in_ok-schedule.schedule.courses.items course_view, c.in_ok-schedule.schedule.courses.ok.0, c.in_ok-schedule.ensures.each);
   have_elements = subst (λ (inputs : List Input). All (λ input. 1 ≤ length input.elements) inputs) (sym c.in_ok-inputs.ensures)
-      (All-weaker (λ input. IsVector input.elements) (λ input. 1 ≤ length input.elements) (λ input wide. wide.0) (inputs_of c.args.net.now) (are_vectors c.args.net.now c.nets-count.ensures.elaborated));
+      (All-weaker (λ input. IsVector input.elements) (λ input. 1 ≤ length input.elements) (λ input wide. wide.0) (inputs_of c.args.net.now) (are_vectors c.args.net.now c.is_elaborated.ensures));
 }
 
 pub with_initial-requires-clause-in_time : goal.with_initial-requires-clause-in_time

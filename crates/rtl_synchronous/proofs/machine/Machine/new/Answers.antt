@@ -18,31 +18,31 @@ use Rattle.rtl_synchronous.proofs.machine.Machine.new.Goals as goal
 pub set_each-requires-clause-there : goal.set_each-requires-clause-there
 set_each-requires-clause-there g c =
     let net = c.args.net.now in
-    let R = c.nets-count.ensures.elaborated.in_range in
+    let R = c.is_elaborated.ensures.in_range in
     λ k d l. rw (c.inputs.ensures, c.in_ok-values.ensures, R.each_starts) (slice_get_within net.types _ nine_valued (R.inputs k d (rw (c.inputs.ensures) at l)))
 
 pub come_to_rest-requires-clause-may : goal.come_to_rest-requires-clause-may
 come_to_rest-requires-clause-may g c =
-    let N = c.nets-count.ensures.elaborated in
+    let N = c.is_elaborated.ensures in
     record { in_range = N.in_range; connected = N.connected; accepted = c.requires.accepted; run_bodies = c.requires.bodies; room = c.in_ok-runs.ensures }
 
 pub come_to_rest-requires-clause-before : goal.come_to_rest-requires-clause-before
 come_to_rest-requires-clause-before g c =
-    let N = c.nets-count.ensures.elaborated in
+    let N = c.is_elaborated.ensures in
     let now = c.set_each.new.values.items in
     let A : AreChanged (each_given c.args.net.now.inputs c.args.initial.now) c.args.net.now.starts now = rw (c.inputs.ensures, c.in_ok-values.ensures) at c.set_each.ensures in
     rw (c.deref-2.ensures.value, c.in_ok-before.ensures.items, c.deref.ensures.value) (first_in_range (flat c.args.net.now) N.in_range N.connected c.args.initial.now now A)
 
 pub come_to_rest-requires-clause-in_range : goal.come_to_rest-requires-clause-in_range
 come_to_rest-requires-clause-in_range g c =
-    let N = c.nets-count.ensures.elaborated in
+    let N = c.is_elaborated.ensures in
     let now = c.set_each.new.values.items in
     let A : AreChanged (each_given c.args.net.now.inputs c.args.initial.now) c.args.net.now.starts now = rw (c.inputs.ensures, c.in_ok-values.ensures) at c.set_each.ensures in
     first_in_range (flat c.args.net.now) N.in_range N.connected c.args.initial.now now A
 
 pub come_to_rest-requires-clause-each_reader : goal.come_to_rest-requires-clause-each_reader
 come_to_rest-requires-clause-each_reader g c =
-    let N = c.nets-count.ensures.elaborated in
+    let N = c.is_elaborated.ensures in
     c.in_ok-schedule.ensures.each_reader ∙ sym N.in_range.each_starts ∙ sym (ap length c.in_ok-values.ensures) ∙ sym c.set_each.ensures.as_many
 
 pub come_to_rest-requires-clause-each_process : goal.come_to_rest-requires-clause-each_process
@@ -58,7 +58,7 @@ come_to_rest-requires-clause-clocked g c =
 pub returns-clause-first : goal.returns-clause-first
 returns-clause-first g c =
     let net = c.args.net.now in
-    let N = c.nets-count.ensures.elaborated in
+    let N = c.is_elaborated.ensures in
     let (greatest, V) = c.requires.levels in
     let now = c.set_each.new.values.items in
     let A : AreChanged (each_given net.inputs c.args.initial.now) net.starts now = rw (c.inputs.ensures, c.in_ok-values.ensures) at c.set_each.ensures in
@@ -70,7 +70,7 @@ returns-clause-first g c =
 pub invariant_of-result : goal.invariant_of-result
 invariant_of-result g c =
     let net = c.args.net.now in
-    let N = c.nets-count.ensures.elaborated in
+    let N = c.is_elaborated.ensures in
     let (greatest, V) = c.requires.levels in
     let schedule = c.in_ok-schedule.schedule in
     let now = c.set_each.new.values.items in
