@@ -31,7 +31,7 @@ use vhdl_names_instances::InstanceEntities;
 use vhdl_names_interfaces::{EntityInterface, architecture_sight};
 use vhdl_names_labels::copied;
 use vhdl_names_rules::NameFault;
-use vhdl_names_types::{Region, Sight};
+use vhdl_names_types::{Region, Sight, names_are_apart};
 use vhdl_names_units::{Architecture, Declaration};
 use vhdl_tree as syntax;
 
@@ -47,12 +47,12 @@ fn declare_each(
     ensures past { HasMemory result → region_view region.new
         ≡ with_labels (region_view region.old) (concurrent_labels (t.concurrents_of (map view.concurrent_view statements.now))) }
 {
-    let _apart = region.len();
+    names_are_apart(region);
     let mut told: Result<(), NameFault> = Ok(());
     for statement in statements {
         told = first_of(told, declare_label(alloc, region, statement));
     }
-    let _apart = region.len();
+    names_are_apart(region);
     told
 }
 

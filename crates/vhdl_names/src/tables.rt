@@ -12,6 +12,7 @@ use std::alloc::Global;
 use vhdl_names_instances::{Formals, InstanceEntities, Names, add_name, formals_of};
 use vhdl_names_interfaces::{Entities, EntityInterface};
 use vhdl_names_rules::NameFault;
+use vhdl_names_types::names_are_apart;
 
 /// What the architectures of a file are read among: the names of its entities, the entities that are
 /// given, and these as instances see them.
@@ -26,7 +27,7 @@ pub struct Given<'o, 'a> {
 fn seen_of(alloc: Global, entity: &EntityInterface<'_>) -> Result<Formals, NameFault>
     ensures { Gives seen_view (Some (seen (entity_view entity.now))) result }
 {
-    let _apart = entity.region.len();
+    names_are_apart(&entity.region);
     formals_of(alloc, &entity.region, &entity.architecture)
 }
 
@@ -53,7 +54,7 @@ pub fn table(
 ) -> Result<InstanceEntities, NameFault>
     ensures { Gives table_view (Some (steps.table_of (entities_view entities.now))) result }
 {
-    let _apart = entities.len();
+    names_are_apart(entities);
     let mut table = InstanceEntities {
         names: IndexSet::new(alloc),
         formals: Vec::new(alloc),

@@ -24,7 +24,7 @@ use vhdl_names_declarations::enumeration::enumeration;
 use vhdl_names_declarations::objects::signals;
 use vhdl_names_interfaces::Entities;
 use vhdl_names_rules::NameFault;
-use vhdl_names_types::Sight;
+use vhdl_names_types::{Sight, names_are_apart};
 use vhdl_names_units::Declaration;
 use vhdl_tree as syntax;
 
@@ -94,7 +94,7 @@ pub fn declarations(
         (map tree.declaration_view all.now))) }
 {
     let mut done = Vec::new(alloc);
-    let _apart = sight.region.len();
+    names_are_apart(&sight.region);
     let mut counts = Counts::NONE.of(&sight.region, 0);
     for one in all {
         let first = sight.region.len();

@@ -22,7 +22,7 @@ use std::mem;
 use vhdl_names_declarations::{declare, ends};
 use vhdl_names_interfaces::{Entities, entity_named, interface_of};
 use vhdl_names_rules::{NameFault, NameProblem};
-use vhdl_names_types::{Meaning, Region, Sight};
+use vhdl_names_types::{Meaning, Region, Sight, names_are_apart};
 use vhdl_tree::{Component, Entity, Identifier};
 
 /// A name that stands in a region is Twice in it if it is declared once more.
@@ -31,7 +31,7 @@ fn is_new(region: &Region, name: &Identifier) -> Result<(), NameFault>
     ensures fault { IfErr result (λ f. f ≡ At Twice name.now.at) }
     ensures told { IfErr result (Tells (standing_twice (region_view region.now) (ident_view name.now ∷ []))) }
 {
-    let _apart = region.len();
+    names_are_apart(region);
     if region.contains_key(name.text.as_slice()) {
         Err(NameProblem::Twice.at(name.at))
     } else {

@@ -13,7 +13,7 @@ ghost use Rattle.vhdl_names_problems.specs.Declarations as broken;
 use crate::region::declare;
 use std::alloc::Global;
 use vhdl_names_rules::{NameFault, NameProblem};
-use vhdl_names_types::{Meaning, Region, Sight};
+use vhdl_names_types::{Meaning, Region, Sight, names_are_apart};
 use vhdl_tree::{Enumeration, Identifier};
 
 /// The literals of an enumeration, by position.
@@ -27,7 +27,7 @@ fn literals(
         (more (region_view region.old) (rules.literals number (length literals.now) 0 (names_of (map ident_view literals.now)))) result }
     ensures told { IfErr result (Tells (broken.standing_twice (region_view region.old) (map ident_view literals.now))) }
 {
-    let _apart = region.len();
+    names_are_apart(region);
     let count = literals.len();
     for (position, literal) in literals.iter().enumerate() {
         let meaning = Meaning::Literal {
@@ -37,7 +37,7 @@ fn literals(
         };
         declare(alloc, region, literal, meaning)?;
     }
-    let _apart = region.len();
+    names_are_apart(region);
     Ok(())
 }
 

@@ -25,7 +25,7 @@ use crate::region::{hide, settle};
 use std::alloc::Global;
 use vhdl_names_expressions::static_integer;
 use vhdl_names_rules::{IntegerType, NameFault, NameProblem, Static};
-use vhdl_names_types::{Meaning, Sight, meaning_of};
+use vhdl_names_types::{Meaning, Sight, meaning_of, names_are_apart};
 use vhdl_names_units::Generics;
 use vhdl_tree::{Expr, Generic};
 
@@ -119,7 +119,7 @@ pub fn generics(
     ensures told { IfErr result (Tells (interfaces_broken.generics (sight_view sight.old) (map generic_view all.now))) }
 {
     let mut done = Vec::new(alloc);
-    let _apart = sight.region.len();
+    names_are_apart(&sight.region);
     let mut counts = Counts::NONE.of(&sight.region, 0);
     for one in all {
         let first = sight.region.len();

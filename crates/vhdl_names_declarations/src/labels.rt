@@ -23,7 +23,7 @@ use crate::region::declare;
 use indexmap::IndexMap;
 use std::alloc::Global;
 use vhdl_names_rules::NameFault;
-use vhdl_names_types::{Meaning, Region};
+use vhdl_names_types::{Meaning, Region, names_are_apart};
 use vhdl_tree::{Concurrent, Identifier};
 
 /// A label, if there is one.
@@ -36,7 +36,7 @@ fn declare_if_any(
     ensures told { IfErr result (Tells (standing_twice (region_view region.old) (label_if_any (option_ident_view label.now)))) }
     ensures kept { IfErr result (λ f. f ≢ NoMemory → region_view region.new ≡ region_view region.old) }
 {
-    let _apart = region.len();
+    names_are_apart(region);
     match label {
         None => Ok(()),
         Some(label) => declare(alloc, region, label, Meaning::Label),
@@ -76,11 +76,11 @@ pub fn declare_labels(
         (more (region_view region.old) (labelled (rules.concurrent_labels (concurrents_of (map concurrent_view statements.now))))) result }
     ensures told { IfErr result (Tells (standing_twice (region_view region.old) (labels_of (concurrents_of (map concurrent_view statements.now))))) }
 {
-    let _apart = region.len();
+    names_are_apart(region);
     for statement in statements {
         declare_label(alloc, region, statement)?;
     }
-    let _apart = region.len();
+    names_are_apart(region);
     Ok(())
 }
 

@@ -24,7 +24,7 @@ use crate::region::{hide, settle};
 use std::alloc::{AllocError, Global};
 use vhdl_names_expressions::{fixed_value, subtype};
 use vhdl_names_rules::{NameFault, ObjectType};
-use vhdl_names_types::Sight;
+use vhdl_names_types::{Sight, names_are_apart};
 use vhdl_names_units::{Declaration, Fixed, Objects, Subtype};
 use vhdl_tree::{Identifier, Signals, Subtype as TreeSubtype, Value, Variables};
 
@@ -134,7 +134,7 @@ pub fn variables(
     ensures told { IfErr result (Tells (broken.in_order with_variables rules.variables broken.variables (sight_view sight.old) (map tree.variables_view all.now))) }
 {
     let mut done = Vec::new(alloc);
-    let _apart = sight.variables.len();
+    names_are_apart(&sight.variables);
     let mut counts = Counts::NONE.of(&sight.variables, 0);
     for one in all {
         let first = sight.variables.len();

@@ -15,7 +15,7 @@ use crate::region::declare_name;
 use indexmap::IndexMap;
 use std::alloc::Global;
 use vhdl_names_rules::{ElementKind, Function, IntegerType, NameFault};
-use vhdl_names_types::{Meaning, Region, Sight};
+use vhdl_names_types::{Meaning, Region, Sight, names_are_apart};
 use vhdl_values::{Counted, Edge};
 
 /// What a package declares.
@@ -122,11 +122,11 @@ fn add_rows(alloc: Global, region: &mut Region, rows: &[Row]) -> Result<(), Name
     ensures given { Gives (λ _. region_view region.new) (more (region_view region.old) (map row_view rows.now)) result }
     ensures told { IfErr result (Tells (refused Twice 0)) }
 {
-    let _apart = region.len();
+    names_are_apart(region);
     for row in rows {
         declare_name(alloc, region, row.name, 0, row.builtin.meaning())?;
     }
-    let _apart = region.len();
+    names_are_apart(region);
     Ok(())
 }
 

@@ -22,7 +22,7 @@ use crate::region::{hide, settle};
 use std::alloc::Global;
 use vhdl_names_expressions::subtype;
 use vhdl_names_rules::{ElementKind, NameFault, NameProblem, ObjectType};
-use vhdl_names_types::Sight;
+use vhdl_names_types::{Sight, names_are_apart};
 use vhdl_names_units::{Fixed, Ports, Subtype};
 use vhdl_tree::{Mode, Port};
 
@@ -90,7 +90,7 @@ pub fn ports(alloc: Global, sight: &mut Sight, all: &[Port]) -> Result<Vec<Ports
     ensures told { IfErr result (Tells (interfaces_broken.ports (sight_view sight.old) (map tree.port_view all.now))) }
 {
     let mut done = Vec::new(alloc);
-    let _apart = sight.region.len();
+    names_are_apart(&sight.region);
     let mut counts = Counts::NONE.of(&sight.region, 0);
     for one in all {
         let first = sight.region.len();

@@ -16,7 +16,7 @@ ghost use Rattle.vhdl_names_problems.specs.Declarations.{standing_twice};
 use crate::class::ObjectClass;
 use std::alloc::{AllocError, Global};
 use vhdl_names_rules::{NameFault, NameProblem};
-use vhdl_names_types::{Meaning, Region};
+use vhdl_names_types::{Meaning, Region, names_are_apart};
 use vhdl_tree::Identifier;
 
 /// One more declaration of a name at byte `at`, which is refused as Twice where the region has the
@@ -32,7 +32,7 @@ pub fn declare_name(
     ensures told { IfErr result (Tells (standing_twice (region_view region.old) (ident at name.now ∷ []))) }
     ensures kept { IfErr result (λ f. f ≢ NoMemory → region_view region.new ≡ region_view region.old) }
 {
-    let _apart = region.len();
+    names_are_apart(region);
     if region.contains_key(name) {
         return Err(NameProblem::Twice.at(at));
     }
@@ -64,11 +64,11 @@ pub fn hide(alloc: Global, region: &mut Region, names: &[Identifier]) -> Result<
         (more (region_view region.old) (all_declared visibility.unfinished (names_of (map ident_view names.now)))) result }
     ensures told { IfErr result (Tells (standing_twice (region_view region.old) (map ident_view names.now))) }
 {
-    let _apart = region.len();
+    names_are_apart(region);
     for name in names {
         declare(alloc, region, name, Meaning::Unfinished)?;
     }
-    let _apart = region.len();
+    names_are_apart(region);
     Ok(())
 }
 

@@ -15,7 +15,7 @@ use indexmap::IndexMap;
 use std::alloc::{AllocError, Global};
 use vhdl_names_declarations::{context_after, copied_values, declare_name, sight_of};
 use vhdl_names_rules::NameFault;
-use vhdl_names_types::{Meaning, Region, Sight};
+use vhdl_names_types::{Meaning, Region, Sight, names_are_apart};
 use vhdl_tree::ContextItem;
 
 /// A copy of what a name is declared to be. It takes the memory of a constant's literal.
@@ -79,13 +79,13 @@ fn copied_region(alloc: Global, region: &Region) -> Result<Region, NameFault>
     ensures given { Gives region_view (Some (region_view region.now)) result }
     ensures told { IfErr result (Tells (nothing)) }
 {
-    let _apart = region.len();
+    names_are_apart(region);
     let mut copy: Region = IndexMap::new(alloc);
     for place in 0..region.len() {
         let (name, meaning) = region.get_index(place).unwrap();
         copy_one(alloc, &mut copy, name.as_slice(), meaning)?;
     }
-    let _apart = copy.len();
+    names_are_apart(&copy);
     Ok(copy)
 }
 

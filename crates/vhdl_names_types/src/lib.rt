@@ -21,5 +21,5 @@ pub use operands::{
 };
 pub use operators::{inverse, operated};
 pub use parts::{part_of, two_arguments};
-pub use sight::{Region, Sight, meaning_of};
+pub use sight::{Region, Sight, meaning_of, names_are_apart};
 pub use types::{Typed, TypedSuffix};

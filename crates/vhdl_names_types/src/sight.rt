@@ -1,6 +1,7 @@
 //! The declarations in sight of a place (IEEE 1076-2008, 12.3).
 
-ghost use Rattle.std.specs.Prelude.{◌≡◌, ℕ, List, map, reverse, option_map, option_copied, IfErr};
+ghost use Rattle.std.specs.Prelude.{◌≡◌, ℕ, List, bytes_eq, map, reverse, option_map, option_copied, IfErr};
+ghost use Rattle.indexmap.specs.IndexMap.{IsUnique};
 ghost use Rattle.vhdl_names_rules.specs.Visibility as visibility;
 ghost use Rattle.vhdl_names_types.specs.Views.{meaning_view, declared_view, sight_view};
 ghost use Rattle.vhdl_names_rules.specs.Gives.{Gives};
@@ -18,6 +19,13 @@ use vhdl_tree::Identifier;
 
 /// What the names of a region mean, in order of declaration.
 pub type Region = IndexMap<Vec<u8>, Meaning>;
+
+/// No name stands twice in a map, for a proof that asks it: nothing is computed.
+pub fn names_are_apart<T>(names: &IndexMap<Vec<u8>, T>)
+    ensures { IsUnique (λ a b. bytes_eq a.items b.items) names.now }
+{
+    let _count = names.len();
+}
 
 /// The declarations in sight of a place. What stands further up hides what stands below it.
 #[derive(Drop)]

@@ -10,7 +10,7 @@ use Rattle.vhdl_names.proofs.Labels.{Labelled, none_labelled, one_more, one_labe
 use Rattle.vhdl_names.proofs.bodies.declare_each.Goals as goal
 
 pub loop-statement-init : goal.loop-statement-init
-loop-statement-init c = none_labelled (region_view c.args.region.now) (labels_in c.args.statements.now) (names_apart c.args.region.now.entries c.len-apart.ensures.unique)
+loop-statement-init c = none_labelled (region_view c.args.region.now) (labels_in c.args.statements.now) (names_apart c.args.region.now.entries c.names_are_apart.ensures)
 
 pub loop-statement-preserved : goal.loop-statement-preserved
 loop-statement-preserved c =

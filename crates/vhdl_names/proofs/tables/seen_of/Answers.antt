@@ -11,5 +11,5 @@ pub returns : goal.returns
 returns c =
     let e = c.args.entity.now in
     gives_along seen_view _ _ _
-    (sym (all_seen (option_map (λ i. i.now.text.items) e.architecture) (region_view e.region) (names_apart e.region.entries c.len-apart.ensures.unique)))
+    (sym (all_seen (option_map (λ i. i.now.text.items) e.architecture) (region_view e.region) (names_apart e.region.entries c.names_are_apart.ensures)))
     c.formals_of.ensures

@@ -16,7 +16,7 @@ returns-in_err-add_seen c =
     let t = table_view c.loop-place.table in
     let at = sym c.get_index.ensures.entry ∙ ap (option_map deref_pair) c.unwrap.ensures in
     let f : c.in_err-add_seen.field-0.0 ≢ NoMemory → Some (table_of (entities_view c.args.entities.now)) ≡ None =
-    λ n. sym (all_tabled (entities_view c.args.entities.now) (entries_apart es c.len-apart.ensures.unique)) ∙ c.loop-place.invariant
+    λ n. sym (all_tabled (entities_view c.args.entities.now) (entries_apart es c.names_are_apart.ensures)) ∙ c.loop-place.invariant
     ∙ fails with_seen entry_view t es i (c.unwrap.result.0.now, c.unwrap.result.1.now) at
     (ap (λ x. with_seen t (named_view x c.unwrap.result.1.now)) (sym c.as_slice.ensures.value) ∙ c.in_err-add_seen.ensures n) in
     passed_on table_view _ c.in_err-add_seen.field-0.0 _ c.from_residual.result c.from_residual.ensures.1 (λ e p. p) f
@@ -33,5 +33,5 @@ loop-place-preserved c =
 pub returns : goal.returns
 returns c =
     let es = c.args.entities.now.entries in
-    sym (all_tabled (entities_view c.args.entities.now) (entries_apart es c.len-apart.ensures.unique)) ∙ c.loop-place.invariant
+    sym (all_tabled (entities_view c.args.entities.now) (entries_apart es c.names_are_apart.ensures)) ∙ c.loop-place.invariant
     ∙ ends with_seen entry_view (table_view c.loop-place.table) es c.loop-place.place (omega arith)

@@ -22,7 +22,7 @@ use Rattle.vhdl_names_components.proofs.architecture.declarations.Goals as goal
 
 pub loop-one-init : goal.loop-one-init
 loop-one-init c = (
-  begins (declaration (entities_view c.args.entities.now)) tree.declaration_view (sight_view c.args.sight.now) c.args.all.now (names_apart c.args.sight.now.region.entries c.len-apart.ensures.unique)
+  begins (declaration (entities_view c.args.entities.now)) tree.declaration_view (sight_view c.args.sight.now) c.args.all.now (names_apart c.args.sight.now.region.entries c.names_are_apart.ensures)
       ∙ ap (λ l. left (declaration (entities_view c.args.entities.now)) tree.declaration_view (sight_view c.args.sight.now) (flat_map declaration_view l) c.args.all.now 0) (sym c.new-done.ensures.items),
   c.of-counts.ensures,
   c.requires,

@@ -47,7 +47,7 @@ loop-position-preserved c =
 pub returns-clause-given : goal.returns-clause-given
 returns-clause-given c =
     c.loop-position.invariant.0
-    ∙ no_literals c.loop-position.region.entries c.args.number (length c.args.literals.now) c.loop-position.position c.args.literals.now (omega arith) c.len-apart-2.ensures.unique
+    ∙ no_literals c.loop-position.region.entries c.args.number (length c.args.literals.now) c.loop-position.position c.args.literals.now (omega arith) c.names_are_apart-2.ensures
 
 pub returns-in_err-declare-clause-told : goal.returns-in_err-declare-clause-told
 returns-in_err-declare-clause-told c =

@@ -20,7 +20,7 @@ use Rattle.vhdl_names_declarations.proofs.generics.generics.Goals as goal
 
 pub loop-one-init : goal.loop-one-init
 loop-one-init c = (
-  begins generic generic_view (sight_view c.args.sight.now) c.args.all.now (names_apart c.args.sight.now.region.entries c.len-apart.ensures.unique)
+  begins generic generic_view (sight_view c.args.sight.now) c.args.all.now (names_apart c.args.sight.now.region.entries c.names_are_apart.ensures)
       ∙ ap (λ l. left generic generic_view (sight_view c.args.sight.now) (flat_map generics_view l) c.args.all.now 0) (sym c.new-done.ensures.items),
   c.of-counts.ensures,
   refl,

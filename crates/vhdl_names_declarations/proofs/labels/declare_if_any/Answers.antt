@@ -10,4 +10,4 @@ use Rattle.vhdl_names_declarations.proofs.labels.declare_if_any.Goals as goal
 pub returns-in-None-clause-given : goal.returns-in-None-clause-given
 returns-in-None-clause-given c =
     ap (λ l. more (region_view c.args.region.now) (labelled (label_names (option_ident_view l)))) c.in-None.is
-    ∙ more_none (region_view c.args.region.now) (names_apart c.args.region.now.entries c.len-apart.ensures.unique)
+    ∙ more_none (region_view c.args.region.now) (names_apart c.args.region.now.entries c.names_are_apart.ensures)

@@ -39,7 +39,7 @@ loop-statement-preserved c =
 
 pub returns-clause-given : goal.returns-clause-given
 returns-clause-given c =
-    c.loop-statement.invariant.0 ∙ no_labels c.loop-statement.region.entries c.args.statements.now c.loop-statement.statement-index (omega arith) c.len-apart-2.ensures.unique
+    c.loop-statement.invariant.0 ∙ no_labels c.loop-statement.region.entries c.args.statements.now c.loop-statement.statement-index (omega arith) c.names_are_apart-2.ensures
 
 pub returns-in_err-declare_label-clause-told : goal.returns-in_err-declare_label-clause-told
 returns-in_err-declare_label-clause-told c =

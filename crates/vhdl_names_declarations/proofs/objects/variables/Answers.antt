@@ -18,7 +18,7 @@ use Rattle.vhdl_names_declarations.proofs.objects.variables.Goals as goal
 
 pub loop-one-init : goal.loop-one-init
 loop-one-init c = (
-  begins_variables variables variables_view (sight_view c.args.sight.now) c.args.all.now (names_apart c.args.sight.now.variables.entries c.len-apart.ensures.unique)
+  begins_variables variables variables_view (sight_view c.args.sight.now) c.args.all.now (names_apart c.args.sight.now.variables.entries c.names_are_apart.ensures)
       ∙ ap (λ l. left_variables variables variables_view (sight_view c.args.sight.now) (flat_map object_view l) c.args.all.now 0) (sym c.new-done.ensures.items),
   c.of-counts.ensures,
   λ f h. h,

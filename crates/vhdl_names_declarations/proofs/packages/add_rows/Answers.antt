@@ -33,7 +33,7 @@ returns-in_err-declare_name-clause-given c =
 
 pub returns-clause-given : goal.returns-clause-given
 returns-clause-given c =
-    c.loop-row.invariant ∙ none_left row_view c.loop-row.region.entries c.args.rows.now c.loop-row.row-index (omega arith) c.len-apart-2.ensures.unique
+    c.loop-row.invariant ∙ none_left row_view c.loop-row.region.entries c.args.rows.now c.loop-row.row-index (omega arith) c.names_are_apart-2.ensures
 
 pub returns-in_err-declare_name-clause-told : goal.returns-in_err-declare_name-clause-told
 unfolding no_row

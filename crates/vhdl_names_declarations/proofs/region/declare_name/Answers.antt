@@ -13,7 +13,7 @@ use Rattle.vhdl_names_declarations.proofs.region.declare_name.Goals as goal
 
 pub returns-then-contains_key-clause-given : goal.returns-then-contains_key-clause-given
 returns-then-contains_key-clause-given c = λ n.
-    refused c.args.region.now.entries c.args.name.now (meaning_view c.args.meaning) c.len-apart.ensures.unique (sym c.contains_key.ensures ∙ c.if-contains_key.true)
+    refused c.args.region.now.entries c.args.name.now (meaning_view c.args.meaning) c.names_are_apart.ensures (sym c.contains_key.ensures ∙ c.if-contains_key.true)
 
 pub returns-clause-given : goal.returns-clause-given
 returns-clause-given c =
@@ -21,7 +21,7 @@ returns-clause-given c =
     let new : is_some (lookup (λ k. bytes_eq c.args.name.now k.items) es) ≡ false = sym c.contains_key.ensures ∙ c.if-contains_key.false in
     let same = c.in_ok-key.ensures.items in
     let gone : lookup (λ m. bytes_eq c.in_ok-key.key.items m.items) es ≡ None = ap (λ x. lookup (λ m. bytes_eq x m.items) es) same ∙ absent es c.args.name.now new in
-    grown es _ c.args.name.now c.in_ok-key.key c.args.meaning c.len-apart.ensures.unique new same
+    grown es _ c.args.name.now c.in_ok-key.key c.args.meaning c.names_are_apart.ensures new same
     (c.in_ok-insert.ensures.entries ∙ insert_entry-new _ c.args.region.now c.in_ok-key.key c.args.meaning gone)
 
 pub returns-then-contains_key-clause-told : goal.returns-then-contains_key-clause-told

@@ -40,7 +40,7 @@ loop-name-preserved c =
 
 pub returns-clause-given : goal.returns-clause-given
 returns-clause-given c =
-    c.loop-name.invariant.0 ∙ no_names c.loop-name.region.entries unfinished c.args.names.now c.loop-name.name-index (omega arith) c.len-apart-2.ensures.unique
+    c.loop-name.invariant.0 ∙ no_names c.loop-name.region.entries unfinished c.args.names.now c.loop-name.name-index (omega arith) c.names_are_apart-2.ensures
 
 pub returns-in_err-declare-clause-told : goal.returns-in_err-declare-clause-told
 returns-in_err-declare-clause-told c =

@@ -19,7 +19,7 @@ returns-in_err-copy_one-clause-given c =
     let i = c.loop-place.place in
     let at = sym c.get_index.ensures.entry ∙ ap (option_map deref_pair) c.unwrap.ensures in
     let f : c.in_err-copy_one.field-0.0 ≢ NoMemory → Some (region_view c.args.region.now) ≡ None =
-    λ n. sym (more_whole es c.len-apart.ensures.unique) ∙ c.loop-place.invariant
+    λ n. sym (more_whole es c.names_are_apart.ensures) ∙ c.loop-place.invariant
     ∙ next_entry (region_view c.loop-place.copy) es i c.unwrap.result.0.now c.unwrap.result.1.now at
     ∙ ap (λ o. o >>= λ r. more r (drop (i + 1) (map entry_view es)))
     (ap (λ t. more (region_view c.loop-place.copy) (declare t (meaning_view c.unwrap.result.1.now) ∷ [])) (sym c.as_slice.ensures.value) ∙ c.in_err-copy_one.ensures.given n) in
@@ -37,8 +37,8 @@ loop-place-preserved c =
 
 pub returns-clause-given : goal.returns-clause-given
 returns-clause-given c =
-    sym (more_whole c.args.region.now.entries c.len-apart.ensures.unique) ∙ c.loop-place.invariant
-    ∙ no_entries c.args.region.now.entries c.loop-place.copy.entries c.loop-place.place (omega arith) c.len-apart-2.ensures.unique
+    sym (more_whole c.args.region.now.entries c.names_are_apart.ensures) ∙ c.loop-place.invariant
+    ∙ no_entries c.args.region.now.entries c.loop-place.copy.entries c.loop-place.place (omega arith) c.names_are_apart-2.ensures
 
 pub returns-in_err-copy_one-clause-told : goal.returns-in_err-copy_one-clause-told
 returns-in_err-copy_one-clause-told c =
@@ -46,7 +46,7 @@ returns-in_err-copy_one-clause-told c =
     let i = c.loop-place.place in
     let at = sym c.get_index.ensures.entry ∙ ap (option_map deref_pair) c.unwrap.ensures in
     let f : c.in_err-copy_one.field-0.0 ≢ NoMemory → Some (region_view c.args.region.now) ≡ None =
-    λ n. sym (more_whole es c.len-apart.ensures.unique) ∙ c.loop-place.invariant
+    λ n. sym (more_whole es c.names_are_apart.ensures) ∙ c.loop-place.invariant
     ∙ next_entry (region_view c.loop-place.copy) es i c.unwrap.result.0.now c.unwrap.result.1.now at
     ∙ ap (λ o. o >>= λ r. more r (drop (i + 1) (map entry_view es)))
     (ap (λ t. more (region_view c.loop-place.copy) (declare t (meaning_view c.unwrap.result.1.now) ∷ [])) (sym c.as_slice.ensures.value) ∙ c.in_err-copy_one.ensures.given n) in
