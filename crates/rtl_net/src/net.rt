@@ -80,7 +80,9 @@ impl Net {
     /// What holds of every netlist, for a proof that asks it: nothing is computed.
     pub fn is_elaborated(&self)
         ensures { IsNet self.now }
-    {}
+    {
+        let _kinds = self.kinds.len();
+    }
 
     /// How many nets there are.
     pub fn nets(&self) -> usize
