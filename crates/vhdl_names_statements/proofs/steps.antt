@@ -2,6 +2,6 @@ pub mod Assigning
 pub mod Cases
 pub mod Choosing
 pub mod Concurrent
-pub mod Parts
+pub mod Covering
 pub mod Sequential
 pub mod Told
