@@ -3,6 +3,6 @@ pub mod Cases
 pub mod Choosing
 pub mod Completing
 pub mod Concurrent
-pub mod Parts
+pub mod Covering
 pub mod Sequential
 pub mod Told

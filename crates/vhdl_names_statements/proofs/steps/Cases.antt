@@ -14,20 +14,19 @@ use Rattle.vhdl_names_rules.specs.declared.kind.ObjectType.{ObjectType}
 use Rattle.vhdl_names_rules.specs.declared.kind.ObjectType.TheVariants.{Elements, Enumeration}
 use Rattle.vhdl_names_rules.specs.units.Expressions.{Value}
 use Rattle.vhdl_names_rules.specs.units.Statements as s
-use Rattle.vhdl_names_rules.specs.Rules.{◌>>=◌, ◌>>◌, met, each, then_some}
-use Rattle.vhdl_names_rules.specs.Visibility.{Name, Sight, label_ends, are_distinct, is_among}
+use Rattle.vhdl_names_rules.specs.Rules.{◌>>=◌, ◌>>◌, met, each}
+use Rattle.vhdl_names_rules.specs.Visibility.{Sight, label_ends, are_distinct, is_among}
 use Rattle.vhdl_names_rules.specs.Expressions.{typed}
 use Rattle.vhdl_names_rules.specs.Choices.{choices, covered, selector, arranged, only_last_others, is_last_others, is_others, are_distinct_choices, names_all, same_choice}
 use Rattle.vhdl_names_rules.specs.Statements.{statement, statements, alternatives, choice_lists}
 use Rattle.vhdl_names_expressions.specs.Asked.{selected_by}
 use Rattle.vhdl_names_units.specs.views.Sequential.{Chosen, chosen_by, statements_of, alternatives_of}
-use Rattle.vhdl_names_labels.specs.Lists.{in_turn}
-use Rattle.vhdl_names_labels.specs.Once.{one_name, key_of}
+use Rattle.vhdl_names_labels.specs.Once.{key_of}
 use Rattle.vhdl_names_statements.specs.steps.Sequential.{all_labelled}
 use Rattle.vhdl_names_statements.specs.steps.Cases as steps
-use Rattle.vhdl_names_statements.specs.steps.Cases.{Divided, all_choices, chosen, cover, but_last, selection, with_choices, has_all, choice_list, all_lists}
+use Rattle.vhdl_names_statements.specs.steps.Cases.{Divided, all_choices, choices_of, chosen, cover, covering, but_last, selection, has_all, choice_list, all_lists}
 use Rattle.vhdl_names_labels.proofs.Lists.{bound, inner}
-use Rattle.vhdl_names_labels.proofs.Once.{once, among_keys, distinct_keys}
+use Rattle.vhdl_names_labels.proofs.Once.{among_keys, distinct_keys}
 use Rattle.vhdl_names_statements.proofs.steps.Sequential.{statements_each}
 
 -- ---- rules in another order
@@ -42,9 +41,6 @@ lost None = refl
 lost (Some x) = refl
 
 -- ---- choices and what alternatives do
-
-abbrev pub choices_of : List Chosen → List (List s.Choice)
-choices_of all = map (λ (a : Chosen). a.choices) all
 
 abbrev pub bodies_of : List Chosen → List s.Statements
 bodies_of all = map (λ (a : Chosen). statements_of a.statements) all
@@ -182,6 +178,16 @@ module _ (sight : Sight) (type : ObjectType) (value : Value) (l : Bool) (lists :
       >>= λ _. met l >> (but_last all >>= λ d. Some (s.case_of value (put_together d)))) (sym (distinct_keys (all_choices all)))
       ∙ ap by_steps (sym r)
 
+-- a case by the steps, where the alternatives are covered before the label is looked at
+covered_first : (type : ObjectType) (lists : List (List t.Choice)) (l : Bool) (h : Option (List Chosen))
+    → (h >>= λ all. cover type lists (all_choices all) >>= λ _. met l >> but_last all) ≡ (covering type lists h >>= λ all. met l >> but_last all)
+covered_first type lists l None = refl
+covered_first type lists l (Some all) = go (cover type lists (all_choices all))
+  where
+    go : (c : Option (Unit {0})) → (c >>= λ _. met l >> but_last all) ≡ ((c >>= λ _. Some all) >>= λ all. met l >> but_last all)
+    go None = refl
+    go (Some u) = refl
+
 selection_by : (sight : Sight) (label : Option Ident) (at : ℕ) (e : t.Expr) (alts : List t.Alternative) (end : Option Ident)
     → statement sight label (t.case_of at e (t.alternatives_of alts) end) ≡ selection sight label e alts end
 unfolding statement
@@ -193,7 +199,8 @@ selection_by sight label at e alts end =
     ∙ bound (selected_by sight e) (λ by. met (label_ends label end) >> body by)
     (λ by. steps.parts sight by.0 label alts end >>= λ d. Some (s.case_of by.1 (put_together d)))
     (λ by. same sight by.0 by.1 (label_ends label end) (steps.choice_lists alts) _ _ _ (pairs sight by.0 alts)
-    ∙ apart sight by.0 by.1 (label_ends label end) (steps.choice_lists alts) (each (chosen sight by.0) alts))
+    ∙ apart sight by.0 by.1 (label_ends label end) (steps.choice_lists alts) (each (chosen sight by.0) alts)
+    ∙ ap (λ o. o >>= λ d. Some (s.case_of by.1 (put_together d))) (covered_first by.0 (steps.choice_lists alts) (label_ends label end) (each (chosen sight by.0) alts)))
   where
     body : ObjectType × Value → Option s.Statement
     body by = by_rules sight by.0 by.1 (label_ends label end) (steps.choice_lists alts) (each (choices sight by.0) (steps.choice_lists alts)) (alternatives sight (t.alternatives_of alts))
@@ -210,26 +217,6 @@ case_gives sight label c =
 
 -- ---- tables of choices
 
-pub turned-append : (ks ms ns : List Name) → in_turn one_name ks (ms ++ ns) ≡ (in_turn one_name ks ms >>= λ z. in_turn one_name z ns)
-turned-append ks [] ns = refl
-turned-append ks (m ∷ ms) ns = go (one_name ks m) (λ z. turned-append z ms ns)
-  where
-    go : (o : Option (List Name)) → ((z : List Name) → in_turn one_name z (ms ++ ns) ≡ (in_turn one_name z ms >>= λ y. in_turn one_name y ns))
-        → (o >>= λ z. in_turn one_name z (ms ++ ns)) ≡ ((o >>= λ z. in_turn one_name z ms) >>= λ y. in_turn one_name y ns)
-    go None h = refl
-    go (Some z) h = h z
-
-turned_choices : (ks : List Name) (all : List Chosen) → in_turn with_choices ks all ≡ in_turn one_name ks (map key_of (all_choices all))
-turned_choices ks [] = refl
-turned_choices ks (a ∷ all) =
-    bound (with_choices ks a) (λ z. in_turn with_choices z all) (λ z. in_turn one_name z (map key_of (all_choices all))) (λ z. turned_choices z all)
-    ∙ sym (turned-append ks (map key_of a.choices) (map key_of (all_choices all)))
-    ∙ ap (in_turn one_name ks) (sym (map-append key_of a.choices (all_choices all)))
-
--- choices that are told apart leave their keys
-pub told : (all : List Chosen) → in_turn with_choices [] all ≡ then_some (are_distinct (map key_of (all_choices all))) (map key_of (all_choices all))
-told all = turned_choices [] all ∙ once (map key_of (all_choices all))
-
 pub has_names : (type : ObjectType) (cs : List s.Choice) → has_all type (map key_of cs) ≡ names_all type cs
 has_names (Elements k) cs = refl
 has_names (Enumeration e count) cs = go (range_with_len 0 count)
@@ -240,43 +227,6 @@ has_names (Enumeration e count) cs = go (range_with_len 0 count)
         ap (λ b. b && list_all (λ p. is_among (9 ∷ p ∷ []) (map key_of cs)) ps) (among_keys (s.Choice.position p) cs)
         ∙ ap (λ b. list_any (same_choice (s.Choice.position p)) cs && b) (go ps)
 
--- what is asked, by a table of keys
-pub covered_by : (type : ObjectType) (lists : List (List t.Choice)) (all : List Chosen) → cover type lists (all_choices all)
-    ≡ (met (only_last_others lists) >> (in_turn with_choices [] all >>= λ keys. met (is_last_others lists || has_all type keys)))
-covered_by type lists all =
-    ap (λ o. met (only_last_others lists) >> o) (go (are_distinct (map key_of (all_choices all))))
-    ∙ ap (λ o. met (only_last_others lists) >> (o >>= λ keys. met (is_last_others lists || has_all type keys))) (sym (told all))
-  where
-    go : (b : Bool) → (met b >> met (is_last_others lists || names_all type (all_choices all)))
-        ≡ (then_some b (map key_of (all_choices all)) >>= λ keys. met (is_last_others lists || has_all type keys))
-    go true = ap (λ b. met (is_last_others lists || b)) (sym (has_names type (all_choices all)))
-    go false = refl
-
--- others in no list but the last
-none_before : (lists : List (List t.Choice)) (last : List t.Choice) → only_last_others (lists ++ last ∷ []) ≡ not (list_any is_others lists)
-none_before [] last = refl
-none_before (cs ∷ []) last = go (is_others cs)
-  where
-    go : (b : Bool) → (not b && true) ≡ not (b || false)
-    go true = refl
-    go false = refl
-none_before (cs ∷ ds ∷ lists) last = ap (λ b. not (is_others cs) && b) (none_before (ds ∷ lists) last) ∙ go (is_others cs) (list_any is_others (ds ∷ lists))
-  where
-    go : (b c : Bool) → (not b && not c) ≡ not (b || c)
-    go true c = refl
-    go false c = refl
-
-any_of : (lists : List (Bor (List Choice))) → list_any is_others (all_lists lists) ≡ list_any (λ (b : Bor (List Choice)). is_others (choice_list b)) lists
-any_of [] = refl
-any_of (b ∷ lists) = ap (λ c. is_others (choice_list b) || c) (any_of lists)
-
-split : (bs before : List (Bor (List Choice))) (last : Bor (List Choice)) → bs ≡ before ++ last ∷ [] → all_lists bs ≡ all_lists before ++ choice_list last ∷ []
-split bs before last e = ap all_lists e ∙ map-append choice_list before (last ∷ [])
-
-pub others_in : (lists before : List (Bor (List Choice))) (last : Bor (List Choice)) → lists ≡ before ++ last ∷ []
-    → only_last_others (all_lists lists) ≡ not (list_any (λ (b : Bor (List Choice)). is_others (choice_list b)) before)
-others_in lists before last e = ap only_last_others (split lists before last e) ∙ none_before (all_lists before) (choice_list last) ∙ ap not (any_of before)
-
 last_is : (lists : List (List t.Choice)) (last : List t.Choice) → is_last_others (lists ++ last ∷ []) ≡ is_others last
 last_is [] last = refl
 last_is (cs ∷ []) last = refl
@@ -284,7 +234,7 @@ last_is (cs ∷ ds ∷ lists) last = last_is (ds ∷ lists) last
 
 pub last_in : (lists before : List (Bor (List Choice))) (last : Bor (List Choice)) → lists ≡ before ++ last ∷ []
     → is_last_others (all_lists lists) ≡ is_others (choice_list last)
-last_in lists before last e = ap is_last_others (split lists before last e) ∙ last_is (all_lists before) (choice_list last)
+last_in lists before last e = ap is_last_others (ap all_lists e ∙ map-append choice_list before (last ∷ [])) ∙ last_is (all_lists before) (choice_list last)
 
 -- the next of a range
 next : (p : ℕ → Bool) (i count : ℕ) → i < count → list_all p (range_with_len i (count - i)) ≡ (p i && list_all p (range_with_len (i + 1) (count - (i + 1))))
@@ -297,11 +247,6 @@ next_true p i count lt e = next p i count lt ∙ ap (λ b. b && list_all p (rang
 
 pub next_false : (p : ℕ → Bool) (i count : ℕ) → i < count → p i ≡ false → list_all p (range_with_len i (count - i)) ≡ false
 next_false p i count lt e = next p i count lt ∙ ap (λ b. b && list_all p (range_with_len (i + 1) (count - (i + 1)))) e
-
-pub not_told : (type : ObjectType) (lists : List (List t.Choice)) (all : List Chosen) → in_turn with_choices [] all ≡ None → cover type lists (all_choices all) ≡ None
-not_told type lists all e =
-    covered_by type lists all ∙ ap (λ o. met (only_last_others lists) >> (o >>= λ keys. met (is_last_others lists || has_all type keys))) e
-    ∙ lost (met (only_last_others lists))
 
 pub but_last-push : (all : List Chosen) (a : Chosen) → but_last (all ++ a ∷ []) ≡ Some (record { alternatives = all; last = a.statements })
 but_last-push [] a = refl

@@ -16,7 +16,7 @@ use Rattle.vhdl_names_rules.specs.Concurrent as rules
 use Rattle.vhdl_names_rules.specs.Concurrent.{assigning}
 use Rattle.vhdl_names_expressions.specs.Asked.{selected_by}
 use Rattle.vhdl_names_units.specs.views.Sequential.{Guarded, guarded_by, Chosen, chosen_by, statements_of, branches_of, last_of}
-use Rattle.vhdl_names_statements.specs.steps.Cases.{Divided, all_choices, cover, but_last}
+use Rattle.vhdl_names_statements.specs.steps.Cases.{Divided, all_choices, cover, covering, but_last}
 use Rattle.vhdl_names_statements.specs.steps.Sequential.{assigned}
 use Rattle.vhdl_names_statements.specs.steps.Concurrent as steps
 use Rattle.vhdl_names_statements.proofs.steps.Cases.{Pairs, all_there, one_pair, put_together, by_steps, same}
@@ -127,15 +127,16 @@ selected_gives sight label a =
 
     apart : (by : ObjectType × Value) (o : Option SignalName) (h : Option (List Chosen))
         → (o >>= λ _. h >>= λ all. cover by.0 (steps.choice_lists a.waveforms) (all_choices all) >>= λ _. but_last all >>= λ d. Some (assigning label (s.case_of by.1 (put_together d))))
-        ≡ ((o >>= λ _. h >>= λ all. cover by.0 (steps.choice_lists a.waveforms) (all_choices all) >>= λ _. but_last all) >>= λ d. Some (assigning label (s.case_of by.1 (put_together d))))
+        ≡ ((o >>= λ _. covering by.0 (steps.choice_lists a.waveforms) h >>= λ all. but_last all) >>= λ d. Some (assigning label (s.case_of by.1 (put_together d))))
     apart by None h = refl
     apart by (Some x) None = refl
-    apart by (Some x) (Some all) = end (cover by.0 (steps.choice_lists a.waveforms) (all_choices all)) (but_last all)
+    apart by (Some x) (Some all) = end (cover by.0 (steps.choice_lists a.waveforms) (all_choices all))
       where
-        end : (c : Option (Unit {0})) (d : Option Divided)
-            → (c >>= λ _. d >>= λ d. Some (assigning label (s.case_of by.1 (put_together d)))) ≡ ((c >>= λ _. d) >>= λ d. Some (assigning label (s.case_of by.1 (put_together d))))
-        end None d = refl
-        end (Some u) d = refl
+        end : (c : Option (Unit {0}))
+            → (c >>= λ _. but_last all >>= λ d. Some (assigning label (s.case_of by.1 (put_together d))))
+            ≡ (((c >>= λ _. Some all) >>= λ all. but_last all) >>= λ d. Some (assigning label (s.case_of by.1 (put_together d))))
+        end None = refl
+        end (Some u) = refl
 
     outer_rules : (f : Option (List (List s.Choice))) (g : Option (List s.Statements)) (value : Value)
         → (f >>= λ cs. g >>= λ bodies. arranged cs bodies >>= λ all. Some (assigning label (s.case_of value all)))

@@ -1,153 +1,151 @@
 -- What is told of the parts of statements is told of the whole.
-use Rattle.std.proofs.Common.{◌≡◌, ◌≢◌, ℕ, ◌<◌, length, get_or, map, Bool, true, false, ◌||◌, List, [], ◌∷◌, Option, Some, None, refl, ap, sym, ◌∙◌, true≢false}
-use Rattle.std.specs.Prelude.{not, Result, IfErr}
+use Rattle.std.proofs.Common.{◌≡◌, ℕ, suc, ◌+◌, ◌<◌, arith, List, [], ◌∷◌, ◌++◌, map, length, get_or, drop, drop-cons, Option, Some, None, Result, IfErr, refl, ap, sym, ◌∙◌}
+use Rattle.std.specs.Prelude.{option_map}
 use Rattle.vhdl_tree.specs.Tree as t
 use Rattle.vhdl_tree.specs.Tree.{Ident}
 use Rattle.vhdl_tree.specs.View as tree
-use Rattle.vhdl_tree.specs.declared.sequential.Sequential.{Sequential}
-use Rattle.vhdl_tree.specs.declared.sequential.Conditional.{Conditional}
-use Rattle.vhdl_tree.specs.declared.sequential.Alternative.{Alternative}
+use Rattle.vhdl_tree.specs.declared.sequential.Case.{Case, out-Case}
 use Rattle.vhdl_tree.specs.declared.sequential.If.{If, out-If}
 use Rattle.vhdl_tree.specs.declared.sequential.For.{For, out-For}
-use Rattle.vhdl_tree.specs.declared.sequential.Case.{Case, out-Case}
 use Rattle.vhdl_names_rules.specs.declared.kind.ObjectType.{ObjectType}
 use Rattle.vhdl_names_rules.specs.declared.fault.NameFault.{NameFault}
-use Rattle.vhdl_names_rules.specs.declared.fault.NameFault.TheVariants.{At, NoMemory}
-use Rattle.vhdl_names_rules.specs.declared.fault.NameProblem.{NameProblem}
 use Rattle.vhdl_names_rules.specs.declared.fault.NameProblem.TheVariants.{WrongKind}
-use Rattle.vhdl_names_rules.specs.units.Expressions.{Value}
-use Rattle.vhdl_names_rules.specs.Rules.{◌>>=◌, met}
+use Rattle.vhdl_names_rules.specs.units.Expressions.{Range, Value}
+use Rattle.vhdl_names_rules.specs.units.Statements as s
+use Rattle.vhdl_names_rules.specs.Rules.{◌>>=◌, met, rule, each, if_any}
 use Rattle.vhdl_names_rules.specs.Visibility.{Sight, label_ends, within_loop}
 use Rattle.vhdl_names_rules.specs.Operators.{Typed}
-use Rattle.vhdl_names_rules.specs.Expressions.{typed}
+use Rattle.vhdl_names_rules.specs.Expressions as are
 use Rattle.vhdl_names_rules.specs.Choices.{selector}
+use Rattle.vhdl_names_rules.specs.Choices as chosen
+use Rattle.vhdl_names_rules.proofs.laws.Rules.{comes}
 use Rattle.vhdl_names_expressions.specs.Asked.{selected_by}
-use Rattle.vhdl_names_problems.specs.Broken.{Broken, Tells, nothing, ◌▸◌, is, is_of, unless, where_given, any_of}
+use Rattle.vhdl_names_units.specs.views.Sequential.{Guarded, Chosen, statements_of}
+use Rattle.vhdl_names_problems.specs.Broken.{Broken, Tells, nothing, ◌▸◌, where_given, any_of}
 use Rattle.vhdl_names_problems.specs.Expressions.{condition, static_range}
+use Rattle.vhdl_names_problems.specs.Choices.{choices}
 use Rattle.vhdl_names_problems.specs.Choices as asked
-use Rattle.vhdl_names_problems.specs.Choices.{choices, covered}
+use Rattle.vhdl_names_problems.specs.Covered.{covered, any_alternative}
 use Rattle.vhdl_names_problems.specs.Statements as broken
-use Rattle.vhdl_names_problems.specs.Statements.{covered_by}
-use Rattle.vhdl_names_problems.proofs.Telling.{told_left, told_right, told_given, told_any, told_on}
+use Rattle.vhdl_names_problems.specs.Statements.{end_label, by_selector}
+use Rattle.vhdl_names_problems.proofs.Telling.{IsKept, both_kept, behind_kept, told_same, told_left, told_right, told_on}
+use Rattle.vhdl_names_problems.proofs.kept.Keeping.{nothing_kept}
+use Rattle.vhdl_names_problems.proofs.kept.Expressions.{typed_kept, condition_kept, static_range_kept}
+use Rattle.vhdl_names_problems.proofs.kept.Choices.{choices_kept, selected_by_kept}
+use Rattle.vhdl_names_problems.proofs.kept.Statements.{statement_kept, statements_kept, end_label_kept}
+use Rattle.vhdl_names_labels.specs.Lists.{in_turn, one_more}
 use Rattle.vhdl_names_statements.specs.steps.Cases as cases
+use Rattle.vhdl_names_statements.specs.steps.Sequential as steps
 use Rattle.vhdl_names_statements.specs.steps.Told as told
-use Rattle.vhdl_names_statements.proofs.steps.Sequential.{if_is, for_is}
+use Rattle.vhdl_names_statements.proofs.steps.Sequential.{statements_each, if_is, for_is}
 use Rattle.vhdl_names_statements.proofs.steps.Cases.{case_is, lists_each}
 
 -- ---- of parts
 
-pub told_along : (a b : Broken) (f : NameFault) → a ≡ b → Tells a f → Tells b f
-told_along a b (At p at) e h = ap (λ c. c p) (sym e) ∙ h
-told_along a b NoMemory e h = tt
-
-pub told_nothing : (b : Broken) (f : NameFault) → Tells nothing f → Tells b f
-told_nothing b (At p at) h = absurd (true≢false (sym h))
-told_nothing b NoMemory h = tt
-
-pub told_either : (a b c : Broken) (f : NameFault) → Tells (a ▸ b) f → (Tells a f → Tells c f) → (Tells b f → Tells c f) → Tells c f
-unfolding ◌▸◌
-told_either a b c (At p at) h l r = go (a p) refl h
-  where
-    go : (x : Bool) → a p ≡ x → (x || b p) ≡ true → c p ≡ true
-    go true e h = l e
-    go false e h = r h
-told_either a b c NoMemory h l r = tt
-
 pub on_along : {X : Type 0} (a b : Broken) (r : Result X NameFault) → a ≡ b → IfErr r (Tells a) → IfErr r (Tells b)
-on_along a b r e h = told_on a b r (λ f. told_along a b f e) h
+on_along a b r e h = told_on a b r (λ f. told_same a b f e) h
 
--- what is wanted and isn't met
-is_told : NameFault → Bool
-is_told (At p at) = true
-is_told NoMemory = false
+pub three : (a b c : Broken) → (a ▸ b) ▸ c ≡ a ▸ (b ▸ c)
+unfolding ◌▸◌
+three None b c = refl
+three (Some x) b c = refl
 
-at_is_told : (p : NameProblem) (at : ℕ) → At p at ≢ NoMemory
-unfolding is_told
-at_is_told p at e = true≢false (ap is_told e)
+-- ---- one of a list, whose others before it went well
 
-only : (b : Bool) → (b || false) ≡ true → b ≡ true
-only true h = refl
-only false h = h
+module _ {A B : Type 0} (view : A → B) (xs : List A) (i : ℕ) (x : A) (lt : i < length xs) (is : x ≡ get_or xs i x) where
+  next : drop i xs ≡ x ∷ drop (i + 1) xs
+  next =
+      let e : suc i ≡ i + 1 = omega arith in
+      drop-cons xs i x lt ∙ ap (λ y. y ∷ drop (suc i) xs) (sym is) ∙ ap (λ k. x ∷ drop k xs) e
 
-pub told_unless : (q : NameProblem) (b : Bool) (f : NameFault) → (f ≢ NoMemory → met b ≡ None) → Tells (is_of (q ∷ [])) f → Tells (unless q b) f
-told_unless q b NoMemory none h = tt
-told_unless q true (At p at) none h = let e : Some tt ≡ None = none (at_is_told p at) in cc
-told_unless q false (At p at) none h = only (is p q) h
+  pub more_done : {C : Type 0} (g : B → Option C) (done new : List C) (y : C) (all : Option (List C))
+      → all ≡ in_turn (one_more g) done (map view (drop i xs)) → g (view x) ≡ Some y → new ≡ done ++ y ∷ []
+      → all ≡ in_turn (one_more g) new (map view (drop (i + 1) xs))
+  more_done {C} g done new y all inv h e =
+      inv ∙ ap (λ l. in_turn (one_more g) done (map view l)) next
+      ∙ ap (λ (o : Option C). (o >>= λ y. Some (done ++ y ∷ [])) >>= λ z. in_turn (one_more g) z (map view (drop (i + 1) xs))) h
+      ∙ ap (λ z. in_turn (one_more g) z (map view (drop (i + 1) xs))) (sym e)
 
-pub told_each : {A : Type 0} (b c : A → Broken) (xs : List A) (f : NameFault) → ((x : A) → Tells (b x) f → Tells (c x) f) → Tells (any_of b xs) f → Tells (any_of c xs) f
-told_each b c [] f h t = t
-told_each b c (x ∷ xs) f h t =
-    told_either (b x) (any_of b xs) (c x ▸ any_of c xs) f t
-    (λ l. told_left (c x) (any_of c xs) f (h x l))
-    (λ r. told_right (c x) (any_of c xs) f (told_each b c xs f h r))
+  pub next_told : (b : B → Broken) (f : NameFault) → any_of b (map view xs) ≡ any_of b (map view (drop i xs)) → Tells (b (view x)) f → Tells (any_of b (map view xs)) f
+  next_told b f inv h =
+      told_same (b (view x) ▸ any_of b (map view (drop (i + 1) xs))) (any_of b (map view xs)) f (sym (inv ∙ ap (λ l. any_of b (map view l)) next))
+      (told_left (b (view x)) (any_of b (map view (drop (i + 1) xs))) f h)
+
+  pub next_left : (b : B → Broken) → any_of b (map view xs) ≡ any_of b (map view (drop i xs)) → IsKept (b (view x))
+      → any_of b (map view xs) ≡ any_of b (map view (drop (i + 1) xs))
+  next_left b inv kept =
+      inv ∙ ap (λ l. any_of b (map view l)) next ∙ behind_kept (b (view x)) (any_of b (map view (drop (i + 1) xs))) kept
 
 -- ---- lists of statements, branches and alternatives
 
-pub statements_any : (sight : Sight) (qs : List t.Sequential)
-    → any_of (λ (q : t.Sequential). broken.statement sight q.label q.statement) qs ≡ broken.statements sight (t.statements_of qs)
+pub statements_any : (sight : Sight) (qs : List t.Sequential) → any_of (told.labelled sight) qs ≡ broken.statements sight (t.statements_of qs)
 unfolding broken.statements
 statements_any sight [] = refl
 statements_any sight (q ∷ qs) = ap (λ b. broken.statement sight q.label q.statement ▸ b) (statements_any sight qs)
 
-pub conditionals_any : (sight : Sight) (bs : List t.Conditional) (f : NameFault)
-    → Tells (any_of (told.guarded sight) bs) f → Tells (broken.conditionals sight (t.conditionals_of bs)) f
+pub conditionals_any : (sight : Sight) (bs : List t.Conditional) → any_of (told.guarded sight) bs ≡ broken.conditionals sight (t.conditionals_of bs)
 unfolding broken.conditionals
-conditionals_any sight [] f h = h
-conditionals_any sight (b ∷ bs) f h =
+conditionals_any sight [] = refl
+conditionals_any sight (b ∷ bs) =
     let c = condition sight b.condition in
     let x = broken.statements sight (t.statements_of b.statements) in
-    let r = broken.conditionals sight (t.conditionals_of bs) in
-    told_either (c ▸ x) (any_of (told.guarded sight) bs) (c ▸ (x ▸ r)) f h
-    (λ l. told_either c x (c ▸ (x ▸ r)) f l (λ k. told_left c (x ▸ r) f k) (λ k. told_right c (x ▸ r) f (told_left x r f k)))
-    (λ k. told_right c (x ▸ r) f (told_right x r f (conditionals_any sight bs f k)))
+    three c x (any_of (told.guarded sight) bs) ∙ ap (λ r. c ▸ (x ▸ r)) (conditionals_any sight bs)
 
-pub alternatives_any : (sight : Sight) (type : ObjectType) (alts : List t.Alternative) (f : NameFault)
-    → Tells (any_of (told.alternative sight type) alts) f → Tells (told.alternatives sight type alts) f
+pub alternatives_any : (sight : Sight) (type : ObjectType) (alts : List t.Alternative)
+    → any_of (told.alternative sight type) alts ≡ broken.alternatives sight type (t.alternatives_of alts)
 unfolding broken.alternatives
-alternatives_any sight type [] f h = told_nothing _ f h
-alternatives_any sight type (a ∷ alts) f h =
+alternatives_any sight type [] = refl
+alternatives_any sight type (a ∷ alts) =
     let c = choices sight type a.choices in
-    let cs = any_of (choices sight type) (cases.choice_lists alts) in
     let x = broken.statements sight (t.statements_of a.statements) in
-    let xs = broken.alternatives sight (t.alternatives_of alts) in
-    told_either (c ▸ x) (any_of (told.alternative sight type) alts) ((c ▸ cs) ▸ (x ▸ xs)) f h
-    (λ l. told_either c x ((c ▸ cs) ▸ (x ▸ xs)) f l
-    (λ k. told_left (c ▸ cs) (x ▸ xs) f (told_left c cs f k))
-    (λ k. told_right (c ▸ cs) (x ▸ xs) f (told_left x xs f k)))
-    (λ r. told_either cs xs ((c ▸ cs) ▸ (x ▸ xs)) f (alternatives_any sight type alts f r)
-    (λ k. told_left (c ▸ cs) (x ▸ xs) f (told_right c cs f k))
-    (λ k. told_right (c ▸ cs) (x ▸ xs) f (told_right x xs f k)))
+    three c x (any_of (told.alternative sight type) alts) ∙ ap (λ r. c ▸ (x ▸ r)) (alternatives_any sight type alts)
 
--- ---- one of a list, in whose sight what is in sight is the same
+-- ---- what is given breaks nothing
 
-abbrev one_statement : Sight → t.Sequential → Broken
-one_statement sight q = broken.statement sight q.label q.statement
+pub labelled_kept : (sight : Sight) (q : t.Sequential) (y : s.Statement) → steps.labelled sight q ≡ Some y → IsKept (told.labelled sight q)
+labelled_kept sight q y h = statement_kept q.statement sight q.label y h
 
-pub statements_told : (sight entered : Sight) (xs : List Sequential) (i : ℕ) (x : Sequential) (f : NameFault) → i < length xs → x ≡ get_or xs i x → entered ≡ sight
-    → Tells (broken.statement entered (tree.sequential_view x).label (tree.sequential_view x).statement) f
-    → Tells (broken.statements sight (t.statements_of (map tree.sequential_view xs))) f
-statements_told sight entered xs i x f lt is e h =
-    told_along (any_of (one_statement sight) (map tree.sequential_view xs)) (broken.statements sight (t.statements_of (map tree.sequential_view xs))) f
-    (statements_any sight (map tree.sequential_view xs))
-    (told_any (one_statement sight) tree.sequential_view xs i x f lt is
-    (told_along (one_statement entered (tree.sequential_view x)) (one_statement sight (tree.sequential_view x)) f (ap (λ s. one_statement s (tree.sequential_view x)) e) h))
+pub all_kept : (sight : Sight) (qs : List t.Sequential) (ys : List s.Statement) → steps.all_labelled sight qs ≡ Some ys → IsKept (broken.statements sight (t.statements_of qs))
+all_kept sight qs ys h = statements_kept (t.statements_of qs) sight (statements_of ys) (statements_each sight qs ∙ ap (option_map statements_of) h)
 
-pub branches_told : (sight entered : Sight) (xs : List Conditional) (i : ℕ) (x : Conditional) (f : NameFault) → i < length xs → x ≡ get_or xs i x → entered ≡ sight
-    → Tells (told.guarded entered (tree.conditional_view x)) f
-    → Tells (broken.conditionals sight (t.conditionals_of (map tree.conditional_view xs))) f
-branches_told sight entered xs i x f lt is e h =
-    conditionals_any sight (map tree.conditional_view xs) f
-    (told_any (told.guarded sight) tree.conditional_view xs i x f lt is
-    (told_along (told.guarded entered (tree.conditional_view x)) (told.guarded sight (tree.conditional_view x)) f (ap (λ s. told.guarded s (tree.conditional_view x)) e) h))
+pub guarded_kept : (sight : Sight) (b : t.Conditional) (y : Guarded) → steps.guarded sight b ≡ Some y → IsKept (told.guarded sight b)
+guarded_kept sight b y h =
+    let c = comes (are.condition sight b.condition) _ y h in
+    let xs = comes (steps.all_labelled sight b.statements) _ y c.rest in
+    both_kept _ _ (condition_kept sight b.condition c.value c.is) (all_kept sight b.statements xs.value xs.is)
 
-pub alternatives_told : (sight entered : Sight) (type : ObjectType) (xs : List Alternative) (i : ℕ) (x : Alternative) (f : NameFault) → i < length xs → x ≡ get_or xs i x → entered ≡ sight
-    → Tells (told.alternative entered type (tree.alternative_view x)) f
-    → Tells (told.alternatives sight type (map tree.alternative_view xs)) f
-alternatives_told sight entered type xs i x f lt is e h =
-    alternatives_any sight type (map tree.alternative_view xs) f
-    (told_any (told.alternative sight type) tree.alternative_view xs i x f lt is
-    (told_along (told.alternative entered type (tree.alternative_view x)) (told.alternative sight type (tree.alternative_view x)) f
-    (ap (λ s. told.alternative s type (tree.alternative_view x)) e) h))
+pub alternative_kept : (sight : Sight) (type : ObjectType) (a : t.Alternative) (y : Chosen) → cases.chosen sight type a ≡ Some y → IsKept (told.alternative sight type a)
+alternative_kept sight type a y h =
+    let c = comes (chosen.choices sight type a.choices) _ y h in
+    let xs = comes (steps.all_labelled sight a.statements) _ y c.rest in
+    both_kept _ _ (choices_kept sight type a.choices c.value c.is) (all_kept sight a.statements xs.value xs.is)
+
+pub conditionals_kept : (sight : Sight) (bs : List t.Conditional) (ys : List Guarded) → each (steps.guarded sight) bs ≡ Some ys → IsKept (broken.conditionals sight (t.conditionals_of bs))
+conditionals_kept sight bs ys h = sym (conditionals_any sight bs) ∙ go bs ys h
+  where
+    go : (bs : List t.Conditional) (ys : List Guarded) → each (steps.guarded sight) bs ≡ Some ys → IsKept (any_of (told.guarded sight) bs)
+    go [] ys h = nothing_kept
+    go (b ∷ bs) ys h =
+        let c = comes (steps.guarded sight b) _ ys h in
+        let d = comes (each (steps.guarded sight) bs) _ ys c.rest in
+        both_kept _ _ (guarded_kept sight b c.value c.is) (go bs d.value d.is)
+
+pub alternatives_kept : (sight : Sight) (type : ObjectType) (alts : List t.Alternative) (ys : List Chosen) → each (cases.chosen sight type) alts ≡ Some ys
+    → IsKept (broken.alternatives sight type (t.alternatives_of alts))
+alternatives_kept sight type alts ys h = sym (alternatives_any sight type alts) ∙ go alts ys h
+  where
+    go : (alts : List t.Alternative) (ys : List Chosen) → each (cases.chosen sight type) alts ≡ Some ys → IsKept (any_of (told.alternative sight type) alts)
+    go [] ys h = nothing_kept
+    go (a ∷ alts) ys h =
+        let c = comes (cases.chosen sight type a) _ ys h in
+        let d = comes (each (cases.chosen sight type) alts) _ ys c.rest in
+        both_kept _ _ (alternative_kept sight type a c.value c.is) (go alts d.value d.is)
+
+pub otherwise_kept : (sight : Sight) (o : Option (List t.Sequential)) (y : Option (List s.Statement)) → if_any (steps.all_labelled sight) o ≡ Some y
+    → IsKept (broken.otherwise sight (t.otherwise_of o))
+unfolding broken.otherwise
+otherwise_kept sight None y h = nothing_kept
+otherwise_kept sight (Some qs) y h = let c = comes (steps.all_labelled sight qs) _ y h in all_kept sight qs c.value c.is
 
 -- ---- statements by their kinds
 
@@ -167,7 +165,7 @@ otherwise_done sight qs = refl
 
 module _ (sight : Sight) (label : Option Ident) (i : If) (f : NameFault) where
   abbrev if_label : Broken
-  if_label = unless WrongKind (label_ends label (tree.option_ident_view (out-If i).end_label))
+  if_label = end_label label (tree.option_ident_view (out-If i).end_label)
 
   abbrev if_branches : Broken
   if_branches = broken.conditionals sight (t.conditionals_of (tree.conditionals_view (out-If i).branches))
@@ -175,90 +173,98 @@ module _ (sight : Sight) (label : Option Ident) (i : If) (f : NameFault) where
   abbrev if_otherwise : Broken
   if_otherwise = broken.otherwise sight (t.otherwise_of (tree.option_sequentials_view (out-If i).otherwise))
 
-  if_told : Tells (if_label ▸ (if_branches ▸ if_otherwise)) f → Tells (broken.statement sight label (tree.if_view i)) f
+  if_told : Tells (if_branches ▸ (if_otherwise ▸ if_label)) f → Tells (broken.statement sight label (tree.if_view i)) f
   unfolding broken.statement
-  if_told h = told_along (if_label ▸ (if_branches ▸ if_otherwise)) (broken.statement sight label (tree.if_view i)) f (sym (ap (broken.statement sight label) (if_is i))) h
-
-  pub if_ends : Tells if_label f → Tells (broken.statement sight label (tree.if_view i)) f
-  if_ends h = if_told (told_left if_label (if_branches ▸ if_otherwise) f h)
+  if_told h = told_same (if_branches ▸ (if_otherwise ▸ if_label)) (broken.statement sight label (tree.if_view i)) f (sym (ap (broken.statement sight label) (if_is i))) h
 
   pub if_branch : Tells if_branches f → Tells (broken.statement sight label (tree.if_view i)) f
-  if_branch h = if_told (told_right if_label (if_branches ▸ if_otherwise) f (told_left if_branches if_otherwise f h))
+  if_branch h = if_told (told_left if_branches (if_otherwise ▸ if_label) f h)
 
-  pub if_else : Tells if_otherwise f → Tells (broken.statement sight label (tree.if_view i)) f
-  if_else h = if_told (told_right if_label (if_branches ▸ if_otherwise) f (told_right if_branches if_otherwise f h))
+  module _ (ys : List Guarded) (given : each (steps.guarded sight) (tree.conditionals_view (out-If i).branches) ≡ Some ys) where
+    if_behind : Tells (if_otherwise ▸ if_label) f → Tells (broken.statement sight label (tree.if_view i)) f
+    if_behind h = if_told (told_right if_branches (if_otherwise ▸ if_label) f (conditionals_kept sight (tree.conditionals_view (out-If i).branches) ys given) h)
+
+    pub if_else : Tells if_otherwise f → Tells (broken.statement sight label (tree.if_view i)) f
+    if_else h = if_behind (told_left if_otherwise if_label f h)
+
+    pub if_ends : (y : Option (List s.Statement)) → if_any (steps.all_labelled sight) (tree.option_sequentials_view (out-If i).otherwise) ≡ Some y → Tells if_label f
+        → Tells (broken.statement sight label (tree.if_view i)) f
+    if_ends y e h = if_behind (told_right if_otherwise if_label f (otherwise_kept sight (tree.option_sequentials_view (out-If i).otherwise) y e) h)
 
 module _ (sight : Sight) (label : Option Ident) (l : For) (f : NameFault) where
   abbrev for_label : Broken
-  for_label = unless WrongKind (label_ends label (tree.option_ident_view (out-For l).end_label))
+  for_label = end_label label (tree.option_ident_view (out-For l).end_label)
 
   abbrev for_range : Broken
   for_range = static_range sight (tree.range_view (out-For l).range)
 
+  abbrev for_sight : Sight
+  for_sight = within_loop sight (tree.ident_view (out-For l).parameter)
+
   abbrev for_turn : Broken
-  for_turn = broken.statements (within_loop sight (tree.ident_view (out-For l).parameter)) (t.statements_of (tree.sequentials_view (out-For l).statements))
+  for_turn = broken.statements for_sight (t.statements_of (tree.sequentials_view (out-For l).statements))
 
-  for_told : Tells (for_label ▸ (for_range ▸ for_turn)) f → Tells (broken.statement sight label (tree.for_view l)) f
+  for_told : Tells (for_range ▸ (for_turn ▸ for_label)) f → Tells (broken.statement sight label (tree.for_view l)) f
   unfolding broken.statement
-  for_told h = told_along (for_label ▸ (for_range ▸ for_turn)) (broken.statement sight label (tree.for_view l)) f (sym (ap (broken.statement sight label) (for_is l))) h
-
-  pub loop_ends : Tells for_label f → Tells (broken.statement sight label (tree.for_view l)) f
-  loop_ends h = for_told (told_left for_label (for_range ▸ for_turn) f h)
+  for_told h = told_same (for_range ▸ (for_turn ▸ for_label)) (broken.statement sight label (tree.for_view l)) f (sym (ap (broken.statement sight label) (for_is l))) h
 
   pub loop_range : Tells for_range f → Tells (broken.statement sight label (tree.for_view l)) f
-  loop_range h = for_told (told_right for_label (for_range ▸ for_turn) f (told_left for_range for_turn f h))
+  loop_range h = for_told (told_left for_range (for_turn ▸ for_label) f h)
 
-  pub loop_turn : Tells for_turn f → Tells (broken.statement sight label (tree.for_view l)) f
-  loop_turn h = for_told (told_right for_label (for_range ▸ for_turn) f (told_right for_range for_turn f h))
+  module _ (r : Range) (given : are.static_range sight (tree.range_view (out-For l).range) ≡ Some r) where
+    loop_behind : Tells (for_turn ▸ for_label) f → Tells (broken.statement sight label (tree.for_view l)) f
+    loop_behind h = for_told (told_right for_range (for_turn ▸ for_label) f (static_range_kept sight (tree.range_view (out-For l).range) r given) h)
+
+    pub loop_turn : Tells for_turn f → Tells (broken.statement sight label (tree.for_view l)) f
+    loop_turn h = loop_behind (told_left for_turn for_label f h)
+
+    pub loop_ends : (ys : List s.Statement) → steps.turn sight (tree.ident_view (out-For l).parameter) (tree.sequentials_view (out-For l).statements) ≡ Some ys
+        → Tells for_label f → Tells (broken.statement sight label (tree.for_view l)) f
+    loop_ends ys e h = loop_behind (told_right for_turn for_label f (all_kept for_sight (tree.sequentials_view (out-For l).statements) ys e) h)
 
 -- ---- what is selected by
 
-selected_told : (o : Option Typed) (by : ObjectType × Value) (b : ObjectType → Broken) (f : NameFault) → (o >>= selector) ≡ Some by → Tells (b by.0) f
-    → Tells (where_given o (λ x. where_given (selector x) (λ k. b k.0))) f
-selected_told None by b f e h = cc
-selected_told (Some x) by b f e h = told_given (λ (k : ObjectType × Value). b k.0) (selector x) by f e h
-
--- what the choices are asked is told where the selector is given
-pub covered_told : (sight : Sight) (e : t.Expr) (by : ObjectType × Value) (lists : List (List t.Choice)) (f : NameFault) → selected_by sight e ≡ Some by
-    → Tells (covered sight by.0 lists) f → Tells (covered_by sight e lists) f
-covered_told sight e by lists f is h =
-    told_right (asked.selected_by sight e) (where_given (typed sight e) (λ x. where_given (selector x) (λ k. covered sight k.0 lists))) f
-    (selected_told (typed sight e) by (λ type. covered sight type lists) f is h)
+-- where the selector is given what is broken by its type is the whole
+pub selector_given : (sight : Sight) (e : t.Expr) (b : ObjectType → Broken) (by : ObjectType × Value) → selected_by sight e ≡ Some by → by_selector sight e b ≡ b by.0
+selector_given sight e b by is =
+    let x = comes (are.typed sight e) selector by is in
+    behind_kept (asked.selected_by sight e) (where_given (are.typed sight e) (λ x. where_given (selector x) (λ k. b k.0))) (selected_by_kept sight e x.value by x.is x.rest)
+    ∙ ap (λ (o : Option Typed). where_given o (λ x. where_given (selector x) (λ k. b k.0))) x.is
+    ∙ ap (λ (o : Option (ObjectType × Value)). where_given o (λ k. b k.0)) x.rest
 
 -- ---- case statements
 
 module _ (sight : Sight) (label : Option Ident) (c : Case) (f : NameFault) where
-  abbrev case_label : Broken
-  case_label = unless WrongKind (label_ends label (tree.option_ident_view (out-Case c).end_label))
+  abbrev case_alternatives : List t.Alternative
+  case_alternatives = tree.alternatives_view (out-Case c).alternatives
 
-  abbrev case_lists : List (List t.Choice)
-  case_lists = cases.choice_lists (tree.alternatives_view (out-Case c).alternatives)
+  abbrev case_ends : Option Ident
+  case_ends = tree.option_ident_view (out-Case c).end_label
 
-  abbrev case_covers : Broken
-  case_covers = covered_by sight (tree.view (out-Case c).selector) case_lists
+  abbrev case_covers : List (List t.Choice) → ObjectType → Broken
+  case_covers lists type = covered sight type (out-Case c).at lists (broken.alternatives sight type (t.alternatives_of case_alternatives))
 
-  abbrev case_bodies : Broken
-  case_bodies = broken.alternatives sight (t.alternatives_of (tree.alternatives_view (out-Case c).alternatives))
+  abbrev case_behind : List (List t.Choice) → Broken
+  case_behind lists = end_label label case_ends ▸ any_alternative (out-Case c).at lists
 
-  case_told : Tells (case_label ▸ (case_covers ▸ case_bodies)) f → Tells (broken.statement sight label (tree.case_view c)) f
+  abbrev case_whole : List (List t.Choice) → Broken
+  case_whole lists = by_selector sight (tree.view (out-Case c).selector) (case_covers lists) ▸ case_behind lists
+
+  case_told : Tells (case_whole (cases.choice_lists case_alternatives)) f → Tells (broken.statement sight label (tree.case_view c)) f
   unfolding broken.statement
   case_told h =
-      told_along (case_label ▸ (case_covers ▸ case_bodies)) (broken.statement sight label (tree.case_view c)) f
-      (ap (λ lists. case_label ▸ (covered_by sight (tree.view (out-Case c).selector) lists ▸ case_bodies))
-      (sym (lists_each (tree.alternatives_view (out-Case c).alternatives)))
-      ∙ sym (ap (broken.statement sight label) (case_is c))) h
+      told_same (case_whole (cases.choice_lists case_alternatives)) (broken.statement sight label (tree.case_view c)) f
+      (ap case_whole (sym (lists_each case_alternatives)) ∙ sym (ap (broken.statement sight label) (case_is c))) h
 
   pub case_selector : Tells (asked.selected_by sight (tree.view (out-Case c).selector)) f → Tells (broken.statement sight label (tree.case_view c)) f
   case_selector h =
-      case_told (told_right case_label (case_covers ▸ case_bodies) f (told_left case_covers case_bodies f (told_left (asked.selected_by sight (tree.view (out-Case c).selector)) _ f h)))
+      let lists = cases.choice_lists case_alternatives in
+      let e = tree.view (out-Case c).selector in
+      case_told (told_left (by_selector sight e (case_covers lists)) (case_behind lists) f (told_left (asked.selected_by sight e) _ f h))
 
   pub case_parts : (by : ObjectType × Value) → selected_by sight (tree.view (out-Case c).selector) ≡ Some by
-      → Tells (told.parts sight by.0 label (tree.alternatives_view (out-Case c).alternatives) (tree.option_ident_view (out-Case c).end_label)) f
-      → Tells (broken.statement sight label (tree.case_view c)) f
+      → Tells (told.parts sight by.0 label (out-Case c).at case_alternatives case_ends) f → Tells (broken.statement sight label (tree.case_view c)) f
   case_parts by is h =
-      case_told (told_either case_label (covered sight by.0 case_lists ▸ case_bodies) (case_label ▸ (case_covers ▸ case_bodies)) f h
-      (λ k. told_left case_label (case_covers ▸ case_bodies) f k)
-      (λ r. told_right case_label (case_covers ▸ case_bodies) f
-      (told_either (covered sight by.0 case_lists) case_bodies (case_covers ▸ case_bodies) f r
-      (λ k. told_left case_covers case_bodies f (covered_told sight (tree.view (out-Case c).selector) by case_lists f is k))
-      (λ k. told_right case_covers case_bodies f k))))
+      let lists = cases.choice_lists case_alternatives in
+      case_told (told_same (case_covers lists by.0 ▸ case_behind lists) (case_whole lists) f
+      (ap (λ b. b ▸ case_behind lists) (sym (selector_given sight (tree.view (out-Case c).selector) (case_covers lists) by is))) h)

@@ -22,6 +22,9 @@ use Rattle.vhdl_names_statements.specs.steps.Cases as cases
 
 -- ---- statements with statements in them
 
+abbrev pub labelled : Sight → t.Sequential → Broken
+labelled sight q = broken.statement sight q.label q.statement
+
 abbrev pub guarded : Sight → t.Conditional → Broken
 guarded sight b = condition sight b.condition ▸ broken.statements sight (t.statements_of b.statements)
 

@@ -1,0 +1,170 @@
+-- What is told of what a case or a selected assignment does by a value is told of its parts.
+use Rattle.std.proofs.Common.{◌≡◌, ℕ, Bool, true, false, List, [], ◌∷◌, map, Option, Some, None, Result, Ok, Err, IfOk, IfErr, refl, ap, sym, ◌∙◌}
+use Rattle.std.specs.Prelude.{◌||◌}
+use Rattle.std.specs.List.{flat_map}
+use Rattle.vhdl_tree.specs.Tree as t
+use Rattle.vhdl_tree.specs.Tree.{Ident}
+use Rattle.vhdl_names_rules.specs.declared.kind.ObjectType.{ObjectType}
+use Rattle.vhdl_names_rules.specs.declared.fault.NameFault.{NameFault}
+use Rattle.vhdl_names_rules.specs.declared.fault.NameProblem.TheVariants.{WrongKind}
+use Rattle.vhdl_names_rules.specs.units.Statements as s
+use Rattle.vhdl_names_rules.specs.Rules.{◌>>=◌, ◌>>◌, met, rule, each}
+use Rattle.vhdl_names_rules.specs.Visibility.{Sight, label_ends, are_distinct}
+use Rattle.vhdl_names_rules.specs.Choices as are
+use Rattle.vhdl_names_rules.specs.Choices.{only_last_others, is_last_others, are_distinct_choices, names_all}
+use Rattle.vhdl_names_rules.specs.Statements.{SignalName, target}
+use Rattle.vhdl_names_rules.proofs.laws.Rules.{comes, kept, some_is}
+use Rattle.vhdl_names_problems.specs.Broken.{Broken, Tells, ◌▸◌, any_of}
+use Rattle.vhdl_names_problems.specs.Covered as broken
+use Rattle.vhdl_names_problems.specs.Covered.{any_alternative}
+use Rattle.vhdl_names_problems.specs.Statements as broken'
+use Rattle.vhdl_names_problems.specs.Statements.{end_label}
+use Rattle.vhdl_names_problems.specs.Concurrent as problems
+use Rattle.vhdl_names_problems.proofs.Telling.{IsKept, told_same, told_left, told_right}
+use Rattle.vhdl_names_problems.proofs.kept.Statements.{target_kept, end_label_kept}
+use Rattle.vhdl_names_problems.proofs.kept.Covered.{covered_kept}
+use Rattle.vhdl_names_units.specs.views.Sequential.{Chosen}
+use Rattle.vhdl_names_labels.specs.Once.{key_of}
+use Rattle.vhdl_names_labels.proofs.Once.{distinct_keys}
+use Rattle.vhdl_names_statements.specs.steps.Cases as cases
+use Rattle.vhdl_names_statements.specs.steps.Cases.{all_choices, choices_of, cover, covering}
+use Rattle.vhdl_names_statements.specs.steps.Concurrent as steps
+use Rattle.vhdl_names_statements.specs.steps.Told as told
+use Rattle.vhdl_names_statements.proofs.steps.Cases.{Pairs, all_there, no_choices, no_bodies, flat_each}
+use Rattle.vhdl_names_statements.proofs.steps.Cases as by_cases
+use Rattle.vhdl_names_statements.proofs.steps.Concurrent as by_waveforms
+use Rattle.vhdl_names_statements.proofs.steps.Told.{alternatives_kept}
+use Rattle.vhdl_names_statements.proofs.steps.Assigning.{waveforms_kept}
+
+-- ---- alternatives that are given have the choices that stand there
+
+choices_there : (f : Option (List (List s.Choice))) (g : Option (List s.Statements)) (h : Option (List Chosen)) → Pairs f g h
+    → (all : List Chosen) → h ≡ Some all → f ≡ Some (choices_of all)
+choices_there f g h (all_there xs p q r) all e =
+    let same : xs ≡ all = some_is xs all (sym r ∙ e) in
+    p ∙ ap (λ xs. Some (choices_of xs)) same
+choices_there f g h (no_choices p r) all e = let no : let n : Option (List Chosen) = None in n ≡ Some all = sym r ∙ e in cc
+choices_there f g h (no_bodies q r) all e = let no : let n : Option (List Chosen) = None in n ≡ Some all = sym r ∙ e in cc
+
+-- ---- choices that cover their selector
+
+module _ (sight : Sight) (type : ObjectType) (lists : List (List t.Choice)) where
+  cover_given : (all : List Chosen) → each (are.choices sight type) lists ≡ Some (choices_of all) → cover type lists (all_choices all) ≡ Some tt
+      → are.covered sight type lists ≡ Some (choices_of all)
+  cover_given all there h =
+      let css = choices_of all in
+      let flat : flat_map (λ (cs : List s.Choice). cs) css ≡ all_choices all = flat_each all in
+      let a = kept (only_last_others lists) _ tt h in
+      let b = kept (are_distinct (map key_of (all_choices all))) _ tt a.1 in
+      let c = kept (is_last_others lists || names_all type (all_choices all)) (Some tt) tt (named (is_last_others lists || names_all type (all_choices all)) b.1) in
+      ap (λ m. met m >> (each (are.choices sight type) lists >>= λ css. met (are_distinct_choices (flat_map (λ cs. cs) css))
+      >> (met (is_last_others lists || names_all type (flat_map (λ cs. cs) css)) >> Some css))) a.0
+      ∙ ap (λ o. o >>= λ css. met (are_distinct_choices (flat_map (λ cs. cs) css)) >> (met (is_last_others lists || names_all type (flat_map (λ cs. cs) css)) >> Some css)) there
+      ∙ ap (λ xs. met (are_distinct_choices xs) >> (met (is_last_others lists || names_all type xs) >> Some css)) flat
+      ∙ ap (λ m. met m >> (met (is_last_others lists || names_all type (all_choices all)) >> Some css)) (sym (distinct_keys (all_choices all)) ∙ b.0)
+      ∙ ap (λ m. met m >> Some css) c.0
+    where
+      named : (b : Bool) → met b ≡ Some tt → (met b >> Some tt) ≡ Some tt
+      named true h = refl
+      named false h = cc
+
+  -- what is covered breaks nothing where the alternatives break nothing
+  pub covering_kept : (at : ℕ) (b : Broken) (found : Option (List Chosen)) (all : List Chosen)
+      → ((all : List Chosen) → found ≡ Some all → each (are.choices sight type) lists ≡ Some (choices_of all)) → ((all : List Chosen) → found ≡ Some all → IsKept b)
+      → covering type lists found ≡ Some all → IsKept (broken.covered sight type at lists b)
+  covering_kept at b found all there fine h =
+      let x = comes found _ all h in
+      let y = comes (cover type lists (all_choices x.value)) _ all x.rest in
+      covered_kept sight type at lists b (choices_of x.value) (cover_given x.value (there x.value x.is) y.is) (fine x.value x.is)
+
+  -- alternatives that are covered are those that were given
+  pub covering_found : (found : Option (List Chosen)) (all : List Chosen) → covering type lists found ≡ Some all → found ≡ Some all
+  covering_found found all h =
+      let x = comes found _ all h in
+      let y = comes (cover type lists (all_choices x.value)) _ all x.rest in
+      x.is ∙ y.rest
+
+-- ---- what a case does by a value
+
+module _ (sight : Sight) (type : ObjectType) (alts : List t.Alternative) where
+  pub case_there : (all : List Chosen) → each (cases.chosen sight type) alts ≡ Some all → each (are.choices sight type) (cases.choice_lists alts) ≡ Some (choices_of all)
+  case_there all e = choices_there _ _ _ (by_cases.pairs sight type alts) all e
+
+  -- there is an alternative where one is given
+  any_given : (at : ℕ) (alts : List t.Alternative) (all : List Chosen) → each (cases.chosen sight type) alts ≡ Some all
+      → any_alternative at all ≡ any_alternative at (cases.choice_lists alts)
+  any_given at [] all h = ap (any_alternative at) (sym (some_is [] all h))
+  any_given at (a ∷ alts) all h =
+      let c = comes (cases.chosen sight type a) _ all h in
+      let d = comes (each (cases.chosen sight type) alts) _ all c.rest in
+      ap (any_alternative at) (sym (some_is (c.value ∷ d.value) all d.rest))
+
+  module _ (label end : Option Ident) (at : ℕ) (f : NameFault) where
+    abbrev case_covers : Broken
+    case_covers = broken.covered sight type at (cases.choice_lists alts) (broken'.alternatives sight type (t.alternatives_of alts))
+
+    abbrev case_behind : Broken
+    case_behind = end_label label end ▸ any_alternative at (cases.choice_lists alts)
+
+    pub parts_cover : Tells case_covers f → Tells (told.parts sight type label at alts end) f
+    parts_cover h = told_left case_covers case_behind f h
+
+    module _ (all : List Chosen) (given : covering type (cases.choice_lists alts) (each (cases.chosen sight type) alts) ≡ Some all) where
+      parts_behind : Tells case_behind f → Tells (told.parts sight type label at alts end) f
+      parts_behind h =
+          told_right case_covers case_behind f
+          (covering_kept sight type (cases.choice_lists alts) at (broken'.alternatives sight type (t.alternatives_of alts)) (each (cases.chosen sight type) alts) all
+          case_there (alternatives_kept sight type alts) given) h
+
+      pub parts_ends : Tells (end_label label end) f → Tells (told.parts sight type label at alts end) f
+      parts_ends h = parts_behind (told_left (end_label label end) (any_alternative at (cases.choice_lists alts)) f h)
+
+      pub parts_none : rule WrongKind (label_ends label end) ≡ Some tt → Tells (any_alternative at all) f → Tells (told.parts sight type label at alts end) f
+      parts_none ends h =
+          parts_behind (told_right (end_label label end) (any_alternative at (cases.choice_lists alts)) f (end_label_kept label end (is_met (label_ends label end) ends))
+          (told_same (any_alternative at all) (any_alternative at (cases.choice_lists alts)) f
+          (any_given at alts all (covering_found sight type (cases.choice_lists alts) (each (cases.chosen sight type) alts) all given)) h))
+        where
+          is_met : (b : Bool) → met b ≡ Some tt → b ≡ true
+          is_met true h = refl
+          is_met false h = cc
+
+-- ---- what a selected assignment does by a value
+
+module _ (sight : Sight) (type : ObjectType) (a : t.SelectedAssignment) (x : SignalName) (found : target sight a.target ≡ Some x) where
+  abbrev lists : List (List t.Choice)
+  lists = steps.choice_lists a.waveforms
+
+  abbrev each_waveform : Broken
+  each_waveform = any_of (problems.waveform sight type a.target) a.waveforms
+
+  abbrev given_waveforms : Option (List Chosen)
+  given_waveforms = each (steps.chosen sight type a.target) a.waveforms
+
+  pub waveforms_there : (all : List Chosen) → given_waveforms ≡ Some all → each (are.choices sight type) lists ≡ Some (choices_of all)
+  waveforms_there all e = choices_there _ _ _ (by_waveforms.pairs sight a.target x found type a.waveforms) all e
+
+  any_waveform : (at : ℕ) (ws : List t.Waveform) (all : List Chosen) → each (steps.chosen sight type a.target) ws ≡ Some all → any_alternative at all ≡ any_alternative at ws
+  any_waveform at [] all h = ap (any_alternative at) (sym (some_is [] all h))
+  any_waveform at (w ∷ ws) all h =
+      let c = comes (steps.chosen sight type a.target w) _ all h in
+      let d = comes (each (steps.chosen sight type a.target) ws) _ all c.rest in
+      ap (any_alternative at) (sym (some_is (c.value ∷ d.value) all d.rest))
+
+  module _ (f : NameFault) where
+    abbrev selected_covers : Broken
+    selected_covers = broken.covered sight type a.at lists each_waveform
+
+    selected_behind : Tells (selected_covers ▸ any_alternative a.at a.waveforms) f → Tells (problems.waveforms sight type a) f
+    selected_behind h =
+        told_right (broken'.target sight a.target) (selected_covers ▸ any_alternative a.at a.waveforms) f (target_kept sight a.target x found) h
+
+    pub selected_cover : Tells selected_covers f → Tells (problems.waveforms sight type a) f
+    selected_cover h = selected_behind (told_left selected_covers (any_alternative a.at a.waveforms) f h)
+
+    pub selected_none : (all : List Chosen) → covering type lists given_waveforms ≡ Some all → Tells (any_alternative a.at all) f → Tells (problems.waveforms sight type a) f
+    selected_none all given h =
+        selected_behind (told_right selected_covers (any_alternative a.at a.waveforms) f
+        (covering_kept sight type lists a.at each_waveform given_waveforms all waveforms_there (waveforms_kept sight type a.target a.waveforms) given)
+        (told_same (any_alternative a.at all) (any_alternative a.at a.waveforms) f
+        (any_waveform a.at a.waveforms all (covering_found sight type lists given_waveforms all given)) h))
