@@ -12,7 +12,8 @@ use Rattle.vhdl_names_rules.specs.Visibility.{Name, are_distinct}
 use Rattle.vhdl_names_rules.specs.Statements.{label_names, inner_labels, statement_labels, conditional_labels, otherwise_labels, alternative_labels}
 use Rattle.vhdl_names_labels.specs.Lists.{in_turn}
 use Rattle.vhdl_names_labels.specs.Once.{one_name}
-use Rattle.vhdl_names_statements.proofs.steps.Cases.{turned-append, case_is}
+use Rattle.vhdl_names_statements.proofs.steps.Cases.{case_is}
+use Rattle.vhdl_names_statements.proofs.steps.Choosing.{turned-append}
 use Rattle.vhdl_names_labels.proofs.Lists.{bound}
 use Rattle.vhdl_names_labels.proofs.Once.{once}
 use Rattle.vhdl_names_statements.proofs.steps.Sequential.{if_is, for_is}
@@ -24,28 +25,28 @@ label_first ns q = turned-append ns (label_names q.label) (inner_labels q.statem
 
 -- ---- lists of statements
 
-each_statement : (ns : List Name) (qs : List t.Sequential) → in_turn one_name ns (statement_labels (t.statements_of qs)) ≡ with_statements ns qs
+pub each_statement : (ns : List Name) (qs : List t.Sequential) → in_turn one_name ns (statement_labels (t.statements_of qs)) ≡ with_statements ns qs
 each_statement ns [] = refl
 each_statement ns (q ∷ qs) =
     ap (in_turn one_name ns) (sym (append_assoc (label_names q.label) (inner_labels q.statement) (statement_labels (t.statements_of qs))))
     ∙ turned-append ns (label_names q.label ++ inner_labels q.statement) (statement_labels (t.statements_of qs))
     ∙ bound (with_statement ns q) _ _ (λ ms. each_statement ms qs)
 
-each_branch : (ns : List Name) (bs : List t.Conditional) → in_turn one_name ns (conditional_labels (t.conditionals_of bs)) ≡ in_turn with_branch ns bs
+pub each_branch : (ns : List Name) (bs : List t.Conditional) → in_turn one_name ns (conditional_labels (t.conditionals_of bs)) ≡ in_turn with_branch ns bs
 each_branch ns [] = refl
 each_branch ns (b ∷ bs) =
     turned-append ns (statement_labels (t.statements_of b.statements)) (conditional_labels (t.conditionals_of bs))
     ∙ ap (λ o. o >>= λ ms. in_turn one_name ms (conditional_labels (t.conditionals_of bs))) (each_statement ns b.statements)
     ∙ bound (with_branch ns b) _ _ (λ ms. each_branch ms bs)
 
-each_alternative : (ns : List Name) (as' : List t.Alternative) → in_turn one_name ns (alternative_labels (t.alternatives_of as')) ≡ in_turn with_alternative ns as'
+pub each_alternative : (ns : List Name) (as' : List t.Alternative) → in_turn one_name ns (alternative_labels (t.alternatives_of as')) ≡ in_turn with_alternative ns as'
 each_alternative ns [] = refl
 each_alternative ns (a ∷ as') =
     turned-append ns (statement_labels (t.statements_of a.statements)) (alternative_labels (t.alternatives_of as'))
     ∙ ap (λ o. o >>= λ ms. in_turn one_name ms (alternative_labels (t.alternatives_of as'))) (each_statement ns a.statements)
     ∙ bound (with_alternative ns a) _ _ (λ ms. each_alternative ms as')
 
-each_else : (ns : List Name) (o : Option (List t.Sequential)) → in_turn one_name ns (otherwise_labels (t.otherwise_of o)) ≡ with_else ns o
+pub each_else : (ns : List Name) (o : Option (List t.Sequential)) → in_turn one_name ns (otherwise_labels (t.otherwise_of o)) ≡ with_else ns o
 each_else ns None = refl
 each_else ns (Some qs) = each_statement ns qs
 

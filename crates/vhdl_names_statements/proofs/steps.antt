@@ -1,6 +1,7 @@
 pub mod Assigning
 pub mod Cases
 pub mod Choosing
+pub mod Completing
 pub mod Concurrent
 pub mod Covering
 pub mod Sequential

@@ -61,12 +61,12 @@ own_ports source top net h =
 -- ---- why it has none
 
 pub no_units : (file : File) (size : ℕ) (fault : NameFault) → (fault ≢ names.NoMemory → units_of file ≡ None) → Tells (breaks.file file) fault
-    → HasNameFault file (of_name (name_within size fault))
-no_units file size (names.At problem at) none told = (none (λ e. absurd cc), told)
+    → HasNameFault size file (of_name (name_within size fault))
+no_units file size (names.At problem at) none told = (none (λ e. absurd cc), record { byte = at; broken = told; told = refl })
 no_units file size names.NoMemory none told = tt
 
-pub untyped_refuses : (source top : List ℕ) (file : File) (fault : SourceFault) → IsFileOf source file → HasNameFault file fault → Refuses source top fault
-untyped_refuses source top file (Name (names.At problem at)) read h = record { file = file; read = read; ill_typed = h.0; broken = h.1 }
+pub untyped_refuses : (source top : List ℕ) (file : File) (fault : SourceFault) → IsFileOf source file → HasNameFault (length source) file fault → Refuses source top fault
+untyped_refuses source top file (Name (names.At problem at)) read h = record { file = file; read = read; ill_typed = h.0; first = h.1 }
 untyped_refuses source top file (Name names.NoMemory) read h = h
 untyped_refuses source top file NoMemory read h = tt
 untyped_refuses source top file (Lex fault) read h = absurd h

@@ -62,8 +62,8 @@ too_deep : (fault : SyntaxFault) (source : List ℕ) (file : File) → IsTooDeep
 too_deep fault source file is r h =
     not_both most_open (lexemes source r.tokens) (r.deep is) (subst (λ (ts : List Token). IsShallow most_open (lexemes source ts)) (r.only_tokens h.tokens h.cut) h.shallow)
 
-untyped : (source : List ℕ) (units : Units) (problem : NameProblem) → HasNoUnits source problem → HasUnits source units → ⊥
-untyped source units problem r h =
+untyped : (source : List ℕ) (units : Units) (problem : NameProblem) (at : ℕ) → HasNoUnits source problem at → HasUnits source units → ⊥
+untyped source units problem at r h =
     let both = sym r.ill_typed ∙ ap units_of (one_file source r.file h.file r.read h.read) ∙ h.well_typed in absurd (cc)
 
 undesigned : (given : Expanded Elaborated) (design : Elaborated) → IsErr given → given ≡ Ok design → ⊥
@@ -99,7 +99,7 @@ refused source top (Syntax (syntax.Unexpected at)) design behind r h = unspelled
 refused source top (Syntax (syntax.EndOfFile at)) design behind r h = unspelled (syntax.EndOfFile at) source h.analysed.file tt r h.analysed.read
 refused source top (Syntax (syntax.TooDeep at)) design behind r h = too_deep (syntax.TooDeep at) source h.analysed.file tt r h.analysed.read
 refused source top (Syntax syntax.NoMemory) design behind r h = r
-refused source top (Name (names.At problem at)) design behind r h = untyped source h.units problem r h.analysed
+refused source top (Name (names.At problem at)) design behind r h = untyped source h.units problem at r h.analysed
 refused source top (Name names.NoMemory) design behind r h = r
 refused source top (Elab (elab.At problem at)) design behind r h = no_design source top problem design r h
 refused source top (Elab elab.NoMemory) design behind r h = r

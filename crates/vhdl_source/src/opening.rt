@@ -31,8 +31,8 @@ use vhdl_tree::File;
 /// # Errors
 ///
 /// The first layer that refuses the source, with its fault: `Lex`, `Syntax`, `Name` or `Elab`, told at a byte of the source or at
-/// its end. The problem of `Name` is one that a broken rule bears, that of `Elab` the first broken rule's, or `TooMany`. `NoMemory`
-/// where memory was refused.
+/// its end. `Name` is the first rule that the file breaks as it is read, with its byte; the problem of `Elab` is the first broken rule's,
+/// or `TooMany`. `NoMemory` where memory was refused.
 pub fn open(alloc: Global, source: &[u8], top: &[u8]) -> Result<Net, SourceFault>
     ensures net { IfOk result (λ net. IsNetOf source.now top.now net) }
     ensures ports { IfOk result (λ net. HasOwnPorts net) }
@@ -65,7 +65,7 @@ fn read(alloc: Global, source: &[u8]) -> Result<File, SourceFault>
 
 /// The units of a file, whose source has `size` bytes.
 fn units_of(alloc: Global, file: &File, size: usize) -> Result<Units, SourceFault>
-    ensures given { GivesUnits (file_view file.now) result }
+    ensures given { GivesUnits size (file_view file.now) result }
     ensures told { IfErr result (LiesIn size) }
 {
     match analyse(alloc, file) {

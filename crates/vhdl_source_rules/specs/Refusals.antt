@@ -1,5 +1,5 @@
 -- Why a source has no netlist under a top: the first layer that refuses, each where its own definition does.
-use Rattle.std.specs.Prelude.{◌≡◌, ℕ, true, List, None}
+use Rattle.std.specs.Prelude.{◌≡◌, ℕ, min, length, List, Some, None}
 use Rattle.vhdl_elab_laws.specs.Refused.{MayRefuse}
 use Rattle.vhdl_expand_rules.specs.declared.fault.ElabFault.TheVariants as elab
 use Rattle.vhdl_expand_rules.specs.declared.fault.ElabProblem.{ElabProblem}
@@ -17,12 +17,19 @@ use Rattle.vhdl_source_rules.specs.Sources.{IsFileOf, HasSyntaxFault}
 use Rattle.vhdl_source_rules.specs.declared.fault.SourceFault.{SourceFault}
 use Rattle.vhdl_source_rules.specs.declared.fault.SourceFault.TheVariants.{Lex, Syntax, Name, Elab, NoMemory}
 
--- the source's one tree is a file that isn't well typed, and a rule that bears this problem is broken in it
-pub record HasNoUnits (source : List ℕ) (problem : NameProblem) : Type 0 where
+-- The first rule that the file breaks, as it is read, bears this problem, and is told at this byte of a source of this length: its own, or
+-- the source's end where it lies behind that.
+pub record IsFirstBroken (file : File) (size : ℕ) (problem : NameProblem) (at : ℕ) : Type 0 where
+  pub byte : ℕ
+  pub broken : breaks.file file ≡ Some (problem, byte)
+  pub told : at ≡ min byte size
+
+-- the source's one tree is a file that isn't well typed, and this is the first rule that it breaks
+pub record HasNoUnits (source : List ℕ) (problem : NameProblem) (at : ℕ) : Type 0 where
   pub file : File
   pub read : IsFileOf source file
   pub ill_typed : units_of file ≡ None
-  pub broken : breaks.file file problem ≡ true
+  pub first : IsFirstBroken file (length source) problem at
 
 -- The source's units have no design with this top, and this problem may be told: that of the first broken rule, or TooMany where the growth
 -- of the design may be cut off before.
@@ -31,15 +38,14 @@ pub record HasNoDesign (source top : List ℕ) (problem : ElabProblem) : Type 0 
   pub analysed : HasUnits source units
   pub refused : MayRefuse units top problem
 
--- A layer's want of memory is told as NoMemory alone. Of several broken rules of names no definition says which is told, nor whether
--- TooDeep or Unexpected is told of a source that has both.
+-- A layer's want of memory is told as NoMemory alone. No definition says whether TooDeep or Unexpected is told of a source that has both.
 abbrev pub Refuses : (source top : List ℕ) → SourceFault → Type 0
 Refuses source top (Lex lex.NoMemory) = ⊥
 Refuses source top (Lex fault) = HasFault fault source
 Refuses source top (Syntax syntax.NoMemory) = ⊥
 Refuses source top (Syntax fault) = HasSyntaxFault fault source
 Refuses source top (Name names.NoMemory) = ⊥
-Refuses source top (Name (names.At problem at)) = HasNoUnits source problem
+Refuses source top (Name (names.At problem at)) = HasNoUnits source problem at
 Refuses source top (Elab elab.NoMemory) = ⊥
 Refuses source top (Elab (elab.At problem at)) = HasNoDesign source top problem
 Refuses source top NoMemory = Unit {0}

@@ -3,6 +3,8 @@ use Rattle.std.proofs.Common.{◌≡◌, ◌≢◌, ℕ, zero, suc, ◌+◌, ◌
 use Rattle.std.specs.Prelude.{not, ◌&&◌, ◌||◌}
 use Rattle.std.specs.List.{flat_map, filter_map, list_any}
 use Rattle.std.specs.Borrow.{Bor}
+use Rattle.std.proofs.lemmas.Bool.{ne_eqb}
+use Rattle.std.proofs.Math.Dec.{eqb-suc-suc}
 use Rattle.std.proofs.lemmas.List.{append-nil, append_assoc, map-append}
 use Rattle.std.proofs.lemmas.List.Elements.{filter_map-append}
 use Rattle.vhdl_tree.specs.declared.expression.Choice.{Choice}
@@ -316,11 +318,16 @@ module _ (sight : Sight) (type : ObjectType) where
 
 -- ---- the last of several
 
-pub last_is : (bs : List (Bor (List Choice))) (i : ℕ) → i < length bs → (i + 1 == length bs) ≡ is_empty (all_lists (drop (i + 1) bs))
-last_is [] i lt = absurd (omega (arith, lt))
-last_is (b ∷ bs) zero lt = go bs
+last_next : (bs : List (Bor (List Choice))) (i : ℕ) → i < length bs → (suc i == length bs) ≡ is_empty (all_lists (drop (suc i) bs))
+last_next [] i lt = absurd (omega (arith, lt))
+last_next (b ∷ bs) zero lt = go bs
   where
     go : (bs : List (Bor (List Choice))) → (1 == suc (length bs)) ≡ is_empty (all_lists bs)
     go [] = refl
-    go (c ∷ bs) = refl
-last_is (b ∷ bs) (suc i) lt = last_is bs i (omega (arith, lt))
+    go (c ∷ bs) = ne_eqb 1 (suc (suc (length bs))) (λ e. omega (arith, e))
+last_next (b ∷ bs) (suc i) lt = eqb-suc-suc (suc i) (length bs) ∙ last_next bs i (omega (arith, lt))
+
+pub last_is : (bs : List (Bor (List Choice))) (i : ℕ) → i < length bs → (i + 1 == length bs) ≡ is_empty (all_lists (drop (i + 1) bs))
+last_is bs i lt =
+    let e : suc i ≡ i + 1 = omega arith in
+    ap (λ k. k == length bs) (sym e) ∙ last_next bs i lt ∙ ap (λ k. is_empty (all_lists (drop k bs))) e

@@ -8,5 +8,5 @@ use Rattle.vhdl_source.proofs.opening.units_of.Goals as goal
 
 pub returns-in-Err-clause-given : goal.returns-in-Err-clause-given
 returns-in-Err-clause-given c =
-    subst (λ (f : SourceFault). HasNameFault (file_view c.args.file.now) f) (sym (c.from.ensures ∙ ap of_name c.name_fault_within.ensures))
+    subst (λ (f : SourceFault). HasNameFault c.args.size (file_view c.args.file.now) f) (sym (c.from.ensures ∙ ap of_name c.name_fault_within.ensures))
     (no_units (file_view c.args.file.now) c.args.size c.in-Err.fault c.in-Err.ensures.given c.in-Err.ensures.told)

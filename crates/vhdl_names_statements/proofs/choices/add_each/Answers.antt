@@ -1,0 +1,32 @@
+use Rattle.std.proofs.Common.{rules, arith, ◌≡◌, ◌<◌, length, map}
+use Rattle.std.proofs.lemmas.Grind.{common_steps}
+use Rattle.vhdl_tree.specs.View as tree
+use Rattle.vhdl_names_types.specs.Views.{sight_view}
+use Rattle.vhdl_names_problems.specs.Broken.{Tells}
+use Rattle.vhdl_names_labels.specs.Once.{names_view}
+use Rattle.vhdl_names_statements.specs.steps.Told as told
+use Rattle.vhdl_names_statements.proofs.steps.Choosing.{next_told, next_left, next_added}
+use Rattle.vhdl_names_statements.proofs.choices.add_each.Goals as goal
+
+pub returns-in_err-add_written-clause-told : goal.returns-in_err-add_written-clause-told
+returns-in_err-add_written-clause-told c =
+    let s = sight_view c.args.sight.now in
+    let xs = c.args.list.now in
+    let i = c.loop-written.written-index in
+    let lt : c.loop-written.written-index < length c.args.list.now = omega arith in
+    let h : Tells (told.each_once s c.args.selected (names_view c.args.keys.now) (map tree.choice_view xs)) c.in_err-add_written.field-0.0 =
+    next_told s c.args.selected xs i c.written-item.result lt c.written-item.is (names_view c.args.keys.now) (names_view c.loop-written.keys) c.in_err-add_written.field-0.0
+    c.loop-written.invariant.1 c.in_err-add_written.ensures.told in
+    first_of (search rules, grind (arith, common_steps))
+
+pub loop-written-preserved : goal.loop-written-preserved
+loop-written-preserved c =
+    let s = sight_view c.args.sight.now in
+    let xs = c.args.list.now in
+    let i = c.loop-written.written-index in
+    let lt : c.loop-written.written-index < length c.args.list.now = omega arith in
+    let old = names_view c.args.keys.now in
+    let keys = names_view c.loop-written.keys in
+    let new = names_view c.add_written.new.keys in
+    (next_added s c.args.selected xs i c.written-item.result lt c.written-item.is old keys new c.loop-written.invariant.0 c.in_ok-add_written.ensures.added,
+    next_left s c.args.selected xs i c.written-item.result lt c.written-item.is old keys new c.loop-written.invariant.1 c.in_ok-add_written.ensures.kept c.in_ok-add_written.ensures.added)
