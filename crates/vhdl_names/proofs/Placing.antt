@@ -1,5 +1,5 @@
 -- The architectures of a file, each placed as that of its entity.
-use Rattle.std.proofs.Common.{◌≡◌, ℕ, zero, suc, ◌+◌, arith, Bool, true, false, cond, not, ◌||◌, List, [], ◌∷◌, ◌++◌, map, set, length, Option, Some, None, refl, ap, sym, ◌∙◌, subst, true≢false}
+use Rattle.std.proofs.Common.{◌≡◌, ℕ, zero, suc, ◌+◌, arith, Bool, true, false, cond, not, ◌||◌, List, [], ◌∷◌, ◌++◌, map, set, length, Option, Some, None, refl, ap, sym, ◌∙◌, subst, true≢false, zero-add}
 use Rattle.std.specs.Prelude.{bytes_eq, find, slice_get, replicate, if◌then◌else◌}
 use Rattle.std.specs.List.{enumerate_from}
 use Rattle.std.proofs.lemmas.Slice.Eq.{bytes_eq-Decides}
@@ -193,7 +193,7 @@ module _ (es : List EntityView) (distinct : are_distinct (names_in es) ≡ true)
           let c = comes (architecture es e a.0 a.1 >>= λ x. let r : Option (List (Option u.Architecture)) = Some (set (map f es) k (Some x)) in r) (λ os. in_turn (with_described es) os as') os h in
           let x = comes (architecture es e a.0 a.1) (λ x. let r : Option (List (Option u.Architecture)) = Some (set (map f es) k (Some x)) in r) c.value c.is in
           let p = found_at es (text a) 0 k e q in
-          let there : k ≡ p.place = p.is in
+          let there : k ≡ p.place = p.is ∙ zero-add p.place in
           let now : c.value ≡ map (instead f (Some x.value) (text a)) es =
           sym (some_is (set (map f es) k (Some x.value)) c.value x.rest) ∙ ap (λ k. set (map f es) k (Some x.value)) there
           ∙ set_at f (Some x.value) (text a) es p.place e p.at p.same distinct in
