@@ -82,7 +82,7 @@ module _ (f : Sight → Ident → t.Instance → Option u.Instance) where
     mutual
       unfolding rules.concurrent rules.concurrents
 
-      by_instance : (sight : Sight) (x : t.Concurrent) → rules.concurrent es sight x ≡ steps.concurrent f sight x
+      pub by_instance : (sight : Sight) (x : t.Concurrent) → rules.concurrent es sight x ≡ steps.concurrent f sight x
       by_instance sight (t.assignment a) = refl
       by_instance sight (t.selected label a) = refl
       by_instance sight (t.process label p) = refl

@@ -50,6 +50,11 @@ unfolding ◌▸◌
 three None b c = refl
 three (Some x) b c = refl
 
+-- no things are fewer than one
+pub none_below : {A : Type 0} (xs : List A) → length xs < 1 → xs ≡ []
+none_below [] lt = refl
+none_below (x ∷ xs) lt = absurd (omega (arith, lt))
+
 -- ---- one of a list, whose others before it went well
 
 module _ {A B : Type 0} (view : A → B) (xs : List A) (i : ℕ) (x : A) (lt : i < length xs) (is : x ≡ get_or xs i x) where

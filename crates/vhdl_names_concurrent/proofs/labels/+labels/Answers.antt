@@ -1,4 +1,4 @@
-use Rattle.std.proofs.Common.{rules, arith, ◌≡◌, ◌<◌, ◌++◌, length, get_or, map, drop, Some, ap, sym, ◌∙◌}
+use Rattle.std.proofs.Common.{rules, arith, ◌≡◌, ◌<◌, ◌++◌, length, get_or, map, Some, ap, sym, ◌∙◌}
 use Rattle.std.proofs.lemmas.Grind.{common_steps}
 use Rattle.vhdl_tree.specs.Tree as t
 use Rattle.vhdl_tree.specs.View as tree
@@ -71,9 +71,10 @@ of_statements-loop-item-preserved m c =
     let i = c.loop-item.item-index in
     let x = c.item-item.result in
     let lt : c.loop-item.item-index < length (c.args.list.now) = omega arith in
-    let given : steps.with_statement (names_view c.loop-item.taken) (tree.sequential_view c.item-item.result) ≡ Some (names_view c.of_statement.new.taken) = c.in_ok-of_statement.ensures.given in
-    (item_given tree.sequential_view of_statement of_statements statement_split xs i x lt c.item-item.is steps.with_statement old keys new c.loop-item.invariant.0 given,
-    item_left tree.sequential_view of_statement of_statements statement_split xs i x lt c.item-item.is old keys new c.loop-item.invariant.1 (ap (in_turn one_name keys) (statement_named (tree.sequential_view x)) ∙ given))
+    let given : steps.with_statement (names_view c.loop-item.taken) (tree.sequential_view c.item-item.result) ≡ Some (names_view c.of_statement.new.taken) = c.in_ok-of_statement.ensures.given in (
+      item_given tree.sequential_view of_statement of_statements statement_split xs i x lt c.item-item.is steps.with_statement old keys new c.loop-item.invariant.0 given,
+      item_left tree.sequential_view of_statement of_statements statement_split xs i x lt c.item-item.is old keys new c.loop-item.invariant.1 (ap (in_turn one_name keys) (statement_named (tree.sequential_view x)) ∙ given),
+    )
 
 pub of_branches-returns-in_err-of_statements-clause-told : goal.of_branches-returns-in_err-of_statements-clause-told
 of_branches-returns-in_err-of_statements-clause-told m c =
@@ -97,9 +98,10 @@ of_branches-loop-item-preserved m c =
     let i = c.loop-item.item-index in
     let x = c.item-item.result in
     let lt : c.loop-item.item-index < length (c.args.list.now) = omega arith in
-    let given : steps.with_branch (names_view c.loop-item.taken) (tree.conditional_view c.item-item.result) ≡ Some (names_view c.of_statements.new.taken) = sym (ap (λ qs. steps.with_statements (names_view c.loop-item.taken) (map tree.sequential_view qs)) c.deref.ensures.value) ∙ c.in_ok-of_statements.ensures.given in
-    (item_given tree.conditional_view of_branch of_branches branch_split xs i x lt c.item-item.is steps.with_branch old keys new c.loop-item.invariant.0 given,
-    item_left tree.conditional_view of_branch of_branches branch_split xs i x lt c.item-item.is old keys new c.loop-item.invariant.1 (statements_listed keys new (tree.conditional_view x).statements given))
+    let given : steps.with_branch (names_view c.loop-item.taken) (tree.conditional_view c.item-item.result) ≡ Some (names_view c.of_statements.new.taken) = sym (ap (λ qs. steps.with_statements (names_view c.loop-item.taken) (map tree.sequential_view qs)) c.deref.ensures.value) ∙ c.in_ok-of_statements.ensures.given in (
+      item_given tree.conditional_view of_branch of_branches branch_split xs i x lt c.item-item.is steps.with_branch old keys new c.loop-item.invariant.0 given,
+      item_left tree.conditional_view of_branch of_branches branch_split xs i x lt c.item-item.is old keys new c.loop-item.invariant.1 (statements_listed keys new (tree.conditional_view x).statements given),
+    )
 
 pub of_case-returns-in_err-of_statements-clause-told : goal.of_case-returns-in_err-of_statements-clause-told
 of_case-returns-in_err-of_statements-clause-told m c =
@@ -125,9 +127,10 @@ of_case-loop-item-preserved m c =
     let x = c.item-item.result in
     let lt : c.loop-item.item-index < length ((out-Case c.args.case.now).alternatives.items) = omega (arith, ap length c.deref-item-items.ensures.value) in
     let is = c.item-item.is ∙ ap (λ ys. get_or ys i x) c.deref-item-items.ensures.value in
-    let given : steps.with_alternative (names_view c.loop-item.taken) (tree.alternative_view c.item-item.result) ≡ Some (names_view c.of_statements.new.taken) = sym (ap (λ qs. steps.with_statements (names_view c.loop-item.taken) (map tree.sequential_view qs)) c.deref.ensures.value) ∙ c.in_ok-of_statements.ensures.given in
-    (item_given tree.alternative_view of_alternative of_alternatives alternative_split xs i x lt is steps.with_alternative old keys new c.loop-item.invariant.0 given,
-    item_left tree.alternative_view of_alternative of_alternatives alternative_split xs i x lt is old keys new c.loop-item.invariant.1 (statements_listed keys new (tree.alternative_view x).statements given))
+    let given : steps.with_alternative (names_view c.loop-item.taken) (tree.alternative_view c.item-item.result) ≡ Some (names_view c.of_statements.new.taken) = sym (ap (λ qs. steps.with_statements (names_view c.loop-item.taken) (map tree.sequential_view qs)) c.deref.ensures.value) ∙ c.in_ok-of_statements.ensures.given in (
+      item_given tree.alternative_view of_alternative of_alternatives alternative_split xs i x lt is steps.with_alternative old keys new c.loop-item.invariant.0 given,
+      item_left tree.alternative_view of_alternative of_alternatives alternative_split xs i x lt is old keys new c.loop-item.invariant.1 (statements_listed keys new (tree.alternative_view x).statements given),
+    )
 
 pub of_if-returns-in_err-of_branches-clause-told : goal.of_if-returns-in_err-of_branches-clause-told
 of_if-returns-in_err-of_branches-clause-told m c =

@@ -1,4 +1,4 @@
-use Rattle.std.proofs.Common.{rules, arith, ◌<◌, length, map, ap, ◌∙◌}
+use Rattle.std.proofs.Common.{rules, arith, ◌≡◌, ◌<◌, ◌+◌, length, map, drop}
 use Rattle.std.proofs.lemmas.Grind.{common_steps}
 use Rattle.vhdl_tree.specs.View.{name_view}
 use Rattle.vhdl_names_types.specs.Views.{sight_view}
@@ -12,14 +12,17 @@ pub returns-in_err-named-clause-told : goal.returns-in_err-named-clause-told
 returns-in_err-named-clause-told c =
     let b = signal (sight_view c.args.sight.now) in
     let lt : c.loop-name.name-index < length c.args.names.now = omega arith in
-    let h : Tells (any_of (signal (sight_view c.args.sight.now)) (map name_view c.args.names.now)) c.in_err-named.field-0.0 =
+    let h : Tells (any_of b (map name_view c.args.names.now)) c.in_err-named.field-0.0 =
     any_told b name_view c.args.names.now c.loop-name.name-index c.name-item.result lt c.name-item.is c.in_err-named.field-0.0 c.loop-name.invariant.1 c.in_err-named.ensures.told in
     first_of (search rules, grind (arith, common_steps))
 
 pub loop-name-preserved : goal.loop-name-preserved
 loop-name-preserved c =
     let s = sight_view c.args.sight.now in
+    let b = signal s in
     let lt : c.loop-name.name-index < length c.args.names.now = omega arith in
-    (first_of (search rules, grind (arith, common_steps)),
-    any_left (signal s) name_view c.args.names.now c.loop-name.name-index c.name-item.result lt c.name-item.is c.loop-name.invariant.1
-    (signal_kept s (name_view c.name-item.result) _ c.in_ok-named.ensures.given))
+    let left : any_of (signal (sight_view c.args.sight.now)) (map name_view c.args.names.now)
+    ≡ any_of (signal (sight_view c.args.sight.now)) (map name_view (drop (c.loop-name.name-index + 1) c.args.names.now)) =
+    any_left b name_view c.args.names.now c.loop-name.name-index c.name-item.result lt c.name-item.is c.loop-name.invariant.1
+    (signal_kept s (name_view c.name-item.result) _ c.in_ok-named.ensures.given) in
+    first_of (search rules, grind (arith, common_steps))

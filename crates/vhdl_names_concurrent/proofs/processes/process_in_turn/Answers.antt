@@ -32,10 +32,10 @@ returns-in_err-variables-clause-told c =
     let s = sight_view c.args.sight.now in
     let l = tree.option_ident_view c.args.label.now in
     let p = tree.process_view c.args.process.now in
+    let f = c.in_err-variables.field-0.0 in
     let h : Tells (broken.process s l p) c.in_err-variables.field-0.0 =
-    process_variables s l p c.in_err-variables.field-0.0 _ c.in_ok-sensitivity.ensures.given
-    (told_same _ _ c.in_err-variables.field-0.0
-    (ap (λ xs. in_order with_variables declarations.variables variables s (map tree.variables_view xs)) c.deref.ensures.value) c.in_err-variables.ensures.told) in
+    process_variables s l p f _ c.in_ok-sensitivity.ensures.given
+    (told_same _ _ f (ap (λ xs. in_order with_variables declarations.variables variables s (map tree.variables_view xs)) c.deref.ensures.value) c.in_err-variables.ensures.told) in
     first_of (search rules, grind (arith, common_steps))
 
 pub returns-in_err-statements-clause-told : goal.returns-in_err-statements-clause-told
@@ -43,10 +43,11 @@ returns-in_err-statements-clause-told c =
     let s = sight_view c.args.sight.now in
     let l = tree.option_ident_view c.args.label.now in
     let p = tree.process_view c.args.process.now in
+    let f = c.in_err-statements.field-0.0 in
     let h : Tells (broken.process s l p) c.in_err-statements.field-0.0 =
-    process_body s l p c.in_err-statements.field-0.0 _ c.in_ok-sensitivity.ensures.given _ _
+    process_body s l p f _ c.in_ok-sensitivity.ensures.given _ _
     (ap (λ xs. steps.variables_in s (map tree.variables_view xs)) (sym c.deref.ensures.value) ∙ c.in_ok-variables.ensures.given)
-    (told_same _ _ c.in_err-statements.field-0.0 (ap (λ xs. broken.body (sight_view c.variables.new.sight) (t.statements_of (map tree.sequential_view xs))) c.deref-2.ensures.value)
+    (told_same _ _ f (ap (λ xs. broken.body (sight_view c.variables.new.sight) (t.statements_of (map tree.sequential_view xs))) c.deref-2.ensures.value)
     c.in_err-statements.ensures.told) in
     first_of (search rules, grind (arith, common_steps))
 
@@ -55,9 +56,10 @@ returns-in_err-label_ends-clause-told c =
     let s = sight_view c.args.sight.now in
     let l = tree.option_ident_view c.args.label.now in
     let p = tree.process_view c.args.process.now in
+    let f = c.in_err-label_ends.field-0.0 in
     let h : Tells (broken.process s l p) c.in_err-label_ends.field-0.0 =
-    process_ends s l p c.in_err-label_ends.field-0.0 _ c.in_ok-sensitivity.ensures.given _ _
-    (ap (λ xs. steps.variables_in s (map tree.variables_view xs)) (sym c.deref.ensures.value) ∙ c.in_ok-variables.ensures.given)
-    _ (ap (λ xs. steps.body (sight_view c.variables.new.sight) (map tree.sequential_view xs)) (sym c.deref-2.ensures.value) ∙ c.in_ok-statements.ensures.given)
+    process_ends s l p f _ c.in_ok-sensitivity.ensures.given _ _
+    (ap (λ xs. steps.variables_in s (map tree.variables_view xs)) (sym c.deref.ensures.value) ∙ c.in_ok-variables.ensures.given) _
+    (ap (λ xs. steps.body (sight_view c.variables.new.sight) (map tree.sequential_view xs)) (sym c.deref-2.ensures.value) ∙ c.in_ok-statements.ensures.given)
     c.in_err-label_ends.ensures.told in
     first_of (search rules, grind (arith, common_steps))
