@@ -122,7 +122,7 @@ own-count : (o : Object) (a : Option (List ℕ)) → length (own_types (record o
 own-count o None = length-replicated (size o.kind) (element_type o.kind)
 own-count o (Some es) = refl
 
-types-count : (os : List Object) → length (flat_map own_types os) ≡ own_sizes os
+pub types-count : (os : List Object) → length (flat_map own_types os) ≡ own_sizes os
 types-count [] = refl
 types-count (o ∷ os) = length-append (own_types o) (flat_map own_types os) ∙ (λ i. own-count o o.actual i + types-count os i)
 

@@ -1,16 +1,16 @@
 -- The walk over instances and what stands in them, one part after another.
-use Rattle.std.proofs.Common.{◌≡◌, ℕ, zero, suc, ◌+◌, ◌<◌, ◌≤◌, List, [], ◌∷◌, ◌++◌, length, get_or, set, drop, map, Some, Result, Vec, Global, refl, sym, ap, ◌∙◌, subst, arith}
-use Rattle.std.specs.Prelude.{OnOk, is_none, codes}
+use Rattle.std.proofs.Common.{◌≡◌, ℕ, zero, suc, ◌+◌, ◌<◌, ◌≤◌, List, [], ◌∷◌, ◌++◌, length, get_or, set, drop, map, Some, Result, Ok, Err, Vec, Global, refl, sym, ap, ◌∙◌, subst, arith}
+use Rattle.std.specs.Prelude.{OnOk, is_none, codes, flat_map}
 use Rattle.std.specs.List.{AllZip}
-use Rattle.std.proofs.lemmas.List.{length-map, map-append}
+use Rattle.std.proofs.lemmas.List.{length-map, length-append, map-append}
 use Rattle.rtl_net.specs.declared.process.Process as net
 use Rattle.rtl_net.specs.declared.signal.Scope.{Scope}
-use Rattle.rtl_net.specs.Nets.{scope_view, signal_view}
+use Rattle.rtl_net.specs.Nets.{scope_view, signal_view, type_of}
 use Rattle.vhdl_expand_rules.specs.Tree as tree
 use Rattle.vhdl_expand_rules.specs.Tree.{Instance, instance, Parts, no_parts, process, inner}
 use Rattle.vhdl_elab_rules.specs.Names.{scope_of, signals_from}
 use Rattle.vhdl_elab_rules.specs.Numbering as elab
-use Rattle.vhdl_elab_rules.specs.Numbering.{Placed, Located, Numbered, placed, with_process, with_placed, with_instance, with_parts, element_nets, above_parts}
+use Rattle.vhdl_elab_rules.specs.Numbering.{Placed, Located, Numbered, placed, with_process, with_placed, with_instance, with_parts, element_nets, above_parts, own_sizes}
 use Rattle.vhdl_elab_rules.specs.Wiring.{defaults_of}
 use Rattle.vhdl_elab_laws.specs.Shown.{signal_shown}
 use Rattle.vhdl_expand_tree.specs.declared.tree.Object.{Object}
@@ -24,12 +24,16 @@ use Rattle.vhdl_connect_processes.specs.declared.process.Round.{Round}
 use Rattle.vhdl_connect.specs.declared.made.Made.{Made}
 use Rattle.vhdl_connect.specs.declared.place.InstancePlace.{InstancePlace}
 use Rattle.vhdl_connect.specs.Made.{element_view, IsLocated, IsMade}
-use Rattle.vhdl_connect.specs.Adding.{statics_from}
+use Rattle.vhdl_connect.specs.Adding.{statics_from, own_types}
 use Rattle.vhdl_connect.specs.Placing.{AddsPlaced}
 use Rattle.vhdl_connect.specs.declared.walk.Above.{Above}
 use Rattle.vhdl_connect.specs.Ready.{PartsAreReady}
-use Rattle.vhdl_connect.specs.Walking.{above_at, IsIn}
-use Rattle.vhdl_connect.proofs.Placing.{placed_made}
+use Rattle.vhdl_connect.specs.Walking.{above_at, instance_nets, parts_nets, IsIn}
+use Rattle.vhdl_connect.proofs.Placing.{placed_made, types-count}
+
+pub on_ok : {T E P Q : Type 0} (r : Result T E) → OnOk r P → (P → Q) → OnOk r Q
+on_ok (Ok x) h f = f h
+on_ok (Err e) h f = h
 
 -- ---- parts
 
@@ -76,6 +80,32 @@ weights_before (p.Instance' label objects turns shape parts) rest = omega arith
 
 pub next_lighter : (rest more : Parts) (x : InstancePart) → rest ≡ part_before more x → weights rest ≡ weights (alone x) + weights more
 next_lighter rest more x h = ap weights h ∙ weights_before x more
+
+-- ---- how many nets
+
+nets-before : (x : InstancePart) (rest : Parts) → parts_nets (part_before rest x) ≡ parts_nets (alone x) + parts_nets rest
+nets-before (p.Process q) rest = omega arith
+nets-before (p.Instance' label objects turns shape parts) rest = omega arith
+
+pub next_nets : (rest more : Parts) (x : InstancePart) → rest ≡ part_before more x → parts_nets rest ≡ parts_nets (alone x) + parts_nets more
+next_nets rest more x h = ap parts_nets h ∙ nets-before x more
+
+pub process_nets : (x : InstancePart) (q : Process) → x ≡ p.Process q → parts_nets (alone x) ≡ 0
+process_nets x q is = ap (λ y. parts_nets (alone y)) is
+
+pub inner_nets : (x : InstancePart) (label : Vec ℕ Global) (objects : Vec Object Global) (turns : ℕ) (parts : Vec InstancePart Global)
+    → x ≡ p.Instance label (record { objects = objects; turns = turns; parts = parts })
+    → parts_nets (alone x) ≡ instance_nets (instance (objects_view objects) turns (parts_view parts))
+inner_nets x label objects turns parts is =
+    let i = instance (objects_view objects) turns (parts_view parts) in
+    ap parts_nets (ap alone is ∙ view_instance no_parts label objects turns parts) ∙ (let e : instance_nets i + 0 ≡ instance_nets i = omega arith in e)
+
+-- an instance without what stands in it
+pub own_nets : (place : InstancePlace) (scope : Scope) (objects : List tree.Object) (turns : ℕ) (parts : Parts) (a b : Made) → AddsPlaced place scope (instance objects turns parts) a b
+    → length b.kinds.items ≡ length a.kinds.items + own_sizes objects
+own_nets place scope objects turns parts a b k =
+    sym (length-map b.kinds.items type_of) ∙ ap length k.kinds ∙ length-append (map type_of a.kinds.items) (flat_map own_types objects)
+    ∙ (λ i. length-map a.kinds.items type_of i + types-count objects i)
 
 -- ---- so far
 

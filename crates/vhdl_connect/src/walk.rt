@@ -1,12 +1,13 @@
 //! The walk over the tree of instances, which takes it apart (IEEE 1076-2008, 14.2).
 
-ghost use Rattle.std.specs.Prelude.{◌≡◌, ℕ, List, IfOk, OnOk};
+ghost use Rattle.std.specs.Prelude.{◌≡◌, ℕ, ◌+◌, ◌≤◌, List, length, IfOk, OnOk};
+ghost use Rattle.rtl_net.specs.Limits.{most_nets};
 ghost use Rattle.vhdl_expand_rules.specs.Tree.{no_parts};
 ghost use Rattle.vhdl_elab_rules.specs.Numbering.{Numbered, Placed, numbered_design, with_instance, with_parts};
 ghost use Rattle.vhdl_expand_tree.specs.Views.{design_view, instance_view, part_before, parts_of};
 ghost use Rattle.vhdl_connect.specs.Made.{IsMade};
 ghost use Rattle.vhdl_connect.specs.Ready.{InstanceIsReady, PartsAreReady};
-ghost use Rattle.vhdl_connect.specs.Walking.{above_at, IsIn};
+ghost use Rattle.vhdl_connect.specs.Walking.{above_at, instance_nets, parts_nets, IsIn};
 
 use crate::made::Made;
 use crate::place::InstancePlace;
@@ -32,8 +33,10 @@ fn instance(
     from: &mut Instance,
     made: &mut Made,
 ) -> Result<(), AllocError>
-    requires { InstanceIsReady (instance_view from.old) }
-    ensures { (d : Numbered) (path : List ℕ) → IsMade d made.old
+    requires ready { InstanceIsReady (instance_view from.old) }
+    requires room { length made.old.kinds.items + instance_nets (instance_view from.old) ≤ most_nets }
+    ensures nets { OnOk result (length made.new.kinds.items ≡ length made.old.kinds.items + instance_nets (instance_view from.old)) }
+    ensures made { (d : Numbered) (path : List ℕ) → IsMade d made.old
         → OnOk result (IsMade (with_instance (above_at above.now path) label.items (instance_view from.old) d) made.new) }
 {
     let nets = element_nets(alloc, above.nets, made.kinds.len(), &from.objects)?;
@@ -59,8 +62,10 @@ fn instance(
 /// Adds what stands in an instance, in order of the text, behind what is made already. It is taken apart.
 #[cycle(instance)]
 fn parts(round: &Round, list: &mut [InstancePart], made: &mut Made) -> Result<(), AllocError>
-    requires { PartsAreReady (parts_of list.old) }
-    ensures { (d : Numbered) (p : Placed) → IsIn p round.now → IsMade d made.old
+    requires ready { PartsAreReady (parts_of list.old) }
+    requires room { length made.old.kinds.items + parts_nets (parts_of list.old) ≤ most_nets }
+    ensures nets { OnOk result (length made.new.kinds.items ≡ length made.old.kinds.items + parts_nets (parts_of list.old)) }
+    ensures made { (d : Numbered) (p : Placed) → IsIn p round.now → IsMade d made.old
         → OnOk result (IsMade (with_parts round.now.scope p (parts_of list.old) d) made.new) }
 {
     for i in 0..list.len() {
@@ -72,8 +77,10 @@ fn parts(round: &Round, list: &mut [InstancePart], made: &mut Made) -> Result<()
 /// Adds a process or an instance that stands in an instance, behind what is made already. It is taken apart.
 #[cycle(instance)]
 fn part(round: &Round, from: &mut InstancePart, made: &mut Made) -> Result<(), AllocError>
-    requires { PartsAreReady (part_before no_parts from.old) }
-    ensures { (d : Numbered) (p : Placed) → IsIn p round.now → IsMade d made.old
+    requires ready { PartsAreReady (part_before no_parts from.old) }
+    requires room { length made.old.kinds.items + parts_nets (part_before no_parts from.old) ≤ most_nets }
+    ensures nets { OnOk result (length made.new.kinds.items ≡ length made.old.kinds.items + parts_nets (part_before no_parts from.old)) }
+    ensures made { (d : Numbered) (p : Placed) → IsIn p round.now → IsMade d made.old
         → OnOk result (IsMade (with_parts round.now.scope p (part_before no_parts from.old) d) made.new) }
 {
     match from {
@@ -99,7 +106,8 @@ fn part(round: &Round, from: &mut InstancePart, made: &mut Made) -> Result<(), A
 /// 1076-2008, 14.2). The tree is taken apart. It takes the memory of the tables, and at each level of instances that of the nets
 /// and defaults of one.
 pub fn number(alloc: Global, mut design: Design) -> Result<Made, AllocError>
-    requires { InstanceIsReady (design_view design).top }
+    requires ready { InstanceIsReady (design_view design).top }
+    requires room { instance_nets (design_view design).top ≤ most_nets }
     ensures { IfOk result (λ m. IsMade (numbered_design (design_view design)) m) }
 {
     let mut made = Made::nothing(alloc);

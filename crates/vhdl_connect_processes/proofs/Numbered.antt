@@ -1,5 +1,5 @@
 -- Nets of elements, object after object.
-use Rattle.std.proofs.Common.{◌≡◌, ℕ, ◌+◌, ◌<◌, List, [], ◌∷◌, ◌++◌, length, get_or, take, map, Option, Some, None, Result, Ok, Err, refl, sym, ap, ◌∙◌, arith}
+use Rattle.std.proofs.Common.{◌≡◌, ℕ, zero, suc, ◌+◌, ◌<◌, ◌≤◌, List, [], ◌∷◌, ◌++◌, length, get_or, take, map, Option, Some, None, Result, Ok, Err, refl, sym, ap, ◌∙◌, arith}
 use Rattle.std.specs.Prelude.{slice_index, IfOk, OnOk}
 use Rattle.std.specs.List.{range_with_len}
 use Rattle.std.proofs.lemmas.List.{append_assoc, append-nil, take_more, map-append}
@@ -30,9 +30,19 @@ sizes-behind : (os : List tree.Object) (o : tree.Object) → own_sizes (os ++ o 
 sizes-behind [] o = let e : own_size o + 0 ≡ 0 + own_size o = omega arith in e
 sizes-behind (p ∷ os) o = let h = sizes-behind os o in omega arith
 
+first-sizes : (objects : List Object) (i : ℕ) → own_sizes (map object_view (take i objects)) ≤ own_sizes (map object_view objects)
+first-sizes objects zero = omega arith
+first-sizes [] (suc i) = omega arith
+first-sizes (x ∷ xs) (suc i) = omega (arith, first-sizes xs i)
+
 module _ (objects : List Object) (i : ℕ) (x : Object) (l : i < length objects) (is : x ≡ get_or objects i x) where
   next-objects : map object_view (take (i + 1) objects) ≡ map object_view (take i objects) ++ object_view x ∷ []
   next-objects = ap (map object_view) (take_more objects i x l ∙ ap (λ y. take i objects ++ y ∷ []) (sym is)) ∙ map-append object_view (take i objects) (x ∷ [])
+
+  pub has_room : (first next most : ℕ) → next ≡ first + own_sizes (map object_view (take i objects)) → first + own_sizes (map object_view objects) ≤ most
+      → next + own_size (object_view x) ≤ most
+  has_room first next most h room =
+      omega (arith, h, room, ap own_sizes next-objects, sizes-behind (map object_view (take i objects)) (object_view x), first-sizes objects (i + 1))
 
   pub defaults_next : (found more : List ℕ) → found ≡ defaults_of (map object_view (take i objects)) → more ≡ x.starts.items
       → found ++ more ≡ defaults_of (map object_view (take (i + 1) objects))

@@ -2,6 +2,7 @@
 
 ghost use Rattle.std.specs.Prelude.{◌≡◌, ◌+◌, ◌≤◌, ◌-◌, ◌++◌, map, slice_index, IfOk, OnOk};
 ghost use Rattle.std.specs.List.{range_with_len};
+ghost use Rattle.rtl_net.specs.Limits.{most_nets};
 ghost use Rattle.vhdl_elab_rules.specs.Numbering as numbering;
 ghost use Rattle.vhdl_elab_rules.specs.Wiring as wiring;
 ghost use Rattle.vhdl_expand_tree.specs.Views.{object_view};
@@ -22,14 +23,14 @@ pub fn defaults_of(alloc: Global, objects: &[Object]) -> Result<Vec<u8>, AllocEr
 }
 
 /// The nets of the elements of objects, in order of declaration, where the elements of the instance above have these nets, and
-/// the first net of their own has this number. It takes the memory of the list; memory would be refused for numbers beyond a
-/// word.
+/// the first net of their own has this number. It takes the memory of the list.
 pub fn element_nets(
     alloc: Global,
     above: &[u32],
     first: usize,
     objects: &[Object],
 ) -> Result<Vec<u32>, AllocError>
+    requires { first + numbering.own_sizes (map object_view objects.now) ≤ most_nets }
     ensures { IfOk result (λ v. v.items ≡ numbering.element_nets above.now first (map object_view objects.now)) }
 {
     let mut nets = Vec::new(alloc);
@@ -47,6 +48,7 @@ fn push_object(
     object: &Object,
     nets: &mut Vec<u32>,
 ) -> Result<usize, AllocError>
+    requires { first + numbering.own_size (object_view object.now) ≤ most_nets }
     ensures next { IfOk result (λ next. next ≡ first + numbering.own_size (object_view object.now)) }
     ensures nets { OnOk result (nets.new.items ≡ nets.old.items ++ numbering.object_nets above.now first (object_view object.now)) }
 {
@@ -74,24 +76,12 @@ fn push_actual(
 
 /// Puts so many nets, from this one on, behind others, and gives the number of the next net.
 fn push_own(first: usize, len: usize, nets: &mut Vec<u32>) -> Result<usize, AllocError>
+    requires { first + len ≤ most_nets }
     ensures next { IfOk result (λ next. next ≡ first + len) }
     ensures nets { OnOk result (nets.new.items ≡ nets.old.items ++ range_with_len first len) }
 {
-    let Some(end) = first.checked_add(len) else {
-        return Err(AllocError);
-    };
     for k in 0..len {
-        nets.push(word(first + k)?)?;
+        nets.push((first + k) as u32)?;
     }
-    Ok(end)
-}
-
-/// A number as a word. Memory would be refused beyond that.
-fn word(number: usize) -> Result<u32, AllocError>
-    ensures { IfOk result (λ n. n ≡ number) }
-{
-    match u32::try_from(number) {
-        Ok(number) => Ok(number),
-        Err(_) => Err(AllocError),
-    }
+    Ok(first + len)
 }
