@@ -1,5 +1,5 @@
 -- From the tree of a source to its net.
-use Rattle.std.proofs.Common.{◌≡◌, ◌≢◌, ℕ, List, None, Some, Result, Ok, Err, arith}
+use Rattle.std.proofs.Common.{◌≡◌, ◌≢◌, refl, ℕ, length, List, None, Some, Result, Ok, Err, arith}
 use Rattle.std.specs.Prelude.{IsTrue, IsErrAnd, IfOk, IfErr}
 use Rattle.vhdl_lexer.proofs.Reached.{cut_within}
 use Rattle.vhdl_tree.specs.Tree.{File}
