@@ -1,5 +1,5 @@
 -- What is told of what a case or a selected assignment does by a value is told of its parts.
-use Rattle.std.proofs.Common.{◌≡◌, ℕ, Bool, true, false, List, [], ◌∷◌, map, Option, Some, None, Result, Ok, Err, IfOk, IfErr, refl, ap, sym, ◌∙◌}
+use Rattle.std.proofs.Common.{◌≡◌, ℕ, Bool, true, false, List, [], ◌∷◌, map, Option, Some, None, Result, Ok, Err, IfOk, refl, ap, sym, ◌∙◌}
 use Rattle.std.specs.Prelude.{◌||◌}
 use Rattle.std.specs.List.{flat_map}
 use Rattle.vhdl_tree.specs.Tree as t
@@ -138,6 +138,7 @@ module _ (sight : Sight) (type : ObjectType) (alts : List t.Alternative) where
           parts_behind (told_right (end_label label end) (any_alternative at (cases.choice_lists alts)) f (end_label_kept label end (is_met (label_ends label end) ends))
           (told_same (any_alternative at all) (any_alternative at (cases.choice_lists alts)) f
           (any_given at alts all (covering_found sight type (cases.choice_lists alts) (each (cases.chosen sight type) alts) all given)) h))
+
 -- ---- what a selected assignment does by a value
 
 module _ (sight : Sight) (type : ObjectType) (a : t.SelectedAssignment) (x : SignalName) (found : target sight a.target ≡ Some x) where

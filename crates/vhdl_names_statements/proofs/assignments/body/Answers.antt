@@ -1,4 +1,4 @@
-use Rattle.std.proofs.Common.{arith, ◌≡◌, ◌<◌, [], length, map, ap, sym, ◌∙◌}
+use Rattle.std.proofs.Common.{arith, ◌<◌, length, map, ap, sym}
 use Rattle.std.specs.Prelude.{option_map}
 use Rattle.vhdl_tree.specs.View as tree
 use Rattle.vhdl_names_types.specs.Views.{sight_view}

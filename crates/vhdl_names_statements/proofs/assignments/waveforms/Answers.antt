@@ -1,7 +1,6 @@
 use Rattle.std.proofs.Common.{rules, arith, ◌<◌, ◌∷◌, [], length, map, ap, ◌∙◌}
 use Rattle.std.proofs.lemmas.Grind.{common_steps}
 use Rattle.std.proofs.lemmas.List.{map-append}
-use Rattle.vhdl_names_rules.specs.Rules.{each}
 use Rattle.vhdl_tree.specs.View as tree
 use Rattle.vhdl_names_types.specs.Views.{sight_view}
 use Rattle.vhdl_names_units.specs.views.Sequential as views
