@@ -81,11 +81,11 @@ impl InstancePlace<'_> {
         ensures { IfOk result (λ v. v.items ≡ take len (drop first self.now.nets.now)) }
     {
         let mut found = SmallVec::new(self.alloc);
+        let Some(rest) = self.nets.get(first..) else {
+            return Ok(found);
+        };
         for k in 0..len {
-            let Some(number) = first.checked_add(k) else {
-                return Err(AllocError);
-            };
-            match self.nets.get(number) {
+            match rest.get(k) {
                 Some(net) => found.push(*net as usize)?,
                 None => return Ok(found),
             }

@@ -62,10 +62,13 @@ architectures_same ds ns es h k =
 
 -- ---- what is told isn't well typed
 
+not_both : {X : Type 0} (b : Option X) (x : X) → b ≡ None → b ≡ Some x → ⊥
+not_both b x h k = cc
+
 pub none_given : (f : File) (x : NameFault) → Tells (file f) x → x ≢ NoMemory → units_of f ≡ None
 none_given f NoMemory w n = absurd (n refl)
 none_given f (At p at) w n = go (units_of f) refl
   where
     go : (o : Option (List u.Entity)) → units_of f ≡ o → units_of f ≡ None
     go None q = q
-    go (Some units) q = let no : None ≡ Some (p, at) = sym (file_kept f units q) ∙ w in absurd cc
+    go (Some units) q = absurd (not_both (file f) (p, at) (file_kept f units q) w)

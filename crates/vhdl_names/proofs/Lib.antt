@@ -1,4 +1,5 @@
 pub mod Behind
+pub mod Described
 pub mod Describing
 pub mod Entering
 pub mod Filed
@@ -14,5 +15,6 @@ pub mod Passing
 pub mod Past
 pub mod Placing
 pub mod Seeing
+pub mod Standing
 pub mod Tabling
 pub mod Walking

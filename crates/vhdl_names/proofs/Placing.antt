@@ -1,5 +1,5 @@
 -- The architectures of a file, each placed as that of its entity.
-use Rattle.std.proofs.Common.{◌≡◌, ℕ, zero, suc, ◌+◌, arith, Bool, true, false, cond, not, ◌||◌, List, [], ◌∷◌, ◌++◌, map, set, length, Option, Some, None, refl, ap, sym, ◌∙◌, subst, true≢false}
+use Rattle.std.proofs.Common.{◌≡◌, ℕ, zero, suc, ◌+◌, arith, Bool, true, false, cond, not, ◌||◌, List, [], ◌∷◌, ◌++◌, map, set, length, Option, Some, None, refl, ap, sym, ◌∙◌, subst, true≢false, zero-add}
 use Rattle.std.specs.Prelude.{bytes_eq, find, slice_get, replicate, if◌then◌else◌}
 use Rattle.std.specs.List.{enumerate_from}
 use Rattle.std.proofs.lemmas.Slice.Eq.{bytes_eq-Decides}
@@ -106,16 +106,17 @@ module _ (f : EntityView → Option u.Architecture) (y : Option u.Architecture) 
       let here : bytes_eq n x.name ≡ true = ap (λ (x : EntityView). bytes_eq n x.name) (some_is x e at) ∙ q in
       ap (λ b. (if b then y else f x) ∷ map f es) (sym here)
       ∙ ap (λ l. instead x ∷ l) (others es (ap (λ m. is_among m (names_in es)) ((bytes_eq-Decides n x.name).0 here) ∙ not_true (is_among x.name (names_in es)) b.0))
-  set_at (x ∷ es) (suc k) e at q d = go (bytes_eq n x.name) refl
+  set_at (x ∷ es) (suc k) e at q d =
+      go (bytes_eq n x.name) refl (set_at es k e at q (both (not (is_among x.name (names_in es))) (are_distinct (names_in es)) d).1)
     where
       b : (not (is_among x.name (names_in es)) ≡ true) × (are_distinct (names_in es) ≡ true)
       b = both (not (is_among x.name (names_in es))) (are_distinct (names_in es)) d
 
-      go : (c : Bool) → bytes_eq n x.name ≡ c → f x ∷ set (map f es) k y ≡ instead x ∷ map instead es
-      go true r =
+      go : (c : Bool) → bytes_eq n x.name ≡ c → set (map f es) k y ≡ map instead es → f x ∷ set (map f es) k y ≡ instead x ∷ map instead es
+      go true r rest =
           absurd (true≢false (sym (named_at es k e at)
           ∙ ap (λ m. is_among m (names_in es)) (sym ((bytes_eq-Decides n e.name).0 q) ∙ (bytes_eq-Decides n x.name).0 r) ∙ not_true (is_among x.name (names_in es)) b.0))
-      go false r = ap (λ c. (if c then y else f x) ∷ set (map f es) k y) (sym r) ∙ ap (λ l. instead x ∷ l) (set_at es k e at q b.1)
+      go false r rest = ap (λ c. (if c then y else f x) ∷ set (map f es) k y) (sym r) ∙ ap (λ l. instead x ∷ l) rest
 
 -- ---- architecture by architecture
 
@@ -155,7 +156,8 @@ module _ (es : List EntityView) (distinct : are_distinct (names_in es) ≡ true)
   placed : (as' : List Placed) → are_distinct (map text as') ≡ true → (f : EntityView → Option u.Architecture) (os : List (Option u.Architecture))
       → in_turn (with_described es) (map f es) as' ≡ Some os → each (one f as') es ≡ Some os
   placed [] d f os h = each_some f es ∙ h
-  placed (a ∷ as') d f os h = go (entity_named es (text a)) refl h
+  placed (a ∷ as') d f os h =
+      go (entity_named es (text a)) refl h (placed as' (both (not (is_among (text a) (map text as'))) (are_distinct (map text as')) d).1)
     where
       b : (not (is_among (text a) (map text as')) ≡ true) × (are_distinct (map text as') ≡ true)
       b = both (not (is_among (text a) (map text as'))) (are_distinct (map text as')) d
@@ -183,18 +185,20 @@ module _ (es : List EntityView) (distinct : are_distinct (names_in es) ≡ true)
           by false q =
               skip j v q ∙ ap (λ c. own_or v (if c then Some x else f v) (find (λ a. bytes_eq v.name a.1.entity.text) as')) (sym q)
 
-      go : (o : Option (ℕ × EntityView)) → entity_named es (text a) ≡ o → (put o >>= λ os. in_turn (with_described es) os as') ≡ Some os → each (one f (a ∷ as')) es ≡ Some os
-      go None q h = each_at (one f (a ∷ as')) (one f as') es (λ j e at. skip j e (none_at es (text a) 0 q j e at)) ∙ placed as' b.1 f os h
-      go (Some (k, e)) q h =
+      go : (o : Option (ℕ × EntityView)) → entity_named es (text a) ≡ o → (put o >>= λ os. in_turn (with_described es) os as') ≡ Some os
+          → ((f : EntityView → Option u.Architecture) (os : List (Option u.Architecture)) → in_turn (with_described es) (map f es) as' ≡ Some os → each (one f as') es ≡ Some os)
+          → each (one f (a ∷ as')) es ≡ Some os
+      go None q h rest = each_at (one f (a ∷ as')) (one f as') es (λ j e at. skip j e (none_at es (text a) 0 q j e at)) ∙ rest f os h
+      go (Some (k, e)) q h rest =
           let c = comes (architecture es e a.0 a.1 >>= λ x. let r : Option (List (Option u.Architecture)) = Some (set (map f es) k (Some x)) in r) (λ os. in_turn (with_described es) os as') os h in
           let x = comes (architecture es e a.0 a.1) (λ x. let r : Option (List (Option u.Architecture)) = Some (set (map f es) k (Some x)) in r) c.value c.is in
           let p = found_at es (text a) 0 k e q in
-          let there : k ≡ p.place = p.is in
+          let there : k ≡ p.place = p.is ∙ zero-add p.place in
           let now : c.value ≡ map (instead f (Some x.value) (text a)) es =
           sym (some_is (set (map f es) k (Some x.value)) c.value x.rest) ∙ ap (λ k. set (map f es) k (Some x.value)) there
           ∙ set_at f (Some x.value) (text a) es p.place e p.at p.same distinct in
           each_at (one f (a ∷ as')) (one (instead f (Some x.value) (text a)) as') es (point x.value p.place e p.at p.same x.is)
-          ∙ placed as' b.1 (instead f (Some x.value) (text a)) os (ap (λ l. in_turn (with_described es) l as') (sym now) ∙ c.rest)
+          ∙ rest (instead f (Some x.value) (text a)) os (ap (λ l. in_turn (with_described es) l as') (sym now) ∙ c.rest)
 
   -- ---- unit by unit
 

@@ -51,17 +51,19 @@ pub twice_before : (names : List Name) (is js : List Ident) (f : NameFault) → 
 twice_before names is js (At p at) h = first_twice names is js (p, at) h
 twice_before names is js NoMemory h = tt
 
--- ---- things with labels, one behind another
+-- ---- things one behind another
+
+pub next : {A : Type 0} (xs : List A) (i : ℕ) (x : A) → i < length xs → x ≡ get_or xs i x → drop i xs ≡ x ∷ drop (i + 1) xs
+next xs i x lt is =
+    let e : suc i ≡ i + 1 = omega arith in
+    drop-cons xs i x lt ∙ ap (λ y. y ∷ drop (suc i) xs) (sym is) ∙ ap (λ k. x ∷ drop k xs) e
+
+-- with labels
 
 module _ {A B : Type 0} (view : A → B) (labels : B → List Ident) (all : List B → List Ident) (split : (b : B) (bs : List B) → all (b ∷ bs) ≡ labels b ++ all bs) where
   module _ (xs : List A) (i : ℕ) (x : A) (lt : i < length xs) (is : x ≡ get_or xs i x) where
-    next : drop i xs ≡ x ∷ drop (i + 1) xs
-    next =
-        let e : suc i ≡ i + 1 = omega arith in
-        drop-cons xs i x lt ∙ ap (λ y. y ∷ drop (suc i) xs) (sym is) ∙ ap (λ k. x ∷ drop k xs) e
-
     parted : (keys : List Name) → twice keys (all (map view (drop i xs))) ≡ twice keys (labels (view x) ++ all (map view (drop (i + 1) xs)))
-    parted keys = ap (λ ys. twice keys (all (map view ys))) next ∙ ap (twice keys) (split (view x) (map view (drop (i + 1) xs)))
+    parted keys = ap (λ ys. twice keys (all (map view ys))) (next xs i x lt is) ∙ ap (twice keys) (split (view x) (map view (drop (i + 1) xs)))
 
     pub item_told : (old keys : List Name) (f : NameFault) → twice old (all (map view xs)) ≡ twice keys (all (map view (drop i xs)))
         → Tells (twice keys (labels (view x))) f → Tells (twice old (all (map view xs))) f
@@ -76,7 +78,7 @@ module _ {A B : Type 0} (view : A → B) (labels : B → List Ident) (all : List
     pub item_given : (f : List Name → B → Option (List Name)) (old keys new : List Name) → in_turn f old (map view xs) ≡ in_turn f keys (map view (drop i xs))
         → f keys (view x) ≡ Some new → in_turn f old (map view xs) ≡ in_turn f new (map view (drop (i + 1) xs))
     item_given f old keys new inv h =
-        inv ∙ ap (λ ys. in_turn f keys (map view ys)) next ∙ ap (λ o. o >>= λ z. in_turn f z (map view (drop (i + 1) xs))) h
+        inv ∙ ap (λ ys. in_turn f keys (map view ys)) (next xs i x lt is) ∙ ap (λ o. o >>= λ z. in_turn f z (map view (drop (i + 1) xs))) h
 
 -- of statements
 

@@ -22,3 +22,4 @@ pub mod Named
 pub mod Spelled
 pub mod Texts
 pub mod given
+pub mod placed

@@ -36,7 +36,7 @@ spelled_words (x ∷ ps) (l ∷ ls) h g = (piece_is x l h.0 g.0, spelled_words p
 -- ---- tokens
 
 -- no lexical element is empty
-is_some_text : (before : Option TokenKind) (kind : TokenKind) (slice rest : List ℕ) → IsElement before kind slice rest → 0 < length slice
+pub is_some_text : (before : Option TokenKind) (kind : TokenKind) (slice rest : List ℕ) → IsElement before kind slice rest → 0 < length slice
 is_some_text before kind (b ∷ slice) rest h = omega arith
 is_some_text before kind [] rest (inl w) = absurd (cc (w.0))
 is_some_text before kind [] rest (inr (inl n)) = absurd (cc (n.0))

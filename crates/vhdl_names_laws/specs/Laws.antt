@@ -1,5 +1,5 @@
 -- What names give is sound: what elaboration may take for granted of units that a file has. And it has units just where it breaks no rule.
-use Rattle.std.specs.Prelude.{◌≡◌, ℕ, Bool, List, [], map, Some, None, IsTrue}
+use Rattle.std.specs.Prelude.{◌≡◌, ℕ, ◌<◌, Bool, List, [], length, map, Some, None, IsTrue, IfSome, Contains}
 use Rattle.std.specs.List.{list_all}
 use Rattle.vhdl_lexer.specs.declared.token.Token.{Token}
 use Rattle.vhdl_lexer.specs.Cut.{Cuts, AreWithin}
@@ -26,6 +26,7 @@ use Rattle.vhdl_names_problems.specs.Broken.{nothing}
 use Rattle.vhdl_names_problems.specs.Files as broken
 use Rattle.vhdl_names_laws.specs.Words.{small, HasWords}
 use Rattle.vhdl_names_laws.specs.Texts.{IsTextOfEntity}
+use Rattle.vhdl_names_laws.specs.Placed.{bytes_of}
 use Rattle.vhdl_names_laws.specs.Meanings.{Counts, IsInside, TypedFits}
 
 -- Each expression is what its type says, among what is declared inside.
@@ -77,3 +78,12 @@ WellTypedFilesBreakNoRule = (f : File) (units : Units) → units_of f ≡ Some u
 -- And one that isn't well typed breaks a rule, of which the first has a problem and a byte.
 abbrev pub IllTypedFilesBreakARule : Type 0
 IllTypedFilesBreakARule = (f : File) → units_of f ≡ None → (p : NameProblem) × (at : ℕ) × (broken.file f ≡ Some (p, at))
+
+-- The byte at which is told that a file breaks a rule is one at which a token of the file starts,
+abbrev pub FaultsStandAtTokens : Type 0
+FaultsStandAtTokens = (f : File) → IsFile f → IfSome (broken.file f) (λ told. Contains (bytes_of f) told.1)
+
+-- and lies in the text whose tokens the file spells.
+abbrev pub FaultsLieInTheText : Type 0
+FaultsLieInTheText = (source : List ℕ) (tokens : List Token) (f : File) → Cuts None 0 source tokens → Spells (spell_file f) (lexemes source tokens) [] → IsFile f
+    → IfSome (broken.file f) (λ told. told.1 < length source)

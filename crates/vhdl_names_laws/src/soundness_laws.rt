@@ -1,6 +1,6 @@
 //! Laws of soundness (`specs/Laws`), each the contract of a function that does nothing.
 
-ghost use Rattle.vhdl_names_laws.specs.Laws.{ExpressionsFit, StatementsFit, UnitsAreSound, PortsAreDistinct, UnitsAreNamed, SmallPortsAreDistinct, SpelledFilesHaveWords, ComponentsAreTexts, WellTypedFilesBreakNoRule, IllTypedFilesBreakARule};
+ghost use Rattle.vhdl_names_laws.specs.Laws.{ExpressionsFit, StatementsFit, UnitsAreSound, PortsAreDistinct, UnitsAreNamed, SmallPortsAreDistinct, SpelledFilesHaveWords, ComponentsAreTexts, WellTypedFilesBreakNoRule, IllTypedFilesBreakARule, FaultsStandAtTokens, FaultsLieInTheText};
 
 /// Each expression is what its type says: integers are in range, vectors have the shape of their kind, literals of an
 /// enumeration are below its count, and tests compare values of one shape.
@@ -52,4 +52,10 @@ pub fn well_typed_files_break_no_rule()
 /// a byte.
 pub fn ill_typed_files_break_a_rule()
     ensures { IllTypedFilesBreakARule }
+{}
+
+/// A fault of names is told at the byte at which a token of the file starts, and so inside its text.
+pub fn faults_lie_in_the_text()
+    ensures token { FaultsStandAtTokens }
+    ensures text { FaultsLieInTheText }
 {}

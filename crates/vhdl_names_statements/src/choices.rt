@@ -156,7 +156,14 @@ fn told_apart(
 {
     let mut keys = IndexSet::new(alloc);
     for (index, list) in lists.iter().enumerate() {
-        add_list(alloc, sight, selected, &mut keys, index + 1 == lists.len(), list)?;
+        add_list(
+            alloc,
+            sight,
+            selected,
+            &mut keys,
+            index + 1 == lists.len(),
+            list,
+        )?;
     }
     Ok(keys)
 }

@@ -1,17 +1,17 @@
 -- What is told of the parts of concurrent assignments is told of the whole.
-use Rattle.std.proofs.Common.{◌≡◌, List, [], ◌∷◌, Option, Some, None}
+use Rattle.std.proofs.Common.{◌≡◌, List, Some}
 use Rattle.vhdl_tree.specs.Tree as t
 use Rattle.vhdl_names_rules.specs.declared.kind.ObjectType.{ObjectType}
 use Rattle.vhdl_names_rules.specs.declared.fault.NameFault.{NameFault}
 use Rattle.vhdl_names_rules.specs.units.Statements as s
-use Rattle.vhdl_names_rules.specs.Rules.{◌>>=◌, each}
+use Rattle.vhdl_names_rules.specs.Rules.{each}
 use Rattle.vhdl_names_rules.specs.Visibility.{Sight}
 use Rattle.vhdl_names_rules.specs.Expressions as are
 use Rattle.vhdl_names_rules.specs.Choices as chosen
 use Rattle.vhdl_names_rules.specs.Statements.{SignalName}
 use Rattle.vhdl_names_rules.specs.Statements as objects
 use Rattle.vhdl_names_rules.proofs.laws.Rules.{comes}
-use Rattle.vhdl_names_problems.specs.Broken.{Broken, Tells, ◌▸◌, where_given, any_of, of_any}
+use Rattle.vhdl_names_problems.specs.Broken.{Broken, Tells, where_given, any_of}
 use Rattle.vhdl_names_problems.specs.Expressions.{value_given}
 use Rattle.vhdl_names_problems.specs.Statements.{target, assigned, variable, variable_assigned}
 use Rattle.vhdl_names_problems.specs.Concurrent as broken

@@ -1,6 +1,6 @@
 -- The rules of case statements, in the order in which the code comes to their parts.
 use Rattle.std.proofs.Common.{◌≡◌, ℕ, suc, ◌+◌, ◌-◌, ◌<◌, arith, Bool, true, false, List, [], ◌∷◌, ◌++◌, map, Option, Some, None, refl, ap, sym, ◌∙◌}
-use Rattle.std.specs.Prelude.{option_map, not, ◌&&◌, ◌||◌}
+use Rattle.std.specs.Prelude.{option_map, ◌&&◌, ◌||◌}
 use Rattle.std.proofs.lemmas.List.{map-append}
 use Rattle.std.specs.List.{flat_map, list_all, list_any, range_with_len}
 use Rattle.std.specs.Borrow.{Bor}
@@ -15,7 +15,7 @@ use Rattle.vhdl_names_rules.specs.declared.kind.ObjectType.TheVariants.{Elements
 use Rattle.vhdl_names_rules.specs.units.Expressions.{Value}
 use Rattle.vhdl_names_rules.specs.units.Statements as s
 use Rattle.vhdl_names_rules.specs.Rules.{◌>>=◌, ◌>>◌, met, each}
-use Rattle.vhdl_names_rules.specs.Visibility.{Sight, label_ends, are_distinct, is_among}
+use Rattle.vhdl_names_rules.specs.Visibility.{Sight, label_ends, is_among}
 use Rattle.vhdl_names_rules.specs.Expressions.{typed}
 use Rattle.vhdl_names_rules.specs.Choices.{choices, covered, selector, arranged, only_last_others, is_last_others, is_others, are_distinct_choices, names_all, same_choice}
 use Rattle.vhdl_names_rules.specs.Statements.{statement, statements, alternatives, choice_lists}

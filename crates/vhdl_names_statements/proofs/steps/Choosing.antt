@@ -1,7 +1,7 @@
 -- Choices that are read one by one, told apart by their keys, are told as they stand.
-use Rattle.std.proofs.Common.{◌≡◌, ◌≢◌, ℕ, zero, suc, ◌+◌, ◌<◌, ◌==◌, nat_eq, arith, Bool, true, false, List, [], ◌∷◌, ◌++◌, map, length, get_or, drop, drop-cons, Option, Some, None, Result, Ok, Err, IfOk, IfErr, refl, ap, sym, ◌∙◌}
-use Rattle.std.specs.Prelude.{not, ◌&&◌, ◌||◌}
-use Rattle.std.specs.List.{flat_map, filter_map, list_any}
+use Rattle.std.proofs.Common.{◌≡◌, ◌≢◌, ℕ, zero, suc, ◌+◌, ◌<◌, ◌==◌, arith, Bool, true, false, List, [], ◌∷◌, ◌++◌, map, length, get_or, drop, drop-cons, Option, Some, None, Result, Ok, Err, IfOk, IfErr, refl, ap, sym, ◌∙◌}
+use Rattle.std.specs.Prelude.{not, ◌&&◌}
+use Rattle.std.specs.List.{flat_map, filter_map}
 use Rattle.std.specs.Borrow.{Bor}
 use Rattle.std.proofs.lemmas.Bool.{ne_eqb}
 use Rattle.std.proofs.Math.Dec.{eqb-suc-suc}
@@ -16,12 +16,12 @@ use Rattle.vhdl_names_rules.specs.declared.fault.NameFault.TheVariants.{NoMemory
 use Rattle.vhdl_names_rules.specs.declared.fault.NameProblem.{NameProblem}
 use Rattle.vhdl_names_rules.specs.declared.fault.NameProblem.TheVariants.{WrongKind, ChoiceTwice}
 use Rattle.vhdl_names_rules.specs.units.Statements as s
-use Rattle.vhdl_names_rules.specs.Rules.{◌>>=◌, each, then_some}
+use Rattle.vhdl_names_rules.specs.Rules.{◌>>=◌, then_some}
 use Rattle.vhdl_names_rules.specs.Gives.{Gives}
 use Rattle.vhdl_names_rules.specs.Visibility.{Name, Sight, are_distinct, is_among}
 use Rattle.vhdl_names_rules.specs.Choices as are
 use Rattle.vhdl_names_rules.specs.Choices.{is_others, only_last_others}
-use Rattle.vhdl_names_problems.specs.Broken.{Broken, Tells, nothing, refused, ◌▸◌, unless, where_given}
+use Rattle.vhdl_names_problems.specs.Broken.{Broken, Tells, refused, ◌▸◌, unless, where_given}
 use Rattle.vhdl_names_problems.specs.Places.{choice_place}
 use Rattle.vhdl_names_problems.specs.Choices.{choice}
 use Rattle.vhdl_names_problems.specs.Covered as broken

@@ -1,5 +1,5 @@
 -- What is told of what a case or a selected assignment does by a value is told of its parts.
-use Rattle.std.proofs.Common.{◌≡◌, ℕ, Bool, true, false, List, [], ◌∷◌, map, Option, Some, None, Result, Ok, Err, IfOk, IfErr, refl, ap, sym, ◌∙◌}
+use Rattle.std.proofs.Common.{◌≡◌, ℕ, Bool, true, false, List, [], ◌∷◌, map, Option, Some, None, Result, Ok, Err, IfOk, refl, ap, sym, ◌∙◌}
 use Rattle.std.specs.Prelude.{◌||◌}
 use Rattle.std.specs.List.{flat_map}
 use Rattle.vhdl_tree.specs.Tree as t
@@ -9,6 +9,7 @@ use Rattle.vhdl_names_rules.specs.declared.fault.NameFault.{NameFault}
 use Rattle.vhdl_names_rules.specs.declared.fault.NameProblem.TheVariants.{WrongKind}
 use Rattle.vhdl_names_rules.specs.units.Statements as s
 use Rattle.vhdl_names_rules.specs.Rules.{◌>>=◌, ◌>>◌, met, rule, each}
+use Rattle.vhdl_names_rules.specs.Gives.{Gives}
 use Rattle.vhdl_names_rules.specs.Visibility.{Sight, label_ends, are_distinct}
 use Rattle.vhdl_names_rules.specs.Choices as are
 use Rattle.vhdl_names_rules.specs.Choices.{only_last_others, is_last_others, are_distinct_choices, names_all}
@@ -46,6 +47,18 @@ choices_there f g h (all_there xs p q r) all e =
 choices_there f g h (no_choices p r) all e = let no : let n : Option (List Chosen) = None in n ≡ Some all = sym r ∙ e in cc
 choices_there f g h (no_bodies q r) all e = let no : let n : Option (List Chosen) = None in n ≡ Some all = sym r ∙ e in cc
 
+-- ---- of answers
+
+-- a condition that is met holds
+is_met : (b : Bool) → met b ≡ Some tt → b ≡ true
+is_met true h = refl
+is_met false h = cc
+
+-- what holds of each thing that is given holds of an answer
+pub on_given : {X Y : Type 0} (view : X → Y) (P : X → Type 0) (given : Option Y) (r : Result X NameFault) → Gives view given r → ((x : X) → given ≡ Some (view x) → P x) → IfOk r P
+on_given view P given (Ok x) g h = h x g
+on_given view P given (Err f) g h = tt
+
 -- ---- choices that cover their selector
 
 module _ (sight : Sight) (type : ObjectType) (lists : List (List t.Choice)) where
@@ -56,17 +69,13 @@ module _ (sight : Sight) (type : ObjectType) (lists : List (List t.Choice)) wher
       let flat : flat_map (λ (cs : List s.Choice). cs) css ≡ all_choices all = flat_each all in
       let a = kept (only_last_others lists) _ tt h in
       let b = kept (are_distinct (map key_of (all_choices all))) _ tt a.1 in
-      let c = kept (is_last_others lists || names_all type (all_choices all)) (Some tt) tt (named (is_last_others lists || names_all type (all_choices all)) b.1) in
+      let c = is_met (is_last_others lists || names_all type (all_choices all)) b.1 in
       ap (λ m. met m >> (each (are.choices sight type) lists >>= λ css. met (are_distinct_choices (flat_map (λ cs. cs) css))
       >> (met (is_last_others lists || names_all type (flat_map (λ cs. cs) css)) >> Some css))) a.0
       ∙ ap (λ o. o >>= λ css. met (are_distinct_choices (flat_map (λ cs. cs) css)) >> (met (is_last_others lists || names_all type (flat_map (λ cs. cs) css)) >> Some css)) there
       ∙ ap (λ xs. met (are_distinct_choices xs) >> (met (is_last_others lists || names_all type xs) >> Some css)) flat
       ∙ ap (λ m. met m >> (met (is_last_others lists || names_all type (all_choices all)) >> Some css)) (sym (distinct_keys (all_choices all)) ∙ b.0)
-      ∙ ap (λ m. met m >> Some css) c.0
-    where
-      named : (b : Bool) → met b ≡ Some tt → (met b >> Some tt) ≡ Some tt
-      named true h = refl
-      named false h = cc
+      ∙ ap (λ m. met m >> Some css) c
 
   -- what is covered breaks nothing where the alternatives break nothing
   pub covering_kept : (at : ℕ) (b : Broken) (found : Option (List Chosen)) (all : List Chosen)
@@ -99,6 +108,11 @@ module _ (sight : Sight) (type : ObjectType) (alts : List t.Alternative) where
       let d = comes (each (cases.chosen sight type) alts) _ all c.rest in
       ap (any_alternative at) (sym (some_is (c.value ∷ d.value) all d.rest))
 
+  -- the parts, where the alternatives are covered or not
+  pub case_by : (label end : Option Ident) (o : Option (List Chosen)) → covering type (cases.choice_lists alts) (each (cases.chosen sight type) alts) ≡ o
+      → cases.parts sight type label alts end ≡ (o >>= λ all. rule WrongKind (label_ends label end) >> cases.but_last all)
+  case_by label end o h = ap (λ (o : Option (List Chosen)). o >>= λ all. rule WrongKind (label_ends label end) >> cases.but_last all) h
+
   module _ (label end : Option Ident) (at : ℕ) (f : NameFault) where
     abbrev case_covers : Broken
     case_covers = broken.covered sight type at (cases.choice_lists alts) (broken'.alternatives sight type (t.alternatives_of alts))
@@ -124,10 +138,6 @@ module _ (sight : Sight) (type : ObjectType) (alts : List t.Alternative) where
           parts_behind (told_right (end_label label end) (any_alternative at (cases.choice_lists alts)) f (end_label_kept label end (is_met (label_ends label end) ends))
           (told_same (any_alternative at all) (any_alternative at (cases.choice_lists alts)) f
           (any_given at alts all (covering_found sight type (cases.choice_lists alts) (each (cases.chosen sight type) alts) all given)) h))
-        where
-          is_met : (b : Bool) → met b ≡ Some tt → b ≡ true
-          is_met true h = refl
-          is_met false h = cc
 
 -- ---- what a selected assignment does by a value
 
@@ -143,6 +153,12 @@ module _ (sight : Sight) (type : ObjectType) (a : t.SelectedAssignment) (x : Sig
 
   pub waveforms_there : (all : List Chosen) → given_waveforms ≡ Some all → each (are.choices sight type) lists ≡ Some (choices_of all)
   waveforms_there all e = choices_there _ _ _ (by_waveforms.pairs sight a.target x found type a.waveforms) all e
+
+  -- the parts, where the waveforms are covered or not
+  pub selected_by : (o : Option (List Chosen)) → covering type lists given_waveforms ≡ o → steps.parts sight type a ≡ (o >>= λ all. cases.but_last all)
+  selected_by o h =
+      ap (λ (t : Option SignalName). t >>= λ _. covering type lists given_waveforms >>= λ all. cases.but_last all) found
+      ∙ ap (λ (o : Option (List Chosen)). o >>= λ all. cases.but_last all) h
 
   any_waveform : (at : ℕ) (ws : List t.Waveform) (all : List Chosen) → each (steps.chosen sight type a.target) ws ≡ Some all → any_alternative at all ≡ any_alternative at ws
   any_waveform at [] all h = ap (any_alternative at) (sym (some_is [] all h))

@@ -9,11 +9,10 @@ use Rattle.vhdl_tree.specs.declared.sequential.If.{If, out-If}
 use Rattle.vhdl_tree.specs.declared.sequential.For.{For, out-For}
 use Rattle.vhdl_names_rules.specs.declared.kind.ObjectType.{ObjectType}
 use Rattle.vhdl_names_rules.specs.declared.fault.NameFault.{NameFault}
-use Rattle.vhdl_names_rules.specs.declared.fault.NameProblem.TheVariants.{WrongKind}
 use Rattle.vhdl_names_rules.specs.units.Expressions.{Range, Value}
 use Rattle.vhdl_names_rules.specs.units.Statements as s
-use Rattle.vhdl_names_rules.specs.Rules.{◌>>=◌, met, rule, each, if_any}
-use Rattle.vhdl_names_rules.specs.Visibility.{Sight, label_ends, within_loop}
+use Rattle.vhdl_names_rules.specs.Rules.{◌>>=◌, each, if_any}
+use Rattle.vhdl_names_rules.specs.Visibility.{Sight, within_loop}
 use Rattle.vhdl_names_rules.specs.Operators.{Typed}
 use Rattle.vhdl_names_rules.specs.Expressions as are
 use Rattle.vhdl_names_rules.specs.Choices.{selector}
@@ -21,7 +20,7 @@ use Rattle.vhdl_names_rules.specs.Choices as chosen
 use Rattle.vhdl_names_rules.proofs.laws.Rules.{comes}
 use Rattle.vhdl_names_expressions.specs.Asked.{selected_by}
 use Rattle.vhdl_names_units.specs.views.Sequential.{Guarded, Chosen, statements_of}
-use Rattle.vhdl_names_problems.specs.Broken.{Broken, Tells, nothing, ◌▸◌, where_given, any_of}
+use Rattle.vhdl_names_problems.specs.Broken.{Broken, Tells, ◌▸◌, where_given, any_of}
 use Rattle.vhdl_names_problems.specs.Expressions.{condition, static_range}
 use Rattle.vhdl_names_problems.specs.Choices.{choices}
 use Rattle.vhdl_names_problems.specs.Choices as asked
@@ -30,9 +29,9 @@ use Rattle.vhdl_names_problems.specs.Statements as broken
 use Rattle.vhdl_names_problems.specs.Statements.{end_label, by_selector}
 use Rattle.vhdl_names_problems.proofs.Telling.{IsKept, both_kept, behind_kept, told_same, told_left, told_right, told_on}
 use Rattle.vhdl_names_problems.proofs.kept.Keeping.{nothing_kept}
-use Rattle.vhdl_names_problems.proofs.kept.Expressions.{typed_kept, condition_kept, static_range_kept}
+use Rattle.vhdl_names_problems.proofs.kept.Expressions.{condition_kept, static_range_kept}
 use Rattle.vhdl_names_problems.proofs.kept.Choices.{choices_kept, selected_by_kept}
-use Rattle.vhdl_names_problems.proofs.kept.Statements.{statement_kept, statements_kept, end_label_kept}
+use Rattle.vhdl_names_problems.proofs.kept.Statements.{statement_kept, statements_kept}
 use Rattle.vhdl_names_labels.specs.Lists.{in_turn, one_more}
 use Rattle.vhdl_names_statements.specs.steps.Cases as cases
 use Rattle.vhdl_names_statements.specs.steps.Sequential as steps
@@ -49,6 +48,11 @@ pub three : (a b c : Broken) → (a ▸ b) ▸ c ≡ a ▸ (b ▸ c)
 unfolding ◌▸◌
 three None b c = refl
 three (Some x) b c = refl
+
+-- no things are fewer than one
+pub none_below : {A : Type 0} (xs : List A) → length xs < 1 → xs ≡ []
+none_below [] lt = refl
+none_below (x ∷ xs) lt = absurd (omega (arith, lt))
 
 -- ---- one of a list, whose others before it went well
 

@@ -1,21 +1,34 @@
-use Rattle.std.proofs.Common.{rules, arith, ◌<◌, length, map}
+use Rattle.std.proofs.Common.{rules, arith, ◌<◌, ◌∷◌, [], length, map, ap, ◌∙◌}
 use Rattle.std.proofs.lemmas.Grind.{common_steps}
-use Rattle.std.specs.Prelude.{option_map}
+use Rattle.std.proofs.lemmas.List.{map-append}
 use Rattle.vhdl_tree.specs.View as tree
 use Rattle.vhdl_names_types.specs.Views.{sight_view}
-use Rattle.vhdl_names_problems.specs.Broken.{Tells, any_of, of_any}
-use Rattle.vhdl_names_problems.specs.Expressions.{condition}
-use Rattle.vhdl_names_problems.specs.Choices.{choices}
-use Rattle.vhdl_names_problems.specs.Statements.{assigned}
-use Rattle.vhdl_names_problems.proofs.Telling.{told_left, told_right, told_any}
-use Rattle.vhdl_names_statements.specs.steps.Told as told
+use Rattle.vhdl_names_units.specs.views.Sequential as views
+use Rattle.vhdl_names_problems.specs.Broken.{Tells, any_of}
+use Rattle.vhdl_names_problems.specs.Concurrent as broken
+use Rattle.vhdl_names_statements.specs.steps.Concurrent as steps
+use Rattle.vhdl_names_statements.proofs.steps.Told.{more_done, next_told, next_left}
+use Rattle.vhdl_names_statements.proofs.steps.Assigning.{waveform_kept}
 use Rattle.vhdl_names_statements.proofs.assignments.all_chosen.Goals as goal
 
 pub returns-in_err-next-clause-told : goal.returns-in_err-next-clause-told
 returns-in_err-next-clause-told c =
-    let s = sight_view c.args.sight.now in
-    let n = tree.name_view c.args.target.now in
+    let xs = c.args.list.now in
+    let b = broken.waveform (sight_view c.args.sight.now) c.args.selected (tree.name_view c.args.target.now) in
     let lt : c.loop-item.item-index < length c.args.list.now = omega arith in
-    let h : Tells (any_of (told.chosen s c.args.selected n) (map tree.waveform_view c.args.list.now)) c.in_err-next.field-0.0 =
-    told_any (told.chosen s c.args.selected n) tree.waveform_view c.args.list.now c.loop-item.item-index c.item-item.result c.in_err-next.field-0.0 lt c.item-item.is c.in_err-next.ensures.told in
+    let h : Tells (any_of b (map tree.waveform_view xs)) c.in_err-next.field-0.0 =
+    next_told tree.waveform_view xs c.loop-item.item-index c.item-item.result lt c.item-item.is b c.in_err-next.field-0.0 c.loop-item.invariant.1 c.in_err-next.ensures.told in
     first_of (search rules, grind (arith, common_steps))
+
+pub loop-item-preserved : goal.loop-item-preserved
+loop-item-preserved c =
+    let xs = c.args.list.now in
+    let i = c.loop-item.item-index in
+    let x = c.item-item.result in
+    let s = sight_view c.args.sight.now in
+    let lt : c.loop-item.item-index < length c.args.list.now = omega arith in (
+      more_done tree.waveform_view xs i x lt c.item-item.is (steps.chosen s c.args.selected (tree.name_view c.args.target.now)) (views.alternatives_view c.loop-item.all) _ (views.alternative_view c.in_ok-next.next) _ c.loop-item.invariant.0
+          c.in_ok-next.ensures.given
+          (ap (map views.alternative_view) c.in_ok-push.ensures.items ∙ map-append views.alternative_view c.loop-item.all.items (c.in_ok-next.next ∷ [])),
+      next_left tree.waveform_view xs i x lt c.item-item.is (broken.waveform s c.args.selected (tree.name_view c.args.target.now)) c.loop-item.invariant.1 (waveform_kept s (tree.name_view c.args.target.now) c.args.selected (tree.waveform_view x) _ c.in_ok-next.ensures.given),
+    )

@@ -1,21 +1,22 @@
-use Rattle.std.proofs.Common.{rules, arith, map, ap}
+use Rattle.std.proofs.Common.{rules, arith}
 use Rattle.std.proofs.lemmas.Grind.{common_steps}
+use Rattle.std.proofs.Common.{map, ap}
 use Rattle.vhdl_tree.specs.View as tree
 use Rattle.vhdl_names_types.specs.Views.{sight_view}
 use Rattle.vhdl_names_problems.specs.Broken.{Tells}
 use Rattle.vhdl_names_problems.specs.Statements.{target}
 use Rattle.vhdl_names_problems.specs.Concurrent.{assignment}
-use Rattle.vhdl_names_problems.proofs.Telling.{told_left}
+use Rattle.vhdl_names_problems.proofs.Telling.{told_same, told_left, told_right}
+use Rattle.vhdl_names_problems.proofs.kept.Statements.{target_kept}
 use Rattle.vhdl_names_statements.specs.steps.Told as told
-use Rattle.vhdl_names_statements.proofs.steps.Told.{told_along}
-use Rattle.vhdl_names_statements.proofs.steps.Assigning.{conditional_told}
 use Rattle.vhdl_names_statements.proofs.assignments.assignment_in_turn.Goals as goal
 
 pub returns-in_err-target-clause-told : goal.returns-in_err-target-clause-told
 returns-in_err-target-clause-told c =
     let s = sight_view c.args.sight.now in
     let a = tree.assignment_view c.args.assignment.now in
-    let h : Tells (assignment s a) c.in_err-target.field-0.0 = told_left (target s a.target) _ c.in_err-target.field-0.0 c.in_err-target.ensures.told in
+    let h : Tells (assignment s a) c.in_err-target.field-0.0 =
+    told_left (target s a.target) (told.conditional s a.target a.branches a.otherwise) c.in_err-target.field-0.0 c.in_err-target.ensures.told in
     first_of (search rules, grind (arith, common_steps))
 
 pub returns-in_err-statement-clause-told : goal.returns-in_err-statement-clause-told
@@ -23,6 +24,6 @@ returns-in_err-statement-clause-told c =
     let s = sight_view c.args.sight.now in
     let a = tree.assignment_view c.args.assignment.now in
     let h : Tells (assignment s a) c.in_err-statement.field-0.0 =
-    conditional_told s a.target c.in_err-statement.field-0.0 a.branches a.otherwise
-    (told_along _ _ c.in_err-statement.field-0.0 (ap (λ bs. told.conditional s a.target (map tree.branch_view bs) a.otherwise) c.deref.ensures.value) c.in_err-statement.ensures.told) in
+    told_right (target s a.target) (told.conditional s a.target a.branches a.otherwise) c.in_err-statement.field-0.0 (target_kept s a.target _ c.in_ok-target.ensures.given)
+    (told_same _ _ c.in_err-statement.field-0.0 (ap (λ bs. told.conditional s a.target (map tree.branch_view bs) a.otherwise) c.deref.ensures.value) c.in_err-statement.ensures.told) in
     first_of (search rules, grind (arith, common_steps))

@@ -1,21 +1,22 @@
-use Rattle.std.proofs.Common.{rules, arith, ◌<◌, length, map}
+use Rattle.std.proofs.Common.{rules, arith}
 use Rattle.std.proofs.lemmas.Grind.{common_steps}
+use Rattle.std.proofs.Common.{map}
 use Rattle.std.specs.Prelude.{option_map}
 use Rattle.vhdl_tree.specs.View as tree
 use Rattle.vhdl_names_types.specs.Views.{sight_view}
 use Rattle.vhdl_names_problems.specs.Broken.{Tells, any_of, of_any}
-use Rattle.vhdl_names_problems.specs.Expressions.{condition}
-use Rattle.vhdl_names_problems.specs.Choices.{choices}
 use Rattle.vhdl_names_problems.specs.Statements.{assigned}
-use Rattle.vhdl_names_problems.proofs.Telling.{told_left, told_right, told_any}
+use Rattle.vhdl_names_problems.specs.Concurrent.{branch}
+use Rattle.vhdl_names_problems.proofs.Telling.{told_left, told_right}
 use Rattle.vhdl_names_statements.specs.steps.Told as told
+use Rattle.vhdl_names_statements.proofs.steps.Assigning.{branches_kept}
 use Rattle.vhdl_names_statements.proofs.assignments.conditional.Goals as goal
 
 pub returns-in_err-branches-clause-told : goal.returns-in_err-branches-clause-told
 returns-in_err-branches-clause-told c =
     let s = sight_view c.args.sight.now in
     let n = tree.name_view c.args.target.now in
-    let bs = any_of (told.waveform s n) (map tree.branch_view c.args.list.now) in
+    let bs = any_of (branch s n) (map tree.branch_view c.args.list.now) in
     let o = of_any (assigned s n) (option_map tree.value_view c.args.value.now) in
     let h : Tells (told.conditional s n (map tree.branch_view c.args.list.now) (option_map tree.value_view c.args.value.now)) c.in_err-branches.field-0.0 =
     told_left bs o c.in_err-branches.field-0.0 c.in_err-branches.ensures.told in
@@ -25,8 +26,9 @@ pub returns-in_err-otherwise-clause-told : goal.returns-in_err-otherwise-clause-
 returns-in_err-otherwise-clause-told c =
     let s = sight_view c.args.sight.now in
     let n = tree.name_view c.args.target.now in
-    let bs = any_of (told.waveform s n) (map tree.branch_view c.args.list.now) in
+    let xs = map tree.branch_view c.args.list.now in
+    let bs = any_of (branch s n) (map tree.branch_view c.args.list.now) in
     let o = of_any (assigned s n) (option_map tree.value_view c.args.value.now) in
     let h : Tells (told.conditional s n (map tree.branch_view c.args.list.now) (option_map tree.value_view c.args.value.now)) c.in_err-otherwise.field-0.0 =
-    told_right bs o c.in_err-otherwise.field-0.0 c.in_err-otherwise.ensures.told in
+    told_right bs o c.in_err-otherwise.field-0.0 (branches_kept s n xs _ c.in_ok-branches.ensures.given) c.in_err-otherwise.ensures.told in
     first_of (search rules, grind (arith, common_steps))

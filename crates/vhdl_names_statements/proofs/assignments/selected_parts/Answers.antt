@@ -1,67 +1,107 @@
-use Rattle.std.proofs.Common.{rules, arith, ◌≡◌, ◌∷◌, [], map, Some, ap, sym, ◌∙◌}
+use Rattle.std.proofs.Common.{rules, arith, ◌≡◌, ◌≢◌, map, None, Some, IfOk, IfErr, ap, sym, ◌∙◌}
 use Rattle.std.proofs.lemmas.Grind.{common_steps}
 use Rattle.vhdl_tree.specs.View as tree
-use Rattle.vhdl_names_rules.specs.declared.fault.NameProblem.TheVariants.{LeftOut}
+use Rattle.vhdl_names_rules.specs.declared.fault.NameFault.TheVariants.{NoMemory}
 use Rattle.vhdl_names_rules.specs.Rules.{each}
+use Rattle.vhdl_names_rules.specs.Gives.{Gives}
+use Rattle.vhdl_names_rules.specs.Choices as are
 use Rattle.vhdl_names_types.specs.Views.{sight_view}
+use Rattle.vhdl_names_types.proofs.Along.{gives_along}
 use Rattle.vhdl_names_units.specs.views.Sequential as views
-use Rattle.vhdl_names_problems.specs.Broken.{Tells, ◌▸◌, any_of, lacking}
-use Rattle.vhdl_names_problems.specs.Choices.{covered}
+use Rattle.vhdl_names_problems.specs.Broken.{Tells, nothing, any_of}
+use Rattle.vhdl_names_problems.specs.Covered.{covered}
 use Rattle.vhdl_names_problems.specs.Statements as broken
-use Rattle.vhdl_names_problems.proofs.Telling.{told_left, told_on}
-use Rattle.vhdl_names_statements.specs.steps.Cases.{all_lists, all_choices, but_last}
+use Rattle.vhdl_names_problems.specs.Concurrent as problems
+use Rattle.vhdl_names_problems.proofs.Telling.{told_same, told_left, told_on}
+use Rattle.vhdl_names_statements.specs.steps.Cases as cases
 use Rattle.vhdl_names_statements.specs.steps.Concurrent as steps
 use Rattle.vhdl_names_statements.specs.steps.Told as told
-use Rattle.vhdl_names_statements.proofs.steps.Told.{told_along}
-use Rattle.vhdl_names_statements.proofs.steps.Assigning.{chosen_values, waveforms_told, parts_told}
-use Rattle.vhdl_names_statements.proofs.steps.Parts.{selected_uncovered, selected_none}
+use Rattle.vhdl_names_statements.proofs.steps.Told.{on_along}
+use Rattle.vhdl_names_statements.proofs.steps.Assigning.{waveforms_kept}
+use Rattle.vhdl_names_statements.proofs.steps.Covering.{on_given, waveforms_there, selected_by, selected_cover, selected_none}
 use Rattle.vhdl_names_statements.proofs.assignments.selected_parts.Goals as goal
 
 pub returns-in_err-target-clause-told : goal.returns-in_err-target-clause-told
 returns-in_err-target-clause-told c =
     let s = sight_view c.args.sight.now in
     let a = tree.selected_assignment_view c.args.assignment.now in
-    let h : Tells (told.selected s c.args.by a) c.in_err-target.field-0.0 = told_left (broken.target s a.target) _ c.in_err-target.field-0.0 c.in_err-target.ensures.told in
+    let h : Tells (problems.waveforms s c.args.by a) c.in_err-target.field-0.0 = told_left (broken.target s a.target) _ c.in_err-target.field-0.0 c.in_err-target.ensures.told in
     first_of (search rules, grind (arith, common_steps))
 
-pub returns-in_err-all-in-Ok-clause-told : goal.returns-in_err-all-in-Ok-clause-told
-returns-in_err-all-in-Ok-clause-told c =
+pub returns-in_err-all-clause-given : goal.returns-in_err-all-clause-given
+returns-in_err-all-clause-given c =
     let s = sight_view c.args.sight.now in
     let k = c.args.by in
     let a = tree.selected_assignment_view c.args.assignment.now in
-    let f = c.in_err-all-in-Ok.field-0.0 in
-    let all = views.alternatives_view c.in-Ok.all in
-    let lists : all_lists c.deref-in-Ok.result.now ≡ steps.choice_lists a.waveforms =
-    ap all_lists c.deref-in-Ok.ensures.value ∙ c.in_ok-lists.ensures ∙ ap (λ ws. steps.choice_lists (map tree.waveform_view ws)) c.deref.ensures.value in
-    let there : each (steps.chosen s k a.target) a.waveforms ≡ Some all =
-    ap (λ ws. each (steps.chosen s k a.target) (map tree.waveform_view ws)) (sym c.deref-2.ensures.value) ∙ c.in-Ok.ensures.given in
-    let h : Tells (told.selected s k a) c.in_err-all-in-Ok.field-0.0 =
-    selected_uncovered s k a f _ c.in_ok-target.ensures.given all there
-    (told_along _ _ f (ap (λ l. told.uncovered k l (all_choices all)) lists) c.in_err-all-in-Ok.ensures.told) in
+    let b = any_of (problems.waveform s k a.target) a.waveforms in
+    let found = each (steps.chosen s k a.target) a.waveforms in
+    let lists : cases.all_lists c.deref-3.result.now ≡ steps.choice_lists a.waveforms =
+    ap cases.all_lists c.deref-3.ensures.value ∙ c.in_ok-lists.ensures ∙ ap (λ ws. steps.choice_lists (map tree.waveform_view ws)) c.deref.ensures.value in
+    let given : Gives views.alternatives_view found c.all_chosen-all.result =
+    gives_along views.alternatives_view _ _ _ (ap (λ ws. each (steps.chosen s k a.target) (map tree.waveform_view ws)) (sym c.deref-2.ensures.value)) c.all_chosen-all.ensures.given in
+    let has : IfOk c.all_chosen-all.result (told.HasChoices s k (cases.all_lists c.deref-3.result.now)) =
+    on_given views.alternatives_view (told.HasChoices s k (cases.all_lists c.deref-3.result.now)) found _ given
+    (λ x e. ap (each (are.choices s k)) lists ∙ waveforms_there s k a _ c.in_ok-target.ensures.given (views.alternatives_view x) e) in
+    let none : c.in_err-all.field-0.0 ≢ NoMemory → steps.parts s k a ≡ None =
+    λ n. selected_by s k a _ c.in_ok-target.ensures.given None (ap (λ l. cases.covering k l found) (sym lists) ∙ c.in_err-all.ensures.given found given has n) in
     first_of (search rules, grind (arith, common_steps))
 
-pub returns-in-Err-clause-told : goal.returns-in-Err-clause-told
-returns-in-Err-clause-told c =
+pub returns-in_err-all-clause-told : goal.returns-in_err-all-clause-told
+returns-in_err-all-clause-told c =
     let s = sight_view c.args.sight.now in
     let k = c.args.by in
     let a = tree.selected_assignment_view c.args.assignment.now in
-    let f = c.first_fault.result in
-    let b = chosen_values s a.target f k a.waveforms in
-    let lists : all_lists c.deref-in-Err.result.now ≡ steps.choice_lists a.waveforms =
-    ap all_lists c.deref-in-Err.ensures.value ∙ c.in_ok-lists.ensures ∙ ap (λ ws. steps.choice_lists (map tree.waveform_view ws)) c.deref.ensures.value in
-    parts_told s a f k (told_along _ _ f (ap (λ l. b ▸ covered s k l) lists)
-    (c.first_fault.ensures.told b (waveforms_told s a.target c.in-Err.fault k a.waveforms
-    (told_along _ _ c.in-Err.fault (ap (λ ws. any_of (told.chosen s k a.target) (map tree.waveform_view ws)) c.deref-2.ensures.value) c.in-Err.ensures.told))))
+    let b = any_of (problems.waveform s k a.target) a.waveforms in
+    let found = each (steps.chosen s k a.target) a.waveforms in
+    let lists : cases.all_lists c.deref-3.result.now ≡ steps.choice_lists a.waveforms =
+    ap cases.all_lists c.deref-3.ensures.value ∙ c.in_ok-lists.ensures ∙ ap (λ ws. steps.choice_lists (map tree.waveform_view ws)) c.deref.ensures.value in
+    let given : Gives views.alternatives_view found c.all_chosen-all.result =
+    gives_along views.alternatives_view _ _ _ (ap (λ ws. each (steps.chosen s k a.target) (map tree.waveform_view ws)) (sym c.deref-2.ensures.value)) c.all_chosen-all.ensures.given in
+    let has : IfOk c.all_chosen-all.result (told.HasChoices s k (cases.all_lists c.deref-3.result.now)) =
+    on_given views.alternatives_view (told.HasChoices s k (cases.all_lists c.deref-3.result.now)) found _ given
+    (λ x e. ap (each (are.choices s k)) lists ∙ waveforms_there s k a _ c.in_ok-target.ensures.given (views.alternatives_view x) e) in
+    let wrong : IfErr c.all_chosen-all.result (Tells b) =
+    on_along _ b _ (ap (λ ws. any_of (problems.waveform s k a.target) (map tree.waveform_view ws)) c.deref-2.ensures.value) c.all_chosen-all.ensures.told in
+    let fine : IfOk c.all_chosen-all.result (λ _. b ≡ nothing) =
+    on_given views.alternatives_view (λ _. b ≡ nothing) found _ given (λ x e. waveforms_kept s k a.target a.waveforms (views.alternatives_view x) e) in
+    let h : Tells (problems.waveforms s k a) c.in_err-all.field-0.0 =
+    selected_cover s k a _ c.in_ok-target.ensures.given c.in_err-all.field-0.0
+    (told_same _ _ c.in_err-all.field-0.0 (ap (λ l. covered s k a.at l b) lists) (c.in_err-all.ensures.told b wrong fine has)) in
+    first_of (search rules, grind (arith, common_steps))
+
+pub returns-clause-given : goal.returns-clause-given
+returns-clause-given c =
+    let s = sight_view c.args.sight.now in
+    let k = c.args.by in
+    let a = tree.selected_assignment_view c.args.assignment.now in
+    let b = any_of (problems.waveform s k a.target) a.waveforms in
+    let found = each (steps.chosen s k a.target) a.waveforms in
+    let lists : cases.all_lists c.deref-3.result.now ≡ steps.choice_lists a.waveforms =
+    ap cases.all_lists c.deref-3.ensures.value ∙ c.in_ok-lists.ensures ∙ ap (λ ws. steps.choice_lists (map tree.waveform_view ws)) c.deref.ensures.value in
+    let given : Gives views.alternatives_view found c.all_chosen-all.result =
+    gives_along views.alternatives_view _ _ _ (ap (λ ws. each (steps.chosen s k a.target) (map tree.waveform_view ws)) (sym c.deref-2.ensures.value)) c.all_chosen-all.ensures.given in
+    let has : IfOk c.all_chosen-all.result (told.HasChoices s k (cases.all_lists c.deref-3.result.now)) =
+    on_given views.alternatives_view (told.HasChoices s k (cases.all_lists c.deref-3.result.now)) found _ given
+    (λ x e. ap (each (are.choices s k)) lists ∙ waveforms_there s k a _ c.in_ok-target.ensures.given (views.alternatives_view x) e) in
+    gives_along _ _ _ _
+    (selected_by s k a _ c.in_ok-target.ensures.given (Some (views.alternatives_view c.in_ok-all.all))
+    (ap (λ l. cases.covering k l found) (sym lists) ∙ c.in_ok-all.ensures.given found given has)) c.but_last.ensures.given
 
 pub returns-clause-told : goal.returns-clause-told
 returns-clause-told c =
     let s = sight_view c.args.sight.now in
     let k = c.args.by in
     let a = tree.selected_assignment_view c.args.assignment.now in
-    let all = views.alternatives_view c.in-Ok.all in
-    let there : each (steps.chosen s k a.target) a.waveforms ≡ Some all =
-    ap (λ ws. each (steps.chosen s k a.target) (map tree.waveform_view ws)) (sym c.deref-2.ensures.value) ∙ c.in-Ok.ensures.given in
-    told_on _ (told.selected s k a) _
-    (λ f x. selected_none s k a f _ c.in_ok-target.ensures.given all there
-    (told_along _ _ f (ap (λ v. lacking (LeftOut ∷ []) (but_last (views.alternatives_view v))) c.in_ok-all-in-Ok.ensures.same) x))
+    let b = any_of (problems.waveform s k a.target) a.waveforms in
+    let found = each (steps.chosen s k a.target) a.waveforms in
+    let lists : cases.all_lists c.deref-3.result.now ≡ steps.choice_lists a.waveforms =
+    ap cases.all_lists c.deref-3.ensures.value ∙ c.in_ok-lists.ensures ∙ ap (λ ws. steps.choice_lists (map tree.waveform_view ws)) c.deref.ensures.value in
+    let given : Gives views.alternatives_view found c.all_chosen-all.result =
+    gives_along views.alternatives_view _ _ _ (ap (λ ws. each (steps.chosen s k a.target) (map tree.waveform_view ws)) (sym c.deref-2.ensures.value)) c.all_chosen-all.ensures.given in
+    let has : IfOk c.all_chosen-all.result (told.HasChoices s k (cases.all_lists c.deref-3.result.now)) =
+    on_given views.alternatives_view (told.HasChoices s k (cases.all_lists c.deref-3.result.now)) found _ given
+    (λ x e. ap (each (are.choices s k)) lists ∙ waveforms_there s k a _ c.in_ok-target.ensures.given (views.alternatives_view x) e) in
+    told_on _ (problems.waveforms s k a) _
+    (λ f h. selected_none s k a _ c.in_ok-target.ensures.given f (views.alternatives_view c.in_ok-all.all)
+    (ap (λ l. cases.covering k l found) (sym lists) ∙ c.in_ok-all.ensures.given found given has) h)
     c.but_last.ensures.told

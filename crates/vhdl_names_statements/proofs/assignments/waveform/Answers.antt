@@ -1,14 +1,13 @@
-use Rattle.std.proofs.Common.{rules, arith, ◌<◌, length, map}
+use Rattle.std.proofs.Common.{rules, arith}
 use Rattle.std.proofs.lemmas.Grind.{common_steps}
-use Rattle.std.specs.Prelude.{option_map}
 use Rattle.vhdl_tree.specs.View as tree
 use Rattle.vhdl_names_types.specs.Views.{sight_view}
-use Rattle.vhdl_names_problems.specs.Broken.{Tells, any_of, of_any}
+use Rattle.vhdl_names_problems.specs.Broken.{Tells}
 use Rattle.vhdl_names_problems.specs.Expressions.{condition}
-use Rattle.vhdl_names_problems.specs.Choices.{choices}
 use Rattle.vhdl_names_problems.specs.Statements.{assigned}
-use Rattle.vhdl_names_problems.proofs.Telling.{told_left, told_right, told_any}
-use Rattle.vhdl_names_statements.specs.steps.Told as told
+use Rattle.vhdl_names_problems.specs.Concurrent.{branch}
+use Rattle.vhdl_names_problems.proofs.Telling.{told_left, told_right}
+use Rattle.vhdl_names_statements.proofs.steps.Assigning.{alone_kept}
 use Rattle.vhdl_names_statements.proofs.assignments.waveform.Goals as goal
 
 pub returns-in_err-statements-clause-told : goal.returns-in_err-statements-clause-told
@@ -16,7 +15,7 @@ returns-in_err-statements-clause-told c =
     let s = sight_view c.args.sight.now in
     let n = tree.name_view c.args.target.now in
     let b = tree.branch_view c.args.item.now in
-    let h : Tells (told.waveform s n b) c.in_err-statements.field-0.0 =
+    let h : Tells (branch s n b) c.in_err-statements.field-0.0 =
     told_left (assigned s n b.value) (condition s b.condition) c.in_err-statements.field-0.0 c.in_err-statements.ensures.told in
     first_of (search rules, grind (arith, common_steps))
 
@@ -25,6 +24,6 @@ returns-in_err-condition-clause-told c =
     let s = sight_view c.args.sight.now in
     let n = tree.name_view c.args.target.now in
     let b = tree.branch_view c.args.item.now in
-    let h : Tells (told.waveform s n b) c.in_err-condition.field-0.0 =
-    told_right (assigned s n b.value) (condition s b.condition) c.in_err-condition.field-0.0 c.in_err-condition.ensures.told in
+    let h : Tells (branch s n b) c.in_err-condition.field-0.0 =
+    told_right (assigned s n b.value) (condition s b.condition) c.in_err-condition.field-0.0 (alone_kept s n b.value _ c.in_ok-statements.ensures.given) c.in_err-condition.ensures.told in
     first_of (search rules, grind (arith, common_steps))

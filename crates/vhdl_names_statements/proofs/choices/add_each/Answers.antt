@@ -1,4 +1,4 @@
-use Rattle.std.proofs.Common.{rules, arith, ◌≡◌, ◌<◌, length, map}
+use Rattle.std.proofs.Common.{rules, arith, ◌<◌, length, map}
 use Rattle.std.proofs.lemmas.Grind.{common_steps}
 use Rattle.vhdl_tree.specs.View as tree
 use Rattle.vhdl_names_types.specs.Views.{sight_view}
@@ -27,6 +27,7 @@ loop-written-preserved c =
     let lt : c.loop-written.written-index < length c.args.list.now = omega arith in
     let old = names_view c.args.keys.now in
     let keys = names_view c.loop-written.keys in
-    let new = names_view c.add_written.new.keys in
-    (next_added s c.args.selected xs i c.written-item.result lt c.written-item.is old keys new c.loop-written.invariant.0 c.in_ok-add_written.ensures.added,
-    next_left s c.args.selected xs i c.written-item.result lt c.written-item.is old keys new c.loop-written.invariant.1 c.in_ok-add_written.ensures.kept c.in_ok-add_written.ensures.added)
+    let new = names_view c.add_written.new.keys in (
+      next_added s c.args.selected xs i c.written-item.result lt c.written-item.is old keys new c.loop-written.invariant.0 c.in_ok-add_written.ensures.added,
+      next_left s c.args.selected xs i c.written-item.result lt c.written-item.is old keys new c.loop-written.invariant.1 c.in_ok-add_written.ensures.kept c.in_ok-add_written.ensures.added,
+    )

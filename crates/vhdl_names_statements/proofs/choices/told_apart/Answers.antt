@@ -1,4 +1,4 @@
-use Rattle.std.proofs.Common.{rules, arith, ◌≡◌, ◌<◌, [], length, map, drop}
+use Rattle.std.proofs.Common.{rules, arith, ◌<◌, [], length}
 use Rattle.std.proofs.lemmas.Grind.{common_steps}
 use Rattle.vhdl_names_types.specs.Views.{sight_view}
 use Rattle.vhdl_names_problems.specs.Broken.{Tells}
@@ -24,6 +24,7 @@ loop-index-preserved c =
     let i = c.loop-index.index in
     let lt : c.loop-index.index < length c.args.lists.now = omega arith in
     let keys = names_view c.loop-index.keys in
-    let new = names_view c.add_list.new.keys in
-    (list_added (sight_view c.args.sight.now) c.args.selected bs i c.index-lists-index.result lt c.index-lists-index.is keys new c.loop-index.invariant.0 c.in_ok-add_list.ensures.added,
-    list_left (sight_view c.args.sight.now) c.args.selected bs i c.index-lists-index.result lt c.index-lists-index.is keys new _ c.loop-index.invariant.1 (last_is bs i lt) c.in_ok-add_list.ensures.kept c.in_ok-add_list.ensures.added)
+    let new = names_view c.add_list.new.keys in (
+      list_added (sight_view c.args.sight.now) c.args.selected bs i c.index-lists-index.result lt c.index-lists-index.is keys new c.loop-index.invariant.0 c.in_ok-add_list.ensures.added,
+      list_left (sight_view c.args.sight.now) c.args.selected bs i c.index-lists-index.result lt c.index-lists-index.is keys new _ c.loop-index.invariant.1 (last_is bs i lt) c.in_ok-add_list.ensures.kept c.in_ok-add_list.ensures.added,
+    )

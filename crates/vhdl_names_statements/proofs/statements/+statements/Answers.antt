@@ -1,26 +1,33 @@
-use Rattle.std.proofs.Common.{rules, arith, ◌≡◌, ◌<◌, ◌∷◌, [], length, map, Some, ap, sym, ◌∙◌}
+use Rattle.std.proofs.Common.{rules, arith, ◌≡◌, ◌≢◌, ◌<◌, ◌∷◌, [], length, map, None, Some, IfOk, IfErr, ap, sym, ◌∙◌}
 use Rattle.std.proofs.lemmas.Grind.{common_steps}
+use Rattle.std.proofs.lemmas.List.{map-append}
 use Rattle.vhdl_tree.specs.Tree as tree'
 use Rattle.vhdl_tree.specs.View as tree
 use Rattle.vhdl_tree.specs.declared.sequential.Case.{out-Case}
 use Rattle.vhdl_tree.specs.declared.sequential.If.{out-If}
+use Rattle.vhdl_names_rules.specs.declared.fault.NameFault.TheVariants.{NoMemory}
+use Rattle.vhdl_names_rules.specs.Rules.{◌>>◌, each, if_any}
+use Rattle.vhdl_names_rules.specs.Gives.{Gives}
+use Rattle.vhdl_names_rules.specs.Choices as are
 use Rattle.vhdl_names_rules.specs.Statements.{statement}
 use Rattle.vhdl_names_types.specs.Views.{sight_view}
-use Rattle.vhdl_names_rules.specs.declared.fault.NameProblem.TheVariants.{LeftOut}
-use Rattle.vhdl_names_rules.specs.Rules.{each}
-use Rattle.vhdl_names_units.specs.views.Sequential.{statement_view, alternatives_view}
 use Rattle.vhdl_names_types.proofs.Along.{gives_along}
+use Rattle.vhdl_names_units.specs.views.Sequential.{statement_view, statements_view, branch_view, branches_view, alternative_view, alternatives_view}
+use Rattle.vhdl_names_problems.specs.Broken.{Tells, nothing}
+use Rattle.vhdl_names_problems.specs.Expressions.{condition}
+use Rattle.vhdl_names_problems.specs.Choices.{choices}
+use Rattle.vhdl_names_problems.specs.Covered.{covered, any_alternative}
+use Rattle.vhdl_names_problems.specs.Statements as broken
+use Rattle.vhdl_names_problems.proofs.Telling.{told_same, told_left, told_right, told_on}
+use Rattle.vhdl_names_problems.proofs.kept.Expressions.{condition_kept}
+use Rattle.vhdl_names_problems.proofs.kept.Choices.{choices_kept}
+use Rattle.vhdl_names_statements.specs.steps.Cases as cases
+use Rattle.vhdl_names_statements.specs.steps.Sequential as steps
+use Rattle.vhdl_names_statements.specs.steps.Told as told
 use Rattle.vhdl_names_statements.proofs.steps.Sequential.{if_gives, loop_gives, left_loop}
 use Rattle.vhdl_names_statements.proofs.steps.Cases.{case_gives}
-use Rattle.vhdl_names_problems.specs.Broken.{Broken, Tells, ◌▸◌, lacking}
-use Rattle.vhdl_names_problems.specs.Expressions.{condition}
-use Rattle.vhdl_names_problems.specs.Choices.{choices, covered}
-use Rattle.vhdl_names_problems.specs.Statements as broken
-use Rattle.vhdl_names_problems.proofs.Telling.{told_left, told_right, told_on}
-use Rattle.vhdl_names_statements.specs.steps.Cases as cases
-use Rattle.vhdl_names_statements.specs.steps.Told as told
 use Rattle.vhdl_names_statements.proofs.steps.Told as by
-use Rattle.vhdl_names_statements.proofs.steps.Parts as part
+use Rattle.vhdl_names_statements.proofs.steps.Covering as part
 use Rattle.vhdl_names_statements.proofs.statements.+statements.Goals as goal
 
 pub turn-returns-clause-kept : goal.turn-returns-clause-kept
@@ -49,29 +56,83 @@ statement-returns-in-Case-clause-given t c =
 pub statements-returns-in_err-next-clause-told : goal.statements-returns-in_err-next-clause-told
 statements-returns-in_err-next-clause-told m c =
     let s = sight_view c.args.sight.now in
+    let xs = c.args.list.now in
+    let x = c.item-item.result in
     let lt : c.loop-item.item-index < length c.args.list.now = omega arith in
-    let h : Tells (broken.statements s (tree'.statements_of (map tree.sequential_view c.args.list.now))) c.in_err-next.field-0.0 =
-    by.statements_told s (sight_view c.loop-item.sight) c.args.list.now c.loop-item.item-index c.item-item.result c.in_err-next.field-0.0 lt c.item-item.is c.loop-item.invariant.0
-    c.in_err-next.ensures.told in
+    let h : Tells (broken.statements s (tree'.statements_of (map tree.sequential_view xs))) c.in_err-next.field-0.0 =
+    told_same _ _ c.in_err-next.field-0.0 (by.statements_any s (map tree.sequential_view xs))
+    (by.next_told tree.sequential_view xs c.loop-item.item-index x lt c.item-item.is (told.labelled s) c.in_err-next.field-0.0 c.loop-item.invariant.2
+    (told_same _ _ c.in_err-next.field-0.0 (ap (λ e. told.labelled e (tree.sequential_view x)) c.loop-item.invariant.0) c.in_err-next.ensures.told)) in
     first_of (search rules, grind (arith, common_steps))
+
+pub statements-loop-item-preserved : goal.statements-loop-item-preserved
+statements-loop-item-preserved m c =
+    let s = sight_view c.args.sight.now in
+    let xs = c.args.list.now in
+    let i = c.loop-item.item-index in
+    let x = c.item-item.result in
+    let lt : c.loop-item.item-index < length c.args.list.now = omega arith in
+    let given : steps.labelled s (tree.sequential_view x) ≡ Some (statement_view c.in_ok-next.next) =
+    ap (λ e. steps.labelled e (tree.sequential_view x)) (sym c.loop-item.invariant.0) ∙ c.in_ok-next.ensures.given in (
+      c.in_ok-next.ensures.kept ∙ c.loop-item.invariant.0,
+      by.more_done tree.sequential_view xs i x lt c.item-item.is (steps.labelled s) (statements_view c.loop-item.all) _ (statement_view c.in_ok-next.next) _ c.loop-item.invariant.1 given
+          (ap (map statement_view) c.in_ok-push.ensures.items ∙ map-append statement_view c.loop-item.all.items (c.in_ok-next.next ∷ [])),
+      by.next_left tree.sequential_view xs i x lt c.item-item.is (told.labelled s) c.loop-item.invariant.2 (by.labelled_kept s (tree.sequential_view x) _ given),
+    )
 
 pub branches-returns-in_err-next-clause-told : goal.branches-returns-in_err-next-clause-told
 branches-returns-in_err-next-clause-told m c =
     let s = sight_view c.args.sight.now in
+    let xs = c.args.list.now in
+    let x = c.item-item.result in
     let lt : c.loop-item.item-index < length c.args.list.now = omega arith in
-    let h : Tells (broken.conditionals s (tree'.conditionals_of (map tree.conditional_view c.args.list.now))) c.in_err-next.field-0.0 =
-    by.branches_told s (sight_view c.loop-item.sight) c.args.list.now c.loop-item.item-index c.item-item.result c.in_err-next.field-0.0 lt c.item-item.is c.loop-item.invariant.0
-    c.in_err-next.ensures.told in
+    let h : Tells (broken.conditionals s (tree'.conditionals_of (map tree.conditional_view xs))) c.in_err-next.field-0.0 =
+    told_same _ _ c.in_err-next.field-0.0 (by.conditionals_any s (map tree.conditional_view xs))
+    (by.next_told tree.conditional_view xs c.loop-item.item-index x lt c.item-item.is (told.guarded s) c.in_err-next.field-0.0 c.loop-item.invariant.2
+    (told_same _ _ c.in_err-next.field-0.0 (ap (λ e. told.guarded e (tree.conditional_view x)) c.loop-item.invariant.0) c.in_err-next.ensures.told)) in
     first_of (search rules, grind (arith, common_steps))
+
+pub branches-loop-item-preserved : goal.branches-loop-item-preserved
+branches-loop-item-preserved m c =
+    let s = sight_view c.args.sight.now in
+    let xs = c.args.list.now in
+    let i = c.loop-item.item-index in
+    let x = c.item-item.result in
+    let lt : c.loop-item.item-index < length c.args.list.now = omega arith in
+    let given : steps.guarded s (tree.conditional_view x) ≡ Some (branch_view c.in_ok-next.next) =
+    ap (λ e. steps.guarded e (tree.conditional_view x)) (sym c.loop-item.invariant.0) ∙ c.in_ok-next.ensures.given in (
+      c.in_ok-next.ensures.kept ∙ c.loop-item.invariant.0,
+      by.more_done tree.conditional_view xs i x lt c.item-item.is (steps.guarded s) (branches_view c.loop-item.all) _ (branch_view c.in_ok-next.next) _ c.loop-item.invariant.1 given
+          (ap (map branch_view) c.in_ok-push.ensures.items ∙ map-append branch_view c.loop-item.all.items (c.in_ok-next.next ∷ [])),
+      by.next_left tree.conditional_view xs i x lt c.item-item.is (told.guarded s) c.loop-item.invariant.2 (by.guarded_kept s (tree.conditional_view x) _ given),
+    )
 
 pub alternatives-returns-in_err-next-clause-told : goal.alternatives-returns-in_err-next-clause-told
 alternatives-returns-in_err-next-clause-told m c =
     let s = sight_view c.args.sight.now in
+    let xs = c.args.list.now in
+    let x = c.item-item.result in
     let lt : c.loop-item.item-index < length c.args.list.now = omega arith in
-    let h : Tells (told.alternatives s c.args.selected (map tree.alternative_view c.args.list.now)) c.in_err-next.field-0.0 =
-    by.alternatives_told s (sight_view c.loop-item.sight) c.args.selected c.args.list.now c.loop-item.item-index c.item-item.result c.in_err-next.field-0.0 lt c.item-item.is c.loop-item.invariant.0
-    c.in_err-next.ensures.told in
+    let h : Tells (broken.alternatives s c.args.selected (tree'.alternatives_of (map tree.alternative_view xs))) c.in_err-next.field-0.0 =
+    told_same _ _ c.in_err-next.field-0.0 (by.alternatives_any s c.args.selected (map tree.alternative_view xs))
+    (by.next_told tree.alternative_view xs c.loop-item.item-index x lt c.item-item.is (told.alternative s c.args.selected) c.in_err-next.field-0.0 c.loop-item.invariant.2
+    (told_same _ _ c.in_err-next.field-0.0 (ap (λ e. told.alternative e c.args.selected (tree.alternative_view x)) c.loop-item.invariant.0) c.in_err-next.ensures.told)) in
     first_of (search rules, grind (arith, common_steps))
+
+pub alternatives-loop-item-preserved : goal.alternatives-loop-item-preserved
+alternatives-loop-item-preserved m c =
+    let s = sight_view c.args.sight.now in
+    let xs = c.args.list.now in
+    let i = c.loop-item.item-index in
+    let x = c.item-item.result in
+    let lt : c.loop-item.item-index < length c.args.list.now = omega arith in
+    let given : cases.chosen s c.args.selected (tree.alternative_view x) ≡ Some (alternative_view c.in_ok-next.next) =
+    ap (λ e. cases.chosen e c.args.selected (tree.alternative_view x)) (sym c.loop-item.invariant.0) ∙ c.in_ok-next.ensures.given in (
+      c.in_ok-next.ensures.kept ∙ c.loop-item.invariant.0,
+      by.more_done tree.alternative_view xs i x lt c.item-item.is (cases.chosen s c.args.selected) (alternatives_view c.loop-item.all) _ (alternative_view c.in_ok-next.next) _ c.loop-item.invariant.1 given
+          (ap (map alternative_view) c.in_ok-push.ensures.items ∙ map-append alternative_view c.loop-item.all.items (c.in_ok-next.next ∷ [])),
+      by.next_left tree.alternative_view xs i x lt c.item-item.is (told.alternative s c.args.selected) c.loop-item.invariant.2 (by.alternative_kept s c.args.selected (tree.alternative_view x) _ given),
+    )
 
 pub statement-returns-in-SignalAssignment-clause-told : goal.statement-returns-in-SignalAssignment-clause-told
 statement-returns-in-SignalAssignment-clause-told m c =
@@ -109,7 +170,7 @@ if_statement-returns-in_err-branches-clause-told m c =
     let l = tree.option_ident_view c.args.label.now in
     let h : Tells (broken.statement s l (tree.if_view c.args.conditional.now)) c.in_err-branches.field-0.0 =
     by.if_branch s l c.args.conditional.now c.in_err-branches.field-0.0
-    (by.told_along _ _ c.in_err-branches.field-0.0 (ap (λ xs. broken.conditionals s (tree'.conditionals_of (map tree.conditional_view xs))) c.deref.ensures.value)
+    (told_same _ _ c.in_err-branches.field-0.0 (ap (λ xs. broken.conditionals s (tree'.conditionals_of (map tree.conditional_view xs))) c.deref.ensures.value)
     c.in_err-branches.ensures.told) in
     first_of (search rules, grind (arith, common_steps))
 
@@ -117,9 +178,12 @@ pub if_statement-returns-in_err-otherwise-clause-told : goal.if_statement-return
 if_statement-returns-in_err-otherwise-clause-told m c =
     let s = sight_view c.args.sight.now in
     let l = tree.option_ident_view c.args.label.now in
+    let i = c.args.conditional.now in
+    let gs : each (steps.guarded s) (tree.conditionals_view (out-If c.args.conditional.now).branches) ≡ Some (branches_view c.in_ok-branches.branches) =
+    ap (λ xs. each (steps.guarded s) (map tree.conditional_view xs)) (sym c.deref.ensures.value) ∙ c.in_ok-branches.ensures.given in
     let h : Tells (broken.statement s l (tree.if_view c.args.conditional.now)) c.in_err-otherwise.field-0.0 =
-    by.if_else s l c.args.conditional.now c.in_err-otherwise.field-0.0
-    (by.told_along _ _ c.in_err-otherwise.field-0.0
+    by.if_else s l i c.in_err-otherwise.field-0.0 _ gs
+    (told_same _ _ c.in_err-otherwise.field-0.0
     (ap (λ x. broken.otherwise x (tree'.otherwise_of (tree.option_sequentials_view (out-If c.args.conditional.now).otherwise))) c.branches.ensures.kept)
     c.in_err-otherwise.ensures.told) in
     first_of (search rules, grind (arith, common_steps))
@@ -128,8 +192,13 @@ pub if_statement-returns-in_err-branches-2-clause-told : goal.if_statement-retur
 if_statement-returns-in_err-branches-2-clause-told m c =
     let s = sight_view c.args.sight.now in
     let l = tree.option_ident_view c.args.label.now in
+    let i = c.args.conditional.now in
+    let gs : each (steps.guarded s) (tree.conditionals_view (out-If c.args.conditional.now).branches) ≡ Some (branches_view c.in_ok-branches.branches) =
+    ap (λ xs. each (steps.guarded s) (map tree.conditional_view xs)) (sym c.deref.ensures.value) ∙ c.in_ok-branches.ensures.given in
     let h : Tells (broken.statement s l (tree.if_view c.args.conditional.now)) c.in_err-branches-2.field-0.0 =
-    by.if_ends s l c.args.conditional.now c.in_err-branches-2.field-0.0 c.in_err-branches-2.ensures.told in
+    by.if_ends s l i c.in_err-branches-2.field-0.0 _ gs _
+    (ap (λ x. if_any (steps.all_labelled x) (tree.option_sequentials_view (out-If c.args.conditional.now).otherwise)) (sym c.branches.ensures.kept) ∙ c.in_ok-otherwise.ensures.given)
+    c.in_err-branches-2.ensures.told in
     first_of (search rules, grind (arith, common_steps))
 
 pub case_statement-returns-in_err-selected-clause-told : goal.case_statement-returns-in_err-selected-clause-told
@@ -161,7 +230,7 @@ for_loop-returns-in_err-turn-clause-told m c =
     let s = sight_view c.args.sight.now in
     let l = tree.option_ident_view c.args.label.now in
     let h : Tells (broken.statement s l (tree.for_view c.args.repeated.now)) c.in_err-turn.field-0.0 =
-    by.loop_turn s l c.args.repeated.now c.in_err-turn.field-0.0 c.in_err-turn.ensures.told in
+    by.loop_turn s l c.args.repeated.now c.in_err-turn.field-0.0 _ c.in_ok-range.ensures.given c.in_err-turn.ensures.told in
     first_of (search rules, grind (arith, common_steps))
 
 pub for_loop-returns-in_err-range-2-clause-told : goal.for_loop-returns-in_err-range-2-clause-told
@@ -169,7 +238,7 @@ for_loop-returns-in_err-range-2-clause-told m c =
     let s = sight_view c.args.sight.now in
     let l = tree.option_ident_view c.args.label.now in
     let h : Tells (broken.statement s l (tree.for_view c.args.repeated.now)) c.in_err-range-2.field-0.0 =
-    by.loop_ends s l c.args.repeated.now c.in_err-range-2.field-0.0 c.in_err-range-2.ensures.told in
+    by.loop_ends s l c.args.repeated.now c.in_err-range-2.field-0.0 _ c.in_ok-range.ensures.given _ c.in_ok-turn.ensures.given c.in_err-range-2.ensures.told in
     first_of (search rules, grind (arith, common_steps))
 
 pub branch-returns-in_err-condition-clause-told : goal.branch-returns-in_err-condition-clause-told
@@ -186,7 +255,8 @@ branch-returns-in_err-statements-clause-told m c =
     let x = tree.conditional_view c.args.item.now in
     let h : Tells (told.guarded s x) c.in_err-statements.field-0.0 =
     told_right (condition s x.condition) (broken.statements s (tree'.statements_of x.statements)) c.in_err-statements.field-0.0
-    (by.told_along _ _ c.in_err-statements.field-0.0 (ap (λ xs. broken.statements s (tree'.statements_of (map tree.sequential_view xs))) c.deref.ensures.value)
+    (condition_kept s x.condition _ c.in_ok-condition.ensures.given)
+    (told_same _ _ c.in_err-statements.field-0.0 (ap (λ xs. broken.statements s (tree'.statements_of (map tree.sequential_view xs))) c.deref.ensures.value)
     c.in_err-statements.ensures.told) in
     first_of (search rules, grind (arith, common_steps))
 
@@ -196,7 +266,7 @@ alternative-returns-in_err-choices-clause-told m c =
     let x = tree.alternative_view c.args.item.now in
     let h : Tells (told.alternative s c.args.selected x) c.in_err-choices.field-0.0 =
     told_left (choices s c.args.selected x.choices) (broken.statements s (tree'.statements_of x.statements)) c.in_err-choices.field-0.0
-    (by.told_along _ _ c.in_err-choices.field-0.0 (ap (λ xs. choices s c.args.selected (map tree.choice_view xs)) c.deref.ensures.value) c.in_err-choices.ensures.told) in
+    (told_same _ _ c.in_err-choices.field-0.0 (ap (λ xs. choices s c.args.selected (map tree.choice_view xs)) c.deref.ensures.value) c.in_err-choices.ensures.told) in
     first_of (search rules, grind (arith, common_steps))
 
 pub alternative-returns-in_err-statements-clause-told : goal.alternative-returns-in_err-statements-clause-told
@@ -205,7 +275,8 @@ alternative-returns-in_err-statements-clause-told m c =
     let x = tree.alternative_view c.args.item.now in
     let h : Tells (told.alternative s c.args.selected x) c.in_err-statements.field-0.0 =
     told_right (choices s c.args.selected x.choices) (broken.statements s (tree'.statements_of x.statements)) c.in_err-statements.field-0.0
-    (by.told_along _ _ c.in_err-statements.field-0.0 (ap (λ xs. broken.statements s (tree'.statements_of (map tree.sequential_view xs))) c.deref-2.ensures.value)
+    (choices_kept s c.args.selected x.choices _ (ap (λ xs. are.choices s c.args.selected (map tree.choice_view xs)) (sym c.deref.ensures.value) ∙ c.in_ok-choices.ensures.given))
+    (told_same _ _ c.in_err-statements.field-0.0 (ap (λ xs. broken.statements s (tree'.statements_of (map tree.sequential_view xs))) c.deref-2.ensures.value)
     c.in_err-statements.ensures.told) in
     first_of (search rules, grind (arith, common_steps))
 
@@ -213,44 +284,34 @@ pub otherwise-returns-in_err-statements-in-Some-clause-told : goal.otherwise-ret
 otherwise-returns-in_err-statements-in-Some-clause-told m c =
     let s = sight_view c.args.sight.now in
     let h : Tells (broken.otherwise s (tree'.otherwise_of (tree.option_sequentials_view (out-If c.args.conditional.now).otherwise))) c.in_err-statements-in-Some.field-0.0 =
-    by.told_along _ _ c.in_err-statements-in-Some.field-0.0
+    told_same _ _ c.in_err-statements-in-Some.field-0.0
     (ap (λ xs. broken.statements s (tree'.statements_of (map tree.sequential_view xs))) c.deref.ensures.value
     ∙ by.otherwise_done s (tree.sequentials_view c.in-Some.list)
     ∙ ap (λ o. broken.otherwise s (tree'.otherwise_of (tree.option_sequentials_view o))) (sym c.in-Some.is))
     c.in_err-statements-in-Some.ensures.told in
     first_of (search rules, grind (arith, common_steps))
 
-pub case_parts-returns-in_err-all-in-Ok-clause-told : goal.case_parts-returns-in_err-all-in-Ok-clause-told
-case_parts-returns-in_err-all-in-Ok-clause-told m c =
+pub case_parts-returns-in_err-all-clause-given : goal.case_parts-returns-in_err-all-clause-given
+case_parts-returns-in_err-all-clause-given m c =
     let s = sight_view c.args.sight.now in
     let k = c.args.selected in
     let l = tree.option_ident_view c.args.label.now in
     let alts = tree.alternatives_view (out-Case c.args.case.now).alternatives in
     let end = tree.option_ident_view (out-Case c.args.case.now).end_label in
-    let f = c.in_err-all-in-Ok.field-0.0 in
-    let lists : cases.all_lists c.deref-in-Ok.result.now ≡ cases.choice_lists alts =
-    ap cases.all_lists c.deref-in-Ok.ensures.value ∙ c.in_ok-lists.ensures ∙ ap (λ xs. cases.choice_lists (map tree.alternative_view xs)) c.deref.ensures.value in
-    let all = alternatives_view c.in-Ok.all in
-    let there : each (cases.chosen s k) alts ≡ Some all =
-    ap (λ xs. each (cases.chosen s k) (map tree.alternative_view xs)) (sym c.deref-2.ensures.value) ∙ c.in-Ok.ensures.given in
-    let h : Tells (told.parts s k l alts end) c.in_err-all-in-Ok.field-0.0 =
-    part.parts_uncovered s k l alts end f all there (by.told_along _ _ f (ap (λ xs. told.uncovered k xs (cases.all_choices all)) lists) c.in_err-all-in-Ok.ensures.told) in
+    let at = (out-Case c.args.case.now).at in
+    let b = broken.alternatives s k (tree'.alternatives_of alts) in
+    let found = each (cases.chosen s k) alts in
+    let lists : cases.all_lists c.deref-3.result.now ≡ cases.choice_lists alts =
+    ap cases.all_lists c.deref-3.ensures.value ∙ c.in_ok-lists.ensures ∙ ap (λ xs. cases.choice_lists (map tree.alternative_view xs)) c.deref.ensures.value in
+    let given : Gives alternatives_view found c.alternatives-all.result =
+    gives_along alternatives_view _ _ _ (ap (λ xs. each (cases.chosen s k) (map tree.alternative_view xs)) (sym c.deref-2.ensures.value)) c.alternatives-all.ensures.given in
+    let has : IfOk c.alternatives-all.result (told.HasChoices (sight_view c.alternatives-all.new.sight) k (cases.all_lists c.deref-3.result.now)) =
+    part.on_given alternatives_view (told.HasChoices (sight_view c.alternatives-all.new.sight) k (cases.all_lists c.deref-3.result.now)) found _ given
+    (λ x e. ap (λ o. each (are.choices o k) (cases.all_lists c.deref-3.result.now)) c.alternatives-all.ensures.kept ∙ ap (each (are.choices s k)) lists
+    ∙ part.case_there s k alts (alternatives_view x) e) in
+    let none : c.in_err-all.field-0.0 ≢ NoMemory → cases.parts s k l alts end ≡ None =
+    λ n. part.case_by s k alts l end None (ap (λ x. cases.covering k x found) (sym lists) ∙ c.in_err-all.ensures.given found given has n) in
     first_of (search rules, grind (arith, common_steps))
-
-pub case_parts-returns-in-Err-clause-told : goal.case_parts-returns-in-Err-clause-told
-case_parts-returns-in-Err-clause-told m c =
-    let s = sight_view c.args.sight.now in
-    let k = c.args.selected in
-    let l = tree.option_ident_view c.args.label.now in
-    let alts = tree.alternatives_view (out-Case c.args.case.now).alternatives in
-    let end = tree.option_ident_view (out-Case c.args.case.now).end_label in
-    let f = c.first_fault.result in
-    let b = told.alternatives s k alts in
-    let lists : cases.all_lists c.deref-in-Err.result.now ≡ cases.choice_lists alts =
-    ap cases.all_lists c.deref-in-Err.ensures.value ∙ c.in_ok-lists.ensures ∙ ap (λ xs. cases.choice_lists (map tree.alternative_view xs)) c.deref.ensures.value in
-    part.parts_fault s k l alts end f (by.told_along _ _ f (ap (λ x. b ▸ covered x k (cases.all_lists c.deref-in-Err.result.now)) c.in-Err.ensures.kept ∙ ap (λ xs. b ▸ covered s k xs) lists)
-    (c.first_fault.ensures.told b
-    (by.told_along _ _ c.in-Err.fault (ap (λ xs. told.alternatives s k (map tree.alternative_view xs)) c.deref-2.ensures.value) c.in-Err.ensures.told)))
 
 pub case_parts-returns-in_err-all-clause-told : goal.case_parts-returns-in_err-all-clause-told
 case_parts-returns-in_err-all-clause-told m c =
@@ -259,8 +320,99 @@ case_parts-returns-in_err-all-clause-told m c =
     let l = tree.option_ident_view c.args.label.now in
     let alts = tree.alternatives_view (out-Case c.args.case.now).alternatives in
     let end = tree.option_ident_view (out-Case c.args.case.now).end_label in
-    let h : Tells (told.parts s k l alts end) c.in_err-all.field-0.0 = part.parts_ends s k l alts end c.in_err-all.field-0.0 c.in_err-all.ensures.told in
+    let at = (out-Case c.args.case.now).at in
+    let b = broken.alternatives s k (tree'.alternatives_of alts) in
+    let found = each (cases.chosen s k) alts in
+    let lists : cases.all_lists c.deref-3.result.now ≡ cases.choice_lists alts =
+    ap cases.all_lists c.deref-3.ensures.value ∙ c.in_ok-lists.ensures ∙ ap (λ xs. cases.choice_lists (map tree.alternative_view xs)) c.deref.ensures.value in
+    let given : Gives alternatives_view found c.alternatives-all.result =
+    gives_along alternatives_view _ _ _ (ap (λ xs. each (cases.chosen s k) (map tree.alternative_view xs)) (sym c.deref-2.ensures.value)) c.alternatives-all.ensures.given in
+    let has : IfOk c.alternatives-all.result (told.HasChoices (sight_view c.alternatives-all.new.sight) k (cases.all_lists c.deref-3.result.now)) =
+    part.on_given alternatives_view (told.HasChoices (sight_view c.alternatives-all.new.sight) k (cases.all_lists c.deref-3.result.now)) found _ given
+    (λ x e. ap (λ o. each (are.choices o k) (cases.all_lists c.deref-3.result.now)) c.alternatives-all.ensures.kept ∙ ap (each (are.choices s k)) lists
+    ∙ part.case_there s k alts (alternatives_view x) e) in
+    let wrong : IfErr c.alternatives-all.result (Tells b) =
+    by.on_along _ b _ (ap (λ xs. broken.alternatives s k (tree'.alternatives_of (map tree.alternative_view xs))) c.deref-2.ensures.value) c.alternatives-all.ensures.told in
+    let fine : IfOk c.alternatives-all.result (λ _. b ≡ nothing) =
+    part.on_given alternatives_view (λ _. b ≡ nothing) found _ given (λ x e. by.alternatives_kept s k alts (alternatives_view x) e) in
+    let h : Tells (told.parts s k l at alts end) c.in_err-all.field-0.0 =
+    part.parts_cover s k alts l end at c.in_err-all.field-0.0
+    (told_same _ _ c.in_err-all.field-0.0
+    (ap (λ o. covered o k at (cases.all_lists c.deref-3.result.now) b) c.alternatives-all.ensures.kept ∙ ap (λ x. covered s k at x b) lists)
+    (c.in_err-all.ensures.told b wrong fine has)) in
     first_of (search rules, grind (arith, common_steps))
+
+pub case_parts-returns-in_err-all-2-clause-given : goal.case_parts-returns-in_err-all-2-clause-given
+case_parts-returns-in_err-all-2-clause-given m c =
+    let s = sight_view c.args.sight.now in
+    let k = c.args.selected in
+    let l = tree.option_ident_view c.args.label.now in
+    let alts = tree.alternatives_view (out-Case c.args.case.now).alternatives in
+    let end = tree.option_ident_view (out-Case c.args.case.now).end_label in
+    let at = (out-Case c.args.case.now).at in
+    let b = broken.alternatives s k (tree'.alternatives_of alts) in
+    let found = each (cases.chosen s k) alts in
+    let lists : cases.all_lists c.deref-3.result.now ≡ cases.choice_lists alts =
+    ap cases.all_lists c.deref-3.ensures.value ∙ c.in_ok-lists.ensures ∙ ap (λ xs. cases.choice_lists (map tree.alternative_view xs)) c.deref.ensures.value in
+    let given : Gives alternatives_view found c.alternatives-all.result =
+    gives_along alternatives_view _ _ _ (ap (λ xs. each (cases.chosen s k) (map tree.alternative_view xs)) (sym c.deref-2.ensures.value)) c.alternatives-all.ensures.given in
+    let has : IfOk c.alternatives-all.result (told.HasChoices (sight_view c.alternatives-all.new.sight) k (cases.all_lists c.deref-3.result.now)) =
+    part.on_given alternatives_view (told.HasChoices (sight_view c.alternatives-all.new.sight) k (cases.all_lists c.deref-3.result.now)) found _ given
+    (λ x e. ap (λ o. each (are.choices o k) (cases.all_lists c.deref-3.result.now)) c.alternatives-all.ensures.kept ∙ ap (each (are.choices s k)) lists
+    ∙ part.case_there s k alts (alternatives_view x) e) in
+    let none : c.in_err-all-2.field-0.0 ≢ NoMemory → cases.parts s k l alts end ≡ None =
+    λ n. part.case_by s k alts l end (Some (alternatives_view c.in_ok-all.all))
+    (ap (λ x. cases.covering k x found) (sym lists) ∙ c.in_ok-all.ensures.given found given has)
+    ∙ ap (λ o. o >> cases.but_last (alternatives_view c.in_ok-all.all)) (c.in_err-all-2.ensures.asked n) in
+    first_of (search rules, grind (arith, common_steps))
+
+pub case_parts-returns-in_err-all-2-clause-told : goal.case_parts-returns-in_err-all-2-clause-told
+case_parts-returns-in_err-all-2-clause-told m c =
+    let s = sight_view c.args.sight.now in
+    let k = c.args.selected in
+    let l = tree.option_ident_view c.args.label.now in
+    let alts = tree.alternatives_view (out-Case c.args.case.now).alternatives in
+    let end = tree.option_ident_view (out-Case c.args.case.now).end_label in
+    let at = (out-Case c.args.case.now).at in
+    let b = broken.alternatives s k (tree'.alternatives_of alts) in
+    let found = each (cases.chosen s k) alts in
+    let lists : cases.all_lists c.deref-3.result.now ≡ cases.choice_lists alts =
+    ap cases.all_lists c.deref-3.ensures.value ∙ c.in_ok-lists.ensures ∙ ap (λ xs. cases.choice_lists (map tree.alternative_view xs)) c.deref.ensures.value in
+    let given : Gives alternatives_view found c.alternatives-all.result =
+    gives_along alternatives_view _ _ _ (ap (λ xs. each (cases.chosen s k) (map tree.alternative_view xs)) (sym c.deref-2.ensures.value)) c.alternatives-all.ensures.given in
+    let has : IfOk c.alternatives-all.result (told.HasChoices (sight_view c.alternatives-all.new.sight) k (cases.all_lists c.deref-3.result.now)) =
+    part.on_given alternatives_view (told.HasChoices (sight_view c.alternatives-all.new.sight) k (cases.all_lists c.deref-3.result.now)) found _ given
+    (λ x e. ap (λ o. each (are.choices o k) (cases.all_lists c.deref-3.result.now)) c.alternatives-all.ensures.kept ∙ ap (each (are.choices s k)) lists
+    ∙ part.case_there s k alts (alternatives_view x) e) in
+    let h : Tells (told.parts s k l at alts end) c.in_err-all-2.field-0.0 =
+    part.parts_ends s k alts l end at c.in_err-all-2.field-0.0 (alternatives_view c.in_ok-all.all)
+    (ap (λ x. cases.covering k x found) (sym lists) ∙ c.in_ok-all.ensures.given found given has) c.in_err-all-2.ensures.told in
+    first_of (search rules, grind (arith, common_steps))
+
+pub case_parts-returns-clause-given : goal.case_parts-returns-clause-given
+case_parts-returns-clause-given m c =
+    let s = sight_view c.args.sight.now in
+    let k = c.args.selected in
+    let l = tree.option_ident_view c.args.label.now in
+    let alts = tree.alternatives_view (out-Case c.args.case.now).alternatives in
+    let end = tree.option_ident_view (out-Case c.args.case.now).end_label in
+    let at = (out-Case c.args.case.now).at in
+    let b = broken.alternatives s k (tree'.alternatives_of alts) in
+    let found = each (cases.chosen s k) alts in
+    let lists : cases.all_lists c.deref-3.result.now ≡ cases.choice_lists alts =
+    ap cases.all_lists c.deref-3.ensures.value ∙ c.in_ok-lists.ensures ∙ ap (λ xs. cases.choice_lists (map tree.alternative_view xs)) c.deref.ensures.value in
+    let given : Gives alternatives_view found c.alternatives-all.result =
+    gives_along alternatives_view _ _ _ (ap (λ xs. each (cases.chosen s k) (map tree.alternative_view xs)) (sym c.deref-2.ensures.value)) c.alternatives-all.ensures.given in
+    let has : IfOk c.alternatives-all.result (told.HasChoices (sight_view c.alternatives-all.new.sight) k (cases.all_lists c.deref-3.result.now)) =
+    part.on_given alternatives_view (told.HasChoices (sight_view c.alternatives-all.new.sight) k (cases.all_lists c.deref-3.result.now)) found _ given
+    (λ x e. ap (λ o. each (are.choices o k) (cases.all_lists c.deref-3.result.now)) c.alternatives-all.ensures.kept ∙ ap (each (are.choices s k)) lists
+    ∙ part.case_there s k alts (alternatives_view x) e) in
+    gives_along _ _ _ _
+    (part.case_by s k alts l end (Some (alternatives_view c.in_ok-all.all))
+    (ap (λ x. cases.covering k x found) (sym lists) ∙ c.in_ok-all.ensures.given found given has)
+    ∙ ap (λ o. o >> cases.but_last (alternatives_view c.in_ok-all.all)) c.in_ok-all-2.ensures.asked
+    ∙ ap (λ v. cases.but_last (alternatives_view v)) (sym c.in_ok-all-2.ensures.same))
+    c.but_last.ensures.given
 
 pub case_parts-returns-clause-told : goal.case_parts-returns-clause-told
 case_parts-returns-clause-told m c =
@@ -269,10 +421,19 @@ case_parts-returns-clause-told m c =
     let l = tree.option_ident_view c.args.label.now in
     let alts = tree.alternatives_view (out-Case c.args.case.now).alternatives in
     let end = tree.option_ident_view (out-Case c.args.case.now).end_label in
-    let all = alternatives_view c.in-Ok.all in
-    let there : each (cases.chosen s k) alts ≡ Some all =
-    ap (λ xs. each (cases.chosen s k) (map tree.alternative_view xs)) (sym c.deref-2.ensures.value) ∙ c.in-Ok.ensures.given in
-    told_on _ (told.parts s k l alts end) _
-    (λ f x. part.parts_none s k l alts end f all there
-    (by.told_along _ _ f (ap (λ v. lacking (LeftOut ∷ []) (cases.but_last (alternatives_view v))) (c.in_ok-all.ensures.same ∙ c.in_ok-all-in-Ok.ensures.same)) x))
+    let at = (out-Case c.args.case.now).at in
+    let b = broken.alternatives s k (tree'.alternatives_of alts) in
+    let found = each (cases.chosen s k) alts in
+    let lists : cases.all_lists c.deref-3.result.now ≡ cases.choice_lists alts =
+    ap cases.all_lists c.deref-3.ensures.value ∙ c.in_ok-lists.ensures ∙ ap (λ xs. cases.choice_lists (map tree.alternative_view xs)) c.deref.ensures.value in
+    let given : Gives alternatives_view found c.alternatives-all.result =
+    gives_along alternatives_view _ _ _ (ap (λ xs. each (cases.chosen s k) (map tree.alternative_view xs)) (sym c.deref-2.ensures.value)) c.alternatives-all.ensures.given in
+    let has : IfOk c.alternatives-all.result (told.HasChoices (sight_view c.alternatives-all.new.sight) k (cases.all_lists c.deref-3.result.now)) =
+    part.on_given alternatives_view (told.HasChoices (sight_view c.alternatives-all.new.sight) k (cases.all_lists c.deref-3.result.now)) found _ given
+    (λ x e. ap (λ o. each (are.choices o k) (cases.all_lists c.deref-3.result.now)) c.alternatives-all.ensures.kept ∙ ap (each (are.choices s k)) lists
+    ∙ part.case_there s k alts (alternatives_view x) e) in
+    told_on _ (told.parts s k l at alts end) _
+    (λ f h. part.parts_none s k alts l end at f (alternatives_view c.in_ok-all.all)
+    (ap (λ x. cases.covering k x found) (sym lists) ∙ c.in_ok-all.ensures.given found given has) c.in_ok-all-2.ensures.asked
+    (told_same _ _ f (ap (λ v. any_alternative at (alternatives_view v)) c.in_ok-all-2.ensures.same) h))
     c.but_last.ensures.told

@@ -3,26 +3,31 @@ use Rattle.vhdl_names_rules.specs.Rules.{each}
 use Rattle.vhdl_tree.specs.View as tree
 use Rattle.vhdl_names_types.specs.Views.{sight_view}
 use Rattle.vhdl_names_units.specs.views.Sequential as views
+use Rattle.vhdl_names_problems.specs.Broken.{any_of}
 use Rattle.vhdl_names_labels.specs.Lists.{in_turn, one_more}
 use Rattle.vhdl_names_statements.specs.steps.Cases as cases
 use Rattle.vhdl_names_statements.specs.steps.Sequential as steps
+use Rattle.vhdl_names_statements.specs.steps.Told as told
 use Rattle.vhdl_names_statements.proofs.statements.+statements.Given as goal
 
--- what is left, on what is done, gives the whole
+-- what is left, on what is done, gives the whole, and what it breaks first, the whole breaks first
 abbrev pub invariant-statements-loop-item : goal.invariant-statements-loop-item
 invariant-statements-loop-item l =
     (sight_view l.sight ≡ sight_view l.fn.sight)
     × (each (steps.labelled (sight_view l.fn.sight)) (map tree.sequential_view l.list)
     ≡ in_turn (one_more (steps.labelled (sight_view l.fn.sight))) (views.statements_view l.all) (map tree.sequential_view (drop l.item-index l.list)))
+    × (any_of (told.labelled (sight_view l.fn.sight)) (map tree.sequential_view l.list) ≡ any_of (told.labelled (sight_view l.fn.sight)) (map tree.sequential_view (drop l.item-index l.list)))
 
 abbrev pub invariant-branches-loop-item : goal.invariant-branches-loop-item
 invariant-branches-loop-item l =
     (sight_view l.sight ≡ sight_view l.fn.sight)
     × (each (steps.guarded (sight_view l.fn.sight)) (map tree.conditional_view l.list)
     ≡ in_turn (one_more (steps.guarded (sight_view l.fn.sight))) (views.branches_view l.all) (map tree.conditional_view (drop l.item-index l.list)))
+    × (any_of (told.guarded (sight_view l.fn.sight)) (map tree.conditional_view l.list) ≡ any_of (told.guarded (sight_view l.fn.sight)) (map tree.conditional_view (drop l.item-index l.list)))
 
 abbrev pub invariant-alternatives-loop-item : goal.invariant-alternatives-loop-item
 invariant-alternatives-loop-item l =
     (sight_view l.sight ≡ sight_view l.fn.sight)
     × (each (cases.chosen (sight_view l.fn.sight) l.selected) (map tree.alternative_view l.list)
     ≡ in_turn (one_more (cases.chosen (sight_view l.fn.sight) l.selected)) (views.alternatives_view l.all) (map tree.alternative_view (drop l.item-index l.list)))
+    × (any_of (told.alternative (sight_view l.fn.sight) l.selected) (map tree.alternative_view l.list) ≡ any_of (told.alternative (sight_view l.fn.sight) l.selected) (map tree.alternative_view (drop l.item-index l.list)))

@@ -1,0 +1,71 @@
+-- An architecture as that of its entity, which is found by its name.
+use Rattle.std.proofs.Common.{◌≡◌, ℕ, Bool, true, false, List, [], ◌∷◌, map, set, position, Option, Some, None, Result, Vec, Global, Ok, Err, IfOk, refl, ap, sym, ◌∙◌, zero-add}
+use Rattle.std.specs.Prelude.{bytes_eq, option_map}
+use Rattle.std.specs.Map.{lookup, keys_of}
+use Rattle.vhdl_tree.specs.Tree as t
+use Rattle.vhdl_tree.specs.Tree.{ContextItem}
+use Rattle.vhdl_names_rules.specs.units.Units as u
+use Rattle.vhdl_names_rules.specs.declared.fault.NameFault.{NameFault}
+use Rattle.vhdl_names_rules.specs.Rules.{◌>>=◌}
+use Rattle.vhdl_names_rules.specs.Visibility.{Name}
+use Rattle.vhdl_names_rules.specs.Interfaces.{EntityView, entity_named}
+use Rattle.vhdl_names_rules.specs.Files.{architecture}
+use Rattle.vhdl_names_problems.specs.Broken.{Broken, nothing, ◌▸◌}
+use Rattle.vhdl_names_problems.specs.Declarations.{context}
+use Rattle.vhdl_names_problems.specs.Files as broken
+use Rattle.vhdl_names_interfaces.specs.declared.interface.EntityInterface.{EntityInterface}
+use Rattle.vhdl_names_interfaces.specs.Views.{entity_view, named_view}
+use Rattle.vhdl_names_interfaces.proofs.Named.{entry_view, joined, found, found_pair}
+use Rattle.vhdl_names.specs.steps.Architectures.{with_described}
+
+-- ---- the entity of a name
+
+module _ (n : Name) (es : List (Vec ℕ Global × EntityInterface)) where
+  pub named_some : (k : ℕ) (e : EntityInterface) → position (λ m. bytes_eq n m.items) (keys_of es) ≡ Some k → lookup (λ m. bytes_eq n m.items) es ≡ Some e
+      → entity_named (map entry_view es) n ≡ Some (k, named_view n e)
+  named_some k e index value =
+      found n 0 es ∙ ap (λ o. joined n 0 o (lookup (λ m. bytes_eq n m.items) es)) index ∙ ap (joined n 0 (Some k)) value
+      ∙ ap (λ k. Some (found_pair k (named_view n e))) (zero-add k)
+
+  pub named_none : position (λ m. bytes_eq n m.items) (keys_of es) ≡ None → entity_named (map entry_view es) n ≡ None
+  named_none index = found n 0 es ∙ ap (λ o. joined n 0 o (lookup (λ m. bytes_eq n m.items) es)) index
+
+-- ---- an architecture of it
+
+module _ (ns : List Name) (es : List EntityView) (items : List ContextItem) (a : t.Architecture) where
+  pub described_some : (k : ℕ) (e : EntityView) → entity_named es a.entity.text ≡ Some (k, e)
+      → broken.described ns es (items, a) ≡ broken.up_to_hidden (broken.is_hidden ns es) a (broken.architecture es e items a)
+  described_some k e h = rw h refl
+
+  pub described_none : entity_named es a.entity.text ≡ None
+      → broken.described ns es (items, a) ≡ context (record { has_ieee = true; has_logic = false; has_numbers = false }) items
+  described_none h = rw h refl
+
+module _ (es : List EntityView) (os : List (Option u.Architecture)) (items : List ContextItem) (a : t.Architecture) where
+  pub with_some : (k : ℕ) (e : EntityView) → entity_named es a.entity.text ≡ Some (k, e)
+      → with_described es os (items, a) ≡ (architecture es e items a >>= λ x. Some (set os k (Some x)))
+  with_some k e h = rw h refl
+
+  pub with_none : entity_named es a.entity.text ≡ None → with_described es os (items, a) ≡ Some os
+  with_none h = rw h refl
+
+-- an entity's name says nothing of its architecture
+pub name_apart : (es : List EntityView) (n : Name) (e : EntityInterface) (items : List ContextItem) (a : t.Architecture)
+    → architecture es (named_view n e) items a ≡ architecture es (entity_view e) items a
+unfolding architecture
+name_apart es n e items a = refl
+
+-- what is given is put at its place
+pub put_there : (os : List (Option u.Architecture)) (k : ℕ) (o : Option u.Architecture) (x : Option u.Architecture) → option_map Some o ≡ Some x
+    → (o >>= λ y. Some (set os k (Some y))) ≡ Some (set os k x)
+put_there os k None x h = absurd cc
+put_there os k (Some y) x h = let same : Some y ≡ x = cc in ap (λ z. Some (set os k z)) same
+
+pub ok_all : {X : Type 0} {P : Type 0} (r : Result X NameFault) → P → IfOk r (λ x. P)
+ok_all (Ok x) p = p
+ok_all (Err f) p = tt
+
+pub alone_is : (b : Broken) → b ≡ b ▸ nothing
+unfolding ◌▸◌
+alone_is None = refl
+alone_is (Some x) = refl

@@ -1,0 +1,12 @@
+pub mod Told
+pub mod Expressions
+pub mod Subtypes
+pub mod Choices
+pub mod Statements
+pub mod Declarations
+pub mod Interfaces
+pub mod Instances
+pub mod Labels
+pub mod Concurrent
+pub mod Files
+pub mod Laws
