@@ -77,7 +77,7 @@ untyped_refuses source top file (Elab fault) read h = absurd h
 pub untyped_lies : (source : List ℕ) (file : File) (fault : SourceFault) → IsFileOf source file → HasNameFault file fault → LiesIn (length source) fault
 untyped_lies source file (Name (names.At problem at)) read h =
     let inside : at < length source
-          = subst (λ b. IfSome b (λ at_fault. at_fault.1 < length source)) h.1 (faults_lie_in_the_text source read.tokens file read.cut read.spelled read.well_formed) in
+    = subst (λ b. IfSome b (λ at_fault. at_fault.1 < length source)) h.1 (faults_lie_in_the_text source read.tokens file read.cut read.spelled read.well_formed) in
     omega (arith, inside)
 untyped_lies source file (Name names.NoMemory) read h = absurd h
 untyped_lies source file NoMemory read h = tt
