@@ -6,6 +6,7 @@ pub mod Filed
 pub mod Filing
 pub mod Finding
 pub mod Hiding
+pub mod InTurn
 pub mod Labels
 pub mod Mentioning
 pub mod Naming
