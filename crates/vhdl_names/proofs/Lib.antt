@@ -19,3 +19,4 @@ pub mod Seeing
 pub mod Standing
 pub mod Tabling
 pub mod Walking
+pub mod Whole

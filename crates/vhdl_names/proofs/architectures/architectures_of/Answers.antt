@@ -43,10 +43,10 @@ loop-unit-preserved c =
       (
         c.loop-unit.invariant.1.0 ∙ told_behind us i c.unit-item.result lt is b c.in_ok-add_unit.ensures.told,
         λ h.
-        c.loop-unit.invariant.1.1 h
-        ∙ ap (λ l. in_turn (with_unit es) (map (option_map architecture_view) l) (left_at us i)) (sym c.deref_mut.ensures.value)
-        ∙ given_behind us i c.unit-item.result lt is (with_unit es) (map (option_map architecture_view) c.deref_mut.result.now) (map (option_map architecture_view) c.add_unit.new.all)
-        (c.in_ok-add_unit.ensures.given h)
-        ∙ ap (λ l. in_turn (with_unit es) (map (option_map architecture_view) l) (left_at us (i + 1))) (sym w),
+            c.loop-unit.invariant.1.1 h
+            ∙ ap (λ l. in_turn (with_unit es) (map (option_map architecture_view) l) (left_at us i)) (sym c.deref_mut.ensures.value)
+            ∙ given_behind us i c.unit-item.result lt is (with_unit es) (map (option_map architecture_view) c.deref_mut.result.now) (map (option_map architecture_view) c.add_unit.new.all)
+            (c.in_ok-add_unit.ensures.given h)
+            ∙ ap (λ l. in_turn (with_unit es) (map (option_map architecture_view) l) (left_at us (i + 1))) (sym w),
       ),
     )
