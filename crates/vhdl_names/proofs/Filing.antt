@@ -43,7 +43,7 @@ module _ (as' : List Keyed) (ds : List DesignUnit) where
   abbrev vs : List EntityView
   vs = filter_map (viewed_by as') (entities_of ds)
 
-  viewed_names : AllViewed as' ds → names_in vs ≡ entity_names ds
+  pub viewed_names : AllViewed as' ds → names_in vs ≡ entity_names ds
   viewed_names h =
       each_keeps (viewed_by as') (λ (e : List ContextItem × t.Entity). e.1.name.text) (λ (e : EntityView). e.name) (λ e v k. entity_name e.0 e.1 _ v k) (entities_of ds) vs h
 

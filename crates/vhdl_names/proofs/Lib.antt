@@ -6,6 +6,7 @@ pub mod Filed
 pub mod Filing
 pub mod Finding
 pub mod Hiding
+pub mod InTurn
 pub mod Labels
 pub mod Mentioning
 pub mod Naming
@@ -18,3 +19,4 @@ pub mod Seeing
 pub mod Standing
 pub mod Tabling
 pub mod Walking
+pub mod Whole

@@ -14,7 +14,9 @@ use crate::outline::has_name;
 use crate::tables::Given;
 use vhdl_names_interfaces::Entities;
 use vhdl_names_rules::{NameFault, NameProblem};
-use vhdl_tree::{Architecture, Concurrent, Declaration, Generate, Identifier, Instance, Instantiated};
+use vhdl_tree::{
+    Architecture, Concurrent, Declaration, Generate, Identifier, Instance, Instantiated,
+};
 
 /// Whether a name is that of an entity that is given.
 fn is_given(entities: &Entities<'_>, name: &[u8]) -> bool

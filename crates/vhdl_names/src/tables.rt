@@ -48,10 +48,7 @@ fn add_seen(
 
 /// The entities of a file as instances see them. It fails for want of memory alone, and takes that
 /// of their names and of the names of their generics and ports.
-pub fn table(
-    alloc: Global,
-    entities: &Entities<'_>,
-) -> Result<InstanceEntities, NameFault>
+pub fn table(alloc: Global, entities: &Entities<'_>) -> Result<InstanceEntities, NameFault>
     ensures { Gives table_view (Some (steps.table_of (entities_view entities.now))) result }
 {
     names_are_apart(entities);

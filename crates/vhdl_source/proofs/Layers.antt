@@ -1,6 +1,6 @@
 -- From the tree of a source to its net.
-use Rattle.std.proofs.Common.{◌≡◌, ◌≢◌, ℕ, List, None, Some, Result, Ok, Err, arith}
-use Rattle.std.specs.Prelude.{IsTrue, IsErrAnd, IfOk, IfErr}
+use Rattle.std.proofs.Common.{◌≡◌, ◌≢◌, ◌<◌, subst, ℕ, length, List, None, Some, Result, Ok, Err, arith}
+use Rattle.std.specs.Prelude.{IsTrue, IsErrAnd, IfOk, IfErr, IfSome}
 use Rattle.vhdl_lexer.proofs.Reached.{cut_within}
 use Rattle.vhdl_tree.specs.Tree.{File}
 use Rattle.vhdl_names_problems.specs.Broken.{Tells}
@@ -15,6 +15,7 @@ use Rattle.vhdl_names_laws.specs.Words.{HasWords}
 use Rattle.vhdl_names_laws.proofs.Units.{units_are_sound}
 use Rattle.vhdl_names_laws.proofs.Named.{units_are_named, small_ports_distinct}
 use Rattle.vhdl_names_laws.proofs.Spelled.{spelled_files_have_words}
+use Rattle.vhdl_names_laws.proofs.placed.Laws.{faults_lie_in_the_text}
 use Rattle.vhdl_expand_rules.specs.Elab.{told}
 use Rattle.vhdl_expand_rules.specs.declared.fault.ElabFault.{ElabFault}
 use Rattle.vhdl_expand_rules.specs.declared.fault.ElabFault.TheVariants as elab
@@ -25,9 +26,9 @@ use Rattle.rtl_net.specs.Nets.{NetlistView}
 use Rattle.rtl_stim.specs.Ports.{HasOwnPorts}
 use Rattle.vhdl_source_rules.specs.Sources.{IsFileOf}
 use Rattle.vhdl_source_rules.specs.Designs.{IsNetOf}
-use Rattle.vhdl_source_rules.specs.Faults.{of_name, of_elab}
+use Rattle.vhdl_source_rules.specs.Faults.{LiesIn, of_name, of_elab}
 use Rattle.vhdl_source_rules.specs.Refusals.{Refuses}
-use Rattle.vhdl_source.specs.Steps.{ShowsTop, HasNameFault, HasElabFault, GivesNet, name_within, elab_within}
+use Rattle.vhdl_source.specs.Steps.{ShowsTop, HasNameFault, HasElabFault, GivesNet, elab_within}
 use Rattle.vhdl_source_rules.specs.declared.fault.SourceFault.{SourceFault}
 use Rattle.vhdl_source_rules.specs.declared.fault.SourceFault.TheVariants.{Lex, Syntax, Name, Elab, NoMemory}
 
@@ -60,18 +61,29 @@ own_ports source top net h =
 
 -- ---- why it has none
 
-pub no_units : (file : File) (size : ℕ) (fault : NameFault) → (fault ≢ names.NoMemory → units_of file ≡ None) → Tells (breaks.file file) fault
-    → HasNameFault size file (of_name (name_within size fault))
-no_units file size (names.At problem at) none told = (none (λ e. absurd cc), record { byte = at; broken = told; told = refl })
-no_units file size names.NoMemory none told = tt
+pub no_units : (file : File) (fault : NameFault) → (fault ≢ names.NoMemory → units_of file ≡ None) → Tells (breaks.file file) fault → HasNameFault file (of_name fault)
+no_units file (names.At problem at) none broken = (none (λ e. absurd cc), broken)
+no_units file names.NoMemory none broken = tt
 
-pub untyped_refuses : (source top : List ℕ) (file : File) (fault : SourceFault) → IsFileOf source file → HasNameFault (length source) file fault → Refuses source top fault
-untyped_refuses source top file (Name (names.At problem at)) read h = record { file = file; read = read; ill_typed = h.0; first = h.1 }
+pub untyped_refuses : (source top : List ℕ) (file : File) (fault : SourceFault) → IsFileOf source file → HasNameFault file fault → Refuses source top fault
+untyped_refuses source top file (Name (names.At problem at)) read h = record { file = file; read = read; ill_typed = h.0; broken = h.1 }
 untyped_refuses source top file (Name names.NoMemory) read h = h
 untyped_refuses source top file NoMemory read h = tt
 untyped_refuses source top file (Lex fault) read h = absurd h
 untyped_refuses source top file (Syntax fault) read h = absurd h
 untyped_refuses source top file (Elab fault) read h = absurd h
+
+-- a fault of names stands in the source
+pub untyped_lies : (source : List ℕ) (file : File) (fault : SourceFault) → IsFileOf source file → HasNameFault file fault → LiesIn (length source) fault
+untyped_lies source file (Name (names.At problem at)) read h =
+    let inside : at < length source
+    = subst (λ b. IfSome b (λ at_fault. at_fault.1 < length source)) h.1 (faults_lie_in_the_text source read.tokens file read.cut read.spelled read.well_formed) in
+    omega (arith, inside)
+untyped_lies source file (Name names.NoMemory) read h = absurd h
+untyped_lies source file NoMemory read h = tt
+untyped_lies source file (Lex fault) read h = absurd h
+untyped_lies source file (Syntax fault) read h = absurd h
+untyped_lies source file (Elab fault) read h = absurd h
 
 pub no_net : (units : u.Units) (top : List ℕ) (size : ℕ) (fault : ElabFault) → (fault ≢ elab.NoMemory → MayRefuse units top (told fault))
     → HasElabFault units top (of_elab (elab_within size fault))
@@ -101,3 +113,7 @@ module _ (source top : List ℕ) (file : File) (units : u.Units) (read : IsFileO
 pub refuses_along : (source top : List ℕ) (answer : Result NetlistView SourceFault) (fault : SourceFault) → IsErrAnd answer (λ f. f ≡ fault) → Refuses source top fault → IfErr answer (Refuses source top)
 refuses_along source top (Ok net) fault is h = tt
 refuses_along source top (Err f) fault is h = rw is h
+
+pub lies_along : (source : List ℕ) (answer : Result NetlistView SourceFault) (fault : SourceFault) → IsErrAnd answer (λ f. f ≡ fault) → LiesIn (length source) fault → IfErr answer (LiesIn (length source))
+lies_along source (Ok net) fault is h = tt
+lies_along source (Err f) fault is h = rw is h

@@ -5,37 +5,32 @@ use Rattle.vhdl_elab_rules.specs.Elaboration.{Elaborated, elaborated_net}
 use Rattle.vhdl_elab_laws.specs.Refused.{MayRefuse}
 use Rattle.vhdl_expand_rules.specs.declared.fault.ElabFault.{ElabFault}
 use Rattle.vhdl_expand_rules.specs.declared.fault.ElabFault.TheVariants as elab
+use Rattle.vhdl_names_problems.specs.Files as breaks
 use Rattle.vhdl_names_rules.specs.Files as rules
-use Rattle.vhdl_names_rules.specs.declared.fault.NameFault.{NameFault}
 use Rattle.vhdl_names_rules.specs.declared.fault.NameFault.TheVariants as names
 use Rattle.vhdl_names_rules.specs.units.Units as u
 use Rattle.vhdl_elab_laws.specs.Shown.{Shows}
 use Rattle.vhdl_tree.specs.Tree.{File}
 use Rattle.vhdl_names_units.specs.declared.unit.Units.{Units}
 use Rattle.vhdl_names_units.specs.views.Units.{units_view}
-use Rattle.vhdl_source_rules.specs.Refusals.{IsFirstBroken}
 use Rattle.vhdl_source_rules.specs.declared.fault.SourceFault.{SourceFault}
 use Rattle.vhdl_source_rules.specs.declared.fault.SourceFault.TheVariants.{Name, Elab, NoMemory}
 
 -- the same fault, told at a byte that is not behind the given one
-abbrev pub name_within : (most : ℕ) → NameFault → NameFault
-name_within most (names.At problem at) = names.At problem (min at most)
-name_within most names.NoMemory = names.NoMemory
-
 abbrev pub elab_within : (most : ℕ) → ElabFault → ElabFault
 elab_within most (elab.At problem at) = elab.At problem (min at most)
 elab_within most elab.NoMemory = elab.NoMemory
 
--- only a fault of names, only where the file has no units, and that of the first rule that it breaks; its source has this length
-abbrev pub HasNameFault : (size : ℕ) → File → SourceFault → Type 0
-HasNameFault size file (Name names.NoMemory) = ⊥
-HasNameFault size file (Name (names.At problem at)) = (rules.units_of file ≡ None) × IsFirstBroken file size problem at
-HasNameFault size file NoMemory = Unit {0}
-HasNameFault size file _ = ⊥
+-- only a fault of names, only where the file has no units, and that of the first rule that it breaks
+abbrev pub HasNameFault : File → SourceFault → Type 0
+HasNameFault file (Name names.NoMemory) = ⊥
+HasNameFault file (Name (names.At problem at)) = (rules.units_of file ≡ None) × (breaks.file file ≡ Some (problem, at))
+HasNameFault file NoMemory = Unit {0}
+HasNameFault file _ = ⊥
 
-abbrev pub GivesUnits : (size : ℕ) → File → Result Units SourceFault → Type 0
-GivesUnits size file (Ok units) = rules.units_of file ≡ Some (units_view units)
-GivesUnits size file (Err fault) = HasNameFault size file fault
+abbrev pub GivesUnits : File → Result Units SourceFault → Type 0
+GivesUnits file (Ok units) = rules.units_of file ≡ Some (units_view units)
+GivesUnits file (Err fault) = HasNameFault file fault
 
 -- the units have this netlist
 pub record ShowsTop (units : u.Units) (top : List ℕ) (net : NetlistView) : Type 0 where

@@ -8,7 +8,7 @@ ghost use Rattle.vhdl_source_rules.specs.Refusals.{Refuses};
 ghost use Rattle.vhdl_source_rules.specs.Sources.{IsFileOf};
 ghost use Rattle.vhdl_names_rules.specs.sound.Named.{are_named};
 ghost use Rattle.vhdl_names_rules.specs.sound.Units.{are_sound};
-ghost use Rattle.vhdl_source.specs.Steps.{GivesUnits, GivesNet, name_within, elab_within};
+ghost use Rattle.vhdl_source.specs.Steps.{GivesUnits, GivesNet, elab_within};
 ghost use Rattle.vhdl_tree.specs.View.{file_view};
 ghost use Rattle.vhdl_names_units.specs.views.Units.{units_view};
 
@@ -18,7 +18,6 @@ use vhdl_elab::elaborate;
 use vhdl_expand_rules::ElabFault;
 use vhdl_lexer::lex;
 use vhdl_names::analyse;
-use vhdl_names_rules::NameFault;
 use vhdl_names_units::Units;
 use vhdl_parser::parse;
 use vhdl_source_rules::{Front, SourceFault};
@@ -40,7 +39,7 @@ pub fn open(alloc: Global, source: &[u8], top: &[u8]) -> Result<Net, SourceFault
     ensures told { IfErr result (LiesIn (length source.now)) }
 {
     let file = read(alloc, source)?;
-    let units = units_of(alloc, &file, source.len())?;
+    let units = units_of(alloc, &file)?;
     net_of(alloc, &units, top, source.len())
 }
 
@@ -63,14 +62,13 @@ fn read(alloc: Global, source: &[u8]) -> Result<File, SourceFault>
     Ok(parse(alloc, source, &tokens)?)
 }
 
-/// The units of a file, whose source has `size` bytes.
-fn units_of(alloc: Global, file: &File, size: usize) -> Result<Units, SourceFault>
-    ensures given { GivesUnits size (file_view file.now) result }
-    ensures told { IfErr result (LiesIn size) }
+/// The units of a file.
+fn units_of(alloc: Global, file: &File) -> Result<Units, SourceFault>
+    ensures given { GivesUnits (file_view file.now) result }
 {
     match analyse(alloc, file) {
         Ok(units) => Ok(units),
-        Err(fault) => Err(SourceFault::from(name_fault_within(fault, size))),
+        Err(fault) => Err(SourceFault::from(fault)),
     }
 }
 
@@ -84,16 +82,6 @@ fn net_of(alloc: Global, units: &Units, top: &[u8], size: usize) -> Result<Net, 
     match elaborate(alloc, units, top) {
         Ok(net) => Ok(net),
         Err(fault) => Err(SourceFault::from(elab_fault_within(fault, size))),
-    }
-}
-
-/// The same fault, told at byte `most` where its byte lies behind that one.
-fn name_fault_within(fault: NameFault, most: usize) -> NameFault
-    ensures { result ≡ name_within most fault }
-{
-    match fault {
-        NameFault::At { problem, at } => problem.at(at.min(most)),
-        NameFault::NoMemory => NameFault::NoMemory,
     }
 }
 

@@ -1,5 +1,5 @@
 -- Why a source has no netlist under a top: the first layer that refuses, each where its own definition does.
-use Rattle.std.specs.Prelude.{◌≡◌, ℕ, min, length, List, Some, None}
+use Rattle.std.specs.Prelude.{◌≡◌, ℕ, List, Some, None}
 use Rattle.vhdl_elab_laws.specs.Refused.{MayRefuse}
 use Rattle.vhdl_expand_rules.specs.declared.fault.ElabFault.TheVariants as elab
 use Rattle.vhdl_expand_rules.specs.declared.fault.ElabProblem.{ElabProblem}
@@ -17,19 +17,13 @@ use Rattle.vhdl_source_rules.specs.Sources.{IsFileOf, HasSyntaxFault}
 use Rattle.vhdl_source_rules.specs.declared.fault.SourceFault.{SourceFault}
 use Rattle.vhdl_source_rules.specs.declared.fault.SourceFault.TheVariants.{Lex, Syntax, Name, Elab, NoMemory}
 
--- The first rule that the file breaks, as it is read, bears this problem, and is told at this byte of a source of this length: its own, or
--- the source's end where it lies behind that.
-pub record IsFirstBroken (file : File) (size : ℕ) (problem : NameProblem) (at : ℕ) : Type 0 where
-  pub byte : ℕ
-  pub broken : breaks.file file ≡ Some (problem, byte)
-  pub told : at ≡ min byte size
-
--- the source's one tree is a file that isn't well typed, and this is the first rule that it breaks
+-- the source's one tree is a file that isn't well typed: the first rule that it breaks, as it is read, bears this problem, and is told at
+-- this byte
 pub record HasNoUnits (source : List ℕ) (problem : NameProblem) (at : ℕ) : Type 0 where
   pub file : File
   pub read : IsFileOf source file
   pub ill_typed : units_of file ≡ None
-  pub first : IsFirstBroken file (length source) problem at
+  pub broken : breaks.file file ≡ Some (problem, at)
 
 -- The source's units have no design with this top, and this problem may be told: that of the first broken rule, or TooMany where the growth
 -- of the design may be cut off before.

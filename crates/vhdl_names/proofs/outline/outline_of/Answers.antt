@@ -23,8 +23,8 @@ loop-unit-preserved c =
     (sym c.first_of-told.ensures) (
       name_next us i c.unit-item.result lt is o c.loop-unit.told c.add_unit.result p c.loop-unit.invariant.0 c.add_unit.ensures.given c.add_unit.ensures.told,
       λ n.
-      let m = first_memory c.loop-unit.told c.add_unit.result n in
-      name_past us i c.unit-item.result lt is o c.add_unit.result p (c.loop-unit.invariant.1 m.0) c.add_unit.ensures.given c.add_unit.ensures.kept m.1,
+          let m = first_memory c.loop-unit.told c.add_unit.result n in
+          name_past us i c.unit-item.result lt is o c.add_unit.result p (c.loop-unit.invariant.1 m.0) c.add_unit.ensures.given c.add_unit.ensures.kept m.1,
     )
 
 pub returns-clause-told : goal.returns-clause-told

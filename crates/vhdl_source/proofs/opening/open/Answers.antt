@@ -1,5 +1,4 @@
-use Rattle.std.proofs.Common.{sym}
-use Rattle.vhdl_source.proofs.Layers.{file_sound, file_named, untyped_refuses, gives_opened, gives_ports, gives_refused, refuses_along}
+use Rattle.vhdl_source.proofs.Layers.{file_sound, file_named, untyped_refuses, untyped_lies, gives_opened, gives_ports, gives_refused, refuses_along, lies_along}
 use Rattle.vhdl_source.proofs.opening.open.Goals as goal
 
 pub returns-in_err-file-clause-refused : goal.returns-in_err-file-clause-refused
@@ -8,8 +7,12 @@ returns-in_err-file-clause-refused c = refuses_along c.args.source.now c.args.to
 pub returns-in_err-units-clause-refused : goal.returns-in_err-units-clause-refused
 returns-in_err-units-clause-refused c =
     refuses_along c.args.source.now c.args.top.now _ _ c.from_residual-in_err-units.ensures.1
-    (untyped_refuses c.args.source.now c.args.top.now _ c.in_err-units.field-0.0 c.in_ok-file.ensures.file
-    (rw (sym c.len.ensures) c.in_err-units.ensures.given))
+    (untyped_refuses c.args.source.now c.args.top.now _ c.in_err-units.field-0.0 c.in_ok-file.ensures.file c.in_err-units.ensures.given)
+
+pub returns-in_err-units-clause-told : goal.returns-in_err-units-clause-told
+returns-in_err-units-clause-told c =
+    lies_along c.args.source.now _ _ c.from_residual-in_err-units.ensures.1
+    (untyped_lies c.args.source.now _ c.in_err-units.field-0.0 c.in_ok-file.ensures.file c.in_err-units.ensures.given)
 
 pub net_of-requires-clause-sound : goal.net_of-requires-clause-sound
 net_of-requires-clause-sound c = file_sound c.args.source.now _ _ c.in_ok-file.ensures.file c.in_ok-units.ensures.given

@@ -1,12 +1,12 @@
-use Rattle.std.proofs.Common.{sym, ap, ◌∙◌, subst}
+use Rattle.std.proofs.Common.{sym, subst}
 use Rattle.vhdl_tree.specs.View.{file_view}
-use Rattle.vhdl_source_rules.specs.Faults.{of_name}
 use Rattle.vhdl_source_rules.specs.declared.fault.SourceFault.{SourceFault}
 use Rattle.vhdl_source.specs.Steps.{HasNameFault}
 use Rattle.vhdl_source.proofs.Layers.{no_units}
 use Rattle.vhdl_source.proofs.opening.units_of.Goals as goal
 
-pub returns-in-Err-clause-given : goal.returns-in-Err-clause-given
-returns-in-Err-clause-given c =
-    subst (λ (f : SourceFault). HasNameFault c.args.size (file_view c.args.file.now) f) (sym (c.from.ensures ∙ ap of_name c.name_fault_within.ensures))
-    (no_units (file_view c.args.file.now) c.args.size c.in-Err.fault c.in-Err.ensures.given c.in-Err.ensures.told)
+pub returns-in-Err : goal.returns-in-Err
+returns-in-Err c = record {
+  given = subst (λ (f : SourceFault). HasNameFault (file_view c.args.file.now) f) (sym c.from.ensures)
+      (no_units (file_view c.args.file.now) c.in-Err.fault c.in-Err.ensures.given c.in-Err.ensures.told);
+}
