@@ -18,8 +18,8 @@ pub trait Front {
     /// # Errors
     ///
     /// The first layer that refuses the source, with its fault: `Lex`, `Syntax`, `Name` or `Elab`, told at a byte of the source or
-    /// at its end. The problem of `Name` is one that a broken rule bears, that of `Elab` the first broken rule's, or `TooMany`.
-    /// `NoMemory` where memory was refused.
+    /// at its end. `Name` is the first rule that the file breaks as it is read, with its byte; the problem of `Elab` is the first
+    /// broken rule's, or `TooMany`. `NoMemory` where memory was refused.
     fn open(alloc: Global, source: &[u8], top: &[u8]) -> Result<Net, SourceFault>
         ensures net { IfOk result (λ net. IsNetOf source.now top.now net) }
         ensures ports { IfOk result (λ net. HasOwnPorts net) }
