@@ -1,6 +1,6 @@
 //! The nets that are an object's own, and no actual's: their types, and what they start with (IEEE 1076-2008, 6.4.2.3, 6.5.6.3).
 
-ghost use Rattle.std.specs.Prelude.{◌≡◌, ◌++◌, map, replicate, slice_index, IfOk, OnOk};
+ghost use Rattle.std.specs.Prelude.{◌≡◌, ◌++◌, map, replicate, slice_index, OnOk};
 ghost use Rattle.std.specs.List.{range_with_len};
 ghost use Rattle.rtl_net.specs.Nets.{type_of};
 ghost use Rattle.vhdl_expand_rules.specs.Kinds.{size, element_type};
@@ -23,16 +23,15 @@ pub(crate) fn start_at(starts: &[u8], element: usize) -> u8
     }
 }
 
-/// The type of the nets of an object of this kind. Memory would be refused for a count of literals beyond a word.
-fn net_kind(kind: ObjectKind) -> Result<NetKind, AllocError>
-    ensures { IfOk result (λ k. type_of k ≡ element_type (kind_view kind)) }
+/// The type of the nets of an object of this kind.
+fn net_kind(kind: ObjectKind) -> NetKind
+    ensures { type_of result ≡ element_type (kind_view kind) }
 {
     match kind {
-        ObjectKind::One => Ok(NetKind::Nine),
-        ObjectKind::Vector(_) => Ok(NetKind::Nine),
-        ObjectKind::Enumeration(count) => match u32::try_from(count) {
-            Ok(count) => Ok(NetKind::Enumeration { count }),
-            Err(_) => Err(AllocError),
+        ObjectKind::One => NetKind::Nine,
+        ObjectKind::Vector(_) => NetKind::Nine,
+        ObjectKind::Enumeration(count) => NetKind::Enumeration {
+            count: count as u32,
         },
     }
 }
@@ -41,7 +40,7 @@ fn net_kind(kind: ObjectKind) -> Result<NetKind, AllocError>
 fn push_kinds(kinds: &mut Vec<NetKind>, kind: ObjectKind) -> Result<(), AllocError>
     ensures { OnOk result (map type_of kinds.new.items ≡ map type_of kinds.old.items ++ replicate (size (kind_view kind)) (element_type (kind_view kind))) }
 {
-    let net = net_kind(kind)?;
+    let net = net_kind(kind);
     for _ in 0..kind.size() {
         kinds.push(net)?;
     }

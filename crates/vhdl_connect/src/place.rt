@@ -97,7 +97,7 @@ impl InstancePlace<'_> {
     pub(crate) fn signal(&self, first: usize, object: &mut Object) -> Result<Signal, AllocError>
         ensures { IfOk result (λ s. signal_view s ≡ signal_shown (signal_of self.now.scope self.now.nets.now first (object_view object.old))) }
     {
-        let kind = signal_kind(object.kind)?;
+        let kind = signal_kind(object.kind);
         let nets = self.nets_from(first, object.kind.size())?;
         Ok(Signal {
             scope: self.scope,

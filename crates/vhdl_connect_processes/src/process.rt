@@ -58,7 +58,7 @@ fn without_dot(mut prefix: Vec<u8>) -> Vec<u8>
 fn variable(alloc: Global, from: &mut vhdl_expand_tree::Variable) -> Result<Variable, AllocError>
     ensures { IfOk result (λ v. net_variable v ≡ of_variable (variable_view from.old)) }
 {
-    let kind = signal_kind(from.kind)?;
+    let kind = signal_kind(from.kind);
     Ok(Variable {
         name: mem::replace(&mut from.name, Vec::new(alloc)),
         kind,

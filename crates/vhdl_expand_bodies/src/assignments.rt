@@ -19,8 +19,7 @@ use vhdl_names_units as analysed;
 use vhdl_names_units::Given;
 use vhdl_values::Vec9;
 
-/// A choice of a case whose selector has so many elements; a fault is Length. Memory would be refused for a position beyond a
-/// byte: an enumeration has at most 256 literals.
+/// A choice of a case whose selector has so many elements; a fault is Length.
 #[tactic(auto, unfolding(vhdl_expand_rules::specs::Statements::choice))]
 pub(crate) fn choice(len: Width, choice: &analysed::Choice, at: usize) -> Result<Choice, ElabFault>
     ensures { Expands choice_view (definition.choice len.len (analysed.choice_view choice.now)) result }
@@ -34,10 +33,7 @@ pub(crate) fn choice(len: Width, choice: &analysed::Choice, at: usize) -> Result
             }
             Ok(Choice::Elements(Vec9::of(values)))
         }
-        analysed::Choice::Position(number) => match u8::try_from(*number) {
-            Ok(position) => Ok(Choice::Position(position)),
-            Err(_) => Err(ElabFault::NoMemory),
-        },
+        analysed::Choice::Position(position) => Ok(Choice::Position(*position)),
     }
 }
 

@@ -1,6 +1,6 @@
 //! Values, expanded (IEEE 1076-2008, clause 9).
 
-ghost use Rattle.std.specs.Prelude.{Ok};
+ghost use Rattle.std.specs.Prelude.{◌≡◌};
 ghost use Rattle.rtl_model.specs.bodies.Body as bodies;
 ghost use Rattle.vhdl_names_rules.specs.views.Vectors as analysed;
 ghost use Rattle.vhdl_names_rules.specs.views.Vectors.{part_view, signal_view};
@@ -17,17 +17,13 @@ use std::alloc::Global;
 use vhdl_expand_rules::ElabFault;
 use vhdl_names_rules::{Part, Signal, Value};
 
-/// A value that an enumeration's literal is, by its position. Memory would be refused for a position beyond a byte: an
-/// enumeration has at most 256 literals.
-fn position(number: usize) -> Result<Selected, ElabFault>
-    ensures { Expands selected_view (Ok (bodies.position number)) result }
+/// A value that an enumeration's literal is, by its position.
+fn position(number: u8) -> Selected
+    ensures { selected_view result ≡ bodies.Value.position number }
 {
-    match u8::try_from(number) {
-        Ok(position) => Ok(Selected {
-            value: rtl_net::Value::Position(position),
-            width: Width { len: 1 },
-        }),
-        Err(_) => Err(ElabFault::NoMemory),
+    Selected {
+        value: rtl_net::Value::Position(number),
+        width: Width { len: 1 },
     }
 }
 
@@ -65,7 +61,7 @@ impl Site<'_> {
                     value: rtl_net::Value::Elements(operand.expr),
                 })
             }
-            Value::Position(number) => position(*number),
+            Value::Position(number) => Ok(position(*number)),
             Value::StateOf(signal) => {
                 let element = self.signal_element(*signal, &Part::Whole, at)?;
                 Ok(Selected {

@@ -150,15 +150,11 @@ fn fixed(
     }
 }
 
-/// What an enumeration that starts with its literal of this position starts with. Memory would be refused for a position beyond a
-/// byte: an enumeration has at most 256 literals.
-fn literal_start(alloc: Global, position: usize) -> Result<SmallVec<u8, 8>, ElabFault>
+/// What an enumeration that starts with its literal of this position starts with. It takes the memory of the list.
+fn literal_start(alloc: Global, position: u8) -> Result<SmallVec<u8, 8>, ElabFault>
     ensures { Expands (λ v. v.items) (Ok (position ∷ [])) result }
 {
-    match u8::try_from(position) {
-        Ok(code) => Ok(filled(alloc, 1, code)?),
-        Err(_) => Err(ElabFault::NoMemory),
-    }
+    Ok(filled(alloc, 1, position)?)
 }
 
 /// The codes of a default of this kind; a fault is StaticError, Length, Index or TooWide.

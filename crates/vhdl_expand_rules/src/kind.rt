@@ -28,7 +28,7 @@ pub struct Bounds {
 pub enum ObjectKind {
     One,
     Vector(Bounds),
-    Enumeration(usize),
+    Enumeration(u16),
 }
 
 /// Neighbouring places: the first, counted from the left, and how many there are.

@@ -1,6 +1,6 @@
 //! Enumeration types (IEEE 1076-2008, 5.2.2).
 
-ghost use Rattle.std.specs.Prelude.{◌≡◌, ◌∷◌, [], map, length, OnOk, IfErr};
+ghost use Rattle.std.specs.Prelude.{◌≡◌, ◌≤◌, ◌∷◌, [], map, length, OnOk, IfErr};
 ghost use Rattle.vhdl_names_declarations.specs.Entered.{more, entering};
 ghost use Rattle.vhdl_names_rules.specs.Declarations as rules;
 ghost use Rattle.vhdl_names_rules.specs.Gives.{Gives};
@@ -23,17 +23,18 @@ fn literals(
     number: usize,
     literals: &[Identifier],
 ) -> Result<(), NameFault>
+    requires { length literals.now ≤ 256 }
     ensures given { Gives (λ _. region_view region.new)
         (more (region_view region.old) (rules.literals number (length literals.now) 0 (names_of (map ident_view literals.now)))) result }
     ensures told { IfErr result (Tells (broken.standing_twice (region_view region.old) (map ident_view literals.now))) }
 {
     names_are_apart(region);
-    let count = literals.len();
+    let count = literals.len() as u16;
     for (position, literal) in literals.iter().enumerate() {
         let meaning = Meaning::Literal {
             number,
             count,
-            position,
+            position: position as u8,
         };
         declare(alloc, region, literal, meaning)?;
     }
@@ -63,7 +64,10 @@ pub fn enumeration(
         alloc,
         &mut sight.region,
         &declaration.name,
-        Meaning::EnumerationType { number, count },
+        Meaning::EnumerationType {
+            number,
+            count: count as u16,
+        },
     )?;
     literals(alloc, &mut sight.region, number, &declaration.literals)?;
     Ok(())

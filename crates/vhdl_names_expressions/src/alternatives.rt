@@ -51,7 +51,7 @@ fn constant_choice(kind: ElementKind, meaning: &Meaning, at: usize) -> Result<Ch
 /// The choice that a literal of this enumeration is; its name is at byte `at`.
 fn position_choice(
     number: usize,
-    count: usize,
+    count: u16,
     meaning: &Meaning,
     at: usize,
 ) -> Result<Choice, NameFault>

@@ -87,7 +87,7 @@ fn as_elements(kind: ElementKind, operand: Typed, at: usize) -> Result<Given, Na
 }
 
 /// The value of an enumeration that an operand is, which starts at byte `at`.
-fn as_state(number: usize, count: usize, operand: Typed, at: usize) -> Result<Given, NameFault>
+fn as_state(number: usize, count: u16, operand: Typed, at: usize) -> Result<Given, NameFault>
     ensures given { Gives given_view (rules.as_value (Enumeration number count) (typed_view operand)) result }
     ensures told { IfErr result (Tells (refused TypeMismatch at)) }
 {

@@ -53,7 +53,7 @@ fn constant_value(kind: ElementKind, meaning: &Meaning, at: usize) -> Result<Fix
 /// The value that a literal of this enumeration is; its name is at byte `at`.
 fn position_value(
     number: usize,
-    count: usize,
+    count: u16,
     meaning: &Meaning,
     at: usize,
 ) -> Result<Fixed, NameFault>

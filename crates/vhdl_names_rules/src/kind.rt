@@ -17,7 +17,7 @@ pub enum ElementKind {
 #[derive(Clone, Copy)]
 pub enum ObjectType {
     Elements(ElementKind),
-    Enumeration { number: usize, count: usize },
+    Enumeration { number: usize, count: u16 },
 }
 
 /// A function of the packages.

@@ -81,7 +81,7 @@ pub struct VectorStart {
 pub enum Value {
     Elements(Vector),
     /// An enumeration's literal, by its position.
-    Position(usize),
+    Position(u8),
     /// A signal, or the variable of this number, of an enumeration.
     StateOf(Signal),
     StateOfVariable(usize),

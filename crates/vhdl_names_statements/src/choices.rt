@@ -40,7 +40,7 @@ fn key(alloc: Global, choice: &Choice) -> Result<Vec<usize>, AllocError>
             .iter()
             .map(|value| value.code() as usize)
             .collect(alloc),
-        Choice::Position(position) => [9, *position].to_vec(alloc),
+        Choice::Position(position) => [9, *position as usize].to_vec(alloc),
     }
 }
 
@@ -199,11 +199,11 @@ fn names_all(selected: ObjectType, keys: &Keys) -> bool
 }
 
 /// Whether the first so many literals have their choices.
-fn has_positions(keys: &Keys, count: usize) -> bool
+fn has_positions(keys: &Keys, count: u16) -> bool
     ensures { result ≡ list_all (λ p. is_among (9 ∷ p ∷ []) (names_view keys.now)) (range_with_len 0 count) }
 {
     for position in 0..count {
-        if !has_position(keys, position) {
+        if !has_position(keys, position as usize) {
             return false;
         }
     }

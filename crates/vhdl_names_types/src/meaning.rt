@@ -19,8 +19,8 @@ pub enum Meaning {
     /// A literal of the enumeration of this number, which has so many, at this position.
     Literal {
         number: usize,
-        count: usize,
-        position: usize,
+        count: u16,
+        position: u8,
     },
     IntegerType(IntegerType),
     ElementType {
@@ -30,7 +30,7 @@ pub enum Meaning {
     VectorType(ElementKind, bool),
     EnumerationType {
         number: usize,
-        count: usize,
+        count: u16,
     },
     Function(Function),
     /// A component, of the unit of this number.

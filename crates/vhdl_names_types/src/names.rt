@@ -163,7 +163,7 @@ fn called(
 }
 
 /// A value of an enumeration, by its number and its count of literals.
-fn enumerated(number: usize, count: usize, value: Value) -> Typed
+fn enumerated(number: usize, count: u16, value: Value) -> Typed
     ensures { typed_view result ≡ table.enumerated number count (value_view value) }
 {
     Typed::Enumerated {

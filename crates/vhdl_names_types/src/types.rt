@@ -10,7 +10,7 @@ pub enum Typed {
     Elements(ElementKind, Vector),
     Enumerated {
         number: usize,
-        count: usize,
+        count: u16,
         value: Value,
     },
     Truth(Test),

@@ -15,7 +15,7 @@ pub enum Given {
 #[derive(Drop)]
 pub enum Choice {
     Values(Vec<Nine>),
-    Position(usize),
+    Position(u8),
 }
 
 /// A signal, port, or part of one, with its mode if it is a port, and its type.
@@ -40,7 +40,7 @@ pub struct VariableName {
 pub enum Form {
     Element,
     Vector(StaticRange),
-    Enumeration(usize),
+    Enumeration(u16),
 }
 
 /// The value of a constant, or a default.
@@ -49,7 +49,7 @@ pub enum Fixed {
     /// A character, string or bit string literal.
     Literal(Vec<Nine>),
     /// An enumeration's literal.
-    Position(usize),
+    Position(u8),
     /// The constant of this number that is no integer.
     Constant(usize),
     /// `to_unsigned`, of a number and a size.
