@@ -1,5 +1,5 @@
 -- Of labels one behind another the first that stands twice is told.
-use Rattle.std.proofs.Common.{◌≡◌, ℕ, suc, ◌+◌, ◌<◌, arith, Bool, true, false, not, cond, List, [], ◌∷◌, ◌++◌, map, length, get_or, drop, drop-cons, Option, Some, None, refl, ap, sym, ◌∙◌}
+use Rattle.std.proofs.Common.{◌≡◌, ℕ, ◌+◌, ◌<◌, Bool, true, false, not, cond, List, [], ◌∷◌, ◌++◌, map, length, get_or, drop, Option, Some, None, refl, ap, sym, ◌∙◌}
 use Rattle.std.proofs.lemmas.List.{append_assoc, append-nil}
 use Rattle.vhdl_tree.specs.Tree as t
 use Rattle.vhdl_tree.specs.Tree.{Ident}
@@ -16,6 +16,7 @@ use Rattle.vhdl_names_problems.specs.Twice.{twice}
 use Rattle.vhdl_names_problems.proofs.Telling.{told_same}
 use Rattle.vhdl_names_problems.proofs.kept.Labels.{statements_named}
 use Rattle.vhdl_names_labels.specs.Lists.{in_turn}
+use Rattle.vhdl_names_labels.proofs.Behind.{next}
 use Rattle.vhdl_names_concurrent.specs.steps.Labels.{with_statements, with_branch}
 use Rattle.vhdl_names_concurrent.proofs.Labelling.{each_statement, each_branch}
 use Rattle.vhdl_names_labels.specs.Once.{one_name}
@@ -51,14 +52,7 @@ pub twice_before : (names : List Name) (is js : List Ident) (f : NameFault) → 
 twice_before names is js (At p at) h = first_twice names is js (p, at) h
 twice_before names is js NoMemory h = tt
 
--- ---- things one behind another
-
-pub next : {A : Type 0} (xs : List A) (i : ℕ) (x : A) → i < length xs → x ≡ get_or xs i x → drop i xs ≡ x ∷ drop (i + 1) xs
-next xs i x lt is =
-    let e : suc i ≡ i + 1 = omega arith in
-    drop-cons xs i x lt ∙ ap (λ y. y ∷ drop (suc i) xs) (sym is) ∙ ap (λ k. x ∷ drop k xs) e
-
--- with labels
+-- ---- things with labels, one behind another
 
 module _ {A B : Type 0} (view : A → B) (labels : B → List Ident) (all : List B → List Ident) (split : (b : B) (bs : List B) → all (b ∷ bs) ≡ labels b ++ all bs) where
   module _ (xs : List A) (i : ℕ) (x : A) (lt : i < length xs) (is : x ≡ get_or xs i x) where

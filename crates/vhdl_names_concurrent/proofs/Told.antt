@@ -1,5 +1,5 @@
 -- What is told of the parts of processes and generates is told of the whole.
-use Rattle.std.proofs.Common.{◌≡◌, ℕ, ◌+◌, ◌<◌, length, get_or, map, drop, Bool, true, false, List, [], ◌∷◌, ◌++◌, Option, Some, None, Result, Ok, Err, IfOk, refl, ap, sym, ◌∙◌}
+use Rattle.std.proofs.Common.{◌≡◌, Bool, true, false, List, [], ◌∷◌, ◌++◌, Option, Some, None, Result, Ok, Err, IfOk, refl, ap, sym, ◌∙◌}
 use Rattle.std.specs.Prelude.{option_map}
 use Rattle.vhdl_tree.specs.Tree as t
 use Rattle.vhdl_tree.specs.Tree.{Ident}
@@ -24,7 +24,7 @@ use Rattle.vhdl_names_problems.specs.Broken.{Broken, Tells, ◌▸◌, where_giv
 use Rattle.vhdl_names_problems.specs.Declarations.{in_order, variables, end_name}
 use Rattle.vhdl_names_problems.specs.Concurrent as broken
 use Rattle.vhdl_names_problems.specs.Statements.{end_label}
-use Rattle.vhdl_names_problems.proofs.Telling.{IsKept, told_same, told_left, told_right, behind_kept}
+use Rattle.vhdl_names_problems.proofs.Telling.{IsKept, told_same, told_left, told_right}
 use Rattle.vhdl_names_problems.proofs.kept.Keeping.{among_kept}
 use Rattle.vhdl_names_problems.proofs.kept.Statements.{statements_kept}
 use Rattle.vhdl_names_problems.proofs.kept.Declarations.{all_variables_kept}
@@ -33,7 +33,6 @@ use Rattle.vhdl_names_concurrent.specs.steps.Concurrents as parts
 use Rattle.vhdl_names_concurrent.specs.steps.Processes as steps
 use Rattle.vhdl_names_concurrent.specs.steps.Told as told
 use Rattle.vhdl_names_concurrent.proofs.Generating.{generate_is, by_instance, concurrents_by}
-use Rattle.vhdl_names_concurrent.proofs.Standing.{next}
 
 pub met_holds : (b : Bool) → met b ≡ Some tt → b ≡ true
 met_holds true h = refl
@@ -43,17 +42,6 @@ met_holds false h = absurd cc
 pub ok_kept : {X Y : Type 0} (view : X → Y) (o : Option Y) (b : Broken) (r : Result X NameFault) → ((y : Y) → o ≡ Some y → IsKept b) → Gives view o r → IfOk r (λ x. IsKept b)
 ok_kept view o b (Ok x) h g = h (view x) g
 ok_kept view o b (Err f) h g = tt
-
--- ---- things one behind another
-
-module _ {A B : Type 0} (b : B → Broken) (view : A → B) (xs : List A) (i : ℕ) (x : A) (lt : i < length xs) (is : x ≡ get_or xs i x) where
-  pub any_told : (f : NameFault) → any_of b (map view xs) ≡ any_of b (map view (drop i xs)) → Tells (b (view x)) f → Tells (any_of b (map view xs)) f
-  any_told f inv h =
-      told_same (b (view x) ▸ any_of b (map view (drop (i + 1) xs))) (any_of b (map view xs)) f (sym (inv ∙ ap (λ ys. any_of b (map view ys)) (next xs i x lt is)))
-      (told_left (b (view x)) (any_of b (map view (drop (i + 1) xs))) f h)
-
-  pub any_left : any_of b (map view xs) ≡ any_of b (map view (drop i xs)) → IsKept (b (view x)) → any_of b (map view xs) ≡ any_of b (map view (drop (i + 1) xs))
-  any_left inv k = inv ∙ ap (λ ys. any_of b (map view ys)) (next xs i x lt is) ∙ behind_kept (b (view x)) (any_of b (map view (drop (i + 1) xs))) k
 
 -- ---- processes
 

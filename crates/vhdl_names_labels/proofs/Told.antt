@@ -1,8 +1,7 @@
 -- Of two parts that stand among each other the fault at the earlier byte is told.
-use Rattle.std.proofs.Common.{◌≡◌, ℕ, arith, Bool, true, false, Some, if◌then◌else◌, nat_le, nat_lt, Result, Ok, Err, IfOk, IfErr, refl, ap, sym, subst, ◌∙◌, ltb-true, ltb-false, leb-true, leb-false}
+use Rattle.std.proofs.Common.{◌≡◌, arith, Bool, true, false, Some, if◌then◌else◌, nat_le, nat_lt, Result, Ok, Err, IfOk, IfErr, refl, ap, sym, subst, ◌∙◌, ltb-true, ltb-false, leb-true, leb-false}
 use Rattle.vhdl_names_rules.specs.declared.fault.NameFault.{NameFault}
 use Rattle.vhdl_names_rules.specs.declared.fault.NameFault.TheVariants.{At, NoMemory}
-use Rattle.vhdl_names_rules.specs.declared.fault.NameProblem.{NameProblem}
 use Rattle.vhdl_names_problems.specs.Broken as broken
 use Rattle.vhdl_names_problems.specs.Broken.{Broken, Tells, nothing}
 use Rattle.vhdl_names_labels.specs.Faults.{earlier}

@@ -1,5 +1,5 @@
 -- Choices that are read one by one, told apart by their keys, are told as they stand.
-use Rattle.std.proofs.Common.{◌≡◌, ◌≢◌, ℕ, zero, suc, ◌+◌, ◌<◌, ◌==◌, arith, Bool, true, false, List, [], ◌∷◌, ◌++◌, map, length, get_or, drop, drop-cons, Option, Some, None, Result, Ok, Err, IfOk, IfErr, refl, ap, sym, ◌∙◌}
+use Rattle.std.proofs.Common.{◌≡◌, ◌≢◌, ℕ, zero, suc, ◌+◌, ◌<◌, ◌==◌, arith, Bool, true, false, List, [], ◌∷◌, ◌++◌, map, length, get_or, drop, Option, Some, None, Result, Ok, Err, IfOk, IfErr, refl, ap, sym, ◌∙◌}
 use Rattle.std.specs.Prelude.{not, ◌&&◌}
 use Rattle.std.specs.List.{flat_map, filter_map}
 use Rattle.std.specs.Borrow.{Bor}
@@ -30,6 +30,7 @@ use Rattle.vhdl_names_problems.proofs.Telling.{IsKept, both_kept, behind_kept, u
 use Rattle.vhdl_names_problems.proofs.kept.Choices.{choice_kept}
 use Rattle.vhdl_names_labels.specs.Lists.{in_turn}
 use Rattle.vhdl_names_labels.specs.Once.{one_name, key_of}
+use Rattle.vhdl_names_labels.proofs.Behind.{next}
 use Rattle.vhdl_names_labels.proofs.Once.{among_keys}
 use Rattle.vhdl_names_labels.proofs.Once as names
 use Rattle.vhdl_names_statements.specs.steps.Cases.{choice_list, all_lists}
@@ -113,18 +114,13 @@ module _ (sight : Sight) (type : ObjectType) where
   -- ---- one choice after another
 
   module _ (xs : List Choice) (i : ℕ) (x : Choice) (lt : i < length xs) (is : x ≡ get_or xs i x) where
-    next : drop i xs ≡ x ∷ drop (i + 1) xs
-    next =
-        let e : suc i ≡ i + 1 = omega arith in
-        drop-cons xs i x lt ∙ ap (λ y. y ∷ drop (suc i) xs) (sym is) ∙ ap (λ k. x ∷ drop k xs) e
-
     pub next_told : (old keys : List Name) (f : NameFault)
         → told.each_once sight type old (map choice_view xs) ≡ told.each_once sight type keys (map choice_view (drop i xs))
         → Tells (told.once sight type keys (choice_view x)) f → Tells (told.each_once sight type old (map choice_view xs)) f
     next_told old keys f inv h =
         let rest = told.each_once sight type (with_choice sight type keys (choice_view x)) (map choice_view (drop (i + 1) xs)) in
         told_same (told.once sight type keys (choice_view x) ▸ rest) (told.each_once sight type old (map choice_view xs)) f
-        (sym (inv ∙ ap (λ l. told.each_once sight type keys (map choice_view l)) next))
+        (sym (inv ∙ ap (λ l. told.each_once sight type keys (map choice_view l)) (next xs i x lt is)))
         (told_left (told.once sight type keys (choice_view x)) rest f h)
 
     pub next_left : (old keys new : List Name)
@@ -133,7 +129,7 @@ module _ (sight : Sight) (type : ObjectType) where
         → told.each_once sight type old (map choice_view xs) ≡ told.each_once sight type new (map choice_view (drop (i + 1) xs))
     next_left old keys new inv kept added =
         let rest = told.each_once sight type (with_choice sight type keys (choice_view x)) (map choice_view (drop (i + 1) xs)) in
-        inv ∙ ap (λ l. told.each_once sight type keys (map choice_view l)) next
+        inv ∙ ap (λ l. told.each_once sight type keys (map choice_view l)) (next xs i x lt is)
         ∙ behind_kept (told.once sight type keys (choice_view x)) rest kept
         ∙ ap (λ k. told.each_once sight type k (map choice_view (drop (i + 1) xs))) (sym added)
 
@@ -142,7 +138,7 @@ module _ (sight : Sight) (type : ObjectType) where
         → new ≡ with_choice sight type keys (choice_view x)
         → with_list sight type old (map choice_view xs) ≡ with_list sight type new (map choice_view (drop (i + 1) xs))
     next_added old keys new inv added =
-        inv ∙ ap (λ l. with_list sight type keys (map choice_view l)) next
+        inv ∙ ap (λ l. with_list sight type keys (map choice_view l)) (next xs i x lt is)
         ∙ ap (λ k. with_list sight type k (map choice_view (drop (i + 1) xs))) (sym added)
 
   -- ---- one alternative
@@ -170,11 +166,6 @@ module _ (sight : Sight) (type : ObjectType) where
   -- ---- one alternative after another
 
   module _ (bs : List (Bor (List Choice))) (i : ℕ) (x : Bor (List Choice)) (lt : i < length bs) (is : x ≡ get_or bs i x) where
-    next_list : drop i bs ≡ x ∷ drop (i + 1) bs
-    next_list =
-        let e : suc i ≡ i + 1 = omega arith in
-        drop-cons bs i x lt ∙ ap (λ y. y ∷ drop (suc i) bs) (sym is) ∙ ap (λ k. x ∷ drop k bs) e
-
     abbrev behind : List (List t.Choice)
     behind = all_lists (drop (i + 1) bs)
 
@@ -184,7 +175,7 @@ module _ (sight : Sight) (type : ObjectType) where
     list_told keys l f inv last h =
         let here = told.alternative_in_place sight type keys (is_empty behind) (choice_list x) in
         let rest = told.in_place sight type (with_list sight type keys (choice_list x)) behind in
-        told_same (here ▸ rest) (told.in_place sight type [] (all_lists bs)) f (sym (inv ∙ ap (λ l. told.in_place sight type keys (all_lists l)) next_list))
+        told_same (here ▸ rest) (told.in_place sight type [] (all_lists bs)) f (sym (inv ∙ ap (λ l. told.in_place sight type keys (all_lists l)) (next bs i x lt is)))
         (told_left here rest f
         (told_same (told.alternative_in_place sight type keys l (choice_list x)) here f (ap (λ l. told.alternative_in_place sight type keys l (choice_list x)) last) h))
 
@@ -195,7 +186,7 @@ module _ (sight : Sight) (type : ObjectType) where
     list_left keys new l inv last kept added =
         let here = told.alternative_in_place sight type keys (is_empty behind) (choice_list x) in
         let rest = told.in_place sight type (with_list sight type keys (choice_list x)) behind in
-        inv ∙ ap (λ l. told.in_place sight type keys (all_lists l)) next_list
+        inv ∙ ap (λ l. told.in_place sight type keys (all_lists l)) (next bs i x lt is)
         ∙ behind_kept here rest (ap (λ l. told.alternative_in_place sight type keys l (choice_list x)) (sym last) ∙ kept)
         ∙ ap (λ k. told.in_place sight type k behind) (sym added)
 
@@ -204,7 +195,7 @@ module _ (sight : Sight) (type : ObjectType) where
         → new ≡ with_list sight type keys (choice_list x)
         → with_lists sight type [] (all_lists bs) ≡ with_lists sight type new (all_lists (drop (i + 1) bs))
     list_added keys new inv added =
-        inv ∙ ap (λ l. with_lists sight type keys (all_lists l)) next_list ∙ ap (λ k. with_lists sight type k behind) (sym added)
+        inv ∙ ap (λ l. with_lists sight type keys (all_lists l)) (next bs i x lt is) ∙ ap (λ k. with_lists sight type k behind) (sym added)
 
   -- ---- by keys or as they stand
 

@@ -1,9 +1,13 @@
 -- What is told of what a case or a selected assignment does by a value is told of its parts.
-use Rattle.std.proofs.Common.{◌≡◌, ℕ, Bool, true, false, List, [], ◌∷◌, map, Option, Some, None, Result, Ok, Err, IfOk, refl, ap, sym, ◌∙◌}
+use Rattle.std.proofs.Common.{◌≡◌, ℕ, Bool, true, false, List, [], ◌∷◌, map, Option, Some, None, Result, Ok, Err, IfOk, IfErr, Vec, Global, refl, ap, sym, ◌∙◌}
 use Rattle.std.specs.Prelude.{◌||◌}
 use Rattle.std.specs.List.{flat_map}
+use Rattle.std.specs.Borrow.{Bor}
 use Rattle.vhdl_tree.specs.Tree as t
 use Rattle.vhdl_tree.specs.Tree.{Ident}
+use Rattle.vhdl_tree.specs.View as tree
+use Rattle.vhdl_tree.specs.declared.expression.Choice.{Choice}
+use Rattle.vhdl_tree.specs.declared.sequential.Alternative as syntax
 use Rattle.vhdl_names_rules.specs.declared.kind.ObjectType.{ObjectType}
 use Rattle.vhdl_names_rules.specs.declared.fault.NameFault.{NameFault}
 use Rattle.vhdl_names_rules.specs.declared.fault.NameProblem.TheVariants.{WrongKind}
@@ -15,7 +19,7 @@ use Rattle.vhdl_names_rules.specs.Choices as are
 use Rattle.vhdl_names_rules.specs.Choices.{only_last_others, is_last_others, are_distinct_choices, names_all}
 use Rattle.vhdl_names_rules.specs.Statements.{SignalName, target}
 use Rattle.vhdl_names_rules.proofs.laws.Rules.{comes, kept, some_is}
-use Rattle.vhdl_names_problems.specs.Broken.{Broken, Tells, ◌▸◌, any_of}
+use Rattle.vhdl_names_problems.specs.Broken.{Broken, Tells, nothing, ◌▸◌, any_of}
 use Rattle.vhdl_names_problems.specs.Covered as broken
 use Rattle.vhdl_names_problems.specs.Covered.{any_alternative}
 use Rattle.vhdl_names_problems.specs.Statements as broken'
@@ -24,7 +28,9 @@ use Rattle.vhdl_names_problems.specs.Concurrent as problems
 use Rattle.vhdl_names_problems.proofs.Telling.{IsKept, told_same, told_left, told_right}
 use Rattle.vhdl_names_problems.proofs.kept.Statements.{target_kept, end_label_kept}
 use Rattle.vhdl_names_problems.proofs.kept.Covered.{covered_kept}
-use Rattle.vhdl_names_units.specs.views.Sequential.{Chosen}
+use Rattle.vhdl_names_types.proofs.Along.{gives_along}
+use Rattle.vhdl_names_units.specs.declared.sequential.Alternative.{Alternative}
+use Rattle.vhdl_names_units.specs.views.Sequential.{Chosen, alternatives_view}
 use Rattle.vhdl_names_labels.specs.Once.{key_of}
 use Rattle.vhdl_names_labels.proofs.Once.{distinct_keys}
 use Rattle.vhdl_names_statements.specs.steps.Cases as cases
@@ -34,7 +40,7 @@ use Rattle.vhdl_names_statements.specs.steps.Told as told
 use Rattle.vhdl_names_statements.proofs.steps.Cases.{Pairs, all_there, no_choices, no_bodies, flat_each}
 use Rattle.vhdl_names_statements.proofs.steps.Cases as by_cases
 use Rattle.vhdl_names_statements.proofs.steps.Concurrent as by_waveforms
-use Rattle.vhdl_names_statements.proofs.steps.Told.{alternatives_kept}
+use Rattle.vhdl_names_statements.proofs.steps.Told.{alternatives_kept, on_along}
 use Rattle.vhdl_names_statements.proofs.steps.Assigning.{waveforms_kept}
 
 -- ---- alternatives that are given have the choices that stand there
@@ -138,6 +144,50 @@ module _ (sight : Sight) (type : ObjectType) (alts : List t.Alternative) where
           parts_behind (told_right (end_label label end) (any_alternative at (cases.choice_lists alts)) f (end_label_kept label end (is_met (label_ends label end) ends))
           (told_same (any_alternative at all) (any_alternative at (cases.choice_lists alts)) f
           (any_given at alts all (covering_found sight type (cases.choice_lists alts) (each (cases.chosen sight type) alts) all given)) h))
+
+-- ---- alternatives that were read, with the lists of their choices
+
+module _ (sight : Sight) (type : ObjectType) (xs : List syntax.Alternative) where
+  abbrev written : List t.Alternative
+  written = map tree.alternative_view xs
+
+  abbrev read_alternatives : Option (List Chosen)
+  read_alternatives = each (cases.chosen sight type) written
+
+  -- the lists are those that stand there, the answer gives the alternatives, and they have these choices
+  abbrev pub Read : Sight → List (List t.Choice) → Result (Vec Alternative Global) NameFault → Type 0
+  Read now lists r = (lists ≡ cases.choice_lists written) × (Gives alternatives_view read_alternatives r) × (IfOk r (told.HasChoices now type lists))
+
+  -- as they are read from where they stand
+  pub read : (ys zs : List syntax.Alternative) (bs cs : List (Bor (List Choice))) (now : Sight) (r : Result (Vec Alternative Global) NameFault)
+      → ys ≡ xs → zs ≡ xs → bs ≡ cs → cases.all_lists cs ≡ cases.choice_lists (map tree.alternative_view ys) → now ≡ sight
+      → Gives alternatives_view (each (cases.chosen sight type) (map tree.alternative_view zs)) r → Read now (cases.all_lists bs) r
+  read ys zs bs cs now r e f g h k is =
+      let same : cases.all_lists bs ≡ cases.choice_lists written = ap cases.all_lists g ∙ h ∙ ap (λ l. cases.choice_lists (map tree.alternative_view l)) e in
+      let given : Gives alternatives_view read_alternatives r =
+      gives_along alternatives_view _ _ _ (ap (λ l. each (cases.chosen sight type) (map tree.alternative_view l)) (sym f)) is in
+      let has : IfOk r (told.HasChoices now type (cases.all_lists bs)) =
+      on_given alternatives_view (told.HasChoices now type (cases.all_lists bs)) read_alternatives r given
+      (λ x e. ap (λ o. each (are.choices o type) (cases.all_lists bs)) k ∙ ap (each (are.choices sight type)) same ∙ case_there sight type written (alternatives_view x) e) in
+      (same, given, has)
+
+  module _ (now : Sight) (lists : List (List t.Choice)) (r : Result (Vec Alternative Global) NameFault) (is : Read now lists r) where
+    -- whether they are covered
+    pub read_covering : (o : Option (List Chosen))
+        → ((found : Option (List Chosen)) → Gives alternatives_view found r → IfOk r (told.HasChoices now type lists) → covering type lists found ≡ o)
+        → covering type (cases.choice_lists written) read_alternatives ≡ o
+    read_covering o h = ap (λ l. covering type l read_alternatives) (sym is.0) ∙ h read_alternatives is.1 is.2
+
+    -- what is told where they break a rule or are not covered
+    pub read_told : (at : ℕ) (zs : List syntax.Alternative) (f : NameFault) → zs ≡ xs → now ≡ sight
+        → IfErr r (Tells (broken'.alternatives sight type (t.alternatives_of (map tree.alternative_view zs))))
+        → ((b : Broken) → IfErr r (Tells b) → IfOk r (λ _. b ≡ nothing) → IfOk r (told.HasChoices now type lists) → Tells (broken.covered now type at lists b) f)
+        → Tells (broken.covered sight type at (cases.choice_lists written) (broken'.alternatives sight type (t.alternatives_of written))) f
+    read_told at zs f e k wrong h =
+        let b = broken'.alternatives sight type (t.alternatives_of written) in
+        let told : IfErr r (Tells b) = on_along _ b r (ap (λ l. broken'.alternatives sight type (t.alternatives_of (map tree.alternative_view l))) e) wrong in
+        let fine : IfOk r (λ _. b ≡ nothing) = on_given alternatives_view (λ _. b ≡ nothing) read_alternatives r is.1 (λ x e. alternatives_kept sight type written (alternatives_view x) e) in
+        told_same _ _ f (ap (λ o. broken.covered o type at lists b) k ∙ ap (λ l. broken.covered sight type at l b) is.0) (h b told fine is.2)
 
 -- ---- what a selected assignment does by a value
 

@@ -1,5 +1,5 @@
 -- What is told of the parts of statements is told of the whole.
-use Rattle.std.proofs.Common.{◌≡◌, ℕ, suc, ◌+◌, ◌<◌, arith, List, [], ◌∷◌, ◌++◌, map, length, get_or, drop, drop-cons, Option, Some, None, Result, IfErr, refl, ap, sym, ◌∙◌}
+use Rattle.std.proofs.Common.{◌≡◌, ℕ, ◌+◌, ◌<◌, arith, List, [], ◌∷◌, ◌++◌, map, length, get_or, drop, Option, Some, None, Result, IfErr, refl, ap, sym, ◌∙◌}
 use Rattle.std.specs.Prelude.{option_map}
 use Rattle.vhdl_tree.specs.Tree as t
 use Rattle.vhdl_tree.specs.Tree.{Ident}
@@ -33,6 +33,7 @@ use Rattle.vhdl_names_problems.proofs.kept.Expressions.{condition_kept, static_r
 use Rattle.vhdl_names_problems.proofs.kept.Choices.{choices_kept, selected_by_kept}
 use Rattle.vhdl_names_problems.proofs.kept.Statements.{statement_kept, statements_kept}
 use Rattle.vhdl_names_labels.specs.Lists.{in_turn, one_more}
+use Rattle.vhdl_names_labels.proofs.Behind.{next}
 use Rattle.vhdl_names_statements.specs.steps.Cases as cases
 use Rattle.vhdl_names_statements.specs.steps.Sequential as steps
 use Rattle.vhdl_names_statements.specs.steps.Told as told
@@ -57,28 +58,13 @@ none_below (x ∷ xs) lt = absurd (omega (arith, lt))
 -- ---- one of a list, whose others before it went well
 
 module _ {A B : Type 0} (view : A → B) (xs : List A) (i : ℕ) (x : A) (lt : i < length xs) (is : x ≡ get_or xs i x) where
-  next : drop i xs ≡ x ∷ drop (i + 1) xs
-  next =
-      let e : suc i ≡ i + 1 = omega arith in
-      drop-cons xs i x lt ∙ ap (λ y. y ∷ drop (suc i) xs) (sym is) ∙ ap (λ k. x ∷ drop k xs) e
-
   pub more_done : {C : Type 0} (g : B → Option C) (done new : List C) (y : C) (all : Option (List C))
       → all ≡ in_turn (one_more g) done (map view (drop i xs)) → g (view x) ≡ Some y → new ≡ done ++ y ∷ []
       → all ≡ in_turn (one_more g) new (map view (drop (i + 1) xs))
   more_done {C} g done new y all inv h e =
-      inv ∙ ap (λ l. in_turn (one_more g) done (map view l)) next
+      inv ∙ ap (λ l. in_turn (one_more g) done (map view l)) (next xs i x lt is)
       ∙ ap (λ (o : Option C). (o >>= λ y. Some (done ++ y ∷ [])) >>= λ z. in_turn (one_more g) z (map view (drop (i + 1) xs))) h
       ∙ ap (λ z. in_turn (one_more g) z (map view (drop (i + 1) xs))) (sym e)
-
-  pub next_told : (b : B → Broken) (f : NameFault) → any_of b (map view xs) ≡ any_of b (map view (drop i xs)) → Tells (b (view x)) f → Tells (any_of b (map view xs)) f
-  next_told b f inv h =
-      told_same (b (view x) ▸ any_of b (map view (drop (i + 1) xs))) (any_of b (map view xs)) f (sym (inv ∙ ap (λ l. any_of b (map view l)) next))
-      (told_left (b (view x)) (any_of b (map view (drop (i + 1) xs))) f h)
-
-  pub next_left : (b : B → Broken) → any_of b (map view xs) ≡ any_of b (map view (drop i xs)) → IsKept (b (view x))
-      → any_of b (map view xs) ≡ any_of b (map view (drop (i + 1) xs))
-  next_left b inv kept =
-      inv ∙ ap (λ l. any_of b (map view l)) next ∙ behind_kept (b (view x)) (any_of b (map view (drop (i + 1) xs))) kept
 
 -- ---- lists of statements, branches and alternatives
 

@@ -17,6 +17,7 @@ use Rattle.vhdl_names_problems.proofs.Telling.{told_on, told_same}
 use Rattle.vhdl_names_problems.proofs.kept.Keeping.{among_second}
 use Rattle.vhdl_names_problems.proofs.kept.Concurrent.{labels_kept}
 use Rattle.vhdl_names_labels.specs.Once.{names_view}
+use Rattle.vhdl_names_labels.proofs.Behind.{next_told, next_left}
 use Rattle.vhdl_names_rules.specs.Interfaces.{EntityView}
 use Rattle.vhdl_names_instances.specs.Table.{AreEntities, seens_view}
 use Rattle.vhdl_names_instances.specs.steps.Instances.{instance}
@@ -59,7 +60,7 @@ statements-returns-in_err-next-clause-told m c = λ es are.
     let lt : c.loop-item.item-index < length c.args.list.now = omega arith in
     let h : Tells (broken.concurrents es s (t.concurrents_of (map tree.concurrent_view c.args.list.now))) c.in_err-next.field-0.0 =
     told_same _ _ f (by.concurrents_any es s (map tree.concurrent_view xs))
-    (by.any_told b tree.concurrent_view xs i x lt c.item-item.is f (c.loop-item.invariant.1.1 es are)
+    (next_told tree.concurrent_view xs i x lt c.item-item.is b f (c.loop-item.invariant.1.1 es are)
     (told_same _ _ f (ap (λ s. broken.concurrent es s (tree.concurrent_view x)) c.loop-item.invariant.0) (c.in_err-next.ensures.told es are))) in
     first_of (search rules, grind (arith, common_steps))
 
@@ -75,7 +76,7 @@ statements-loop-item-preserved m c =
     let given = sym (ap (λ s. steps.concurrent g s (tree.concurrent_view x)) c.loop-item.invariant.0) ∙ c.in_ok-next.ensures.given in
     let left : (es : List EntityView) → AreEntities c.args.entities.now es → any_of (broken.concurrent es (sight_view c.args.sight.now)) (map tree.concurrent_view c.args.list.now)
     ≡ any_of (broken.concurrent es (sight_view c.args.sight.now)) (map tree.concurrent_view (drop (c.loop-item.item-index + 1) c.args.list.now)) =
-    λ es are. by.any_left (broken.concurrent es s) tree.concurrent_view xs i x lt c.item-item.is (c.loop-item.invariant.1.1 es are)
+    λ es are. next_left tree.concurrent_view xs i x lt c.item-item.is (broken.concurrent es s) (c.loop-item.invariant.1.1 es are)
     (by.statement_kept es s g (instance_gives e es are) c.requires.outside (tree.concurrent_view x) _ given) in
     first_of (search rules, grind (arith, common_steps))
 

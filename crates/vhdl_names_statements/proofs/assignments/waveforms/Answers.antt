@@ -7,7 +7,8 @@ use Rattle.vhdl_names_units.specs.views.Sequential as views
 use Rattle.vhdl_names_problems.specs.Broken.{Tells, any_of}
 use Rattle.vhdl_names_problems.specs.Concurrent as broken
 use Rattle.vhdl_names_statements.specs.steps.Concurrent as steps
-use Rattle.vhdl_names_statements.proofs.steps.Told.{more_done, next_told, next_left}
+use Rattle.vhdl_names_labels.proofs.Behind.{next_told, next_left}
+use Rattle.vhdl_names_statements.proofs.steps.Told.{more_done}
 use Rattle.vhdl_names_statements.proofs.steps.Assigning.{branch_kept}
 use Rattle.vhdl_names_statements.proofs.assignments.waveforms.Goals as goal
 

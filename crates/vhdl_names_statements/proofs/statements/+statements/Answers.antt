@@ -21,6 +21,7 @@ use Rattle.vhdl_names_problems.specs.Statements as broken
 use Rattle.vhdl_names_problems.proofs.Telling.{told_same, told_left, told_right, told_on}
 use Rattle.vhdl_names_problems.proofs.kept.Expressions.{condition_kept}
 use Rattle.vhdl_names_problems.proofs.kept.Choices.{choices_kept}
+use Rattle.vhdl_names_labels.proofs.Behind.{next_told, next_left}
 use Rattle.vhdl_names_statements.specs.steps.Cases as cases
 use Rattle.vhdl_names_statements.specs.steps.Sequential as steps
 use Rattle.vhdl_names_statements.specs.steps.Told as told
@@ -61,7 +62,7 @@ statements-returns-in_err-next-clause-told m c =
     let lt : c.loop-item.item-index < length c.args.list.now = omega arith in
     let h : Tells (broken.statements s (tree'.statements_of (map tree.sequential_view xs))) c.in_err-next.field-0.0 =
     told_same _ _ c.in_err-next.field-0.0 (by.statements_any s (map tree.sequential_view xs))
-    (by.next_told tree.sequential_view xs c.loop-item.item-index x lt c.item-item.is (told.labelled s) c.in_err-next.field-0.0 c.loop-item.invariant.2
+    (next_told tree.sequential_view xs c.loop-item.item-index x lt c.item-item.is (told.labelled s) c.in_err-next.field-0.0 c.loop-item.invariant.2
     (told_same _ _ c.in_err-next.field-0.0 (ap (λ e. told.labelled e (tree.sequential_view x)) c.loop-item.invariant.0) c.in_err-next.ensures.told)) in
     first_of (search rules, grind (arith, common_steps))
 
@@ -77,7 +78,7 @@ statements-loop-item-preserved m c =
       c.in_ok-next.ensures.kept ∙ c.loop-item.invariant.0,
       by.more_done tree.sequential_view xs i x lt c.item-item.is (steps.labelled s) (statements_view c.loop-item.all) _ (statement_view c.in_ok-next.next) _ c.loop-item.invariant.1 given
           (ap (map statement_view) c.in_ok-push.ensures.items ∙ map-append statement_view c.loop-item.all.items (c.in_ok-next.next ∷ [])),
-      by.next_left tree.sequential_view xs i x lt c.item-item.is (told.labelled s) c.loop-item.invariant.2 (by.labelled_kept s (tree.sequential_view x) _ given),
+      next_left tree.sequential_view xs i x lt c.item-item.is (told.labelled s) c.loop-item.invariant.2 (by.labelled_kept s (tree.sequential_view x) _ given),
     )
 
 pub branches-returns-in_err-next-clause-told : goal.branches-returns-in_err-next-clause-told
@@ -88,7 +89,7 @@ branches-returns-in_err-next-clause-told m c =
     let lt : c.loop-item.item-index < length c.args.list.now = omega arith in
     let h : Tells (broken.conditionals s (tree'.conditionals_of (map tree.conditional_view xs))) c.in_err-next.field-0.0 =
     told_same _ _ c.in_err-next.field-0.0 (by.conditionals_any s (map tree.conditional_view xs))
-    (by.next_told tree.conditional_view xs c.loop-item.item-index x lt c.item-item.is (told.guarded s) c.in_err-next.field-0.0 c.loop-item.invariant.2
+    (next_told tree.conditional_view xs c.loop-item.item-index x lt c.item-item.is (told.guarded s) c.in_err-next.field-0.0 c.loop-item.invariant.2
     (told_same _ _ c.in_err-next.field-0.0 (ap (λ e. told.guarded e (tree.conditional_view x)) c.loop-item.invariant.0) c.in_err-next.ensures.told)) in
     first_of (search rules, grind (arith, common_steps))
 
@@ -104,7 +105,7 @@ branches-loop-item-preserved m c =
       c.in_ok-next.ensures.kept ∙ c.loop-item.invariant.0,
       by.more_done tree.conditional_view xs i x lt c.item-item.is (steps.guarded s) (branches_view c.loop-item.all) _ (branch_view c.in_ok-next.next) _ c.loop-item.invariant.1 given
           (ap (map branch_view) c.in_ok-push.ensures.items ∙ map-append branch_view c.loop-item.all.items (c.in_ok-next.next ∷ [])),
-      by.next_left tree.conditional_view xs i x lt c.item-item.is (told.guarded s) c.loop-item.invariant.2 (by.guarded_kept s (tree.conditional_view x) _ given),
+      next_left tree.conditional_view xs i x lt c.item-item.is (told.guarded s) c.loop-item.invariant.2 (by.guarded_kept s (tree.conditional_view x) _ given),
     )
 
 pub alternatives-returns-in_err-next-clause-told : goal.alternatives-returns-in_err-next-clause-told
@@ -115,7 +116,7 @@ alternatives-returns-in_err-next-clause-told m c =
     let lt : c.loop-item.item-index < length c.args.list.now = omega arith in
     let h : Tells (broken.alternatives s c.args.selected (tree'.alternatives_of (map tree.alternative_view xs))) c.in_err-next.field-0.0 =
     told_same _ _ c.in_err-next.field-0.0 (by.alternatives_any s c.args.selected (map tree.alternative_view xs))
-    (by.next_told tree.alternative_view xs c.loop-item.item-index x lt c.item-item.is (told.alternative s c.args.selected) c.in_err-next.field-0.0 c.loop-item.invariant.2
+    (next_told tree.alternative_view xs c.loop-item.item-index x lt c.item-item.is (told.alternative s c.args.selected) c.in_err-next.field-0.0 c.loop-item.invariant.2
     (told_same _ _ c.in_err-next.field-0.0 (ap (λ e. told.alternative e c.args.selected (tree.alternative_view x)) c.loop-item.invariant.0) c.in_err-next.ensures.told)) in
     first_of (search rules, grind (arith, common_steps))
 
@@ -131,7 +132,7 @@ alternatives-loop-item-preserved m c =
       c.in_ok-next.ensures.kept ∙ c.loop-item.invariant.0,
       by.more_done tree.alternative_view xs i x lt c.item-item.is (cases.chosen s c.args.selected) (alternatives_view c.loop-item.all) _ (alternative_view c.in_ok-next.next) _ c.loop-item.invariant.1 given
           (ap (map alternative_view) c.in_ok-push.ensures.items ∙ map-append alternative_view c.loop-item.all.items (c.in_ok-next.next ∷ [])),
-      by.next_left tree.alternative_view xs i x lt c.item-item.is (told.alternative s c.args.selected) c.loop-item.invariant.2 (by.alternative_kept s c.args.selected (tree.alternative_view x) _ given),
+      next_left tree.alternative_view xs i x lt c.item-item.is (told.alternative s c.args.selected) c.loop-item.invariant.2 (by.alternative_kept s c.args.selected (tree.alternative_view x) _ given),
     )
 
 pub statement-returns-in-SignalAssignment-clause-told : goal.statement-returns-in-SignalAssignment-clause-told
@@ -296,21 +297,12 @@ case_parts-returns-in_err-all-clause-given m c =
     let s = sight_view c.args.sight.now in
     let k = c.args.selected in
     let l = tree.option_ident_view c.args.label.now in
-    let alts = tree.alternatives_view (out-Case c.args.case.now).alternatives in
+    let xs = (out-Case c.args.case.now).alternatives.items in
     let end = tree.option_ident_view (out-Case c.args.case.now).end_label in
-    let at = (out-Case c.args.case.now).at in
-    let b = broken.alternatives s k (tree'.alternatives_of alts) in
-    let found = each (cases.chosen s k) alts in
-    let lists : cases.all_lists c.deref-3.result.now ≡ cases.choice_lists alts =
-    ap cases.all_lists c.deref-3.ensures.value ∙ c.in_ok-lists.ensures ∙ ap (λ xs. cases.choice_lists (map tree.alternative_view xs)) c.deref.ensures.value in
-    let given : Gives alternatives_view found c.alternatives-all.result =
-    gives_along alternatives_view _ _ _ (ap (λ xs. each (cases.chosen s k) (map tree.alternative_view xs)) (sym c.deref-2.ensures.value)) c.alternatives-all.ensures.given in
-    let has : IfOk c.alternatives-all.result (told.HasChoices (sight_view c.alternatives-all.new.sight) k (cases.all_lists c.deref-3.result.now)) =
-    part.on_given alternatives_view (told.HasChoices (sight_view c.alternatives-all.new.sight) k (cases.all_lists c.deref-3.result.now)) found _ given
-    (λ x e. ap (λ o. each (are.choices o k) (cases.all_lists c.deref-3.result.now)) c.alternatives-all.ensures.kept ∙ ap (each (are.choices s k)) lists
-    ∙ part.case_there s k alts (alternatives_view x) e) in
-    let none : c.in_err-all.field-0.0 ≢ NoMemory → cases.parts s k l alts end ≡ None =
-    λ n. part.case_by s k alts l end None (ap (λ x. cases.covering k x found) (sym lists) ∙ c.in_err-all.ensures.given found given has n) in
+    let read = part.read s k xs _ _ _ _ _ _ c.deref.ensures.value c.deref-2.ensures.value c.deref-3.ensures.value c.in_ok-lists.ensures c.alternatives-all.ensures.kept
+    c.alternatives-all.ensures.given in
+    let none : c.in_err-all.field-0.0 ≢ NoMemory → cases.parts s k l (map tree.alternative_view xs) end ≡ None =
+    λ n. part.case_by s k (map tree.alternative_view xs) l end None (part.read_covering s k xs (sight_view c.alternatives-all.new.sight) (cases.all_lists c.deref-3.result.now) c.alternatives-all.result read None (λ found g h. c.in_err-all.ensures.given found g h n)) in
     first_of (search rules, grind (arith, common_steps))
 
 pub case_parts-returns-in_err-all-clause-told : goal.case_parts-returns-in_err-all-clause-told
@@ -318,28 +310,14 @@ case_parts-returns-in_err-all-clause-told m c =
     let s = sight_view c.args.sight.now in
     let k = c.args.selected in
     let l = tree.option_ident_view c.args.label.now in
-    let alts = tree.alternatives_view (out-Case c.args.case.now).alternatives in
+    let xs = (out-Case c.args.case.now).alternatives.items in
     let end = tree.option_ident_view (out-Case c.args.case.now).end_label in
     let at = (out-Case c.args.case.now).at in
-    let b = broken.alternatives s k (tree'.alternatives_of alts) in
-    let found = each (cases.chosen s k) alts in
-    let lists : cases.all_lists c.deref-3.result.now ≡ cases.choice_lists alts =
-    ap cases.all_lists c.deref-3.ensures.value ∙ c.in_ok-lists.ensures ∙ ap (λ xs. cases.choice_lists (map tree.alternative_view xs)) c.deref.ensures.value in
-    let given : Gives alternatives_view found c.alternatives-all.result =
-    gives_along alternatives_view _ _ _ (ap (λ xs. each (cases.chosen s k) (map tree.alternative_view xs)) (sym c.deref-2.ensures.value)) c.alternatives-all.ensures.given in
-    let has : IfOk c.alternatives-all.result (told.HasChoices (sight_view c.alternatives-all.new.sight) k (cases.all_lists c.deref-3.result.now)) =
-    part.on_given alternatives_view (told.HasChoices (sight_view c.alternatives-all.new.sight) k (cases.all_lists c.deref-3.result.now)) found _ given
-    (λ x e. ap (λ o. each (are.choices o k) (cases.all_lists c.deref-3.result.now)) c.alternatives-all.ensures.kept ∙ ap (each (are.choices s k)) lists
-    ∙ part.case_there s k alts (alternatives_view x) e) in
-    let wrong : IfErr c.alternatives-all.result (Tells b) =
-    by.on_along _ b _ (ap (λ xs. broken.alternatives s k (tree'.alternatives_of (map tree.alternative_view xs))) c.deref-2.ensures.value) c.alternatives-all.ensures.told in
-    let fine : IfOk c.alternatives-all.result (λ _. b ≡ nothing) =
-    part.on_given alternatives_view (λ _. b ≡ nothing) found _ given (λ x e. by.alternatives_kept s k alts (alternatives_view x) e) in
-    let h : Tells (told.parts s k l at alts end) c.in_err-all.field-0.0 =
-    part.parts_cover s k alts l end at c.in_err-all.field-0.0
-    (told_same _ _ c.in_err-all.field-0.0
-    (ap (λ o. covered o k at (cases.all_lists c.deref-3.result.now) b) c.alternatives-all.ensures.kept ∙ ap (λ x. covered s k at x b) lists)
-    (c.in_err-all.ensures.told b wrong fine has)) in
+    let read = part.read s k xs _ _ _ _ _ _ c.deref.ensures.value c.deref-2.ensures.value c.deref-3.ensures.value c.in_ok-lists.ensures c.alternatives-all.ensures.kept
+    c.alternatives-all.ensures.given in
+    let h : Tells (told.parts s k l at (map tree.alternative_view xs) end) c.in_err-all.field-0.0 =
+    part.parts_cover s k (map tree.alternative_view xs) l end at c.in_err-all.field-0.0
+    (part.read_told s k xs _ _ _ read at _ c.in_err-all.field-0.0 c.deref-2.ensures.value c.alternatives-all.ensures.kept c.alternatives-all.ensures.told c.in_err-all.ensures.told) in
     first_of (search rules, grind (arith, common_steps))
 
 pub case_parts-returns-in_err-all-2-clause-given : goal.case_parts-returns-in_err-all-2-clause-given
@@ -347,22 +325,13 @@ case_parts-returns-in_err-all-2-clause-given m c =
     let s = sight_view c.args.sight.now in
     let k = c.args.selected in
     let l = tree.option_ident_view c.args.label.now in
-    let alts = tree.alternatives_view (out-Case c.args.case.now).alternatives in
+    let xs = (out-Case c.args.case.now).alternatives.items in
     let end = tree.option_ident_view (out-Case c.args.case.now).end_label in
-    let at = (out-Case c.args.case.now).at in
-    let b = broken.alternatives s k (tree'.alternatives_of alts) in
-    let found = each (cases.chosen s k) alts in
-    let lists : cases.all_lists c.deref-3.result.now ≡ cases.choice_lists alts =
-    ap cases.all_lists c.deref-3.ensures.value ∙ c.in_ok-lists.ensures ∙ ap (λ xs. cases.choice_lists (map tree.alternative_view xs)) c.deref.ensures.value in
-    let given : Gives alternatives_view found c.alternatives-all.result =
-    gives_along alternatives_view _ _ _ (ap (λ xs. each (cases.chosen s k) (map tree.alternative_view xs)) (sym c.deref-2.ensures.value)) c.alternatives-all.ensures.given in
-    let has : IfOk c.alternatives-all.result (told.HasChoices (sight_view c.alternatives-all.new.sight) k (cases.all_lists c.deref-3.result.now)) =
-    part.on_given alternatives_view (told.HasChoices (sight_view c.alternatives-all.new.sight) k (cases.all_lists c.deref-3.result.now)) found _ given
-    (λ x e. ap (λ o. each (are.choices o k) (cases.all_lists c.deref-3.result.now)) c.alternatives-all.ensures.kept ∙ ap (each (are.choices s k)) lists
-    ∙ part.case_there s k alts (alternatives_view x) e) in
-    let none : c.in_err-all-2.field-0.0 ≢ NoMemory → cases.parts s k l alts end ≡ None =
-    λ n. part.case_by s k alts l end (Some (alternatives_view c.in_ok-all.all))
-    (ap (λ x. cases.covering k x found) (sym lists) ∙ c.in_ok-all.ensures.given found given has)
+    let read = part.read s k xs _ _ _ _ _ _ c.deref.ensures.value c.deref-2.ensures.value c.deref-3.ensures.value c.in_ok-lists.ensures c.alternatives-all.ensures.kept
+    c.alternatives-all.ensures.given in
+    let covered = part.read_covering s k xs (sight_view c.alternatives-all.new.sight) (cases.all_lists c.deref-3.result.now) c.alternatives-all.result read (Some (alternatives_view c.in_ok-all.all)) c.in_ok-all.ensures.given in
+    let none : c.in_err-all-2.field-0.0 ≢ NoMemory → cases.parts s k l (map tree.alternative_view xs) end ≡ None =
+    λ n. part.case_by s k (map tree.alternative_view xs) l end (Some (alternatives_view c.in_ok-all.all)) covered
     ∙ ap (λ o. o >> cases.but_last (alternatives_view c.in_ok-all.all)) (c.in_err-all-2.ensures.asked n) in
     first_of (search rules, grind (arith, common_steps))
 
@@ -371,22 +340,14 @@ case_parts-returns-in_err-all-2-clause-told m c =
     let s = sight_view c.args.sight.now in
     let k = c.args.selected in
     let l = tree.option_ident_view c.args.label.now in
-    let alts = tree.alternatives_view (out-Case c.args.case.now).alternatives in
+    let xs = (out-Case c.args.case.now).alternatives.items in
     let end = tree.option_ident_view (out-Case c.args.case.now).end_label in
     let at = (out-Case c.args.case.now).at in
-    let b = broken.alternatives s k (tree'.alternatives_of alts) in
-    let found = each (cases.chosen s k) alts in
-    let lists : cases.all_lists c.deref-3.result.now ≡ cases.choice_lists alts =
-    ap cases.all_lists c.deref-3.ensures.value ∙ c.in_ok-lists.ensures ∙ ap (λ xs. cases.choice_lists (map tree.alternative_view xs)) c.deref.ensures.value in
-    let given : Gives alternatives_view found c.alternatives-all.result =
-    gives_along alternatives_view _ _ _ (ap (λ xs. each (cases.chosen s k) (map tree.alternative_view xs)) (sym c.deref-2.ensures.value)) c.alternatives-all.ensures.given in
-    let has : IfOk c.alternatives-all.result (told.HasChoices (sight_view c.alternatives-all.new.sight) k (cases.all_lists c.deref-3.result.now)) =
-    part.on_given alternatives_view (told.HasChoices (sight_view c.alternatives-all.new.sight) k (cases.all_lists c.deref-3.result.now)) found _ given
-    (λ x e. ap (λ o. each (are.choices o k) (cases.all_lists c.deref-3.result.now)) c.alternatives-all.ensures.kept ∙ ap (each (are.choices s k)) lists
-    ∙ part.case_there s k alts (alternatives_view x) e) in
-    let h : Tells (told.parts s k l at alts end) c.in_err-all-2.field-0.0 =
-    part.parts_ends s k alts l end at c.in_err-all-2.field-0.0 (alternatives_view c.in_ok-all.all)
-    (ap (λ x. cases.covering k x found) (sym lists) ∙ c.in_ok-all.ensures.given found given has) c.in_err-all-2.ensures.told in
+    let read = part.read s k xs _ _ _ _ _ _ c.deref.ensures.value c.deref-2.ensures.value c.deref-3.ensures.value c.in_ok-lists.ensures c.alternatives-all.ensures.kept
+    c.alternatives-all.ensures.given in
+    let covered = part.read_covering s k xs (sight_view c.alternatives-all.new.sight) (cases.all_lists c.deref-3.result.now) c.alternatives-all.result read (Some (alternatives_view c.in_ok-all.all)) c.in_ok-all.ensures.given in
+    let h : Tells (told.parts s k l at (map tree.alternative_view xs) end) c.in_err-all-2.field-0.0 =
+    part.parts_ends s k (map tree.alternative_view xs) l end at c.in_err-all-2.field-0.0 (alternatives_view c.in_ok-all.all) covered c.in_err-all-2.ensures.told in
     first_of (search rules, grind (arith, common_steps))
 
 pub case_parts-returns-clause-given : goal.case_parts-returns-clause-given
@@ -394,22 +355,13 @@ case_parts-returns-clause-given m c =
     let s = sight_view c.args.sight.now in
     let k = c.args.selected in
     let l = tree.option_ident_view c.args.label.now in
-    let alts = tree.alternatives_view (out-Case c.args.case.now).alternatives in
+    let xs = (out-Case c.args.case.now).alternatives.items in
     let end = tree.option_ident_view (out-Case c.args.case.now).end_label in
-    let at = (out-Case c.args.case.now).at in
-    let b = broken.alternatives s k (tree'.alternatives_of alts) in
-    let found = each (cases.chosen s k) alts in
-    let lists : cases.all_lists c.deref-3.result.now ≡ cases.choice_lists alts =
-    ap cases.all_lists c.deref-3.ensures.value ∙ c.in_ok-lists.ensures ∙ ap (λ xs. cases.choice_lists (map tree.alternative_view xs)) c.deref.ensures.value in
-    let given : Gives alternatives_view found c.alternatives-all.result =
-    gives_along alternatives_view _ _ _ (ap (λ xs. each (cases.chosen s k) (map tree.alternative_view xs)) (sym c.deref-2.ensures.value)) c.alternatives-all.ensures.given in
-    let has : IfOk c.alternatives-all.result (told.HasChoices (sight_view c.alternatives-all.new.sight) k (cases.all_lists c.deref-3.result.now)) =
-    part.on_given alternatives_view (told.HasChoices (sight_view c.alternatives-all.new.sight) k (cases.all_lists c.deref-3.result.now)) found _ given
-    (λ x e. ap (λ o. each (are.choices o k) (cases.all_lists c.deref-3.result.now)) c.alternatives-all.ensures.kept ∙ ap (each (are.choices s k)) lists
-    ∙ part.case_there s k alts (alternatives_view x) e) in
+    let read = part.read s k xs _ _ _ _ _ _ c.deref.ensures.value c.deref-2.ensures.value c.deref-3.ensures.value c.in_ok-lists.ensures c.alternatives-all.ensures.kept
+    c.alternatives-all.ensures.given in
+    let covered = part.read_covering s k xs (sight_view c.alternatives-all.new.sight) (cases.all_lists c.deref-3.result.now) c.alternatives-all.result read (Some (alternatives_view c.in_ok-all.all)) c.in_ok-all.ensures.given in
     gives_along _ _ _ _
-    (part.case_by s k alts l end (Some (alternatives_view c.in_ok-all.all))
-    (ap (λ x. cases.covering k x found) (sym lists) ∙ c.in_ok-all.ensures.given found given has)
+    (part.case_by s k (map tree.alternative_view xs) l end (Some (alternatives_view c.in_ok-all.all)) covered
     ∙ ap (λ o. o >> cases.but_last (alternatives_view c.in_ok-all.all)) c.in_ok-all-2.ensures.asked
     ∙ ap (λ v. cases.but_last (alternatives_view v)) (sym c.in_ok-all-2.ensures.same))
     c.but_last.ensures.given
@@ -419,21 +371,13 @@ case_parts-returns-clause-told m c =
     let s = sight_view c.args.sight.now in
     let k = c.args.selected in
     let l = tree.option_ident_view c.args.label.now in
-    let alts = tree.alternatives_view (out-Case c.args.case.now).alternatives in
+    let xs = (out-Case c.args.case.now).alternatives.items in
     let end = tree.option_ident_view (out-Case c.args.case.now).end_label in
     let at = (out-Case c.args.case.now).at in
-    let b = broken.alternatives s k (tree'.alternatives_of alts) in
-    let found = each (cases.chosen s k) alts in
-    let lists : cases.all_lists c.deref-3.result.now ≡ cases.choice_lists alts =
-    ap cases.all_lists c.deref-3.ensures.value ∙ c.in_ok-lists.ensures ∙ ap (λ xs. cases.choice_lists (map tree.alternative_view xs)) c.deref.ensures.value in
-    let given : Gives alternatives_view found c.alternatives-all.result =
-    gives_along alternatives_view _ _ _ (ap (λ xs. each (cases.chosen s k) (map tree.alternative_view xs)) (sym c.deref-2.ensures.value)) c.alternatives-all.ensures.given in
-    let has : IfOk c.alternatives-all.result (told.HasChoices (sight_view c.alternatives-all.new.sight) k (cases.all_lists c.deref-3.result.now)) =
-    part.on_given alternatives_view (told.HasChoices (sight_view c.alternatives-all.new.sight) k (cases.all_lists c.deref-3.result.now)) found _ given
-    (λ x e. ap (λ o. each (are.choices o k) (cases.all_lists c.deref-3.result.now)) c.alternatives-all.ensures.kept ∙ ap (each (are.choices s k)) lists
-    ∙ part.case_there s k alts (alternatives_view x) e) in
-    told_on _ (told.parts s k l at alts end) _
-    (λ f h. part.parts_none s k alts l end at f (alternatives_view c.in_ok-all.all)
-    (ap (λ x. cases.covering k x found) (sym lists) ∙ c.in_ok-all.ensures.given found given has) c.in_ok-all-2.ensures.asked
+    let read = part.read s k xs _ _ _ _ _ _ c.deref.ensures.value c.deref-2.ensures.value c.deref-3.ensures.value c.in_ok-lists.ensures c.alternatives-all.ensures.kept
+    c.alternatives-all.ensures.given in
+    let covered = part.read_covering s k xs (sight_view c.alternatives-all.new.sight) (cases.all_lists c.deref-3.result.now) c.alternatives-all.result read (Some (alternatives_view c.in_ok-all.all)) c.in_ok-all.ensures.given in
+    told_on _ (told.parts s k l at (map tree.alternative_view xs) end) _
+    (λ f h. part.parts_none s k (map tree.alternative_view xs) l end at f (alternatives_view c.in_ok-all.all) covered c.in_ok-all-2.ensures.asked
     (told_same _ _ f (ap (λ v. any_alternative at (alternatives_view v)) c.in_ok-all-2.ensures.same) h))
     c.but_last.ensures.told
