@@ -25,7 +25,7 @@ use Rattle.rtl_net_facts.proofs.Members.{same_members}
 use Rattle.rtl_check.specs.declared.rule.Rule.{Rule}
 use Rattle.rtl_check.specs.declared.rule.Rule.TheVariants.{ClockNotInput, EdgeNotSensitive, ClockAsData, MissingSensitivity, Latch}
 use Rattle.rtl_net.specs.Core.{core}
-use Rattle.rtl_check.specs.Views.{reset_net, tested, IsClocking, IsKind}
+use Rattle.rtl_check.specs.Views.{reset_net, nets_tested, IsClocking, IsKind}
 use Rattle.rtl_check.specs.Rules.{fault_of, is_data, clocked_breaks, combinational_breaks, breaks, AreClockNets}
 use Rattle.rtl_check.proofs.Processes.{many_processes, process_is}
 
@@ -135,8 +135,8 @@ module _ (net : NetlistView) (clocks : List ℕ) (cs : AreClockNets (core net) c
         go (inl e) w = inl (c.clock, clock_of c.clock refl, in_contains (process (core net) p).acting_reads n e)
         go (inr e) (inl w) = inr (reset_to n w)
         go (inr e) (inr w) =
-            let both : (is_in n (tested c) || is_in n (process (core net) p).acting_reads) ≡ true = sym (d.reads n) ∙ (sym (reads_are n) ∙ r) in
-            clocked (or_cases (is_in n (tested c)) (is_in n (process (core net) p).acting_reads) both)
+            let both : (is_in n (nets_tested c) || is_in n (process (core net) p).acting_reads) ≡ true = sym (d.reads n) ∙ (sym (reads_are n) ∙ r) in
+            clocked (or_cases (is_in n (nets_tested c)) (is_in n (process (core net) p).acting_reads) both)
           where
             own : (c.clock == n) ≡ true → (c.reads_clock ≡ true)
             own g = by (or_cases (not (n == c.clock)) (c.reads_clock || is_in n (option_to_list c.reset)) u)
@@ -152,7 +152,7 @@ module _ (net : NetlistView) (clocks : List ℕ) (cs : AreClockNets (core net) c
                 by (inl h) = let z : true ≡ false = sym same ∙ not-true (n == c.clock) h in absurd cc
                 by (inr h) = inner (or_cases c.reads_clock (is_in n (option_to_list c.reset)) h)
 
-            clocked : (is_in n (tested c) ≡ true) ⊎ (is_in n (process (core net) p).acting_reads ≡ true)
+            clocked : (is_in n (nets_tested c) ≡ true) ⊎ (is_in n (process (core net) p).acting_reads ≡ true)
                 → ((clock : ℕ) × IsClockOf (core net) p clock × Contains (process (core net) p).acting_reads n) ⊎ IsResetOf (core net) p n
             clocked (inr h) = let z : true ≡ false = sym h ∙ e in absurd cc
             clocked (inl h) = by (or_cases (c.clock == n) (is_in n (option_to_list c.reset)) h)
@@ -169,7 +169,7 @@ module _ (net : NetlistView) (clocks : List ℕ) (cs : AreClockNets (core net) c
         → (is_in n x.reads.items ≡ true) × (is_data c n ≡ true)
     data_from n (inl (clock, same, r)) =
         let acts = contains_in (process (core net) p).acting_reads n r in
-        (reads_are n ∙ (d.reads n ∙ or_right (is_in n (tested c)) (is_in n (process (core net) p).acting_reads) acts), go acts (cases_Bool (n == c.clock)))
+        (reads_are n ∙ (d.reads n ∙ or_right (is_in n (nets_tested c)) (is_in n (process (core net) p).acting_reads) acts), go acts (cases_Bool (n == c.clock)))
       where
         go : is_in n (process (core net) p).acting_reads ≡ true → ((n == c.clock) ≡ true) ⊎ ((n == c.clock) ≡ false) → is_data c n ≡ true
         go acts (inl e) =
@@ -178,7 +178,7 @@ module _ (net : NetlistView) (clocks : List ℕ) (cs : AreClockNets (core net) c
         go acts (inr e) = or_left (not (n == c.clock)) (c.reads_clock || is_in n (option_to_list c.reset)) (not_from_false (n == c.clock) e)
     data_from n (inr r) =
         let w = reset_from n r in (
-          reads_are n ∙ (d.reads n ∙ or_left (is_in n (tested c)) (is_in n (process (core net) p).acting_reads) (or_right (c.clock == n) (is_in n (option_to_list c.reset)) w)),
+          reads_are n ∙ (d.reads n ∙ or_left (is_in n (nets_tested c)) (is_in n (process (core net) p).acting_reads) (or_right (c.clock == n) (is_in n (option_to_list c.reset)) w)),
           or_right (not (n == c.clock)) (c.reads_clock || is_in n (option_to_list c.reset)) (or_right c.reads_clock (is_in n (option_to_list c.reset)) w),
         )
 
@@ -187,7 +187,7 @@ module _ (net : NetlistView) (clocks : List ℕ) (cs : AreClockNets (core net) c
         let (a, b) = and_parts (is_in n (c.clock ∷ [])) (not (is_in n net.inputs)) t in
         (clock_of n (alone n a), λ i. let h : true ≡ false = sym i ∙ not-true (is_in n net.inputs) b in cc)
     clocked_to EdgeNotSensitive n t =
-        let (a, b) = and_parts (is_in n (tested c)) (not (is_in n x.wakes.items)) t in
+        let (a, b) = and_parts (is_in n (nets_tested c)) (not (is_in n x.wakes.items)) t in
         (go (or_cases (c.clock == n) (is_in n (option_to_list c.reset)) a), asleep n b)
       where
         go : ((c.clock == n) ≡ true) ⊎ (is_in n (option_to_list c.reset) ≡ true) → IsClockOf (core net) p n ⊎ IsResetOf (core net) p n
@@ -208,9 +208,9 @@ module _ (net : NetlistView) (clocks : List ℕ) (cs : AreClockNets (core net) c
         go (inr e) = not_from_false (is_in n net.inputs) e
 
     edge_from : (n : ℕ) → IsFault (core net) (f.EdgeNotSensitive p n) → clocked_breaks net.inputs clocks x c EdgeNotSensitive n ≡ true
-    edge_from n (k, w) = and_from (is_in n (tested c)) (not (is_in n x.wakes.items)) (go k) (not_awake n w)
+    edge_from n (k, w) = and_from (is_in n (nets_tested c)) (not (is_in n x.wakes.items)) (go k) (not_awake n w)
       where
-        go : IsClockOf (core net) p n ⊎ IsResetOf (core net) p n → is_in n (tested c) ≡ true
+        go : IsClockOf (core net) p n ⊎ IsResetOf (core net) p n → is_in n (nets_tested c) ≡ true
         go (inl h) = or_left (c.clock == n) (is_in n (option_to_list c.reset)) (eq-eqb c.clock n (clock_back n h))
         go (inr h) = or_right (c.clock == n) (is_in n (option_to_list c.reset)) (reset_from n h)
 

@@ -13,7 +13,7 @@ use Rattle.rtl_model.specs.simulation.Faults.{fault_number, fault_place, fault_k
 use Rattle.rtl_model.proofs.basics.Lists.{Contains-none}
 use Rattle.rtl_check.specs.declared.fault.CheckFault.{CheckFault}
 use Rattle.rtl_check.specs.Views.{fault_view}
-use Rattle.rtl_check.specs.Listing.{first_named, numbered, below_place, one_place, up_to, AddsFaults}
+use Rattle.rtl_check.specs.Listing.{first_named, is_of_number, below_place, one_place, up_to, AddsFaults}
 
 -- ---- pairs of two lists
 
@@ -128,8 +128,8 @@ first_less (x ∷ xs) (y ∷ ys) l m = inl m
 
 below_then_at : (k p : ℕ) → (k ≡ 8 → ⊥) → (x y : Fault) → below_place k p x ≡ true → one_place k p y ≡ true → IsLess (fault_key x) (fault_key y)
 below_then_at k p other x y s t =
-    let (a, b) = and_parts (numbered k x) (nat_lt (first_named x) p) s in
-    let (c, d) = and_parts (numbered k y) (first_named y == p) t in
+    let (a, b) = and_parts (is_of_number k x) (nat_lt (first_named x) p) s in
+    let (c, d) = and_parts (is_of_number k y) (first_named y == p) t in
     let e = eqb-true (fault_number x) k a in
     let g = eqb-true (fault_number y) k c in
     let l = ltb-true (first_named x) p b in
@@ -165,7 +165,7 @@ le_next a j = go (cases_order a (suc j))
         below_itself l e = omega arith
 
 next_place : (k p : ℕ) (x : Fault) → below_place k (p + 1) x ≡ (below_place k p x || one_place k p x)
-next_place k p x = ap (λ (b : Bool). numbered k x && b) (lt_next (first_named x) p) ∙ spread (numbered k x) (nat_lt (first_named x) p) (first_named x == p)
+next_place k p x = ap (λ (b : Bool). is_of_number k x && b) (lt_next (first_named x) p) ∙ spread (is_of_number k x) (nat_lt (first_named x) p) (first_named x == p)
   where
     spread : (a b c : Bool) → (a && (b || c)) ≡ ((a && b) || (a && c))
     spread true b c = refl
@@ -183,7 +183,7 @@ pub adds_place : (net : Netlist) (k p : ℕ) (old mid new : List CheckFault) →
 adds_place net k p old mid new other a b = adds_on net (below_place k p) (one_place k p) (below_place k (p + 1)) old mid new a b (next_place k p) (below_then_at k p other)
 
 none_below : (k : ℕ) (x : Fault) → below_place k 0 x ≡ true → ⊥
-none_below k x e = let (a, b) = and_parts (numbered k x) (nat_lt (first_named x) 0) e in let l = ltb-true (first_named x) 0 b in omega arith
+none_below k x e = let (a, b) = and_parts (is_of_number k x) (nat_lt (first_named x) 0) e in let l = ltb-true (first_named x) 0 b in omega arith
 
 pub adds_nothing : (net : Netlist) (a : Fault → Bool) (old : List CheckFault) → ((x : Fault) → IsFault net x → a x ≡ true → ⊥) → AddsFaults net a old old
 adds_nothing net a old none = record { added = []; is = sym (append-nil old); are = no_faults net a none }
@@ -193,14 +193,14 @@ adds_first net k old = adds_nothing net (below_place k 0) old (λ x is e. none_b
 
 -- all of a number, where none names more
 pub adds_all : (net : Netlist) (k p : ℕ) (old new : List CheckFault) → ((x : Fault) → IsFault net x → fault_number x ≡ k → first_named x < p)
-    → AddsFaults net (below_place k p) old new → AddsFaults net (numbered k) old new
-adds_all net k p old new bounded h = record { added = h.added; is = h.is; are = renamed net (below_place k p) (numbered k) (map fault_view h.added) same h.are }
+    → AddsFaults net (below_place k p) old new → AddsFaults net (is_of_number k) old new
+adds_all net k p old new bounded h = record { added = h.added; is = h.is; are = renamed net (below_place k p) (is_of_number k) (map fault_view h.added) same h.are }
   where
-    same : (x : Fault) → IsFault net x → below_place k p x ≡ numbered k x
-    same x is = go (cases_Bool (numbered k x))
+    same : (x : Fault) → IsFault net x → below_place k p x ≡ is_of_number k x
+    same x is = go (cases_Bool (is_of_number k x))
       where
-        go : (numbered k x ≡ true) ⊎ (numbered k x ≡ false) → below_place k p x ≡ numbered k x
-        go (inl e) = and_from (numbered k x) (nat_lt (first_named x) p) e (lt-ltb (first_named x) p (bounded x is (eqb-true (fault_number x) k e))) ∙ sym e
+        go : (is_of_number k x ≡ true) ⊎ (is_of_number k x ≡ false) → below_place k p x ≡ is_of_number k x
+        go (inl e) = and_from (is_of_number k x) (nat_lt (first_named x) p) e (lt-ltb (first_named x) p (bounded x is (eqb-true (fault_number x) k e))) ∙ sym e
         go (inr e) = ap (λ (b : Bool). b && nat_lt (first_named x) p) e ∙ sym e
 
 pub adds_one : (net : Netlist) (a : Fault → Bool) (old new : List CheckFault) (x : CheckFault) → new ≡ old ++ x ∷ [] → IsFault net (fault_view x) → a (fault_view x) ≡ true
@@ -209,23 +209,23 @@ adds_one net a old new x e is t only = record { added = x ∷ []; is = e; are = 
 
 -- ---- one number after another
 
-number_then : (j k : ℕ) → j < k → (x y : Fault) → up_to j x ≡ true → numbered k y ≡ true → IsLess (fault_key x) (fault_key y)
+number_then : (j k : ℕ) → j < k → (x y : Fault) → up_to j x ≡ true → is_of_number k y ≡ true → IsLess (fault_key x) (fault_key y)
 number_then j k l x y s t =
     let a = leb-true (fault_number x) j s in
     let b = eqb-true (fault_number y) k t in
     inl (omega arith)
 
-pub adds_number : (net : Netlist) (j : ℕ) (old mid new : List CheckFault) → AddsFaults net (up_to j) old mid → AddsFaults net (numbered (suc j)) mid new → AddsFaults net (up_to (suc j)) old new
-adds_number net j old mid new a b = adds_on net (up_to j) (numbered (suc j)) (up_to (suc j)) old mid new a b next (number_then j (suc j) (omega arith))
+pub adds_number : (net : Netlist) (j : ℕ) (old mid new : List CheckFault) → AddsFaults net (up_to j) old mid → AddsFaults net (is_of_number (suc j)) mid new → AddsFaults net (up_to (suc j)) old new
+adds_number net j old mid new a b = adds_on net (up_to j) (is_of_number (suc j)) (up_to (suc j)) old mid new a b next (number_then j (suc j) (omega arith))
   where
-    next : (x : Fault) → up_to (suc j) x ≡ (up_to j x || numbered (suc j) x)
+    next : (x : Fault) → up_to (suc j) x ≡ (up_to j x || is_of_number (suc j) x)
     next x = le_next (fault_number x) j
 
 -- the faults but loops are those up to 7, and then those of 9
-pub all_but_loops : (net : Netlist) (mid new : List CheckFault) → AddsFaults net (up_to 7) [] mid → AddsFaults net (numbered 9) mid new → AreFaultsButLoops net (map fault_view new)
+pub all_but_loops : (net : Netlist) (mid new : List CheckFault) → AddsFaults net (up_to 7) [] mid → AddsFaults net (is_of_number 9) mid new → AreFaultsButLoops net (map fault_view new)
 all_but_loops net mid new a b = subst (λ (xs : List CheckFault). AreFaultsOf net is_no_loop (map fault_view xs)) (sym h.is) h.are
   where
-    each : (x : Fault) → is_no_loop x ≡ (up_to 7 x || numbered 9 x)
+    each : (x : Fault) → is_no_loop x ≡ (up_to 7 x || is_of_number 9 x)
     each (f.TwoDrivers n s t) = refl
     each (f.MixedProcess p) = refl
     each (f.ClockNotInput p n) = refl
@@ -237,7 +237,7 @@ all_but_loops net mid new a b = subst (λ (xs : List CheckFault). AreFaultsOf ne
     each (f.StoredVariable p v e) = refl
 
     h : AddsFaults net is_no_loop [] new
-    h = adds_on net (up_to 7) (numbered 9) is_no_loop [] mid new a b each (number_then 7 9 (omega arith))
+    h = adds_on net (up_to 7) (is_of_number 9) is_no_loop [] mid new a b each (number_then 7 9 (omega arith))
 
 pub none_up_to : (net : Netlist) → AddsFaults net (up_to 0) [] []
 none_up_to net = adds_nothing net (up_to 0) [] none

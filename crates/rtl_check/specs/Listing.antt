@@ -11,14 +11,14 @@ abbrev pub first_named : Fault → ℕ
 first_named fault = slice_index (fault_place fault) 0
 
 -- of this number; those that name first a number below a bound, or this very one; of this number or a lower one
-abbrev pub numbered : ℕ → Fault → Bool
-numbered k fault = fault_number fault == k
+abbrev pub is_of_number : ℕ → Fault → Bool
+is_of_number k fault = fault_number fault == k
 
 abbrev pub below_place : ℕ → (bound : ℕ) → Fault → Bool
-below_place k bound fault = numbered k fault && nat_lt (first_named fault) bound
+below_place k bound fault = is_of_number k fault && nat_lt (first_named fault) bound
 
 abbrev pub one_place : ℕ → (first : ℕ) → Fault → Bool
-one_place k first fault = numbered k fault && (first_named fault == first)
+one_place k first fault = is_of_number k fault && (first_named fault == first)
 
 abbrev pub up_to : ℕ → Fault → Bool
 up_to k fault = nat_le (fault_number fault) k

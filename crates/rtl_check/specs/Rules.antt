@@ -13,7 +13,7 @@ use Rattle.rtl_net_facts.specs.declared.kinds.ProcessKind.TheVariants as k
 use Rattle.rtl_net_facts.specs.Reading.{is_in}
 use Rattle.rtl_net_facts.specs.Paths.{driven, to_net}
 use Rattle.rtl_check.specs.declared.fault.CheckFault.{CheckFault}
-use Rattle.rtl_check.specs.Views.{tested, fault_view}
+use Rattle.rtl_check.specs.Views.{nets_tested, fault_view}
 use Rattle.rtl_check.specs.declared.rule.Rule.{Rule}
 use Rattle.rtl_check.specs.declared.rule.Rule.TheVariants.{ClockNotInput, EdgeNotSensitive, ClockAsData, MissingSensitivity, Latch}
 
@@ -37,7 +37,7 @@ is_data c net = not (net == c.clock) || (c.reads_clock || is_in net (option_to_l
 
 abbrev pub clocked_breaks : (inputs clocks : List ℕ) → Process → Clocking → Rule → (net : ℕ) → Bool
 clocked_breaks inputs clocks p c ClockNotInput n = is_in n (c.clock ∷ []) && not (is_in n inputs)
-clocked_breaks inputs clocks p c EdgeNotSensitive n = is_in n (tested c) && not (is_in n p.wakes.items)
+clocked_breaks inputs clocks p c EdgeNotSensitive n = is_in n (nets_tested c) && not (is_in n p.wakes.items)
 clocked_breaks inputs clocks p c ClockAsData n = is_in n p.reads.items && (is_in n clocks && is_data c n)
 clocked_breaks inputs clocks p c MissingSensitivity n = false
 clocked_breaks inputs clocks p c Latch n = false

@@ -25,8 +25,8 @@ fault_view (c.StoredVariable process variable place) = f.StoredVariable process 
 -- ---- kinds of processes
 
 -- the nets that its tests look at
-abbrev pub tested : Clocking → List ℕ
-tested c = c.clock ∷ option_to_list c.reset
+abbrev pub nets_tested : Clocking → List ℕ
+nets_tested c = c.clock ∷ option_to_list c.reset
 
 abbrev pub reset_net : m.Reset → ℕ
 reset_net r = r.net
@@ -38,7 +38,7 @@ pub record IsClocking (p : m.Process) (c : Clocking) : Type 0 where
   pub reset_is : option_map reset_net reset ≡ c.reset
   pub reads_clock : c.reads_clock ≡ is_in c.clock p.acting_reads
   -- its body reads what its tests look at, and what the branch under its edge reads
-  pub reads : (n : ℕ) → is_in n p.reads ≡ (is_in n (tested c) || is_in n p.acting_reads)
+  pub reads : (n : ℕ) → is_in n p.reads ≡ (is_in n (nets_tested c) || is_in n p.acting_reads)
 
 abbrev pub IsKind : m.Process → ProcessKind → Type 0
 IsKind p k.Combinational = p.kind ≡ m.Combinational

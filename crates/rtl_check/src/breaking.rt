@@ -7,7 +7,7 @@ ghost use Rattle.rtl_model.specs.bodies.Assigns.{must_assign};
 ghost use Rattle.rtl_net.specs.Nets.{body_of};
 ghost use Rattle.rtl_net_facts.specs.Reading.{is_in};
 ghost use Rattle.rtl_net_facts.specs.Paths.{driven, to_net};
-ghost use Rattle.rtl_check.specs.Views.{tested};
+ghost use Rattle.rtl_check.specs.Views.{nets_tested};
 ghost use Rattle.rtl_check.specs.Rules.{is_data, clocked_breaks, combinational_breaks, breaks};
 
 use crate::rule::Rule;
@@ -50,7 +50,7 @@ fn latches(alloc: Global, process: &Process) -> Result<Vec<usize>, NoMemory>
 /// The nets that the tests of a clocked process look at, its clock and its reset, rising.
 fn tested_nets(alloc: Global, clocking: Clocking) -> Result<Vec<usize>, NoMemory>
     ensures rise { IfOk result (λ v. IsStrictlyIncreasing v.items) }
-    ensures are { IfOk result (λ v. (n : ℕ) → is_in n v.items ≡ is_in n (tested clocking)) }
+    ensures are { IfOk result (λ v. (n : ℕ) → is_in n v.items ≡ is_in n (nets_tested clocking)) }
 {
     let mut nets = Vec::new(alloc);
     nets.push(clocking.clock)?;

@@ -3,7 +3,7 @@
 ghost use Rattle.std.specs.Prelude.{◌<◌, length, OnOk};
 ghost use Rattle.rtl_net.specs.Core.{core};
 ghost use Rattle.rtl_check.specs.Views.{AreKinds};
-ghost use Rattle.rtl_check.specs.Listing.{numbered, one_place, AddsFaults};
+ghost use Rattle.rtl_check.specs.Listing.{is_of_number, one_place, AddsFaults};
 
 use crate::fault::CheckFault;
 use rtl_net::{Net, NoMemory};
@@ -28,7 +28,7 @@ fn two_drivers_at(net: &Net, number: usize, faults: &mut Vec<CheckFault>) -> Res
 
 /// Appends the faults of nets that have two sources or more.
 pub fn two_drivers(net: &Net, faults: &mut Vec<CheckFault>) -> Result<(), NoMemory>
-    ensures { OnOk result (AddsFaults (core net.now) (numbered 1) faults.old.items faults.new.items) }
+    ensures { OnOk result (AddsFaults (core net.now) (is_of_number 1) faults.old.items faults.new.items) }
 {
     for number in 0..net.nets() {
         two_drivers_at(net, number, faults)?;
@@ -60,7 +60,7 @@ fn mixed_at(
 /// Appends the faults of processes that are neither clocked nor combinational.
 pub fn mixed(net: &Net, kinds: &[ProcessKind], faults: &mut Vec<CheckFault>) -> Result<(), NoMemory>
     requires { AreKinds (core net.now) kinds.now }
-    ensures { OnOk result (AddsFaults (core net.now) (numbered 2) faults.old.items faults.new.items) }
+    ensures { OnOk result (AddsFaults (core net.now) (is_of_number 2) faults.old.items faults.new.items) }
 {
     for process in 0..kinds.len() {
         mixed_at(net, kinds, process, faults)?;

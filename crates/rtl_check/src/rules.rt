@@ -3,7 +3,7 @@
 ghost use Rattle.std.specs.Prelude.{◌<◌, length, OnOk};
 ghost use Rattle.rtl_net.specs.Core.{core};
 ghost use Rattle.rtl_check.specs.Views.{AreKinds};
-ghost use Rattle.rtl_check.specs.Listing.{numbered, one_place, AddsFaults};
+ghost use Rattle.rtl_check.specs.Listing.{is_of_number, one_place, AddsFaults};
 ghost use Rattle.rtl_check.specs.Rules.{rule_number, Pushes, AreClockNets};
 
 use crate::breaking::breaking_nets;
@@ -62,7 +62,7 @@ pub fn by_rule(
 ) -> Result<(), NoMemory>
     requires kinds { AreKinds (core net.now) kinds.now }
     requires clocks { AreClockNets (core net.now) clocks.now }
-    ensures { OnOk result (AddsFaults (core net.now) (numbered (rule_number rule)) faults.old.items faults.new.items) }
+    ensures { OnOk result (AddsFaults (core net.now) (is_of_number (rule_number rule)) faults.old.items faults.new.items) }
 {
     for process in 0..kinds.len() {
         rule_at(alloc, net, kinds, clocks, rule, process, faults)?;

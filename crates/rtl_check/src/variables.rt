@@ -7,7 +7,7 @@ ghost use Rattle.rtl_model.specs.bodies.Stored.{stores_element};
 ghost use Rattle.rtl_net.specs.Bodies.{statements_of};
 ghost use Rattle.rtl_net.specs.Core.{core};
 ghost use Rattle.rtl_check.specs.Views.{fault_view};
-ghost use Rattle.rtl_check.specs.Listing.{numbered, one_place, AddsFaults};
+ghost use Rattle.rtl_check.specs.Listing.{is_of_number, one_place, AddsFaults};
 ghost use Rattle.rtl_check.specs.Places.{place_in, places_from, widths, added_if};
 
 use crate::fault::CheckFault;
@@ -92,7 +92,7 @@ pub fn stored_variables(
     net: &Net,
     faults: &mut Vec<CheckFault>,
 ) -> Result<(), NoMemory>
-    ensures { OnOk result (AddsFaults (core net.now) (numbered 9) faults.old.items faults.new.items) }
+    ensures { OnOk result (AddsFaults (core net.now) (is_of_number 9) faults.old.items faults.new.items) }
 {
     let processes = net.processes();
     for process in 0..processes.len() {

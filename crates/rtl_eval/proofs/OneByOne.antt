@@ -3,7 +3,7 @@ use Rattle.std.proofs.Common.{◌≡◌, ℕ, ◌+◌, ◌<◌, List, [], ◌∷
 use Rattle.std.specs.List.{range_with_len}
 use Rattle.std.proofs.lemmas.List.{at_drop_more}
 use Rattle.rtl_eval.specs.Spans.{written}
-use Rattle.rtl_model.specs.bodies.Variables.{put}
+use Rattle.rtl_model.specs.bodies.Variables.{values_put}
 use Rattle.rtl_eval.specs.Running.{assigned}
 
 -- the number at a place is the first of what is left from there
@@ -23,8 +23,8 @@ assigned_span first [] old = refl
 assigned_span first (v ∷ vs) old = assigned_span (first + 1) vs (slice_set old first (Some v))
 
 pub put_more : (ns vs : List ℕ) (i : ℕ) (old : List ℕ) → i < length ns → i < length vs
-    → put (drop (i + 1) ns) (drop (i + 1) vs) (slice_set old (slice_index ns i) (slice_index vs i)) ≡ put (drop i ns) (drop i vs) old
+    → values_put (drop (i + 1) ns) (drop (i + 1) vs) (slice_set old (slice_index ns i) (slice_index vs i)) ≡ values_put (drop i ns) (drop i vs) old
 put_more ns vs i old l m =
     let p = number_first ns i l in
     let q = number_first vs i m in
-    sym (λ k. put (p k) (q k) old)
+    sym (λ k. values_put (p k) (q k) old)

@@ -4,7 +4,7 @@ use Rattle.std.specs.List.{list_any}
 use Rattle.rtl_model.specs.bodies.Body as bodies
 use Rattle.rtl_model.specs.bodies.Values.{Seen}
 use Rattle.rtl_model.specs.bodies.Tests.{same}
-use Rattle.rtl_model.specs.bodies.Effect.{Entries, effect, branches_effect, alternatives_effect, chosen}
+use Rattle.rtl_model.specs.bodies.Effect.{Entries, effect, branches_effect, alternatives_effect, entries_if}
 use Rattle.rtl_model.specs.bodies.Variables.{variables_after, branches_variables, alternatives_variables}
 use Rattle.rtl_model.specs.bodies.Types.{ElementType}
 use Rattle.rtl_model.specs.bodies.Fits.{Scope, Fits, FitsTest, FitsBranches, FitsAlternatives}
@@ -13,11 +13,11 @@ use Rattle.rtl_net.specs.declared.body.Alternative.{Alternative}
 use Rattle.rtl_net.specs.Bodies.{test_view, choice_view, statements_of, branches_of, alternatives_of}
 use Rattle.rtl_eval.specs.Running.{IsFirstTrue, NoneIsTrue, met_by, chosen_by}
 
-take_first : (t : Bool) (a b : Entries) → t ≡ true → chosen t a b ≡ a
+take_first : (t : Bool) (a b : Entries) → t ≡ true → entries_if t a b ≡ a
 take_first true a b h = λ i place. a place
 take_first false a b h = absurd cc
 
-take_later : (t : Bool) (a b : Entries) → t ≡ false → chosen t a b ≡ b
+take_later : (t : Bool) (a b : Entries) → t ≡ false → entries_if t a b ≡ b
 take_later true a b h = absurd cc
 take_later false a b h = λ i place. b place
 

@@ -1,7 +1,7 @@
 //! Assignments to drivers and variables.
 
 ghost use Rattle.std.specs.Prelude.{◌≡◌, ◌<◌, All, length, slice_index};
-ghost use Rattle.rtl_model.specs.bodies.Variables.{put};
+ghost use Rattle.rtl_model.specs.bodies.Variables.{values_put};
 ghost use Rattle.rtl_net.specs.Indices.{numbers};
 ghost use Rattle.rtl_eval.specs.Evaluations.{codes_of};
 ghost use Rattle.rtl_eval.specs.Running.{assigned};
@@ -31,7 +31,7 @@ pub fn assign(places: &Indices, value: &Evaluated, out: &mut Drives)
 pub fn set(elements: &Indices, value: &Evaluated, out: &mut Drives)
     requires as_many { length (numbers elements.now) ≡ length (codes_of value.now) }
     requires there { All (λ element. element < length out.old.variables) (numbers elements.now) }
-    ensures { out.new ≡ record (out.old) { variables = put (numbers elements.now) (codes_of value.now) out.old.variables } }
+    ensures { out.new ≡ record (out.old) { variables = values_put (numbers elements.now) (codes_of value.now) out.old.variables } }
 {
     match value {
         Evaluated::Elements(values) => {
@@ -74,7 +74,7 @@ fn assign_each(places: &[u32], codes: &[u8], out: &mut Drives)
 fn set_codes(elements: &Indices, codes: &[u8], out: &mut Drives)
     requires as_many { length (numbers elements.now) ≡ length codes.now }
     requires there { All (λ element. element < length out.old.variables) (numbers elements.now) }
-    ensures { out.new ≡ record (out.old) { variables = put (numbers elements.now) codes.now out.old.variables } }
+    ensures { out.new ≡ record (out.old) { variables = values_put (numbers elements.now) codes.now out.old.variables } }
 {
     for at in 0..codes.len() {
         out.set_variable(number_at(elements, at), codes[at]);

@@ -2,7 +2,7 @@
 
 ghost use Rattle.std.specs.Prelude.{◌≡◌, ℕ, ◌<◌, All, length, map, slice_index};
 ghost use Rattle.rtl_model.specs.bodies.Body as bodies;
-ghost use Rattle.rtl_model.specs.bodies.Values.{element_at, operated, elements_of};
+ghost use Rattle.rtl_model.specs.bodies.Values.{element_at, operation_result, elements_of};
 ghost use Rattle.rtl_model.specs.bodies.Fits.{IsWidth, operated_width, FitsOperands, FitsExpr};
 ghost use Rattle.rtl_net.specs.Indices.{numbers};
 ghost use Rattle.rtl_net.specs.Bodies.{operator_view, expr_view, links_of};
@@ -50,7 +50,7 @@ fn chain(first: &Vec9, links: &[Link], seen: SeenValues<'_>) -> Vec9
 pub fn operate(operator: Operator, left: &Vec9, right: &Vec9) -> Vec9
     requires operands { FitsOperands (operator_view operator) (length left.now) (length right.now) }
     requires width { IsWidth (operated_width (operator_view operator) (length left.now) (length right.now)) }
-    ensures { result ≡ operated (operator_view operator) left.now right.now }
+    ensures { result ≡ operation_result (operator_view operator) left.now right.now }
 {
     match operator {
         Operator::Logical(logic) => left.logic(logic, right),

@@ -18,7 +18,7 @@ use Rattle.rtl_net_facts.specs.Paths.{driven, to_net}
 use Rattle.rtl_check.specs.declared.rule.Rule.{Rule}
 use Rattle.rtl_check.specs.declared.rule.Rule.TheVariants.{ClockNotInput, EdgeNotSensitive, ClockAsData, MissingSensitivity, Latch}
 use Rattle.rtl_net.specs.Core.{core}
-use Rattle.rtl_check.specs.Views.{tested, IsKind}
+use Rattle.rtl_check.specs.Views.{nets_tested, IsKind}
 use Rattle.rtl_check.specs.Rules.{is_data, breaks, fault_of}
 use Rattle.rtl_check.specs.Standing.{HasNoMixed}
 use Rattle.rtl_check.proofs.Processes.{process_there}
@@ -77,7 +77,7 @@ module _ (inputs clocks : List ℕ) (x : Process) where
           go : ((c.clock == n) ≡ true) ⊎ (false ≡ true) → is_in n inputs ≡ true
           go (inl e) = subst (λ (i : ℕ). is_in i inputs ≡ true) (eqb-true c.clock n e) h.clock
           go (inr e) = absurd cc
-  clocked_to c h EdgeNotSensitive n t = within_to (tested c) x.wakes.items h.awake n t
+  clocked_to c h EdgeNotSensitive n t = within_to (nets_tested c) x.wakes.items h.awake n t
   clocked_to c h ClockAsData n t =
       let (a, b) = and_parts (is_in n x.reads.items) (is_in n clocks && is_data c n) t in
       clash (is_in n clocks && is_data c n) b (h.no_clock_read n a)
@@ -87,7 +87,7 @@ module _ (inputs clocks : List ℕ) (x : Process) where
   clocked_from : (c : Clocking) → BreaksNone inputs clocks x (k.Clocked c) → ClockedKeeps inputs clocks x c
   clocked_from c none = record {
     clock = within_from (c.clock ∷ []) inputs (none ClockNotInput) c.clock (or_left (c.clock == c.clock) false (eq-eqb c.clock c.clock refl));
-    awake = within_from (tested c) x.wakes.items (none EdgeNotSensitive);
+    awake = within_from (nets_tested c) x.wakes.items (none EdgeNotSensitive);
     no_clock_read = λ n a. false_from (is_in n clocks && is_data c n) (λ b. none ClockAsData n (and_from (is_in n x.reads.items) (is_in n clocks && is_data c n) a b));
   }
 

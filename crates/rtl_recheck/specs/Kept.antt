@@ -14,7 +14,7 @@ use Rattle.rtl_net_facts.specs.declared.kinds.ProcessKind.TheVariants as k
 use Rattle.rtl_net_facts.specs.Reading.{is_in}
 use Rattle.rtl_net_facts.specs.Paths.{driven, to_net}
 use Rattle.rtl_check.specs.declared.rule.Rule.{Rule}
-use Rattle.rtl_check.specs.Views.{tested}
+use Rattle.rtl_check.specs.Views.{nets_tested}
 use Rattle.rtl_check.specs.Rules.{is_data, fault_of}
 
 -- ---- lists of nets
@@ -40,7 +40,7 @@ HasNoClockAsData clocks p c = (n : ℕ) → is_in n p.reads.items ≡ true → (
 -- its clock is an input, it is sensitive to what its tests look at, and it reads no clock elsewhere
 pub record ClockedKeeps (inputs clocks : List ℕ) (p : Process) (c : Clocking) : Type 0 where
   pub clock : is_in c.clock inputs ≡ true
-  pub awake : AreWithin (tested c) p.wakes.items
+  pub awake : AreWithin (nets_tested c) p.wakes.items
   pub no_clock_read : HasNoClockAsData clocks p c
 
 -- it assigns each net that it drives on every syntactic path

@@ -5,7 +5,7 @@ ghost use Rattle.std.specs.List.Sorted.{IsStrictlyIncreasing};
 ghost use Rattle.rtl_model.specs.basics.Lists.{RisesBy};
 ghost use Rattle.rtl_model.specs.simulation.Report.{clock_key};
 ghost use Rattle.rtl_net_facts.specs.Reading.{is_in};
-ghost use Rattle.rtl_check.specs.Views.{tested};
+ghost use Rattle.rtl_check.specs.Views.{nets_tested};
 ghost use Rattle.rtl_recheck.specs.Kept.{AreWithin, HasNoClockAsData, ClockedKeeps, clock_nets};
 
 use rtl_check::is_used;
@@ -29,7 +29,7 @@ pub fn are_within(nets: &[usize], others: &[usize]) -> bool
 /// Whether the nets that the tests of a clocked process look at, its clock and its reset, are among others.
 fn tested_are_within(clocking: Clocking, others: &[usize]) -> bool
     requires { IsStrictlyIncreasing others.now }
-    ensures { IsTrue result ↔ AreWithin (tested clocking) others.now }
+    ensures { IsTrue result ↔ AreWithin (nets_tested clocking) others.now }
 {
     match clocking.reset {
         None => are_within(&[clocking.clock], others),

@@ -10,7 +10,7 @@ use Rattle.vhdl_expand_rules.specs.Tree as tree
 use Rattle.vhdl_expand_rules.specs.Tree.{Instance, instance, Parts, no_parts, process, inner}
 use Rattle.vhdl_elab_rules.specs.Names.{scope_of, signals_from}
 use Rattle.vhdl_elab_rules.specs.Numbering as elab
-use Rattle.vhdl_elab_rules.specs.Numbering.{Placed, Located, Numbered, placed, with_process, with_placed, with_instance, with_parts, element_nets, above_parts, own_sizes}
+use Rattle.vhdl_elab_rules.specs.Numbering.{Placed, Located, Numbered, placed_instance, with_process, with_placed, with_instance, with_parts, element_nets, above_parts, own_sizes}
 use Rattle.vhdl_elab_rules.specs.Wiring.{defaults_of}
 use Rattle.vhdl_elab_laws.specs.Shown.{signal_shown}
 use Rattle.vhdl_expand_tree.specs.declared.tree.Object.{Object}
@@ -200,9 +200,9 @@ pub record StandsAt (above : elab.Above) (label : List ℕ) (objects : List tree
 -- what an instance adds before what stands in it
 instance-placed : (above : elab.Above) (label : List ℕ) (objects : List tree.Object) (turns : ℕ) (parts : Parts) (scope : Scope) (place : InstancePlace) (d : Numbered) (a b : Made)
     → IsMade d a → StandsAt above label objects a scope place → AddsPlaced place scope (instance objects turns parts) a b
-    → IsMade (with_placed (placed above label d.nets (instance objects turns parts)) d) b
+    → IsMade (with_placed (placed_instance above label d.nets (instance objects turns parts)) d) b
 instance-placed above label objects turns parts scope place d a b h at k =
-    let r = placed above label d.nets (instance objects turns parts) in
+    let r = placed_instance above label d.nets (instance objects turns parts) in
     let number = at.number ∙ scopes-count d a h in
     let nets = at.nets ∙ ap (λ n. element_nets above.nets n objects) h.nets in
     placed_made d r a b h
@@ -221,7 +221,7 @@ pub instance_made : {E : Type 0} (above : elab.Above) (label : List ℕ) (object
     → ((e : Numbered) (p : Placed) → IsIn p round → IsMade e b → OnOk result (IsMade (with_parts round.scope p left e) new))
     → OnOk result (IsMade (with_instance above label (instance objects turns parts) d) new)
 instance_made above label objects turns parts left scope place round d a b new result h at k same_scope same_nets defaults same_parts walked =
-    let r = placed above label d.nets (instance objects turns parts) in
+    let r = placed_instance above label d.nets (instance objects turns parts) in
     let nets = same_nets ∙ at.nets ∙ ap (λ n. element_nets above.nets n objects) h.nets in
     subst (λ n. OnOk result (IsMade (with_parts n r parts (with_placed r d)) new)) (same_scope ∙ at.number ∙ scopes-count d a h)
     (subst (λ ps. OnOk result (IsMade (with_parts round.scope r ps (with_placed r d)) new)) same_parts

@@ -4,7 +4,7 @@ ghost use Rattle.std.specs.Prelude.{◌≡◌, true, All, IfOk};
 ghost use Rattle.rtl_net.specs.Elaborated.{ReadsOfBody};
 ghost use Rattle.rtl_net.specs.Parts.{assembled, IdleAreThere};
 ghost use Rattle.vhdl_expand_tree.specs.Views.{design_view};
-ghost use Rattle.vhdl_elab_rules.specs.Elaboration.{connected};
+ghost use Rattle.vhdl_elab_rules.specs.Elaboration.{netlist_of};
 ghost use Rattle.vhdl_elab_rules.specs.Limits.{counts, is_within_limits};
 ghost use Rattle.vhdl_elab_rules.specs.Numbering.{numbered_design};
 ghost use Rattle.vhdl_expand_bodies.specs.Results.{Expands};
@@ -26,7 +26,7 @@ pub fn connect(alloc: Global, design: Design) -> Result<Parts, ElabFault>
     requires ready { InstanceIsReady (design_view design).top }
     requires there { NetsAreThere (numbered_design (design_view design)) }
     requires within { is_within_limits (counts (numbered_design (design_view design))) ≡ true }
-    ensures given { Expands (λ p. net_shown (assembled p)) (as_shown (connected (design_view design))) result }
+    ensures given { Expands (λ p. net_shown (assembled p)) (as_shown (netlist_of (design_view design))) result }
     ensures reads { IfOk result (λ p. All ReadsOfBody p.processes.items) }
     ensures idle { IfOk result IdleAreThere }
 {

@@ -28,7 +28,7 @@ pub(crate) fn told(alloc: Global, made: &Made) -> Result<Wires, ElabFault>
     requires uses { length made.now.uses.items ≡ length made.now.elements.items }
     requires defaults { length made.now.kinds.items ≡ length made.now.defaults.items }
     ensures wired { IfOk result (λ w. IsWires made.now w) }
-    ensures refused { IfErr result (λ fault. fault ≢ NoMemory → IsRefused made.now (elab.told fault)) }
+    ensures refused { IfErr result (λ fault. fault ≢ NoMemory → IsRefused made.now (elab.problem_told fault)) }
 {
     let idle = idle_ports(alloc, &made.elements, &made.uses)?;
     let values = held(alloc, made.kinds.len(), &made.processes, &idle)?;

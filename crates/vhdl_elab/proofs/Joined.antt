@@ -15,7 +15,7 @@ use Rattle.vhdl_expand_rules.proofs.Steps.{given, ok, bound}
 use Rattle.vhdl_elab_rules.specs.Numbering.{Numbered, numbered_design}
 use Rattle.vhdl_elab_rules.specs.Wiring.{flat_net}
 use Rattle.vhdl_elab_rules.specs.Limits.{counts, is_within_limits, has_two_unresolved, has_read_of_shared, is_within, limits}
-use Rattle.vhdl_elab_rules.specs.Elaboration.{Elaborated, net_of, connected, elaborated_net}
+use Rattle.vhdl_elab_rules.specs.Elaboration.{Elaborated, net_of, netlist_of, elaborated_net}
 use Rattle.vhdl_expand_tree.specs.Costs.{instance_costs}
 use Rattle.vhdl_expand_tree.proofs.Alike.{wrong, same_problem, tells_same, tells_first, tells_again}
 use Rattle.vhdl_expand_tree.proofs.Counts.{each-design-costs-its-parts}
@@ -31,9 +31,9 @@ was-expanded units top design h =
     let u = bound (unless TooMany (is_within (instance_costs d.x.top) limits)) _ design d.then_gave in
     d.gave ∙ u.then_gave
 
-pub elaborated-by : (units : Units) (top : List ℕ) (design : Design) → within_limits (expanded_design units top) ≡ Ok design → elaborated_net units top ≡ connected design
+pub elaborated-by : (units : Units) (top : List ℕ) (design : Design) → within_limits (expanded_design units top) ≡ Ok design → elaborated_net units top ≡ netlist_of design
 unfolding elaborated_net
-elaborated-by units top design h = ap (λ (r : Elab Design). r >>= λ d. connected d) (was-expanded units top design h)
+elaborated-by units top design h = ap (λ (r : Elab Design). r >>= λ d. netlist_of d) (was-expanded units top design h)
 
 -- and is within them
 pub is-within : (units : Units) (top : List ℕ) (design : Design) → within_limits (expanded_design units top) ≡ Ok design → is_within_limits (counts (numbered_design design)) ≡ true
@@ -44,38 +44,38 @@ is-within units top design h = let d = bound (expanded_design units top) _ desig
     by x false e k = absurd cc
 
 -- beyond the limits nothing is connected
-beyond : (design : Design) → is_within (instance_costs design.top) limits ≡ false → connected design ≡ Err TooMany
-unfolding connected
+beyond : (design : Design) → is_within (instance_costs design.top) limits ≡ false → netlist_of design ≡ Err TooMany
+unfolding netlist_of
 beyond design h =
     let d : Numbered = numbered_design design in
     let over : is_within_limits (counts d) ≡ false = (each-design-costs-its-parts design).within ∙ h in
     ap (λ (t : Bool). unless TooMany t >> (unless TwoUnresolved (not (has_two_unresolved d)) >> (unless ReadOfShared (not (has_read_of_shared d (flat_net d))) >> given (net_of d)))) over
 
-refused-in : (problem : ElabProblem) (r : Elab Design) → MayTell (within_limits r) problem → MayTell (r >>= λ d. connected d) problem
+refused-in : (problem : ElabProblem) (r : Elab Design) → MayTell (within_limits r) problem → MayTell (r >>= λ d. netlist_of d) problem
 refused-in problem (Err p) h = tells_again {A = Design} {B = Elaborated} p problem h
 refused-in problem (Ok d) h = by (is_within (instance_costs d.top) limits) refl h
   where
-    gone : IsErr (given d) → MayTell (connected d) problem
+    gone : IsErr (given d) → MayTell (netlist_of d) problem
     gone h = absurd cc
 
-    by : (t : Bool) → is_within (instance_costs d.top) limits ≡ t → MayTell (unless TooMany t >> given d) problem → MayTell (connected d) problem
+    by : (t : Bool) → is_within (instance_costs d.top) limits ≡ t → MayTell (unless TooMany t >> given d) problem → MayTell (netlist_of d) problem
     by true e k = gone k.refused
     by false e k = tells_same (beyond d e) (tells_again {A = Design} {B = Elaborated} TooMany problem k)
 
 pub refused : {problem : ElabProblem} → (units : Units) (top : List ℕ) → MayTell (within_limits (expanded_design units top)) problem → MayTell (as_shown (elaborated_net units top)) problem
 unfolding elaborated_net
-refused {problem} units top h = tells_first (expanded_design units top >>= λ d. connected d) _ (refused-in problem (expanded_design units top) h)
+refused {problem} units top h = tells_first (expanded_design units top >>= λ d. netlist_of d) _ (refused-in problem (expanded_design units top) h)
 
 -- what is shown is refused with the same problem
 pub not-shown : {problem : ElabProblem} (r : Elab Elaborated) → as_shown r ≡ Err problem → r ≡ Err problem
 not-shown (Ok x) h = absurd cc
 not-shown {problem} (Err p) h = ap (λ q. wrong {A = Elaborated} q) (same_problem {A = Shown} p problem h)
 
-same-in : (problem : ElabProblem) (r : Elab Design) → within_limits r ≡ Err problem → (r >>= λ d. connected d) ≡ Err problem
+same-in : (problem : ElabProblem) (r : Elab Design) → within_limits r ≡ Err problem → (r >>= λ d. netlist_of d) ≡ Err problem
 same-in problem (Err p) h = ap (λ q. wrong {A = Elaborated} q) (same_problem {A = Design} p problem h)
 same-in problem (Ok d) h = by (is_within (instance_costs d.top) limits) refl h
   where
-    by : (t : Bool) → is_within (instance_costs d.top) limits ≡ t → (unless TooMany t >> given d) ≡ Err problem → connected d ≡ Err problem
+    by : (t : Bool) → is_within (instance_costs d.top) limits ≡ t → (unless TooMany t >> given d) ≡ Err problem → netlist_of d ≡ Err problem
     by true e k = absurd cc
     by false e k = beyond d e ∙ ap (λ q. wrong {A = Elaborated} q) (same_problem {A = Design} TooMany problem k)
 
@@ -114,7 +114,7 @@ may-refuse {problem} units top t (inr begun) = by (is-many problem)
 
 -- what connection shows is a net
 pub connected-is-net : (units : Units) (top : List ℕ) (design : Design) (net : NetlistView) → IsTrue (are_sound units) → IsTrue (are_named units) → within_limits (expanded_design units top) ≡ Ok design
-    → as_shown (connected design) ≡ Ok (net_shown net) → All ReadsOfBody net.processes → IsNet net
+    → as_shown (netlist_of design) ≡ Ok (net_shown net) → All ReadsOfBody net.processes → IsNet net
 connected-is-net units top design net sound named h e reads =
-    let x = bound (connected design) _ (net_shown net) e in
+    let x = bound (netlist_of design) _ (net_shown net) e in
     each-elaborated-is-net units top x.x net sound named (elaborated-by units top design h ∙ x.gave) (sym (ok (shown x.x) (net_shown net) x.then_gave)) reads

@@ -8,7 +8,7 @@ ghost use Rattle.vhdl_expand_bodies.specs.Results.{Charges};
 ghost use Rattle.vhdl_elab_rules.specs.Elaboration.{elaborated_net};
 ghost use Rattle.vhdl_elab_laws.specs.Refused.{MayRefuse};
 ghost use Rattle.vhdl_elab_laws.specs.Shown.{as_shown, net_shown};
-ghost use Rattle.vhdl_expand_rules.specs.Elab.{told};
+ghost use Rattle.vhdl_expand_rules.specs.Elab.{problem_told};
 ghost use Rattle.vhdl_expand_rules.specs.declared.fault.ElabFault.TheVariants.{NoMemory};
 
 use rtl_net::Net;
@@ -25,7 +25,7 @@ pub fn elaborate(alloc: Global, units: &Units, top: &[u8]) -> Result<Net, ElabFa
     requires sound { IsTrue (are_sound (units_view units.now)) }
     requires named { IsTrue (are_named (units_view units.now)) }
     ensures given { Charges net_shown (as_shown (elaborated_net (units_view units.now) top.now)) result }
-    ensures refused { IfErr result (λ fault. fault ≢ NoMemory → MayRefuse (units_view units.now) top.now (told fault)) }
+    ensures refused { IfErr result (λ fault. fault ≢ NoMemory → MayRefuse (units_view units.now) top.now (problem_told fault)) }
 {
     let design = expand(alloc, units, top)?;
     let parts = connect(alloc, design)?;

@@ -11,7 +11,7 @@ use Rattle.vhdl_names_rules.specs.units.Units as u
 use Rattle.vhdl_names_rules.specs.units.Units.{Units, Port, Entity}
 use Rattle.vhdl_names_rules.specs.sound.Named.{has_text, objects_are_named, declaration_is_named, concurrent_is_named, concurrents_are_named, architecture_is_named, entity_is_named, are_named}
 use Rattle.vhdl_expand_rules.specs.declared.fault.ElabProblem.TheVariants.{NoTop}
-use Rattle.vhdl_expand_rules.specs.Elab.{Elab, found, each}
+use Rattle.vhdl_expand_rules.specs.Elab.{Elab, item_or, each}
 use Rattle.vhdl_expand_rules.specs.Integers.{decision, turns}
 use Rattle.vhdl_expand_rules.specs.Site.{no_integers}
 use Rattle.vhdl_expand_rules.specs.Statements.{statements, statements_turns}
@@ -19,7 +19,7 @@ use Rattle.vhdl_expand_rules.specs.Prefixes.{targets, prefixes_elements}
 use Rattle.vhdl_expand_rules.specs.Declarations.{InstanceObjects, interface, declarations, variable, associations}
 use Rattle.vhdl_expand_rules.specs.Tree.{Instance, Parts, no_parts, inner, followed_by}
 use Rattle.vhdl_expand_rules.specs.Tree as t
-use Rattle.vhdl_expand_rules.specs.Expansion.{Spot, dotted, in_turn, in_branch, sensitivity, with_variables, process, joined, instance, concurrent, concurrents, concurrents_turns, instance_of, entity_named, Design, expanded_design}
+use Rattle.vhdl_expand_rules.specs.Expansion.{Spot, with_dot, in_turn, in_branch, sensitivity, with_variables, process, joined_parts, instance, concurrent, concurrents, concurrents_turns, instance_of, entity_named, Design, expanded_design}
 use Rattle.vhdl_expand_rules.proofs.Steps.{ok, bound, each-all}
 use Rattle.vhdl_expand_rules.proofs.laws.Names.{was_found}
 use Rattle.vhdl_elab_laws.specs.Prefixes.{IsDotted, InstanceIsDotted, PartsAreDotted, EachTreeIsDotted}
@@ -38,7 +38,7 @@ some-prefix : (g : List ℕ) → g ≢ [] → g ++ codes "." ≡ generates_prefi
 some-prefix [] h = absurd (h refl)
 some-prefix (x ∷ xs) h = refl
 
-dotted-more : (prefix label : List ℕ) → label ≢ [] → IsDotted (prefix ++ dotted label)
+dotted-more : (prefix label : List ℕ) → label ≢ [] → IsDotted (prefix ++ with_dot label)
 dotted-more prefix label h = (prefix ++ label, sym (append_assoc prefix label (codes ".")) ∙ some-prefix (prefix ++ label) (more-text prefix label h))
 
 some-turn : (label rest : List ℕ) → label ++ (codes "(" ++ rest) ≢ []
@@ -61,9 +61,9 @@ followed-dotted no_parts b h k = k
 followed-dotted (t.process p rest) b h k = (h.0, followed-dotted rest b h.1 k)
 followed-dotted (inner label i rest) b h k = (h.0, followed-dotted rest b h.1 k)
 
-joined-dotted : (ps : List Parts) → All PartsAreDotted ps → PartsAreDotted (joined ps)
+joined-dotted : (ps : List Parts) → All PartsAreDotted ps → PartsAreDotted (joined_parts ps)
 joined-dotted [] h = tt
-joined-dotted (p ∷ ps) h = followed-dotted p (joined ps) (All-head PartsAreDotted p ps h) (joined-dotted ps (All-tail PartsAreDotted p ps h))
+joined-dotted (p ∷ ps) h = followed-dotted p (joined_parts ps) (All-head PartsAreDotted p ps h) (joined-dotted ps (All-tail PartsAreDotted p ps h))
 
 named-unit : (units : Units) (n : ℕ) (unit : Entity) → list_all entity_is_named units ≡ true → slice_get units n ≡ Some unit → entity_is_named unit ≡ true
 named-unit [] n unit h e = absurd cc
@@ -75,7 +75,7 @@ module _ (units : Units) (named : list_all entity_is_named units ≡ true) (go :
   instance-dotted : (at : Spot) (x : u.Instance) (i : Instance) → instance units go at x ≡ Ok i → InstanceIsDotted i
   unfolding instance
   instance-dotted at x i h =
-      let unit = bound (found NoTop (slice_get units x.unit)) _ i h in
+      let unit = bound (item_or NoTop (slice_get units x.unit)) _ i h in
       let d = bound (interface at.site.integers x.generics unit.x) _ i unit.then_gave in
       let os = bound (associations at.site unit.x.ports x.ports d.x.objects) _ i d.then_gave in
       go-dotted unit.x (record d.x { objects = os.x }) i (named-unit units x.unit unit.x named (was_found NoTop (slice_get units x.unit) unit.x unit.gave)) os.then_gave
@@ -98,7 +98,7 @@ module _ (units : Units) (named : list_all entity_is_named units ≡ true) (go :
         let both = and_parts (has_text label) (concurrents_are_named body) n in
         let is = bound (turns at.site.integers r) _ ps h in
         let qs = bound (each (λ i. concurrents units go (in_turn at label i) body) is.x) _ ps is.then_gave in
-        subst PartsAreDotted (ok (joined qs.x) ps qs.then_gave)
+        subst PartsAreDotted (ok (joined_parts qs.x) ps qs.then_gave)
         (joined-dotted qs.x (each-all PartsAreDotted (λ i. concurrents units go (in_turn at label i) body) is.x qs.x
         (λ i q. concurrents-dotted body (in_turn at label i) q both.1 (dotted-more at.prefix _ (some-turn label _))) qs.gave))
     concurrent-dotted (u.generate_if label t body) at ps n d h =
@@ -124,7 +124,7 @@ instance_of-dotted : (units : Units) (levels : ℕ) → list_all entity_is_named
 unfolding instance_of
 instance_of-dotted units zero named unit d i n k = absurd cc
 instance_of-dotted units (suc m) named unit d i n k =
-    let a = bound (found NoTop unit.architecture) _ i k in
+    let a = bound (item_or NoTop unit.architecture) _ i k in
     let e = bound (declarations d a.x.declarations) _ i a.then_gave in
     let spot : Spot = record { site = e.x.site; prefix = [] } in
     let ps = bound (concurrents units (instance_of units m) spot a.x.statements) _ i e.then_gave in
@@ -149,7 +149,7 @@ pub each-tree-is-dotted : EachTreeIsDotted
 unfolding expanded_design are_named
 each-tree-is-dotted units top design h e =
     let named : list_all entity_is_named units ≡ true = h in
-    let unit = bound (found NoTop (entity_named units top)) _ design e in
+    let unit = bound (item_or NoTop (entity_named units top)) _ design e in
     let d = bound (interface no_integers [] unit.x) _ design unit.then_gave in
     let i = bound (instance_of units 32 unit.x d.x) _ design d.then_gave in
     let is : entity_is_named unit.x ≡ true =

@@ -9,14 +9,14 @@ use Rattle.vhdl_names_rules.specs.units.Expressions.{Static, SignalPart}
 use Rattle.vhdl_names_rules.specs.units.Units as u
 use Rattle.vhdl_names_rules.specs.units.Units.{Port, Declaration, Entity, Units}
 use Rattle.vhdl_expand_rules.specs.declared.fault.ElabProblem.TheVariants.{NoTop, Unassociated}
-use Rattle.vhdl_expand_rules.specs.Elab.{Elab, unless, found, each, same_length}
+use Rattle.vhdl_expand_rules.specs.Elab.{Elab, unless, item_or, each, same_length}
 use Rattle.vhdl_expand_rules.specs.Integers.{Integers, integer_of, decision, turns}
 use Rattle.vhdl_expand_rules.specs.Kinds.{size, kind_of}
 use Rattle.vhdl_expand_rules.specs.Site.{Site, no_integers, no_site, place_elements}
 use Rattle.vhdl_expand_rules.specs.Tree.{Role, input, output, internal, Object, Instance, Parts, no_parts, inner, followed_by, objects_of}
 use Rattle.vhdl_expand_rules.specs.Tree as t
-use Rattle.vhdl_expand_rules.specs.Declarations.{first_of, rest_of, generics, fixed, starts, object, role_of, InstanceObjects, with_port, with_signal, ports, interface, declaration, declarations, is_input, association, associations}
-use Rattle.vhdl_expand_rules.specs.Expansion.{Spot, in_turn, in_branch, process, joined, instance, concurrent, concurrents, concurrents_turns, instance_of, entity_named, Design, expanded_design}
+use Rattle.vhdl_expand_rules.specs.Declarations.{first_of, rest_of, generics, fixed_values, starts, object, role_of, InstanceObjects, with_port, with_signal, ports, interface, declaration, declarations, is_input, association, associations}
+use Rattle.vhdl_expand_rules.specs.Expansion.{Spot, in_turn, in_branch, process, joined_parts, instance, concurrent, concurrents, concurrents_turns, instance_of, entity_named, Design, expanded_design}
 use Rattle.vhdl_expand_rules.specs.laws.Trees.{is_port}
 use Rattle.vhdl_expand_rules.proofs.Steps.{ok, bound, each-all}
 use Rattle.vhdl_expand_rules.proofs.laws.Names.{was_found}
@@ -105,7 +105,7 @@ declaration-adds (u.integer type s) d e k =
     subst (λ (y : InstanceObjects). WithSignals d.objects y.objects) (ok _ e x.then_gave) (no-signals d.objects)
 declaration-adds (u.Declaration.constant form f) d e k =
     let x = bound (kind_of d.site.integers form) _ e k in
-    let vs = bound (fixed d.site (size x.x) f) _ e x.then_gave in
+    let vs = bound (fixed_values d.site (size x.x) f) _ e x.then_gave in
     subst (λ (y : InstanceObjects). WithSignals d.objects y.objects) (ok _ e vs.then_gave) (no-signals d.objects)
 declaration-adds (u.Declaration.signal o) d e k =
     let x = bound (object d.site internal o) _ e k in
@@ -157,15 +157,15 @@ followed-ordered no_parts b h k = k
 followed-ordered (t.process p rest) b h k = followed-ordered rest b h k
 followed-ordered (inner label i rest) b h k = (h.0, followed-ordered rest b h.1 k)
 
-joined-ordered : (ps : List Parts) → All PartsAreOrdered ps → PartsAreOrdered (joined ps)
+joined-ordered : (ps : List Parts) → All PartsAreOrdered ps → PartsAreOrdered (joined_parts ps)
 joined-ordered [] h = tt
-joined-ordered (p ∷ ps) h = followed-ordered p (joined ps) (All-head PartsAreOrdered p ps h) (joined-ordered ps (All-tail PartsAreOrdered p ps h))
+joined-ordered (p ∷ ps) h = followed-ordered p (joined_parts ps) (All-head PartsAreOrdered p ps h) (joined-ordered ps (All-tail PartsAreOrdered p ps h))
 
 module _ (units : Units) (go : Entity → InstanceObjects → Elab Instance) (go-ordered : (unit : Entity) (d : InstanceObjects) (i : Instance) → All IsPort d.objects → go unit d ≡ Ok i → InstanceIsOrdered i) where
   instance-ordered : (at : Spot) (x : u.Instance) (i : Instance) → instance units go at x ≡ Ok i → InstanceIsOrdered i
   unfolding instance
   instance-ordered at x i h =
-      let unit = bound (found NoTop (slice_get units x.unit)) _ i h in
+      let unit = bound (item_or NoTop (slice_get units x.unit)) _ i h in
       let d = bound (interface at.site.integers x.generics unit.x) _ i unit.then_gave in
       let os = bound (associations at.site unit.x.ports x.ports d.x.objects) _ i d.then_gave in
       go-ordered unit.x (record d.x { objects = os.x }) i
@@ -188,7 +188,7 @@ module _ (units : Units) (go : Entity → InstanceObjects → Elab Instance) (go
     concurrent-ordered (u.generate_for label r body) at ps h =
         let is = bound (turns at.site.integers r) _ ps h in
         let qs = bound (each (λ i. concurrents units go (in_turn at label i) body) is.x) _ ps is.then_gave in
-        subst PartsAreOrdered (ok (joined qs.x) ps qs.then_gave)
+        subst PartsAreOrdered (ok (joined_parts qs.x) ps qs.then_gave)
         (joined-ordered qs.x (each-all PartsAreOrdered (λ i. concurrents units go (in_turn at label i) body) is.x qs.x (λ i q. concurrents-ordered body (in_turn at label i) q) qs.gave))
     concurrent-ordered (u.generate_if label t body) at ps h =
         let b = bound (decision at.site.integers t) _ ps h in
@@ -205,7 +205,7 @@ instance_of-ordered : (units : Units) (levels : ℕ) (unit : Entity) (d : Instan
 unfolding instance_of
 instance_of-ordered units zero unit d i h k = absurd cc
 instance_of-ordered units (suc n) unit d i h k =
-    let a = bound (found NoTop unit.architecture) _ i k in
+    let a = bound (item_or NoTop unit.architecture) _ i k in
     let e = bound (declarations d a.x.declarations) _ i a.then_gave in
     let spot : Spot = record { site = e.x.site; prefix = [] } in
     let ps = bound (concurrents units (instance_of units n) spot a.x.statements) _ i e.then_gave in
@@ -236,7 +236,7 @@ pub record IsOrdered (units : Units) (top : List ℕ) (design : Design) : Type 0
 pub is-ordered : (units : Units) (top : List ℕ) (design : Design) → expanded_design units top ≡ Ok design → IsOrdered units top design
 unfolding expanded_design
 is-ordered units top design h =
-    let unit = bound (found NoTop (entity_named units top)) _ design h in
+    let unit = bound (item_or NoTop (entity_named units top)) _ design h in
     let d = bound (interface no_integers [] unit.x) _ design unit.then_gave in
     let i = bound (instance_of units 32 unit.x d.x) _ design d.then_gave in
     let zip = interface-is no_integers [] unit.x d.x d.gave in

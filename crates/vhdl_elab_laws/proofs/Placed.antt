@@ -11,7 +11,7 @@ use Rattle.vhdl_expand_rules.specs.Kinds.{size, element_type}
 use Rattle.vhdl_expand_rules.specs.Tree.{Object, Process, Instance, instance, Parts, no_parts, process, inner, objects_of}
 use Rattle.vhdl_expand_rules.specs.laws.Lengths.{ObjectFits, InstanceFits, PartsFit}
 use Rattle.vhdl_expand_rules.specs.laws.Trees.{IsKind, object_types, ObjectIsSound, InstanceIsSound, PartsAreSound}
-use Rattle.vhdl_elab_rules.specs.Numbering.{object_nets, own_size, element_nets, own_sizes, Placed, Located, Numbered, nothing_numbered, above_top, above_parts, placed, with_process, with_placed, with_instance, with_parts}
+use Rattle.vhdl_elab_rules.specs.Numbering.{object_nets, own_size, element_nets, own_sizes, Placed, Located, Numbered, nothing_numbered, above_top, above_parts, placed_instance, with_process, with_placed, with_instance, with_parts}
 use Rattle.vhdl_elab_rules.proofs.laws.Nets.{own-nets, actual-nets, own-is_size, nets-length}
 use Rattle.vhdl_elab_rules.proofs.laws.Inputs.{NotJoined}
 use Rattle.vhdl_elab_laws.proofs.Ordered.{PortsFirst, InstanceIsOrdered, PartsAreOrdered}
@@ -195,7 +195,7 @@ mutual
   instance-step : (i : Instance) (number : ℕ) (round : Placed) (label : List ℕ) (d : Numbered) → InstanceFits i → InstanceIsSound round.objects i → InstanceIsOrdered i → SoFar d → There d number round
       → Step d (with_instance (above_parts number round) label i d)
   instance-step (instance os turns parts) number round label d fit sound ordered h there =
-      let p : Placed = placed (above_parts number round) label d.nets (instance os turns parts) in
+      let p : Placed = placed_instance (above_parts number round) label d.nets (instance os turns parts) in
       let at : PlacedAt d.instances d.nets p = record {
         stands = inside number round there.is refl refl;
         above = round.nets;
@@ -232,7 +232,7 @@ pub record Walked (objects : List Object) (d : Numbered) : Type 0 where
 
 pub walk : (i : Instance) (name : List ℕ) → InstanceFits i → InstanceIsSound [] i → InstanceIsOrdered i → All NotJoined (objects_of i) → Walked (objects_of i) (with_instance above_top name i nothing_numbered)
 walk (instance os turns parts) name fit sound ordered alone =
-    let p : Placed = placed above_top name 0 (instance os turns parts) in
+    let p : Placed = placed_instance above_top name 0 (instance os turns parts) in
     let at : PlacedAt [] 0 p = record {
       stands = as_top refl refl refl alone;
       above = [];

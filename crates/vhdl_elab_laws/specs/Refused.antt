@@ -3,7 +3,7 @@ use Rattle.std.specs.Prelude.{◌≡◌, ◌⊎◌, ℕ, List, [], Err, IsOk, Is
 use Rattle.vhdl_names_rules.specs.units.Units.{Units}
 use Rattle.vhdl_expand_rules.specs.declared.fault.ElabProblem.{ElabProblem}
 use Rattle.vhdl_expand_rules.specs.declared.fault.ElabProblem.TheVariants.{NoTop, TooMany}
-use Rattle.vhdl_expand_rules.specs.Elab.{◌>>=◌, found, unless}
+use Rattle.vhdl_expand_rules.specs.Elab.{◌>>=◌, item_or, unless}
 use Rattle.vhdl_expand_rules.specs.Declarations.{interface}
 use Rattle.vhdl_expand_rules.specs.Expansion.{entity_named, expanded_design}
 use Rattle.vhdl_expand_rules.specs.Site.{no_integers}
@@ -13,7 +13,7 @@ use Rattle.vhdl_elab_rules.specs.Elaboration.{elaborated_net}
 
 -- the top is there, and its generics and ports are elaborated
 abbrev pub HasInterface : Units → (top : List ℕ) → Type 0
-HasInterface units top = IsOk (found NoTop (entity_named units top) >>= λ unit. interface no_integers [] unit)
+HasInterface units top = IsOk (item_or NoTop (entity_named units top) >>= λ unit. interface no_integers [] unit)
 
 -- a rule is broken before the instances are connected, that of the limits among them
 abbrev pub IsNotExpanded : Units → (top : List ℕ) → Type 0

@@ -35,8 +35,8 @@ net_of d = record {
 }
 
 -- the netlist of a design, none of whose rules is broken
-unfoldable pub connected : Design → Elab Elaborated
-connected design = do
+unfoldable pub netlist_of : Design → Elab Elaborated
+netlist_of design = do
   let d = numbered_design design
   unless TooMany (is_within_limits (counts d))
   unless TwoUnresolved (not (has_two_unresolved d))
@@ -46,4 +46,4 @@ connected design = do
 unfoldable pub elaborated_net : Units → (top : List ℕ) → Elab Elaborated
 elaborated_net units top = do
   design ← expanded_design units top
-  connected design
+  netlist_of design

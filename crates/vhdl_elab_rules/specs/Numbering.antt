@@ -111,8 +111,8 @@ abbrev pub above_parts : (number : ℕ) → Placed → Above
 above_parts number round = record { parent = Some number; path = round.path ++ codes "."; nets = round.nets }
 
 -- an instance whose own nets begin at this one
-abbrev pub placed : Above → (label : List ℕ) → (first : ℕ) → Instance → Placed
-placed above label first (instance objects turns parts) = record {
+abbrev pub placed_instance : Above → (label : List ℕ) → (first : ℕ) → Instance → Placed
+placed_instance above label first (instance objects turns parts) = record {
   parent = above.parent;
   label = label;
   path = above.path ++ label;
@@ -133,7 +133,7 @@ abbrev mutual
   -- an instance, after what has numbers already, and what stands in it
   pub with_instance : Above → (label : List ℕ) → Instance → Numbered → Numbered
   with_instance above label (instance objects turns parts) d =
-      let p = placed above label d.nets (instance objects turns parts) in
+      let p = placed_instance above label d.nets (instance objects turns parts) in
       with_parts (length d.instances) p parts (with_placed p d)
 
   -- in order of the text

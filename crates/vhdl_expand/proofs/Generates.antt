@@ -8,11 +8,11 @@ use Rattle.vhdl_names_rules.specs.units.Units as u
 use Rattle.vhdl_names_rules.specs.units.Units.{Units}
 use Rattle.vhdl_expand_rules.specs.declared.fault.ElabProblem.{ElabProblem}
 use Rattle.vhdl_expand_rules.specs.Elab.{Elab, ◌>>=◌, each, MayTell}
-use Rattle.vhdl_expand_rules.specs.Integers.{turns, decision, counted, next}
+use Rattle.vhdl_expand_rules.specs.Integers.{turns, decision, numbers_from, next}
 use Rattle.vhdl_expand_rules.specs.Parameters.{parameter}
 use Rattle.vhdl_expand_rules.specs.Tree.{Parts, no_parts, followed_by}
 use Rattle.vhdl_expand_rules.specs.Expansion as definition
-use Rattle.vhdl_expand_rules.specs.Expansion.{Spot, instance_of, in_branch, joined, dotted}
+use Rattle.vhdl_expand_rules.specs.Expansion.{Spot, instance_of, in_branch, joined_parts, with_dot}
 use Rattle.vhdl_expand_rules.proofs.Steps.{given}
 use Rattle.vhdl_expand_rules.proofs.Parameters.{next-turn, no-turn, counted-length}
 use Rattle.vhdl_expand_tree.proofs.Alike.{Alike, alike_same, alike_after, alike_trans, tells_same}
@@ -26,8 +26,8 @@ use Rattle.vhdl_expand.proofs.Making.{in_turn, added_alike, goes, stops, ends, n
 
 -- all turns and then their parts
 first-turns : (n : ℕ) (ps : Elab (List Parts)) (ns : Elab (List ℕ))
-    → Alike (together (ps >>= λ xs. given (joined xs)) (ns >>= λ ms. given (n + sum ms)))
-    (in_turn (given (made_turns n)) (together (ps >>= λ xs. given (joined xs)) (ns >>= λ ms. given (sum ms))))
+    → Alike (together (ps >>= λ xs. given (joined_parts xs)) (ns >>= λ ms. given (n + sum ms)))
+    (in_turn (given (made_turns n)) (together (ps >>= λ xs. given (joined_parts xs)) (ns >>= λ ms. given (sum ms))))
 first-turns n (Ok xs) (Ok ms) = alike_same refl
 first-turns n (Ok xs) (Err problem) = alike_same refl
 first-turns n (Err problem) ns = alike_same refl
@@ -47,14 +47,14 @@ sum-more n ns = ap (λ m. fold ◌+◌ m ns) (no-first n) ∙ sum-from n 0 ns
 
 -- a turn and then the others
 one-turn : (p : Elab Parts) (ps : Elab (List Parts)) (m : Elab ℕ) (ms : Elab (List ℕ)) → ((x : Parts) → p ≡ Ok x → (k : ℕ) × (m ≡ Ok k))
-    → Alike (together ((p >>= λ x. ps >>= λ xs. given (x ∷ xs)) >>= λ xs. given (joined xs)) ((m >>= λ n. ms >>= λ ns. given (n ∷ ns)) >>= λ ns. given (sum ns)))
-    (in_turn (together p m) (together (ps >>= λ xs. given (joined xs)) (ms >>= λ ns. given (sum ns))))
-one-turn (Ok x) (Ok xs) (Ok n) (Ok ns) counted = alike_same (ap (λ m. given (record { parts = followed_by x (joined xs); turns = m })) (sum-more n ns))
-one-turn (Ok x) (Ok xs) (Ok n) (Err problem) counted = alike_same refl
-one-turn (Ok x) (Ok xs) (Err problem) ms counted = alike_same refl
-one-turn (Ok x) (Err problem) (Ok n) ms counted = alike_same refl
-one-turn (Ok x) (Err problem) (Err other) ms counted = let e = (counted x refl).1 in absurd cc
-one-turn (Err problem) ps m ms counted = alike_same refl
+    → Alike (together ((p >>= λ x. ps >>= λ xs. given (x ∷ xs)) >>= λ xs. given (joined_parts xs)) ((m >>= λ n. ms >>= λ ns. given (n ∷ ns)) >>= λ ns. given (sum ns)))
+    (in_turn (together p m) (together (ps >>= λ xs. given (joined_parts xs)) (ms >>= λ ns. given (sum ns))))
+one-turn (Ok x) (Ok xs) (Ok n) (Ok ns) numbers_from = alike_same (ap (λ m. given (record { parts = followed_by x (joined_parts xs); turns = m })) (sum-more n ns))
+one-turn (Ok x) (Ok xs) (Ok n) (Err problem) numbers_from = alike_same refl
+one-turn (Ok x) (Ok xs) (Err problem) ms numbers_from = alike_same refl
+one-turn (Ok x) (Err problem) (Ok n) ms numbers_from = alike_same refl
+one-turn (Ok x) (Err problem) (Err other) ms numbers_from = let e = (numbers_from x refl).1 in absurd cc
+one-turn (Err problem) ps m ms numbers_from = alike_same refl
 
 module _ (units : Units) (levels : ℕ) (at : Spot) (label : List ℕ) (body : u.Concurrents) where
   -- of a turn whose parameter has this value, and of several turns
@@ -63,7 +63,7 @@ module _ (units : Units) (levels : ℕ) (at : Spot) (label : List ℕ) (body : u
 
   abbrev pub all_turned : List ℤ → Elab Made
   all_turned is =
-      together (each (λ i. definition.concurrents units (instance_of units levels) (definition.in_turn at label i) body) is >>= λ ps. given (joined ps))
+      together (each (λ i. definition.concurrents units (instance_of units levels) (definition.in_turn at label i) body) is >>= λ ps. given (joined_parts ps))
       (each (λ i. definition.concurrents_turns (definition.in_turn at label i) body) is >>= λ ns. given (sum ns))
 
   abbrev pub for_each : Range → Elab Made
@@ -81,7 +81,7 @@ module _ (units : Units) (levels : ℕ) (at : Spot) (label : List ℕ) (body : u
     where
       by : Elab (List ℤ) → Elab Made
       by q =
-          together (q >>= λ is. each (λ i. definition.concurrents units (instance_of units levels) (definition.in_turn at label i) body) is >>= λ ps. given (joined ps))
+          together (q >>= λ is. each (λ i. definition.concurrents units (instance_of units levels) (definition.in_turn at label i) body) is >>= λ ps. given (joined_parts ps))
           (q >>= λ is. each (λ i. definition.concurrents_turns (definition.in_turn at label i) body) is >>= λ ns. given (length is + sum ns))
 
   turns-refused : {problem : ElabProblem} → (r : Range) (is : List ℤ) (old : Progress) → turns at.site.integers r ≡ Ok is → MayTell (adding old (given (made_turns (length is)))) problem
@@ -92,18 +92,18 @@ module _ (units : Units) (levels : ℕ) (at : Spot) (label : List ℕ) (body : u
     where
       by : Elab (List ℤ) → Elab Made
       by q =
-          together (q >>= λ is. each (λ i. definition.concurrents units (instance_of units levels) (definition.in_turn at label i) body) is >>= λ ps. given (joined ps))
+          together (q >>= λ is. each (λ i. definition.concurrents units (instance_of units levels) (definition.in_turn at label i) body) is >>= λ ps. given (joined_parts ps))
           (q >>= λ is. each (λ i. definition.concurrents_turns (definition.in_turn at label i) body) is >>= λ ns. given (length is + sum ns))
 
-  pub turns_begin : (r : Range) (direction : Direction) (x : ℤ) (count : ℕ) (old now : Progress) → turns at.site.integers r ≡ Ok (counted direction x count)
-      → adding old (given (made_turns count)) ≡ Ok now → Alike (adding old (for_each r)) (adding now (all_turned (counted direction x count)))
+  pub turns_begin : (r : Range) (direction : Direction) (x : ℤ) (count : ℕ) (old now : Progress) → turns at.site.integers r ≡ Ok (numbers_from direction x count)
+      → adding old (given (made_turns count)) ≡ Ok now → Alike (adding old (for_each r)) (adding now (all_turned (numbers_from direction x count)))
   turns_begin r direction x count old now h k =
-      turns-begin r (counted direction x count) old now h (ap (λ n. adding old (given (made_turns n))) (counted-length direction x count) ∙ k)
+      turns-begin r (numbers_from direction x count) old now h (ap (λ n. adding old (given (made_turns n))) (counted-length direction x count) ∙ k)
 
-  pub turns_refused : {problem : ElabProblem} → (r : Range) (direction : Direction) (x : ℤ) (count : ℕ) (old : Progress) → turns at.site.integers r ≡ Ok (counted direction x count)
+  pub turns_refused : {problem : ElabProblem} → (r : Range) (direction : Direction) (x : ℤ) (count : ℕ) (old : Progress) → turns at.site.integers r ≡ Ok (numbers_from direction x count)
       → MayTell (adding old (given (made_turns count))) problem → MayTell (adding old (for_each r)) problem
   turns_refused r direction x count old h k =
-      turns-refused r (counted direction x count) old h (tells_same (ap (λ n. adding old (given (made_turns n))) (counted-length direction x count)) k)
+      turns-refused r (numbers_from direction x count) old h (tells_same (ap (λ n. adding old (given (made_turns n))) (counted-length direction x count)) k)
 
   pub no_turns : {problem : ElabProblem} → (r : Range) (old : Progress) → turns at.site.integers r ≡ Err problem → adding old (for_each r) ≡ Err problem
   unfolding definition.concurrent definition.concurrent_turns
@@ -111,37 +111,37 @@ module _ (units : Units) (levels : ℕ) (at : Spot) (label : List ℕ) (body : u
     where
       by : Elab (List ℤ) → Elab Made
       by q =
-          together (q >>= λ is. each (λ i. definition.concurrents units (instance_of units levels) (definition.in_turn at label i) body) is >>= λ ps. given (joined ps))
+          together (q >>= λ is. each (λ i. definition.concurrents units (instance_of units levels) (definition.in_turn at label i) body) is >>= λ ps. given (joined_parts ps))
           (q >>= λ is. each (λ i. definition.concurrents_turns (definition.in_turn at label i) body) is >>= λ ns. given (length is + sum ns))
 
   next-turned : (now : Progress) (direction : Direction) (x i : ℤ) (count k : ℕ) → k < count → i ≡ parameter direction x k
-      → Alike (adding now (all_turned (drop k (counted direction x count)))) (adding now (in_turn (turned i) (all_turned (drop (k + 1) (counted direction x count)))))
+      → Alike (adding now (all_turned (drop k (numbers_from direction x count)))) (adding now (in_turn (turned i) (all_turned (drop (k + 1) (numbers_from direction x count)))))
   next-turned now direction x i count k below is =
-      alike_after (ap (λ js. adding now (all_turned js)) (next-turn direction x count k below ∙ ap (λ j. j ∷ drop (k + 1) (counted direction x count)) (sym is)))
+      alike_after (ap (λ js. adding now (all_turned js)) (next-turn direction x count k below ∙ ap (λ j. j ∷ drop (k + 1) (numbers_from direction x count)) (sym is)))
       (added_alike now _ _ (one-turn (definition.concurrents units (instance_of units levels) (definition.in_turn at label i) body) _ (definition.concurrents_turns (definition.in_turn at label i) body) _
       (concurrents_counted units (instance_of units levels) (definition.in_turn at label i) body)))
 
   pub turns_go : (total : Elab Progress) (now new : Progress) (direction : Direction) (x i : ℤ) (count k : ℕ) → k < count → i ≡ parameter direction x k
-      → Alike total (adding now (all_turned (drop k (counted direction x count)))) → adding now (turned i) ≡ Ok new
-      → Alike total (adding new (all_turned (drop (k + 1) (counted direction x count))))
+      → Alike total (adding now (all_turned (drop k (numbers_from direction x count)))) → adding now (turned i) ≡ Ok new
+      → Alike total (adding new (all_turned (drop (k + 1) (numbers_from direction x count))))
   turns_go total now new direction x i count k below is so_far h =
-      goes total now new (turned i) (all_turned (drop (k + 1) (counted direction x count))) (alike_trans so_far (next-turned now direction x i count k below is)) h
+      goes total now new (turned i) (all_turned (drop (k + 1) (numbers_from direction x count))) (alike_trans so_far (next-turned now direction x i count k below is)) h
 
   pub turns_stop : {problem : ElabProblem} → (total : Elab Progress) (now : Progress) (direction : Direction) (x i : ℤ) (count k : ℕ) → k < count → i ≡ parameter direction x k
-      → Alike total (adding now (all_turned (drop k (counted direction x count)))) → MayTell (adding now (turned i)) problem → MayTell total problem
+      → Alike total (adding now (all_turned (drop k (numbers_from direction x count)))) → MayTell (adding now (turned i)) problem → MayTell total problem
   turns_stop total now direction x i count k below is so_far h =
-      stops total now (turned i) (all_turned (drop (k + 1) (counted direction x count))) (alike_trans so_far (next-turned now direction x i count k below is)) h
+      stops total now (turned i) (all_turned (drop (k + 1) (numbers_from direction x count))) (alike_trans so_far (next-turned now direction x i count k below is)) h
 
   pub turns_end : (total : Elab Progress) (now : Progress) (direction : Direction) (x : ℤ) (count k : ℕ) → count ≤ k
-      → Alike total (adding now (all_turned (drop k (counted direction x count)))) → total ≡ Ok now
+      → Alike total (adding now (all_turned (drop k (numbers_from direction x count)))) → total ≡ Ok now
   turns_end total now direction x count k h so_far = ends total now (alike_trans so_far (alike_same (ap (λ js. adding now (all_turned js)) (no-turn direction x count k h))))
 
   -- the place in a turn, and in an if generate
   pub turn_spot : (inner : Spot) (i : ℤ) (values : List ℤ) (prefix : List ℕ) → inner ≡ within at values prefix → values ≡ at.site.integers.generates ++ i ∷ []
-      → prefix ≡ at.prefix ++ dotted (label ++ (codes "(" ++ (signed_decimal i ++ codes ")"))) → definition.in_turn at label i ≡ inner
+      → prefix ≡ at.prefix ++ with_dot (label ++ (codes "(" ++ (signed_decimal i ++ codes ")"))) → definition.in_turn at label i ≡ inner
   turn_spot inner i values prefix h v p = sym (h ∙ ap (λ vs. within at vs prefix) v ∙ ap (within at (at.site.integers.generates ++ i ∷ [])) p)
 
-  pub branch_spot : (inner : Spot) (prefix : List ℕ) → inner ≡ within at at.site.integers.generates prefix → prefix ≡ at.prefix ++ dotted label → in_branch at label ≡ inner
+  pub branch_spot : (inner : Spot) (prefix : List ℕ) → inner ≡ within at at.site.integers.generates prefix → prefix ≡ at.prefix ++ with_dot label → in_branch at label ≡ inner
   branch_spot inner prefix h p = sym (h ∙ ap (within at at.site.integers.generates) p)
 
   -- ---- if generates

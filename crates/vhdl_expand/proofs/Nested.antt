@@ -5,7 +5,7 @@ use Rattle.vhdl_names_rules.specs.units.Units as u
 use Rattle.vhdl_names_rules.specs.units.Units.{Units, Entity, Architecture}
 use Rattle.vhdl_expand_rules.specs.declared.fault.ElabProblem.{ElabProblem}
 use Rattle.vhdl_expand_rules.specs.declared.fault.ElabProblem.TheVariants.{NoTop, TooDeep, TooMany}
-use Rattle.vhdl_expand_rules.specs.Elab.{Elab, ◌>>=◌, ◌>>◌, unless, found, MayTell}
+use Rattle.vhdl_expand_rules.specs.Elab.{Elab, ◌>>=◌, ◌>>◌, unless, item_or, MayTell}
 use Rattle.vhdl_expand_rules.specs.Tree as t
 use Rattle.vhdl_expand_rules.specs.Tree.{Parts, no_parts, followed_by, Object, Process, Instance, instance}
 use Rattle.vhdl_expand_rules.specs.Declarations.{InstanceObjects, declarations, interface, associations}
@@ -73,7 +73,7 @@ instance-is : (units : Units) (n : ℕ) (unit : Entity) (d e : InstanceObjects) 
     → instance_of units (suc n) unit d ≡ (made.concurrents units n (outermost e) a.statements >>= λ m. given (made_of e.objects m))
 unfolding instance_of
 instance-is units n unit d e a h k =
-    ap (λ (o : Option Architecture). found NoTop o >>= λ a. declarations d a.declarations >>= λ e. body a e) h
+    ap (λ (o : Option Architecture). item_or NoTop o >>= λ a. declarations d a.declarations >>= λ e. body a e) h
     ∙ ap (λ (r : Elab InstanceObjects). r >>= λ e. body a e) k
     ∙ go (definition.concurrents units (instance_of units n) (outermost e) a.statements) (definition.concurrents_turns (outermost e) a.statements)
   where
@@ -120,7 +120,7 @@ module _ (units : Units) (n : ℕ) (unit : Entity) (d : InstanceObjects) (before
 
   pub no_architecture : unit.architecture ≡ None → whole ≡ Err NoTop
   unfolding instance_of
-  no_architecture h = err_first (instance_of units (suc n) unit d) _ (ap (λ (o : Option Architecture). found NoTop o >>= λ a. declarations d a.declarations >>= λ e. rest a e) h)
+  no_architecture h = err_first (instance_of units (suc n) unit d) _ (ap (λ (o : Option Architecture). item_or NoTop o >>= λ a. declarations d a.declarations >>= λ e. rest a e) h)
     where
       rest : Architecture → InstanceObjects → Elab Instance
       rest a e =
@@ -131,7 +131,7 @@ module _ (units : Units) (n : ℕ) (unit : Entity) (d : InstanceObjects) (before
   unfolding instance_of
   no_declarations a h k =
       err_first (instance_of units (suc n) unit d) _
-      (ap (λ (o : Option Architecture). found NoTop o >>= λ a. declarations d a.declarations >>= λ e. rest a e) h ∙ err_first (declarations d a.declarations) (λ e. rest a e) k)
+      (ap (λ (o : Option Architecture). item_or NoTop o >>= λ a. declarations d a.declarations >>= λ e. rest a e) h ∙ err_first (declarations d a.declarations) (λ e. rest a e) k)
     where
       rest : Architecture → InstanceObjects → Elab Instance
       rest a e =
@@ -236,19 +236,19 @@ module _ (units : Units) (n : ℕ) (at : Spot) (x : u.Instance) where
 
   pub no_unit : slice_get units x.unit ≡ None → expanded_here ≡ Err NoTop
   unfolding definition.instance
-  no_unit h = ap (λ (o : Option Entity). found NoTop o >>= λ unit. interface at.site.integers x.generics unit >>= λ d. associations at.site unit.ports x.ports d.objects >>= λ os. instance_of units n unit (record d { objects = os })) h
+  no_unit h = ap (λ (o : Option Entity). item_or NoTop o >>= λ unit. interface at.site.integers x.generics unit >>= λ d. associations at.site unit.ports x.ports d.objects >>= λ os. instance_of units n unit (record d { objects = os })) h
 
   pub no_interface : {problem : ElabProblem} → (unit : Entity) → slice_get units x.unit ≡ Some unit → interface at.site.integers x.generics unit ≡ Err problem → expanded_here ≡ Err problem
   unfolding definition.instance
   no_interface unit h k =
-      ap (λ (o : Option Entity). found NoTop o >>= λ unit. interface at.site.integers x.generics unit >>= λ d. associations at.site unit.ports x.ports d.objects >>= λ os. instance_of units n unit (record d { objects = os })) h
+      ap (λ (o : Option Entity). item_or NoTop o >>= λ unit. interface at.site.integers x.generics unit >>= λ d. associations at.site unit.ports x.ports d.objects >>= λ os. instance_of units n unit (record d { objects = os })) h
       ∙ err_first (interface at.site.integers x.generics unit) _ k
 
   with-interface : (unit : Entity) (d : InstanceObjects) → slice_get units x.unit ≡ Some unit → interface at.site.integers x.generics unit ≡ Ok d
       → expanded_here ≡ (associated at.site unit.ports x.ports d >>= λ e. instance_of units n unit e)
   unfolding definition.instance
   with-interface unit d h k =
-      ap (λ (o : Option Entity). found NoTop o >>= λ unit. interface at.site.integers x.generics unit >>= λ d. associations at.site unit.ports x.ports d.objects >>= λ os. instance_of units n unit (record d { objects = os })) h
+      ap (λ (o : Option Entity). item_or NoTop o >>= λ unit. interface at.site.integers x.generics unit >>= λ d. associations at.site unit.ports x.ports d.objects >>= λ os. instance_of units n unit (record d { objects = os })) h
       ∙ ap (λ (r : Elab InstanceObjects). r >>= λ d. associations at.site unit.ports x.ports d.objects >>= λ os. instance_of units n unit (record d { objects = os })) k
       ∙ go (associations at.site unit.ports x.ports d.objects)
     where
@@ -272,19 +272,19 @@ designed name r = r >>= λ i. given (record { name = name; top = i })
 module _ (units : Units) (top : List ℕ) where
   pub no_top : entity_named units top ≡ None → within_limits (expanded_design units top) ≡ Err NoTop
   unfolding expanded_design
-  no_top h = ap (λ (o : Option Entity). within_limits (found NoTop o >>= λ unit. interface no_integers [] unit >>= λ d. designed unit.name (instance_of units 32 unit d))) h
+  no_top h = ap (λ (o : Option Entity). within_limits (item_or NoTop o >>= λ unit. interface no_integers [] unit >>= λ d. designed unit.name (instance_of units 32 unit d))) h
 
   pub no_top_interface : {problem : ElabProblem} → (unit : Entity) → entity_named units top ≡ Some unit → interface no_integers [] unit ≡ Err problem → within_limits (expanded_design units top) ≡ Err problem
   unfolding expanded_design
   no_top_interface unit h k =
-      ap (λ (o : Option Entity). within_limits (found NoTop o >>= λ unit. interface no_integers [] unit >>= λ d. designed unit.name (instance_of units 32 unit d))) h
+      ap (λ (o : Option Entity). within_limits (item_or NoTop o >>= λ unit. interface no_integers [] unit >>= λ d. designed unit.name (instance_of units 32 unit d))) h
       ∙ err_first (interface no_integers [] unit >>= λ d. designed unit.name (instance_of units 32 unit d)) _ (err_first (interface no_integers [] unit) _ k)
 
   module _ (unit : Entity) (d : InstanceObjects) (named : entity_named units top ≡ Some unit) (known : interface no_integers [] unit ≡ Ok d) where
     from-top : expanded_design units top ≡ designed unit.name (instance_of units 32 unit d)
     unfolding expanded_design
     from-top =
-        ap (λ (o : Option Entity). found NoTop o >>= λ unit. interface no_integers [] unit >>= λ d. designed unit.name (instance_of units 32 unit d)) named
+        ap (λ (o : Option Entity). item_or NoTop o >>= λ unit. interface no_integers [] unit >>= λ d. designed unit.name (instance_of units 32 unit d)) named
         ∙ ap (λ (r : Elab InstanceObjects). r >>= λ d. designed unit.name (instance_of units 32 unit d)) known
 
     limited : (r : Elab Instance) → within_limits (designed unit.name r) ≡ designed unit.name (charged limits instance_costs r >>= λ a. given a.0)

@@ -10,16 +10,16 @@ use Rattle.vhdl_expand_rules.specs.Site.{no_integers}
 use Rattle.vhdl_expand_rules.specs.declared.fault.ElabFault.{ElabFault}
 use Rattle.vhdl_expand_rules.specs.declared.fault.ElabFault.TheVariants.{At}
 use Rattle.vhdl_expand_rules.specs.declared.fault.ElabProblem.{ElabProblem}
-use Rattle.vhdl_expand_rules.specs.Elab.{Elab, ◌>>=◌, found, told, MayTell}
+use Rattle.vhdl_expand_rules.specs.Elab.{Elab, ◌>>=◌, item_or, problem_told, MayTell}
 
-pub told_at : {A : Type 0} {given : Elab A} {fault : ElabFault} {problem : ElabProblem} {at : ℕ} → fault ≡ At problem at → MayTell given problem → MayTell given (told fault)
-told_at {A = A} {given = given} e t = let P : ElabProblem → Type 0 = λ q. MayTell given q in subst P (sym (ap (λ (f : ElabFault). told f) e)) t
+pub told_at : {A : Type 0} {given : Elab A} {fault : ElabFault} {problem : ElabProblem} {at : ℕ} → fault ≡ At problem at → MayTell given problem → MayTell given (problem_told fault)
+told_at {A = A} {given = given} e t = let P : ElabProblem → Type 0 = λ q. MayTell given q in subst P (sym (ap (λ (f : ElabFault). problem_told f) e)) t
 
-pub same_at : {A : Type 0} {given : Elab A} {fault : ElabFault} {problem : ElabProblem} {at : ℕ} → fault ≡ At problem at → given ≡ Err problem → given ≡ Err (told fault)
-same_at {A = A} {given = given} e h = let P : ElabProblem → Type 0 = λ q. given ≡ Err q in subst P (sym (ap (λ (f : ElabFault). told f) e)) h
+pub same_at : {A : Type 0} {given : Elab A} {fault : ElabFault} {problem : ElabProblem} {at : ℕ} → fault ≡ At problem at → given ≡ Err problem → given ≡ Err (problem_told fault)
+same_at {A = A} {given = given} e h = let P : ElabProblem → Type 0 = λ q. given ≡ Err q in subst P (sym (ap (λ (f : ElabFault). problem_told f) e)) h
 
 -- the interface of the top was elaborated
 pub has_interface : (units : Units) (top : List ℕ) (unit : Entity) (d : InstanceObjects) → entity_named units top ≡ Some unit → interface no_integers [] unit ≡ Ok d → HasInterface units top
 has_interface units top unit d named known =
-    let is = ap (λ (o : Option Entity). found NoTop o >>= λ u. interface no_integers [] u) named ∙ known in
+    let is = ap (λ (o : Option Entity). item_or NoTop o >>= λ u. interface no_integers [] u) named ∙ known in
     subst (λ (r : Elab InstanceObjects). IsOk r) (sym is) refl

@@ -2,14 +2,14 @@
 
 ghost use Rattle.std.specs.Prelude.{◌≡◌, ◌++◌, codes, IfOk, OnOk};
 ghost use Rattle.std.specs.Fmt.{signed_decimal};
-ghost use Rattle.vhdl_expand_rules.specs.Expansion.{dotted};
+ghost use Rattle.vhdl_expand_rules.specs.Expansion.{with_dot};
 
 use itoa::Buffer;
 use std::alloc::{AllocError, Global};
 
 /// Appends `label(i)`, as a turn of a for generate is named.
 fn push_turn(prefix: &mut Vec<u8>, label: &[u8], parameter: i32) -> Result<(), AllocError>
-    ensures { OnOk result (prefix.new.items ≡ prefix.old.items ++ dotted (label.now ++ (codes "(" ++ (signed_decimal parameter ++ codes ")")))) }
+    ensures { OnOk result (prefix.new.items ≡ prefix.old.items ++ with_dot (label.now ++ (codes "(" ++ (signed_decimal parameter ++ codes ")")))) }
 {
     let mut buffer = Buffer::new();
     prefix.extend_from_slice(label)?;
@@ -27,7 +27,7 @@ pub(crate) fn turn_prefix(
     label: &[u8],
     parameter: i32,
 ) -> Result<Vec<u8>, AllocError>
-    ensures { IfOk result (λ v. v.items ≡ outer.now ++ dotted (label.now ++ (codes "(" ++ (signed_decimal parameter ++ codes ")")))) }
+    ensures { IfOk result (λ v. v.items ≡ outer.now ++ with_dot (label.now ++ (codes "(" ++ (signed_decimal parameter ++ codes ")")))) }
 {
     let mut prefix = outer.to_vec(alloc)?;
     push_turn(&mut prefix, label, parameter)?;
@@ -40,7 +40,7 @@ pub(crate) fn branch_prefix(
     outer: &[u8],
     label: &[u8],
 ) -> Result<Vec<u8>, AllocError>
-    ensures { IfOk result (λ v. v.items ≡ outer.now ++ dotted label.now) }
+    ensures { IfOk result (λ v. v.items ≡ outer.now ++ with_dot label.now) }
 {
     let mut prefix = outer.to_vec(alloc)?;
     prefix.extend_from_slice(label)?;

@@ -17,7 +17,7 @@ use Rattle.vhdl_expand_rules.specs.declared.fault.ElabFault.{ElabFault}
 use Rattle.vhdl_expand_rules.specs.declared.fault.ElabProblem.{ElabProblem}
 use Rattle.vhdl_expand_rules.specs.Elab.{Elab, ◌>>=◌}
 use Rattle.vhdl_expand_rules.specs.Site.{Site}
-use Rattle.vhdl_expand_rules.specs.Expressions.{operands_fit, operated, vector}
+use Rattle.vhdl_expand_rules.specs.Expressions.{operands_fit, operation_on, vector}
 use Rattle.vhdl_expand_rules.proofs.Chains.{bind-assoc, err_first}
 use Rattle.vhdl_expand_rules.proofs.Steps.{given}
 use Rattle.vhdl_expand_bodies.specs.Results.{Expands}
@@ -35,7 +35,7 @@ links_push left xs ys y h = ap (links_of left) h ∙ push left xs y
 
 -- an operator on operands of so many elements
 pub operated_gives : (op : bodies.Operator) (d e whole : bodies.Expr) (m n : ℕ) → width d ≡ m → width e ≡ n → operands_fit op m n ≡ Ok tt → whole ≡ bodies.Expr.binary op d e
-    → operated op d e ≡ Ok whole
+    → operation_on op d e ≡ Ok whole
 operated_gives op d e whole m n h k fit same =
     ap (λ i. operands_fit op i (width e) >>= λ _. given (bodies.Expr.binary op d e)) h
     ∙ ap (λ j. operands_fit op m j >>= λ _. given (bodies.Expr.binary op d e)) k

@@ -18,7 +18,7 @@ use Rattle.vhdl_expand_rules.specs.declared.fault.ElabProblem.TheVariants.{Index
 use Rattle.vhdl_expand_rules.specs.Elab.{◌>>=◌, unless}
 use Rattle.vhdl_expand_rules.specs.Integers.{Integers, integer, natural, is_null, extent}
 use Rattle.vhdl_expand_rules.specs.Kinds.{ObjectKind, one, vector, enumeration, Bounds, bounds_size, size, is_within, place_of, slice_places, is_same_direction, places, size_of}
-use Rattle.vhdl_expand_rules.specs.Elab.{found as found_kind}
+use Rattle.vhdl_expand_rules.specs.Elab.{item_or as found_kind}
 use Rattle.vhdl_expand_rules.specs.Site.{Site, Constant, elements_count, part_elements, constant_values, the_element}
 use Rattle.vhdl_expand_rules.proofs.Steps.{given, ok, bound, kept}
 use Rattle.vhdl_expand_bodies.specs.declared.site.Placed.{Placed}

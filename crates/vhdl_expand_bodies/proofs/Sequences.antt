@@ -10,7 +10,7 @@ use Rattle.rtl_net.specs.Bodies as net
 use Rattle.vhdl_names_units.specs.views.Sequential as units
 use Rattle.vhdl_expand_rules.specs.declared.fault.ElabProblem.{ElabProblem}
 use Rattle.vhdl_expand_rules.specs.Elab.{Elab, ◌>>=◌, each}
-use Rattle.vhdl_expand_rules.specs.Integers.{counted, next}
+use Rattle.vhdl_expand_rules.specs.Integers.{numbers_from, next}
 use Rattle.vhdl_expand_rules.specs.Parameters.{parameter}
 use Rattle.vhdl_expand_rules.specs.Site.{Site, in_loop}
 use Rattle.vhdl_expand_rules.specs.Statements.{joined_bodies, one, statement, statements}
@@ -92,23 +92,23 @@ module _ (at : Site) where
       go (Err p) q k = k
 
   pub turns_go : (body : u.Statements) (total : Elab bodies.Stmts) (now new : bodies.Stmts) (direction : Direction) (x i : ℤ) (count k : ℕ) → k < count
-      → total ≡ after now (steps.repeated at body (drop k (counted direction x count))) → i ≡ parameter direction x k
+      → total ≡ after now (steps.repeated at body (drop k (numbers_from direction x count))) → i ≡ parameter direction x k
       → after now (statements (in_loop at i) body) ≡ Ok new
-      → total ≡ after new (steps.repeated at body (drop (k + 1) (counted direction x count)))
+      → total ≡ after new (steps.repeated at body (drop (k + 1) (numbers_from direction x count)))
   turns_go body total now new direction x i count k below so_far is h =
-      so_far ∙ ap (λ js. after now (steps.repeated at body js)) (next-turn direction x count k below ∙ ap (λ j. j ∷ drop (k + 1) (counted direction x count)) (sym is))
-      ∙ turn-goes body now new i (drop (k + 1) (counted direction x count)) h
+      so_far ∙ ap (λ js. after now (steps.repeated at body js)) (next-turn direction x count k below ∙ ap (λ j. j ∷ drop (k + 1) (numbers_from direction x count)) (sym is))
+      ∙ turn-goes body now new i (drop (k + 1) (numbers_from direction x count)) h
 
   pub turns_stop : {problem : ElabProblem} (body : u.Statements) (total : Elab bodies.Stmts) (now : bodies.Stmts) (direction : Direction) (x i : ℤ) (count k : ℕ) → k < count
-      → total ≡ after now (steps.repeated at body (drop k (counted direction x count))) → i ≡ parameter direction x k
+      → total ≡ after now (steps.repeated at body (drop k (numbers_from direction x count))) → i ≡ parameter direction x k
       → (after now (statements (in_loop at i) body)) ≡ Err problem → total ≡ Err problem
   turns_stop {problem} body total now direction x i count k below so_far is h =
       subst (λ (r : Elab bodies.Stmts). r ≡ Err problem)
-      (sym (so_far ∙ ap (λ js. after now (steps.repeated at body js)) (next-turn direction x count k below ∙ ap (λ j. j ∷ drop (k + 1) (counted direction x count)) (sym is))))
-      (turn-stops body now i (drop (k + 1) (counted direction x count)) h)
+      (sym (so_far ∙ ap (λ js. after now (steps.repeated at body js)) (next-turn direction x count k below ∙ ap (λ j. j ∷ drop (k + 1) (numbers_from direction x count)) (sym is))))
+      (turn-stops body now i (drop (k + 1) (numbers_from direction x count)) h)
 
   pub turns_end : (body : u.Statements) (total : Elab bodies.Stmts) (now : bodies.Stmts) (direction : Direction) (x : ℤ) (count k : ℕ) → count ≤ k
-      → total ≡ after now (steps.repeated at body (drop k (counted direction x count))) → total ≡ Ok now
+      → total ≡ after now (steps.repeated at body (drop k (numbers_from direction x count))) → total ≡ Ok now
   turns_end body total now direction x count k h so_far =
       so_far ∙ ap (λ js. after now (steps.repeated at body js)) (no-turn direction x count k h) ∙ ap given (followed_done now)
 

@@ -23,7 +23,7 @@ use Rattle.vhdl_names_rules.proofs.rows.Tests.{view_chain}
 use Rattle.vhdl_expand_rules.specs.declared.fault.ElabProblem.{ElabProblem}
 use Rattle.vhdl_expand_rules.specs.Elab.{Elab, ◌>>=◌}
 use Rattle.vhdl_expand_rules.specs.Site.{Site, signal_elements}
-use Rattle.vhdl_expand_rules.specs.Expressions.{levelled, test}
+use Rattle.vhdl_expand_rules.specs.Expressions.{level_test, test}
 use Rattle.vhdl_expand_rules.proofs.Chains.{bind-assoc, err_first}
 use Rattle.vhdl_expand_rules.proofs.Steps.{given, ok}
 use Rattle.vhdl_expand_bodies.specs.steps.Tests as steps
@@ -58,7 +58,7 @@ chain_is_no_character start links = ap character_in (rows.view_chain start links
 -- ---- levels
 
 level-more : (plain : Bool) (f len : ℕ) (x : Nine) → 2 ≤ len
-    → levelled plain (range_with_len f len) x ≡ bodies.equal (bodies.elements (bodies.signal (range_with_len f len))) (bodies.elements (bodies.constant (x ∷ [])))
+    → level_test plain (range_with_len f len) x ≡ bodies.equal (bodies.elements (bodies.signal (range_with_len f len))) (bodies.elements (bodies.constant (x ∷ [])))
 level-more plain f zero x h = absurd (omega arith)
 level-more plain f (suc zero) x h = absurd (omega arith)
 level-more plain f (suc (suc len)) x h = refl
@@ -76,7 +76,7 @@ pub level_given : (at : Site) (plain : Bool) (p : u.SignalPart) (x : Nine) (f le
     → signal_elements at p.signal p.part ≡ Ok (range_with_len f len) → 1 ≤ len → (len ≡ 1 → ⊥) → given (range_with_len f len) ≡ Ok es → vs ≡ replicate 1 x
     → steps.level at plain p x ≡ Ok (bodies.equal (bodies.elements (bodies.signal es)) (bodies.elements (bodies.constant vs)))
 level_given at plain p x f len es vs there some several same value =
-    ap (λ r. r >>= λ es. one_more (levelled plain es x)) there
+    ap (λ r. r >>= λ es. one_more (level_test plain es x)) there
     ∙ ap one_more (level-more plain f len x (omega arith))
     ∙ ap (λ ms. one_more (bodies.equal (bodies.elements (bodies.signal ms)) (bodies.elements (bodies.constant (x ∷ []))))) (ok (range_with_len f len) es same)
     ∙ ap (λ ws. one_more (bodies.equal (bodies.elements (bodies.signal es)) (bodies.elements (bodies.constant ws)))) (sym value)

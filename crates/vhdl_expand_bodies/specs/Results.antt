@@ -2,15 +2,15 @@
 use Rattle.std.specs.Prelude.{◌≡◌, ◌≢◌, Result, Ok, Err}
 use Rattle.vhdl_expand_rules.specs.declared.fault.ElabFault.{ElabFault}
 use Rattle.vhdl_expand_rules.specs.declared.fault.ElabFault.TheVariants.{NoMemory}
-use Rattle.vhdl_expand_rules.specs.Elab.{Elab, told, MayTell}
+use Rattle.vhdl_expand_rules.specs.Elab.{Elab, problem_told, MayTell}
 
 -- What is returned, as contracts see it, is what is given; and but for want of memory it is refused only where that is refused, with the
 -- same problem.
 abbrev pub Expands : {X Y : Type 0} → (X → Y) → Elab Y → Result X ElabFault → Type 0
 Expands view given (Ok x) = given ≡ Ok (view x)
-Expands view given (Err fault) = fault ≢ NoMemory → given ≡ Err (told fault)
+Expands view given (Err fault) = fault ≢ NoMemory → given ≡ Err (problem_told fault)
 
 -- The same of a call that charges budgets on its way.
 abbrev pub Charges : {X Y : Type 0} → (X → Y) → Elab Y → Result X ElabFault → Type 0
 Charges view given (Ok x) = given ≡ Ok (view x)
-Charges view given (Err fault) = fault ≢ NoMemory → MayTell given (told fault)
+Charges view given (Err fault) = fault ≢ NoMemory → MayTell given (problem_told fault)

@@ -105,7 +105,7 @@ fn character_of(value: &Value) -> Option<Character>
 
 /// `n relation x` as a relation of `x` and `n`.
 fn turned(relation: Cmp) -> Cmp
-    ensures { result ≡ definition.turned relation }
+    ensures { result ≡ definition.converse_of relation }
 {
     match relation {
         Cmp::Eq => Cmp::Eq,

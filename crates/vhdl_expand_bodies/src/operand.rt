@@ -100,7 +100,7 @@ impl Chain {
         at: usize,
     ) -> Result<(), ElabFault>
         ensures { Expands (λ _. links_of (expr_view self.new.first.value) self.new.rest.items)
-            (definition.operated (operator_view operator) (links_of (expr_view self.old.first.value) self.old.rest.items) (expr_view right.expr)) result }
+            (definition.operation_on (operator_view operator) (links_of (expr_view self.old.first.value) self.old.rest.items) (expr_view right.expr)) result }
     {
         let width = fitted(operator, self.width, right.width, at)?;
         let operand = right.expr;
@@ -177,7 +177,7 @@ impl Operand {
         at: usize,
     ) -> Result<Operand, ElabFault>
         ensures { Expands (λ o. expr_view o.expr)
-            (definition.operated (operator_view operator) (bodies.constant (digits_of (fits.width (expr_view self.expr)) number)) (expr_view self.expr)) result }
+            (definition.operation_on (operator_view operator) (bodies.constant (digits_of (fits.width (expr_view self.expr)) number)) (expr_view self.expr)) result }
     {
         let digits = Operand::constant(Vec9::of_nat(u64::from(number), self.width.len));
         let mut chain = digits.begin(alloc)?;

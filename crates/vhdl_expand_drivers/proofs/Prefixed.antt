@@ -11,11 +11,11 @@ use Rattle.vhdl_names_rules.specs.units.Expressions.{Signal, Part, SignalPart}
 use Rattle.vhdl_names_rules.specs.units.Statements.{Statements}
 use Rattle.vhdl_expand_rules.specs.declared.fault.ElabProblem.TheVariants.{Index}
 use Rattle.vhdl_expand_rules.specs.declared.fault.ElabProblem.{ElabProblem}
-use Rattle.vhdl_expand_rules.specs.Elab.{Elab, ◌>>=◌, each, found}
+use Rattle.vhdl_expand_rules.specs.Elab.{Elab, ◌>>=◌, each, item_or}
 use Rattle.vhdl_expand_rules.specs.Integers.{Integers}
 use Rattle.vhdl_expand_rules.specs.Kinds.{ObjectKind, size, places}
 use Rattle.vhdl_expand_rules.specs.Site.{Site, elements_count, part_elements, signal_elements, place_elements}
-use Rattle.vhdl_expand_rules.specs.Prefixes.{prefix, targets, concatenated, prefixes_elements, names_elements, in_order}
+use Rattle.vhdl_expand_rules.specs.Prefixes.{prefix, targets, concatenation_of, prefixes_elements, names_elements, in_order}
 use Rattle.vhdl_expand_rules.proofs.Steps.{given, ok, bound, each-all}
 use Rattle.vhdl_expand_rules.proofs.Chains.{err_first}
 use Rattle.vhdl_expand_rules.proofs.laws.Names.{count-cons, was_found}
@@ -30,26 +30,26 @@ use Rattle.vhdl_expand_drivers.proofs.Walks.{next-left, none_left}
 
 module _ {A X : Type 0} (f : A → Elab (List ℕ)) (v : X → A) where
   abbrev all : List X → Elab (List ℕ)
-  all xs = each f (map v xs) >>= λ es. given (concatenated es)
+  all xs = each f (map v xs) >>= λ es. given (concatenation_of es)
 
   step : (made more es : List ℕ) (r : Elab (List (List ℕ))) → more ≡ made ++ es
-      → behind made ((r >>= λ zs. given (es ∷ zs)) >>= λ ess. given (concatenated ess)) ≡ behind more (r >>= λ ess. given (concatenated ess))
-  step made more es (Ok ess) pushed = ap given (sym (append_assoc made es (concatenated ess)) ∙ ap (λ m. m ++ concatenated ess) (sym pushed))
+      → behind made ((r >>= λ zs. given (es ∷ zs)) >>= λ ess. given (concatenation_of ess)) ≡ behind more (r >>= λ ess. given (concatenation_of ess))
+  step made more es (Ok ess) pushed = ap given (sym (append_assoc made es (concatenation_of ess)) ∙ ap (λ m. m ++ concatenation_of ess) (sym pushed))
   step made more es (Err p) pushed = refl
 
   goes : (total : Elab (List ℕ)) (made more es : List ℕ) (xs : List X) (i : ℕ) (x : X) → i < length xs → x ≡ get_or xs i x
       → total ≡ behind made (all (drop i xs)) → f (v x) ≡ Ok es → more ≡ made ++ es → total ≡ behind more (all (drop (i + 1) xs))
   goes total made more es xs i x below is so_far h pushed =
       so_far ∙ ap (λ zs. behind made (all zs)) (next-left xs i x below is)
-      ∙ ap (λ r. behind made ((r >>= λ y. each f (map v (drop (i + 1) xs)) >>= λ zs. given (y ∷ zs)) >>= λ ess. given (concatenated ess))) h
+      ∙ ap (λ r. behind made ((r >>= λ y. each f (map v (drop (i + 1) xs)) >>= λ zs. given (y ∷ zs)) >>= λ ess. given (concatenation_of ess))) h
       ∙ step made more es (each f (map v (drop (i + 1) xs))) pushed
 
   stops : {problem : ElabProblem} (total : Elab (List ℕ)) (made : List ℕ) (xs : List X) (i : ℕ) (x : X) → i < length xs → x ≡ get_or xs i x
       → total ≡ behind made (all (drop i xs)) → (f (v x)) ≡ Err problem → total ≡ Err problem
   stops {problem} total made xs i x below is so_far h =
       subst (λ (r : Elab (List ℕ)). r ≡ Err problem) (sym (so_far ∙ ap (λ zs. behind made (all zs)) (next-left xs i x below is)))
-      (err_first (each f (map v (x ∷ drop (i + 1) xs)) >>= λ ess. given (concatenated ess)) (λ ys. given (made ++ ys))
-      (err_first (each f (map v (x ∷ drop (i + 1) xs))) (λ ess. given (concatenated ess)) (err_first (f (v x)) _ h)))
+      (err_first (each f (map v (x ∷ drop (i + 1) xs)) >>= λ ess. given (concatenation_of ess)) (λ ys. given (made ++ ys))
+      (err_first (each f (map v (x ∷ drop (i + 1) xs))) (λ ess. given (concatenation_of ess)) (err_first (f (v x)) _ h)))
 
   ends : (total : Elab (List ℕ)) (made : List ℕ) (xs : List X) (i : ℕ) → length xs ≤ i → total ≡ behind made (all (drop i xs)) → total ≡ Ok made
   ends total made xs i h so_far = so_far ∙ ap (λ zs. behind made (all zs)) (none_left xs i h) ∙ ap given (append-nil made)
@@ -103,7 +103,7 @@ within (q ∷ kinds) (suc k) kind p h l =
 part-all : (P : ℕ → Type 0) (at : Integers) (from : ℕ) (kinds : List ObjectKind) (n : ℕ) (part : Part) (es : List ℕ) → part_elements at from kinds n part ≡ Ok es
     → ((p : ℕ) → p < elements_count kinds → P (from + p)) → All P es
 part-all P at from kinds n part es h go =
-    let kind = bound (found Index (slice_get kinds n)) _ es h in
+    let kind = bound (item_or Index (slice_get kinds n)) _ es h in
     let ps = bound (places at kind.x part) _ es kind.then_gave in
     let c : ℕ = elements_count (take n kinds) in
     let there : slice_get kinds n ≡ Some kind.x = was_found Index (slice_get kinds n) kind.x kind.gave in
@@ -126,7 +126,7 @@ pub prefixes_below : (at : Site) (ps : List SignalPart) (ds : List ℕ) → pref
 unfolding prefixes_elements
 prefixes_below at ps ds h =
     let ess = bound (each (λ p. place_elements at (prefix p)) ps) _ ds h in
-    subst (All (λ e. e < count at)) (ok (concatenated ess.x) ds ess.then_gave)
+    subst (All (λ e. e < count at)) (ok (concatenation_of ess.x) ds ess.then_gave)
     (all_concatenated (λ e. e < count at) ess.x
     (each-all (All (λ e. e < count at)) (λ p. place_elements at (prefix p)) ps ess.x (λ p es g. signal-below at (prefix p).signal (prefix p).part es g) ess.gave))
 

@@ -128,7 +128,7 @@ fn fixed(
     value: &Fixed,
     at: usize,
 ) -> Result<SmallVec<u8, 8>, ElabFault>
-    ensures { Expands (λ v. v.items) (codes_of (definition.fixed (site_view site.now) len (fixed_view value.now))) result }
+    ensures { Expands (λ v. v.items) (codes_of (definition.fixed_values (site_view site.now) len (fixed_view value.now))) result }
 {
     match value {
         Fixed::Literal(values) => literal(alloc, len, values, at),

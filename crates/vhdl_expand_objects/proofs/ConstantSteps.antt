@@ -10,7 +10,7 @@ use Rattle.vhdl_expand_rules.specs.Integers.{integer_of}
 use Rattle.vhdl_expand_rules.specs.Kinds.{kind_of, size}
 use Rattle.vhdl_expand_rules.specs.Site as definition
 use Rattle.vhdl_expand_rules.specs.Site.{Site}
-use Rattle.vhdl_expand_rules.specs.Declarations.{InstanceObjects, declaration, fixed, with_constant, with_integer}
+use Rattle.vhdl_expand_rules.specs.Declarations.{InstanceObjects, declaration, fixed_values, with_constant, with_integer}
 use Rattle.vhdl_expand_rules.proofs.Steps.{given, ok, bound}
 use Rattle.vhdl_expand_rules.proofs.Chains.{err_first}
 use Rattle.vhdl_expand_tree.proofs.Alike.{wrong, same_problem}
@@ -33,8 +33,8 @@ pub constant_step : (d : InstanceObjects) (form : Form) (f : Fixed) (c : definit
 unfolding declaration
 constant_step d form f c new h e =
     let a = bound (kind_of d.site.integers form) _ c h in
-    let b = bound (fixed d.site (size a.x) f) _ c a.then_gave in
-    ap (λ r. r >>= λ kind. fixed d.site (size kind) f >>= λ vs. given (record d { site = with_constant d.site (record { kind = kind; values = vs }) })) a.gave
+    let b = bound (fixed_values d.site (size a.x) f) _ c a.then_gave in
+    ap (λ r. r >>= λ kind. fixed_values d.site (size kind) f >>= λ vs. given (record d { site = with_constant d.site (record { kind = kind; values = vs }) })) a.gave
     ∙ ap (λ r. r >>= λ vs. given (record d { site = with_constant d.site (record { kind = a.x; values = vs }) })) b.gave
     ∙ ap (λ (k : definition.Constant). given (record d { site = with_constant d.site k })) (ok (record { kind = a.x; values = b.x }) c b.then_gave)
     ∙ ap given (sym e)
@@ -52,7 +52,7 @@ refused {problem} {A} {B} {C} {D} (Err p) s make other h = ap (λ q. wrong {A = 
 pub constant_refused : {problem : ElabProblem} → (d : InstanceObjects) (form : Form) (f : Fixed) → (constant_of d.site form f) ≡ Err problem → (declaration d (u.Declaration.constant form f)) ≡ Err problem
 unfolding declaration
 constant_refused d form f h =
-    refused (kind_of d.site.integers form) (λ kind. fixed d.site (size kind) f) (λ kind vs. record { kind = kind; values = vs })
+    refused (kind_of d.site.integers form) (λ kind. fixed_values d.site (size kind) f) (λ kind vs. record { kind = kind; values = vs })
     (λ kind vs. record d { site = with_constant d.site (record { kind = kind; values = vs }) }) h
 
 pub constant_pushed : (xs ys : List Constant) (x : Constant) → ys ≡ xs ++ x ∷ [] → map constant_view ys ≡ map constant_view xs ++ constant_view x ∷ []

@@ -1,7 +1,7 @@
 -- Constants that are no integers.
 use Rattle.std.specs.Prelude.{Ok}
 use Rattle.vhdl_names_rules.specs.units.Units.{Fixed, Form}
-use Rattle.vhdl_expand_rules.specs.Declarations.{fixed}
+use Rattle.vhdl_expand_rules.specs.Declarations.{fixed_values}
 use Rattle.vhdl_expand_rules.specs.Elab.{Elab, ◌>>=◌}
 use Rattle.vhdl_expand_rules.specs.Kinds.{kind_of, size}
 use Rattle.vhdl_expand_rules.specs.Site.{Constant, Site}
@@ -10,5 +10,5 @@ use Rattle.vhdl_expand_rules.specs.Site.{Constant, Site}
 abbrev pub constant_of : Site → Form → Fixed → Elab Constant
 constant_of at form f = do
   kind ← kind_of at.integers form
-  vs ← fixed at (size kind) f
+  vs ← fixed_values at (size kind) f
   Ok (record { kind = kind; values = vs })

@@ -63,7 +63,7 @@ fn encoded(
 #[tactic(auto, unfolding(vhdl_expand_rules::specs::Declarations::fixed))]
 pub(crate) fn fixed(site: &Site, len: usize, value: &Fixed, at: usize) -> Result<Vec9, ElabFault>
     requires { IsWidth len }
-    ensures given { Computes (definition.fixed (site_view site.now) len (fixed_view value.now)) result }
+    ensures given { Computes (definition.fixed_values (site_view site.now) len (fixed_view value.now)) result }
     ensures long { IfOk result (λ values. length values ≡ len) }
 {
     match value {

@@ -4,7 +4,7 @@ use Rattle.std.specs.Prelude.{ℤ}
 use Rattle.vhdl_tree.specs.declared.operator.Direction.{Direction}
 use Rattle.vhdl_expand_rules.specs.declared.fault.ElabFault.{ElabFault}
 use Rattle.vhdl_expand_rules.specs.Elab.{Elab, ◌>>=◌, MayTell}
-use Rattle.vhdl_expand_rules.specs.Integers.{counted, next}
+use Rattle.vhdl_expand_rules.specs.Integers.{numbers_from, next}
 use Rattle.vhdl_expand_rules.specs.Parameters.{parameter}
 use Rattle.vhdl_expand_rules.proofs.Parameters.{next-turn, no-turn}
 use Rattle.vhdl_expand_bodies.specs.Results.{Expands, Charges}
@@ -71,16 +71,16 @@ none_left (x ∷ xs) (suc i) h = none_left xs i (omega arith)
 
 module _ (f : ℤ → Elab Counts) (direction : Direction) (x : ℤ) (count : ℕ) where
   pub turns_go : (total : Elab Counts) (n m : Counts) (k : ℕ) (i : ℤ) → k < count → i ≡ parameter direction x k
-      → Alike total (paid n (together f (drop k (counted direction x count)))) → paid n (f i) ≡ Ok m → Alike total (paid m (together f (drop (k + 1) (counted direction x count))))
+      → Alike total (paid n (together f (drop k (numbers_from direction x count)))) → paid n (f i) ≡ Ok m → Alike total (paid m (together f (drop (k + 1) (numbers_from direction x count))))
   turns_go total n m k i below is so_far h =
-      paid_go total n m (f i) (together f (drop (k + 1) (counted direction x count)))
-      (alike_trans so_far (alike_same (ap (λ js. paid n (together f js)) (next-turn direction x count k below ∙ ap (λ j. j ∷ drop (k + 1) (counted direction x count)) (sym is))))) h
+      paid_go total n m (f i) (together f (drop (k + 1) (numbers_from direction x count)))
+      (alike_trans so_far (alike_same (ap (λ js. paid n (together f js)) (next-turn direction x count k below ∙ ap (λ j. j ∷ drop (k + 1) (numbers_from direction x count)) (sym is))))) h
 
   pub turns_stop : {problem : ElabProblem} → (total : Elab Counts) (n : Counts) (k : ℕ) (i : ℤ) → k < count → i ≡ parameter direction x k
-      → Alike total (paid n (together f (drop k (counted direction x count)))) → MayTell (paid n (f i)) problem → MayTell total problem
+      → Alike total (paid n (together f (drop k (numbers_from direction x count)))) → MayTell (paid n (f i)) problem → MayTell total problem
   turns_stop total n k i below is so_far h =
-      paid_stop total n (f i) (together f (drop (k + 1) (counted direction x count)))
-      (alike_trans so_far (alike_same (ap (λ js. paid n (together f js)) (next-turn direction x count k below ∙ ap (λ j. j ∷ drop (k + 1) (counted direction x count)) (sym is))))) h
+      paid_stop total n (f i) (together f (drop (k + 1) (numbers_from direction x count)))
+      (alike_trans so_far (alike_same (ap (λ js. paid n (together f js)) (next-turn direction x count k below ∙ ap (λ j. j ∷ drop (k + 1) (numbers_from direction x count)) (sym is))))) h
 
-  pub turns_end : (total : Elab Counts) (n : Counts) (k : ℕ) → count ≤ k → Alike total (paid n (together f (drop k (counted direction x count)))) → total ≡ Ok n
+  pub turns_end : (total : Elab Counts) (n : Counts) (k : ℕ) → count ≤ k → Alike total (paid n (together f (drop k (numbers_from direction x count)))) → total ≡ Ok n
   turns_end total n k h so_far = so_far.gives n (ap (λ js. paid n (together f js)) (no-turn direction x count k h) ∙ spent-none n)

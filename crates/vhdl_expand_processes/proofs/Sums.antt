@@ -16,7 +16,7 @@ use Rattle.vhdl_names_units.specs.views.Sequential as units
 use Rattle.vhdl_names_units.specs.views.Sequential.{Guarded, Chosen}
 use Rattle.vhdl_names_units.proofs.rows.Sequential as rows
 use Rattle.vhdl_expand_rules.specs.Elab.{Elab, ◌>>=◌, MayTell}
-use Rattle.vhdl_expand_rules.specs.Integers.{Integers, turns, counted}
+use Rattle.vhdl_expand_rules.specs.Integers.{Integers, turns, numbers_from}
 use Rattle.vhdl_expand_rules.proofs.Steps.{given}
 use Rattle.vhdl_elab_rules.specs.Limits.{Counts}
 use Rattle.vhdl_expand_tree.specs.Costs as costs
@@ -170,14 +170,14 @@ module _ (at : Integers) where
     pub range_stops : {problem : ElabProblem} → turns at r ≡ Err problem → MayTell (paid n (statement_costs at (u.for_of r body))) problem
     range_stops h = tells_first (statement_costs at (u.for_of r body)) _ (tells (loop_stops r body h))
 
-    loop-counted : (direction : Direction) (x : ℤ) (count : ℕ) → turns at r ≡ Ok (counted direction x count)
-        → Alike (paid n (statement_costs at (u.for_of r body))) (paid n (both (given (costs.turns count)) (together (λ i. statements_costs (in_turn at i) body) (counted direction x count))))
-    loop-counted direction x count h = alike_same (ap (paid n) (loop_costs r body (counted direction x count) count h (counted-length direction x count)))
+    loop-counted : (direction : Direction) (x : ℤ) (count : ℕ) → turns at r ≡ Ok (numbers_from direction x count)
+        → Alike (paid n (statement_costs at (u.for_of r body))) (paid n (both (given (costs.turns count)) (together (λ i. statements_costs (in_turn at i) body) (numbers_from direction x count))))
+    loop-counted direction x count h = alike_same (ap (paid n) (loop_costs r body (numbers_from direction x count) count h (counted-length direction x count)))
 
-    pub count_stops : {problem : ElabProblem} → (direction : Direction) (x : ℤ) (count : ℕ) → turns at r ≡ Ok (counted direction x count) → MayTell (spent n (costs.turns count)) problem
+    pub count_stops : {problem : ElabProblem} → (direction : Direction) (x : ℤ) (count : ℕ) → turns at r ≡ Ok (numbers_from direction x count) → MayTell (spent n (costs.turns count)) problem
         → MayTell (paid n (statement_costs at (u.for_of r body))) problem
     count_stops direction x count h k = paid_stop _ n (given (costs.turns count)) _ (loop-counted direction x count h) k
 
-    pub turns_begin : (m : Counts) (direction : Direction) (x : ℤ) (count : ℕ) → turns at r ≡ Ok (counted direction x count) → spent n (costs.turns count) ≡ Ok m
-        → Alike (paid n (statement_costs at (u.for_of r body))) (paid m (together (λ i. statements_costs (in_turn at i) body) (counted direction x count)))
+    pub turns_begin : (m : Counts) (direction : Direction) (x : ℤ) (count : ℕ) → turns at r ≡ Ok (numbers_from direction x count) → spent n (costs.turns count) ≡ Ok m
+        → Alike (paid n (statement_costs at (u.for_of r body))) (paid m (together (λ i. statements_costs (in_turn at i) body) (numbers_from direction x count)))
     turns_begin m direction x count h k = paid_go _ n m (given (costs.turns count)) _ (loop-counted direction x count h) k

@@ -11,7 +11,7 @@ use Rattle.vhdl_names_rules.proofs.rows.Integers.{view_chain}
 use Rattle.vhdl_expand_rules.specs.declared.fault.ElabFault.{ElabFault}
 use Rattle.vhdl_expand_rules.specs.declared.fault.ElabProblem.{ElabProblem}
 use Rattle.vhdl_expand_rules.specs.Elab.{Elab, ◌>>=◌}
-use Rattle.vhdl_expand_rules.specs.Integers.{Integers, integer, operated}
+use Rattle.vhdl_expand_rules.specs.Integers.{Integers, integer, integer_operation}
 use Rattle.vhdl_expand_rules.specs.views.Integers.{Computes, all_operated}
 
 pub computes_along : (given given' : Elab ℤ) (r : Result ℤ ElabFault) → given ≡ given' → Computes given' r → Computes given r
@@ -26,16 +26,16 @@ err_first {problem} {A} {B} r f h = ap (λ (x : Elab A). x >>= f) h
 
 -- ---- a chain grouped from the left
 
-with_left : (at : Integers) (op : Arithmetic) (t v : u.Static) (x : ℤ) → integer at t ≡ Ok x → integer at (u.Static.binary op t v) ≡ (integer at v >>= λ y. operated op x y)
+with_left : (at : Integers) (op : Arithmetic) (t v : u.Static) (x : ℤ) → integer at t ≡ Ok x → integer at (u.Static.binary op t v) ≡ (integer at v >>= λ y. integer_operation op x y)
 unfolding integer
-with_left at op t v x h = ap (λ (r : Elab ℤ). r >>= λ a. integer at v >>= λ b. operated op a b) h
+with_left at op t v x h = ap (λ (r : Elab ℤ). r >>= λ a. integer at v >>= λ b. integer_operation op a b) h
 
 chained-same_err : (at : Integers) (t : u.Static) (p : ElabProblem) (ls : List StaticLink) → integer at t ≡ Err p → integer at (static_chained t ls) ≡ Err p
 unfolding integer
 chained-same_err at t p [] h = h
 chained-same_err at t p (l ∷ ls) h =
     chained-same_err at (u.Static.binary l.operator t (static_view l.operand)) p ls
-    (ap (λ (r : Elab ℤ). r >>= λ a. integer at (static_view l.operand) >>= λ b. operated l.operator a b) h)
+    (ap (λ (r : Elab ℤ). r >>= λ a. integer at (static_view l.operand) >>= λ b. integer_operation l.operator a b) h)
 
 chained-by : (at : Integers) (t : u.Static) (ls : List StaticLink) → ((z : ℤ) → integer at t ≡ Ok z → integer at (static_chained t ls) ≡ all_operated at z ls)
     → (r : Elab ℤ) → integer at t ≡ r → integer at (static_chained t ls) ≡ (r >>= λ z. all_operated at z ls)
@@ -47,8 +47,8 @@ chained-from at t x [] h = h
 chained-from at t x (l ∷ ls) h =
     let v = static_view l.operand in
     let t' = u.Static.binary l.operator t v in
-    chained-by at t' ls (λ z. chained-from at t' z ls) (integer at v >>= λ y. operated l.operator x y) (with_left at l.operator t v x h)
-    ∙ bind-assoc (integer at v) (λ y. operated l.operator x y) (λ z. all_operated at z ls)
+    chained-by at t' ls (λ z. chained-from at t' z ls) (integer at v >>= λ y. integer_operation l.operator x y) (with_left at l.operator t v x h)
+    ∙ bind-assoc (integer at v) (λ y. integer_operation l.operator x y) (λ z. all_operated at z ls)
 
 pub chain-value : (at : Integers) (e : Static) (start : Box StaticStart Global) (links : Vec StaticLink Global) (st : StaticStart) (ls : List StaticLink) (x : ℤ)
     → e ≡ s.Chain start links → st ≡ start.value → ls ≡ links.items → integer at (start_view st) ≡ Ok x → integer at (static_view e) ≡ all_operated at x ls

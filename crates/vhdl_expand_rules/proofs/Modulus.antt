@@ -2,11 +2,11 @@
 use Rattle.std.proofs.Common.{◌≡◌, Bool, true, false, if◌then◌else◌, nat_le, ℤ, Ok, Err, ap, sym, ◌∙◌}
 use Rattle.std.specs.Prelude.{◌==◌, int_rem, nat_abs}
 use Rattle.vhdl_expand_rules.specs.declared.fault.ElabProblem.TheVariants.{StaticError}
-use Rattle.vhdl_expand_rules.specs.Integers.{checked, divided, modulus}
+use Rattle.vhdl_expand_rules.specs.Integers.{checked_integer, division_with, modulus}
 use Rattle.vhdl_expand_rules.specs.views.Integers.{with_sign}
 use Rattle.vhdl_expand_rules.proofs.Steps.{given, ok}
 
-was-checked : (q r : ℤ) → checked q ≡ Ok r → q ≡ r
+was-checked : (q r : ℤ) → checked_integer q ≡ Ok r → q ≡ r
 was-checked q r h = by (nat_le (nat_abs q) 2147483647) h
   where
     by : (t : Bool) → (if t then given q else Err StaticError) ≡ Ok r → q ≡ r
@@ -14,16 +14,16 @@ was-checked q r h = by (nat_le (nat_abs q) 2147483647) h
     by false k = absurd cc
 
 module _ (x y : ℤ) where
-  pub modulus_is : (r : ℤ) → divided int_rem x y ≡ Ok r → divided modulus x y ≡ checked (with_sign y r)
+  pub modulus_is : (r : ℤ) → division_with int_rem x y ≡ Ok r → division_with modulus x y ≡ checked_integer (with_sign y r)
   modulus_is r h = by (nat_abs y == 0) h
     where
-      by : (z : Bool) → (if z then Err StaticError else checked (int_rem x y)) ≡ Ok r → (if z then Err StaticError else checked (modulus x y)) ≡ checked (with_sign y r)
+      by : (z : Bool) → (if z then Err StaticError else checked_integer (int_rem x y)) ≡ Ok r → (if z then Err StaticError else checked_integer (modulus x y)) ≡ checked_integer (with_sign y r)
       by true k = absurd cc
-      by false k = ap (λ q. checked (with_sign y q)) (was-checked (int_rem x y) r k)
+      by false k = ap (λ q. checked_integer (with_sign y q)) (was-checked (int_rem x y) r k)
 
 -- the same of integers that a call was given as others that are equal
 pub modulus_returns : (x x' y y' y'' r r' m m' : ℤ) → x' ≡ x → y' ≡ y → y'' ≡ y → r' ≡ r → m' ≡ m
-    → divided int_rem x' y' ≡ Ok r → checked (with_sign y'' r') ≡ Ok m → divided modulus x y ≡ given m'
+    → division_with int_rem x' y' ≡ Ok r → checked_integer (with_sign y'' r') ≡ Ok m → division_with modulus x y ≡ given m'
 modulus_returns x x' y y' y'' r r' m m' ex ey ey' er em h k =
-    ap (λ q. divided modulus q y) (sym ex) ∙ ap (λ q. divided modulus x' q) (sym ey) ∙ modulus_is x' y' r h
-    ∙ ap (λ q. checked (with_sign q r)) (ey ∙ sym ey') ∙ ap (λ q. checked (with_sign y'' q)) (sym er) ∙ k ∙ ap given (sym em)
+    ap (λ q. division_with modulus q y) (sym ex) ∙ ap (λ q. division_with modulus x' q) (sym ey) ∙ modulus_is x' y' r h
+    ∙ ap (λ q. checked_integer (with_sign q r)) (ey ∙ sym ey') ∙ ap (λ q. checked_integer (with_sign y'' q)) (sym er) ∙ k ∙ ap given (sym em)

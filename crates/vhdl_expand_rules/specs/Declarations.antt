@@ -11,7 +11,7 @@ use Rattle.vhdl_names_rules.specs.units.Expressions.{Static, SignalPart}
 use Rattle.vhdl_names_rules.specs.units.Units as u
 use Rattle.vhdl_names_rules.specs.units.Units.{Fixed, Generic, Port, Declaration, Entity}
 use Rattle.vhdl_expand_rules.specs.declared.fault.ElabProblem.TheVariants.{NoGeneric, Length, Index, Unassociated}
-use Rattle.vhdl_expand_rules.specs.Elab.{Elab, ◌>>=◌, ◌>>◌, found, same_length, unless}
+use Rattle.vhdl_expand_rules.specs.Elab.{Elab, ◌>>=◌, ◌>>◌, item_or, same_length, unless}
 use Rattle.vhdl_expand_rules.specs.Integers.{Integers, integer_of, natural}
 use Rattle.vhdl_expand_rules.specs.Kinds.{ObjectKind, enumeration, size, kind_of, size_of}
 use Rattle.vhdl_expand_rules.specs.Site.{Site, no_integers, no_site, Constant, place_elements}
@@ -31,7 +31,7 @@ rest_of (x ∷ xs) = xs
 abbrev pub generic : (above own : Integers) → Option Static → Generic → Elab ℤ
 generic above own (Some actual) g = integer_of g.type above actual
 generic above own None g = do
-  default ← found NoGeneric g.default
+  default ← item_or NoGeneric g.default
   integer_of g.type own default
 
 unfoldable pub generics : (above own : Integers) → List (Option Static) → List Generic → Elab Integers
@@ -48,37 +48,37 @@ as_long_as len vs = do
   same_length (length vs) len
   Ok vs
 
-unfoldable pub fixed : Site → (len : ℕ) → Fixed → Elab (List Nine)
-fixed at len (u.Fixed.literal vs) = as_long_as len vs
-fixed at len (u.Fixed.constant k) = do
-  c ← found Index (slice_get at.constants k)
+unfoldable pub fixed_values : Site → (len : ℕ) → Fixed → Elab (List Nine)
+fixed_values here len (u.Fixed.literal vs) = as_long_as len vs
+fixed_values here len (u.Fixed.constant k) = do
+  c ← item_or Index (slice_get here.constants k)
   as_long_as len c.values
-fixed at len (u.Fixed.encoded s t) = do
-  n ← natural at.integers s
-  m ← size_of at.integers t
+fixed_values here len (u.Fixed.encoded s t) = do
+  n ← natural here.integers s
+  m ← size_of here.integers t
   as_long_as len (digits_of m n)
-fixed at len (u.filled v) = Ok (replicate len v)
+fixed_values here len (u.filled v) = Ok (replicate len v)
 -- an enumeration's literal is no vector, in units that names have passed
-fixed at len (u.Fixed.position n) = Err (Length 1 len)
+fixed_values here len (u.Fixed.position n) = Err (Length 1 len)
 
 -- of an enumeration, by its position, or of elements
 abbrev pub given_starts : Site → ObjectKind → Fixed → Elab (List ℕ)
-given_starts at (enumeration count) (u.Fixed.position n) = Ok (n ∷ [])
-given_starts at kind f = do
-  vs ← fixed at (size kind) f
+given_starts here (enumeration count) (u.Fixed.position n) = Ok (n ∷ [])
+given_starts here kind f = do
+  vs ← fixed_values here (size kind) f
   Ok (map code_of vs)
 
 -- what the elements of this kind start with: U, or the first literal, without a default (6.4.2.3)
 unfoldable pub starts : Site → ObjectKind → Option Fixed → Elab (List ℕ)
-starts at kind None = Ok (replicate (size kind) 0)
-starts at kind (Some f) = given_starts at kind f
+starts here kind None = Ok (replicate (size kind) 0)
+starts here kind (Some f) = given_starts here kind f
 
 -- ---- ports, signals and variables
 
 unfoldable pub object : Site → Role → u.Object → Elab Object
-object at role o = do
-  kind ← kind_of at.integers o.form
-  vs ← starts at kind o.default
+object here role o = do
+  kind ← kind_of here.integers o.form
+  vs ← starts here kind o.default
   Ok (record { name = o.name; role = role; kind = kind; is_resolved = o.is_resolved; starts = vs; actual = None })
 
 abbrev pub role_of : Mode → Role
@@ -109,10 +109,10 @@ interface above actuals unit = do
   ports (record { site = record no_site { integers = integers }; objects = [] }) unit.ports
 
 abbrev pub with_integer : Site → ℤ → Site
-with_integer at x = record at { integers = record at.integers { constants = at.integers.constants ++ x ∷ [] } }
+with_integer here x = record here { integers = record here.integers { constants = here.integers.constants ++ x ∷ [] } }
 
 abbrev pub with_constant : Site → Constant → Site
-with_constant at c = record at { constants = at.constants ++ c ∷ [] }
+with_constant here c = record here { constants = here.constants ++ c ∷ [] }
 
 -- a declaration may name those before it
 unfoldable pub declaration : InstanceObjects → Declaration → Elab InstanceObjects
@@ -121,7 +121,7 @@ declaration d (u.integer type s) = do
   Ok (record d { site = with_integer d.site x })
 declaration d (u.Declaration.constant form f) = do
   kind ← kind_of d.site.integers form
-  vs ← fixed d.site (size kind) f
+  vs ← fixed_values d.site (size kind) f
   Ok (record d { site = with_constant d.site (record { kind = kind; values = vs }) })
 declaration d (u.Declaration.signal o) = do
   x ← object d.site internal o
@@ -134,9 +134,9 @@ declarations d (x ∷ xs) = do
   declarations e xs
 
 unfoldable pub variable : Site → u.Object → Elab Variable
-variable at o = do
-  kind ← kind_of at.integers o.form
-  vs ← starts at kind o.default
+variable here o = do
+  kind ← kind_of here.integers o.form
+  vs ← starts here kind o.default
   Ok (record { name = o.name; kind = kind; starts = vs })
 
 -- ---- associations

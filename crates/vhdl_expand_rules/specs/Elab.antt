@@ -19,9 +19,9 @@ p >> q = p >>= (λ _. q)
 
 -- The problem that a fault tells. Want of memory is none of a design's: NoTop stands for it, which no expression, kind or charge has, so
 -- that calls which take no memory can't tell it; and of those that do no contract asks it.
-abbrev pub told : ElabFault → ElabProblem
-told (At problem at) = problem
-told NoMemory = NoTop
+abbrev pub problem_told : ElabFault → ElabProblem
+problem_told (At problem at) = problem
+problem_told NoMemory = NoTop
 
 -- Budgets are charged while a design grows, and their own rule comes behind those of the whole design. So TooMany may be told of what
 -- breaks another rule first; every other problem is that of the first broken rule.
@@ -38,9 +38,9 @@ abbrev pub same_length : (found needed : ℕ) → Elab (Unit {0})
 same_length found needed = unless (Length found needed) (found == needed)
 
 -- what has to be there
-abbrev pub found : {A : Type 0} → ElabProblem → Option A → Elab A
-found problem None = Err problem
-found problem (Some x) = Ok x
+abbrev pub item_or : {A : Type 0} → ElabProblem → Option A → Elab A
+item_or problem None = Err problem
+item_or problem (Some x) = Ok x
 
 -- of each of several things, in order
 abbrev pub each : {A B : Type 0} → (A → Elab B) → List A → Elab (List B)

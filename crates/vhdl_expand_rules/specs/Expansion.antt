@@ -7,7 +7,7 @@ use Rattle.vhdl_names_rules.specs.units.Units as u
 use Rattle.vhdl_names_rules.specs.units.Units.{Units, Entity, Architecture}
 use Rattle.vhdl_names_rules.specs.units.Statements as s
 use Rattle.vhdl_expand_rules.specs.declared.fault.ElabProblem.TheVariants.{NoTop, TooDeep}
-use Rattle.vhdl_expand_rules.specs.Elab.{Elab, ◌>>=◌, found, each}
+use Rattle.vhdl_expand_rules.specs.Elab.{Elab, ◌>>=◌, item_or, each}
 use Rattle.vhdl_expand_rules.specs.Integers.{decision, turns}
 use Rattle.vhdl_expand_rules.specs.Site.{Site, no_integers, in_generate, elements_count}
 use Rattle.vhdl_expand_rules.specs.Tree.{Sensitivity, listed, every, as_read, Variable, Process, Instance, Parts, no_parts, inner, followed_by}
@@ -23,44 +23,44 @@ pub record Spot : Type 0 where
   -- the labels of the generates round it, each with a dot behind it
   pub prefix : List ℕ
 
-abbrev pub dotted : List ℕ → List ℕ
-dotted label = label ++ codes "."
+abbrev pub with_dot : List ℕ → List ℕ
+with_dot label = label ++ codes "."
 
 -- in a turn of a for generate, which is `label(i)`, and in an if generate
 abbrev pub in_turn : Spot → (label : List ℕ) → ℤ → Spot
-in_turn at label i = record {
-  site = in_generate at.site i;
-  prefix = at.prefix ++ dotted (label ++ (codes "(" ++ (signed_decimal i ++ codes ")")));
+in_turn here label i = record {
+  site = in_generate here.site i;
+  prefix = here.prefix ++ with_dot (label ++ (codes "(" ++ (signed_decimal i ++ codes ")")));
 }
 
 abbrev pub in_branch : Spot → (label : List ℕ) → Spot
-in_branch at label = record at { prefix = at.prefix ++ dotted label }
+in_branch here label = record here { prefix = here.prefix ++ with_dot label }
 
 -- ---- processes (11.3 to 11.6)
 
 unfoldable pub sensitivity : Site → u.Sensitivity → s.Statements → Elab Sensitivity
-sensitivity at (u.listed ps) body = do
-  es ← names_elements at ps
+sensitivity here (u.listed ps) body = do
+  es ← names_elements here ps
   Ok (listed es)
-sensitivity at u.every body = do
-  es ← prefixes_elements at (names body)
+sensitivity here u.every body = do
+  es ← prefixes_elements here (names body)
   Ok (every es)
-sensitivity at u.as_read body = Ok as_read
+sensitivity here u.as_read body = Ok as_read
 
 abbrev pub with_variables : Site → List Variable → Site
-with_variables at vs = record at { variables = map (λ (v : Variable). v.kind) vs }
+with_variables here vs = record here { variables = map (λ (v : Variable). v.kind) vs }
 
 unfoldable pub process : Spot → u.Process → Elab t.Process
-process at p = do
-  vs ← each (variable at.site) p.variables
-  ds ← prefixes_elements at.site (targets p.body)
-  on ← sensitivity at.site p.sensitivity p.body
-  n ← statements_turns at.site p.body
-  body ← statements (with_variables at.site vs) p.body
+process here p = do
+  vs ← each (variable here.site) p.variables
+  ds ← prefixes_elements here.site (targets p.body)
+  on ← sensitivity here.site p.sensitivity p.body
+  n ← statements_turns here.site p.body
+  body ← statements (with_variables here.site vs) p.body
   Ok (record {
-    prefix = at.prefix;
+    prefix = here.prefix;
     label = p.label;
-    drives = in_order (elements_count at.site.ports + elements_count at.site.signals) ds;
+    drives = in_order (elements_count here.site.ports + elements_count here.site.signals) ds;
     sensitivity = on;
     variables = vs;
     body = body;
@@ -70,62 +70,62 @@ process at p = do
 -- ---- concurrent statements
 
 -- the turns of a generate, one after another
-abbrev pub joined : List Parts → Parts
-joined [] = no_parts
-joined (ps ∷ rest) = followed_by ps (joined rest)
+abbrev pub joined_parts : List Parts → Parts
+joined_parts [] = no_parts
+joined_parts (ps ∷ rest) = followed_by ps (joined_parts rest)
 
 -- The parameters are the units, and what an instance of a unit is: with what is known of it, and its ports.
 module _ (units : Units) (instance_of : Entity → InstanceObjects → Elab Instance) where
   -- an instance in this place (11.7)
   unfoldable pub instance : Spot → u.Instance → Elab Instance
-  instance at x = do
-    unit ← found NoTop (slice_get units x.unit)
-    d ← interface at.site.integers x.generics unit
-    os ← associations at.site unit.ports x.ports d.objects
+  instance here x = do
+    unit ← item_or NoTop (slice_get units x.unit)
+    d ← interface here.site.integers x.generics unit
+    os ← associations here.site unit.ports x.ports d.objects
     instance_of unit (record d { objects = os })
 
   unfoldable mutual
     pub concurrent : Spot → u.Concurrent → Elab Parts
-    concurrent at (u.process p) = do
-      q ← process at p
+    concurrent here (u.process p) = do
+      q ← process here p
       Ok (t.process q no_parts)
-    concurrent at (u.instance x) = do
-      i ← instance at x
-      Ok (inner (at.prefix ++ x.label) i no_parts)
+    concurrent here (u.instance x) = do
+      i ← instance here x
+      Ok (inner (here.prefix ++ x.label) i no_parts)
     -- a null range makes nothing, and nothing in it is computed (11.9)
-    concurrent at (u.generate_for label r body) = do
-      is ← turns at.site.integers r
-      ps ← each (λ i. concurrents (in_turn at label i) body) is
-      Ok (joined ps)
+    concurrent here (u.generate_for label r body) = do
+      is ← turns here.site.integers r
+      ps ← each (λ i. concurrents (in_turn here label i) body) is
+      Ok (joined_parts ps)
     -- nor does a condition that doesn't hold
-    concurrent at (u.generate_if label t body) = do
-      holds ← decision at.site.integers t
-      if holds then concurrents (in_branch at label) body else Ok no_parts
+    concurrent here (u.generate_if label t body) = do
+      holds ← decision here.site.integers t
+      if holds then concurrents (in_branch here label) body else Ok no_parts
 
     pub concurrents : Spot → u.Concurrents → Elab Parts
-    concurrents at u.no_concurrents = Ok no_parts
-    concurrents at (u.concurrent x rest) = do
-      ps ← concurrent at x
-      qs ← concurrents at rest
+    concurrents here u.no_concurrents = Ok no_parts
+    concurrents here (u.concurrent x rest) = do
+      ps ← concurrent here x
+      qs ← concurrents here rest
       Ok (followed_by ps qs)
 
 -- how many turns the generates of a text have together, each turn of an outer one with those inside it
 unfoldable mutual
   pub concurrent_turns : Spot → u.Concurrent → Elab ℕ
-  concurrent_turns at (u.generate_for label r body) = do
-    is ← turns at.site.integers r
-    ns ← each (λ i. concurrents_turns (in_turn at label i) body) is
+  concurrent_turns here (u.generate_for label r body) = do
+    is ← turns here.site.integers r
+    ns ← each (λ i. concurrents_turns (in_turn here label i) body) is
     Ok (length is + sum ns)
-  concurrent_turns at (u.generate_if label t body) = do
-    holds ← decision at.site.integers t
-    if holds then concurrents_turns (in_branch at label) body else Ok 0
-  concurrent_turns at _ = Ok 0
+  concurrent_turns here (u.generate_if label t body) = do
+    holds ← decision here.site.integers t
+    if holds then concurrents_turns (in_branch here label) body else Ok 0
+  concurrent_turns here _ = Ok 0
 
   pub concurrents_turns : Spot → u.Concurrents → Elab ℕ
-  concurrents_turns at u.no_concurrents = Ok 0
-  concurrents_turns at (u.concurrent x rest) = do
-    m ← concurrent_turns at x
-    n ← concurrents_turns at rest
+  concurrents_turns here u.no_concurrents = Ok 0
+  concurrents_turns here (u.concurrent x rest) = do
+    m ← concurrent_turns here x
+    n ← concurrents_turns here rest
     Ok (m + n)
 
 -- ---- instances and the top
@@ -135,7 +135,7 @@ unfoldable mutual
 unfoldable pub instance_of : Units → (levels : ℕ) → Entity → InstanceObjects → Elab Instance
 instance_of units zero unit d = Err TooDeep
 instance_of units (suc n) unit d = do
-  a ← found NoTop unit.architecture
+  a ← item_or NoTop unit.architecture
   e ← declarations d a.declarations
   parts ← concurrents units (instance_of units n) (record { site = e.site; prefix = [] }) a.statements
   turns ← concurrents_turns (record { site = e.site; prefix = [] }) a.statements
@@ -152,7 +152,7 @@ pub record Design : Type 0 where
 
 unfoldable pub expanded_design : Units → (top : List ℕ) → Elab Design
 expanded_design units top = do
-  unit ← found NoTop (entity_named units top)
+  unit ← item_or NoTop (entity_named units top)
   d ← interface no_integers [] unit
   i ← instance_of units 32 unit d
   Ok (record { name = unit.name; top = i })

@@ -33,8 +33,8 @@ operands_fit bodies.plus m n = Ok tt
 operands_fit bodies.minus m n = Ok tt
 operands_fit bodies.times m n = unless TooWide (nat_le (m + n) 64)
 
-abbrev pub operated : bodies.Operator → bodies.Expr → bodies.Expr → Elab bodies.Expr
-operated op d e = do
+abbrev pub operation_on : bodies.Operator → bodies.Expr → bodies.Expr → Elab bodies.Expr
+operation_on op d e = do
   operands_fit op (width d) (width e)
   Ok (bodies.Expr.binary op d e)
 
@@ -49,92 +49,92 @@ operator v.Concatenate = bodies.joined
 operator (v.Arithmetic op) = numeric op
 
 unfoldable pub vector : Site → Vector → Elab bodies.Expr
-vector at (u.of_signal p) = do
-  es ← place_elements at p
+vector here (u.of_signal p) = do
+  es ← place_elements here p
   Ok (bodies.signal es)
-vector at (u.of_variable k part) = do
-  es ← variable_elements at k part
+vector here (u.of_variable k part) = do
+  es ← variable_elements here k part
   Ok (bodies.variable es)
-vector at (u.of_constant k part) = do
-  vs ← constant_values at k part
+vector here (u.of_constant k part) = do
+  vs ← constant_values here k part
   Ok (bodies.constant vs)
-vector at (u.character x) = Ok (bodies.constant (x ∷ []))
-vector at (u.enclosed_character x) = Ok (bodies.constant (x ∷ []))
-vector at (u.Vector.literal xs) = do
+vector here (u.character x) = Ok (bodies.constant (x ∷ []))
+vector here (u.enclosed_character x) = Ok (bodies.constant (x ∷ []))
+vector here (u.Vector.literal xs) = do
   as_size (length xs)
   Ok (bodies.constant xs)
-vector at (u.Vector.inverse x) = do
-  e ← vector at x
+vector here (u.Vector.inverse x) = do
+  e ← vector here x
   Ok (bodies.inverse e)
-vector at (u.Vector.binary op x y) = do
-  d ← vector at x
-  e ← vector at y
-  operated (operator op) d e
+vector here (u.Vector.binary op x y) = do
+  d ← vector here x
+  e ← vector here y
+  operation_on (operator op) d e
 -- a natural number stands for its last digits, as many as the vector beside it has
-vector at (u.with_integer op x s) = do
-  e ← vector at x
-  n ← natural at.integers s
-  operated (numeric op) e (bodies.constant (digits_of (width e) n))
-vector at (u.integer_with op s x) = do
-  n ← natural at.integers s
-  e ← vector at x
-  operated (numeric op) (bodies.constant (digits_of (width e) n)) e
-vector at (u.Vector.encoded s t) = do
-  n ← natural at.integers s
-  len ← size_of at.integers t
+vector here (u.with_integer op x s) = do
+  e ← vector here x
+  n ← natural here.integers s
+  operation_on (numeric op) e (bodies.constant (digits_of (width e) n))
+vector here (u.integer_with op s x) = do
+  n ← natural here.integers s
+  e ← vector here x
+  operation_on (numeric op) (bodies.constant (digits_of (width e) n)) e
+vector here (u.Vector.encoded s t) = do
+  n ← natural here.integers s
+  len ← size_of here.integers t
   Ok (bodies.constant (digits_of len n))
-vector at (u.counted op x s) = do
-  e ← vector at x
-  n ← count_of op at.integers s
+vector here (u.counted op x s) = do
+  e ← vector here x
+  n ← count_of op here.integers s
   Ok (bodies.counted op n e)
 
 -- ---- values
 
 unfoldable pub value : Site → Value → Elab bodies.Value
-value at (u.Value.elements x) = do
-  e ← vector at x
+value here (u.Value.elements x) = do
+  e ← vector here x
   Ok (bodies.elements e)
-value at (u.Value.position n) = Ok (bodies.position n)
-value at (u.state_of s) = do
-  e ← the_element (signal_elements at s u.whole)
+value here (u.Value.position n) = Ok (bodies.position n)
+value here (u.state_of s) = do
+  e ← the_element (signal_elements here s u.whole)
   Ok (bodies.position_of e)
-value at (u.state_of_variable k) = do
-  e ← the_element (variable_elements at k u.whole)
+value here (u.state_of_variable k) = do
+  e ← the_element (variable_elements here k u.whole)
   Ok (bodies.position_in e)
 
 -- ---- truths
 
 -- `n op x` as `x op n`
-abbrev pub turned : Cmp → Cmp
-turned Eq = Eq
-turned Ne = Ne
-turned Lt = Gt
-turned Le = Ge
-turned Gt = Lt
-turned Ge = Le
+abbrev pub converse_of : Cmp → Cmp
+converse_of Eq = Eq
+converse_of Ne = Ne
+converse_of Lt = Gt
+converse_of Le = Ge
+converse_of Gt = Lt
+converse_of Ge = Le
 
 -- One element and a character literal. Of the forms `s = '1'`, `s = ('1')` with `(s) = '1'`, `'1' = s` and `('1') = s` the first alone
 -- is plain: it makes an edge together with `s'event`. The literal of the second is an enclosed one.
-abbrev pub levelled : (plain : Bool) → (es : List ℕ) → Nine → bodies.Test
-levelled plain (e ∷ []) x = bodies.level plain e x
-levelled plain es x = bodies.equal (bodies.elements (bodies.signal es)) (bodies.elements (bodies.constant (x ∷ [])))
+abbrev pub level_test : (plain : Bool) → (es : List ℕ) → Nine → bodies.Test
+level_test plain (e ∷ []) x = bodies.level plain e x
+level_test plain es x = bodies.equal (bodies.elements (bodies.signal es)) (bodies.elements (bodies.constant (x ∷ [])))
 
 abbrev pub alike : Site → Value → Value → Elab bodies.Test
-alike at (u.Value.elements (u.of_signal p)) (u.Value.elements (u.character x)) = do
-  es ← place_elements at p
-  Ok (levelled true es x)
-alike at (u.Value.elements (u.of_signal p)) (u.Value.elements (u.enclosed_character x)) = do
-  es ← place_elements at p
-  Ok (levelled false es x)
-alike at (u.Value.elements (u.character x)) (u.Value.elements (u.of_signal p)) = do
-  es ← place_elements at p
-  Ok (levelled false es x)
-alike at (u.Value.elements (u.enclosed_character x)) (u.Value.elements (u.of_signal p)) = do
-  es ← place_elements at p
-  Ok (levelled false es x)
-alike at v w = do
-  d ← value at v
-  e ← value at w
+alike here (u.Value.elements (u.of_signal p)) (u.Value.elements (u.character x)) = do
+  es ← place_elements here p
+  Ok (level_test true es x)
+alike here (u.Value.elements (u.of_signal p)) (u.Value.elements (u.enclosed_character x)) = do
+  es ← place_elements here p
+  Ok (level_test false es x)
+alike here (u.Value.elements (u.character x)) (u.Value.elements (u.of_signal p)) = do
+  es ← place_elements here p
+  Ok (level_test false es x)
+alike here (u.Value.elements (u.enclosed_character x)) (u.Value.elements (u.of_signal p)) = do
+  es ← place_elements here p
+  Ok (level_test false es x)
+alike here v w = do
+  d ← value here v
+  e ← value here w
   Ok (bodies.equal d e)
 
 abbrev pub edge_test : Edge → (net : ℕ) → bodies.Test
@@ -144,39 +144,39 @@ edge_test To1 e = bodies.combined And (bodies.event e) (bodies.level true e One)
 edge_test To0 e = bodies.combined And (bodies.event e) (bodies.level true e Zero)
 
 unfoldable pub test : Site → Test → Elab bodies.Test
-test at (u.holds x) = do
-  e ← vector at x
+test here (u.holds x) = do
+  e ← vector here x
   Ok (bodies.condition e)
-test at (u.Test.fixed t) = do
-  c ← decision at.integers t
+test here (u.Test.fixed t) = do
+  c ← decision here.integers t
   Ok (bodies.decided c)
-test at (u.alike v w) = alike at v w
-test at (u.unlike v w) = do
-  d ← value at v
-  e ← value at w
+test here (u.alike v w) = alike here v w
+test here (u.unlike v w) = do
+  d ← value here v
+  e ← value here w
   Ok (bodies.unequal d e)
-test at (u.Test.compared op x y) = do
-  d ← vector at x
-  e ← vector at y
+test here (u.Test.compared op x y) = do
+  d ← vector here x
+  e ← vector here y
   Ok (bodies.compared op d e)
-test at (u.compared_to op x s) = do
-  e ← vector at x
-  n ← natural at.integers s
+test here (u.compared_to op x s) = do
+  e ← vector here x
+  n ← natural here.integers s
   Ok (bodies.compared_to op e n)
-test at (u.compared_with op s x) = do
-  n ← natural at.integers s
-  e ← vector at x
-  Ok (bodies.compared_to (turned op) e n)
-test at (u.edge kind p) = do
-  e ← the_element (place_elements at p)
+test here (u.compared_with op s x) = do
+  n ← natural here.integers s
+  e ← vector here x
+  Ok (bodies.compared_to (converse_of op) e n)
+test here (u.edge kind p) = do
+  e ← the_element (place_elements here p)
   Ok (edge_test kind e)
-test at (u.event p) = do
-  e ← the_element (place_elements at p)
+test here (u.event p) = do
+  e ← the_element (place_elements here p)
   Ok (bodies.event e)
-test at (u.Test.negated t) = do
-  c ← test at t
+test here (u.Test.negated t) = do
+  c ← test here t
   Ok (bodies.negated c)
-test at (u.Test.both op t r) = do
-  c ← test at t
-  d ← test at r
+test here (u.Test.both op t r) = do
+  c ← test here t
+  d ← test here r
   Ok (bodies.combined op c d)

@@ -15,7 +15,7 @@ use Rattle.vhdl_names_rules.specs.units.Expressions as u
 use Rattle.vhdl_names_rules.specs.units.Expressions.{Static, Range, StaticTest}
 use Rattle.rtl_model.specs.bodies.Tests.{truth}
 use Rattle.vhdl_expand_rules.specs.declared.fault.ElabProblem.TheVariants.{GenericRange, StaticError, TooMany}
-use Rattle.vhdl_expand_rules.specs.Elab.{Elab, ◌>>=◌, ◌>>◌, unless, found}
+use Rattle.vhdl_expand_rules.specs.Elab.{Elab, ◌>>=◌, ◌>>◌, unless, item_or}
 
 -- The integers that are known where an expression stands: of generics and constants by their numbers, and of the
 -- parameters of the generates and loops round it, the outermost first.
@@ -28,8 +28,8 @@ pub record Integers : Type 0 where
 -- ---- values
 
 -- static integers are as great as those that are written, and as small below 0 (5.2.3.2)
-abbrev pub checked : ℤ → Elab ℤ
-checked x = if nat_le (nat_abs x) greatest_integer then Ok x else Err StaticError
+abbrev pub checked_integer : ℤ → Elab ℤ
+checked_integer x = if nat_le (nat_abs x) greatest_integer then Ok x else Err StaticError
 
 abbrev pub is_negative : ℤ → Bool
 is_negative x = int_lt x (pos 0)
@@ -43,34 +43,34 @@ abbrev pub modulus : ℤ → ℤ → ℤ
 modulus x y = let r = int_rem x y in if are_opposite r y then r +ℤ y else r
 
 -- there is no division by 0
-abbrev pub divided : (ℤ → ℤ → ℤ) → ℤ → ℤ → Elab ℤ
-divided by x y = if nat_abs y == 0 then Err StaticError else checked (by x y)
+abbrev pub division_with : (ℤ → ℤ → ℤ) → ℤ → ℤ → Elab ℤ
+division_with by x y = if nat_abs y == 0 then Err StaticError else checked_integer (by x y)
 
-abbrev pub operated : Arithmetic → ℤ → ℤ → Elab ℤ
-operated Add x y = checked (x +ℤ y)
-operated Subtract x y = checked (x -ℤ y)
-operated Multiply x y = checked (x *ℤ y)
-operated Divide x y = divided int_div x y
-operated Modulo x y = divided modulus x y
-operated Remainder x y = divided int_rem x y
+abbrev pub integer_operation : Arithmetic → ℤ → ℤ → Elab ℤ
+integer_operation Add x y = checked_integer (x +ℤ y)
+integer_operation Subtract x y = checked_integer (x -ℤ y)
+integer_operation Multiply x y = checked_integer (x *ℤ y)
+integer_operation Divide x y = division_with int_div x y
+integer_operation Modulo x y = division_with modulus x y
+integer_operation Remainder x y = division_with int_rem x y
 
 -- the integer of this number, which is there in units that names have passed
-abbrev pub known : List ℤ → ℕ → Elab ℤ
-known xs k = found StaticError (slice_get xs k)
+abbrev pub known_integer : List ℤ → ℕ → Elab ℤ
+known_integer xs k = item_or StaticError (slice_get xs k)
 
 unfoldable pub integer : Integers → Static → Elab ℤ
-integer at (u.number n) = checked (pos n)
-integer at (u.generic k) = known at.generics k
-integer at (u.Static.constant k) = known at.constants k
-integer at (u.generate_parameter k) = known at.generates k
-integer at (u.loop_parameter k) = known at.loops k
-integer at (u.Static.negated s) = do
-  x ← integer at s
-  checked (neg_ℤ x)
-integer at (u.Static.binary op s t) = do
-  x ← integer at s
-  y ← integer at t
-  operated op x y
+integer here (u.number n) = checked_integer (pos n)
+integer here (u.generic k) = known_integer here.generics k
+integer here (u.Static.constant k) = known_integer here.constants k
+integer here (u.generate_parameter k) = known_integer here.generates k
+integer here (u.loop_parameter k) = known_integer here.loops k
+integer here (u.Static.negated s) = do
+  x ← integer here s
+  checked_integer (neg_ℤ x)
+integer here (u.Static.binary op s t) = do
+  x ← integer here s
+  y ← integer here t
+  integer_operation op x y
 
 -- where a natural number is needed
 abbrev pub as_natural : ℤ → Elab ℕ
@@ -78,8 +78,8 @@ as_natural (pos n) = Ok n
 as_natural (negsuc n) = Err StaticError
 
 unfoldable pub natural : Integers → Static → Elab ℕ
-natural at s = do
-  x ← integer at s
+natural here s = do
+  x ← integer here s
   as_natural x
 
 abbrev pub is_of : IntegerType → ℤ → Bool
@@ -89,8 +89,8 @@ is_of Positive x = int_lt (pos 0) x
 
 -- of a generic or a constant of this type
 unfoldable pub integer_of : IntegerType → Integers → Static → Elab ℤ
-integer_of type at s = do
-  x ← integer at s
+integer_of type here s = do
+  x ← integer here s
   unless GenericRange (is_of type x)
   Ok x
 
@@ -105,16 +105,16 @@ compares_integers Gt x y = int_lt y x
 compares_integers Ge x y = int_le y x
 
 unfoldable pub decision : Integers → StaticTest → Elab Bool
-decision at (u.StaticTest.compared op s t) = do
-  x ← integer at s
-  y ← integer at t
+decision here (u.StaticTest.compared op s t) = do
+  x ← integer here s
+  y ← integer here t
   Ok (compares_integers op x y)
-decision at (u.StaticTest.negated t) = do
-  b ← decision at t
+decision here (u.StaticTest.negated t) = do
+  b ← decision here t
   Ok (not b)
-decision at (u.StaticTest.both op s t) = do
-  b ← decision at s
-  c ← decision at t
+decision here (u.StaticTest.both op s t) = do
+  b ← decision here s
+  c ← decision here t
   Ok (truth op b c)
 
 -- ---- turns
@@ -133,9 +133,9 @@ next To x = x +ℤ pos 1
 next Downto x = x -ℤ pos 1
 
 -- so many numbers, in this direction, this being the first
-abbrev pub counted : Direction → ℤ → ℕ → List ℤ
-counted direction x zero = []
-counted direction x (suc n) = x ∷ counted direction (next direction x) n
+abbrev pub numbers_from : Direction → ℤ → ℕ → List ℤ
+numbers_from direction x zero = []
+numbers_from direction x (suc n) = x ∷ numbers_from direction (next direction x) n
 
 -- what a loop or generate may take by itself
 abbrev pub most_turns : ℕ
@@ -143,8 +143,8 @@ most_turns = 4096
 
 -- the values that the parameter of a loop or generate takes, one a turn, in order
 unfoldable pub turns : Integers → Range → Elab (List ℤ)
-turns at r = do
-  x ← integer at r.left
-  y ← integer at r.right
+turns here r = do
+  x ← integer here r.left
+  y ← integer here r.right
   unless TooMany (nat_le (extent r.direction x y) most_turns)
-  Ok (counted r.direction x (extent r.direction x y))
+  Ok (numbers_from r.direction x (extent r.direction x y))

@@ -45,9 +45,9 @@ element_type (enumeration count) = types.enumeration count
 
 -- Bounds are natural numbers, from 1 to 64 elements apart. A null range is refused whatever its bounds are.
 unfoldable pub declared_bounds : Integers → Range → Elab Bounds
-declared_bounds at r = do
-  x ← integer at r.left
-  y ← integer at r.right
+declared_bounds here r = do
+  x ← integer here r.left
+  y ← integer here r.right
   unless Index (not (is_null r.direction x y))
   left ← as_natural x
   right ← as_natural y
@@ -55,11 +55,11 @@ declared_bounds at r = do
   Ok (record { left = left; direction = r.direction; right = right })
 
 unfoldable pub kind_of : Integers → Form → Elab ObjectKind
-kind_of at units.element = Ok one
-kind_of at (units.vector r) = do
-  b ← declared_bounds at r
+kind_of here units.element = Ok one
+kind_of here (units.vector r) = do
+  b ← declared_bounds here r
   Ok (vector b)
-kind_of at (units.enumeration count) = Ok (enumeration count)
+kind_of here (units.enumeration count) = Ok (enumeration count)
 
 -- the size that a call asks for
 abbrev pub as_size : ℕ → Elab ℕ
@@ -69,15 +69,15 @@ as_size n = do
   Ok n
 
 unfoldable pub size_of : Integers → Static → Elab ℕ
-size_of at s = do
-  n ← natural at s
+size_of here s = do
+  n ← natural here s
   as_size n
 
 -- the count of an operator: a length, or how many places
 unfoldable pub count_of : Counted → Integers → Static → Elab ℕ
-count_of Resize at s = size_of at s
-count_of ShiftLeft at s = natural at s
-count_of ShiftRight at s = natural at s
+count_of Resize here s = size_of here s
+count_of ShiftLeft here s = natural here s
+count_of ShiftRight here s = natural here s
 
 -- ---- parts
 
@@ -108,14 +108,14 @@ slice_places b direction x y = do
 
 -- the places of a part, from the left
 unfoldable pub places : Integers → ObjectKind → Part → Elab (List ℕ)
-places at kind u.whole = Ok (range_with_len 0 (size kind))
-places at (vector b) (u.Part.element s) = do
-  i ← integer at s
+places here kind u.whole = Ok (range_with_len 0 (size kind))
+places here (vector b) (u.Part.element s) = do
+  i ← integer here s
   p ← place_of b i
   Ok (p ∷ [])
-places at (vector b) (u.slice r) = do
-  x ← integer at r.left
-  y ← integer at r.right
+places here (vector b) (u.slice r) = do
+  x ← integer here r.left
+  y ← integer here r.right
   slice_places b r.direction x y
 -- of what is no vector there are no parts, in units that names have passed
-places at _ _ = Err Index
+places here _ _ = Err Index

@@ -107,20 +107,20 @@ abbrev mutual
 
 -- ---- their elements
 
-abbrev pub concatenated : {A : Type 0} → List (List A) → List A
-concatenated [] = []
-concatenated (xs ∷ rest) = xs ++ concatenated rest
+abbrev pub concatenation_of : {A : Type 0} → List (List A) → List A
+concatenation_of [] = []
+concatenation_of (xs ∷ rest) = xs ++ concatenation_of rest
 
 -- the elements of these names, and of their longest static prefixes
 unfoldable pub names_elements : Site → List SignalPart → Elab (List ℕ)
-names_elements at ps = do
-  es ← each (place_elements at) ps
-  Ok (concatenated es)
+names_elements here ps = do
+  es ← each (place_elements here) ps
+  Ok (concatenation_of es)
 
 unfoldable pub prefixes_elements : Site → List SignalPart → Elab (List ℕ)
-prefixes_elements at ps = do
-  es ← each (λ p. place_elements at (prefix p)) ps
-  Ok (concatenated es)
+prefixes_elements here ps = do
+  es ← each (λ p. place_elements here (prefix p)) ps
+  Ok (concatenation_of es)
 
 abbrev pub is_among : List ℕ → ℕ → Bool
 is_among ns n = list_any (λ m. m == n) ns

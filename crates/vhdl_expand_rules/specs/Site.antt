@@ -7,7 +7,7 @@ use Rattle.vhdl_values.specs.declared.scalar.Nine.TheVariants.{X}
 use Rattle.vhdl_names_rules.specs.units.Expressions as u
 use Rattle.vhdl_names_rules.specs.units.Expressions.{Signal, Part, SignalPart}
 use Rattle.vhdl_expand_rules.specs.declared.fault.ElabProblem.TheVariants.{Index}
-use Rattle.vhdl_expand_rules.specs.Elab.{Elab, ◌>>=◌, found}
+use Rattle.vhdl_expand_rules.specs.Elab.{Elab, ◌>>=◌, item_or}
 use Rattle.vhdl_expand_rules.specs.Integers.{Integers}
 use Rattle.vhdl_expand_rules.specs.Kinds.{ObjectKind, size, places}
 
@@ -33,10 +33,10 @@ no_site = record { integers = no_integers; constants = []; ports = []; signals =
 
 -- within a turn of a generate, and of a loop
 abbrev pub in_generate : Site → ℤ → Site
-in_generate at i = record at { integers = record at.integers { generates = at.integers.generates ++ i ∷ [] } }
+in_generate here i = record here { integers = record here.integers { generates = here.integers.generates ++ i ∷ [] } }
 
 abbrev pub in_loop : Site → ℤ → Site
-in_loop at i = record at { integers = record at.integers { loops = at.integers.loops ++ i ∷ [] } }
+in_loop here i = record here { integers = record here.integers { loops = here.integers.loops ++ i ∷ [] } }
 
 -- ---- elements
 
@@ -46,32 +46,32 @@ elements_count kinds = sum (map size kinds)
 
 -- the elements of a part of the thing of this number, the first of all having the number `from`
 abbrev pub part_elements : Integers → (from : ℕ) → List ObjectKind → ℕ → Part → Elab (List ℕ)
-part_elements at from kinds k part = do
-  kind ← found Index (slice_get kinds k)
-  ps ← places at kind part
+part_elements here from kinds k part = do
+  kind ← item_or Index (slice_get kinds k)
+  ps ← places here kind part
   Ok (map (λ p. from + elements_count (take k kinds) + p) ps)
 
 -- of a signal's or port's name
 unfoldable pub signal_elements : Site → Signal → Part → Elab (List ℕ)
-signal_elements at (u.port k) part = part_elements at.integers 0 at.ports k part
-signal_elements at (u.Signal.signal k) part = part_elements at.integers (elements_count at.ports) at.signals k part
+signal_elements here (u.port k) part = part_elements here.integers 0 here.ports k part
+signal_elements here (u.Signal.signal k) part = part_elements here.integers (elements_count here.ports) here.signals k part
 
 abbrev pub place_elements : Site → SignalPart → Elab (List ℕ)
-place_elements at p = signal_elements at p.signal p.part
+place_elements here p = signal_elements here p.signal p.part
 
 -- of a variable's name
 unfoldable pub variable_elements : Site → ℕ → Part → Elab (List ℕ)
-variable_elements at k part = part_elements at.integers 0 at.variables k part
+variable_elements here k part = part_elements here.integers 0 here.variables k part
 
 -- the values of a part of a constant
 unfoldable pub constant_values : Site → ℕ → Part → Elab (List Nine)
-constant_values at k part = do
-  c ← found Index (slice_get at.constants k)
-  ps ← places at.integers c.kind part
+constant_values here k part = do
+  c ← item_or Index (slice_get here.constants k)
+  ps ← places here.integers c.kind part
   Ok (map (λ p. slice_index_or c.values p X) ps)
 
 -- what has one element has this
 abbrev pub the_element : Elab (List ℕ) → Elab ℕ
 the_element named = do
   es ← named
-  found Index (slice_get es 0)
+  item_or Index (slice_get es 0)

@@ -13,12 +13,12 @@ use Rattle.vhdl_expand_rules.specs.Expressions.{vector, value, test}
 
 -- what is assigned to so many elements: a value with as many, or one element for each of them
 unfoldable pub value_given : Site → (len : ℕ) → Given → Elab bodies.Value
-value_given at len (u.single v) = do
-  e ← value at v
+value_given here len (u.single v) = do
+  e ← value here v
   same_length (value_width e) len
   Ok e
-value_given at len (u.filled x) = do
-  e ← vector at x
+value_given here len (u.filled x) = do
+  e ← vector here x
   same_length (width e) 1
   Ok (bodies.elements (bodies.filled len e))
 
@@ -40,85 +40,85 @@ one s = bodies.step s bodies.done
 
 unfoldable mutual
   pub statement : Site → u.Statement → Elab bodies.Stmts
-  statement at u.null_of = Ok (one bodies.null_of)
-  statement at (u.assign p g) = do
-    es ← place_elements at p
-    v ← value_given at (length es) g
+  statement here u.null_of = Ok (one bodies.null_of)
+  statement here (u.assign p g) = do
+    es ← place_elements here p
+    v ← value_given here (length es) g
     Ok (one (bodies.assign es v))
-  statement at (u.set k part g) = do
-    es ← variable_elements at k part
-    v ← value_given at (length es) g
+  statement here (u.set k part g) = do
+    es ← variable_elements here k part
+    v ← value_given here (length es) g
     Ok (one (bodies.set es v))
-  statement at (u.if_of bs) = do
-    cs ← branches at bs
+  statement here (u.if_of bs) = do
+    cs ← branches here bs
     Ok (one (bodies.if_of cs))
-  statement at (u.case_of v alts) = do
-    e ← value at v
-    cs ← alternatives at (value_width e) alts
+  statement here (u.case_of v alts) = do
+    e ← value here v
+    cs ← alternatives here (value_width e) alts
     Ok (one (bodies.case_of e cs))
-  statement at (u.for_of r body) = do
-    is ← turns at.integers r
-    ss ← each (λ i. statements (in_loop at i) body) is
+  statement here (u.for_of r body) = do
+    is ← turns here.integers r
+    ss ← each (λ i. statements (in_loop here i) body) is
     Ok (joined_bodies ss)
 
   pub statements : Site → u.Statements → Elab bodies.Stmts
-  statements at u.done = Ok bodies.done
-  statements at (u.step s rest) = do
-    x ← statement at s
-    y ← statements at rest
+  statements here u.done = Ok bodies.done
+  statements here (u.step s rest) = do
+    x ← statement here s
+    y ← statements here rest
     Ok (bodies.followed_by x y)
 
   pub branches : Site → u.Branches → Elab bodies.Branches
-  branches at u.no_else = Ok bodies.no_else
-  branches at (u.otherwise s) = do
-    x ← statements at s
+  branches here u.no_else = Ok bodies.no_else
+  branches here (u.otherwise s) = do
+    x ← statements here s
     Ok (bodies.otherwise x)
-  branches at (u.branch t s bs) = do
-    c ← test at t
-    x ← statements at s
-    y ← branches at bs
+  branches here (u.branch t s bs) = do
+    c ← test here t
+    x ← statements here s
+    y ← branches here bs
     Ok (bodies.branch c x y)
 
   pub alternatives : Site → (len : ℕ) → u.Alternatives → Elab bodies.Alternatives
-  alternatives at len (u.others s) = do
-    x ← statements at s
+  alternatives here len (u.others s) = do
+    x ← statements here s
     Ok (bodies.others x)
-  alternatives at len (u.alternative choices s alts) = do
+  alternatives here len (u.alternative choices s alts) = do
     cs ← each (choice len) choices
-    x ← statements at s
-    y ← alternatives at len alts
+    x ← statements here s
+    y ← alternatives here len alts
     Ok (bodies.alternative cs x y)
 
 -- ---- how many turns the loops of a body have together: each turn of an outer loop counts, and those inside it
 
 unfoldable mutual
   pub statement_turns : Site → u.Statement → Elab ℕ
-  statement_turns at (u.if_of bs) = branches_turns at bs
-  statement_turns at (u.case_of v alts) = alternatives_turns at alts
-  statement_turns at (u.for_of r body) = do
-    is ← turns at.integers r
-    ns ← each (λ i. statements_turns (in_loop at i) body) is
+  statement_turns here (u.if_of bs) = branches_turns here bs
+  statement_turns here (u.case_of v alts) = alternatives_turns here alts
+  statement_turns here (u.for_of r body) = do
+    is ← turns here.integers r
+    ns ← each (λ i. statements_turns (in_loop here i) body) is
     Ok (length is + sum ns)
-  statement_turns at _ = Ok 0
+  statement_turns here _ = Ok 0
 
   pub statements_turns : Site → u.Statements → Elab ℕ
-  statements_turns at u.done = Ok 0
-  statements_turns at (u.step s rest) = do
-    m ← statement_turns at s
-    n ← statements_turns at rest
+  statements_turns here u.done = Ok 0
+  statements_turns here (u.step s rest) = do
+    m ← statement_turns here s
+    n ← statements_turns here rest
     Ok (m + n)
 
   pub branches_turns : Site → u.Branches → Elab ℕ
-  branches_turns at u.no_else = Ok 0
-  branches_turns at (u.otherwise s) = statements_turns at s
-  branches_turns at (u.branch t s bs) = do
-    m ← statements_turns at s
-    n ← branches_turns at bs
+  branches_turns here u.no_else = Ok 0
+  branches_turns here (u.otherwise s) = statements_turns here s
+  branches_turns here (u.branch t s bs) = do
+    m ← statements_turns here s
+    n ← branches_turns here bs
     Ok (m + n)
 
   pub alternatives_turns : Site → u.Alternatives → Elab ℕ
-  alternatives_turns at (u.others s) = statements_turns at s
-  alternatives_turns at (u.alternative choices s alts) = do
-    m ← statements_turns at s
-    n ← alternatives_turns at alts
+  alternatives_turns here (u.others s) = statements_turns here s
+  alternatives_turns here (u.alternative choices s alts) = do
+    m ← statements_turns here s
+    n ← alternatives_turns here alts
     Ok (m + n)

@@ -21,7 +21,7 @@ pub struct Integers<'a> {
 
 /// A value that has to lie in the range of static integers.
 fn checked(x: i32, at: usize) -> Result<i32, ElabFault>
-    ensures { Computes (definition.checked x) result }
+    ensures { Computes (definition.checked_integer x) result }
 {
     if x.unsigned_abs() <= MAX_INTEGER {
         Ok(x)
@@ -42,7 +42,7 @@ fn within(x: Option<i32>, at: usize) -> Result<i32, ElabFault>
 
 /// A literal.
 fn literal(n: u32, at: usize) -> Result<i32, ElabFault>
-    ensures { Computes (definition.checked (pos n)) result }
+    ensures { Computes (definition.checked_integer (pos n)) result }
 {
     match i32::try_from(n) {
         Ok(x) => checked(x, at),
@@ -62,7 +62,7 @@ pub fn as_natural(x: i32, at: usize) -> Result<u32, ElabFault>
 
 /// The integer of this number.
 fn known(xs: &[i32], number: usize, at: usize) -> Result<i32, ElabFault>
-    ensures { Computes (definition.known xs.now number) result }
+    ensures { Computes (definition.known_integer xs.now number) result }
 {
     match xs.get(number) {
         Some(x) => Ok(*x),
@@ -72,7 +72,7 @@ fn known(xs: &[i32], number: usize, at: usize) -> Result<i32, ElabFault>
 
 /// `left rem right`, which has the sign of the dividend.
 fn remainder(left: i32, right: i32, at: usize) -> Result<i32, ElabFault>
-    ensures { Computes (definition.operated Remainder left right) result }
+    ensures { Computes (definition.integer_operation Remainder left right) result }
 {
     if right == -1 {
         return Ok(0);
@@ -85,7 +85,7 @@ fn remainder(left: i32, right: i32, at: usize) -> Result<i32, ElabFault>
 
 /// `left + right`.
 fn sum(left: i32, right: i32, at: usize) -> Result<i32, ElabFault>
-    ensures { Computes (definition.checked (left +ℤ right)) result }
+    ensures { Computes (definition.checked_integer (left +ℤ right)) result }
 {
     within(left.checked_add(right), at)
 }
@@ -99,7 +99,7 @@ fn are_opposite(left: i32, right: i32) -> bool
 
 /// The modulus of this remainder: it has the sign of the divisor.
 fn with_sign_of(right: i32, remainder: i32, at: usize) -> Result<i32, ElabFault>
-    ensures { Computes (definition.checked (with_sign right remainder)) result }
+    ensures { Computes (definition.checked_integer (with_sign right remainder)) result }
 {
     if are_opposite(remainder, right) {
         sum(remainder, right, at)
@@ -110,7 +110,7 @@ fn with_sign_of(right: i32, remainder: i32, at: usize) -> Result<i32, ElabFault>
 
 /// `left mod right`, which has the sign of the divisor.
 fn modulus(left: i32, right: i32, at: usize) -> Result<i32, ElabFault>
-    ensures { Computes (definition.operated Modulo left right) result }
+    ensures { Computes (definition.integer_operation Modulo left right) result }
 {
     let remainder = remainder(left, right, at)?;
     let modulus = with_sign_of(right, remainder, at)?;
@@ -119,7 +119,7 @@ fn modulus(left: i32, right: i32, at: usize) -> Result<i32, ElabFault>
 
 /// An operator's result. `at` is the byte at which the operator starts.
 fn operated(operator: Arithmetic, left: i32, right: i32, at: usize) -> Result<i32, ElabFault>
-    ensures { Computes (definition.operated operator left right) result }
+    ensures { Computes (definition.integer_operation operator left right) result }
 {
     match operator {
         Arithmetic::Add => sum(left, right, at),

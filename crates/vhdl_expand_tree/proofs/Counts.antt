@@ -3,7 +3,7 @@ use Rattle.std.proofs.Common.{◌≡◌, ℕ, ◌+◌, List, [], ◌∷◌, ◌+
 use Rattle.std.proofs.lemmas.List.{length-append, map-append}
 use Rattle.std.proofs.lemmas.List.Sums.{sum_by_push}
 use Rattle.vhdl_expand_rules.specs.Tree.{Process, Instance, instance, Parts, no_parts, process, inner}
-use Rattle.vhdl_elab_rules.specs.Numbering.{own_sizes, Placed, Located, Numbered, nothing_numbered, Above, above_top, above_parts, placed, with_process, with_placed, with_instance, with_parts, numbered_design}
+use Rattle.vhdl_elab_rules.specs.Numbering.{own_sizes, Placed, Located, Numbered, nothing_numbered, Above, above_top, above_parts, placed_instance, with_process, with_placed, with_instance, with_parts, numbered_design}
 use Rattle.vhdl_elab_rules.specs.Limits.{Counts, statements_count, variable_elements_count, counts, is_within_limits}
 use Rattle.vhdl_expand_tree.specs.Costs.{no_costs, plus, own_costs, process_costs, instance_costs, parts_costs}
 use Rattle.vhdl_expand_tree.specs.Counts.{EachDesignCostsItsParts}
@@ -93,7 +93,7 @@ process-counts number round q d =
 mutual
   instance-counts : (i : Instance) (a : Above) (label : List ℕ) (d : Numbered) → counts (with_instance a label i d) ≡ plus (counts d) (instance_costs i)
   instance-counts (instance os turns parts) a label d =
-      let p : Placed = placed a label d.nets (instance os turns parts) in
+      let p : Placed = placed_instance a label d.nets (instance os turns parts) in
       parts-count parts (length d.instances) p (with_placed p d) ∙ ap (λ (c : Counts). plus c (parts_costs parts)) (placed-counts p d) ∙ plus-assoc (counts d) (own_costs os turns) (parts_costs parts)
 
   parts-count : (ps : Parts) (number : ℕ) (round : Placed) (d : Numbered) → counts (with_parts number round ps d) ≡ plus (counts d) (parts_costs ps)

@@ -16,7 +16,7 @@ use Rattle.vhdl_names_laws.proofs.Units.{units_are_sound}
 use Rattle.vhdl_names_laws.proofs.Named.{units_are_named, small_ports_distinct}
 use Rattle.vhdl_names_laws.proofs.Spelled.{spelled_files_have_words}
 use Rattle.vhdl_names_laws.proofs.placed.Laws.{faults_lie_in_the_text}
-use Rattle.vhdl_expand_rules.specs.Elab.{told}
+use Rattle.vhdl_expand_rules.specs.Elab.{problem_told}
 use Rattle.vhdl_expand_rules.specs.declared.fault.ElabFault.{ElabFault}
 use Rattle.vhdl_expand_rules.specs.declared.fault.ElabFault.TheVariants as elab
 use Rattle.vhdl_elab_laws.specs.Refused.{MayRefuse}
@@ -85,7 +85,7 @@ untyped_lies source file (Lex fault) read h = absurd h
 untyped_lies source file (Syntax fault) read h = absurd h
 untyped_lies source file (Elab fault) read h = absurd h
 
-pub no_net : (units : u.Units) (top : List ℕ) (size : ℕ) (fault : ElabFault) → (fault ≢ elab.NoMemory → MayRefuse units top (told fault))
+pub no_net : (units : u.Units) (top : List ℕ) (size : ℕ) (fault : ElabFault) → (fault ≢ elab.NoMemory → MayRefuse units top (problem_told fault))
     → HasElabFault units top (of_elab (elab_within size fault))
 no_net units top size (elab.At problem at) h = h (λ e. absurd cc)
 no_net units top size elab.NoMemory h = tt

@@ -17,7 +17,7 @@ use Rattle.vhdl_expand_rules.specs.Expansion.{Design, expanded_design}
 use Rattle.vhdl_expand_rules.specs.declared.fault.ElabFault.TheVariants as elab
 use Rattle.vhdl_expand_rules.specs.declared.fault.ElabProblem.{ElabProblem}
 use Rattle.vhdl_expand_rules.specs.declared.fault.ElabProblem.TheVariants.{TwoUnresolved, ReadOfShared, TooMany}
-use Rattle.vhdl_elab_rules.specs.Elaboration.{Elaborated, net_of, connected, elaborated_net}
+use Rattle.vhdl_elab_rules.specs.Elaboration.{Elaborated, net_of, netlist_of, elaborated_net}
 use Rattle.vhdl_elab_rules.specs.Limits.{counts, is_within_limits, has_two_unresolved, has_read_of_shared}
 use Rattle.vhdl_elab_rules.specs.Numbering.{numbered_design}
 use Rattle.vhdl_elab_rules.specs.Wiring.{flat_net}
@@ -71,8 +71,8 @@ undesigned (Ok x) design h e = true≢false (sym h)
 undesigned (Err problem) design h e = absurd (cc)
 
 -- what may be refused has no design
-not_connected : (r : Expanded Design) → IsErr (r >>= λ d. unless TooMany (is_within_limits (counts (numbered_design d)))) → IsErr (r >>= λ d. connected d)
-unfolding connected
+not_connected : (r : Expanded Design) → IsErr (r >>= λ d. unless TooMany (is_within_limits (counts (numbered_design d)))) → IsErr (r >>= λ d. netlist_of d)
+unfolding netlist_of
 not_connected (Err p) h = refl
 not_connected (Ok d) h = by (is_within_limits (counts (numbered_design d))) h
   where

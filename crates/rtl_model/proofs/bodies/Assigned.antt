@@ -8,7 +8,7 @@ use Rattle.rtl_model.specs.bodies.Body.{Branches, no_else, otherwise, branch, Al
 use Rattle.rtl_model.specs.bodies.Values.{Seen, value_of}
 use Rattle.rtl_model.specs.bodies.Tests.{same, is_met}
 use Rattle.rtl_model.specs.bodies.Variables.{after_stmt}
-use Rattle.rtl_model.specs.bodies.Effect.{Entries, later_over, one_entry, entries, chosen}
+use Rattle.rtl_model.specs.bodies.Effect.{Entries, later_over, one_entry, entries, entries_if}
 use Rattle.rtl_model.specs.bodies.Effect.{stmt_effect, effect, branches_effect, alternatives_effect}
 use Rattle.rtl_model.specs.bodies.Assigns.{of_drivers, stmt_must_assign, must_assign, branches_must_assign, alternatives_must_assign}
 use Rattle.rtl_model.specs.bodies.Laws.{EachRunAssigns}
@@ -34,7 +34,7 @@ module _ (these : ℕ → Bool) where
   later : (a b : Entries) → HasEntry a → HasEntry (later_over a b)
   later a b h = record { place = h.place; is_one = h.is_one; entry = or_else-left (a h.place) (b h.place) h.entry }
 
-  either : (t : Bool) (a b : Entries) → HasEntry a → HasEntry b → HasEntry (chosen t a b)
+  either : (t : Bool) (a b : Entries) → HasEntry a → HasEntry b → HasEntry (entries_if t a b)
   either true a b h g = record { place = h.place; is_one = h.is_one; entry = h.entry }
   either false a b h g = record { place = g.place; is_one = g.is_one; entry = g.entry }
 

@@ -21,10 +21,10 @@ use Rattle.rtl_model.specs.bodies.Body.{Test, condition, decided, equal, unequal
 use Rattle.rtl_model.specs.bodies.Body.{rising, falling, event, negated, combined}
 use Rattle.rtl_model.specs.bodies.Body.{Stmt, null_of, assign, set, if_of, case_of, Stmts, done, step}
 use Rattle.rtl_model.specs.bodies.Body.{Branches, no_else, otherwise, branch, Alternatives, others, alternative}
-use Rattle.rtl_model.specs.bodies.Values.{Seen, element_at, operated, elements_of, value_of}
+use Rattle.rtl_model.specs.bodies.Values.{Seen, element_at, operation_result, elements_of, value_of}
 use Rattle.rtl_model.specs.bodies.Tests.{same, truth, is_met}
-use Rattle.rtl_model.specs.bodies.Variables.{put, stmt_variables, variables_after, branches_variables, alternatives_variables, after_stmt}
-use Rattle.rtl_model.specs.bodies.Effect.{Entries, no_entries, entries, chosen, stmt_effect, effect, branches_effect, alternatives_effect}
+use Rattle.rtl_model.specs.bodies.Variables.{values_put, stmt_variables, variables_after, branches_variables, alternatives_variables, after_stmt}
+use Rattle.rtl_model.specs.bodies.Effect.{Entries, no_entries, entries, entries_if, stmt_effect, effect, branches_effect, alternatives_effect}
 use Rattle.rtl_model.specs.bodies.Reads.{expr_reads, value_reads, test_reads, stmt_reads, reads, branches_reads, alternatives_reads}
 use Rattle.rtl_model.specs.bodies.Reads.{test_events, stmt_events, events, branches_events, alternatives_events}
 use Rattle.rtl_model.specs.bodies.Assigns.{is_element, stmt_must_assign, must_assign, branches_must_assign, alternatives_must_assign}
@@ -94,7 +94,7 @@ module _ (a b : Seen) where
   expr_looks (inverse e) h = ap not_of_all (expr_looks e h)
   expr_looks (filled len e) h = ap (λ (x : List Nine). replicate len (slice_index_or x 0 X)) (expr_looks e h)
   expr_looks (binary op d e) h =
-      on_both (operated op)
+      on_both (operation_result op)
       (expr_looks d (lefts (expr_reads d) (expr_reads e) [] [] (λ k. expr_looks_at k d) (λ k. expr_looks_at k e) h))
       (expr_looks e (rights (expr_reads d) (expr_reads e) [] [] (λ k. expr_looks_at k d) (λ k. expr_looks_at k e) h))
   expr_looks (counted op count e) h = ap (counted_of op count) (expr_looks e h)
@@ -165,7 +165,7 @@ other_must m n P Q f (inl h) = f (inl h)
 other_must m n P Q f (inr h) = f (inr (and_parts m n h).1)
 
 either_alike : (t u : Bool) {f g p q : Entries} {v w v1 w1 v2 w2 : List ℕ} {m n : ℕ → Bool} → t ≡ u → DoAlike f g v w v1 w1 m → DoAlike p q v w v2 w2 n
-    → DoAlike (chosen t f p) (chosen u g q) v w (cond t v1 v2) (cond u w1 w2) (λ e. m e && n e)
+    → DoAlike (entries_if t f p) (entries_if u g q) v w (cond t v1 v2) (cond u w1 w2) (λ e. m e && n e)
 either_alike true true {m = m} {n = n} e h k = record { effect_is = h.effect_is; as_many = h.as_many; after = λ x. one_must (m x) (n x) _ _ (h.after x) }
 either_alike true false e h k = absurd cc
 either_alike false true e h k = absurd cc
@@ -198,7 +198,7 @@ first_set v w d x later e l (inr h) =
       | inr t ↦ inr t
     ]
 
-put_alike : (es values v w : List ℕ) → length v ≡ length w → DoAlike no_entries no_entries v w (put es values v) (put es values w) (are_in es)
+put_alike : (es values v w : List ℕ) → length v ≡ length w → DoAlike no_entries no_entries v w (values_put es values v) (values_put es values w) (are_in es)
 put_alike [] values v w l = none_alike l
 put_alike (d ∷ ds) values v w l =
     let x = slice_index values 0 in
@@ -235,7 +235,7 @@ mutual
   stmt_looks (set es v) a b l h =
       let k = put_alike es (value_of a v) a.variables b.variables l in
       let e = value_looks a b v h in
-      subst (λ (x : List ℕ). DoAlike no_entries no_entries a.variables b.variables (put es (value_of a v) a.variables) (put es x b.variables) (λ e. list_any (λ d. d == e) es)) e k
+      subst (λ (x : List ℕ). DoAlike no_entries no_entries a.variables b.variables (values_put es (value_of a v) a.variables) (values_put es x b.variables) (λ e. list_any (λ d. d == e) es)) e k
   stmt_looks (if_of bs) a b l h = branches_look bs a b l h
   stmt_looks (case_of v alts) a b l h =
       let e = value_looks a b v (record {

@@ -12,8 +12,8 @@ use Rattle.rtl_model.specs.bodies.Body.{Value, elements, position, position_of, 
 use Rattle.rtl_model.specs.bodies.Body.{Branches, no_else, otherwise, branch, Alternatives, others, alternative}
 use Rattle.rtl_model.specs.bodies.Values.{Seen, elements_of, value_of}
 use Rattle.rtl_model.specs.bodies.Tests.{same, is_met}
-use Rattle.rtl_model.specs.bodies.Variables.{put, stmt_variables, variables_after, branches_variables, alternatives_variables, after_stmt}
-use Rattle.rtl_model.specs.bodies.Effect.{Entries, no_entries, later_over, one_entry, entries, chosen}
+use Rattle.rtl_model.specs.bodies.Variables.{values_put, stmt_variables, variables_after, branches_variables, alternatives_variables, after_stmt}
+use Rattle.rtl_model.specs.bodies.Effect.{Entries, no_entries, later_over, one_entry, entries, entries_if}
 use Rattle.rtl_model.specs.bodies.Effect.{stmt_effect, effect, branches_effect, alternatives_effect}
 use Rattle.rtl_model.specs.bodies.Types.{ElementType, nine_valued, enumeration, limit_of, HasType, KeepsTypes}
 use Rattle.rtl_model.specs.bodies.Fits.{Scope, FitsAs, DrivesType, FitsStmt, Fits, FitsBranches, FitsAlternatives, value_width}
@@ -68,7 +68,7 @@ module _ (scope : Scope) where
       go place value None e k = g.each place value k
       go place value (Some v) e k = h.each place value (e ∙ k)
 
-  either : (t : Bool) (a b : Entries) → Kept a → Kept b → Kept (chosen t a b)
+  either : (t : Bool) (a b : Entries) → Kept a → Kept b → Kept (entries_if t a b)
   either true a b h g = record { each = λ place value k. h.each place value k }
   either false a b h g = record { each = λ place value k. g.each place value k }
 
@@ -113,7 +113,7 @@ module _ (scope : Scope) where
           omega arith
 
   puts : (t : ElementType) (es values old : List ℕ) → length es ≡ length values → All (HasType scope.variables t) es → IsBelow (limit_of t) values → KeepsTypes scope.variables old
-      → KeepsTypes scope.variables (put es values old)
+      → KeepsTypes scope.variables (values_put es values old)
   puts t [] values old l h below keeps = keeps
   puts t (d ∷ ds) [] old l h below keeps = absurd (omega arith)
   puts t (d ∷ ds) (v ∷ vs) old l h below keeps =
@@ -126,7 +126,7 @@ module _ (scope : Scope) where
     entries : Kept e
     variables : KeepsTypes scope.variables values
 
-  chosen_fine : (t : Bool) (a b : Entries) (v w : List ℕ) → Fine a v → Fine b w → Fine (chosen t a b) (cond t v w)
+  chosen_fine : (t : Bool) (a b : Entries) (v w : List ℕ) → Fine a v → Fine b w → Fine (entries_if t a b) (cond t v w)
   chosen_fine true a b v w h g = record { entries = either true a b h.entries g.entries; variables = h.variables }
   chosen_fine false a b v w h g = record { entries = either false a b h.entries g.entries; variables = g.variables }
 

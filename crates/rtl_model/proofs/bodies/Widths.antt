@@ -11,13 +11,13 @@ use Rattle.vhdl_values.proofs.Lengths.{length-logic_of_all, length-sum_of, lengt
 use Rattle.rtl_model.specs.bodies.Body.{Operator, logical, joined, plus, minus, times, Expr, signal, variable, constant}
 use Rattle.rtl_model.specs.bodies.Body.{inverse, filled, binary, counted}
 use Rattle.rtl_model.specs.bodies.Body.{Value, elements, position, position_of, position_in, Alternatives, others, alternative}
-use Rattle.rtl_model.specs.bodies.Values.{Seen, element_at, operated, elements_of, value_of}
+use Rattle.rtl_model.specs.bodies.Values.{Seen, element_at, operation_result, elements_of, value_of}
 use Rattle.rtl_model.specs.bodies.Types.{ElementType, nine_valued, enumeration}
 use Rattle.rtl_model.specs.bodies.Fits.{operated_width, width, value_width, IsWidth, FitsOperands, Scope, FitsExpr, FitsAs}
 use Rattle.rtl_model.specs.bodies.Fits.{FitsChoice, FitsAlternatives}
 use Rattle.rtl_model.specs.bodies.Laws.{HasItsWidth, is_of_elements, IsChoice, EachPartIsSafe}
 
-length-operated : (op : Operator) (a b : List Nine) → FitsOperands op (length a) (length b) → length (operated op a b) ≡ operated_width op (length a) (length b)
+length-operated : (op : Operator) (a b : List Nine) → FitsOperands op (length a) (length b) → length (operation_result op a b) ≡ operated_width op (length a) (length b)
 length-operated (logical op) a b h = length-logic_of_all op a b h
 length-operated joined a b h = length-append a b
 length-operated plus a b h = length-sum_of a b

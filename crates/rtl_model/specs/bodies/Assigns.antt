@@ -13,17 +13,17 @@ pub data Target : Type 0 where
 -- one of these drivers, and one element
 abbrev pub of_drivers : (these : ℕ → Bool) → Target → Bool
 of_drivers these (driver place) = these place
-of_drivers these (element e) = false
+of_drivers these (element k) = false
 
 abbrev pub is_element : ℕ → Target → Bool
-is_element e (driver place) = false
-is_element e (element d) = d == e
+is_element k (driver place) = false
+is_element k (element j) = j == k
 
 abbrev mutual
   pub stmt_must_assign : (these : Target → Bool) → Stmt → Bool
   stmt_must_assign these null_of = false
   stmt_must_assign these (assign places v) = list_any (λ place. these (driver place)) places
-  stmt_must_assign these (set es v) = list_any (λ e. these (element e)) es
+  stmt_must_assign these (set ks v) = list_any (λ k. these (element k)) ks
   stmt_must_assign these (if_of bs) = branches_must_assign these bs
   stmt_must_assign these (case_of v alts) = alternatives_must_assign these alts
 

@@ -12,7 +12,7 @@ use Rattle.rtl_model.specs.bodies.Body.{Branches, no_else, otherwise, branch, Al
 
 abbrev pub expr_reads : Expr → List ℕ
 expr_reads (signal nets) = nets
-expr_reads (variable es) = []
+expr_reads (variable ks) = []
 expr_reads (constant values) = []
 expr_reads (inverse e) = expr_reads e
 expr_reads (filled len e) = expr_reads e
@@ -43,7 +43,7 @@ abbrev mutual
   pub stmt_reads : Stmt → List ℕ
   stmt_reads null_of = []
   stmt_reads (assign places v) = value_reads v
-  stmt_reads (set es v) = value_reads v
+  stmt_reads (set ks v) = value_reads v
   stmt_reads (if_of bs) = branches_reads bs
   stmt_reads (case_of v alts) = value_reads v ++ alternatives_reads alts
 
@@ -74,7 +74,7 @@ abbrev mutual
   pub stmt_events : Stmt → List ℕ
   stmt_events null_of = []
   stmt_events (assign places v) = []
-  stmt_events (set es v) = []
+  stmt_events (set ks v) = []
   stmt_events (if_of bs) = branches_events bs
   stmt_events (case_of v alts) = alternatives_events alts
 

@@ -10,12 +10,12 @@ use Rattle.rtl_model.specs.bodies.Body.{Stmt, null_of, assign, set, if_of, case_
 use Rattle.rtl_model.specs.bodies.Body.{Branches, no_else, otherwise, branch, Alternatives, others, alternative}
 use Rattle.rtl_model.specs.bodies.Assigns.{is_element, stmt_must_assign}
 
-module _ (e : ℕ) where
-  -- ---- whether it reads the element e
+module _ (k : ℕ) where
+  -- ---- whether it reads the element k
 
   abbrev pub expr_looks_at : Expr → Bool
   expr_looks_at (signal nets) = false
-  expr_looks_at (variable es) = list_any (λ d. d == e) es
+  expr_looks_at (variable ks) = list_any (λ j. j == k) ks
   expr_looks_at (constant values) = false
   expr_looks_at (inverse d) = expr_looks_at d
   expr_looks_at (filled len d) = expr_looks_at d
@@ -26,7 +26,7 @@ module _ (e : ℕ) where
   value_looks_at (elements d) = expr_looks_at d
   value_looks_at (position n) = false
   value_looks_at (position_of net) = false
-  value_looks_at (position_in element) = element == e
+  value_looks_at (position_in element) = element == k
 
   abbrev pub test_looks_at : Test → Bool
   test_looks_at (condition d) = expr_looks_at d
@@ -44,14 +44,14 @@ module _ (e : ℕ) where
     pub stmt_stores : Stmt → Bool
     stmt_stores null_of = false
     stmt_stores (assign places v) = value_looks_at v
-    stmt_stores (set es v) = value_looks_at v
+    stmt_stores (set ks v) = value_looks_at v
     stmt_stores (if_of bs) = branches_store bs
     stmt_stores (case_of v alts) = value_looks_at v || alternatives_store alts
 
     -- what a statement assigns on every path, the later ones may read
     pub stores_element : Stmts → Bool
     stores_element done = false
-    stores_element (step s rest) = stmt_stores s || (not (stmt_must_assign (is_element e) s) && stores_element rest)
+    stores_element (step s rest) = stmt_stores s || (not (stmt_must_assign (is_element k) s) && stores_element rest)
 
     pub branches_store : Branches → Bool
     branches_store no_else = false

@@ -10,7 +10,7 @@ use Rattle.vhdl_expand_rules.specs.Tree.{Role, Object, Instance, instance, Parts
 use Rattle.vhdl_expand_rules.specs.Declarations.{is_input}
 use Rattle.vhdl_expand_rules.specs.laws.Lengths.{ObjectFits, InstanceFits, PartsFit}
 use Rattle.vhdl_expand_rules.specs.laws.Trees.{object_roles, MayBeDriven, ObjectIsSound, InstanceIsSound, PartsAreSound}
-use Rattle.vhdl_elab_rules.specs.Numbering.{object_nets, own_size, element_nets, own_sizes, Placed, Located, Numbered, Above, above_parts, placed, with_process, with_placed, with_instance, with_parts}
+use Rattle.vhdl_elab_rules.specs.Numbering.{object_nets, own_size, element_nets, own_sizes, Placed, Located, Numbered, Above, above_parts, placed_instance, with_process, with_placed, with_instance, with_parts}
 use Rattle.vhdl_elab_rules.specs.Wiring.{is_top}
 use Rattle.vhdl_elab_rules.proofs.laws.Nets.{own-nets, actual-nets, own-is_size}
 use Rattle.vhdl_elab_rules.proofs.laws.Typed.{zip_append, zip_weaker, zip_read}
@@ -68,7 +68,7 @@ module _ (roles : List Role) where
     pub instance-keeps : (i : Instance) (outer : List Object) (a : Above) (label : List ℕ) (d : Numbered) → InstanceFits i → InstanceIsSound outer i → KeptSoFar d → AllZip Kept (object_roles outer) a.nets
         → KeptSoFar (with_instance a label i d)
     instance-keeps (instance os turns parts) outer a label d fit sound so_far z =
-        let p : Placed = placed a label d.nets (instance os turns parts) in
+        let p : Placed = placed_instance a label d.nets (instance os turns parts) in
         let is : KeepsInputs p = nets-kept os outer a.nets d.nets sound.0 fit.0 z so_far.past in
         let past : length roles ≤ d.nets = so_far.past in
         parts-keep parts (length d.instances) p (with_placed p d) fit.1 sound.1 (record {
@@ -133,7 +133,7 @@ pub top-keeps : (os : List Object) (a : Above) (label : List ℕ) (turns : ℕ) 
     → PartsAreSound os parts → KeptSoFar (object_roles os) (with_instance a label (instance os turns parts) d)
 top-keeps os a label turns parts d none no_instance no_process alone fit fits sound =
     let roles : List Role = object_roles os in
-    let p : Placed = placed a label d.nets (instance os turns parts) in
+    let p : Placed = placed_instance a label d.nets (instance os turns parts) in
     let count : own_sizes os ≡ length roles = own-sizes-of os alone in
     let is : KeepsInputs roles p =
     subst (AllZip (Kept roles) roles) (sym (top-nets os a.nets d.nets alone ∙ ap (λ n. range_with_len n (own_sizes os)) none ∙ ap (range_with_len 0) count))
@@ -152,7 +152,7 @@ tops d = filter is_top d.instances
 mutual
   instance-inside : (i : Instance) (number : ℕ) (round : Placed) (label : List ℕ) (d : Numbered) → tops (with_instance (above_parts number round) label i d) ≡ tops d
   instance-inside (instance os turns parts) number round label d =
-      let p : Placed = placed (above_parts number round) label d.nets (instance os turns parts) in
+      let p : Placed = placed_instance (above_parts number round) label d.nets (instance os turns parts) in
       parts-inside parts (length d.instances) p (with_placed p d) ∙ filter-append is_top d.instances (p ∷ []) ∙ append-nil (tops d)
 
   pub parts-inside : (ps : Parts) (number : ℕ) (round : Placed) (d : Numbered) → tops (with_parts number round ps d) ≡ tops d

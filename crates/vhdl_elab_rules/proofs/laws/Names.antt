@@ -10,7 +10,7 @@ use Rattle.vhdl_expand_rules.specs.Expansion.{expanded_design}
 use Rattle.vhdl_expand_rules.specs.laws.Labels.{ProcessIsNamed, InstanceIsNamed, PartsAreNamed}
 use Rattle.vhdl_expand_rules.proofs.Steps.{bound}
 use Rattle.vhdl_expand_rules.proofs.laws.Labels.{each-tree-is-named}
-use Rattle.vhdl_elab_rules.specs.Numbering.{Placed, Located, Numbered, Above, nothing_numbered, above_top, above_parts, placed, with_process, with_placed, with_instance, with_parts, numbered_design}
+use Rattle.vhdl_elab_rules.specs.Numbering.{Placed, Located, Numbered, Above, nothing_numbered, above_top, above_parts, placed_instance, with_process, with_placed, with_instance, with_parts, numbered_design}
 use Rattle.vhdl_elab_rules.specs.Names.{Scope, scope_of, Signal, signals_from, signals_of, NamedVariable, named_variable, named_process}
 use Rattle.vhdl_elab_rules.specs.Elaboration.{net_of, elaborated_net}
 use Rattle.vhdl_elab_rules.specs.laws.Names.{ProcessHasName, HasNames, EachHasNames}
@@ -42,7 +42,7 @@ deeper m n x l h = let s : x.scope < m = h.scope in record { scope = omega (arit
 mutual
   instance-named : (i : Instance) (a : Above) (label : List ℕ) (d : Numbered) → label ≢ [] → InstanceIsNamed i → SoFar d → Step (length d.instances) (with_instance a label i d)
   instance-named (instance os turns parts) a label d l h so_far =
-      let p : Placed = placed a label d.nets (instance os turns parts) in
+      let p : Placed = placed_instance a label d.nets (instance os turns parts) in
       let n : ℕ = length d.instances in
       let len : length (d.instances ++ p ∷ []) ≡ n + 1 = length-append d.instances (p ∷ []) in
       let m : ℕ = length (d.instances ++ p ∷ []) in

@@ -13,7 +13,7 @@ use Rattle.vhdl_expand_rules.specs.Kinds.{size}
 use Rattle.vhdl_expand_rules.specs.Tree.{Object, Instance, instance, Parts, no_parts, process, inner}
 use Rattle.vhdl_expand_rules.specs.laws.Lengths.{ObjectFits, InstanceFits, PartsFit}
 use Rattle.vhdl_expand_rules.proofs.laws.Lengths.{design-fits}
-use Rattle.vhdl_elab_rules.specs.Numbering.{object_nets, own_size, element_nets, own_sizes, Placed, Numbered, nothing_numbered, Above, above_top, above_parts, placed, with_process, with_placed, with_instance, with_parts, numbered_design}
+use Rattle.vhdl_elab_rules.specs.Numbering.{object_nets, own_size, element_nets, own_sizes, Placed, Numbered, nothing_numbered, Above, above_top, above_parts, placed_instance, with_process, with_placed, with_instance, with_parts, numbered_design}
 use Rattle.vhdl_elab_rules.specs.Wiring.{Element, element_of, elements_from, elements_of}
 use Rattle.vhdl_elab_rules.specs.laws.Nets.{objects_count, nets_of_name, NetsAreAsSaid, EachNetIsAsSaid}
 use Rattle.vhdl_elab_rules.proofs.Segments.{run-append, segment, reads-all, get-left, get-last}
@@ -172,7 +172,7 @@ same_placed p q h = cc
 
 -- an instance is placed
 place : (instances : List Placed) (count : ℕ) (a : Above) (label : List ℕ) (i : Instance) → InstanceFits i → SoFar instances count → AboveFits instances a
-    → Step instances (instances ++ placed a label count i ∷ []) (count + own_sizes (placed a label count i).objects)
+    → Step instances (instances ++ placed_instance a label count i ∷ []) (count + own_sizes (placed_instance a label count i).objects)
 unfolding AboveFits
 place instances count a label (instance objects turns parts) fit so_far h = record {
   so_far = record {
@@ -190,7 +190,7 @@ place instances count a label (instance objects turns parts) fit so_far h = reco
 }
   where
     p : Placed
-    p = placed a label count (instance objects turns parts)
+    p = placed_instance a label count (instance objects turns parts)
 
     stand : (k : ℕ) (q : Placed) → slice_get (instances ++ p ∷ []) k ≡ Some q → (k < length instances) ⊎ (length instances ≤ k) → Stands (instances ++ p ∷ []) k q
     stand k q g (inl l) = stands-still instances p q k l (so_far.stands k q (sym (get-left instances (p ∷ []) k l) ∙ g))
@@ -226,7 +226,7 @@ mutual
       → Step d.instances (with_instance a label i d).instances (with_instance a label i d).nets
   instance-step (instance objects turns parts) a label d fit so_far h =
       let i : Instance = instance objects turns parts in
-      let p : Placed = placed a label d.nets i in
+      let p : Placed = placed_instance a label d.nets i in
       let first = place d.instances d.nets a label i fit so_far h in
       then_step d.instances (d.instances ++ p ∷ []) (with_parts (length d.instances) p parts (with_placed p d)).instances (d.nets + own_sizes objects) (with_parts (length d.instances) p parts (with_placed p d)).nets
       first (parts-step parts (length d.instances) p (with_placed p d) fit.1 first.so_far (is_above d.instances p))

@@ -8,7 +8,7 @@ use Rattle.rtl_net.specs.Elaborated.{IsRound, itself, further_in, FollowsInText}
 use Rattle.vhdl_expand_rules.specs.Tree.{Instance, instance, Parts, no_parts, process, inner}
 use Rattle.vhdl_expand_rules.specs.Expansion.{expanded_design}
 use Rattle.vhdl_expand_rules.proofs.Steps.{bound}
-use Rattle.vhdl_elab_rules.specs.Numbering.{Placed, Numbered, nothing_numbered, above_top, above_parts, placed, with_process, with_placed, with_instance, with_parts, numbered_design}
+use Rattle.vhdl_elab_rules.specs.Numbering.{Placed, Numbered, nothing_numbered, above_top, above_parts, placed_instance, with_process, with_placed, with_instance, with_parts, numbered_design}
 use Rattle.vhdl_elab_rules.specs.Names.{Scope, scope_of}
 use Rattle.vhdl_elab_rules.specs.Elaboration.{Elaborated, elaborated_net}
 use Rattle.vhdl_elab_rules.specs.laws.Scopes.{scope_views, StandInText, EachScopeFollows}
@@ -120,7 +120,7 @@ on-on xs ys zs h g = record { more = h.more ++ g.more; is = g.is ∙ ap (λ (ss 
 mutual
   instance-on : (i : Instance) (number : ℕ) (round : Placed) (label : List ℕ) (d : Numbered) → StoodOn (views d.instances) (views (with_instance (above_parts number round) label i d).instances)
   instance-on (instance os turns parts) number round label d =
-      let p : Placed = placed (above_parts number round) label d.nets (instance os turns parts) in
+      let p : Placed = placed_instance (above_parts number round) label d.nets (instance os turns parts) in
       on-on (views d.instances) (views (d.instances ++ p ∷ [])) (views (with_parts (length d.instances) p parts (with_placed p d)).instances)
       (record { more = record { label = p.label; parent = p.parent } ∷ []; is = views-more d.instances p }) (parts-on parts (length d.instances) p (with_placed p d))
 
@@ -144,7 +144,7 @@ back number inside scopes e h = record {
 mutual
   instance-stands : (i : Instance) (number : ℕ) (round : Placed) (label : List ℕ) (d : Numbered) → Stood number (views d.instances) → Stood number (views (with_instance (above_parts number round) label i d).instances)
   instance-stands (instance os turns parts) number round label d h =
-      let p : Placed = placed (above_parts number round) label d.nets (instance os turns parts) in
+      let p : Placed = placed_instance (above_parts number round) label d.nets (instance os turns parts) in
       let s : ScopeView = record { label = p.label; parent = p.parent } in
       let n : ℕ = length d.instances in
       let len : length (views d.instances) ≡ n = length-views d.instances in
@@ -167,7 +167,7 @@ mutual
 
 top-stands : (i : Instance) (name : List ℕ) → StandInText (views (with_instance above_top name i nothing_numbered).instances)
 top-stands (instance os turns parts) name =
-    let p : Placed = placed above_top name 0 (instance os turns parts) in
+    let p : Placed = placed_instance above_top name 0 (instance os turns parts) in
     let s = parts-stand parts 0 p (with_placed p nothing_numbered) (record {
       there = omega arith;
       text = record { top = refl; others = λ k l. absurd (omega (arith, l)); last = 0; last_is = refl; round = itself };

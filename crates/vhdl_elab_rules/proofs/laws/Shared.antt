@@ -14,7 +14,7 @@ use Rattle.vhdl_expand_rules.specs.laws.Lengths.{ObjectFits, InstanceFits, Parts
 use Rattle.vhdl_expand_rules.specs.laws.Trees.{object_types, MayBeDriven, ObjectIsSound, InstanceIsSound, PartsAreSound}
 use Rattle.vhdl_expand_rules.proofs.laws.Names.{get-before}
 use Rattle.vhdl_expand_rules.proofs.laws.Targets.{all_left, all_right}
-use Rattle.vhdl_elab_rules.specs.Numbering.{Placed, Located, Numbered, Above, above_parts, placed, with_process, with_placed, with_instance, with_parts}
+use Rattle.vhdl_elab_rules.specs.Numbering.{Placed, Located, Numbered, Above, above_parts, placed_instance, with_process, with_placed, with_instance, with_parts}
 use Rattle.vhdl_elab_rules.specs.Wiring.{flat_process}
 use Rattle.vhdl_elab_rules.proofs.Segments.{get-left}
 use Rattle.vhdl_elab_rules.proofs.laws.Typed.{zip_lengths, zip_read}
@@ -95,7 +95,7 @@ grown-on xs ys zs h g = record { more = h.more ++ g.more; is = g.is ∙ ap (λ (
 mutual
   instance-grows : (i : Instance) (a : Above) (label : List ℕ) (d : Numbered) → Grown d.instances (with_instance a label i d).instances
   instance-grows (instance os turns parts) a label d =
-      let p : Placed = placed a label d.nets (instance os turns parts) in
+      let p : Placed = placed_instance a label d.nets (instance os turns parts) in
       grown-on d.instances (d.instances ++ p ∷ []) (with_instance a label (instance os turns parts) d).instances (record { more = p ∷ []; is = refl }) (parts-grow parts (length d.instances) p (with_placed p d))
 
   parts-grow : (ps : Parts) (number : ℕ) (round : Placed) (d : Numbered) → Grown d.instances (with_parts number round ps d).instances
@@ -126,7 +126,7 @@ mutual
   instance-old : (i : Instance) (outer : List Object) (a : Above) (label : List ℕ) (d : Numbered) (n c : ℕ) → InstanceFits i → InstanceIsSound outer i → SoFar d → AllZip (HasType (types_of d.instances)) (object_types outer) a.nets
       → HasType (types_of d.instances) (enumeration c) n → all_hits n (with_instance a label i d).processes ≡ all_hits n d.processes
   instance-old (instance os turns parts) outer a label d n c fit sound so_far z typed =
-      let p : Placed = placed a label d.nets (instance os turns parts) in
+      let p : Placed = placed_instance a label d.nets (instance os turns parts) in
       let first = place-step os outer a label turns parts d sound.0 fit.0 so_far z in
       let is = last-is os outer a label turns parts d sound.0 fit.0 so_far z in
       let still : HasType (types_of (d.instances ++ p ∷ [])) (enumeration c) n = typed-still (types_of d.instances) (types_of (d.instances ++ p ∷ [])) first.more n c first.grown typed in
@@ -165,12 +165,12 @@ last-tame : (xs : List Placed) (p : Placed) → All Tame (xs ++ p ∷ []) → Ta
 last-tame xs p h = All-head Tame p [] (all_right Tame xs (p ∷ []) h)
 
 begun-once : (os outer : List Object) (a : Above) (label : List ℕ) (turns : ℕ) (parts : Parts) (d : Numbered) → All (ObjectIsSound outer) os → All ObjectFits os → PartsAreSound os parts → SoFar d
-    → AllZip (HasType (types_of d.instances)) (object_types outer) a.nets → Tame (placed a label d.nets (instance os turns parts)) → HitOnce d
-    → OnceWith (with_placed (placed a label d.nets (instance os turns parts)) d) (placed a label d.nets (instance os turns parts)) parts
+    → AllZip (HasType (types_of d.instances)) (object_types outer) a.nets → Tame (placed_instance a label d.nets (instance os turns parts)) → HitOnce d
+    → OnceWith (with_placed (placed_instance a label d.nets (instance os turns parts)) d) (placed_instance a label d.nets (instance os turns parts)) parts
 begun-once os outer a label turns parts d objects fit sound so_far z tame once n c typed = by (cases_lt n (length types))
   where
     p : Placed
-    p = placed a label d.nets (instance os turns parts)
+    p = placed_instance a label d.nets (instance os turns parts)
 
     types : List ElementType
     types = types_of d.instances
@@ -223,7 +223,7 @@ mutual
   pub instance-once : (i : Instance) (outer : List Object) (a : Above) (label : List ℕ) (d : Numbered) → InstanceFits i → InstanceIsSound outer i → SoFar d
       → AllZip (HasType (types_of d.instances)) (object_types outer) a.nets → All Tame (with_instance a label i d).instances → HitOnce d → HitOnce (with_instance a label i d)
   instance-once (instance os turns parts) outer a label d fit sound so_far z tame once =
-      let p : Placed = placed a label d.nets (instance os turns parts) in
+      let p : Placed = placed_instance a label d.nets (instance os turns parts) in
       let first = place-step os outer a label turns parts d sound.0 fit.0 so_far z in
       let mine : All Tame (d.instances ++ p ∷ []) =
       earlier-tame (d.instances ++ p ∷ []) (with_parts (length d.instances) p parts (with_placed p d)).instances (parts-grow parts (length d.instances) p (with_placed p d)) tame in

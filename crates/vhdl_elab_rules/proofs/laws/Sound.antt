@@ -33,7 +33,7 @@ use Rattle.vhdl_elab_rules.specs.Numbering.{Placed, Numbered, nothing_numbered, 
 use Rattle.vhdl_elab_rules.specs.Wiring.{Element, elements_of, with_defaults, start_by, start_of, flat_net}
 use Rattle.vhdl_elab_rules.specs.Limits.{elements, has_two_unresolved, has_read_of_shared, counts, is_within_limits}
 use Rattle.vhdl_elab_rules.specs.Names.{scope_of}
-use Rattle.vhdl_elab_rules.specs.Elaboration.{Elaborated, net_of, connected, elaborated_net}
+use Rattle.vhdl_elab_rules.specs.Elaboration.{Elaborated, net_of, netlist_of, elaborated_net}
 use Rattle.vhdl_elab_rules.specs.laws.Processes.{ProcessesFit}
 use Rattle.vhdl_elab_rules.specs.laws.Shape.{HasShape}
 use Rattle.vhdl_elab_rules.specs.laws.Wiring.{IsWired}
@@ -178,8 +178,8 @@ pub record Accepted (design : Design) (x : Elaborated) : Type 0 where
   pub no_two : has_two_unresolved (numbered_design design) ≡ false
   pub is : net_of (numbered_design design) ≡ x
 
-pub accepted : (design : Design) (x : Elaborated) → connected design ≡ Ok x → Accepted design x
-unfolding connected
+pub accepted : (design : Design) (x : Elaborated) → netlist_of design ≡ Ok x → Accepted design x
+unfolding netlist_of
 accepted design x e =
     let d : Numbered = numbered_design design in
     let limits = bound (unless TooMany (is_within_limits (counts d))) _ x e in

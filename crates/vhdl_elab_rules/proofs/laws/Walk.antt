@@ -9,7 +9,7 @@ use Rattle.rtl_model.specs.bodies.Types.{ElementType, IsByte, HasType}
 use Rattle.vhdl_expand_rules.specs.Tree.{Object, Process, Instance, instance, Parts, no_parts, process, inner}
 use Rattle.vhdl_expand_rules.specs.laws.Lengths.{ObjectFits, InstanceFits, PartsFit}
 use Rattle.vhdl_expand_rules.specs.laws.Trees.{object_types, ObjectIsSound, ProcessIsSound, InstanceIsSound, PartsAreSound}
-use Rattle.vhdl_elab_rules.specs.Numbering.{Placed, Located, Numbered, Above, above_parts, placed, with_process, with_placed, with_instance, with_parts}
+use Rattle.vhdl_elab_rules.specs.Numbering.{Placed, Located, Numbered, Above, above_parts, placed_instance, with_process, with_placed, with_instance, with_parts}
 use Rattle.vhdl_elab_rules.specs.Wiring.{Element, elements_of}
 use Rattle.vhdl_elab_rules.proofs.laws.Typed.{zip_append, IsBelow, own_types, own_starts, length-own_types, own-types-from, own-starts-from, types-bytes, starts-below, more-types, nets-typed}
 
@@ -65,7 +65,7 @@ then-step before between more d e s = record { so_far = s.so_far; more = more ++
 -- ---- an instance is placed
 
 pub place-step : (os outer : List Object) (a : Above) (label : List ℕ) (turns : ℕ) (parts : Parts) (d : Numbered) → All (ObjectIsSound outer) os → All ObjectFits os → SoFar d
-    → AllZip (HasType (types_of d.instances)) (object_types outer) a.nets → Step (types_of d.instances) (with_placed (placed a label d.nets (instance os turns parts)) d)
+    → AllZip (HasType (types_of d.instances)) (object_types outer) a.nets → Step (types_of d.instances) (with_placed (placed_instance a label d.nets (instance os turns parts)) d)
 place-step os outer a label turns parts d h fit so_far z = record {
   so_far = record {
     count = ap length grown ∙ length-append types (own_types os) ∙ ap (λ n. n + length (own_types os)) so_far.count ∙ ap (λ n. d.nets + n) (length-own_types os);
@@ -83,7 +83,7 @@ place-step os outer a label turns parts d h fit so_far z = record {
 }
   where
     p : Placed
-    p = placed a label d.nets (instance os turns parts)
+    p = placed_instance a label d.nets (instance os turns parts)
 
     types : List ElementType
     types = types_of d.instances
@@ -100,9 +100,9 @@ place-step os outer a label turns parts d h fit so_far z = record {
 -- the instance that was placed last
 pub last-is : (os outer : List Object) (a : Above) (label : List ℕ) (turns : ℕ) (parts : Parts) (d : Numbered) → All (ObjectIsSound outer) os → All ObjectFits os → SoFar d
     → AllZip (HasType (types_of d.instances)) (object_types outer) a.nets
-    → PlacedIsSound (types_of (d.instances ++ placed a label d.nets (instance os turns parts) ∷ [])) (placed a label d.nets (instance os turns parts))
+    → PlacedIsSound (types_of (d.instances ++ placed_instance a label d.nets (instance os turns parts) ∷ [])) (placed_instance a label d.nets (instance os turns parts))
 last-is os outer a label turns parts d h fit so_far z =
-    let p : Placed = placed a label d.nets (instance os turns parts) in
+    let p : Placed = placed_instance a label d.nets (instance os turns parts) in
     let types : List ElementType = types_of d.instances in
     let grown : types_of (d.instances ++ p ∷ []) ≡ types ++ own_types os = field-more (λ (e : Element). e.type) d.instances p ∙ ap (λ (ts : List ElementType). types ++ ts) (own-types-from os p 0) in
     subst (λ (ts : List ElementType). PlacedIsSound ts p) (sym grown) (record { outer = outer; sound = h; fits = fit; nets = nets-typed os outer a.nets types d.nets h fit z so_far.count })
@@ -130,7 +130,7 @@ mutual
   pub instance-walks : (i : Instance) (outer : List Object) (a : Above) (label : List ℕ) (d : Numbered) → InstanceFits i → InstanceIsSound outer i → SoFar d
       → AllZip (HasType (types_of d.instances)) (object_types outer) a.nets → Step (types_of d.instances) (with_instance a label i d)
   instance-walks (instance os turns parts) outer a label d fit sound so_far z =
-      let p : Placed = placed a label d.nets (instance os turns parts) in
+      let p : Placed = placed_instance a label d.nets (instance os turns parts) in
       let first = place-step os outer a label turns parts d sound.0 fit.0 so_far z in
       then-step (types_of d.instances) (types_of (d.instances ++ p ∷ [])) first.more (with_instance a label (instance os turns parts) d) first.grown
       (parts-walk parts (length d.instances) p (with_placed p d) fit.1 sound.1 first.so_far (last-is os outer a label turns parts d sound.0 fit.0 so_far z))

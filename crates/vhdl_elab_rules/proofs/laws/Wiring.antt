@@ -21,7 +21,7 @@ use Rattle.vhdl_expand_rules.specs.laws.Lengths.{InstanceFits}
 use Rattle.vhdl_expand_rules.specs.laws.Trees.{object_roles, is_port, MayBeDriven, InstanceIsSound}
 use Rattle.vhdl_expand_rules.proofs.laws.Lengths.{design-fits}
 use Rattle.vhdl_expand_rules.proofs.laws.Trees.{each-tree-is-sound}
-use Rattle.vhdl_elab_rules.specs.Numbering.{Placed, Located, Numbered, nothing_numbered, above_top, placed, with_placed, with_instance, numbered_design}
+use Rattle.vhdl_elab_rules.specs.Numbering.{Placed, Located, Numbered, nothing_numbered, above_top, placed_instance, with_placed, with_instance, numbered_design}
 use Rattle.vhdl_elab_rules.specs.Wiring.{Element, elements_of, is_input, is_output, is_top, inputs_of, idle_elements, idle_values, flat_process, with_defaults, start_by, start_of, flat_net}
 use Rattle.vhdl_elab_rules.specs.laws.Processes.{ProcessesFit}
 use Rattle.vhdl_elab_rules.specs.laws.Wiring.{IsWired, EachNetIsWired}
@@ -276,7 +276,7 @@ is-wired os d h k t fit = record {
 
 top-in : (i : Instance) (name : List ℕ) → InstanceFits i → All NotJoined (objects_of i) → Top (objects_of i) (with_instance above_top name i nothing_numbered)
 top-in (instance os turns parts) name fit alone =
-    let p : Placed = placed above_top name 0 (instance os turns parts) in
+    let p : Placed = placed_instance above_top name 0 (instance os turns parts) in
     record {
       placed = p;
       alone = parts-inside parts 0 p (with_placed p nothing_numbered);

@@ -11,7 +11,7 @@ use Rattle.rtl_model.specs.bodies.Body as bodies
 use Rattle.vhdl_expand_rules.specs.Elab.{Elab, ◌>>=◌}
 use Rattle.vhdl_expand_rules.specs.Site.{Site, place_elements}
 use Rattle.vhdl_expand_rules.specs.Integers.{natural}
-use Rattle.vhdl_expand_rules.specs.Expressions.{levelled, value, vector, test}
+use Rattle.vhdl_expand_rules.specs.Expressions.{level_test, value, vector, test}
 
 -- a character literal, and whether it stands with no parentheses
 pub record Character : Type 0 where
@@ -40,7 +40,7 @@ module _ (at : Site) where
   abbrev pub level : (plain : Bool) → SignalPart → Nine → Elab bodies.Test
   level plain p x = do
     es ← place_elements at p
-    Ok (levelled plain es x)
+    Ok (level_test plain es x)
 
   abbrev pub equal : Value → Value → Elab bodies.Test
   equal v w = do

@@ -16,7 +16,7 @@ use Rattle.vhdl_expand_rules.specs.Elab.{Elab, ◌>>=◌, ◌>>◌}
 use Rattle.vhdl_expand_rules.specs.Integers.{natural}
 use Rattle.vhdl_expand_rules.specs.Kinds.{as_size, size_of, count_of}
 use Rattle.vhdl_expand_rules.specs.Site.{Site, place_elements, variable_elements}
-use Rattle.vhdl_expand_rules.specs.Expressions.{operated, operator, numeric, vector}
+use Rattle.vhdl_expand_rules.specs.Expressions.{operation_on, operator, numeric, vector}
 
 abbrev pub literal : List Nine → Elab bodies.Expr
 literal xs = do
@@ -50,16 +50,16 @@ module _ (at : Site) where
   integer_with op s x = do
     n ← natural at.integers s
     e ← vector at x
-    operated (numeric op) (bodies.constant (digits_of (width e) n)) e
+    operation_on (numeric op) (bodies.constant (digits_of (width e) n)) e
 
   -- an operator with its right operand, after an expression
   abbrev pub linked : bodies.Expr → VectorLink → Elab bodies.Expr
   linked d (l.Vector op pos x) = do
     e ← vector at (vector_view x)
-    operated (operator op) d e
+    operation_on (operator op) d e
   linked d (l.Integer op pos s) = do
     n ← natural at.integers (static_view s)
-    operated (numeric op) d (bodies.constant (digits_of (width d) n))
+    operation_on (numeric op) d (bodies.constant (digits_of (width d) n))
 
   abbrev pub all_linked : bodies.Expr → List VectorLink → Elab bodies.Expr
   all_linked d [] = Ok d

@@ -20,7 +20,7 @@ use Rattle.vhdl_expand_rules.specs.Integers.{Integers, integer_of}
 use Rattle.vhdl_expand_rules.specs.Kinds.{ObjectKind, size, element_type, kind_of}
 use Rattle.vhdl_expand_rules.specs.Site.{Site, no_integers, no_site, place_elements}
 use Rattle.vhdl_expand_rules.specs.Tree.{Role, internal, Object}
-use Rattle.vhdl_expand_rules.specs.Declarations.{generics, fixed, starts, object, role_of, InstanceObjects, with_port, with_signal, ports, interface, declaration, declarations, is_input, association, associations}
+use Rattle.vhdl_expand_rules.specs.Declarations.{generics, fixed_values, starts, object, role_of, InstanceObjects, with_port, with_signal, ports, interface, declaration, declarations, is_input, association, associations}
 use Rattle.vhdl_expand_rules.specs.laws.Sites.{IsOf, IsConstant, IsSite, scope_at}
 use Rattle.vhdl_expand_rules.specs.laws.Trees.{object_kinds, object_types, MayBeDriven, is_port, ObjectIsSound}
 use Rattle.vhdl_expand_rules.proofs.Steps.{ok, bound}
@@ -241,7 +241,7 @@ declaration-stands (u.integer type s) i d e ps fit h k =
     })
 declaration-stands (u.Declaration.constant form f) i d e ps fit h k =
     let c = bound (kind_of d.site.integers form) _ e k in
-    let vs = bound (fixed d.site (size c.x) f) _ e c.then_gave in
+    let vs = bound (fixed_values d.site (size c.x) f) _ e c.then_gave in
     let both = and_parts (form_fits i form) (fixed_fits i (shape_of form) f) fit in
     let of = kind_is_of i d.site.integers form c.x both.0 c.gave in
     let w = h.declared in

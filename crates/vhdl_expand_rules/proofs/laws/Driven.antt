@@ -14,7 +14,7 @@ use Rattle.vhdl_names_rules.specs.units.Units.{Port}
 use Rattle.vhdl_names_rules.specs.sound.Expressions.{Inside}
 use Rattle.vhdl_names_rules.specs.sound.Statements.{is_out, is_driven}
 use Rattle.vhdl_expand_rules.specs.declared.fault.ElabProblem.TheVariants.{Index}
-use Rattle.vhdl_expand_rules.specs.Elab.{found}
+use Rattle.vhdl_expand_rules.specs.Elab.{item_or}
 use Rattle.vhdl_expand_rules.specs.Integers.{Integers}
 use Rattle.vhdl_expand_rules.specs.Kinds.{ObjectKind, size, element_type, places}
 use Rattle.vhdl_expand_rules.specs.Site.{Site, elements_count, part_elements, signal_elements}
@@ -92,7 +92,7 @@ site-count i at ps ss h =
 part-all : (P : ℕ → Type 0) (at : Integers) (from : ℕ) (kinds : List ObjectKind) (n : ℕ) (part : Part) (es : List ℕ) → part_elements at from kinds n part ≡ Ok es
     → ((kind : ObjectKind) (p : ℕ) → slice_get kinds n ≡ Some kind → p < size kind → P (from + elements_count (take n kinds) + p)) → All P es
 part-all P at from kinds n part es h go =
-    let kind = bound (found Index (slice_get kinds n)) _ es h in
+    let kind = bound (item_or Index (slice_get kinds n)) _ es h in
     let ps = bound (places at kind.x part) _ es kind.then_gave in
     let f : ℕ → ℕ = λ p. from + elements_count (take n kinds) + p in
     subst (All P) (ok (map f ps.x) es ps.then_gave)

@@ -19,7 +19,7 @@ use Rattle.vhdl_expand_rules.specs.Elab.{unless}
 use Rattle.vhdl_expand_rules.specs.Integers.{Integers, integer, as_natural, is_null, extent}
 use Rattle.vhdl_expand_rules.specs.Kinds.{Bounds, ObjectKind, one, vector, enumeration, bounds_size, size, element_type, declared_bounds, kind_of}
 use Rattle.vhdl_expand_rules.specs.Site.{Site}
-use Rattle.vhdl_expand_rules.specs.Declarations.{fixed, given_starts, starts}
+use Rattle.vhdl_expand_rules.specs.Declarations.{fixed_values, given_starts, starts}
 use Rattle.vhdl_expand_rules.specs.laws.Sites.{IsOf}
 use Rattle.vhdl_expand_rules.specs.laws.Trees.{IsKind}
 use Rattle.vhdl_expand_rules.proofs.Steps.{ok, bound, kept}
@@ -107,10 +107,10 @@ some-value (enumeration n) h = h.0
 
 given-below : (i : Inside) (at : Site) (f : Form) (k : ObjectKind) (x : Fixed) (vs : List ℕ) → IsOf f k → fixed_fits i (shape_of f) x ≡ true → given_starts at k x ≡ Ok vs → Below k vs
 given-below i at f one x vs h e g =
-    let xs = bound (fixed at 1 x) _ vs g in
+    let xs = bound (fixed_values at 1 x) _ vs g in
     subst (Below one) (ok (map code_of xs.x) vs xs.then_gave) (codes_below xs.x)
 given-below i at f (vector b) x vs h e g =
-    let xs = bound (fixed at (size (vector b)) x) _ vs g in
+    let xs = bound (fixed_values at (size (vector b)) x) _ vs g in
     subst (Below (vector b)) (ok (map code_of xs.x) vs xs.then_gave) (codes_below xs.x)
 given-below i at (u.enumeration m) (enumeration n) (u.Fixed.position p) vs h e g =
     let p-below : p < n = subst (λ k. p < k) h.0 (ltb-true p m e) in

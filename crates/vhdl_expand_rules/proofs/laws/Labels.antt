@@ -11,16 +11,16 @@ use Rattle.vhdl_names_rules.specs.units.Units as u
 use Rattle.vhdl_names_rules.specs.units.Units.{Units, Port, Declaration, Entity}
 use Rattle.vhdl_names_rules.specs.sound.Named.{has_text, label_is_named, objects_are_named, declaration_is_named, concurrent_is_named, concurrents_are_named, architecture_is_named, entity_is_named, are_named}
 use Rattle.vhdl_expand_rules.specs.declared.fault.ElabProblem.TheVariants.{NoTop, Unassociated}
-use Rattle.vhdl_expand_rules.specs.Elab.{Elab, unless, found, each, same_length}
+use Rattle.vhdl_expand_rules.specs.Elab.{Elab, unless, item_or, each, same_length}
 use Rattle.vhdl_expand_rules.specs.Integers.{Integers, integer_of, decision, turns}
 use Rattle.vhdl_expand_rules.specs.Kinds.{size, kind_of}
 use Rattle.vhdl_expand_rules.specs.Site.{Site, no_integers, no_site, place_elements}
 use Rattle.vhdl_expand_rules.specs.Statements.{statements, statements_turns}
 use Rattle.vhdl_expand_rules.specs.Prefixes.{targets, prefixes_elements}
-use Rattle.vhdl_expand_rules.specs.Declarations.{first_of, rest_of, generics, fixed, starts, object, role_of, InstanceObjects, with_port, with_signal, ports, interface, declaration, declarations, variable, is_input, association, associations}
+use Rattle.vhdl_expand_rules.specs.Declarations.{first_of, rest_of, generics, fixed_values, starts, object, role_of, InstanceObjects, with_port, with_signal, ports, interface, declaration, declarations, variable, is_input, association, associations}
 use Rattle.vhdl_expand_rules.specs.Tree.{Role, internal, Object, Variable, Instance, Parts, no_parts, inner, followed_by}
 use Rattle.vhdl_expand_rules.specs.Tree as t
-use Rattle.vhdl_expand_rules.specs.Expansion.{Spot, in_turn, in_branch, sensitivity, with_variables, process, joined, instance, concurrent, concurrents, concurrents_turns, instance_of, entity_named, Design, expanded_design}
+use Rattle.vhdl_expand_rules.specs.Expansion.{Spot, in_turn, in_branch, sensitivity, with_variables, process, joined_parts, instance, concurrent, concurrents, concurrents_turns, instance_of, entity_named, Design, expanded_design}
 use Rattle.vhdl_expand_rules.specs.laws.Labels.{ProcessIsNamed, InstanceIsNamed, PartsAreNamed, EachTreeIsNamed}
 use Rattle.vhdl_expand_rules.proofs.Steps.{ok, bound, each-all}
 use Rattle.vhdl_expand_rules.proofs.laws.Names.{was_found}
@@ -75,7 +75,7 @@ declaration-named (u.integer type s) d e n h k =
     subst (λ (y : InstanceObjects). All HasName y.objects) (ok _ e x.then_gave) h
 declaration-named (u.Declaration.constant form f) d e n h k =
     let x = bound (kind_of d.site.integers form) _ e k in
-    let vs = bound (fixed d.site (size x.x) f) _ e x.then_gave in
+    let vs = bound (fixed_values d.site (size x.x) f) _ e x.then_gave in
     subst (λ (y : InstanceObjects). All HasName y.objects) (ok _ e vs.then_gave) h
 declaration-named (u.Declaration.signal o) d e n h k =
     let x = bound (object d.site internal o) _ e k in
@@ -148,9 +148,9 @@ followed-named no_parts b h k = k
 followed-named (t.process p rest) b h k = (h.0, followed-named rest b h.1 k)
 followed-named (inner label i rest) b h k = (h.0, h.1, followed-named rest b h.2 k)
 
-joined-named : (ps : List Parts) → All PartsAreNamed ps → PartsAreNamed (joined ps)
+joined-named : (ps : List Parts) → All PartsAreNamed ps → PartsAreNamed (joined_parts ps)
 joined-named [] h = tt
-joined-named (p ∷ ps) h = followed-named p (joined ps) (All-head PartsAreNamed p ps h) (joined-named ps (All-tail PartsAreNamed p ps h))
+joined-named (p ∷ ps) h = followed-named p (joined_parts ps) (All-head PartsAreNamed p ps h) (joined-named ps (All-tail PartsAreNamed p ps h))
 
 named-unit : (units : Units) (n : ℕ) (unit : Entity) → list_all entity_is_named units ≡ true → slice_get units n ≡ Some unit → entity_is_named unit ≡ true
 named-unit [] n unit h e = absurd cc
@@ -173,7 +173,7 @@ module _ (units : Units) (named : list_all entity_is_named units ≡ true) (go :
   instance-named : (at : Spot) (x : u.Instance) (i : Instance) → instance units go at x ≡ Ok i → InstanceIsNamed i
   unfolding instance
   instance-named at x i h =
-      let unit = bound (found NoTop (slice_get units x.unit)) _ i h in
+      let unit = bound (item_or NoTop (slice_get units x.unit)) _ i h in
       let d = bound (interface at.site.integers x.generics unit.x) _ i unit.then_gave in
       let os = bound (associations at.site unit.x.ports x.ports d.x.objects) _ i d.then_gave in
       let is : entity_is_named unit.x ≡ true = named-unit units x.unit unit.x named (was_found NoTop (slice_get units x.unit) unit.x unit.gave) in
@@ -198,7 +198,7 @@ module _ (units : Units) (named : list_all entity_is_named units ≡ true) (go :
         let both = and_parts (has_text label) (concurrents_are_named body) n in
         let is = bound (turns at.site.integers r) _ ps h in
         let qs = bound (each (λ i. concurrents units go (in_turn at label i) body) is.x) _ ps is.then_gave in
-        subst PartsAreNamed (ok (joined qs.x) ps qs.then_gave)
+        subst PartsAreNamed (ok (joined_parts qs.x) ps qs.then_gave)
         (joined-named qs.x (each-all PartsAreNamed (λ i. concurrents units go (in_turn at label i) body) is.x qs.x (λ i q. concurrents-named body (in_turn at label i) q both.1) qs.gave))
     concurrent-named (u.generate_if label t body) at ps n h =
         let both = and_parts (has_text label) (concurrents_are_named body) n in
@@ -220,7 +220,7 @@ instance_of-named : (units : Units) (levels : ℕ) → list_all entity_is_named 
 unfolding instance_of
 instance_of-named units zero named unit d i n h k = absurd cc
 instance_of-named units (suc m) named unit d i n h k =
-    let a = bound (found NoTop unit.architecture) _ i k in
+    let a = bound (item_or NoTop unit.architecture) _ i k in
     let e = bound (declarations d a.x.declarations) _ i a.then_gave in
     let spot : Spot = record { site = e.x.site; prefix = [] } in
     let ps = bound (concurrents units (instance_of units m) spot a.x.statements) _ i e.then_gave in
@@ -247,7 +247,7 @@ pub each-tree-is-named : EachTreeIsNamed
 unfolding expanded_design are_named
 each-tree-is-named units top design h e =
     let named : list_all entity_is_named units ≡ true = h in
-    let unit = bound (found NoTop (entity_named units top)) _ design e in
+    let unit = bound (item_or NoTop (entity_named units top)) _ design e in
     let d = bound (interface no_integers [] unit.x) _ design unit.then_gave in
     let i = bound (instance_of units 32 unit.x d.x) _ design d.then_gave in
     let is : entity_is_named unit.x ≡ true =

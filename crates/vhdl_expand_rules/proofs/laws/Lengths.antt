@@ -10,14 +10,14 @@ use Rattle.vhdl_names_rules.specs.units.Expressions.{Static, SignalPart}
 use Rattle.vhdl_names_rules.specs.units.Units as u
 use Rattle.vhdl_names_rules.specs.units.Units.{Fixed, Port, Declaration, Entity, Units}
 use Rattle.vhdl_expand_rules.specs.declared.fault.ElabProblem.TheVariants.{NoTop, Length, Index, Unassociated}
-use Rattle.vhdl_expand_rules.specs.Elab.{Elab, ◌>>=◌, unless, found, each, same_length}
+use Rattle.vhdl_expand_rules.specs.Elab.{Elab, ◌>>=◌, unless, item_or, each, same_length}
 use Rattle.vhdl_expand_rules.specs.Integers.{Integers, natural, integer_of, decision, turns}
 use Rattle.vhdl_expand_rules.specs.Kinds.{ObjectKind, one, vector, enumeration, size, size_of, kind_of}
 use Rattle.vhdl_expand_rules.specs.Site.{Site, no_integers, no_site, place_elements}
 use Rattle.vhdl_expand_rules.specs.Tree.{Role, internal, Object, Process, Instance, Parts, no_parts, inner, followed_by}
 use Rattle.vhdl_expand_rules.specs.Tree as t
-use Rattle.vhdl_expand_rules.specs.Declarations.{first_of, rest_of, generics, as_long_as, fixed, given_starts, starts, object, role_of, InstanceObjects, with_port, with_signal, ports, interface, declaration, declarations, is_input, association, associations}
-use Rattle.vhdl_expand_rules.specs.Expansion.{Spot, in_turn, in_branch, process, joined, instance, concurrent, concurrents, concurrents_turns, instance_of, entity_named, Design, expanded_design}
+use Rattle.vhdl_expand_rules.specs.Declarations.{first_of, rest_of, generics, as_long_as, fixed_values, given_starts, starts, object, role_of, InstanceObjects, with_port, with_signal, ports, interface, declaration, declarations, is_input, association, associations}
+use Rattle.vhdl_expand_rules.specs.Expansion.{Spot, in_turn, in_branch, process, joined_parts, instance, concurrent, concurrents, concurrents_turns, instance_of, entity_named, Design, expanded_design}
 use Rattle.vhdl_expand_rules.specs.laws.Lengths.{ObjectFits, InstanceFits, PartsFit, EachDesignFits}
 use Rattle.vhdl_expand_rules.proofs.Steps.{given, ok, bound, kept, each-all}
 use Rattle.std.proofs.lemmas.List.{length-map, length-replicate}
@@ -29,11 +29,11 @@ as_long len vs ws h =
     let x = bound (same_length (length vs) len) _ ws h in
     subst (λ (xs : List Nine). length xs ≡ len) (ok vs ws x.then_gave) (eqb-true (length vs) len (kept (Length (length vs) len) (length vs == len) x.x x.gave))
 
-fixed-length : (at : Site) (len : ℕ) (f : Fixed) (vs : List Nine) → fixed at len f ≡ Ok vs → length vs ≡ len
-unfolding fixed
+fixed-length : (at : Site) (len : ℕ) (f : Fixed) (vs : List Nine) → fixed_values at len f ≡ Ok vs → length vs ≡ len
+unfolding fixed_values
 fixed-length at len (u.Fixed.literal xs) vs h = as_long len xs vs h
 fixed-length at len (u.Fixed.constant k) vs h =
-    let c = bound (found Index (slice_get at.constants k)) _ vs h in
+    let c = bound (item_or Index (slice_get at.constants k)) _ vs h in
     as_long len c.x.values vs c.then_gave
 fixed-length at len (u.Fixed.encoded s t) vs h =
     let n = bound (natural at.integers s) _ vs h in
@@ -42,9 +42,9 @@ fixed-length at len (u.Fixed.encoded s t) vs h =
 fixed-length at len (u.filled v) vs h = subst (λ (xs : List Nine). length xs ≡ len) (ok (replicate len v) vs h) (length-replicate len v)
 fixed-length at len (u.Fixed.position n) vs h = absurd cc
 
-codes-length : (at : Site) (len : ℕ) (f : Fixed) (vs : List ℕ) → (fixed at len f >>= λ xs. given (map code_of xs)) ≡ Ok vs → length vs ≡ len
+codes-length : (at : Site) (len : ℕ) (f : Fixed) (vs : List ℕ) → (fixed_values at len f >>= λ xs. given (map code_of xs)) ≡ Ok vs → length vs ≡ len
 codes-length at len f vs h =
-    let x = bound (fixed at len f) _ vs h in
+    let x = bound (fixed_values at len f) _ vs h in
     subst (λ (ns : List ℕ). length ns ≡ len) (ok (map code_of x.x) vs x.then_gave) (length-map x.x code_of ∙ fixed-length at len f x.x x.gave)
 
 given-length : (at : Site) (kind : ObjectKind) (f : Fixed) (vs : List ℕ) → given_starts at kind f ≡ Ok vs → length vs ≡ size kind
@@ -101,7 +101,7 @@ declaration-fits (u.integer type s) d e h k =
     subst (λ (y : InstanceObjects). All ObjectFits y.objects) (ok _ e x.then_gave) h
 declaration-fits (u.Declaration.constant form f) d e h k =
     let x = bound (kind_of d.site.integers form) _ e k in
-    let vs = bound (fixed d.site (size x.x) f) _ e x.then_gave in
+    let vs = bound (fixed_values d.site (size x.x) f) _ e x.then_gave in
     subst (λ (y : InstanceObjects). All ObjectFits y.objects) (ok _ e vs.then_gave) h
 declaration-fits (u.Declaration.signal o) d e h k =
     let x = bound (object d.site internal o) _ e k in
@@ -147,15 +147,15 @@ followed_by-fits no_parts b h k = k
 followed_by-fits (t.process p rest) b h k = followed_by-fits rest b h k
 followed_by-fits (inner label i rest) b h k = (h.0, followed_by-fits rest b h.1 k)
 
-joined-fits : (ps : List Parts) → All PartsFit ps → PartsFit (joined ps)
+joined-fits : (ps : List Parts) → All PartsFit ps → PartsFit (joined_parts ps)
 joined-fits [] h = tt
-joined-fits (p ∷ ps) h = followed_by-fits p (joined ps) (All-head PartsFit p ps h) (joined-fits ps (All-tail PartsFit p ps h))
+joined-fits (p ∷ ps) h = followed_by-fits p (joined_parts ps) (All-head PartsFit p ps h) (joined-fits ps (All-tail PartsFit p ps h))
 
 module _ (units : Units) (go : Entity → InstanceObjects → Elab Instance) (go-fits : (unit : Entity) (d : InstanceObjects) (i : Instance) → All ObjectFits d.objects → go unit d ≡ Ok i → InstanceFits i) where
   instance-fits : (at : Spot) (x : u.Instance) (i : Instance) → instance units go at x ≡ Ok i → InstanceFits i
   unfolding instance
   instance-fits at x i h =
-      let unit = bound (found NoTop (slice_get units x.unit)) _ i h in
+      let unit = bound (item_or NoTop (slice_get units x.unit)) _ i h in
       let d = bound (interface at.site.integers x.generics unit.x) _ i unit.then_gave in
       let os = bound (associations at.site unit.x.ports x.ports d.x.objects) _ i d.then_gave in
       go-fits unit.x (record d.x { objects = os.x }) i
@@ -178,7 +178,7 @@ module _ (units : Units) (go : Entity → InstanceObjects → Elab Instance) (go
     concurrent-fits (u.generate_for label r body) at ps h =
         let is = bound (turns at.site.integers r) _ ps h in
         let qs = bound (each (λ i. concurrents units go (in_turn at label i) body) is.x) _ ps is.then_gave in
-        subst PartsFit (ok (joined qs.x) ps qs.then_gave)
+        subst PartsFit (ok (joined_parts qs.x) ps qs.then_gave)
         (joined-fits qs.x (each-all PartsFit (λ i. concurrents units go (in_turn at label i) body) is.x qs.x (λ i q. concurrents-fit body (in_turn at label i) q) qs.gave))
     concurrent-fits (u.generate_if label t body) at ps h =
         let b = bound (decision at.site.integers t) _ ps h in
@@ -197,7 +197,7 @@ instance_of-fits : (units : Units) (levels : ℕ) (unit : Entity) (d : InstanceO
 unfolding instance_of
 instance_of-fits units zero unit d i h k = absurd cc
 instance_of-fits units (suc n) unit d i h k =
-    let a = bound (found NoTop unit.architecture) _ i k in
+    let a = bound (item_or NoTop unit.architecture) _ i k in
     let e = bound (declarations d a.x.declarations) _ i a.then_gave in
     let spot : Spot = record { site = e.x.site; prefix = [] } in
     let ps = bound (concurrents units (instance_of units n) spot a.x.statements) _ i e.then_gave in
@@ -210,7 +210,7 @@ instance_of-fits units (suc n) unit d i h k =
 pub design-fits : EachDesignFits
 unfolding expanded_design
 design-fits units top design h =
-    let unit = bound (found NoTop (entity_named units top)) _ design h in
+    let unit = bound (item_or NoTop (entity_named units top)) _ design h in
     let d = bound (interface no_integers [] unit.x) _ design unit.then_gave in
     let i = bound (instance_of units 32 unit.x d.x) _ design d.then_gave in
     subst (λ (x : Design). InstanceFits x.top) (ok _ design i.then_gave) (instance_of-fits units 32 unit.x d.x i.x (interface-fits no_integers [] unit.x d.x d.gave) i.gave)

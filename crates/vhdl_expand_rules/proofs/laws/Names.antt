@@ -17,7 +17,7 @@ use Rattle.vhdl_names_rules.specs.sound.Expressions as sound
 use Rattle.vhdl_names_rules.specs.sound.Expressions.{Inside, Shape, state, static_fits, range_fits, shape_of, part_shape, port_form, signal_form, place_shape}
 use Rattle.vhdl_expand_rules.specs.declared.fault.ElabProblem.{ElabProblem}
 use Rattle.vhdl_expand_rules.specs.declared.fault.ElabProblem.TheVariants.{Index}
-use Rattle.vhdl_expand_rules.specs.Elab.{found}
+use Rattle.vhdl_expand_rules.specs.Elab.{item_or}
 use Rattle.vhdl_expand_rules.specs.Integers.{Integers, integer}
 use Rattle.vhdl_expand_rules.specs.Kinds.{ObjectKind, one, vector, enumeration, size, element_type, place_of, places}
 use Rattle.vhdl_expand_rules.specs.Site.{Site, elements_count, part_elements, signal_elements, variable_elements}
@@ -37,7 +37,7 @@ is_width (state count) n h = (omega (arith, h), omega (arith, h))
 pub width-le : (m n : ℕ) → 1 ≤ m → m ≤ n → IsWidth n → IsWidth m
 width-le m n a b h = let c : n ≤ 64 = h.1 in (a, omega (arith, b, c))
 
-pub was_found : {A : Type 0} (problem : ElabProblem) (o : Option A) (x : A) → found problem o ≡ given x → o ≡ Some x
+pub was_found : {A : Type 0} (problem : ElabProblem) (o : Option A) (x : A) → item_or problem o ≡ given x → o ≡ Some x
 was_found problem None x h = absurd cc
 was_found problem (Some y) x h = ap Some (ok y x h)
 
@@ -164,7 +164,7 @@ part-elements : (types : List ElementType) (i : Inside) (at : Integers) (from : 
     → AllZip IsOf forms kinds → Stand types from kinds → slice_get forms n ≡ Some f → part_shape i f part ≡ Some s → part_elements at from kinds n part ≡ Ok es
     → PartElements types s es
 part-elements types i at from forms kinds n part f s es h stand e g m =
-    let kind = bound (found Index (slice_get kinds n)) _ es m in
+    let kind = bound (item_or Index (slice_get kinds n)) _ es m in
     let ps = bound (places at kind.x part) _ es kind.then_gave in
     let there : slice_get kinds n ≡ Some kind.x = was_found Index (slice_get kinds n) kind.x kind.gave in
     let of : PartPlaces kind.x s ps.x = part_places i at f kind.x part s ps.x (zip_at IsOf forms kinds n f kind.x h e there) g ps.gave in

@@ -8,8 +8,8 @@ use Rattle.std.proofs.lemmas.List.FromFn.{length-range_with_len, get_or-range_wi
 use Rattle.vhdl_names_rules.specs.units.Expressions as u
 use Rattle.vhdl_names_rules.specs.units.Expressions.{Static, Signal, Part, SignalPart}
 use Rattle.vhdl_expand_rules.specs.declared.fault.ElabProblem.TheVariants.{Index}
-use Rattle.vhdl_expand_rules.specs.Elab.{Elab, ◌>>=◌, found}
-use Rattle.vhdl_expand_rules.specs.Integers.{Integers, checked, operated, integer}
+use Rattle.vhdl_expand_rules.specs.Elab.{Elab, ◌>>=◌, item_or}
+use Rattle.vhdl_expand_rules.specs.Integers.{Integers, checked_integer, integer_operation, integer}
 use Rattle.vhdl_expand_rules.specs.Kinds.{ObjectKind, one, vector, enumeration, size, place_of, slice_places, places}
 use Rattle.vhdl_expand_rules.specs.Site.{Site, elements_count, part_elements, signal_elements, place_elements}
 use Rattle.vhdl_expand_rules.specs.Prefixes.{is_static, is_static_part, prefix}
@@ -59,11 +59,11 @@ static-same at loops (u.generic k) h = refl
 static-same at loops (u.Static.constant k) h = refl
 static-same at loops (u.generate_parameter k) h = refl
 static-same at loops (u.loop_parameter k) h = absurd cc
-static-same at loops (u.Static.negated s) h = ap (λ (r : Elab ℤ). r >>= λ x. checked (neg_ℤ x)) (static-same at loops s h)
+static-same at loops (u.Static.negated s) h = ap (λ (r : Elab ℤ). r >>= λ x. checked_integer (neg_ℤ x)) (static-same at loops s h)
 static-same at loops (u.Static.binary op s t) h =
     let both = and_parts (is_static s) (is_static t) h in
-    ap (λ (r : Elab ℤ). r >>= λ x. integer (turned at loops) t >>= λ y. operated op x y) (static-same at loops s both.0)
-    ∙ ap (λ (r : Elab ℤ). integer at s >>= λ x. r >>= λ y. operated op x y) (static-same at loops t both.1)
+    ap (λ (r : Elab ℤ). r >>= λ x. integer (turned at loops) t >>= λ y. integer_operation op x y) (static-same at loops s both.0)
+    ∙ ap (λ (r : Elab ℤ). integer at s >>= λ x. r >>= λ y. integer_operation op x y) (static-same at loops t both.1)
 
 places-same : (at : Integers) (loops : List ℤ) (kind : ObjectKind) (part : Part) → is_static_part part ≡ true → places (turned at loops) kind part ≡ places at kind part
 unfolding places
@@ -86,7 +86,7 @@ same_result r x y h g = ok x y (sym h ∙ g)
 in-static : (at : Integers) (loops : List ℤ) (from : ℕ) (kinds : List ObjectKind) (k : ℕ) (part : Part) (es ds : List ℕ) → is_static_part part ≡ true
     → part_elements (turned at loops) from kinds k part ≡ Ok es → part_elements at from kinds k part ≡ Ok ds → All (Contains ds) es
 in-static at loops from kinds k part es ds s h g =
-    subst (λ (xs : List ℕ). All (Contains ds) xs) (sym (same_result (part_elements at from kinds k part) es ds (sym (by (found Index (slice_get kinds k))) ∙ h) g)) (All-contains_itself ds)
+    subst (λ (xs : List ℕ). All (Contains ds) xs) (sym (same_result (part_elements at from kinds k part) es ds (sym (by (item_or Index (slice_get kinds k))) ∙ h) g)) (All-contains_itself ds)
   where
     by : (r : Elab ObjectKind) → (r >>= λ kind. places (turned at loops) kind part >>= λ ps. given (map (λ p. from + elements_count (take k kinds) + p) ps))
         ≡ (r >>= λ kind. places at kind part >>= λ ps. given (map (λ p. from + elements_count (take k kinds) + p) ps))
@@ -98,11 +98,11 @@ in-whole : (at at' : Integers) (from : ℕ) (kinds : List ObjectKind) (k : ℕ) 
 unfolding places
 in-whole at at' from kinds k part es ds h g =
     let f : ℕ → ℕ = λ p. from + elements_count (take k kinds) + p in
-    let kind = bound (found Index (slice_get kinds k)) _ es h in
+    let kind = bound (item_or Index (slice_get kinds k)) _ es h in
     let ps = bound (places at' kind.x part) _ es kind.then_gave in
-    let same = bound (found Index (slice_get kinds k)) _ ds g in
+    let same = bound (item_or Index (slice_get kinds k)) _ ds g in
     let n : ℕ = size same.x in
-    let is : kind.x ≡ same.x = same_result (found Index (slice_get kinds k)) kind.x same.x kind.gave same.gave in
+    let is : kind.x ≡ same.x = same_result (item_or Index (slice_get kinds k)) kind.x same.x kind.gave same.gave in
     let below : All (λ p. p < n) ps.x = subst (λ (x : ObjectKind). All (λ p. p < size x) ps.x) is (places_below at' kind.x part ps.x ps.gave) in
     subst (λ (xs : List ℕ). All (Contains xs) es) (ok (map f (range_with_len 0 n)) ds same.then_gave)
     (subst (λ (xs : List ℕ). All (Contains (map f (range_with_len 0 n))) xs) (ok (map f ps.x) es ps.then_gave)

@@ -22,7 +22,7 @@ use Rattle.vhdl_expand_rules.specs.Elab.{Elab, each}
 use Rattle.vhdl_expand_rules.specs.Kinds.{ObjectKind, kind_of}
 use Rattle.vhdl_expand_rules.specs.Site.{Site, elements_count, place_elements}
 use Rattle.vhdl_expand_rules.specs.Statements.{statements, statements_turns}
-use Rattle.vhdl_expand_rules.specs.Prefixes.{targets, is_static_part, prefix, prefixes_elements, concatenated, is_among, in_order}
+use Rattle.vhdl_expand_rules.specs.Prefixes.{targets, is_static_part, prefix, prefixes_elements, concatenation_of, is_among, in_order}
 use Rattle.vhdl_expand_rules.specs.Declarations.{starts, variable}
 use Rattle.vhdl_expand_rules.specs.Tree.{internal, Object, Variable, Instance, Parts, no_parts, inner, followed_by, objects_of}
 use Rattle.vhdl_expand_rules.specs.Tree as t
@@ -116,7 +116,7 @@ unfolding prefixes_elements
 prefixes-driven i at os ss ps ds h driven g =
     let f : SignalPart → Elab (List ℕ) = λ p. place_elements at (prefix p) in
     let ess = bound (each (λ p. place_elements at (prefix p)) ps) _ ds g in
-    subst (Prefixes at (MayBeDriven (os ++ ss)) ps) (ok (concatenated ess.x) ds ess.then_gave) (record {
+    subst (Prefixes at (MayBeDriven (os ++ ss)) ps) (ok (concatenation_of ess.x) ds ess.then_gave) (record {
       driven = all_concatenated (MayBeDriven (os ++ ss)) ess.x
           (each_with (IsDriven i) (All (MayBeDriven (os ++ ss))) f ps ess.x
           (λ p es d k. driven_elements i at os ss (prefix p).signal (prefix p).part es h (prefix-driven i p d) k) driven ess.gave);

@@ -16,7 +16,7 @@ use Rattle.vhdl_expand_rules.specs.Kinds.{ObjectKind}
 use Rattle.vhdl_expand_rules.specs.Site.{Site, in_loop, place_elements, variable_elements}
 use Rattle.vhdl_expand_rules.specs.Expressions as x
 use Rattle.vhdl_expand_rules.specs.Statements.{value_given, choice, joined_bodies, one, statement, statements, branches, alternatives}
-use Rattle.vhdl_expand_rules.specs.Prefixes.{prefix, statement_targets, targets, branches_targets, alternatives_targets, concatenated, is_among, in_order}
+use Rattle.vhdl_expand_rules.specs.Prefixes.{prefix, statement_targets, targets, branches_targets, alternatives_targets, concatenation_of, is_among, in_order}
 use Rattle.vhdl_expand_rules.specs.laws.Trees.{Assigns, BranchesAssign, AlternativesAssign}
 use Rattle.vhdl_expand_rules.proofs.Steps.{ok, bound, each-all}
 use Rattle.vhdl_expand_rules.proofs.laws.Prefixes.{within, name_in_prefix}
@@ -71,9 +71,9 @@ unfolding in_order
 in_order_all P below ns h =
     All-weaker (λ e. is_among ns e ≡ true) P (λ e k. among-all P ns e h k) (filter (is_among ns) (range_with_len 0 below)) (filter_passes (is_among ns) (range_with_len 0 below))
 
-pub all_concatenated : (P : ℕ → Type 0) (xss : List (List ℕ)) → All (All P) xss → All P (concatenated xss)
+pub all_concatenated : (P : ℕ → Type 0) (xss : List (List ℕ)) → All (All P) xss → All P (concatenation_of xss)
 all_concatenated P [] h = All-nil P
-all_concatenated P (xs ∷ xss) h = All-append P xs (concatenated xss) (All-head (All P) xs xss h) (all_concatenated P xss (All-tail (All P) xs xss h))
+all_concatenated P (xs ∷ xss) h = All-append P xs (concatenation_of xss) (All-head (All P) xs xss h) (all_concatenated P xss (All-tail (All P) xs xss h))
 
 -- ---- what each of several names gave
 
@@ -90,20 +90,20 @@ each_with {A} {B} Q P f (x ∷ xs) ys go h e =
 abbrev GaveAmong : {A : Type 0} → (A → Elab (List ℕ)) → List ℕ → A → Type 0
 GaveAmong f all x = (es : List ℕ) × (f x ≡ Ok es) × All (Contains all) es
 
-each-among : {A : Type 0} (f : A → Elab (List ℕ)) (xs : List A) (ess : List (List ℕ)) → each f xs ≡ Ok ess → All (GaveAmong f (concatenated ess)) xs
-each-among {A} f [] ess h = All-nil (GaveAmong f (concatenated ess))
+each-among : {A : Type 0} (f : A → Elab (List ℕ)) (xs : List A) (ess : List (List ℕ)) → each f xs ≡ Ok ess → All (GaveAmong f (concatenation_of ess)) xs
+each-among {A} f [] ess h = All-nil (GaveAmong f (concatenation_of ess))
 each-among {A} f (x ∷ xs) ess h =
     let es = bound (f x) _ ess h in
     let rest = bound (each f xs) _ ess es.then_gave in
-    let all : List ℕ = es.x ++ concatenated rest.x in
-    subst (λ (zs : List (List ℕ)). All (GaveAmong f (concatenated zs)) (x ∷ xs)) (ok (es.x ∷ rest.x) ess rest.then_gave)
+    let all : List ℕ = es.x ++ concatenation_of rest.x in
+    subst (λ (zs : List (List ℕ)). All (GaveAmong f (concatenation_of zs)) (x ∷ xs)) (ok (es.x ∷ rest.x) ess rest.then_gave)
     (All-cons (GaveAmong f all) x xs
-    (es.x, es.gave, All-weaker (Contains es.x) (Contains all) (λ e c. Contains-append_left es.x (concatenated rest.x) e c) es.x (All-contains_itself es.x))
-    (All-weaker (GaveAmong f (concatenated rest.x)) (GaveAmong f all)
-    (λ y g. (g.0, g.1, All-weaker (Contains (concatenated rest.x)) (Contains all) (λ e c. Contains-append_right es.x (concatenated rest.x) e c) g.0 g.2)) xs (each-among f xs rest.x rest.gave)))
+    (es.x, es.gave, All-weaker (Contains es.x) (Contains all) (λ e c. Contains-append_left es.x (concatenation_of rest.x) e c) es.x (All-contains_itself es.x))
+    (All-weaker (GaveAmong f (concatenation_of rest.x)) (GaveAmong f all)
+    (λ y g. (g.0, g.1, All-weaker (Contains (concatenation_of rest.x)) (Contains all) (λ e c. Contains-append_right es.x (concatenation_of rest.x) e c) g.0 g.2)) xs (each-among f xs rest.x rest.gave)))
 
 pub among_prefixes : (at : Site) (ps : List SignalPart) (ess : List (List ℕ)) → each (λ p. place_elements at (prefix p)) ps ≡ Ok ess
-    → All (GaveAmong (λ p. place_elements at (prefix p)) (concatenated ess)) ps
+    → All (GaveAmong (λ p. place_elements at (prefix p)) (concatenation_of ess)) ps
 among_prefixes at ps ess h = each-among (λ p. place_elements at (prefix p)) ps ess h
 
 -- ---- what a body assigns

@@ -21,7 +21,7 @@ use Rattle.vhdl_expand_rules.specs.Elab.{Elab}
 use Rattle.vhdl_expand_rules.specs.Integers.{natural, decision}
 use Rattle.vhdl_expand_rules.specs.Site.{Site, signal_elements, place_elements, variable_elements, the_element}
 use Rattle.vhdl_expand_rules.specs.Expressions as x
-use Rattle.vhdl_expand_rules.specs.Expressions.{levelled, alike, edge_test}
+use Rattle.vhdl_expand_rules.specs.Expressions.{level_test, alike, edge_test}
 use Rattle.vhdl_expand_rules.specs.laws.Sites.{IsSite, kinds_types, scope_at}
 use Rattle.vhdl_expand_rules.specs.laws.Expressions.{type_of, IsName, IsVector, IsValue, EachValueFits, EachTestFits}
 use Rattle.vhdl_expand_rules.proofs.Steps.{ok, bound}
@@ -154,13 +154,13 @@ both_fit i at (u.state_of_variable y) w d e h k m n = left-first i at (u.state_o
 -- ---- equality
 
 -- an element and a character literal
-level-fits : (at : Site) (s : Shape) (es : List ℕ) (plain : Bool) (y : Nine) → is_elements s ≡ true → IsName at s es → FitsTest (scope_at at) (levelled plain es y)
+level-fits : (at : Site) (s : Shape) (es : List ℕ) (plain : Bool) (y : Nine) → is_elements s ≡ true → IsName at s es → FitsTest (scope_at at) (level_test plain es y)
 level-fits at s [] plain y h n = absurd (let l : 1 ≤ 0 = (is_width s 0 n.width).0 in omega (arith, l))
 level-fits at s (e ∷ []) plain y h n = subst (λ (t : ElementType). HasType (scope_at at).nets t e) (elements_are_nine s h) (All-head (HasType (scope_at at).nets (type_of s)) e [] n.typed)
 level-fits at s (d ∷ e ∷ es) plain y h n = (nine_valued, (named at s (d ∷ e ∷ es) h n).fits, (one_character at y).fits)
 
 place-level : (i : Inside) (at : Site) (p : SignalPart) (s : Shape) (plain : Bool) (y : Nine) (c : bodies.Test) (es : List ℕ) → IsSite i at → vector_shape i (u.of_signal p) ≡ Some s
-    → place_elements at p ≡ Ok es → levelled plain es y ≡ c → FitsTest (scope_at at) c
+    → place_elements at p ≡ Ok es → level_test plain es y ≡ c → FitsTest (scope_at at) c
 place-level i at p s plain y c es h k m g =
     let z = step (place_shape i p) _ s k in
     let w = given_some (is_elements z.x) z.x s z.then_gave in
@@ -176,17 +176,17 @@ alike-fits : (i : Inside) (at : Site) (v w : Value) (c : bodies.Test) → IsSite
 alike-fits i at (u.Value.elements (u.of_signal p)) (u.Value.elements (u.character y)) c h k m =
     let z = beside i (vector_shape i (u.of_signal p)) (u.Value.elements (u.character y)) k in
     let es = bound (place_elements at p) _ c m in
-    place-level i at p z.shape true y c es.x h z.is es.gave (ok (levelled true es.x y) c es.then_gave)
+    place-level i at p z.shape true y c es.x h z.is es.gave (ok (level_test true es.x y) c es.then_gave)
 alike-fits i at (u.Value.elements (u.of_signal p)) (u.Value.elements (u.enclosed_character y)) c h k m =
     let z = beside i (vector_shape i (u.of_signal p)) (u.Value.elements (u.enclosed_character y)) k in
     let es = bound (place_elements at p) _ c m in
-    place-level i at p z.shape false y c es.x h z.is es.gave (ok (levelled false es.x y) c es.then_gave)
+    place-level i at p z.shape false y c es.x h z.is es.gave (ok (level_test false es.x y) c es.then_gave)
 alike-fits i at (u.Value.elements (u.character y)) (u.Value.elements (u.of_signal p)) c h k m =
     let es = bound (place_elements at p) _ c m in
-    place-level i at p one false y c es.x h (has_shape one (vector_shape i (u.of_signal p)) k) es.gave (ok (levelled false es.x y) c es.then_gave)
+    place-level i at p one false y c es.x h (has_shape one (vector_shape i (u.of_signal p)) k) es.gave (ok (level_test false es.x y) c es.then_gave)
 alike-fits i at (u.Value.elements (u.enclosed_character y)) (u.Value.elements (u.of_signal p)) c h k m =
     let es = bound (place_elements at p) _ c m in
-    place-level i at p one false y c es.x h (has_shape one (vector_shape i (u.of_signal p)) k) es.gave (ok (levelled false es.x y) c es.then_gave)
+    place-level i at p one false y c es.x h (has_shape one (vector_shape i (u.of_signal p)) k) es.gave (ok (level_test false es.x y) c es.then_gave)
 alike-fits i at v w c h k m =
     let d = bound (x.value at v) _ c m in
     let e = bound (x.value at w) _ c d.then_gave in
@@ -243,7 +243,7 @@ each-test-fits i at (u.compared_with op n v) c h k m =
     let both = and_parts (static_fits i n) (fits_shape vector (vector_shape i v)) k in
     let j = bound (natural at.integers n) _ c m in
     let d = bound (x.vector at v) _ c j.then_gave in
-    subst (FitsTest (scope_at at)) (ok (bodies.compared_to (x.turned op) d.x j.x) c d.then_gave) (each-vector-fits i at v vector d.x h (has_shape vector (vector_shape i v) both.1) d.gave).fits
+    subst (FitsTest (scope_at at)) (ok (bodies.compared_to (x.converse_of op) d.x j.x) c d.then_gave) (each-vector-fits i at v vector d.x h (has_shape vector (vector_shape i v) both.1) d.gave).fits
 each-test-fits i at (u.edge kind p) c h k m =
     let e = bound (the_element (place_elements at p)) _ c m in
     subst (FitsTest (scope_at at)) (ok (edge_test kind e.x) c e.then_gave) (edge-fits at kind e.x (edge-element i at p e.x h k e.gave))

@@ -12,13 +12,13 @@ use Rattle.vhdl_names_rules.specs.units.Units.{Units, Form, Port, Entity, Archit
 use Rattle.vhdl_names_rules.specs.sound.Expressions.{Inside, range_fits, static_test_fits}
 use Rattle.vhdl_names_rules.specs.sound.Units.{objects_fit, port_fits, generics_fit, declarations_fit, with_declarations, static_default_fits, actuals_fit, instance_fits, within_generate, concurrent_fits, concurrents_fit, nothing_inside, architecture_fits, entity_fits, are_sound}
 use Rattle.vhdl_expand_rules.specs.declared.fault.ElabProblem.TheVariants.{NoTop}
-use Rattle.vhdl_expand_rules.specs.Elab.{Elab, found, each}
+use Rattle.vhdl_expand_rules.specs.Elab.{Elab, item_or, each}
 use Rattle.vhdl_expand_rules.specs.Integers.{Integers, decision, turns}
 use Rattle.vhdl_expand_rules.specs.Site.{Site, no_integers, in_generate}
 use Rattle.vhdl_expand_rules.specs.Declarations.{role_of, InstanceObjects, interface, declarations, associations}
 use Rattle.vhdl_expand_rules.specs.Tree.{internal, Object, Variable, Instance, Parts, no_parts, inner, followed_by, objects_of}
 use Rattle.vhdl_expand_rules.specs.Tree as t
-use Rattle.vhdl_expand_rules.specs.Expansion.{Spot, in_turn, in_branch, process, joined, instance, concurrent, concurrents, concurrents_turns, instance_of, entity_named, expanded_design}
+use Rattle.vhdl_expand_rules.specs.Expansion.{Spot, in_turn, in_branch, process, joined_parts, instance, concurrent, concurrents, concurrents_turns, instance_of, entity_named, expanded_design}
 use Rattle.vhdl_expand_rules.specs.laws.Trees.{object_kinds, is_port, ObjectIsSound, InstanceIsSound, PartsAreSound, DesignIsSound, EachTreeIsSound}
 use Rattle.vhdl_expand_rules.proofs.Steps.{ok, bound, each-all}
 use Rattle.vhdl_expand_rules.proofs.laws.Names.{was_found}
@@ -34,9 +34,9 @@ module _ (os : List Object) where
   followed-sound (t.process p rest) c h k = (h.0, followed-sound rest c h.1 k)
   followed-sound (inner label i rest) c h k = (h.0, followed-sound rest c h.1 k)
 
-  joined-sound : (ps : List Parts) → All (PartsAreSound os) ps → PartsAreSound os (joined ps)
+  joined-sound : (ps : List Parts) → All (PartsAreSound os) ps → PartsAreSound os (joined_parts ps)
   joined-sound [] h = tt
-  joined-sound (p ∷ ps) h = followed-sound p (joined ps) (All-head (PartsAreSound os) p ps h) (joined-sound ps (All-tail (PartsAreSound os) p ps h))
+  joined-sound (p ∷ ps) h = followed-sound p (joined_parts ps) (All-head (PartsAreSound os) p ps h) (joined-sound ps (All-tail (PartsAreSound os) p ps h))
 
 -- in a turn of a generate, and in a branch
 in-generate : (i : Inside) (at : Site) (j : ℤ) (ps ss : List Object) → IsDeclared i at ps ss → IsDeclared (within_generate i) (in_generate at j) ps ss
@@ -126,7 +126,7 @@ module _ (units : Units) (sound : list_all (entity_fits units) units ≡ true) (
       → instance units go at x ≡ Ok y → InstanceIsSound (os ++ ss) y
   unfolding instance
   instance-sound i at os ss x y h fit e =
-      let unit = bound (found NoTop (slice_get units x.unit)) _ y e in
+      let unit = bound (item_or NoTop (slice_get units x.unit)) _ y e in
       let d = bound (interface at.site.integers x.generics unit.x) _ y unit.then_gave in
       let js = bound (associations at.site unit.x.ports x.ports d.x.objects) _ y d.then_gave in
       let there : slice_get units x.unit ≡ Some unit.x = was_found NoTop (slice_get units x.unit) unit.x unit.gave in
@@ -154,7 +154,7 @@ module _ (units : Units) (sound : list_all (entity_fits units) units ≡ true) (
         let both = and_parts (range_fits i r) (concurrents_fit units (within_generate i) body) fit in
         let js = bound (turns at.site.integers r) _ ps e in
         let qs = bound (each (λ j. concurrents units go (in_turn at label j) body) js.x) _ ps js.then_gave in
-        subst (PartsAreSound (os ++ ss)) (ok (joined qs.x) ps qs.then_gave)
+        subst (PartsAreSound (os ++ ss)) (ok (joined_parts qs.x) ps qs.then_gave)
         (joined-sound (os ++ ss) qs.x (each-all (PartsAreSound (os ++ ss)) (λ j. concurrents units go (in_turn at label j) body) js.x qs.x
         (λ j q g. concurrents-sound body (within_generate i) (in_turn at label j) os ss q (in-generate i at.site j os ss h) both.1 g) qs.gave))
     concurrent-sound (u.generate_if label t body) i at os ss ps h fit e =
@@ -179,7 +179,7 @@ instance_of-sound : (units : Units) (levels : ℕ) → list_all (entity_fits uni
 unfolding instance_of
 instance_of-sound units zero sound above unit d i fit h e = absurd cc
 instance_of-sound units (suc n) sound above unit d i fit h e =
-    let a = bound (found NoTop unit.architecture) _ i e in
+    let a = bound (item_or NoTop unit.architecture) _ i e in
     let c = bound (declarations d a.x.declarations) _ i a.then_gave in
     let spot : Spot = record { site = c.x.site; prefix = [] } in
     let ps = bound (concurrents units (instance_of units n) spot a.x.statements) _ i c.then_gave in
@@ -214,7 +214,7 @@ top-alone : (units : Units) (n : ℕ) (unit : Entity) (d : InstanceObjects) (i :
 unfolding instance_of
 top-alone units zero unit d i fit h none e = absurd cc
 top-alone units (suc n) unit d i fit h none e =
-    let a = bound (found NoTop unit.architecture) _ i e in
+    let a = bound (item_or NoTop unit.architecture) _ i e in
     let c = bound (declarations d a.x.declarations) _ i a.then_gave in
     let spot : Spot = record { site = c.x.site; prefix = [] } in
     let ps = bound (concurrents units (instance_of units n) spot a.x.statements) _ i c.then_gave in
@@ -243,7 +243,7 @@ pub each-tree-is-sound : EachTreeIsSound
 unfolding expanded_design are_sound
 each-tree-is-sound units top design h e =
     let sound : list_all (entity_fits units) units ≡ true = h in
-    let unit = bound (found NoTop (entity_named units top)) _ design e in
+    let unit = bound (item_or NoTop (entity_named units top)) _ design e in
     let d = bound (interface no_integers [] unit.x) _ design unit.then_gave in
     let i = bound (instance_of units 32 unit.x d.x) _ design d.then_gave in
     let fit : entity_fits units unit.x ≡ true =

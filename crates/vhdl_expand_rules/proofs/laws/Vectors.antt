@@ -24,12 +24,12 @@ use Rattle.vhdl_names_rules.specs.units.Expressions.{Static, Part, Vector}
 use Rattle.vhdl_names_rules.specs.units.Units.{Form}
 use Rattle.vhdl_names_rules.specs.sound.Expressions.{Inside, Shape, one, vector, state, is_elements, is_vector, same_shape, operated_shape, part_shape, place_shape, static_fits, with_static, vector_shape}
 use Rattle.vhdl_expand_rules.specs.declared.fault.ElabProblem.TheVariants.{Length, Index, TooWide}
-use Rattle.vhdl_expand_rules.specs.Elab.{unless, found}
+use Rattle.vhdl_expand_rules.specs.Elab.{unless, item_or}
 use Rattle.vhdl_expand_rules.specs.Integers.{Integers, natural}
 use Rattle.vhdl_expand_rules.specs.Kinds.{as_size, size_of, count_of, places}
 use Rattle.vhdl_expand_rules.specs.Site.{Site, place_elements, variable_elements, constant_values}
 use Rattle.vhdl_expand_rules.specs.Expressions as x
-use Rattle.vhdl_expand_rules.specs.Expressions.{operands_fit, operated, numeric, operator}
+use Rattle.vhdl_expand_rules.specs.Expressions.{operands_fit, operation_on, numeric, operator}
 use Rattle.vhdl_expand_rules.specs.laws.Sites.{IsConstant, IsSite, kinds_types, scope_at}
 use Rattle.vhdl_expand_rules.specs.laws.Expressions.{HasShape, type_of, IsName, IsVector, EachVectorFits}
 use Rattle.vhdl_expand_rules.proofs.Steps.{ok, bound, kept}
@@ -85,7 +85,7 @@ sum-is_width : (m n : ℕ) → IsWidth m → nat_le (m + n) 64 ≡ true → IsWi
 sum-is_width m n h g = let a : 1 ≤ m = h.0 in (omega (arith, a), leb-true (m + n) 64 g)
 
 -- an operator but the logical ones
-arithmetic : (at : Site) (op : Numeric) (s t : Shape) (d e r : bodies.Expr) → IsVector at s d → IsVector at t e → operated (numeric op) d e ≡ Ok r → IsVector at vector r
+arithmetic : (at : Site) (op : Numeric) (s t : Shape) (d e r : bodies.Expr) → IsVector at s d → IsVector at t e → operation_on (numeric op) d e ≡ Ok r → IsVector at vector r
 arithmetic at Add s t d e r h g m =
     let w = max-is_width (width d) (width e) (vector_width at s d h) (vector_width at t e g) in
     subst (IsVector at vector) (ok (bodies.binary bodies.plus d e) r m) (record { of_elements = refl; fits = (w, h.fits, g.fits, tt); width = w })
@@ -97,7 +97,7 @@ arithmetic at Multiply s t d e r h g m =
     let w = sum-is_width (width d) (width e) (vector_width at s d h) (kept TooWide (nat_le (width d + width e) 64) fit.x fit.gave) in
     subst (IsVector at vector) (ok (bodies.binary bodies.times d e) r fit.then_gave) (record { of_elements = refl; fits = (w, h.fits, g.fits, tt); width = w })
 
-operated-fits : (at : Site) (op : VectorOperator) (s t z : Shape) (d e r : bodies.Expr) → IsVector at s d → IsVector at t e → operated_shape op s t ≡ Some z → operated (operator op) d e ≡ Ok r
+operated-fits : (at : Site) (op : VectorOperator) (s t z : Shape) (d e r : bodies.Expr) → IsVector at s d → IsVector at t e → operated_shape op s t ≡ Some z → operation_on (operator op) d e ≡ Ok r
     → IsVector at z r
 operated-fits at (v.Logical op) s t z d e r h g k m =
     let fit = bound (operands_fit (bodies.logical op) (width d) (width e)) _ r m in
@@ -144,7 +144,7 @@ constant-values : (i : Inside) (at : Site) (n : ℕ) (part : Part) (f : Form) (s
     → constant_values at n part ≡ Ok vs → HasShape s (length vs)
 unfolding constant_values
 constant-values i at n part f s vs h e g m =
-    let c = bound (found Index (slice_get at.constants n)) _ vs m in
+    let c = bound (item_or Index (slice_get at.constants n)) _ vs m in
     let ps = bound (places at.integers c.x.kind part) _ vs c.then_gave in
     let is = zip_at IsConstant i.constants at.constants n f c.x h.constants e (was_found Index (slice_get at.constants n) c.x c.gave) in
     let w = part_places i at.integers f c.x.kind part s ps.x is g ps.gave in

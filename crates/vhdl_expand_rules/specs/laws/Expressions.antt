@@ -22,35 +22,35 @@ type_of vector = nine_valued
 type_of (state count) = enumeration count
 
 -- the elements of a name of a signal or port
-pub record IsName (at : Site) (s : Shape) (es : List ℕ) : Type 0 where
+pub record IsName (here : Site) (s : Shape) (es : List ℕ) : Type 0 where
   pub width : HasShape s (length es)
-  pub typed : All (HasType (scope_at at).nets (type_of s)) es
+  pub typed : All (HasType (scope_at here).nets (type_of s)) es
 
 abbrev pub EachNameFits : Type 0
 EachNameFits =
-    (i : Inside) (at : Site) (p : SignalPart) (s : Shape) (es : List ℕ) → IsSite i at → place_shape i p ≡ Some s → place_elements at p ≡ Ok es
-    → IsName at s es
+    (i : Inside) (here : Site) (p : SignalPart) (s : Shape) (es : List ℕ) → IsSite i here → place_shape i p ≡ Some s → place_elements here p ≡ Ok es
+    → IsName here s es
 
-pub record IsVector (at : Site) (s : Shape) (e : bodies.Expr) : Type 0 where
+pub record IsVector (here : Site) (s : Shape) (e : bodies.Expr) : Type 0 where
   pub of_elements : is_elements s ≡ true
-  pub fits : FitsExpr (scope_at at) e
+  pub fits : FitsExpr (scope_at here) e
   pub width : HasShape s (width e)
 
 abbrev pub EachVectorFits : Type 0
 EachVectorFits =
-    (i : Inside) (at : Site) (v : Vector) (s : Shape) (e : bodies.Expr) → IsSite i at → vector_shape i v ≡ Some s → x.vector at v ≡ Ok e
-    → IsVector at s e
+    (i : Inside) (here : Site) (v : Vector) (s : Shape) (e : bodies.Expr) → IsSite i here → vector_shape i v ≡ Some s → x.vector here v ≡ Ok e
+    → IsVector here s e
 
-pub record IsValue (at : Site) (s : Shape) (v : bodies.Value) : Type 0 where
-  pub fits : FitsAs (scope_at at) (type_of s) v
+pub record IsValue (here : Site) (s : Shape) (v : bodies.Value) : Type 0 where
+  pub fits : FitsAs (scope_at here) (type_of s) v
   pub width : HasShape s (value_width v)
 
 -- where a value of this shape is asked for
 abbrev pub EachValueFits : Type 0
 EachValueFits =
-    (i : Inside) (at : Site) (v : Value) (s : Shape) (e : bodies.Value) → IsSite i at → value_fits i s v ≡ true → x.value at v ≡ Ok e
-    → IsValue at s e
+    (i : Inside) (here : Site) (v : Value) (s : Shape) (e : bodies.Value) → IsSite i here → value_fits i s v ≡ true → x.value here v ≡ Ok e
+    → IsValue here s e
 
 abbrev pub EachTestFits : Type 0
 EachTestFits =
-    (i : Inside) (at : Site) (t : Test) (c : bodies.Test) → IsSite i at → test_fits i t ≡ true → x.test at t ≡ Ok c → FitsTest (scope_at at) c
+    (i : Inside) (here : Site) (t : Test) (c : bodies.Test) → IsSite i here → test_fits i t ≡ true → x.test here t ≡ Ok c → FitsTest (scope_at here) c

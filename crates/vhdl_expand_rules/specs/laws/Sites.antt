@@ -20,11 +20,11 @@ abbrev pub IsConstant : Form → Constant → Type 0
 IsConstant f c = IsOf f c.kind
 
 -- What stands in the text where this site is known has become what the site has.
-pub record IsSite (i : Inside) (at : Site) : Type 0 where
-  pub constants : AllZip IsConstant i.constants at.constants
-  pub ports : AllZip IsOf (map port_form i.ports) at.ports
-  pub signals : AllZip IsOf i.signals at.signals
-  pub variables : AllZip IsOf i.variables at.variables
+pub record IsSite (i : Inside) (here : Site) : Type 0 where
+  pub constants : AllZip IsConstant i.constants here.constants
+  pub ports : AllZip IsOf (map port_form i.ports) here.ports
+  pub signals : AllZip IsOf i.signals here.signals
+  pub variables : AllZip IsOf i.variables here.variables
 
 -- the types of the elements of things of these kinds, in order
 abbrev pub kinds_types : List ObjectKind → List ElementType
@@ -33,8 +33,8 @@ kinds_types (k ∷ ks) = replicate (size k) (element_type k) ++ kinds_types ks
 
 -- In an expanded body an element of a port or signal stands where a flat netlist's body has a net, and each is its own target.
 abbrev pub scope_at : Site → Scope
-scope_at at = record {
-  nets = kinds_types at.ports ++ kinds_types at.signals;
-  variables = kinds_types at.variables;
-  targets = range_with_len 0 (elements_count at.ports + elements_count at.signals);
+scope_at here = record {
+  nets = kinds_types here.ports ++ kinds_types here.signals;
+  variables = kinds_types here.variables;
+  targets = range_with_len 0 (elements_count here.ports + elements_count here.signals);
 }

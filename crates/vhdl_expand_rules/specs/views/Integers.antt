@@ -5,9 +5,9 @@ use Rattle.vhdl_names_rules.specs.views.Integers.{static_view}
 use Rattle.vhdl_expand_rules.specs.declared.fault.ElabFault.{ElabFault}
 use Rattle.vhdl_expand_rules.specs.declared.fault.ElabProblem.TheVariants.{StaticError}
 use Rattle.vhdl_expand_rules.specs.declared.integer.Integers.{Integers}
-use Rattle.vhdl_expand_rules.specs.Elab.{Elab, ◌>>=◌, told}
+use Rattle.vhdl_expand_rules.specs.Elab.{Elab, ◌>>=◌, problem_told}
 use Rattle.vhdl_expand_rules.specs.Integers as definition
-use Rattle.vhdl_expand_rules.specs.Integers.{checked, are_opposite, operated, integer, decision}
+use Rattle.vhdl_expand_rules.specs.Integers.{checked_integer, are_opposite, integer_operation, integer, decision}
 
 abbrev pub integers_view : Integers → definition.Integers
 integers_view x = record { generics = x.generics.now; constants = x.constants.now; generates = x.generates.now; loops = x.loops.now }
@@ -15,17 +15,17 @@ integers_view x = record { generics = x.generics.now; constants = x.constants.no
 -- what is returned is what is computed, and it is refused just where that is, with the same problem
 abbrev pub Computes : {X : Type 0} → Elab X → Result X ElabFault → Type 0
 Computes given (Ok x) = given ≡ Ok x
-Computes given (Err fault) = given ≡ Err (told fault)
+Computes given (Err fault) = given ≡ Err (problem_told fault)
 
 -- the same of what contracts see of it
 abbrev pub Makes : {X Y : Type 0} → (X → Y) → Elab Y → Result X ElabFault → Type 0
 Makes view given (Ok x) = given ≡ Ok (view x)
-Makes view given (Err fault) = given ≡ Err (told fault)
+Makes view given (Err fault) = given ≡ Err (problem_told fault)
 
 -- a result that may not fit its type
 abbrev pub in_range : Option ℤ → Elab ℤ
 in_range None = Err StaticError
-in_range (Some x) = checked x
+in_range (Some x) = checked_integer x
 
 -- a modulus of what remained: with the sign of the divisor
 abbrev pub with_sign : ℤ → ℤ → ℤ
@@ -33,8 +33,8 @@ with_sign y r = if are_opposite r y then r +ℤ y else r
 
 -- the operators of a chain, on the value of what stands before them
 abbrev pub all_operated : definition.Integers → ℤ → List StaticLink → Elab ℤ
-all_operated at x [] = Ok x
-all_operated at x (l ∷ ls) = do
-  y ← integer at (static_view l.operand)
-  z ← operated l.operator x y
-  all_operated at z ls
+all_operated here x [] = Ok x
+all_operated here x (l ∷ ls) = do
+  y ← integer here (static_view l.operand)
+  z ← integer_operation l.operator x y
+  all_operated here z ls

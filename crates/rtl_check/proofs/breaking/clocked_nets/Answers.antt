@@ -1,7 +1,7 @@
 use Rattle.std.proofs.Common.{◌&&◌, not, ℕ, List, sym, ap, ◌∙◌}
 use Rattle.rtl_net_facts.specs.Reading.{is_in}
 use Rattle.rtl_check.specs.declared.rule.Rule.{Rule}
-use Rattle.rtl_check.specs.Views.{tested}
+use Rattle.rtl_check.specs.Views.{nets_tested}
 use Rattle.rtl_check.specs.Rules.{clocked_breaks}
 use Rattle.rtl_check.proofs.KeptNets.{if_ok, kept_rise, kept_are}
 use Rattle.rtl_check.proofs.breaking.clocked_nets.Goals as goal
@@ -14,7 +14,7 @@ returns-in_ok-tested-in-EdgeNotSensitive-clause-rise c =
 
 pub returns-in_ok-tested-in-EdgeNotSensitive-clause-are : goal.returns-in_ok-tested-in-EdgeNotSensitive-clause-are
 returns-in_ok-tested-in-EdgeNotSensitive-clause-are c =
-    let those = tested c.args.clocking in
+    let those = nets_tested c.args.clocking in
     if_ok _ _ (c.outside-in-EdgeNotSensitive).result
     (λ v h n.
     kept_are _ v.items c.deref.result.now n (is_in n those) h (ap (is_in n) c.deref.ensures.value ∙ (c.in_ok-tested-in-EdgeNotSensitive).ensures.are n)

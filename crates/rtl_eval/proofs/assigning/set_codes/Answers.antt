@@ -1,6 +1,6 @@
 use Rattle.std.proofs.Common.{◌<◌, ◌+◌, drop, length, slice_index, slice_set, ap, ◌∙◌, arith}
 use Rattle.std.proofs.lemmas.List.{length-set}
-use Rattle.rtl_model.specs.bodies.Variables.{put}
+use Rattle.rtl_model.specs.bodies.Variables.{values_put}
 use Rattle.rtl_net.specs.Indices.{numbers}
 use Rattle.rtl_eval.specs.Runs.{Outcome}
 use Rattle.rtl_eval.proofs.OneByOne.{put_more}
@@ -17,8 +17,8 @@ loop-at-preserved c =
     record {
       each_element = ap (λ (o : Outcome). length o.variables) c.set_variable.ensures ∙ length-set c.loop-at.out.variables c.number_at.result (slice_index vs i) ∙ I.each_element;
       variables_are =
-          ap (λ (o : Outcome). put (drop (i + 1) ns) (drop (i + 1) vs) o.variables) c.set_variable.ensures
-          ∙ ap (λ n. put (drop (i + 1) ns) (drop (i + 1) vs) (slice_set c.loop-at.out.variables n (slice_index vs i))) c.number_at.ensures
+          ap (λ (o : Outcome). values_put (drop (i + 1) ns) (drop (i + 1) vs) o.variables) c.set_variable.ensures
+          ∙ ap (λ n. values_put (drop (i + 1) ns) (drop (i + 1) vs) (slice_set c.loop-at.out.variables n (slice_index vs i))) c.number_at.ensures
           ∙ put_more ns vs i c.loop-at.out.variables l m ∙ I.variables_are;
       entries_stay = ap (λ (o : Outcome). o.entries) c.set_variable.ensures ∙ I.entries_stay;
       starts_stay = ap (λ (o : Outcome). o.starts) c.set_variable.ensures ∙ I.starts_stay;

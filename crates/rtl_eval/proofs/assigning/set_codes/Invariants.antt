@@ -1,5 +1,5 @@
 use Rattle.std.proofs.Common.{◌≡◌, drop, length}
-use Rattle.rtl_model.specs.bodies.Variables.{put}
+use Rattle.rtl_model.specs.bodies.Variables.{values_put}
 use Rattle.rtl_net.specs.Indices.{numbers}
 use Rattle.rtl_eval.proofs.assigning.set_codes.Given as goal
 
@@ -7,7 +7,7 @@ use Rattle.rtl_eval.proofs.assigning.set_codes.Given as goal
 abbrev pub invariant-loop-at : goal.invariant-loop-at
 invariant-loop-at l = record {
   each_element : length l.out.variables ≡ length l.initial.out.variables;
-  variables_are : put (drop l.at (numbers l.elements)) (drop l.at l.codes) l.out.variables ≡ put (numbers l.elements) l.codes l.initial.out.variables;
+  variables_are : values_put (drop l.at (numbers l.elements)) (drop l.at l.codes) l.out.variables ≡ values_put (numbers l.elements) l.codes l.initial.out.variables;
   entries_stay : l.out.entries ≡ l.initial.out.entries;
   starts_stay : l.out.starts ≡ l.initial.out.starts;
   room_stays : l.out.room ≡ l.initial.out.room;

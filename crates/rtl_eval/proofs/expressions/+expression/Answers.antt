@@ -1,7 +1,7 @@
 use Rattle.std.proofs.Common.{◌≡◌, arith, ◌+◌, List, length, drop, ap, sym, ◌∙◌, subst}
 use Rattle.vhdl_values.specs.declared.scalar.Nine.{Nine}
 use Rattle.rtl_model.specs.bodies.Body as bodies
-use Rattle.rtl_model.specs.bodies.Values.{operated, elements_of}
+use Rattle.rtl_model.specs.bodies.Values.{operation_result, elements_of}
 use Rattle.rtl_model.specs.bodies.Fits.{IsWidth, operated_width, FitsOperands, FitsExpr}
 use Rattle.rtl_net.specs.declared.body.Expr.{Expr}
 use Rattle.rtl_net.specs.declared.body.Link.{Link}
@@ -35,7 +35,7 @@ chain-loop-link-preserved t c =
     let i = c.loop-link.link-index in
     let now = chain_at seen left ls i x c.loop-link-test.true c.link-item.is c.loop-link.invariant.1 in
     let both = bodies.binary (operator_view x.operator) (bodies.constant left) (expr_view x.operand) in
-    let e : c.operate-left.result ≡ elements_of seen both = c.operate-left.ensures ∙ ap (operated (operator_view x.operator) left) c.value.ensures in (
+    let e : c.operate-left.result ≡ elements_of seen both = c.operate-left.ensures ∙ ap (operation_result (operator_view x.operator) left) c.value.ensures in (
       same_value seen (bodies.constant c.operate-left.result) both (drop (i + 1) ls) e
           ∙ (ap (λ (ys : List Link). elements_of seen (links_of (bodies.constant left) ys)) (sym (rest_at ls i x c.loop-link-test.true c.link-item.is)) ∙ c.loop-link.invariant.0),
       subst (λ (v : List Nine). Within seen (λ scope. FitsExpr scope (links_of (bodies.constant v) (drop (i + 1) ls)))) (sym e)

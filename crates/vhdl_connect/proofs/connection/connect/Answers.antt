@@ -8,7 +8,7 @@ use Rattle.vhdl_expand_tree.specs.Views.{design_view}
 use Rattle.vhdl_expand_tree.proofs.Counts.{each-design-costs-its-parts}
 use Rattle.vhdl_elab_rules.specs.Numbering.{numbered_design}
 use Rattle.vhdl_elab_rules.specs.Limits.{Counts, counts, is_within_limits, is_within, limits}
-use Rattle.vhdl_elab_rules.specs.Elaboration.{Elaborated, connected}
+use Rattle.vhdl_elab_rules.specs.Elaboration.{Elaborated, netlist_of}
 use Rattle.vhdl_expand_bodies.specs.Results.{Expands}
 use Rattle.vhdl_elab_laws.specs.Shown.{as_shown, net_shown}
 use Rattle.vhdl_connect.specs.Wired.{wired}
@@ -16,8 +16,8 @@ use Rattle.vhdl_connect.proofs.Lengths.{as-many-uses, as-many-defaults}
 use Rattle.vhdl_connect.proofs.connection.connect.Goals as goal
 
 -- within the limits connection is wiring
-is-wired : (design : Design) → is_within_limits (counts (numbered_design design)) ≡ true → connected design ≡ wired (numbered_design design)
-unfolding connected
+is-wired : (design : Design) → is_within_limits (counts (numbered_design design)) ≡ true → netlist_of design ≡ wired (numbered_design design)
+unfolding netlist_of
 is-wired design h = ap (λ t. unless TooMany t >> wired (numbered_design design)) h
 
 -- what is within has at most as many nets

@@ -14,7 +14,7 @@ use Rattle.vhdl_expand.proofs.Nested.{no_top, no_top_interface, no_instance, des
 use Rattle.vhdl_elab_laws.specs.Refused.{HasInterface}
 use Rattle.vhdl_expand.proofs.Told.{told_at, same_at, has_interface}
 use Rattle.vhdl_expand.proofs.Heavier.{found_among}
-use Rattle.vhdl_expand_rules.specs.Elab.{told, MayTell}
+use Rattle.vhdl_expand_rules.specs.Elab.{problem_told, MayTell}
 use Rattle.vhdl_expand_tree.proofs.Alike.{tells, tells_same}
 use Rattle.vhdl_expand.proofs.expansion.expand.Goals as goal
 
@@ -31,7 +31,7 @@ returns-in_err-declared-clause-given c =
     let us = units_view c.args.units.now in
     let named = ap (λ n. find (λ (e : Entity). bytes_eq e.name n) us) (sym (c.deref-2.ensures.value ∙ c.in_ok-name.ensures))
     ∙ ap (λ es. find (λ (e : Entity). bytes_eq e.name c.deref-2.result.now) (map entity_view es)) (sym c.deref.ensures.value) ∙ c.in-Some.ensures in
-    let stopped : c.in_err-declared.field-0.0 ≢ NoMemory → MayTell (within_limits (expanded_design us c.args.top.now)) (told c.in_err-declared.field-0.0) =
+    let stopped : c.in_err-declared.field-0.0 ≢ NoMemory → MayTell (within_limits (expanded_design us c.args.top.now)) (problem_told c.in_err-declared.field-0.0) =
     λ n. tells (no_top_interface us c.args.top.now (entity_view c.in-Some.unit.now) named (c.in_err-declared.ensures n)) in
     first_of (search rules, grind (arith, common_steps))
 
@@ -49,7 +49,7 @@ returns-in_err-top-clause-given c =
     ∙ ap (λ es. find (λ (e : Entity). bytes_eq e.name c.deref-2.result.now) (map entity_view es)) (sym c.deref.ensures.value) ∙ c.in-Some.ensures in
     let same = ap (λ b. charged b instance_costs (instance_of us 32 e d)) (sym c.whole-left.ensures)
     ∙ ap (λ es. charged (budget_view c.whole-left.result) instance_costs (instance_of (map entity_view es) 32 e d)) (sym c.deref-3.ensures.value) in
-    let stopped : c.in_err-top.field-0.0 ≢ NoMemory → MayTell (within_limits (expanded_design us c.args.top.now)) (told c.in_err-top.field-0.0) =
+    let stopped : c.in_err-top.field-0.0 ≢ NoMemory → MayTell (within_limits (expanded_design us c.args.top.now)) (problem_told c.in_err-top.field-0.0) =
     λ n. no_instance us c.args.top.now e d named c.in_ok-declared.ensures (tells_same same (c.in_err-top.ensures n)) in
     first_of (search rules, grind (arith, common_steps))
 
@@ -79,7 +79,7 @@ returns-in_err-declared-clause-begun c =
     let us = units_view c.args.units.now in
     let named = ap (λ n. find (λ (e : Entity). bytes_eq e.name n) us) (sym (c.deref-2.ensures.value ∙ c.in_ok-name.ensures))
     ∙ ap (λ es. find (λ (e : Entity). bytes_eq e.name c.deref-2.result.now) (map entity_view es)) (sym c.deref.ensures.value) ∙ c.in-Some.ensures in
-    let stopped : c.in_err-declared.field-0.0 ≢ NoMemory → (within_limits (expanded_design us c.args.top.now) ≡ Err (told c.in_err-declared.field-0.0)) ⊎ HasInterface us c.args.top.now =
+    let stopped : c.in_err-declared.field-0.0 ≢ NoMemory → (within_limits (expanded_design us c.args.top.now) ≡ Err (problem_told c.in_err-declared.field-0.0)) ⊎ HasInterface us c.args.top.now =
     λ n. inl (no_top_interface us c.args.top.now (entity_view c.in-Some.unit.now) named (c.in_err-declared.ensures n)) in
     first_of (search rules, grind (arith, common_steps))
 
@@ -88,6 +88,6 @@ returns-in_err-top-clause-begun c =
     let us = units_view c.args.units.now in
     let named = ap (λ n. find (λ (e : Entity). bytes_eq e.name n) us) (sym (c.deref-2.ensures.value ∙ c.in_ok-name.ensures))
     ∙ ap (λ es. find (λ (e : Entity). bytes_eq e.name c.deref-2.result.now) (map entity_view es)) (sym c.deref.ensures.value) ∙ c.in-Some.ensures in
-    let stopped : c.in_err-top.field-0.0 ≢ NoMemory → (within_limits (expanded_design us c.args.top.now) ≡ Err (told c.in_err-top.field-0.0)) ⊎ HasInterface us c.args.top.now =
+    let stopped : c.in_err-top.field-0.0 ≢ NoMemory → (within_limits (expanded_design us c.args.top.now) ≡ Err (problem_told c.in_err-top.field-0.0)) ⊎ HasInterface us c.args.top.now =
     λ n. inr (has_interface us c.args.top.now (entity_view c.in-Some.unit.now) (declared_view c.in_ok-declared.declared) named c.in_ok-declared.ensures) in
     first_of (search rules, grind (arith, common_steps))

@@ -12,7 +12,7 @@ use Rattle.vhdl_expand_objects.specs.Walks.{stepwise}
 use Rattle.vhdl_expand_objects.proofs.Associating.{nameless, next_given, next_refused, all_associated}
 use Rattle.vhdl_expand_objects.proofs.Names.{actual_seen}
 use Rattle.vhdl_expand_objects.proofs.Walks.{same_goes, same_stops}
-use Rattle.vhdl_expand_rules.specs.Elab.{told}
+use Rattle.vhdl_expand_rules.specs.Elab.{problem_told}
 use Rattle.vhdl_expand_objects.proofs.actuals.associate_all.Goals as goal
 
 pub loop-name-init : goal.loop-name-init
@@ -57,7 +57,7 @@ returns-in_err-associate-clause-given c =
     let below : n < length os = first_of (search rules, omega arith) in
     let actual = actual_seen place_view n c.args.actuals.now c.actual_of-actual.result c.actual_of-actual.ensures in
     let stopped : c.in_err-associate.field-0.0 ≢ NoMemory
-    → (stepwise (next_associated above actuals) (associated_to c.args.before c.args.ports.now.items) (ports_view c.args.declaration.now)) ≡ Err (told c.in_err-associate.field-0.0) =
+    → (stepwise (next_associated above actuals) (associated_to c.args.before c.args.ports.now.items) (ports_view c.args.declaration.now)) ≡ Err (problem_told c.in_err-associate.field-0.0) =
     λ m. same_stops (next_associated above actuals) p _ (associated_to n os) c.as_slice-names.result.now c.loop-name._name-index c.loop-name-test.true c.loop-name.invariant.rest
     (next_refused above actuals os n c.index_mut.result.now p _ below c.index_mut.ensures.value actual (c.in_err-associate.ensures m)) in
     first_of (search rules, grind (arith, common_steps))

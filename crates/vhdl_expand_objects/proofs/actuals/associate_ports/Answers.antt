@@ -7,7 +7,7 @@ use Rattle.vhdl_expand_rules.specs.Declarations as definition
 use Rattle.vhdl_expand_rules.specs.declared.fault.ElabFault.TheVariants.{NoMemory}
 use Rattle.vhdl_expand_rules.proofs.Steps.{given}
 use Rattle.vhdl_expand_rules.proofs.Chains.{err_first}
-use Rattle.vhdl_expand_rules.specs.Elab.{◌>>=◌, told}
+use Rattle.vhdl_expand_rules.specs.Elab.{◌>>=◌, problem_told}
 use Rattle.vhdl_expand_bodies.specs.Sites.{site_view}
 use Rattle.vhdl_expand_objects.specs.Associations.{Associated, associated_to, next_associated, places_view}
 use Rattle.vhdl_expand_objects.proofs.Associating.{associations_walk}
@@ -37,8 +37,8 @@ returns-in_err-count c =
     let above = site_view c.args.above.now in
     let actuals = places_view c.args.actuals.now in
     let below : c.loop-declaration.declaration-index < length c.args.declarations.now = first_of (search rules, omega arith) in
-    let stopped : c.in_err-count.field-0.0 ≢ NoMemory → (definition.associations above (flat_map ports_view c.args.declarations.now) actuals (map object_view c.args.ports.now.items)) ≡ Err (told c.in_err-count.field-0.0) =
-    λ n. subst (λ r. r ≡ Err (told c.in_err-count.field-0.0)) (sym (associations_walk above actuals c.args.ports.now.items (flat_map ports_view c.args.declarations.now)))
+    let stopped : c.in_err-count.field-0.0 ≢ NoMemory → (definition.associations above (flat_map ports_view c.args.declarations.now) actuals (map object_view c.args.ports.now.items)) ≡ Err (problem_told c.in_err-count.field-0.0) =
+    λ n. subst (λ r. r ≡ Err (problem_told c.in_err-count.field-0.0)) (sym (associations_walk above actuals c.args.ports.now.items (flat_map ports_view c.args.declarations.now)))
     (err_first _ (λ (s : Associated). given s.done)
     (all_stop (next_associated above actuals) ports_view _ (associated_to c.loop-declaration.count c.loop-declaration.ports.items) c.args.declarations.now c.loop-declaration.declaration-index c.declaration-item.result
     below c.declaration-item.is c.loop-declaration.invariant.rest (c.in_err-count.ensures.given n))) in

@@ -17,7 +17,7 @@ use Rattle.vhdl_expand_objects.proofs.ConstantSteps.{integer_step, integer_refus
 use Rattle.vhdl_expand_objects.proofs.Growing.{integer_of_grows}
 use Rattle.vhdl_expand_objects.proofs.ObjectSteps.{declarations_walk}
 use Rattle.vhdl_expand_objects.proofs.Walks.{same_goes, same_stops, same_ends}
-use Rattle.vhdl_expand_rules.specs.Elab.{told}
+use Rattle.vhdl_expand_rules.specs.Elab.{problem_told}
 use Rattle.vhdl_expand_objects.proofs.declarative.add_integers.Goals as goal
 
 pub returns-in_default : goal.returns-in_default
@@ -32,8 +32,8 @@ returns-in_err-number c =
     let d = declared_view c.args.declared.now in
     let x = u.Declaration.integer c.args.integer_type (static_view c.args.value.now) in
     let some : 0 < length c.args.names.now = slice_get_within c.args.names.now 0 c.in-Some.first.now (sym c.in-Some.ensures.value) in
-    let stopped : (definition.declarations d (map (λ (n : Identifier). x) c.args.names.now)) ≡ Err (told c.in_err-number.field-0.0) =
-    subst (λ r. r ≡ Err (told c.in_err-number.field-0.0)) (sym (declarations_walk d (map (λ (n : Identifier). x) c.args.names.now)))
+    let stopped : (definition.declarations d (map (λ (n : Identifier). x) c.args.names.now)) ≡ Err (problem_told c.in_err-number.field-0.0) =
+    subst (λ r. r ≡ Err (problem_told c.in_err-number.field-0.0)) (sym (declarations_walk d (map (λ (n : Identifier). x) c.args.names.now)))
     (same_stops definition.declaration x _ d c.args.names.now 0 some refl (integer_refused d c.args.integer_type (static_view c.args.value.now) c.in_err-number.ensures)) in
     first_of (search rules, grind (arith, common_steps))
 

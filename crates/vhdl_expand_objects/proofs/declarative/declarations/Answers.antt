@@ -7,7 +7,7 @@ use Rattle.vhdl_expand_rules.specs.declared.fault.ElabFault.TheVariants.{NoMemor
 use Rattle.vhdl_expand_objects.specs.Views.{declared_view}
 use Rattle.vhdl_expand_objects.proofs.ObjectSteps.{declarations_walk}
 use Rattle.vhdl_expand_objects.proofs.Walks.{all_go, all_stop, all_end}
-use Rattle.vhdl_expand_rules.specs.Elab.{told}
+use Rattle.vhdl_expand_rules.specs.Elab.{problem_told}
 use Rattle.vhdl_expand_objects.proofs.declarative.declarations.Goals as goal
 
 pub loop-declaration-preserved : goal.loop-declaration-preserved
@@ -28,8 +28,8 @@ returns-in_err-declare c =
     let d = declared_view c.loop-declaration.declared in
     let item = c.declaration-item.result in
     let below : c.loop-declaration.declaration-index < length c.args.list.now = first_of (search rules, omega arith) in
-    let stopped : c.in_err-declare.field-0.0 ≢ NoMemory → (definition.declarations (declared_view c.args.declared.now) (flat_map declaration_view c.args.list.now)) ≡ Err (told c.in_err-declare.field-0.0) =
-    λ n. subst (λ r. r ≡ Err (told c.in_err-declare.field-0.0)) (sym (declarations_walk (declared_view c.args.declared.now) (flat_map declaration_view c.args.list.now)))
+    let stopped : c.in_err-declare.field-0.0 ≢ NoMemory → (definition.declarations (declared_view c.args.declared.now) (flat_map declaration_view c.args.list.now)) ≡ Err (problem_told c.in_err-declare.field-0.0) =
+    λ n. subst (λ r. r ≡ Err (problem_told c.in_err-declare.field-0.0)) (sym (declarations_walk (declared_view c.args.declared.now) (flat_map declaration_view c.args.list.now)))
     (all_stop definition.declaration declaration_view _ d c.args.list.now c.loop-declaration.declaration-index item below c.declaration-item.is c.loop-declaration.invariant
-    (subst (λ r. r ≡ Err (told c.in_err-declare.field-0.0)) (declarations_walk d (declaration_view item)) (c.in_err-declare.ensures n))) in
+    (subst (λ r. r ≡ Err (problem_told c.in_err-declare.field-0.0)) (declarations_walk d (declaration_view item)) (c.in_err-declare.ensures n))) in
     first_of (search rules, grind (arith, common_steps))

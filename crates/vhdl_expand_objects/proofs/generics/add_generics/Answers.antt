@@ -14,7 +14,7 @@ use Rattle.vhdl_expand_objects.proofs.Names.{named, actual_seen}
 use Rattle.vhdl_expand_objects.specs.Walks.{stepwise}
 use Rattle.vhdl_expand_objects.proofs.Walks.{one_goes, one_stops, one_ends}
 use Rattle.vhdl_expand_objects.proofs.Given.{step, stepped, stopped, all_stepped, all_stopped}
-use Rattle.vhdl_expand_rules.specs.Elab.{told}
+use Rattle.vhdl_expand_rules.specs.Elab.{problem_told}
 use Rattle.vhdl_expand_objects.proofs.generics.add_generics.Goals as goal
 
 pub loop-name-init : goal.loop-name-init
@@ -54,8 +54,8 @@ returns-in_err-value c =
     let values = c.loop-name.values.items in
     let count : c.len.result ≡ length values = first_of (search rules, omega arith) in
     let actual = actual_seen static_view c.len.result c.args.actuals.now c.actual_of-actual.result c.actual_of-actual.ensures in
-    let h = subst (λ (vs : List ℤ). (definition.generic above (generics_alone vs) (option_map (λ v. static_view v.now) c.actual_of-actual.result) d) ≡ Err (told c.in_err-value.field-0.0)) c.deref.ensures.value c.in_err-value.ensures in
-    let total : (further_generics above actuals c.args.values.now.items (generics_view c.args.declaration.now)) ≡ Err (told c.in_err-value.field-0.0) =
+    let h = subst (λ (vs : List ℤ). (definition.generic above (generics_alone vs) (option_map (λ v. static_view v.now) c.actual_of-actual.result) d) ≡ Err (problem_told c.in_err-value.field-0.0)) c.deref.ensures.value c.in_err-value.ensures in
+    let total : (further_generics above actuals c.args.values.now.items (generics_view c.args.declaration.now)) ≡ Err (problem_told c.in_err-value.field-0.0) =
     all_stopped above actuals c.args.values.now.items _
     (one_stops (step above actuals) (λ (n : Identifier). d) _ values c.deref-name-items.result.now c.loop-name.name-index c.name-item.result
     c.loop-name-test.true c.name-item.is c.loop-name.invariant (stopped above actuals values _ c.len.result d count actual h)) in

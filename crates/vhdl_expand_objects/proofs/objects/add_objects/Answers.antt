@@ -14,7 +14,7 @@ use Rattle.vhdl_expand_objects.specs.Walks.{stepwise}
 use Rattle.vhdl_expand_objects.proofs.Names.{named, no_names}
 use Rattle.vhdl_expand_objects.proofs.ObjectSteps.{object_given, shape_stays, first_refused}
 use Rattle.vhdl_expand_objects.proofs.Walks.{one_goes, one_ends}
-use Rattle.vhdl_expand_rules.specs.Elab.{told}
+use Rattle.vhdl_expand_rules.specs.Elab.{problem_told}
 use Rattle.vhdl_expand_objects.proofs.objects.add_objects.Goals as goal
 
 pub returns-in_default : goal.returns-in_default
@@ -30,8 +30,8 @@ returns-in_err-shape c =
     let v = λ (n : Identifier). named_object objects n.text.items in
     let there : slice_get c.as_slice-names.result.now 0 ≡ Some c.in-Some.first.now = sym c.in-Some.ensures.value in
     let walk = named (named_object objects) objects.names.items ∙ ap (map v) (sym c.as_slice-names.ensures.value) in
-    let stopped : c.in_err-shape.field-0.0 ≢ NoMemory → (stepwise (next_object (role_view c.args.role)) (declared_view c.args.declared.now) (units.object_view objects)) ≡ Err (told c.in_err-shape.field-0.0) =
-    λ n. subst (λ (os : _). (stepwise (next_object (role_view c.args.role)) (declared_view c.args.declared.now) os) ≡ Err (told c.in_err-shape.field-0.0)) (sym walk)
+    let stopped : c.in_err-shape.field-0.0 ≢ NoMemory → (stepwise (next_object (role_view c.args.role)) (declared_view c.args.declared.now) (units.object_view objects)) ≡ Err (problem_told c.in_err-shape.field-0.0) =
+    λ n. subst (λ (os : _). (stepwise (next_object (role_view c.args.role)) (declared_view c.args.declared.now) os) ≡ Err (problem_told c.in_err-shape.field-0.0)) (sym walk)
     (first_refused (role_view c.args.role) (declared_view c.args.declared.now) v c.as_slice-names.result.now c.in-Some.first.now there (c.in_err-shape.ensures n)) in
     first_of (search rules, grind (arith, common_steps))
 

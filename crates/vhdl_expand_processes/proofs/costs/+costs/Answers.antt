@@ -19,7 +19,7 @@ use Rattle.vhdl_expand_processes.specs.Unrolled.{paid, both, together, in_turn, 
 use Rattle.vhdl_expand_processes.proofs.Paying.{charges_alike, list_go, list_stop, turns_go, turns_stop, turns_end}
 use Rattle.vhdl_expand_processes.proofs.Sums.{statements_together, if_costs, case_costs, loop_view_costs, same_list, same_branches, same_alternatives, same_turn}
 use Rattle.vhdl_expand_processes.proofs.Sums.{choose_stops, branches_stop, no_else, some_else, select_stops, alternatives_stop, alternatives_go, range_stops, count_stops, turns_begin}
-use Rattle.vhdl_expand_rules.specs.Elab.{told, MayTell}
+use Rattle.vhdl_expand_rules.specs.Elab.{problem_told, MayTell}
 use Rattle.vhdl_expand_processes.proofs.costs.+costs.Goals as goal
 
 pub of_statements-loop-statement-init : goal.of_statements-loop-statement-init
@@ -39,7 +39,7 @@ of_statements-returns-in_err-of_statement t c =
     let at = integers_view c.args.integers.now in
     let below : i < length c.args.list.now = first_of (search rules, omega arith) in
     let stopped : c.in_err-of_statement.field-0.0 ≢ NoMemory
-    → MayTell (paid (budget_view c.args.budget.now) (statements_costs at (analysed.statements_of (map analysed.statement_view c.args.list.now)))) (told c.in_err-of_statement.field-0.0) =
+    → MayTell (paid (budget_view c.args.budget.now) (statements_costs at (analysed.statements_of (map analysed.statement_view c.args.list.now)))) (problem_told c.in_err-of_statement.field-0.0) =
     λ n. list_stop (statement_costs at) analysed.statement_view _ _ c.args.list.now i c.statement-item.result below c.statement-item.is c.loop-statement.invariant (c.in_err-of_statement.ensures n) in
     first_of (search rules, grind (arith, common_steps))
 
@@ -74,7 +74,7 @@ of_branches-returns-in_err-of_statements t c =
     let i = c.loop-branch.branch-index in
     let at = integers_view c.args.integers.now in
     let below : i < length c.args.list.now = first_of (search rules, omega arith) in
-    let stopped : c.in_err-of_statements.field-0.0 ≢ NoMemory → MayTell (paid (budget_view c.args.budget.now) (together (guarded_costs at) (map analysed.branch_view c.args.list.now))) (told c.in_err-of_statements.field-0.0) =
+    let stopped : c.in_err-of_statements.field-0.0 ≢ NoMemory → MayTell (paid (budget_view c.args.budget.now) (together (guarded_costs at) (map analysed.branch_view c.args.list.now))) (problem_told c.in_err-of_statements.field-0.0) =
     λ n. list_stop (guarded_costs at) analysed.branch_view _ _ c.args.list.now i c.branch-item.result below c.branch-item.is c.loop-branch.invariant
     (tells_same (same_list at _ _ _ c.deref.ensures.value) (c.in_err-of_statements.ensures n)) in
     first_of (search rules, grind (arith, common_steps))
@@ -92,7 +92,7 @@ of_alternatives-returns-in_err-of_statements t c =
     let i = c.loop-alternative.alternative-index in
     let at = integers_view c.args.integers.now in
     let below : i < length c.args.list.now = first_of (search rules, omega arith) in
-    let stopped : c.in_err-of_statements.field-0.0 ≢ NoMemory → MayTell (paid (budget_view c.args.budget.now) (together (chosen_costs at) (map analysed.alternative_view c.args.list.now))) (told c.in_err-of_statements.field-0.0) =
+    let stopped : c.in_err-of_statements.field-0.0 ≢ NoMemory → MayTell (paid (budget_view c.args.budget.now) (together (chosen_costs at) (map analysed.alternative_view c.args.list.now))) (problem_told c.in_err-of_statements.field-0.0) =
     λ n. list_stop (chosen_costs at) analysed.alternative_view _ _ c.args.list.now i c.alternative-item.result below c.alternative-item.is c.loop-alternative.invariant
     (tells_same (same_list at _ _ _ c.deref.ensures.value) (c.in_err-of_statements.ensures n)) in
     first_of (search rules, grind (arith, common_steps))
@@ -105,7 +105,7 @@ of_conditional-returns-in_err-charge_statement t c =
     let x = out-If c.args.conditional.now in
     let gs = analysed.branches_view x.branches in
     let last = analysed.last_of (analysed.option_statements_view x.otherwise) in
-    let stopped : MayTell (paid (budget_view c.args.budget.now) (statement_costs at (units.if_of (analysed.branches_of gs last)))) (told c.in_err-charge_statement.field-0.0) =
+    let stopped : MayTell (paid (budget_view c.args.budget.now) (statement_costs at (units.if_of (analysed.branches_of gs last)))) (problem_told c.in_err-charge_statement.field-0.0) =
     choose_stops at (budget_view c.args.budget.now) gs last (tells c.in_err-charge_statement.ensures.spent) in
     first_of (search rules, grind (arith, common_steps))
 
@@ -115,7 +115,7 @@ of_conditional-returns-in_err-of_branches t c =
     let x = out-If c.args.conditional.now in
     let gs = analysed.branches_view x.branches in
     let last = analysed.last_of (analysed.option_statements_view x.otherwise) in
-    let stopped : c.in_err-of_branches.field-0.0 ≢ NoMemory → MayTell (paid (budget_view c.args.budget.now) (statement_costs at (units.if_of (analysed.branches_of gs last)))) (told c.in_err-of_branches.field-0.0) =
+    let stopped : c.in_err-of_branches.field-0.0 ≢ NoMemory → MayTell (paid (budget_view c.args.budget.now) (statement_costs at (units.if_of (analysed.branches_of gs last)))) (problem_told c.in_err-of_branches.field-0.0) =
     λ n. branches_stop at (budget_view c.args.budget.now) gs last _ c.in_ok-charge_statement.ensures.spent
     (tells_same (same_branches at _ _ _ c.deref.ensures.value) (c.in_err-of_branches.ensures n)) in
     first_of (search rules, grind (arith, common_steps))
@@ -144,7 +144,7 @@ of_selection-returns-in_err-charge_statement t c =
     let x = out-Case c.args.selection.now in
     let gs = analysed.alternatives_view x.alternatives in
     let last = analysed.statements_of (analysed.statements_view x.others) in
-    let stopped : MayTell (paid (budget_view c.args.budget.now) (both (given a_statement) (alternatives_costs at (analysed.alternatives_of gs last)))) (told c.in_err-charge_statement.field-0.0) =
+    let stopped : MayTell (paid (budget_view c.args.budget.now) (both (given a_statement) (alternatives_costs at (analysed.alternatives_of gs last)))) (problem_told c.in_err-charge_statement.field-0.0) =
     select_stops at (budget_view c.args.budget.now) gs last (tells c.in_err-charge_statement.ensures.spent) in
     first_of (search rules, grind (arith, common_steps))
 
@@ -154,7 +154,7 @@ of_selection-returns-in_err-of_alternatives t c =
     let x = out-Case c.args.selection.now in
     let gs = analysed.alternatives_view x.alternatives in
     let last = analysed.statements_of (analysed.statements_view x.others) in
-    let stopped : c.in_err-of_alternatives.field-0.0 ≢ NoMemory → MayTell (paid (budget_view c.args.budget.now) (both (given a_statement) (alternatives_costs at (analysed.alternatives_of gs last)))) (told c.in_err-of_alternatives.field-0.0) =
+    let stopped : c.in_err-of_alternatives.field-0.0 ≢ NoMemory → MayTell (paid (budget_view c.args.budget.now) (both (given a_statement) (alternatives_costs at (analysed.alternatives_of gs last)))) (problem_told c.in_err-of_alternatives.field-0.0) =
     λ n. alternatives_stop at (budget_view c.args.budget.now) gs last _ c.in_ok-charge_statement.ensures.spent
     (tells_same (same_alternatives at _ _ _ c.deref.ensures.value) (c.in_err-of_alternatives.ensures n)) in
     first_of (search rules, grind (arith, common_steps))
@@ -176,7 +176,7 @@ pub of_loop-returns-in_err-turns : goal.of_loop-returns-in_err-turns
 of_loop-returns-in_err-turns t c =
     let at = integers_view c.args.integers.now in
     let body = analysed.statements_of (analysed.statements_view c.args.repeated.now.statements) in
-    let stopped : MayTell (paid (budget_view c.args.budget.now) (statement_costs at (units.for_of (range_view c.args.repeated.now.range) body))) (told c.in_err-turns.field-0.0) =
+    let stopped : MayTell (paid (budget_view c.args.budget.now) (statement_costs at (units.for_of (range_view c.args.repeated.now.range) body))) (problem_told c.in_err-turns.field-0.0) =
     range_stops at (budget_view c.args.budget.now) (range_view c.args.repeated.now.range) body c.in_err-turns.ensures in
     first_of (search rules, grind (arith, common_steps))
 
@@ -184,7 +184,7 @@ pub of_loop-returns-in_err-charge_turns : goal.of_loop-returns-in_err-charge_tur
 of_loop-returns-in_err-charge_turns t c =
     let at = integers_view c.args.integers.now in
     let body = analysed.statements_of (analysed.statements_view c.args.repeated.now.statements) in
-    let stopped : MayTell (paid (budget_view c.args.budget.now) (statement_costs at (units.for_of (range_view c.args.repeated.now.range) body))) (told c.in_err-charge_turns.field-0.0) =
+    let stopped : MayTell (paid (budget_view c.args.budget.now) (statement_costs at (units.for_of (range_view c.args.repeated.now.range) body))) (problem_told c.in_err-charge_turns.field-0.0) =
     count_stops at (budget_view c.args.budget.now) (range_view c.args.repeated.now.range) body c.in_ok-turns.turns.direction c.in_ok-turns.turns.first c.in_ok-turns.turns.count
     c.in_ok-turns.ensures (tells c.in_err-charge_turns.ensures.spent) in
     first_of (search rules, grind (arith, common_steps))
@@ -214,7 +214,7 @@ of_loop-returns-in_err-of_turn t c =
     let f : SFits w32 c.parameter-value.result = search rules in
     let fixed : to_z w32 (of_z w32 c.parameter-value.result) ≡ c.parameter-value.result = omega (arith, ints) in
     let stopped : c.in_err-of_turn.field-0.0 ≢ NoMemory
-    → MayTell (paid (budget_view c.args.budget.now) (statement_costs at (units.for_of (range_view c.args.repeated.now.range) body))) (told c.in_err-of_turn.field-0.0) =
+    → MayTell (paid (budget_view c.args.budget.now) (statement_costs at (units.for_of (range_view c.args.repeated.now.range) body))) (problem_told c.in_err-of_turn.field-0.0) =
     λ n. turns_stop (λ i. statements_costs (in_turn at i) body) c.in_ok-turns.turns.direction c.in_ok-turns.turns.first c.in_ok-turns.turns.count _ _ c.loop-turn.turn c.parameter-value.result
     c.loop-turn-test.true same c.loop-turn.invariant (tells_same (same_turn at _ body _ _ fixed) (c.in_err-of_turn.ensures n)) in
     first_of (search rules, grind (arith, common_steps))

@@ -2,7 +2,7 @@ use Rattle.std.proofs.Common.{map, drop}
 use Rattle.vhdl_names_rules.specs.views.Integers.{range_view}
 use Rattle.vhdl_names_rules.specs.units.Statements as units
 use Rattle.vhdl_names_units.specs.views.Sequential as analysed
-use Rattle.vhdl_expand_rules.specs.Integers.{counted}
+use Rattle.vhdl_expand_rules.specs.Integers.{numbers_from}
 use Rattle.vhdl_expand_rules.specs.views.Integers.{integers_view}
 use Rattle.vhdl_expand_tree.specs.Views.{budget_view}
 use Rattle.vhdl_expand_tree.proofs.Alike.{Alike}
@@ -30,4 +30,4 @@ abbrev pub invariant-of_loop-loop-turn : goal.invariant-of_loop-loop-turn
 invariant-of_loop-loop-turn l =
     Alike (paid (budget_view l.fn.budget) (statement_costs (integers_view l.integers) (units.for_of (range_view l.repeated.range) (analysed.statements_of (analysed.statements_view l.repeated.statements)))))
     (paid (budget_view l.budget) (together (λ i. statements_costs (in_turn (integers_view l.integers) i) (analysed.statements_of (analysed.statements_view l.repeated.statements)))
-    (drop l.turn (counted l.turns.direction l.turns.first l.turns.count))))
+    (drop l.turn (numbers_from l.turns.direction l.turns.first l.turns.count))))

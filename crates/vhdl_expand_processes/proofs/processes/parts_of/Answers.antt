@@ -6,7 +6,7 @@ use Rattle.vhdl_names_units.specs.views.Declarations.{object_view}
 use Rattle.vhdl_names_units.specs.views.Sequential as bodies
 use Rattle.vhdl_expand_rules.specs.declared.fault.ElabFault.TheVariants.{NoMemory}
 use Rattle.vhdl_expand_rules.specs.Declarations.{variable}
-use Rattle.vhdl_expand_rules.specs.Elab.{each, told, MayTell}
+use Rattle.vhdl_expand_rules.specs.Elab.{each, problem_told, MayTell}
 use Rattle.vhdl_expand_rules.specs.Expansion.{with_variables}
 use Rattle.vhdl_expand_rules.specs.Statements.{statements}
 use Rattle.vhdl_expand_bodies.specs.Sites.{site_view}
@@ -29,7 +29,7 @@ body-requires-clause-wide c =
 
 pub returns-in_err-charge_process : goal.returns-in_err-charge_process
 returns-in_err-charge_process c =
-    let stopped : MayTell (process_steps (budget_view c.args.budget.now) (record { site = site_view c.args.site.now; prefix = c.args.prefix.now }) (analysed.process_view c.args.process.now)) (told c.in_err-charge_process.field-0.0) =
+    let stopped : MayTell (process_steps (budget_view c.args.budget.now) (record { site = site_view c.args.site.now; prefix = c.args.prefix.now }) (analysed.process_view c.args.process.now)) (problem_told c.in_err-charge_process.field-0.0) =
     not_started _ _ _ _ (tells c.in_err-charge_process.ensures.spent) in
     first_of (search rules, grind (arith, common_steps))
 
@@ -38,7 +38,7 @@ returns-in_err-variables c =
     let at = site_view c.args.site.now in
     let named = ap (λ os. each (variable at) (flat_map object_view os)) (sym c.deref.ensures.value) in
     let stopped : c.in_err-variables.field-0.0 ≢ NoMemory
-    → MayTell (process_steps (budget_view c.args.budget.now) (record { site = at; prefix = c.args.prefix.now }) (analysed.process_view c.args.process.now)) (told c.in_err-variables.field-0.0) =
+    → MayTell (process_steps (budget_view c.args.budget.now) (record { site = at; prefix = c.args.prefix.now }) (analysed.process_view c.args.process.now)) (problem_told c.in_err-variables.field-0.0) =
     λ n. not_declared _ _ _ _ _ c.in_ok-charge_process.ensures.spent (tells (named ∙ c.in_err-variables.ensures n)) in
     first_of (search rules, grind (arith, common_steps))
 
@@ -48,7 +48,7 @@ returns-in_err-charge_variables c =
     let declared = ap (λ os. each (variable at) (flat_map object_view os)) (sym c.deref.ensures.value) ∙ c.in_ok-variables.ensures in
     let taken = ap (λ xs. spent (budget_view c.charge_process.new.self) (variables_costs (map variable_view xs))) (sym c.deref-2.ensures.value) in
     let stopped : c.in_err-charge_variables.field-0.0 ≢ NoMemory
-    → MayTell (process_steps (budget_view c.args.budget.now) (record { site = at; prefix = c.args.prefix.now }) (analysed.process_view c.args.process.now)) (told c.in_err-charge_variables.field-0.0) =
+    → MayTell (process_steps (budget_view c.args.budget.now) (record { site = at; prefix = c.args.prefix.now }) (analysed.process_view c.args.process.now)) (problem_told c.in_err-charge_variables.field-0.0) =
     λ n. not_held _ _ _ _ _ c.in_ok-charge_process.ensures.spent _ declared (tells_same taken (c.in_err-charge_variables.ensures n)) in
     first_of (search rules, grind (arith, common_steps))
 
@@ -59,7 +59,7 @@ returns-in_err-drives c =
     let held = ap (λ xs. spent (budget_view c.charge_process.new.self) (variables_costs (map variable_view xs))) (sym c.deref-2.ensures.value) ∙ c.in_ok-charge_variables.ensures in
     let driving = ap (λ ss. drives_of at (bodies.statements_of (map bodies.statement_view ss))) (sym c.deref-3.ensures.value) in
     let stopped : c.in_err-drives.field-0.0 ≢ NoMemory
-    → MayTell (process_steps (budget_view c.args.budget.now) (record { site = at; prefix = c.args.prefix.now }) (analysed.process_view c.args.process.now)) (told c.in_err-drives.field-0.0) =
+    → MayTell (process_steps (budget_view c.args.budget.now) (record { site = at; prefix = c.args.prefix.now }) (analysed.process_view c.args.process.now)) (problem_told c.in_err-drives.field-0.0) =
     λ n. not_driven _ _ _ _ _ c.in_ok-charge_process.ensures.spent _ declared _ held (tells (driving ∙ c.in_err-drives.ensures.given n)) in
     first_of (search rules, grind (arith, common_steps))
 
@@ -70,7 +70,7 @@ returns-in_err-sensitivity c =
     let held = ap (λ xs. spent (budget_view c.charge_process.new.self) (variables_costs (map variable_view xs))) (sym c.deref-2.ensures.value) ∙ c.in_ok-charge_variables.ensures in
     let driven = ap (λ ss. drives_of at (bodies.statements_of (map bodies.statement_view ss))) (sym c.deref-3.ensures.value) ∙ c.in_ok-drives.ensures.given in
     let stopped : c.in_err-sensitivity.field-0.0 ≢ NoMemory
-    → MayTell (process_steps (budget_view c.args.budget.now) (record { site = at; prefix = c.args.prefix.now }) (analysed.process_view c.args.process.now)) (told c.in_err-sensitivity.field-0.0) =
+    → MayTell (process_steps (budget_view c.args.budget.now) (record { site = at; prefix = c.args.prefix.now }) (analysed.process_view c.args.process.now)) (problem_told c.in_err-sensitivity.field-0.0) =
     λ n. not_resumed _ _ _ _ _ c.in_ok-charge_process.ensures.spent _ declared _ held _ driven (tells (c.in_err-sensitivity.ensures n)) in
     first_of (search rules, grind (arith, common_steps))
 
@@ -82,7 +82,7 @@ returns-in_err-turns c =
     let driven = ap (λ ss. drives_of at (bodies.statements_of (map bodies.statement_view ss))) (sym c.deref-3.ensures.value) ∙ c.in_ok-drives.ensures.given in
     let paying = ap (λ ss. turns_paid (budget_view c.charge_variables.new.budget) (statements_costs at.integers (bodies.statements_of (map bodies.statement_view ss)))) (sym c.deref-4.ensures.value) in
     let stopped : c.in_err-turns.field-0.0 ≢ NoMemory
-    → MayTell (process_steps (budget_view c.args.budget.now) (record { site = at; prefix = c.args.prefix.now }) (analysed.process_view c.args.process.now)) (told c.in_err-turns.field-0.0) =
+    → MayTell (process_steps (budget_view c.args.budget.now) (record { site = at; prefix = c.args.prefix.now }) (analysed.process_view c.args.process.now)) (problem_told c.in_err-turns.field-0.0) =
     λ n. not_counted _ _ _ _ _ c.in_ok-charge_process.ensures.spent _ declared _ held _ driven _ c.in_ok-sensitivity.ensures (tells_same paying (c.in_err-turns.ensures n)) in
     first_of (search rules, grind (arith, common_steps))
 
@@ -96,6 +96,6 @@ returns-in_err-body c =
     let among = ap (λ xs. statements (with_variables at (map variable_view xs)) (analysed.process_view c.args.process.now).body) (sym c.deref-5.ensures.value)
     ∙ ap (λ ss. statements (with_variables at (map variable_view c.deref-5.result.now)) (bodies.statements_of (map bodies.statement_view ss))) (sym c.deref-6.ensures.value) in
     let stopped : c.in_err-body.field-0.0 ≢ NoMemory
-    → MayTell (process_steps (budget_view c.args.budget.now) (record { site = at; prefix = c.args.prefix.now }) (analysed.process_view c.args.process.now)) (told c.in_err-body.field-0.0) =
+    → MayTell (process_steps (budget_view c.args.budget.now) (record { site = at; prefix = c.args.prefix.now }) (analysed.process_view c.args.process.now)) (problem_told c.in_err-body.field-0.0) =
     λ n. not_expanded _ _ _ _ _ c.in_ok-charge_process.ensures.spent _ declared _ held _ driven _ c.in_ok-sensitivity.ensures _ counted (tells (among ∙ c.in_err-body.ensures n)) in
     first_of (search rules, grind (arith, common_steps))

@@ -11,8 +11,8 @@ use Rattle.vhdl_names_rules.specs.views.Vectors.{place_view}
 use Rattle.vhdl_names_units.specs.views.Units.{entity_view, architecture_view}
 use Rattle.vhdl_names_units.specs.views.Declarations.{declaration_view}
 use Rattle.vhdl_expand_rules.specs.Declarations.{declarations, interface}
-use Rattle.vhdl_expand_rules.specs.Elab.{◌>>=◌, told, MayTell}
-use Rattle.vhdl_expand_rules.specs.Expansion.{instance_of, dotted}
+use Rattle.vhdl_expand_rules.specs.Elab.{◌>>=◌, problem_told, MayTell}
+use Rattle.vhdl_expand_rules.specs.Expansion.{instance_of, with_dot}
 use Rattle.vhdl_elab_rules.specs.Numbering.{own_sizes}
 use Rattle.vhdl_expand_tree.specs.Costs.{charged, spent, nets, instance_costs}
 use Rattle.vhdl_expand_tree.specs.Views.{budget_view, object_view, parts_of}
@@ -64,7 +64,7 @@ concurrents-returns-in_err-concurrent t c =
     let i = c.loop-item.item-index in
     let at = spot_view c.args.spot.now in
     let below : i < length c.args.list.now = first_of (search rules, omega arith) in
-    let stopped : c.in_err-concurrent.field-0.0 ≢ NoMemory → MayTell (adding (progress_view c.args.so_far.now) (listed (units_of c.args.self.now) c.args.self.now.levels at c.args.list.now)) (told c.in_err-concurrent.field-0.0) =
+    let stopped : c.in_err-concurrent.field-0.0 ≢ NoMemory → MayTell (adding (progress_view c.args.so_far.now) (listed (units_of c.args.self.now) c.args.self.now.levels at c.args.list.now)) (problem_told c.in_err-concurrent.field-0.0) =
     λ n. list_stops (units_of c.args.self.now) c.args.self.now.levels at _ (progress_view c.loop-item.so_far) c.args.list.now i c.item-item.result below c.item-item.is c.loop-item.invariant.leads (c.in_err-concurrent.ensures n) in
     first_of (search rules, grind (arith, common_steps))
 
@@ -119,7 +119,7 @@ generate-returns-in-If t c =
 pub turns-returns-in_err-turns : goal.turns-returns-in_err-turns
 turns-returns-in_err-turns t c =
     let w = c.args.written.now in
-    let stopped : c.in_err-turns.field-0.0 ≢ NoMemory → MayTell (adding (progress_view c.args.so_far.now) (for_each (units_of c.args.self.now) c.args.self.now.levels (spot_view c.args.spot.now) w.label.text.items (units.concurrents_of (units.concurrents_view w.statements)) (range_view c.args.range.now))) (told c.in_err-turns.field-0.0) =
+    let stopped : c.in_err-turns.field-0.0 ≢ NoMemory → MayTell (adding (progress_view c.args.so_far.now) (for_each (units_of c.args.self.now) c.args.self.now.levels (spot_view c.args.spot.now) w.label.text.items (units.concurrents_of (units.concurrents_view w.statements)) (range_view c.args.range.now))) (problem_told c.in_err-turns.field-0.0) =
     λ n. tells (no_turns (units_of c.args.self.now) c.args.self.now.levels (spot_view c.args.spot.now) w.label.text.items (units.concurrents_of (units.concurrents_view w.statements)) (range_view c.args.range.now) (progress_view c.args.so_far.now) c.in_err-turns.ensures) in
     first_of (search rules, grind (arith, common_steps))
 
@@ -127,7 +127,7 @@ pub turns-returns-in_err-add_turns : goal.turns-returns-in_err-add_turns
 turns-returns-in_err-add_turns t c =
     let w = c.args.written.now in
     let r = c.in_ok-turns.turns in
-    let stopped : c.in_err-add_turns.field-0.0 ≢ NoMemory → MayTell (adding (progress_view c.args.so_far.now) (for_each (units_of c.args.self.now) c.args.self.now.levels (spot_view c.args.spot.now) w.label.text.items (units.concurrents_of (units.concurrents_view w.statements)) (range_view c.args.range.now))) (told c.in_err-add_turns.field-0.0) =
+    let stopped : c.in_err-add_turns.field-0.0 ≢ NoMemory → MayTell (adding (progress_view c.args.so_far.now) (for_each (units_of c.args.self.now) c.args.self.now.levels (spot_view c.args.spot.now) w.label.text.items (units.concurrents_of (units.concurrents_view w.statements)) (range_view c.args.range.now))) (problem_told c.in_err-add_turns.field-0.0) =
     λ n. turns_refused (units_of c.args.self.now) c.args.self.now.levels (spot_view c.args.spot.now) w.label.text.items (units.concurrents_of (units.concurrents_view w.statements)) (range_view c.args.range.now) r.direction r.first r.count (progress_view c.args.so_far.now) c.in_ok-turns.ensures (tells (c.in_err-add_turns.ensures n)) in
     first_of (search rules, grind (arith, common_steps))
 
@@ -169,9 +169,9 @@ turns-returns-in_err-turn t c =
     let same = c.parameter-value.ensures in
     let f : SFits w32 c.parameter-value.result = search rules in
     let fixed : to_z w32 (of_z w32 c.parameter-value.result) ≡ c.parameter-value.result = omega (arith, ints) in
-    let stopped : c.in_err-turn.field-0.0 ≢ NoMemory → MayTell (adding (progress_view c.args.so_far.now) (for_each (units_of c.args.self.now) c.args.self.now.levels (spot_view c.args.spot.now) w.label.text.items (units.concurrents_of (units.concurrents_view w.statements)) (range_view c.args.range.now))) (told c.in_err-turn.field-0.0) =
+    let stopped : c.in_err-turn.field-0.0 ≢ NoMemory → MayTell (adding (progress_view c.args.so_far.now) (for_each (units_of c.args.self.now) c.args.self.now.levels (spot_view c.args.spot.now) w.label.text.items (units.concurrents_of (units.concurrents_view w.statements)) (range_view c.args.range.now))) (problem_told c.in_err-turn.field-0.0) =
     λ n. turns_stop (units_of c.args.self.now) c.args.self.now.levels at w.label.text.items body _ now r.direction r.first c.parameter-value.result r.count c.loop-turn.turn c.loop-turn-test.true same c.loop-turn.invariant.leads
-    (subst (λ j. MayTell (adding now (turned (units_of c.args.self.now) c.args.self.now.levels at w.label.text.items body j)) (told c.in_err-turn.field-0.0)) fixed (c.in_err-turn.ensures n)) in
+    (subst (λ j. MayTell (adding now (turned (units_of c.args.self.now) c.args.self.now.levels at w.label.text.items body j)) (problem_told c.in_err-turn.field-0.0)) fixed (c.in_err-turn.ensures n)) in
     first_of (search rules, grind (arith, common_steps))
 
 pub turns-returns : goal.turns-returns
@@ -193,7 +193,7 @@ turn-returns t c =
     let at = spot_view c.args.spot.now in
     let inner = spot_view c.within-inner.result in
     let values : c.deref-2.result.now ≡ at.site.integers.generates ++ c.args.parameter ∷ [] = first_of (search rules, grind (arith, common_steps)) in
-    let prefix : c.deref-3.result.now ≡ at.prefix ++ dotted (w.label.text.items ++ (codes "(" ++ (signed_decimal c.args.parameter ++ codes ")"))) = first_of (search rules, grind (arith, common_steps)) in
+    let prefix : c.deref-3.result.now ≡ at.prefix ++ with_dot (w.label.text.items ++ (codes "(" ++ (signed_decimal c.args.parameter ++ codes ")"))) = first_of (search rules, grind (arith, common_steps)) in
     let e = ap (λ s. adding (progress_view c.args.so_far.now) (made.concurrents (units_of c.args.self.now) c.args.self.now.levels s (units.concurrents_of (units.concurrents_view w.statements))))
     (turn_spot (units_of c.args.self.now) c.args.self.now.levels (spot_view c.args.spot.now) w.label.text.items (units.concurrents_of (units.concurrents_view w.statements)) inner c.args.parameter c.deref-2.result.now c.deref-3.result.now c.within-inner.ensures.spot values prefix)
     ∙ ap (λ xs. adding (progress_view c.args.so_far.now) (made.concurrents (units_of c.args.self.now) c.args.self.now.levels inner (units.concurrents_of (map units.concurrent_view xs)))) (sym c.deref-4.ensures.value) in
@@ -204,7 +204,7 @@ turn-returns t c =
 pub branch-returns-in_err-decision : goal.branch-returns-in_err-decision
 branch-returns-in_err-decision t c =
     let w = c.args.written.now in
-    let stopped : c.in_err-decision.field-0.0 ≢ NoMemory → MayTell (adding (progress_view c.args.so_far.now) (if_holding (units_of c.args.self.now) c.args.self.now.levels (spot_view c.args.spot.now) w.label.text.items (units.concurrents_of (units.concurrents_view w.statements)) (static_test_view c.args.test.now))) (told c.in_err-decision.field-0.0) =
+    let stopped : c.in_err-decision.field-0.0 ≢ NoMemory → MayTell (adding (progress_view c.args.so_far.now) (if_holding (units_of c.args.self.now) c.args.self.now.levels (spot_view c.args.spot.now) w.label.text.items (units.concurrents_of (units.concurrents_view w.statements)) (static_test_view c.args.test.now))) (problem_told c.in_err-decision.field-0.0) =
     λ n. tells (no_branch (units_of c.args.self.now) c.args.self.now.levels (spot_view c.args.spot.now) w.label.text.items (units.concurrents_of (units.concurrents_view w.statements)) (static_test_view c.args.test.now) (progress_view c.args.so_far.now) c.in_err-decision.ensures) in
     first_of (search rules, grind (arith, common_steps))
 
@@ -220,7 +220,7 @@ branch-returns t c =
     let at = spot_view c.args.spot.now in
     let inner = spot_view c.within-inner.result in
     let holds : c.in_ok-decision.field-0 ≡ true = first_of (search rules, grind (arith, common_steps)) in
-    let prefix : c.deref-2.result.now ≡ at.prefix ++ dotted w.label.text.items = first_of (search rules, grind (arith, common_steps)) in
+    let prefix : c.deref-2.result.now ≡ at.prefix ++ with_dot w.label.text.items = first_of (search rules, grind (arith, common_steps)) in
     let e = ap (adding (progress_view c.args.so_far.now)) (branch_taken (units_of c.args.self.now) c.args.self.now.levels (spot_view c.args.spot.now) w.label.text.items (units.concurrents_of (units.concurrents_view w.statements)) (static_test_view c.args.test.now) (c.in_ok-decision.ensures ∙ ap given holds))
     ∙ ap (λ s. adding (progress_view c.args.so_far.now) (made.concurrents (units_of c.args.self.now) c.args.self.now.levels s (units.concurrents_of (units.concurrents_view w.statements))))
     (branch_spot (units_of c.args.self.now) c.args.self.now.levels (spot_view c.args.spot.now) w.label.text.items (units.concurrents_of (units.concurrents_view w.statements)) inner c.deref-2.result.now c.within-inner.ensures.spot prefix)
@@ -259,8 +259,8 @@ pub instance-returns-in_err-charge_instance : goal.instance-returns-in_err-charg
 instance-returns-in_err-charge_instance t c =
     let n = c.args.self.now.levels - 1 in
     let level : c.args.self.now.levels ≡ suc n = omega (arith, c.if-self-eq0.false) in
-    let stopped : MayTell (charged (budget_view c.args.left.now) instance_costs (instance_of (units_of c.args.self.now) c.args.self.now.levels (entity_view c.args.unit.now) (declared_view c.args.declared))) (told c.in_err-charge_instance.field-0.0) =
-    subst (λ m. MayTell (charged (budget_view c.args.left.now) instance_costs (instance_of (units_of c.args.self.now) m (entity_view c.args.unit.now) (declared_view c.args.declared))) (told c.in_err-charge_instance.field-0.0)) (sym level)
+    let stopped : MayTell (charged (budget_view c.args.left.now) instance_costs (instance_of (units_of c.args.self.now) c.args.self.now.levels (entity_view c.args.unit.now) (declared_view c.args.declared))) (problem_told c.in_err-charge_instance.field-0.0) =
+    subst (λ m. MayTell (charged (budget_view c.args.left.now) instance_costs (instance_of (units_of c.args.self.now) m (entity_view c.args.unit.now) (declared_view c.args.declared))) (problem_told c.in_err-charge_instance.field-0.0)) (sym level)
     (no_instance_left (units_of c.args.self.now) n (entity_view c.args.unit.now) (declared_view c.args.declared) (budget_view c.args.left.now) c.in_err-charge_instance.ensures.spent) in
     first_of (search rules, grind (arith, common_steps))
 
@@ -269,8 +269,8 @@ instance-returns-in_err-declarations t c =
     let n = c.args.self.now.levels - 1 in
     let level : c.args.self.now.levels ≡ suc n = omega (arith, c.if-self-eq0.false) in
     let a = architecture_view c.in-Some.architecture in
-    let stopped : c.in_err-declarations.field-0.0 ≢ NoMemory → MayTell (charged (budget_view c.args.left.now) instance_costs (instance_of (units_of c.args.self.now) c.args.self.now.levels (entity_view c.args.unit.now) (declared_view c.args.declared))) (told c.in_err-declarations.field-0.0) =
-    λ k. subst (λ m. MayTell (charged (budget_view c.args.left.now) instance_costs (instance_of (units_of c.args.self.now) m (entity_view c.args.unit.now) (declared_view c.args.declared))) (told c.in_err-declarations.field-0.0)) (sym level)
+    let stopped : c.in_err-declarations.field-0.0 ≢ NoMemory → MayTell (charged (budget_view c.args.left.now) instance_costs (instance_of (units_of c.args.self.now) c.args.self.now.levels (entity_view c.args.unit.now) (declared_view c.args.declared))) (problem_told c.in_err-declarations.field-0.0) =
+    λ k. subst (λ m. MayTell (charged (budget_view c.args.left.now) instance_costs (instance_of (units_of c.args.self.now) m (entity_view c.args.unit.now) (declared_view c.args.declared))) (problem_told c.in_err-declarations.field-0.0)) (sym level)
     (tells (no_declarations (units_of c.args.self.now) n (entity_view c.args.unit.now) (declared_view c.args.declared) (budget_view c.args.left.now) a (ap (option_map architecture_view) c.in-Some.is)
     (ap (λ xs. declarations (declared_view c.args.declared) (flat_map declaration_view xs)) (sym c.deref.ensures.value) ∙ c.in_err-declarations.ensures k))) in
     first_of (search rules, grind (arith, common_steps))
@@ -282,8 +282,8 @@ instance-returns-in_err-charge_own_nets t c =
     let a = architecture_view c.in-Some.architecture in
     let e = declared_view c.declarations.new.declared in
     let known = ap (λ xs. declarations (declared_view c.args.declared) (flat_map declaration_view xs)) (sym c.deref.ensures.value) ∙ c.in_ok-declarations.ensures in
-    let stopped : MayTell (charged (budget_view c.args.left.now) instance_costs (instance_of (units_of c.args.self.now) c.args.self.now.levels (entity_view c.args.unit.now) (declared_view c.args.declared))) (told c.in_err-charge_own_nets.field-0.0) =
-    subst (λ m. MayTell (charged (budget_view c.args.left.now) instance_costs (instance_of (units_of c.args.self.now) m (entity_view c.args.unit.now) (declared_view c.args.declared))) (told c.in_err-charge_own_nets.field-0.0)) (sym level)
+    let stopped : MayTell (charged (budget_view c.args.left.now) instance_costs (instance_of (units_of c.args.self.now) c.args.self.now.levels (entity_view c.args.unit.now) (declared_view c.args.declared))) (problem_told c.in_err-charge_own_nets.field-0.0) =
+    subst (λ m. MayTell (charged (budget_view c.args.left.now) instance_costs (instance_of (units_of c.args.self.now) m (entity_view c.args.unit.now) (declared_view c.args.declared))) (problem_told c.in_err-charge_own_nets.field-0.0)) (sym level)
     (no_nets_left (units_of c.args.self.now) n (entity_view c.args.unit.now) (declared_view c.args.declared) (budget_view c.args.left.now) a e (ap (option_map architecture_view) c.in-Some.is) known (budget_view c.charge_instance.new.self)
     c.in_ok-charge_instance.ensures.spent (tells (ap (λ xs. spent (budget_view c.charge_instance.new.self) (nets (own_sizes (map object_view xs)))) (sym c.deref-2.ensures.value) ∙ c.in_err-charge_own_nets.ensures))) in
     first_of (search rules, grind (arith, common_steps))
@@ -303,8 +303,8 @@ instance-returns-in_err-made t c =
     let a = architecture_view c.in-Some.architecture in
     let e = declared_view c.declarations.new.declared in
     let known = ap (λ xs. declarations (declared_view c.args.declared) (flat_map declaration_view xs)) (sym c.deref.ensures.value) ∙ c.in_ok-declarations.ensures in
-    let stopped : c.in_err-made.field-0.0 ≢ NoMemory → MayTell (charged (budget_view c.args.left.now) instance_costs (instance_of (units_of c.args.self.now) c.args.self.now.levels (entity_view c.args.unit.now) (declared_view c.args.declared))) (told c.in_err-made.field-0.0) =
-    λ j. subst (λ m. MayTell (charged (budget_view c.args.left.now) instance_costs (instance_of (units_of c.args.self.now) m (entity_view c.args.unit.now) (declared_view c.args.declared))) (told c.in_err-made.field-0.0)) (sym level)
+    let stopped : c.in_err-made.field-0.0 ≢ NoMemory → MayTell (charged (budget_view c.args.left.now) instance_costs (instance_of (units_of c.args.self.now) c.args.self.now.levels (entity_view c.args.unit.now) (declared_view c.args.declared))) (problem_told c.in_err-made.field-0.0) =
+    λ j. subst (λ m. MayTell (charged (budget_view c.args.left.now) instance_costs (instance_of (units_of c.args.self.now) m (entity_view c.args.unit.now) (declared_view c.args.declared))) (problem_told c.in_err-made.field-0.0)) (sym level)
     (not_inside (units_of c.args.self.now) n (entity_view c.args.unit.now) (declared_view c.args.declared) (budget_view c.args.left.now) a e (ap (option_map architecture_view) c.in-Some.is) known (budget_view c.charge_instance.new.self) (budget_view c.charge_own_nets.new.budget)
     c.in_ok-charge_instance.ensures.spent (ap (λ xs. spent (budget_view c.charge_instance.new.self) (nets (own_sizes (map object_view xs)))) (sym c.deref-2.ensures.value) ∙ c.in_ok-charge_own_nets.ensures)
     (tells_same (ap (λ xs. adding (nothing_yet (budget_view c.charge_own_nets.new.budget)) (made.concurrents (units_of c.args.self.now) n (outermost e) (units.concurrents_of (map units.concurrent_view xs)))) (sym c.deref-3.ensures.value)) (c.in_err-made.ensures j))) in
@@ -339,7 +339,7 @@ add_instance-returns-in_err-declared t c =
     let e = entity_view c.in-Some.unit.now in
     let found : slice_get (units_of c.args.self.now) c.args.written.now.unit ≡ Some e =
     slice_get-map entity_view c.args.self.now.units.now c.args.written.now.unit ∙ ap (option_map entity_view) (there c.args.self.now.units.now c.args.written.now.unit c.in-Some.unit.now c.in-Some.ensures.lookup.3.0 (c.in-Some.ensures.lookup.3.1 c.in-Some.unit.now)) in
-    let stopped : c.in_err-declared.field-0.0 ≢ NoMemory → MayTell (adding (progress_view c.args.so_far.now) (made.instance (units_of c.args.self.now) c.args.self.now.levels at x)) (told c.in_err-declared.field-0.0) =
+    let stopped : c.in_err-declared.field-0.0 ≢ NoMemory → MayTell (adding (progress_view c.args.so_far.now) (made.instance (units_of c.args.self.now) c.args.self.now.levels at x)) (problem_told c.in_err-declared.field-0.0) =
     λ n. tells (not_expanded (at.prefix ++ x.label) (progress_view c.args.so_far.now) _
     (no_interface (units_of c.args.self.now) c.args.self.now.levels at x e found (ap (λ xs. interface at.site.integers (map (option_map static_view) xs) e) (sym c.deref.ensures.value) ∙ c.in_err-declared.ensures n))) in
     first_of (search rules, grind (arith, common_steps))
@@ -352,7 +352,7 @@ add_instance-returns-in_err-associations t c =
     let found : slice_get (units_of c.args.self.now) c.args.written.now.unit ≡ Some e =
     slice_get-map entity_view c.args.self.now.units.now c.args.written.now.unit ∙ ap (option_map entity_view) (there c.args.self.now.units.now c.args.written.now.unit c.in-Some.unit.now c.in-Some.ensures.lookup.3.0 (c.in-Some.ensures.lookup.3.1 c.in-Some.unit.now)) in
     let known = ap (λ xs. interface at.site.integers (map (option_map static_view) xs) e) (sym c.deref.ensures.value) ∙ c.in_ok-declared.ensures in
-    let stopped : c.in_err-associations.field-0.0 ≢ NoMemory → MayTell (adding (progress_view c.args.so_far.now) (made.instance (units_of c.args.self.now) c.args.self.now.levels at x)) (told c.in_err-associations.field-0.0) =
+    let stopped : c.in_err-associations.field-0.0 ≢ NoMemory → MayTell (adding (progress_view c.args.so_far.now) (made.instance (units_of c.args.self.now) c.args.self.now.levels at x)) (problem_told c.in_err-associations.field-0.0) =
     λ n. tells (not_expanded (at.prefix ++ x.label) (progress_view c.args.so_far.now) _
     (no_associations (units_of c.args.self.now) c.args.self.now.levels at x e (declared_view c.in_ok-declared.declared) found known
     (ap (λ xs. associated at.site e.ports (map (option_map place_view) xs) (declared_view c.in_ok-declared.declared)) (sym c.deref-2.ensures.value) ∙ c.in_err-associations.ensures n))) in
@@ -375,7 +375,7 @@ add_instance-returns-in_err-instance t c =
     let known = ap (λ xs. interface at.site.integers (map (option_map static_view) xs) e) (sym c.deref.ensures.value) ∙ c.in_ok-declared.ensures in
     let joined = ap (λ xs. associated at.site e.ports (map (option_map place_view) xs) (declared_view c.in_ok-declared.declared)) (sym c.deref-2.ensures.value) ∙ c.in_ok-associations.ensures in
     let here = instance_here (units_of c.args.self.now) c.args.self.now.levels at x e (declared_view c.in_ok-declared.declared) (declared_view c.associations.new.declared) found known joined in
-    let stopped : c.in_err-instance.field-0.0 ≢ NoMemory → MayTell (adding (progress_view c.args.so_far.now) (made.instance (units_of c.args.self.now) c.args.self.now.levels at x)) (told c.in_err-instance.field-0.0) =
+    let stopped : c.in_err-instance.field-0.0 ≢ NoMemory → MayTell (adding (progress_view c.args.so_far.now) (made.instance (units_of c.args.self.now) c.args.self.now.levels at x)) (problem_told c.in_err-instance.field-0.0) =
     λ n. instance_refused (at.prefix ++ x.label) (progress_view c.args.so_far.now) _
     (tells_same (ap (λ r. charged (budget_view c.args.so_far.now.left) instance_costs r) here) (c.in_err-instance.ensures n)) in
     first_of (search rules, grind (arith, common_steps))

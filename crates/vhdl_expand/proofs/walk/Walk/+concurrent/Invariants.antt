@@ -1,7 +1,7 @@
 use Rattle.std.proofs.Common.{◌+◌, map, drop}
 use Rattle.vhdl_names_rules.specs.views.Integers.{range_view}
 use Rattle.vhdl_names_units.specs.views.Concurrent as units
-use Rattle.vhdl_expand_rules.specs.Integers.{counted}
+use Rattle.vhdl_expand_rules.specs.Integers.{numbers_from}
 use Rattle.vhdl_expand_tree.proofs.Alike.{Alike}
 use Rattle.vhdl_expand.specs.Making.{TurnsFit, adding, progress_view}
 use Rattle.vhdl_expand.specs.Spots.{spot_view}
@@ -24,7 +24,7 @@ abbrev pub invariant-turns-loop-turn : goal.invariant-turns-loop-turn
 invariant-turns-loop-turn l = record {
   leads : Alike (adding (progress_view l.fn.so_far) (for_each (units_of l.self) l.self.levels (spot_view l.spot) l.written.label.text.items (units.concurrents_of (units.concurrents_view l.written.statements)) (range_view l.range)))
       (adding (progress_view l.so_far) (all_turned (units_of l.self) l.self.levels (spot_view l.spot) l.written.label.text.items (units.concurrents_of (units.concurrents_view l.written.statements))
-      (drop l.turn (counted l.turns.direction l.turns.first l.turns.count))));
+      (drop l.turn (numbers_from l.turns.direction l.turns.first l.turns.count))));
   fits : TurnsFit l.so_far;
 }
 

@@ -21,7 +21,7 @@ use Rattle.vhdl_expand_bodies.specs.steps.Statements.{after}
 use Rattle.vhdl_expand_bodies.proofs.Links.{expands_along}
 use Rattle.vhdl_expand_bodies.proofs.Parts.{add_gives, after_stops, none_left, null_one, assign_one, assign_none, set_one, set_none, if_made, if_one, if_none, case_made, case_one, case_none, loop_is, same_turn, turned_goes}
 use Rattle.vhdl_expand_bodies.proofs.Sequences.{list_goes, list_stops, list_ends, turns_go, turns_stop, turns_end}
-use Rattle.vhdl_expand_rules.specs.Elab.{Elab, told}
+use Rattle.vhdl_expand_rules.specs.Elab.{Elab, problem_told}
 use Rattle.vhdl_expand_bodies.proofs.site.Site.+statement.Goals as goal
 
 pub add_statement-returns-in-Null : goal.add_statement-returns-in-Null
@@ -98,29 +98,29 @@ add_statements-returns t c =
 pub add_statement-returns-in_err-assignment-in-Assign : goal.add_statement-returns-in_err-assignment-in-Assign
 add_statement-returns-in_err-assignment-in-Assign t c =
     let at = site_view c.args.self.now in
-    let stopped : c.in_err-assignment-in-Assign.field-0.0 ≢ NoMemory → (after (statements_of c.args.body.now.items) (definition.statement at (analysed.statement_view c.args.statement.now))) ≡ Err (told c.in_err-assignment-in-Assign.field-0.0) =
-    λ n. after_stops _ _ (subst (λ x. (definition.statement at (analysed.statement_view x)) ≡ Err (told c.in_err-assignment-in-Assign.field-0.0)) (sym c.in-Assign.is) (assign_none at _ _ (c.in_err-assignment-in-Assign.ensures n))) in
+    let stopped : c.in_err-assignment-in-Assign.field-0.0 ≢ NoMemory → (after (statements_of c.args.body.now.items) (definition.statement at (analysed.statement_view c.args.statement.now))) ≡ Err (problem_told c.in_err-assignment-in-Assign.field-0.0) =
+    λ n. after_stops _ _ (subst (λ x. (definition.statement at (analysed.statement_view x)) ≡ Err (problem_told c.in_err-assignment-in-Assign.field-0.0)) (sym c.in-Assign.is) (assign_none at _ _ (c.in_err-assignment-in-Assign.ensures n))) in
     first_of (search rules, grind (arith, common_steps))
 
 pub add_statement-returns-in_err-assignment-in-Set : goal.add_statement-returns-in_err-assignment-in-Set
 add_statement-returns-in_err-assignment-in-Set t c =
     let at = site_view c.args.self.now in
-    let stopped : c.in_err-assignment-in-Set.field-0.0 ≢ NoMemory → (after (statements_of c.args.body.now.items) (definition.statement at (analysed.statement_view c.args.statement.now))) ≡ Err (told c.in_err-assignment-in-Set.field-0.0) =
-    λ n. after_stops _ _ (subst (λ x. (definition.statement at (analysed.statement_view x)) ≡ Err (told c.in_err-assignment-in-Set.field-0.0)) (sym c.in-Set.is) (set_none at _ _ _ (c.in_err-assignment-in-Set.ensures n))) in
+    let stopped : c.in_err-assignment-in-Set.field-0.0 ≢ NoMemory → (after (statements_of c.args.body.now.items) (definition.statement at (analysed.statement_view c.args.statement.now))) ≡ Err (problem_told c.in_err-assignment-in-Set.field-0.0) =
+    λ n. after_stops _ _ (subst (λ x. (definition.statement at (analysed.statement_view x)) ≡ Err (problem_told c.in_err-assignment-in-Set.field-0.0)) (sym c.in-Set.is) (set_none at _ _ _ (c.in_err-assignment-in-Set.ensures n))) in
     first_of (search rules, grind (arith, common_steps))
 
 pub add_statement-returns-in_err-made-in-If : goal.add_statement-returns-in_err-made-in-If
 add_statement-returns-in_err-made-in-If t c =
     let at = site_view c.args.self.now in
-    let stopped : c.in_err-made-in-If.field-0.0 ≢ NoMemory → (after (statements_of c.args.body.now.items) (definition.statement at (analysed.statement_view c.args.statement.now))) ≡ Err (told c.in_err-made-in-If.field-0.0) =
-    λ n. after_stops _ _ (subst (λ x. (definition.statement at (analysed.statement_view x)) ≡ Err (told c.in_err-made-in-If.field-0.0)) (sym c.in-If.is) (if_none at c.in-If.conditional (c.in_err-made-in-If.ensures n))) in
+    let stopped : c.in_err-made-in-If.field-0.0 ≢ NoMemory → (after (statements_of c.args.body.now.items) (definition.statement at (analysed.statement_view c.args.statement.now))) ≡ Err (problem_told c.in_err-made-in-If.field-0.0) =
+    λ n. after_stops _ _ (subst (λ x. (definition.statement at (analysed.statement_view x)) ≡ Err (problem_told c.in_err-made-in-If.field-0.0)) (sym c.in-If.is) (if_none at c.in-If.conditional (c.in_err-made-in-If.ensures n))) in
     first_of (search rules, grind (arith, common_steps))
 
 pub add_statement-returns-in_err-made-in-Case : goal.add_statement-returns-in_err-made-in-Case
 add_statement-returns-in_err-made-in-Case t c =
     let at = site_view c.args.self.now in
-    let stopped : c.in_err-made-in-Case.field-0.0 ≢ NoMemory → (after (statements_of c.args.body.now.items) (definition.statement at (analysed.statement_view c.args.statement.now))) ≡ Err (told c.in_err-made-in-Case.field-0.0) =
-    λ n. after_stops _ _ (subst (λ x. (definition.statement at (analysed.statement_view x)) ≡ Err (told c.in_err-made-in-Case.field-0.0)) (sym c.in-Case.is) (case_none at c.in-Case.selection (c.in_err-made-in-Case.ensures n))) in
+    let stopped : c.in_err-made-in-Case.field-0.0 ≢ NoMemory → (after (statements_of c.args.body.now.items) (definition.statement at (analysed.statement_view c.args.statement.now))) ≡ Err (problem_told c.in_err-made-in-Case.field-0.0) =
+    λ n. after_stops _ _ (subst (λ x. (definition.statement at (analysed.statement_view x)) ≡ Err (problem_told c.in_err-made-in-Case.field-0.0)) (sym c.in-Case.is) (case_none at c.in-Case.selection (c.in_err-made-in-Case.ensures n))) in
     first_of (search rules, grind (arith, common_steps))
 
 pub add_statements-returns-in_err-add_statement : goal.add_statements-returns-in_err-add_statement
@@ -129,7 +129,7 @@ add_statements-returns-in_err-add_statement t c =
     let i = c.loop-statement.statement-index in
     let below : i < length c.args.list.now = first_of (search rules, omega arith) in
     let stopped : c.in_err-add_statement.field-0.0 ≢ NoMemory
-    → (after (statements_of c.args.body.now.items) (definition.statements at (analysed.statements_of (map analysed.statement_view c.args.list.now)))) ≡ Err (told c.in_err-add_statement.field-0.0) =
+    → (after (statements_of c.args.body.now.items) (definition.statements at (analysed.statements_of (map analysed.statement_view c.args.list.now)))) ≡ Err (problem_told c.in_err-add_statement.field-0.0) =
     λ n. list_stops at analysed.statement_view _ _ c.args.list.now i c.statement-item.result below c.statement-item.is c.loop-statement.invariant (c.in_err-add_statement.ensures n) in
     first_of (search rules, grind (arith, common_steps))
 
@@ -141,10 +141,10 @@ add_turns-returns-in_err-add_turn t c =
     let f : SFits w32 c.parameter-value.result = search rules in
     let fixed : to_z w32 (of_z w32 c.parameter-value.result) ≡ c.parameter-value.result = omega (arith, ints) in
     let stopped : c.in_err-add_turn.field-0.0 ≢ NoMemory
-    → (after (statements_of c.args.body.now.items) (steps.turned at (range_view c.args.repeated.now.range) body)) ≡ Err (told c.in_err-add_turn.field-0.0) =
-    λ n. subst (λ (r : Elab bodies.Stmts). r ≡ Err (told c.in_err-add_turn.field-0.0)) (sym (turned_goes at (range_view c.args.repeated.now.range) body _ (statements_of c.args.body.now.items) c.in_ok-turns.ensures))
+    → (after (statements_of c.args.body.now.items) (steps.turned at (range_view c.args.repeated.now.range) body)) ≡ Err (problem_told c.in_err-add_turn.field-0.0) =
+    λ n. subst (λ (r : Elab bodies.Stmts). r ≡ Err (problem_told c.in_err-add_turn.field-0.0)) (sym (turned_goes at (range_view c.args.repeated.now.range) body _ (statements_of c.args.body.now.items) c.in_ok-turns.ensures))
     (turns_stop at body _ (statements_of c.loop-turn.body.items) c.in_ok-turns.turns.direction c.in_ok-turns.turns.first c.parameter-value.result c.in_ok-turns.turns.count c.loop-turn.turn c.loop-turn-test.true c.loop-turn.invariant same
-    (subst (λ (r : Elab bodies.Stmts). r ≡ Err (told c.in_err-add_turn.field-0.0)) (sym (same_turn at (statements_of c.loop-turn.body.items) _ _ _ _ fixed c.deref.ensures.value)) (c.in_err-add_turn.ensures n))) in
+    (subst (λ (r : Elab bodies.Stmts). r ≡ Err (problem_told c.in_err-add_turn.field-0.0)) (sym (same_turn at (statements_of c.loop-turn.body.items) _ _ _ _ fixed c.deref.ensures.value)) (c.in_err-add_turn.ensures n))) in
     first_of (search rules, grind (arith, common_steps))
 
 pub add_turns-loop-turn-preserved : goal.add_turns-loop-turn-preserved

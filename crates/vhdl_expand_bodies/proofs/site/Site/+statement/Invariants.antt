@@ -2,7 +2,7 @@ use Rattle.std.proofs.Common.{◌≡◌, map, drop}
 use Rattle.rtl_net.specs.Bodies.{statements_of}
 use Rattle.vhdl_names_units.specs.views.Sequential as analysed
 use Rattle.vhdl_expand_rules.specs.Elab.{each}
-use Rattle.vhdl_expand_rules.specs.Integers.{counted}
+use Rattle.vhdl_expand_rules.specs.Integers.{numbers_from}
 use Rattle.vhdl_expand_rules.specs.Statements as definition
 use Rattle.vhdl_expand_bodies.specs.Sites.{site_view}
 use Rattle.vhdl_expand_bodies.specs.Statements.{branch_view, alternative_view}
@@ -32,5 +32,5 @@ invariant-add_statements-loop-statement l =
 -- the turns so far, and those that are left behind them
 abbrev pub invariant-add_turns-loop-turn : goal.invariant-add_turns-loop-turn
 invariant-add_turns-loop-turn l =
-    after (statements_of l.fn.body.items) (steps.repeated (site_view l.self) (analysed.statements_of (analysed.statements_view l.repeated.statements)) (counted l.turns.direction l.turns.first l.turns.count))
-    ≡ after (statements_of l.body.items) (steps.repeated (site_view l.self) (analysed.statements_of (analysed.statements_view l.repeated.statements)) (drop l.turn (counted l.turns.direction l.turns.first l.turns.count)))
+    after (statements_of l.fn.body.items) (steps.repeated (site_view l.self) (analysed.statements_of (analysed.statements_view l.repeated.statements)) (numbers_from l.turns.direction l.turns.first l.turns.count))
+    ≡ after (statements_of l.body.items) (steps.repeated (site_view l.self) (analysed.statements_of (analysed.statements_view l.repeated.statements)) (drop l.turn (numbers_from l.turns.direction l.turns.first l.turns.count)))

@@ -9,7 +9,7 @@ use Rattle.vhdl_expand_rules.specs.declared.fault.ElabFault.TheVariants.{NoMemor
 use Rattle.vhdl_expand_bodies.specs.Sites.{site_view}
 use Rattle.vhdl_expand_bodies.specs.steps.Assignments as steps
 use Rattle.vhdl_expand_bodies.proofs.Assigned.{set_gives, set_stops}
-use Rattle.vhdl_expand_rules.specs.Elab.{told}
+use Rattle.vhdl_expand_rules.specs.Elab.{problem_told}
 use Rattle.vhdl_expand_bodies.proofs.site.Site.set.Goals as goal
 
 pub returns : goal.returns
@@ -19,7 +19,7 @@ returns c =
 
 pub returns-in_err-value : goal.returns-in_err-value
 returns-in_err-value c =
-    let stopped : c.in_err-value.field-0.0 ≢ NoMemory → (steps.set (site_view c.args.self.now) c.args.variable (part_view c.args.part.now) (given_view c.args.value.now)) ≡ Err (told c.in_err-value.field-0.0) =
+    let stopped : c.in_err-value.field-0.0 ≢ NoMemory → (steps.set (site_view c.args.self.now) c.args.variable (part_view c.args.part.now) (given_view c.args.value.now)) ≡ Err (problem_told c.in_err-value.field-0.0) =
     λ n. set_stops (site_view c.args.self.now) c.args.variable (part_view c.args.part.now) (given_view c.args.value.now)
     c.in_ok-run.run'.first c.in_ok-run.run'.len c.in_ok-run.ensures.given (c.in_err-value.ensures n) in
     first_of (search rules, grind (arith, common_steps))
