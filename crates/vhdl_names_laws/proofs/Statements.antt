@@ -223,8 +223,8 @@ mutual
 
   pub statements_are : (ys : t.Statements) (i : Inside) (counts : Counts) (sight : Sight) (xs : s.Statements) → IsInside i counts sight
       → statements sight ys ≡ Some xs → statements_fit i xs ≡ true
-  statements_are t.no_statements i counts sight xs h q = subst (λ xs. statements_fit i xs ≡ true) (some_same s.done xs q) refl
-  statements_are (t.statement label y ys) i counts sight xs h q =
+  statements_are t.done i counts sight xs h q = subst (λ xs. statements_fit i xs ≡ true) (some_same s.done xs q) refl
+  statements_are (t.step label y ys) i counts sight xs h q =
       let a = comes (statement sight label y) _ xs q in
       let b = comes (statements sight ys) _ xs a.rest in
       subst (λ xs. statements_fit i xs ≡ true) (some_same _ xs b.rest)
