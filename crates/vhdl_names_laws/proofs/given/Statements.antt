@@ -13,7 +13,7 @@ use Rattle.vhdl_names_rules.specs.Names.{Suffix}
 use Rattle.vhdl_names_rules.specs.Expressions.{typed, typed_suffix, static_range, condition, value_given}
 use Rattle.vhdl_names_rules.specs.Choices.{choices, covered, selector, arranged}
 use Rattle.vhdl_names_rules.specs.Statements as are
-use Rattle.vhdl_names_rules.specs.Statements.{SignalName, VariableName, as_signal, as_variable, is_input, choice_lists}
+use Rattle.vhdl_names_rules.specs.Statements.{SignalName, as_signal, as_variable, is_input, choice_lists}
 use Rattle.vhdl_names_problems.specs.Broken.{◌▸◌, unless, lacking, where_given}
 use Rattle.vhdl_names_problems.specs.Expressions as expressions
 use Rattle.vhdl_names_problems.specs.Expressions.{no_attribute}
