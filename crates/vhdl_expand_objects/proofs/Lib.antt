@@ -1,7 +1,6 @@
 pub mod Walks
 pub mod Names
 pub mod Given
-pub mod Widths
 pub mod Stepping
 pub mod Growing
 pub mod ObjectSteps

@@ -17,6 +17,7 @@ use Rattle.vhdl_expand_rules.specs.Site.{Site}
 use Rattle.vhdl_expand_rules.specs.Tree as t
 use Rattle.vhdl_expand_rules.specs.Declarations.{variable, starts}
 use Rattle.vhdl_expand_rules.proofs.Steps.{given, ok, bound, each-all}
+use Rattle.vhdl_expand_rules.proofs.laws.Kinds.{kind_width}
 use Rattle.vhdl_expand_bodies.proofs.Sequences.{behind}
 use Rattle.vhdl_elab_rules.specs.Limits.{Counts}
 use Rattle.vhdl_expand_tree.specs.declared.tree.Variable.{Variable}
@@ -26,7 +27,6 @@ use Rattle.vhdl_expand_processes.specs.Unrolled.{both, together}
 use Rattle.vhdl_expand_processes.specs.Processes.{named_object}
 use Rattle.vhdl_expand_processes.specs.Variables.{variable_kind, HasWidth}
 use Rattle.vhdl_expand_rules.specs.declared.fault.ElabProblem.{ElabProblem}
-use Rattle.vhdl_expand_processes.proofs.Widths.{kind_width}
 
 -- ---- names of one declaration
 

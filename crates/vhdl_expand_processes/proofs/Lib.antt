@@ -1,6 +1,5 @@
 pub mod Paying
 pub mod Sums
-pub mod Widths
 pub mod Declaring
 pub mod Measured
 pub mod Made

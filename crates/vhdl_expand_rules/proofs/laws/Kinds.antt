@@ -26,20 +26,20 @@ use Rattle.vhdl_expand_rules.proofs.Steps.{ok, bound, kept}
 
 -- ---- kinds
 
-some-extent : (d : Direction) (x y : ℤ) → not (is_null d x y) ≡ true → 1 ≤ extent d x y
-some-extent d x y h = by (is_null d x y) (nat_abs (x -ℤ y)) h
+some_extent : (d : Direction) (x y : ℤ) → not (is_null d x y) ≡ true → 1 ≤ extent d x y
+some_extent d x y h = by (is_null d x y) (nat_abs (x -ℤ y)) h
   where
     by : (t : Bool) (n : ℕ) → not t ≡ true → 1 ≤ cond t 0 (n + 1)
     by true n h = absurd cc
     by false n h = omega arith
 
-natural-is : (x : ℤ) (n : ℕ) → as_natural x ≡ Ok n → x ≡ pos n
-natural-is (pos m) n h = ap pos (ok m n h)
-natural-is (negsuc m) n h = absurd cc
+natural_is : (x : ℤ) (n : ℕ) → as_natural x ≡ Ok n → x ≡ pos n
+natural_is (pos m) n h = ap pos (ok m n h)
+natural_is (negsuc m) n h = absurd cc
 
-bounds-width : (at : Integers) (r : Range) (b : Bounds) → declared_bounds at r ≡ Ok b → IsWidth (bounds_size b)
+bounds_width : (at : Integers) (r : Range) (b : Bounds) → declared_bounds at r ≡ Ok b → IsWidth (bounds_size b)
 unfolding declared_bounds
-bounds-width at r b h =
+bounds_width at r b h =
     let x = bound (integer at r.left) _ b h in
     let y = bound (integer at r.right) _ b x.then_gave in
     let some = bound (unless Index (not (is_null r.direction x.x y.x))) _ b y.then_gave in
@@ -47,19 +47,28 @@ bounds-width at r b h =
     let right = bound (as_natural y.x) _ b left.then_gave in
     let most = bound (unless TooWide (nat_le (extent r.direction x.x y.x) 64)) _ b right.then_gave in
     let w : IsWidth (extent r.direction x.x y.x) = (
-      some-extent r.direction x.x y.x (kept Index (not (is_null r.direction x.x y.x)) some.x some.gave),
+      some_extent r.direction x.x y.x (kept Index (not (is_null r.direction x.x y.x)) some.x some.gave),
       leb-true (extent r.direction x.x y.x) 64 (kept TooWide (nat_le (extent r.direction x.x y.x) 64) most.x most.gave),
     ) in
     subst (λ (c : Bounds). IsWidth (bounds_size c)) (ok (record { left = left.x; direction = r.direction; right = right.x }) b most.then_gave)
-    (subst (λ (z : ℤ). IsWidth (extent r.direction (pos left.x) z)) (natural-is y.x right.x right.gave)
-    (subst (λ (z : ℤ). IsWidth (extent r.direction z y.x)) (natural-is x.x left.x left.gave) w))
+    (subst (λ (z : ℤ). IsWidth (extent r.direction (pos left.x) z)) (natural_is y.x right.x right.gave)
+    (subst (λ (z : ℤ). IsWidth (extent r.direction z y.x)) (natural_is x.x left.x left.gave) w))
+
+-- what is declared has from 1 to 64 elements
+pub kind_width : (at : Integers) (f : Form) (k : ObjectKind) → kind_of at f ≡ Ok k → IsWidth (size k)
+unfolding kind_of
+kind_width at u.element k e = subst (λ (j : ObjectKind). IsWidth (size j)) (ok one k e) (omega arith, omega arith)
+kind_width at (u.vector r) k e =
+    let b = bound (declared_bounds at r) _ k e in
+    subst (λ (j : ObjectKind). IsWidth (size j)) (ok (vector b.x) k b.then_gave) (bounds_width at r b.x b.gave)
+kind_width at (u.enumeration count) k e = subst (λ (j : ObjectKind). IsWidth (size j)) (ok (enumeration count) k e) (omega arith, omega arith)
 
 pub kind_is_of : (i : Inside) (at : Integers) (f : Form) (k : ObjectKind) → form_fits i f ≡ true → kind_of at f ≡ Ok k → IsOf f k
 unfolding kind_of
 kind_is_of i at u.element k h e = subst (IsOf u.element) (ok one k e) tt
 kind_is_of i at (u.vector r) k h e =
     let b = bound (declared_bounds at r) _ k e in
-    subst (IsOf (u.vector r)) (ok (vector b.x) k b.then_gave) (bounds-width at r b.x b.gave)
+    subst (IsOf (u.vector r)) (ok (vector b.x) k b.then_gave) (bounds_width at r b.x b.gave)
 kind_is_of i at (u.enumeration count) k h e =
     let both = and_parts (nat_lt 0 count) (nat_le count 256) h in
     subst (IsOf (u.enumeration count)) (ok (enumeration count) k e) (refl, ltb-true 0 count both.0, leb-true count 256 both.1)
