@@ -1,6 +1,6 @@
 //! What is known of an instance (IEEE 1076-2008, 14.3).
 
-ghost use Rattle.std.specs.Prelude.{◌≡◌, ◌++◌, [], ◌∷◌, OnOk, option_map};
+ghost use Rattle.std.specs.Prelude.{◌≡◌, ◌+◌, ◌^◌, ◌<◌, ◌++◌, [], ◌∷◌, OnOk, option_map};
 ghost use Rattle.rtl_model.specs.bodies.Fits.{IsWidth};
 ghost use Rattle.vhdl_expand_tree.specs.Views.{object_view, role_view};
 ghost use Rattle.vhdl_expand_rules.specs.Declarations as definition;
@@ -38,6 +38,7 @@ pub struct InstanceObjects {
     pub signals: Layout,
     /// Its ports and signals, in order of declaration.
     pub objects: Vec<Object>,
+    ghost few_elements: { ports.elements + signals.elements < 2 ^ 32 },
 }
 
 impl InstanceObjects {
@@ -121,11 +122,15 @@ impl InstanceObjects {
         shape
     }
 
-    /// Puts a port or signal behind those before it. Memory would be refused for numbers beyond a word.
+    /// Puts a port or signal behind those before it. Memory would be refused where the numbers of their elements don't fit a word.
     pub(crate) fn add_object(&mut self, object: Object) -> Result<(), AllocError>
         requires { IsWidth (size (kind_view object.kind)) }
         ensures { OnOk result (declared_view self.new ≡ with_object (declared_view self.old) (object_view object)) }
     {
+        let elements = self.ports.elements as usize + self.signals.elements as usize;
+        if elements + object.kind.size() > u32::MAX as usize {
+            return Err(AllocError);
+        }
         match object.role {
             Role::Input | Role::Output => self.ports.add(object.kind)?,
             Role::Internal => self.signals.add(object.kind)?,
