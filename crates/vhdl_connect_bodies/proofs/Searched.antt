@@ -1,5 +1,5 @@
 -- The places of elements among rising ones.
-use Rattle.std.proofs.Common.{◌≡◌, ℕ, zero, suc, ◌+◌, ◌<◌, ◌≤◌, Bool, true, false, cond, ◌==◌, ltb, eq-eqb, List, [], ◌∷◌, length, map, get_or, All, Ok, Err, refl, sym, ap, ◌∙◌, arith}
+use Rattle.std.proofs.Common.{◌≡◌, ℕ, zero, suc, ◌+◌, ◌-◌, ◌<◌, ◌≤◌, Bool, true, false, cond, ◌==◌, ltb, eq-eqb, List, [], ◌∷◌, length, map, get_or, All, Ok, Err, refl, sym, ap, ◌∙◌, arith}
 use Rattle.std.specs.Prelude.{Contains}
 use Rattle.std.specs.List.{range_with_len}
 use Rattle.std.specs.List.Sorted.{IsBinarySearchResult}
@@ -62,11 +62,24 @@ not_there ds e i rising h there =
 
 -- ---- elements one after another
 
+next-at : (ds : List ℕ) (i j e : ℕ) → IsRising ds → i < length ds → j < length ds → get_or ds i 0 ≡ e → get_or ds j 0 ≡ e + 1 → j ≡ i + 1
+next-at ds i j e rising h k here next = by (ltb i j) refl
+  where
+    by : (b : Bool) → ltb i j ≡ b → j ≡ i + 1
+    by true w =
+        let above : i < j = ltb-true i j w in
+        let up : get_or ds i 0 + (j - i) ≤ get_or ds j 0 = rising i j (omega (arith, above)) k in
+        omega (arith, above, up, here, next)
+    by false w =
+        let below : j ≤ i = ltb-false i j w in
+        let down : get_or ds j 0 + (i - j) ≤ get_or ds i 0 = rising j i below h in
+        absurd (omega (arith, below, down, here, next))
+
 next-place : (ds : List ℕ) (e : ℕ) → IsRising ds → Contains ds e → Contains ds (e + 1) → place_in ds (e + 1) ≡ place_in ds e + 1
 next-place ds e rising h k =
     let i : place_in ds e ≡ h.0 = place_found ds e h.0 rising h.1 (at-itself ds e h) in
     let j : place_in ds (e + 1) ≡ k.0 = place_found ds (e + 1) k.0 rising k.1 (at-itself ds (e + 1) k) in
-    omega (arith, i, j, h.1, k.1, at-itself ds e h, at-itself ds (e + 1) k, rising h.0 k.0, rising k.0 h.0)
+    omega (arith, i, j, next-at ds h.0 k.0 e rising h.1 k.1 (at-itself ds e h) (at-itself ds (e + 1) k))
 
 run-found : (ds : List ℕ) (first len : ℕ) → IsRising ds → All (Contains ds) (range_with_len first len) → map (place_in ds) (range_with_len first len) ≡ range_with_len (place_in ds first) len
 run-found ds first zero rising h = refl
