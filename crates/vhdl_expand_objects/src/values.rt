@@ -87,7 +87,7 @@ pub(crate) fn fixed(site: &Site, len: usize, value: &Fixed, at: usize) -> Result
 }
 
 /// A constant that is no integer; a fault is StaticError, Length, Index or TooWide.
-#[tactic(auto, using(crate::proofs::Widths::kind_width))]
+#[tactic(auto, using(vhdl_expand_rules::proofs::laws::Kinds::kind_width))]
 pub(crate) fn constant(
     site: &Site,
     form: &Form,

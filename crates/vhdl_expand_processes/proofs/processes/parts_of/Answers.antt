@@ -1,4 +1,4 @@
-use Rattle.std.proofs.Common.{List, map, flat_map, ap, ◌∙◌, sym, subst, All, Fits, w32, arith, rules}
+use Rattle.std.proofs.Common.{◌≤◌, List, map, flat_map, ap, ◌∙◌, sym, subst, All, Fits, w32, arith, rules}
 use Rattle.std.specs.Prelude.{◌≢◌}
 use Rattle.std.proofs.lemmas.Grind.{common_steps}
 use Rattle.vhdl_names_units.specs.views.Concurrent as analysed
@@ -34,7 +34,7 @@ body-requires-clause-few c =
     let at = site_view c.args.site.now in
     let declared = ap (λ os. each (variable at) (flat_map object_view os)) (sym c.deref.ensures.value) ∙ c.in_ok-variables.ensures in
     let held = ap (λ xs. spent (budget_view c.charge_process.new.self) (variables_costs (map variable_view xs))) (sym c.deref-2.ensures.value) ∙ c.in_ok-charge_variables.ensures in
-    let few = held_few at _ c.in_ok-variables.variables.items _ _ declared held in
+    let few : elements_count (map variable_kind c.in_ok-variables.variables.items) ≤ c.charge_process.new.self.variable_elements = held_few at _ c.in_ok-variables.variables.items (budget_view c.charge_process.new.self) _ declared held in
     let word : Fits w32 c.charge_process.new.self.variable_elements = search rules in
     omega (arith, few, word, ap (λ (xs : List Variable). elements_count (map variable_kind xs)) c.deref-5.ensures.value)
 
