@@ -3,7 +3,7 @@ use Rattle.std.specs.Prelude.{ℕ, ◌==◌, if◌then◌else◌, List, [], ◌�
 use Rattle.std.specs.Str.{str_eq_ignore_ascii_case}
 use Rattle.rtlsim_explain.specs.Words.{word_at, last_solid, begins_line, ends_operand}
 use Rattle.rtlsim_explain.specs.declared.form.Form.{Form}
-use Rattle.rtlsim_explain.specs.declared.form.Form.TheVariants.{WholeNumbers, RangeAttribute, Array, Record, OtherType, Subprogram, Package, Attribute, Alias, Subtype, Mode, Wait, Delay, Message, Block, OtherLoop, Conditional, Aggregate, Comma, Reduction, MixedLogic, Shift, Absolute, Power, Qualified, SecondIndex, Equality, Equalities, Declaration, ListEnd, NewLine, Slip, DynamicIndex, Signed, Other}
+use Rattle.rtlsim_explain.specs.declared.form.Form.TheVariants.{WholeNumbers, RangeAttribute, Array, Record, OtherType, Subprogram, Package, Attribute, Alias, Subtype, Mode, Wait, Delay, Message, Block, OtherLoop, Conditional, Alternative, Aggregate, Comma, Reduction, MixedLogic, Shift, Absolute, Power, Qualified, SecondIndex, Equality, Equalities, Declaration, ListEnd, NewLine, Slip, DynamicIndex, Signed, Other}
 
 -- ---- words
 
@@ -102,7 +102,7 @@ form_among (w ∷ words) word fallback = if str_eq_ignore_ascii_case w.0 word th
 
 -- ---- what stands before the word
 
--- what no form begins with: it may be that the line before lacks its `;`
+-- what no form begins with: it may be that the line before lacks its `;` or its last word
 abbrev pub slip : (before : List ℕ) → Form
 slip before = if begins_line before then (if ends_operand (last_solid before) then NewLine else Slip) else Slip
 
@@ -115,6 +115,7 @@ form_behind last fallback ListEnd = if last == 59 then ListEnd else fallback
 form_behind last fallback Power = if last == 42 then Power else fallback
 form_behind last fallback Equality = if last == 61 then Equalities else Equality
 form_behind last NewLine Conditional = NewLine
+form_behind last fallback Conditional = if last == 59 then Alternative else Conditional
 form_behind last NewLine Declaration = NewLine
 form_behind last fallback form = form
 
@@ -146,6 +147,7 @@ form_sentence Message = codes "isn't read here: messages and assertions aren't s
 form_sentence Block = codes "isn't read here: blocks, guards and configurations aren't served"
 form_sentence OtherLoop = codes "isn't read here: a loop is `for i in range loop`, and goes through its whole range"
 form_sentence Conditional = codes "isn't read here: inside a process an assignment has no when"
+form_sentence Alternative = codes "can't stand here: an if or loop above it lacks its end"
 form_sentence Aggregate = codes "isn't read here: the only aggregate is (others => value), and a formal is a whole port"
 form_sentence Comma = codes "can't stand here: (a, b) isn't read, and ports, generics and statements are parted by `;`"
 form_sentence Reduction = codes "isn't read here: a logical operator stands between two operands"
@@ -184,6 +186,7 @@ form_help Message = codes "leave it out, and look at the trace"
 form_help Block = codes "write the statements in the architecture, and name the entity in the instance: entity work.name"
 form_help OtherLoop = codes "write a for loop over all turns, with an if inside it"
 form_help Conditional = codes "write if .. then .. else .. end if, or the assignment outside of the process"
+form_help Alternative = codes "write end if; or end loop; above it; else if opens an if of its own, which needs its own end: write elsif"
 form_help Aggregate = codes "write a & b for (a, b); assign (others => '0') first and then the element that differs"
 form_help Comma = codes "write a & b for the vector (a, b), or `;` where one declaration ends and the next begins"
 form_help Reduction = codes "assign a variable the first element, and go on in a loop: for i in 1 to 7 loop p := p xor v(i); end loop;"
@@ -197,7 +200,7 @@ form_help Equality = codes "assign a signal by <= and a variable by :="
 form_help Equalities = codes "write a = b where both are equal, and a /= b where they differ"
 form_help Declaration = codes "declare it in the architecture, before its begin"
 form_help ListEnd = codes "drop the `;` behind the last port or generic"
-form_help NewLine = codes "if what stands before it ends a statement or declaration, put the missing `;` there"
+form_help NewLine = codes "put at the end of the line before what is missing there: a `;`, or then, is, loop or generate"
 form_help Slip = codes "see whether a word as then or is, an end if, a parenthesis or a `;` before it is missing or misspelt"
 form_help DynamicIndex = codes "compare in a loop: for i in 0 to 3 loop if p = i then y <= v(i); end if; end loop;"
 form_help Signed = codes "use unsigned, with the sign extended by hand"

@@ -75,6 +75,7 @@ fn form_behind(last: u8, fallback: Form, form: Form) -> Form
         (_, Form::Power) if last != b'*' => fallback,
         (_, Form::Equality) if last == b'=' => Form::Equalities,
         (Form::NewLine, Form::Conditional | Form::Declaration) => Form::NewLine,
+        (_, Form::Conditional) if last == b';' => Form::Alternative,
         _ => form,
     }
 }
