@@ -1,5 +1,5 @@
 -- The word at a byte, and what stands before it.
-use Rattle.std.specs.Prelude.{ℕ, ◌==◌, ◌&&◌, ◌||◌, Bool, true, if◌then◌else◌, List, [], ◌∷◌, ◌++◌, length, take, codes}
+use Rattle.std.specs.Prelude.{ℕ, ◌==◌, ◌&&◌, ◌||◌, not, Bool, true, false, if◌then◌else◌, List, [], ◌∷◌, ◌++◌, length, take, codes}
 use Rattle.vhdl_lexer.specs.Bytes.{is_separator, is_printable, is_word_byte}
 use Rattle.vhdl_lexer.specs.Scan.{run}
 use Rattle.rtlsim_explain.specs.Places.{line_before}
@@ -43,6 +43,30 @@ begins_line before = is_all_blank (line_before before)
 -- a name, a literal or `)` may end with it, and a statement too
 abbrev pub ends_operand : ℕ → Bool
 ends_operand byte = is_word_byte byte || byte == 41 || byte == 34 || byte == 39
+
+-- a byte of the word or sign that the byte before it belongs to
+abbrev pub goes_on : (last byte : ℕ) → Bool
+goes_on last byte = (is_word_byte last && is_word_byte byte) || is_pair last byte
+
+-- a byte at which a word or sign begins, outside of an index
+abbrev pub begins_word : (in_index : Bool) (last byte : ℕ) → Bool
+begins_word in_index last byte = not (in_index || byte == 40 || is_separator byte || goes_on last byte)
+
+-- an index goes from `(` to the next `)`
+abbrev pub is_in_index : (in_index : Bool) (byte : ℕ) → Bool
+is_in_index in_index byte = if in_index then not (byte == 41) else byte == 40
+
+-- the word or sign before the name that a text ends with, an index behind the name aside. `before` and `word`: the text from the last word but
+-- one and from the last word on; `last`: the last byte
+abbrev pub word_before : (in_index : Bool) (before word : List ℕ) (last : ℕ) → List ℕ → List ℕ
+word_before in_index before word last [] = if in_index then [] else word_at before
+word_before in_index before word last (byte ∷ bytes) =
+    if begins_word in_index last byte then word_before (is_in_index in_index byte) word (byte ∷ bytes) byte bytes
+    else word_before (is_in_index in_index byte) before word byte bytes
+
+-- a name at the beginning of a line stands as behind a `;`
+abbrev pub word_before_name : (line : List ℕ) → List ℕ
+word_before_name line = word_before false [] (codes ";") 32 line
 
 -- ---- how a sentence names it
 

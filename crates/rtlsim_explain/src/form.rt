@@ -177,7 +177,8 @@ impl Form {
             Form::Qualified =>
                 "leave out the type and the tick, or write a conversion: unsigned(..)",
             Form::SecondIndex => "assign the first part to a signal or variable, and index that",
-            Form::Equality => "assign a signal by <= and a variable by :=",
+            Form::Equality =>
+                "assign a signal by <= and a variable by :=, and write := before the value in a declaration",
             Form::Equalities => "write a = b where both are equal, and a /= b where they differ",
             Form::Declaration => "declare it in the architecture, before its begin",
             Form::ListEnd => "drop the `;` behind the last port or generic",
@@ -258,6 +259,19 @@ pub(crate) const UNREAD: [(&[u8], Form); 63] = [
     (b"signal", Form::Declaration),
     (b"component", Form::Declaration),
     (b")", Form::ListEnd),
+];
+
+/// The words and signs behind which a statement begins, or the type in a declaration.
+pub(crate) const OPENERS: [&[u8]; 9] = [
+    b";",
+    b":",
+    b"=>",
+    b"then",
+    b"else",
+    b"begin",
+    b"loop",
+    b"generate",
+    b"is",
 ];
 
 /// The names of packages and types that are left out.

@@ -111,6 +111,47 @@ fn is_all_blank(mut bytes: &[u8]) -> bool
     true
 }
 
+/// Whether a byte belongs to the word or sign that the byte before it belongs to.
+fn goes_on(last: u8, byte: u8) -> bool
+    ensures { result ≡ spec.goes_on last byte }
+{
+    (is_word_byte(last) && is_word_byte(byte)) || is_pair(last, byte)
+}
+
+/// Whether a word or sign begins at a byte, outside of an index.
+fn begins_word(in_index: bool, last: u8, byte: u8) -> bool
+    ensures { result ≡ spec.begins_word in_index last byte }
+{
+    !(in_index || byte == b'(' || is_separator(byte) || goes_on(last, byte))
+}
+
+/// Whether the byte behind this one is in an index, which goes from `(` to the next `)`.
+fn is_in_index(in_index: bool, byte: u8) -> bool
+    ensures { result ≡ spec.is_in_index in_index byte }
+{
+    if in_index { byte != b')' } else { byte == b'(' }
+}
+
+/// The word or sign before the name that a line ends with, an index behind the name aside; `;` at the line's beginning.
+pub(crate) fn word_before_name(mut bytes: &[u8]) -> &[u8]
+    ensures { result.now ≡ spec.word_before_name bytes.entry.now }
+{
+    let mut before: &[u8] = b"";
+    let mut word: &[u8] = b";";
+    let mut last = b' ';
+    let mut in_index = false;
+    while let [byte, rest @ ..] = bytes {
+        if begins_word(in_index, last, *byte) {
+            before = word;
+            word = bytes;
+        }
+        in_index = is_in_index(in_index, *byte);
+        last = *byte;
+        bytes = rest;
+    }
+    if in_index { b"" } else { word_at(before) }
+}
+
 /// Whether a name, a literal or `)` may end with this byte.
 pub(crate) fn ends_operand(byte: u8) -> bool
     ensures { result ≡ spec.ends_operand byte }
