@@ -24,13 +24,28 @@ word_at after = take (word_len after) after
 
 -- ---- what stands before it
 
--- the last of these bytes that is no separator, or `last` where there is none
-abbrev pub last_solid_of : (last : ℕ) → List ℕ → ℕ
-last_solid_of last [] = last
-last_solid_of last (byte ∷ bytes) = if is_separator byte then last_solid_of last bytes else last_solid_of byte bytes
+-- `--` stands at the front
+abbrev pub opens_comment : List ℕ → Bool
+opens_comment (first ∷ second ∷ text) = first == 45 && second == 45
+opens_comment text = false
+
+-- the first byte of a text is in a comment, which ends with its line. `in_comment`: so is the byte before it
+abbrev pub is_in_comment : (in_comment : Bool) (text : List ℕ) → Bool
+is_in_comment in_comment [] = false
+is_in_comment in_comment (byte ∷ bytes) = if in_comment then not (byte == 10) else opens_comment (byte ∷ bytes)
+
+abbrev pub is_solid : (in_comment : Bool) (byte : ℕ) → Bool
+is_solid in_comment byte = not (in_comment || is_separator byte)
+
+-- the last of these bytes that is no separator and in no comment, or `last` where there is none
+abbrev pub last_solid_of : (in_comment : Bool) (last : ℕ) → List ℕ → ℕ
+last_solid_of in_comment last [] = last
+last_solid_of in_comment last (byte ∷ bytes) =
+    if is_solid (is_in_comment in_comment (byte ∷ bytes)) byte then last_solid_of (is_in_comment in_comment (byte ∷ bytes)) byte bytes
+    else last_solid_of (is_in_comment in_comment (byte ∷ bytes)) last bytes
 
 abbrev pub last_solid : (before : List ℕ) → ℕ
-last_solid before = last_solid_of 0 before
+last_solid before = last_solid_of false 0 before
 
 -- nothing stands before it in its line
 abbrev pub is_all_blank : List ℕ → Bool

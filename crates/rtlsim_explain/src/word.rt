@@ -77,13 +77,48 @@ pub(crate) fn word_at(after: &[u8]) -> &[u8]
     }
 }
 
-/// The last of these bytes that is no separator, 0 without one.
+/// Whether `--` stands at the front.
+fn opens_comment(text: &[u8]) -> bool
+    ensures { result ≡ spec.opens_comment text.now }
+{
+    match text {
+        [first, second, ..] => *first == b'-' && *second == b'-',
+        _ => false,
+    }
+}
+
+/// Whether the first byte of a text is in a comment, where the byte before it is or isn't.
+fn is_in_comment(in_comment: bool, text: &[u8]) -> bool
+    ensures { result ≡ spec.is_in_comment in_comment text.now }
+{
+    match text {
+        [] => false,
+        [byte, ..] => {
+            if in_comment {
+                *byte != b'\n'
+            } else {
+                opens_comment(text)
+            }
+        }
+    }
+}
+
+/// Whether a byte is no separator and in no comment.
+fn is_solid(in_comment: bool, byte: u8) -> bool
+    ensures { result ≡ spec.is_solid in_comment byte }
+{
+    !(in_comment || is_separator(byte))
+}
+
+/// The last of these bytes that is no separator and in no comment, 0 without one.
 pub(crate) fn last_solid(mut before: &[u8]) -> u8
     ensures { result ≡ spec.last_solid before.entry.now }
 {
     let mut last = 0;
+    let mut in_comment = false;
     while let [byte, rest @ ..] = before {
-        if !is_separator(*byte) {
+        in_comment = is_in_comment(in_comment, before);
+        if is_solid(in_comment, *byte) {
             last = *byte;
         }
         before = rest;
