@@ -4,6 +4,7 @@ pub mod Copied
 pub mod Places
 pub mod Lengths
 pub mod Expressions
+pub mod Elements
 pub mod Tests
 pub mod Values
 pub mod Jumps

@@ -1,6 +1,7 @@
 //! From a body to instructions.
 
 mod assignments;
+mod elements;
 mod expressions;
 mod jumps;
 mod statements;

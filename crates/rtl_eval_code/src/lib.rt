@@ -10,6 +10,7 @@ mod compiling;
 mod giving;
 mod instruction;
 mod judging;
+mod reckoning;
 mod running;
 mod writer;
 

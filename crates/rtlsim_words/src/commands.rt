@@ -28,9 +28,6 @@ Examples:
 
 /// The commands.
 pub fn command<'a>(alloc: Global) -> Result<Command<'a>, AllocError> {
-    let net = design_command(alloc, "net", "Prints the nets and what drives each")?
-        .override_usage("rtlsim net [--with <FILE>]... [--explain] <FILE> <TOP>")
-        .after_help("Example: rtlsim net counter.vhd counter");
     Command::new(alloc, "rtlsim")
         .version("0.1.0")
         .about("Simulates the register-transfer subset of VHDL")
@@ -38,7 +35,7 @@ pub fn command<'a>(alloc: Global) -> Result<Command<'a>, AllocError> {
         .no_binary_name(true)
         .subcommand_required(true)
         .subcommand(eval_command(alloc)?)?
-        .subcommand(net)?
+        .subcommand(net_command(alloc)?)?
         .subcommand(check_command(alloc)?)?
         .subcommand(run_command(alloc)?)
 }
@@ -51,90 +48,124 @@ fn operand<'a>(alloc: Global, name: &'a str, help: &'a str) -> Arg<'a> {
         .action(ArgAction::Set)
 }
 
+/// An option that is given or not.
+fn flag<'a>(alloc: Global, name: &'a str, help: &'a str) -> Arg<'a> {
+    Arg::new(alloc, name)
+        .long(name)
+        .help(help)
+        .action(ArgAction::SetTrue)
+}
+
+/// An option that names a file.
+fn file<'a>(alloc: Global, name: &'a str, help: &'a str) -> Arg<'a> {
+    Arg::new(alloc, name)
+        .long(name)
+        .value_name("FILE")
+        .help(help)
+}
+
 /// A command on a design.
 fn design_command<'a>(
     alloc: Global,
     name: &'a str,
     about: &'a str,
 ) -> Result<Command<'a>, AllocError> {
-    let with = Arg::new(alloc, "with")
-        .long("with")
-        .value_name("FILE")
-        .help("A file whose text stands before the source's; any number")
-        .action(ArgAction::Append);
-    let explain = Arg::new(alloc, "explain")
-        .long("explain")
-        .help("Explains each fault: its place, the line, and what to do")
-        .action(ArgAction::SetTrue);
     Command::new(alloc, name)
         .about(about)
         .arg(operand(alloc, "FILE", "The source, or @ for the standard input"))?
         .arg(operand(alloc, "TOP", "The entity at the top"))?
-        .arg(with)?
-        .arg(explain)
+        .arg(with_files(alloc))?
+        .arg(flag(
+            alloc,
+            "explain",
+            "Explains each fault: its place, the line, and what to do",
+        ))
+}
+
+/// The files beside the source.
+fn with_files<'a>(alloc: Global) -> Arg<'a> {
+    let help = "A file whose text stands before the source's; any number";
+    file(alloc, "with", help).action(ArgAction::Append)
 }
 
 /// The command that evaluates a design.
 fn eval_command<'a>(alloc: Global) -> Result<Command<'a>, AllocError> {
-    let sets = Arg::new(alloc, "NAME=VALUE")
-        .help("An input's value, of the characters U X 0 1 Z W L H -")
-        .num_args(0..)
-        .action(ArgAction::Append);
     design_command(alloc, "eval", "Prints the outputs under these inputs")?
         .override_usage("rtlsim eval [--with <FILE>]... [--explain] <FILE> <TOP> [NAME=VALUE]...")
         .after_help("Example: rtlsim eval and2.vhd and2 a=L b=H")
-        .arg(sets)
+        .arg(sets(alloc))
+}
+
+/// The values of inputs.
+fn sets<'a>(alloc: Global) -> Arg<'a> {
+    Arg::new(alloc, "NAME=VALUE")
+        .help("An input's value, of the characters U X 0 1 Z W L H -")
+        .num_args(0..)
+        .action(ArgAction::Append)
+}
+
+/// The command that prints a design's nets.
+fn net_command<'a>(alloc: Global) -> Result<Command<'a>, AllocError> {
+    let command = design_command(alloc, "net", "Prints the nets and what drives each")?;
+    Ok(
+        command
+            .override_usage("rtlsim net [--with <FILE>]... [--explain] <FILE> <TOP>")
+            .after_help("Example: rtlsim net counter.vhd counter"),
+    )
 }
 
 /// The command that checks a design.
 fn check_command<'a>(alloc: Global) -> Result<Command<'a>, AllocError> {
-    let dot = Arg::new(alloc, "dot")
-        .long("dot")
-        .help("Draws the levels of one that is, as a graph of Graphviz")
-        .action(ArgAction::SetTrue);
-    let json = Arg::new(alloc, "json")
-        .long("json")
-        .help("Prints the verdict as an object of JSON, for tools")
-        .conflicts_with("dot")?
-        .action(ArgAction::SetTrue);
     design_command(alloc, "check", "Says whether the design is sure to settle")?
         .override_usage("rtlsim check [--dot | --json] [--with <FILE>]... [--explain] <FILE> <TOP>")
         .after_help("Example: rtlsim check counter.vhd counter")
-        .arg(dot)?
-        .arg(json)
+        .arg(flag(
+            alloc,
+            "dot",
+            "Draws the levels of one that is, as a graph of Graphviz",
+        ))?
+        .arg(json(alloc)?)
+}
+
+/// The verdict for tools.
+fn json<'a>(alloc: Global) -> Result<Arg<'a>, AllocError> {
+    let help = "Prints the verdict as an object of JSON, for tools";
+    flag(alloc, "json", help).conflicts_with("dot")
 }
 
 /// The command that simulates a design.
 fn run_command<'a>(alloc: Global) -> Result<Command<'a>, AllocError> {
-    let event = Arg::new(alloc, "event")
-        .long("event")
-        .help("Simulates by events alone, without the checker")
-        .action(ArgAction::SetTrue);
-    let order = Arg::new(alloc, "order")
-        .long("order")
-        .help("The order in which resumed processes run")
-        .value_parser(ORDERS.as_slice());
-    let levels = Arg::new(alloc, "levels")
-        .long("levels")
-        .help("Runs each process once a moment, in order of level")
-        .conflicts_with("event")?
-        .conflicts_with("order")?
-        .action(ArgAction::SetTrue);
-    let expect = Arg::new(alloc, "expect")
-        .long("expect")
-        .value_name("FILE")
-        .help("Compares with the values that FILE expects");
-    let progress = Arg::new(alloc, "progress")
-        .long("progress")
-        .help("Shows how far the run is")
-        .action(ArgAction::SetTrue);
     design_command(alloc, "run", "Prints the trace under a stimulus")?
         .override_usage(RUN_USAGE)
         .after_help("Example: rtlsim run counter.vhd counter counter.stim")
         .arg(operand(alloc, "STIM", "The stimulus, or @ for the standard input"))?
-        .arg(event)?
-        .arg(order)?
-        .arg(levels)?
-        .arg(expect)?
-        .arg(progress)
+        .arg(flag(
+            alloc,
+            "event",
+            "Simulates by events alone, without the checker",
+        ))?
+        .arg(order(alloc))?
+        .arg(levels(alloc)?)?
+        .arg(file(
+            alloc,
+            "expect",
+            "Compares with the values that FILE expects",
+        ))?
+        .arg(flag(alloc, "progress", "Shows how far the run is"))
+}
+
+/// The order of a run.
+fn order<'a>(alloc: Global) -> Arg<'a> {
+    Arg::new(alloc, "order")
+        .long("order")
+        .help("The order in which resumed processes run")
+        .value_parser(ORDERS.as_slice())
+}
+
+/// The run by levels.
+fn levels<'a>(alloc: Global) -> Result<Arg<'a>, AllocError> {
+    let help = "Runs each process once a moment, in order of level";
+    flag(alloc, "levels", help)
+        .conflicts_with("event")?
+        .conflicts_with("order")
 }
