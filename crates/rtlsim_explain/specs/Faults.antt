@@ -68,10 +68,10 @@ name_sentence names.NoSensitivity form = codes "has no sensitivity list"
 -- what a designer does about it
 abbrev pub name_help : NameProblem → (form : Form) → List ℕ
 name_help names.LeftOut form = form_help form
-name_help names.Undeclared form = codes "correct its spelling, or declare it above; where it is an entity in another file, give that file by --with"
+name_help names.Undeclared form = codes "correct its spelling, or declare it above; where it is an entity in another file, give that file by --with; an instance without a component names its entity as entity work.stage"
 name_help names.Twice form = codes "give one of the two another name, or drop it"
 name_help names.WrongKind form = codes "see what it is declared as: signals take <=, variables :=, and a name at an end repeats the one at the beginning"
-name_help names.TypeMismatch form = codes "convert it by unsigned(..) or std_logic_vector(..); an index is static: for v(p) write a loop that compares p"
+name_help names.TypeMismatch form = codes "convert it by unsigned(..) or std_logic_vector(..); an index is static: for v(p) write a loop that compares p; an element is '0', a vector \"0101\" or (others => '0'), a number to_unsigned(n, length), a truth when .. else"
 name_help names.NotVisible form = codes "write library ieee; use ieee.std_logic_1164.all; and, for unsigned, use ieee.numeric_std.all; before the entity"
 name_help names.WriteOfIn form = codes "declare it as out, or assign a signal"
 name_help names.NoOthers form = codes "add when others => as the last choice; std_logic has nine values and not two"

@@ -1,9 +1,10 @@
 -- Forms of VHDL that aren't read, and slips of the pen: which of them stands at a byte, and what is said of each.
-use Rattle.std.specs.Prelude.{ℕ, ◌==◌, if◌then◌else◌, List, [], ◌∷◌, codes}
+use Rattle.std.specs.Prelude.{ℕ, ◌==◌, ◌||◌, Bool, false, if◌then◌else◌, List, [], ◌∷◌, codes}
 use Rattle.std.specs.Str.{str_eq_ignore_ascii_case}
-use Rattle.rtlsim_explain.specs.Words.{word_at, last_solid, begins_line, ends_operand}
+use Rattle.rtlsim_explain.specs.Places.{line_before}
+use Rattle.rtlsim_explain.specs.Words.{word_at, word_before_name, last_solid, begins_line, ends_operand}
 use Rattle.rtlsim_explain.specs.declared.form.Form.{Form}
-use Rattle.rtlsim_explain.specs.declared.form.Form.TheVariants.{WholeNumbers, RangeAttribute, Array, Record, OtherType, Subprogram, Package, Attribute, Alias, Subtype, Mode, Wait, Delay, Message, Block, OtherLoop, Conditional, Aggregate, Comma, Reduction, MixedLogic, Shift, Absolute, Power, Qualified, SecondIndex, Equality, Equalities, Declaration, ListEnd, NewLine, Slip, DynamicIndex, Signed, Other}
+use Rattle.rtlsim_explain.specs.declared.form.Form.TheVariants.{WholeNumbers, RangeAttribute, Array, Record, OtherType, Subprogram, Package, Attribute, Alias, Subtype, Mode, Wait, Delay, Message, Block, OtherLoop, Conditional, Alternative, Aggregate, Comma, Reduction, MixedLogic, Shift, Absolute, Power, Qualified, SecondIndex, Equality, Equalities, Declaration, ListEnd, NewLine, Slip, DynamicIndex, Signed, Other}
 
 -- ---- words
 
@@ -100,27 +101,51 @@ abbrev pub form_among : List FormWord → (word : List ℕ) → (fallback : Form
 form_among [] word fallback = fallback
 form_among (w ∷ words) word fallback = if str_eq_ignore_ascii_case w.0 word then w.1 else form_among words word fallback
 
+-- the words and signs behind which a statement begins, or the type in a declaration
+abbrev pub openers : List (List ℕ)
+openers =
+    codes ";" ∷
+    codes ":" ∷
+    codes "=>" ∷
+    codes "then" ∷
+    codes "else" ∷
+    codes "begin" ∷
+    codes "loop" ∷
+    codes "generate" ∷
+    codes "is" ∷
+    []
+
+abbrev pub is_among : List (List ℕ) → (word : List ℕ) → Bool
+is_among [] word = false
+is_among (w ∷ words) word = str_eq_ignore_ascii_case w word || is_among words word
+
 -- ---- what stands before the word
 
--- what no form begins with: it may be that the line before lacks its `;`
+-- a name stands before it with which a statement begins, or a type in a declaration, so that `=` may have been meant to assign
+abbrev pub may_assign : (before : List ℕ) → Bool
+may_assign before = is_among openers (word_before_name (line_before before))
+
+-- what no form begins with: it may be that the line before lacks its `;` or its last word
 abbrev pub slip : (before : List ℕ) → Form
 slip before = if begins_line before then (if ends_operand (last_solid before) then NewLine else Slip) else Slip
 
--- some words are told by what stands before them as well: by a tick, an operand's end, a `;` or a star, or as the first of their line
-abbrev pub form_behind : (last : ℕ) → (fallback form : Form) → Form
-form_behind last fallback WholeNumbers = if last == 39 then RangeAttribute else WholeNumbers
-form_behind last fallback Reduction = if ends_operand last then MixedLogic else Reduction
-form_behind last fallback SecondIndex = if last == 39 then Qualified else if last == 41 then SecondIndex else fallback
-form_behind last fallback ListEnd = if last == 59 then ListEnd else fallback
-form_behind last fallback Power = if last == 42 then Power else fallback
-form_behind last fallback Equality = if last == 61 then Equalities else Equality
-form_behind last NewLine Conditional = NewLine
-form_behind last NewLine Declaration = NewLine
-form_behind last fallback form = form
+-- some words are told by what stands before them as well: by a tick, an operand's end, a `;` or a star, by a name that may be assigned,
+-- or as the first of their line
+abbrev pub form_behind : (last : ℕ) (assigns : Bool) → (fallback form : Form) → Form
+form_behind last assigns fallback WholeNumbers = if last == 39 then RangeAttribute else WholeNumbers
+form_behind last assigns fallback Reduction = if ends_operand last then MixedLogic else Reduction
+form_behind last assigns fallback SecondIndex = if last == 39 then Qualified else if last == 41 then SecondIndex else fallback
+form_behind last assigns fallback ListEnd = if last == 59 then ListEnd else fallback
+form_behind last assigns fallback Power = if last == 42 then Power else fallback
+form_behind last assigns fallback Equality = if last == 61 then Equalities else if assigns then Equality else fallback
+form_behind last assigns NewLine Conditional = NewLine
+form_behind last assigns fallback Conditional = if last == 59 then Alternative else Conditional
+form_behind last assigns NewLine Declaration = NewLine
+form_behind last assigns fallback form = form
 
 -- what stands at a byte where nothing of the language can stand
 abbrev pub unexpected_form : (before after : List ℕ) → Form
-unexpected_form before after = form_behind (last_solid before) (slip before) (form_among unread (word_at after) (slip before))
+unexpected_form before after = form_behind (last_solid before) (may_assign before) (slip before) (form_among unread (word_at after) (slip before))
 
 -- what stands at a byte where something is left out
 abbrev pub left_out_form : (after : List ℕ) → Form
@@ -146,6 +171,7 @@ form_sentence Message = codes "isn't read here: messages and assertions aren't s
 form_sentence Block = codes "isn't read here: blocks, guards and configurations aren't served"
 form_sentence OtherLoop = codes "isn't read here: a loop is `for i in range loop`, and goes through its whole range"
 form_sentence Conditional = codes "isn't read here: inside a process an assignment has no when"
+form_sentence Alternative = codes "can't stand here: an if or loop above it lacks its end"
 form_sentence Aggregate = codes "isn't read here: the only aggregate is (others => value), and a formal is a whole port"
 form_sentence Comma = codes "can't stand here: (a, b) isn't read, and ports, generics and statements are parted by `;`"
 form_sentence Reduction = codes "isn't read here: a logical operator stands between two operands"
@@ -184,6 +210,7 @@ form_help Message = codes "leave it out, and look at the trace"
 form_help Block = codes "write the statements in the architecture, and name the entity in the instance: entity work.name"
 form_help OtherLoop = codes "write a for loop over all turns, with an if inside it"
 form_help Conditional = codes "write if .. then .. else .. end if, or the assignment outside of the process"
+form_help Alternative = codes "write end if; or end loop; above it; else if opens an if of its own, which needs its own end: write elsif"
 form_help Aggregate = codes "write a & b for (a, b); assign (others => '0') first and then the element that differs"
 form_help Comma = codes "write a & b for the vector (a, b), or `;` where one declaration ends and the next begins"
 form_help Reduction = codes "assign a variable the first element, and go on in a loop: for i in 1 to 7 loop p := p xor v(i); end loop;"
@@ -193,11 +220,11 @@ form_help Absolute = codes "compare with 0, and subtract in the branch where the
 form_help Power = codes "write the power as a number or as a generic"
 form_help Qualified = codes "leave out the type and the tick, or write a conversion: unsigned(..)"
 form_help SecondIndex = codes "assign the first part to a signal or variable, and index that"
-form_help Equality = codes "assign a signal by <= and a variable by :="
+form_help Equality = codes "assign a signal by <= and a variable by :=, and write := before the value in a declaration"
 form_help Equalities = codes "write a = b where both are equal, and a /= b where they differ"
 form_help Declaration = codes "declare it in the architecture, before its begin"
 form_help ListEnd = codes "drop the `;` behind the last port or generic"
-form_help NewLine = codes "if what stands before it ends a statement or declaration, put the missing `;` there"
+form_help NewLine = codes "put at the end of the line before what is missing there: a `;`, or then, is, loop or generate"
 form_help Slip = codes "see whether a word as then or is, an end if, a parenthesis or a `;` before it is missing or misspelt"
 form_help DynamicIndex = codes "compare in a loop: for i in 0 to 3 loop if p = i then y <= v(i); end if; end loop;"
 form_help Signed = codes "use unsigned, with the sign extended by hand"

@@ -98,12 +98,12 @@ pub(crate) fn name_help(problem: NameProblem, form: Form) -> &'static str
     match problem {
         NameProblem::LeftOut => form.help(),
         NameProblem::Undeclared =>
-            "correct its spelling, or declare it above; where it is an entity in another file, give that file by --with",
+            "correct its spelling, or declare it above; where it is an entity in another file, give that file by --with; an instance without a component names its entity as entity work.stage",
         NameProblem::Twice => "give one of the two another name, or drop it",
         NameProblem::WrongKind =>
             "see what it is declared as: signals take <=, variables :=, and a name at an end repeats the one at the beginning",
         NameProblem::TypeMismatch =>
-            "convert it by unsigned(..) or std_logic_vector(..); an index is static: for v(p) write a loop that compares p",
+            "convert it by unsigned(..) or std_logic_vector(..); an index is static: for v(p) write a loop that compares p; an element is '0', a vector \"0101\" or (others => '0'), a number to_unsigned(n, length), a truth when .. else",
         NameProblem::NotVisible =>
             "write library ieee; use ieee.std_logic_1164.all; and, for unsigned, use ieee.numeric_std.all; before the entity",
         NameProblem::WriteOfIn => "declare it as out, or assign a signal",

@@ -40,6 +40,8 @@ pub(crate) enum Form {
     OtherLoop,
     /// `when .. else` inside a process.
     Conditional,
+    /// `when` behind a `;`: the next alternative of a case, in which something isn't ended.
+    Alternative,
     /// Aggregates, and formals that are elements.
     Aggregate,
     /// A comma: in an aggregate, or in place of a `;`.
@@ -66,7 +68,7 @@ pub(crate) enum Form {
     Declaration,
     /// A `;` behind the last of a list.
     ListEnd,
-    /// The first word of a line, behind a line that may lack its `;`.
+    /// The first word of a line, behind a line that may lack its `;` or its last word.
     NewLine,
     /// Anything else.
     Slip,
@@ -103,6 +105,7 @@ impl Form {
             Form::OtherLoop =>
                 "isn't read here: a loop is `for i in range loop`, and goes through its whole range",
             Form::Conditional => "isn't read here: inside a process an assignment has no when",
+            Form::Alternative => "can't stand here: an if or loop above it lacks its end",
             Form::Aggregate =>
                 "isn't read here: the only aggregate is (others => value), and a formal is a whole port",
             Form::Comma =>
@@ -157,6 +160,8 @@ impl Form {
             Form::OtherLoop => "write a for loop over all turns, with an if inside it",
             Form::Conditional =>
                 "write if .. then .. else .. end if, or the assignment outside of the process",
+            Form::Alternative =>
+                "write end if; or end loop; above it; else if opens an if of its own, which needs its own end: write elsif",
             Form::Aggregate =>
                 "write a & b for (a, b); assign (others => '0') first and then the element that differs",
             Form::Comma =>
@@ -172,12 +177,13 @@ impl Form {
             Form::Qualified =>
                 "leave out the type and the tick, or write a conversion: unsigned(..)",
             Form::SecondIndex => "assign the first part to a signal or variable, and index that",
-            Form::Equality => "assign a signal by <= and a variable by :=",
+            Form::Equality =>
+                "assign a signal by <= and a variable by :=, and write := before the value in a declaration",
             Form::Equalities => "write a = b where both are equal, and a /= b where they differ",
             Form::Declaration => "declare it in the architecture, before its begin",
             Form::ListEnd => "drop the `;` behind the last port or generic",
             Form::NewLine =>
-                "if what stands before it ends a statement or declaration, put the missing `;` there",
+                "put at the end of the line before what is missing there: a `;`, or then, is, loop or generate",
             Form::Slip =>
                 "see whether a word as then or is, an end if, a parenthesis or a `;` before it is missing or misspelt",
             Form::DynamicIndex =>
@@ -253,6 +259,19 @@ pub(crate) const UNREAD: [(&[u8], Form); 63] = [
     (b"signal", Form::Declaration),
     (b"component", Form::Declaration),
     (b")", Form::ListEnd),
+];
+
+/// The words and signs behind which a statement begins, or the type in a declaration.
+pub(crate) const OPENERS: [&[u8]; 9] = [
+    b";",
+    b":",
+    b"=>",
+    b"then",
+    b"else",
+    b"begin",
+    b"loop",
+    b"generate",
+    b"is",
 ];
 
 /// The names of packages and types that are left out.

@@ -4,8 +4,9 @@ ghost use Rattle.std.specs.Prelude.{◌≡◌, map};
 ghost use Rattle.std.specs.Str.{str_eq_ignore_ascii_case};
 ghost use Rattle.rtlsim_explain.specs.Forms as spec;
 
-use crate::form::{Form, LEFT_OUT, UNREAD};
-use crate::word::{begins_line, ends_operand, last_solid, word_at};
+use crate::form::{Form, LEFT_OUT, OPENERS, UNREAD};
+use crate::place::line_before;
+use crate::word::{begins_line, ends_operand, last_solid, word_at, word_before_name};
 
 /// What stands at the byte between these halves of a text where no file goes on.
 pub(crate) fn unexpected_form(before: &[u8], after: &[u8]) -> Form
@@ -14,7 +15,7 @@ pub(crate) fn unexpected_form(before: &[u8], after: &[u8]) -> Form
     let last = last_solid(before);
     let slip = slip(before);
     let form = unread_among(word_at(after), slip);
-    form_behind(last, slip, form)
+    form_behind(last, may_assign(before), slip, form)
 }
 
 /// What stands where something is left out.
@@ -62,9 +63,29 @@ fn slip(before: &[u8]) -> Form
     }
 }
 
-/// The form of a word behind a text that ends with this byte.
-fn form_behind(last: u8, fallback: Form, form: Form) -> Form
-    ensures { result ≡ spec.form_behind last fallback form }
+/// Whether a name stands before it with which a statement begins, or a type in a declaration.
+fn may_assign(before: &[u8]) -> bool
+    ensures { result ≡ spec.may_assign before.now }
+{
+    is_among(&OPENERS, word_before_name(line_before(before)))
+}
+
+/// Whether a word is one of these.
+fn is_among(mut words: &[&[u8]], word: &[u8]) -> bool
+    ensures { result ≡ spec.is_among (map (λ w. w.now) words.entry.now) word.now }
+{
+    while let [first, rest @ ..] = words {
+        if is_same_word(first, word) {
+            return true;
+        }
+        words = rest;
+    }
+    false
+}
+
+/// The form of a word behind a text that ends with this byte, and with a name that an assignment may begin with or not.
+fn form_behind(last: u8, assigns: bool, fallback: Form, form: Form) -> Form
+    ensures { result ≡ spec.form_behind last assigns fallback form }
 {
     match (fallback, form) {
         (_, Form::WholeNumbers) if last == b'\'' => Form::RangeAttribute,
@@ -74,7 +95,9 @@ fn form_behind(last: u8, fallback: Form, form: Form) -> Form
         (_, Form::ListEnd) if last != b';' => fallback,
         (_, Form::Power) if last != b'*' => fallback,
         (_, Form::Equality) if last == b'=' => Form::Equalities,
+        (_, Form::Equality) if !assigns => fallback,
         (Form::NewLine, Form::Conditional | Form::Declaration) => Form::NewLine,
+        (_, Form::Conditional) if last == b';' => Form::Alternative,
         _ => form,
     }
 }

@@ -77,13 +77,48 @@ pub(crate) fn word_at(after: &[u8]) -> &[u8]
     }
 }
 
-/// The last of these bytes that is no separator, 0 without one.
+/// Whether `--` stands at the front.
+fn opens_comment(text: &[u8]) -> bool
+    ensures { result ≡ spec.opens_comment text.now }
+{
+    match text {
+        [first, second, ..] => *first == b'-' && *second == b'-',
+        _ => false,
+    }
+}
+
+/// Whether the first byte of a text is in a comment, where the byte before it is or isn't.
+fn is_in_comment(in_comment: bool, text: &[u8]) -> bool
+    ensures { result ≡ spec.is_in_comment in_comment text.now }
+{
+    match text {
+        [] => false,
+        [byte, ..] => {
+            if in_comment {
+                *byte != b'\n'
+            } else {
+                opens_comment(text)
+            }
+        }
+    }
+}
+
+/// Whether a byte is no separator and in no comment.
+fn is_solid(in_comment: bool, byte: u8) -> bool
+    ensures { result ≡ spec.is_solid in_comment byte }
+{
+    !(in_comment || is_separator(byte))
+}
+
+/// The last of these bytes that is no separator and in no comment, 0 without one.
 pub(crate) fn last_solid(mut before: &[u8]) -> u8
     ensures { result ≡ spec.last_solid before.entry.now }
 {
     let mut last = 0;
+    let mut in_comment = false;
     while let [byte, rest @ ..] = before {
-        if !is_separator(*byte) {
+        in_comment = is_in_comment(in_comment, before);
+        if is_solid(in_comment, *byte) {
             last = *byte;
         }
         before = rest;
@@ -109,6 +144,47 @@ fn is_all_blank(mut bytes: &[u8]) -> bool
         bytes = rest;
     }
     true
+}
+
+/// Whether a byte belongs to the word or sign that the byte before it belongs to.
+fn goes_on(last: u8, byte: u8) -> bool
+    ensures { result ≡ spec.goes_on last byte }
+{
+    (is_word_byte(last) && is_word_byte(byte)) || is_pair(last, byte)
+}
+
+/// Whether a word or sign begins at a byte, outside of an index.
+fn begins_word(in_index: bool, last: u8, byte: u8) -> bool
+    ensures { result ≡ spec.begins_word in_index last byte }
+{
+    !(in_index || byte == b'(' || is_separator(byte) || goes_on(last, byte))
+}
+
+/// Whether the byte behind this one is in an index, which goes from `(` to the next `)`.
+fn is_in_index(in_index: bool, byte: u8) -> bool
+    ensures { result ≡ spec.is_in_index in_index byte }
+{
+    if in_index { byte != b')' } else { byte == b'(' }
+}
+
+/// The word or sign before the name that a line ends with, an index behind the name aside; `;` at the line's beginning.
+pub(crate) fn word_before_name(mut bytes: &[u8]) -> &[u8]
+    ensures { result.now ≡ spec.word_before_name bytes.entry.now }
+{
+    let mut before: &[u8] = b"";
+    let mut word: &[u8] = b";";
+    let mut last = b' ';
+    let mut in_index = false;
+    while let [byte, rest @ ..] = bytes {
+        if begins_word(in_index, last, *byte) {
+            before = word;
+            word = bytes;
+        }
+        in_index = is_in_index(in_index, *byte);
+        last = *byte;
+        bytes = rest;
+    }
+    if in_index { b"" } else { word_at(before) }
 }
 
 /// Whether a name, a literal or `)` may end with this byte.

@@ -59,7 +59,7 @@ closing (StoredVariable process variable place) = codes ", which would so keep i
 -- what a designer does about it
 abbrev pub fault_help : Fault → List ℕ
 fault_help (TwoDrivers n first second) = codes "let one of them drive it, or give each a signal of its own and choose between these"
-fault_help (MixedProcess process) = codes "write a register as one if: its asynchronous reset first, the edge as the only other branch, and enables inside that"
+fault_help (MixedProcess process) = codes "write a register as one if: its asynchronous reset first, the edge as the only other branch, and enables inside that; the reset is tested as rst = '1' or rst = '0', and its branch assigns constants"
 fault_help (ClockNotInput process n) = codes "clock it by an input of the top, and let what gates or divides it be an enable inside the edge"
 fault_help (EdgeNotSensitive process n) = codes "add it to the sensitivity list"
 fault_help (ClockAsData process n) = codes "take a signal that is no clock, or an enable that changes with the other data"

@@ -67,7 +67,7 @@ pub(crate) fn fault_help(fault: &CheckFault) -> &'static str
         CheckFault::TwoDrivers { .. } =>
             "let one of them drive it, or give each a signal of its own and choose between these",
         CheckFault::Mixed { .. } =>
-            "write a register as one if: its asynchronous reset first, the edge as the only other branch, and enables inside that",
+            "write a register as one if: its asynchronous reset first, the edge as the only other branch, and enables inside that; the reset is tested as rst = '1' or rst = '0', and its branch assigns constants",
         CheckFault::ClockNotInput { .. } =>
             "clock it by an input of the top, and let what gates or divides it be an enable inside the edge",
         CheckFault::EdgeNotSensitive { .. } => "add it to the sensitivity list",

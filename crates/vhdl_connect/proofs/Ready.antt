@@ -14,7 +14,7 @@ mutual
   parts-ready : (ps : Parts) (os : List Object) → PartsAreSound os ps → PartsAreDotted ps → PartsAreReady ps
   parts-ready no_parts os sound dotted = tt
   parts-ready (process p rest) os sound dotted =
-      (record { rising = rising p.drives sound.0.drives_rise; dotted = record { labels = dotted.0.0; is = dotted.0.1 } }, parts-ready rest os sound.1 dotted.1)
+      (record { rising = rising p.drives sound.0.drives_rise; driven = sound.0.assigned; dotted = record { labels = dotted.0.0; is = dotted.0.1 } }, parts-ready rest os sound.1 dotted.1)
   parts-ready (inner label i rest) os sound dotted = (instance-ready i os sound.0 dotted.0, parts-ready rest os sound.1 dotted.1)
 
 pub is-ready : (design : Design) → DesignIsSound design → InstanceIsDotted design.top → InstanceIsReady design.top

@@ -2,4 +2,5 @@ pub mod Runs
 mod Lists
 mod Searched
 mod Parts
+mod Driven
 pub mod Reading

@@ -1,8 +1,10 @@
 //! Processes of the flat netlist (IEEE 1076-2008, 14.7.2).
 
-ghost use Rattle.std.specs.Prelude.{◌≡◌, map, slice_index, IfOk};
+ghost use Rattle.std.specs.Prelude.{◌≡◌, map, slice_index, Contains, IfOk};
+ghost use Rattle.rtl_net.specs.Bodies.{statements_of};
 ghost use Rattle.rtl_net.specs.Nets.{driver_view};
 ghost use Rattle.rtl_net.specs.Names.{generates_prefix};
+ghost use Rattle.vhdl_expand_rules.specs.laws.Trees.{Assigns};
 ghost use Rattle.vhdl_connect_bodies.specs.Connected.{IsRising};
 ghost use Rattle.vhdl_expand_tree.specs.Views.{variable_view, process_view};
 ghost use Rattle.vhdl_connect_processes.specs.Located.{driver_in, net_variable, of_variable, IsDotted, IsOf};
@@ -100,6 +102,7 @@ impl Round<'_> {
     /// and of what resumes it, and time to sort these.
     pub fn process(&self, from: &mut vhdl_expand_tree::Process) -> Result<Process, AllocError>
         requires rising { IsRising from.old.drives.items }
+        requires driven { Assigns (Contains from.old.drives.items) (statements_of from.old.body.items) }
         requires dotted { IsDotted from.old.prefix.items }
         ensures { IfOk result (λ p. IsOf self.now.scope self.now.nets.now self.now.defaults.now (process_view from.old) p) }
     {

@@ -1,12 +1,12 @@
 -- The places of a part lie within what it is a part of.
-use Rattle.std.proofs.Common.{◌≡◌, ℕ, zero, suc, ◌+◌, ◌-◌, ◌<◌, ◌≤◌, Bool, true, false, not, cond, List, [], ◌∷◌, length, get_or, map, take, drop, drop-cons, add-one, Ok, Err, refl, sym, ap, ◌∙◌, arith}
+use Rattle.std.proofs.Common.{◌≡◌, ℕ, zero, suc, ◌+◌, ◌-◌, ◌^◌, ◌<◌, ◌≤◌, Bool, true, false, not, cond, List, [], ◌∷◌, length, get_or, map, take, drop, drop-cons, add-one, Ok, Err, refl, sym, ap, ◌∙◌, arith}
 use Rattle.std.specs.Prelude.{◌&&◌, ℤ, pos, negsuc, ◌-ℤ◌, int_le, int_lt, nat_abs, nat_le, slice_get, slice_index_or, Some, option_map}
 use Rattle.std.specs.List.{range_with_len}
 use Rattle.std.proofs.lemmas.Int.{ints}
 use Rattle.std.proofs.lemmas.Bool.{leb-true}
 use Rattle.std.proofs.lemmas.Bool.Decides.{nat_tests}
 use Rattle.std.proofs.lemmas.List.FromFn.{length-range_with_len}
-use Rattle.std.proofs.lemmas.Option.{slice_get-map, slice_get-get_or}
+use Rattle.std.proofs.lemmas.Option.{same_Some, slice_get-map, slice_get-get_or}
 use Rattle.vhdl_values.specs.declared.scalar.Nine.{Nine}
 use Rattle.vhdl_values.specs.declared.scalar.Nine.TheVariants.{X}
 use Rattle.rtl_model.specs.bodies.Fits.{IsWidth}
@@ -21,6 +21,7 @@ use Rattle.vhdl_expand_rules.specs.Kinds.{ObjectKind, one, vector, enumeration, 
 use Rattle.vhdl_expand_rules.specs.Elab.{item_or as found_kind}
 use Rattle.vhdl_expand_rules.specs.Site.{Site, Constant, elements_count, part_elements, constant_values, the_element}
 use Rattle.vhdl_expand_rules.proofs.Steps.{given, ok, bound, kept}
+use Rattle.vhdl_expand_rules.proofs.laws.Names.{count-cons}
 use Rattle.vhdl_expand_bodies.specs.declared.site.Placed.{Placed}
 use Rattle.vhdl_expand_bodies.specs.Sites.{IsSitePlaced, placed_kind}
 
@@ -205,11 +206,25 @@ part-given at from ps k part p f len there placed h =
     ∙ ap given (map-add (from + elements_count (take k kinds)) f len)
     ∙ ap (λ m. given (range_with_len (from + m + f) len)) (sym placed.first)
 
-pub part-fits : (at : Integers) (ps : List Placed) (k : ℕ) (part : Part) (p : Placed) (f len : ℕ)
-    → IsSitePlaced (take k (map placed_kind ps)) p → places at (placed_kind p) part ≡ Ok (range_with_len f len) → IsWidth len × (f < 64)
-part-fits at ps k part p f len placed h =
+-- its elements are some of all
+among : (ps : List Placed) (k : ℕ) (p : Placed) → slice_get ps k ≡ Some p → elements_count (take k (map placed_kind ps)) + size (placed_kind p) ≤ elements_count (map placed_kind ps)
+among [] k p h = absurd cc
+among (q ∷ ps) zero p h =
+    let all : elements_count (map placed_kind (q ∷ ps)) ≡ size (placed_kind q) + elements_count (map placed_kind ps) = count-cons (placed_kind q) (map placed_kind ps) in
+    let same : size (placed_kind q) ≡ size (placed_kind p) = ap (λ (x : Placed). size (placed_kind x)) (same_Some q p h) in
+    omega (arith, all, same)
+among (q ∷ ps) (suc k) p h =
+    let all : elements_count (map placed_kind (q ∷ ps)) ≡ size (placed_kind q) + elements_count (map placed_kind ps) = count-cons (placed_kind q) (map placed_kind ps) in
+    let some : elements_count (placed_kind q ∷ take k (map placed_kind ps)) ≡ size (placed_kind q) + elements_count (take k (map placed_kind ps)) = count-cons (placed_kind q) (take k (map placed_kind ps)) in
+    let rest : elements_count (take k (map placed_kind ps)) + size (placed_kind p) ≤ elements_count (map placed_kind ps) = among ps k p h in
+    omega (arith, all, some, rest)
+
+pub part-fits : (at : Integers) (from : ℕ) (ps : List Placed) (k : ℕ) (part : Part) (p : Placed) (f len : ℕ) → from + elements_count (map placed_kind ps) < 2 ^ 32
+    → slice_get ps k ≡ Some p → IsSitePlaced (take k (map placed_kind ps)) p → places at (placed_kind p) part ≡ Ok (range_with_len f len) → IsWidth len × (from + p.first + f < 2 ^ 32)
+part-fits at from ps k part p f len few there placed h =
     let fits = places-short at (placed_kind p) part f len placed.width.0 h in
-    ((fits.0, omega (arith, fits.0, fits.1, placed.width.1)), omega (arith, fits.0, fits.1, placed.width.1))
+    let within = among ps k p there in
+    ((fits.0, omega (arith, fits.0, fits.1, placed.width.1)), omega (arith, few, fits.0, fits.1, placed.first, within))
 
 -- ---- the values of a constant
 

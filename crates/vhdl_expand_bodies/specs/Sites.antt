@@ -1,5 +1,5 @@
 -- What contracts see of the place in which a body stands.
-use Rattle.std.specs.Prelude.{◌≡◌, ℕ, ℤ, ◌<◌, List, map, take, slice_get, Some}
+use Rattle.std.specs.Prelude.{◌≡◌, ℕ, ℤ, ◌+◌, ◌^◌, ◌<◌, List, map, take, slice_get, Some}
 use Rattle.rtl_model.specs.bodies.Fits.{IsWidth}
 use Rattle.vhdl_expand_rules.specs.declared.kind.Run.{Run}
 use Rattle.vhdl_expand_rules.specs.Kinds as kinds
@@ -40,10 +40,13 @@ pub record IsSite (s : Site) : Type 0 where
   pub port_elements : s.port_elements ≡ elements_count (map placed_kind s.ports.now)
   pub signals : ArePlaced s.signals.now
   pub variables : ArePlaced s.variables.now
+  -- the numbers of elements fit a word
+  pub few_elements : s.port_elements + elements_count (map placed_kind s.signals.now) < 2 ^ 32
+  pub few_variables : elements_count (map placed_kind s.variables.now) < 2 ^ 32
 
 -- a run of 1 to 64 elements, whose numbers fit a word
 abbrev pub IsShort : Run → Type 0
-IsShort r = IsWidth r.len × (r.first < 17179869184)
+IsShort r = IsWidth r.len × (r.first < 2 ^ 32)
 
 -- within loops whose parameters have these values
 abbrev pub with_loops : definition.Site → List ℤ → definition.Site

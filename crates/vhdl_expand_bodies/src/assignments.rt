@@ -87,7 +87,7 @@ impl Site<'_> {
     {
         let run = self.signal_elements(target.signal, &target.part, target.at)?;
         let value = self.assigned(alloc, run.len as u32, value, target.at)?;
-        let places = elements(run)?;
+        let places = elements(run);
         Ok(Statement::Assign { places, value })
     }
 
@@ -106,7 +106,7 @@ impl Site<'_> {
     {
         let run = self.variable_elements(variable, part, at)?;
         let value = self.assigned(alloc, run.len as u32, value, at)?;
-        let elements = elements(run)?;
+        let elements = elements(run);
         Ok(Statement::Set { elements, value })
     }
 }

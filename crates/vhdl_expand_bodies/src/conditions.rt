@@ -309,10 +309,10 @@ impl Site<'_> {
     {
         let run = self.signal_elements(place.signal, &place.part, place.at)?;
         if run.len == 1 {
-            let net = element(run)?;
+            let net = element(run);
             return Ok(Test::Level { plain, net, value });
         }
-        let elements = elements(run)?;
+        let elements = elements(run);
         Ok(Test::Equal(
             rtl_net::Value::Elements(Expr::Signal(elements)),
             rtl_net::Value::Elements(Expr::Constant(Vec9::fill(value, 1))),

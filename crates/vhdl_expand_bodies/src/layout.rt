@@ -1,6 +1,6 @@
 //! Ports or signals one behind another (IEEE 1076-2008, 14.3).
 
-ghost use Rattle.std.specs.Prelude.{◌≡◌, ◌++◌, [], ◌∷◌, map, OnErr, OnOk};
+ghost use Rattle.std.specs.Prelude.{◌≡◌, ◌+◌, ◌^◌, ◌<◌, ◌≤◌, ◌++◌, [], ◌∷◌, map, OnErr, OnOk};
 ghost use Rattle.rtl_model.specs.bodies.Fits.{IsWidth};
 ghost use Rattle.vhdl_expand_rules.specs.Kinds.{size};
 ghost use Rattle.vhdl_expand_rules.specs.Site.{elements_count};
@@ -31,18 +31,17 @@ impl Layout {
         }
     }
 
-    /// Puts a thing of this kind behind the others. Memory would be refused for numbers beyond a word.
+    /// Puts a thing of this kind behind the others, where the numbers of all elements fit a word. It takes the memory of the list.
     pub fn add(&mut self, kind: ObjectKind) -> Result<(), AllocError>
-        requires { IsWidth (size (kind_view kind)) }
+        requires width { IsWidth (size (kind_view kind)) }
+        requires few { self.old.elements + size (kind_view kind) < 2 ^ 32 }
+        ensures grows { self.new.elements ≤ self.old.elements + size (kind_view kind) }
         ensures ok { OnOk result (map placed_kind self.new.things.items ≡ map placed_kind self.old.things.items ++ kind_view kind ∷ []) }
         ensures err { OnErr result (map placed_kind self.new.things.items ≡ map placed_kind self.old.things.items) }
     {
-        let Some(elements) = self.elements.checked_add(kind.size() as u32) else {
-            return Err(AllocError);
-        };
         let first = self.elements;
         self.things.push(Placed { kind, first })?;
-        self.elements = elements;
+        self.elements += kind.size() as u32;
         Ok(())
     }
 }

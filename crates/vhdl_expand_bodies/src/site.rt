@@ -1,10 +1,10 @@
 //! What is known where a body stands, and the elements that its names mean (IEEE 1076-2008, 8.1 to 8.5).
 
-ghost use Rattle.std.specs.Prelude.{◌≡◌, ◌+◌, map, IfOk, Ok};
+ghost use Rattle.std.specs.Prelude.{◌≡◌, ◌+◌, ◌^◌, ◌<◌, map, IfOk, Ok};
 ghost use Rattle.rtl_net.specs.Indices.{numbers};
 ghost use Rattle.vhdl_names_rules.specs.views.Vectors.{part_view, signal_view};
 ghost use Rattle.vhdl_expand_rules.specs.Site as definition;
-ghost use Rattle.vhdl_expand_rules.specs.Site.{the_element};
+ghost use Rattle.vhdl_expand_rules.specs.Site.{elements_count, the_element};
 ghost use Rattle.vhdl_expand_rules.specs.views.Integers.{integers_view};
 ghost use Rattle.vhdl_expand_rules.specs.views.Kinds.{run_view};
 ghost use Rattle.vhdl_expand_bodies.specs.Results.{Expands};
@@ -35,30 +35,24 @@ pub struct Site<'a> {
     pub variables: &'a [Placed],
 }
 
-/// Neighbouring elements, as bodies number them. Memory would be refused for numbers beyond a word.
-pub(crate) fn elements(run: Run) -> Result<Indices, ElabFault>
+/// Neighbouring elements, as bodies number them.
+pub(crate) fn elements(run: Run) -> Indices
     requires { IsShort run }
-    ensures { Expands numbers (Ok (run_view run)) result }
+    ensures { numbers result ≡ run_view run }
 {
-    match u32::try_from(run.first) {
-        Ok(first) => Ok(Indices::Run {
-            first,
-            len: run.len as u32,
-        }),
-        Err(_) => Err(ElabFault::NoMemory),
+    Indices::Run {
+        first: run.first as u32,
+        len: run.len as u32,
     }
 }
 
-/// The only one of so many elements. Memory would be refused for a number beyond a word.
+/// The only one of so many elements.
 #[tactic(auto, using(crate::proofs::Places::one_element))]
-pub(crate) fn element(run: Run) -> Result<u32, ElabFault>
+pub(crate) fn element(run: Run) -> u32
     requires { IsShort run }
-    ensures { Expands (λ n. n) (the_element (Ok (run_view run))) result }
+    ensures { the_element (Ok (run_view run)) ≡ Ok result }
 {
-    match u32::try_from(run.first) {
-        Ok(element) => Ok(element),
-        Err(_) => Err(ElabFault::NoMemory),
-    }
+    run.first as u32
 }
 
 impl Site<'_> {
@@ -72,7 +66,8 @@ impl Site<'_> {
         part: &Part,
         at: usize,
     ) -> Result<Run, ElabFault>
-        requires { ArePlaced things.now }
+        requires placed { ArePlaced things.now }
+        requires few { from + elements_count (map placed_kind things.now) < 2 ^ 32 }
         ensures given { Expands run_view (definition.part_elements (integers_view self.now.integers) from (map placed_kind things.now) number (part_view part.now)) result }
         ensures short { IfOk result IsShort }
     {

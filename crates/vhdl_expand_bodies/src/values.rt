@@ -39,7 +39,7 @@ impl Site<'_> {
         ensures { Expands (λ n. n) (the_element (signal_elements (site_view self.now) (signal_view signal) (part_view part.now))) result }
     {
         let run = self.signal_elements(signal, part, at)?;
-        element(run)
+        Ok(element(run))
     }
 
     /// A value, expanded; a fault is StaticError, Length, Index or TooWide.
@@ -71,7 +71,7 @@ impl Site<'_> {
             }
             Value::StateOfVariable(number) => {
                 let run = self.variable_elements(*number, &Part::Whole, at)?;
-                let element = element(run)?;
+                let element = element(run);
                 Ok(Selected {
                     value: rtl_net::Value::PositionIn(element),
                     width: Width { len: 1 },

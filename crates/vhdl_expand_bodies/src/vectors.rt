@@ -76,7 +76,7 @@ impl Site<'_> {
         ensures { Expands operand_view (steps.signal (site_view self.now) (place_view place.now)) result }
     {
         let run = self.signal_elements(place.signal, &place.part, place.at)?;
-        let elements = elements(run)?;
+        let elements = elements(run);
         Ok(Operand {
             expr: Expr::Signal(elements),
             width: Width { len: run.len },
@@ -89,7 +89,7 @@ impl Site<'_> {
         ensures { Expands operand_view (steps.variable (site_view self.now) number (part_view part.now)) result }
     {
         let run = self.variable_elements(number, part, at)?;
-        let elements = elements(run)?;
+        let elements = elements(run);
         Ok(Operand {
             expr: Expr::Variable(elements),
             width: Width { len: run.len },

@@ -120,7 +120,7 @@ fn encoded(
 }
 
 /// The codes of a value of so many elements; a fault is StaticError, Length, Index or TooWide.
-#[tactic(auto, unfolding(vhdl_expand_rules::specs::Declarations::fixed), using(crate::proofs::Codes::codes_filled))]
+#[tactic(auto, unfolding(vhdl_expand_rules::specs::Declarations::fixed_values), using(crate::proofs::Codes::codes_filled))]
 fn fixed(
     alloc: Global,
     site: &Site,

@@ -6,6 +6,7 @@ mod actuals;
 mod declarative;
 mod declared;
 mod generics;
+mod known;
 mod nets;
 mod objects;
 mod shape;

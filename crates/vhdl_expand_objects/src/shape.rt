@@ -40,7 +40,7 @@ fn byte(at: usize) -> u32
 impl Shape {
     /// Of objects of a declaration; a fault is StaticError, Length, Index or TooWide, at this byte where no operator is to
     /// blame. It takes the memory of the list.
-    #[tactic(auto, using(crate::proofs::Widths::kind_width))]
+    #[tactic(auto, using(vhdl_expand_rules::proofs::laws::Kinds::kind_width))]
     pub(crate) fn of(
         alloc: Global,
         site: &Site,

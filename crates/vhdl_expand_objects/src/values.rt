@@ -60,7 +60,7 @@ fn encoded(
 }
 
 /// The values of a constant of so many elements; a fault is StaticError, Length, Index or TooWide.
-#[tactic(auto, unfolding(vhdl_expand_rules::specs::Declarations::fixed))]
+#[tactic(auto, unfolding(vhdl_expand_rules::specs::Declarations::fixed_values))]
 pub(crate) fn fixed(site: &Site, len: usize, value: &Fixed, at: usize) -> Result<Vec9, ElabFault>
     requires { IsWidth len }
     ensures given { Computes (definition.fixed_values (site_view site.now) len (fixed_view value.now)) result }
@@ -87,7 +87,7 @@ pub(crate) fn fixed(site: &Site, len: usize, value: &Fixed, at: usize) -> Result
 }
 
 /// A constant that is no integer; a fault is StaticError, Length, Index or TooWide.
-#[tactic(auto, using(crate::proofs::Widths::kind_width))]
+#[tactic(auto, using(vhdl_expand_rules::proofs::laws::Kinds::kind_width))]
 pub(crate) fn constant(
     site: &Site,
     form: &Form,

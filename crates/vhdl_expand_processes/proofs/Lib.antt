@@ -3,3 +3,4 @@ pub mod Sums
 pub mod Declaring
 pub mod Measured
 pub mod Made
+pub mod Room

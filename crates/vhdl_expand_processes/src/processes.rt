@@ -99,6 +99,8 @@ fn parts_of(
     let at = process.at;
     budget.charge_process(at)?;
     let variables = variables(alloc, site, &process.variables, at)?;
+    // Read, so that it is known to fit a word.
+    let _left = budget.variable_elements;
     charge_variables(&variables, at, budget)?;
     let drives = drives(alloc, site, &process.statements, at)?;
     let sensitivity = sensitivity(alloc, site, process)?;

@@ -1,12 +1,13 @@
 //! The variables of a process, and its body among them (IEEE 1076-2008, 6.4.2.4, 10.6).
 
-ghost use Rattle.std.specs.Prelude.{◌≡◌, ◌++◌, flat_map, map, All, IfOk};
+ghost use Rattle.std.specs.Prelude.{◌≡◌, ◌^◌, ◌<◌, ◌++◌, flat_map, map, All, IfOk};
 ghost use Rattle.rtl_model.specs.bodies.Fits.{IsWidth};
 ghost use Rattle.rtl_net.specs.Bodies.{statements_of};
 ghost use Rattle.vhdl_expand_rules.specs.Declarations as definition;
 ghost use Rattle.vhdl_expand_rules.specs.Elab.{each};
 ghost use Rattle.vhdl_expand_rules.specs.Expansion.{with_variables};
 ghost use Rattle.vhdl_expand_rules.specs.Kinds.{size};
+ghost use Rattle.vhdl_expand_rules.specs.Site.{elements_count};
 ghost use Rattle.vhdl_expand_rules.specs.Statements as bodies;
 ghost use Rattle.vhdl_expand_rules.specs.Tree as tree;
 ghost use Rattle.vhdl_expand_bodies.specs.Results.{Expands, Charges};
@@ -97,7 +98,8 @@ pub(crate) fn charge_variables(
 
 /// Variables one behind another. It takes the memory of the list.
 fn layout_of(alloc: Global, variables: &[Variable]) -> Result<Layout, AllocError>
-    requires { All HasWidth variables.now }
+    requires wide { All HasWidth variables.now }
+    requires few { elements_count (map variable_kind variables.now) < 2 ^ 32 }
     ensures { IfOk result (λ layout. map placed_kind layout.things.items ≡ map variable_kind variables.now) }
 {
     let mut layout = Layout::new(alloc);
@@ -116,6 +118,7 @@ pub(crate) fn body(
 ) -> Result<Vec<Statement>, ElabFault>
     requires site { IsSite site.now }
     requires wide { All HasWidth variables.now }
+    requires few { elements_count (map variable_kind variables.now) < 2 ^ 32 }
     ensures { Expands (λ v. statements_of v.items)
         (bodies.statements (with_variables (site_view site.now) (map variable_view variables.now)) (analysed.statements_of (map analysed.statement_view list.now))) result }
 {

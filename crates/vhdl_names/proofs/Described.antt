@@ -1,5 +1,5 @@
 -- An architecture as that of its entity, which is found by its name.
-use Rattle.std.proofs.Common.{◌≡◌, ℕ, true, false, List, map, set, position, Option, Some, None, Result, Vec, Global, Ok, Err, IfOk, refl, ap, ◌∙◌, zero-add}
+use Rattle.std.proofs.Common.{◌≡◌, ℕ, true, false, List, map, set, position, Option, Some, None, Result, Vec, Global, Ok, Err, IfOk, refl, ap, sym, ◌∙◌, zero-add}
 use Rattle.std.specs.Prelude.{bytes_eq, option_map}
 use Rattle.std.specs.Map.{lookup, keys_of}
 use Rattle.vhdl_tree.specs.Tree as t
@@ -21,39 +21,52 @@ use Rattle.vhdl_names.specs.steps.Architectures.{with_described}
 -- ---- the entity of a name
 
 module _ (n : Name) (es : List (Vec ℕ Global × EntityInterface)) where
-  pub named_some : (k : ℕ) (e : EntityInterface) → position (λ m. bytes_eq n m.items) (keys_of es) ≡ Some k → lookup (λ m. bytes_eq n m.items) es ≡ Some e
+  named_some : (k : ℕ) (e : EntityInterface) → position (λ m. bytes_eq n m.items) (keys_of es) ≡ Some k → lookup (λ m. bytes_eq n m.items) es ≡ Some e
       → entity_named (map entry_view es) n ≡ Some (k, named_view n e)
   named_some k e index value =
       found n 0 es ∙ ap (λ o. joined n 0 o (lookup (λ m. bytes_eq n m.items) es)) index ∙ ap (joined n 0 (Some k)) value
       ∙ ap (λ k. Some (found_pair k (named_view n e))) (zero-add k)
 
-  pub named_none : position (λ m. bytes_eq n m.items) (keys_of es) ≡ None → entity_named (map entry_view es) n ≡ None
+  named_none : position (λ m. bytes_eq n m.items) (keys_of es) ≡ None → entity_named (map entry_view es) n ≡ None
   named_none index = found n 0 es ∙ ap (λ o. joined n 0 o (lookup (λ m. bytes_eq n m.items) es)) index
 
--- ---- an architecture of it
-
-module _ (ns : List Name) (es : List EntityView) (items : List ContextItem) (a : t.Architecture) where
-  pub described_some : (k : ℕ) (e : EntityView) → entity_named es a.entity.text ≡ Some (k, e)
-      → broken.described ns es (items, a) ≡ broken.up_to_hidden (broken.is_hidden ns es) a (broken.architecture es e items a)
-  described_some k e h = rw h refl
-
-  pub described_none : entity_named es a.entity.text ≡ None
-      → broken.described ns es (items, a) ≡ context (record { has_ieee = true; has_logic = false; has_numbers = false }) items
-  described_none h = rw h refl
-
-module _ (es : List EntityView) (os : List (Option u.Architecture)) (items : List ContextItem) (a : t.Architecture) where
-  pub with_some : (k : ℕ) (e : EntityView) → entity_named es a.entity.text ≡ Some (k, e)
-      → with_described es os (items, a) ≡ (architecture es e items a >>= λ x. Some (set os k (Some x)))
-  with_some k e h = rw h refl
-
-  pub with_none : entity_named es a.entity.text ≡ None → with_described es os (items, a) ≡ Some os
-  with_none h = rw h refl
-
 -- an entity's name says nothing of its architecture
-pub name_apart : (es : List EntityView) (n : Name) (e : EntityInterface) (items : List ContextItem) (a : t.Architecture)
+name_apart : (es : List EntityView) (n : Name) (e : EntityInterface) (items : List ContextItem) (a : t.Architecture)
     → architecture es (named_view n e) items a ≡ architecture es (entity_view e) items a
 unfolding architecture
 name_apart es n e items a = refl
+
+-- ---- an architecture of an entity that a table is asked for by these bytes
+
+module _ (es : List (Vec ℕ Global × EntityInterface)) (items : List ContextItem) (a : t.Architecture) (m : Name) (same : m ≡ a.entity.text) where
+  entity_at : (k : ℕ) (e : EntityInterface) → Some k ≡ position (λ x. bytes_eq m x.items) (keys_of es) → Some e ≡ lookup (λ x. bytes_eq m x.items) es
+      → entity_named (map entry_view es) a.entity.text ≡ Some (k, named_view m e)
+  entity_at k e index value = ap (entity_named (map entry_view es)) (sym same) ∙ named_some m es k e (sym index) (sym value)
+
+  nowhere : None ≡ position (λ x. bytes_eq m x.items) (keys_of es) → entity_named (map entry_view es) a.entity.text ≡ None
+  nowhere index = ap (entity_named (map entry_view es)) (sym same) ∙ named_none m es (sym index)
+
+  pub described_at : (ns : List Name) (k : ℕ) (e : EntityInterface) → Some k ≡ position (λ x. bytes_eq m x.items) (keys_of es)
+      → Some e ≡ lookup (λ x. bytes_eq m x.items) es
+      → broken.described ns (map entry_view es) (items, a)
+      ≡ broken.up_to_hidden (broken.is_hidden ns (map entry_view es)) a (broken.architecture (map entry_view es) (entity_view e) items a)
+  described_at ns k e index value = rw (entity_at k e index value) refl
+
+  pub described_nowhere : (ns : List Name) → None ≡ position (λ x. bytes_eq m x.items) (keys_of es)
+      → broken.described ns (map entry_view es) (items, a) ≡ context (record { has_ieee = true; has_logic = false; has_numbers = false }) items
+  described_nowhere ns index = rw (nowhere index) refl
+
+  pub with_at : (os : List (Option u.Architecture)) (k : ℕ) (e : EntityInterface) → Some k ≡ position (λ x. bytes_eq m x.items) (keys_of es)
+      → Some e ≡ lookup (λ x. bytes_eq m x.items) es
+      → with_described (map entry_view es) os (items, a) ≡ (architecture (map entry_view es) (entity_view e) items a >>= λ x. Some (set os k (Some x)))
+  with_at os k e index value =
+      let there : with_described (map entry_view es) os (items, a) ≡ (architecture (map entry_view es) (named_view m e) items a >>= λ x. Some (set os k (Some x))) =
+      rw (entity_at k e index value) refl in
+      there ∙ ap (λ o. o >>= λ x. Some (set os k (Some x))) (name_apart (map entry_view es) m e items a)
+
+  pub with_nowhere : (os : List (Option u.Architecture)) → None ≡ position (λ x. bytes_eq m x.items) (keys_of es)
+      → with_described (map entry_view es) os (items, a) ≡ Some os
+  with_nowhere os index = rw (nowhere index) refl
 
 -- what is given is put at its place
 pub put_there : (os : List (Option u.Architecture)) (k : ℕ) (o : Option u.Architecture) (x : Option u.Architecture) → option_map Some o ≡ Some x

@@ -1,4 +1,4 @@
-use Rattle.std.proofs.Common.{List, map, flat_map, ap, ◌∙◌, sym, subst, All, arith, rules}
+use Rattle.std.proofs.Common.{◌≤◌, List, map, flat_map, ap, ◌∙◌, sym, subst, All, Fits, w32, arith, rules}
 use Rattle.std.specs.Prelude.{◌≢◌}
 use Rattle.std.proofs.lemmas.Grind.{common_steps}
 use Rattle.vhdl_names_units.specs.views.Concurrent as analysed
@@ -8,6 +8,7 @@ use Rattle.vhdl_expand_rules.specs.declared.fault.ElabFault.TheVariants.{NoMemor
 use Rattle.vhdl_expand_rules.specs.Declarations.{variable}
 use Rattle.vhdl_expand_rules.specs.Elab.{each, problem_told, MayTell}
 use Rattle.vhdl_expand_rules.specs.Expansion.{with_variables}
+use Rattle.vhdl_expand_rules.specs.Site.{elements_count}
 use Rattle.vhdl_expand_rules.specs.Statements.{statements}
 use Rattle.vhdl_expand_bodies.specs.Sites.{site_view}
 use Rattle.vhdl_expand_drivers.specs.Driven.{drives_of}
@@ -17,8 +18,9 @@ use Rattle.vhdl_expand_tree.specs.Views.{budget_view, variable_view}
 use Rattle.vhdl_expand_tree.proofs.Alike.{tells, tells_same}
 use Rattle.vhdl_expand_processes.specs.Processes.{turns_paid, process_steps}
 use Rattle.vhdl_expand_processes.specs.Unrolled.{statements_costs}
-use Rattle.vhdl_expand_processes.specs.Variables.{HasWidth}
+use Rattle.vhdl_expand_processes.specs.Variables.{variable_kind, HasWidth}
 use Rattle.vhdl_expand_processes.proofs.Declaring.{all_wide}
+use Rattle.vhdl_expand_processes.proofs.Room.{held_few}
 use Rattle.vhdl_expand_processes.proofs.Made.{not_started, not_declared, not_held, not_driven, not_resumed, not_counted, not_expanded}
 use Rattle.vhdl_expand_processes.proofs.processes.parts_of.Goals as goal
 
@@ -26,6 +28,15 @@ pub body-requires-clause-wide : goal.body-requires-clause-wide
 body-requires-clause-wide c =
     subst (λ (xs : List Variable). All HasWidth xs) (sym c.deref-5.ensures.value)
     (all_wide (site_view c.args.site.now) _ c.in_ok-variables.variables.items c.in_ok-variables.ensures)
+
+pub body-requires-clause-few : goal.body-requires-clause-few
+body-requires-clause-few c =
+    let at = site_view c.args.site.now in
+    let declared = ap (λ os. each (variable at) (flat_map object_view os)) (sym c.deref.ensures.value) ∙ c.in_ok-variables.ensures in
+    let held = ap (λ xs. spent (budget_view c.charge_process.new.self) (variables_costs (map variable_view xs))) (sym c.deref-2.ensures.value) ∙ c.in_ok-charge_variables.ensures in
+    let few : elements_count (map variable_kind c.in_ok-variables.variables.items) ≤ c.charge_process.new.self.variable_elements = held_few at _ c.in_ok-variables.variables.items (budget_view c.charge_process.new.self) _ declared held in
+    let word : Fits w32 c.charge_process.new.self.variable_elements = search rules in
+    omega (arith, few, word, ap (λ (xs : List Variable). elements_count (map variable_kind xs)) c.deref-5.ensures.value)
 
 pub returns-in_err-charge_process : goal.returns-in_err-charge_process
 returns-in_err-charge_process c =

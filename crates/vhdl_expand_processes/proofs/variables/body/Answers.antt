@@ -1,5 +1,6 @@
-use Rattle.std.proofs.Common.{List, map, ap, sym, ◌∙◌, subst}
+use Rattle.std.proofs.Common.{List, map, ap, sym, ◌∙◌, subst, arith}
 use Rattle.vhdl_names_units.specs.views.Sequential as analysed
+use Rattle.vhdl_expand_rules.specs.Site.{elements_count}
 use Rattle.vhdl_expand_rules.specs.Statements.{statements}
 use Rattle.vhdl_expand_bodies.specs.declared.site.Placed.{Placed}
 use Rattle.vhdl_expand_bodies.specs.Sites.{ArePlaced, placed_kind, site_view}
@@ -13,6 +14,8 @@ body-body-requires c = record {
   port_elements = c.requires.site.port_elements;
   signals = c.requires.site.signals;
   variables = subst (λ (ps : List Placed). ArePlaced ps) (sym c.deref.ensures.value) c.in_ok-layout.layout.are_placed;
+  few_elements = c.requires.site.few_elements;
+  few_variables = omega (arith, c.requires.few, ap elements_count (ap (map placed_kind) c.deref.ensures.value ∙ c.in_ok-layout.ensures));
 }
 
 pub returns : goal.returns

@@ -1,8 +1,15 @@
-use Rattle.std.proofs.Common.{◌<◌, length, arith, rules}
+use Rattle.std.proofs.Common.{◌^◌, ◌<◌, length, arith, rules}
 use Rattle.vhdl_expand_processes.specs.Variables.{variable_kind}
 use Rattle.vhdl_expand_processes.proofs.Declaring.{kinds_go, kinds_end}
+use Rattle.vhdl_expand_processes.proofs.Room.{next_fits}
 use Rattle.vhdl_expand_processes.proofs.Paying.{none_left}
 use Rattle.vhdl_expand_processes.proofs.variables.layout_of.Goals as goal
+
+pub add-requires-clause-few : goal.add-requires-clause-few
+add-requires-clause-few c =
+    let below : c.loop-variable.variable-index < length c.args.variables.now = first_of (search rules, omega arith) in
+    let fits = next_fits _ c.args.variables.now c.loop-variable.variable-index c.variable-item.result (2 ^ 32) below c.variable-item.is c.loop-variable.invariant c.requires.few in
+    omega (arith, fits, c.loop-variable.layout.all_counted)
 
 pub loop-variable-preserved : goal.loop-variable-preserved
 loop-variable-preserved c =

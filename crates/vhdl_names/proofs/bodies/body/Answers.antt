@@ -1,7 +1,6 @@
 use Rattle.std.proofs.Common.{map, sym, ◌∙◌}
 use Rattle.vhdl_tree.specs.Tree as t
 use Rattle.vhdl_tree.specs.View as view
-use Rattle.vhdl_names_rules.specs.Concurrent as are
 use Rattle.vhdl_names_problems.specs.Broken.{◌▸◌}
 use Rattle.vhdl_names_problems.specs.Concurrent.{concurrents}
 use Rattle.vhdl_names_problems.specs.Declarations.{standing_twice, end_name}

@@ -1,13 +1,21 @@
-use Rattle.std.proofs.Common.{map, ap, refl, sym, ◌∙◌, subst}
+use Rattle.std.proofs.Common.{ℕ, List, map, ap, refl, sym, ◌∙◌, subst}
 use Rattle.std.specs.Prelude.{◌↔◌, Contains, option_map}
 use Rattle.std.proofs.lemmas.List.{with_items_is}
 use Rattle.rtl_model.specs.bodies.Reads.{reads}
 use Rattle.rtl_net.specs.Bodies.{statements_of}
+use Rattle.rtl_net.specs.declared.body.Statement.{Statement}
+use Rattle.vhdl_expand_rules.specs.laws.Trees.{Assigns}
 use Rattle.vhdl_elab_rules.specs.Bodies.{connected_body}
 use Rattle.vhdl_connect_bodies.proofs.Reading.{reads_connected}
 use Rattle.vhdl_expand_tree.specs.Views.{process_view, variable_view}
 use Rattle.vhdl_connect_processes.specs.Located.{driver_in, of_variable}
 use Rattle.vhdl_connect_processes.proofs.process.Round.process.Goals as goal
+
+pub connect_body-requires-clause-driven : goal.connect_body-requires-clause-driven
+connect_body-requires-clause-driven c =
+    let body = c.deref_mut.ensures.value ∙ ap (λ v. v.items) c.replace-body.ensures.value in
+    subst (λ (ss : List Statement). Assigns (Contains c.deref.result.now) (statements_of ss)) (sym body)
+    (subst (λ (ds : List ℕ). Assigns (Contains ds) (statements_of c.args.from.now.body.items)) (sym c.deref.ensures.value) c.requires.driven)
 
 pub returns : goal.returns
 returns c =

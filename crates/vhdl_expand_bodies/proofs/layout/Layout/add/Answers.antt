@@ -22,6 +22,6 @@ invariant_of-self-2 c =
     let h = counted_more s.things.items c.push.new.self.items p e in
     let k = s.all_counted in
     record {
-      are_placed = placed_more s.things.items c.push.new.self.items p e s.are_placed (record { first = s.all_counted; width = c.requires });
+      are_placed = placed_more s.things.items c.push.new.self.items p e s.are_placed (record { first = s.all_counted; width = c.requires.width });
       all_counted = omega (arith, h, k, c.size.ensures);
     }

@@ -1,5 +1,7 @@
+use Rattle.std.proofs.Common.{sym, ap}
 use Rattle.rtl_net.specs.Indices.{numbers}
 use Rattle.vhdl_names_rules.specs.views.Vectors.{place_view}
+use Rattle.vhdl_expand_rules.proofs.Steps.{given}
 use Rattle.vhdl_expand_bodies.specs.Sites.{site_view}
 use Rattle.vhdl_expand_bodies.proofs.TestChains.{level_given}
 use Rattle.vhdl_expand_bodies.proofs.site.Site.level.Goals as goal
@@ -7,4 +9,4 @@ use Rattle.vhdl_expand_bodies.proofs.site.Site.level.Goals as goal
 pub returns : goal.returns
 returns c =
     level_given (site_view c.args.self.now) c.args.plain (place_view c.args.place.now) c.args.value c.in_ok-run.run'.first c.in_ok-run.run'.len
-    (numbers c.in_ok-elements.elements) c.fill.result c.in_ok-run.ensures.given c.in_ok-run.ensures.short.0.0 c.if-run-eq1.false c.in_ok-elements.ensures c.fill.ensures.list
+    (numbers c.elements-elements.result) c.fill.result c.in_ok-run.ensures.given c.in_ok-run.ensures.short.0.0 c.if-run-eq1.false (ap given (sym c.elements-elements.ensures)) c.fill.ensures.list

@@ -1,4 +1,4 @@
-use Rattle.std.proofs.Common.{◌≡◌, Err, arith, rules}
+use Rattle.std.proofs.Common.{◌≡◌, Err, sym, ap, arith, rules}
 use Rattle.std.specs.Prelude.{◌≢◌}
 use Rattle.std.proofs.lemmas.Grind.{common_steps}
 use Rattle.rtl_net.specs.Indices.{numbers}
@@ -10,12 +10,13 @@ use Rattle.vhdl_expand_bodies.specs.Sites.{site_view}
 use Rattle.vhdl_expand_bodies.specs.steps.Assignments as steps
 use Rattle.vhdl_expand_bodies.proofs.Assigned.{set_gives, set_stops}
 use Rattle.vhdl_expand_rules.specs.Elab.{problem_told}
+use Rattle.vhdl_expand_rules.proofs.Steps.{given}
 use Rattle.vhdl_expand_bodies.proofs.site.Site.set.Goals as goal
 
 pub returns : goal.returns
 returns c =
     set_gives (site_view c.args.self.now) c.args.variable (part_view c.args.part.now) (given_view c.args.value.now)
-    c.in_ok-run.run'.first c.in_ok-run.run'.len (value_view c.in_ok-value.value) (numbers c.in_ok-elements.elements) c.in_ok-run.ensures.given c.in_ok-value.ensures c.in_ok-elements.ensures
+    c.in_ok-run.run'.first c.in_ok-run.run'.len (value_view c.in_ok-value.value) (numbers c.elements-elements.result) c.in_ok-run.ensures.given c.in_ok-value.ensures (ap given (sym c.elements-elements.ensures))
 
 pub returns-in_err-value : goal.returns-in_err-value
 returns-in_err-value c =

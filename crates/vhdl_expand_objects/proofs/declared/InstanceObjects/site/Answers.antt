@@ -1,4 +1,4 @@
-use Rattle.std.proofs.Common.{◌≡◌, List, map, sym, subst}
+use Rattle.std.proofs.Common.{◌≡◌, List, map, sym, ap, subst, arith}
 use Rattle.vhdl_expand_rules.specs.Site.{elements_count}
 use Rattle.vhdl_expand_bodies.specs.declared.site.Placed.{Placed}
 use Rattle.vhdl_expand_bodies.specs.Sites.{ArePlaced, placed_kind}
@@ -13,4 +13,6 @@ returns-clause-placed c =
       port_elements = subst (λ (ps : List Placed). s.ports.elements ≡ elements_count (map placed_kind ps)) (sym c.deref-4.ensures.value) s.ports.all_counted;
       signals = subst (λ (ps : List Placed). ArePlaced ps) (sym c.deref-5.ensures.value) s.signals.are_placed;
       variables = nothing_placed;
+      few_elements = omega (arith, s.few_elements, s.signals.all_counted, ap (λ (ps : List Placed). elements_count (map placed_kind ps)) c.deref-5.ensures.value);
+      few_variables = omega arith;
     }
