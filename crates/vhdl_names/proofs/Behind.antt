@@ -1,5 +1,5 @@
 -- An architecture, in the order of its parts.
-use Rattle.std.proofs.Common.{◌≡◌, Bool, true, false, List, ◌++◌, Option, Some, refl, ap, sym, ◌∙◌}
+use Rattle.std.proofs.Common.{◌≡◌, Bool, true, false, List, ◌++◌, Option, Some, refl, ap, ◌∙◌}
 use Rattle.vhdl_tree.specs.Tree as t
 use Rattle.vhdl_tree.specs.Tree.{ContextItem}
 use Rattle.vhdl_names_rules.specs.units.Units as u

@@ -1,5 +1,5 @@
 -- An architecture as that of its entity, which is found by its name.
-use Rattle.std.proofs.Common.{◌≡◌, ℕ, Bool, true, false, List, [], ◌∷◌, map, set, position, Option, Some, None, Result, Vec, Global, Ok, Err, IfOk, refl, ap, sym, ◌∙◌, zero-add}
+use Rattle.std.proofs.Common.{◌≡◌, ℕ, true, false, List, map, set, position, Option, Some, None, Result, Vec, Global, Ok, Err, IfOk, refl, ap, ◌∙◌, zero-add}
 use Rattle.std.specs.Prelude.{bytes_eq, option_map}
 use Rattle.std.specs.Map.{lookup, keys_of}
 use Rattle.vhdl_tree.specs.Tree as t

@@ -1,5 +1,5 @@
 -- The entities of a file one after another, past those that are at fault, and the first that is.
-use Rattle.std.proofs.Common.{◌≡◌, ◌≢◌, Bool, true, false, not, List, [], ◌∷◌, ◌++◌, map, Option, Some, None, Result, Ok, Err, IfOk, IfErr, refl, ap, sym, ◌∙◌}
+use Rattle.std.proofs.Common.{◌≡◌, ◌≢◌, Bool, true, false, not, List, [], ◌∷◌, ◌++◌, Option, Some, None, Result, Ok, Err, IfOk, IfErr, refl, ap, sym, ◌∙◌}
 use Rattle.std.specs.Prelude.{filter_map, if◌then◌else◌}
 use Rattle.std.specs.List.{cons_option}
 use Rattle.vhdl_tree.specs.Tree as t
@@ -15,7 +15,7 @@ use Rattle.vhdl_names_rules.proofs.laws.Rules.{comes, some_is}
 use Rattle.vhdl_names_problems.specs.Broken.{Broken, Tells, nothing, ◌▸◌, any_of}
 use Rattle.vhdl_names_problems.specs.Interfaces.{entity}
 use Rattle.vhdl_names_problems.specs.Files.{with_entities}
-use Rattle.vhdl_names_problems.proofs.Telling.{behind_kept, told_left, told_same, at_is_told}
+use Rattle.vhdl_names_problems.proofs.Telling.{behind_kept, told_same, at_is_told}
 use Rattle.vhdl_names_problems.proofs.kept.Interfaces.{entity_kept}
 use Rattle.vhdl_names_interfaces.specs.Views.{one_more}
 use Rattle.vhdl_names.specs.Finding.{Finds, HasMemory, first_of}

@@ -1,5 +1,5 @@
 -- What a file breaks first, of what is gathered of it.
-use Rattle.std.proofs.Common.{◌≡◌, ◌≢◌, ℕ, Bool, true, false, not, List, [], ◌∷◌, map, Option, Some, None, Result, Ok, Err, refl, ap, sym, ◌∙◌}
+use Rattle.std.proofs.Common.{◌≡◌, ◌≢◌, ℕ, true, false, not, List, [], ◌∷◌, map, Option, Some, None, refl, ap, ◌∙◌}
 use Rattle.std.specs.Prelude.{◌&&◌, filter_map, option_map}
 use Rattle.std.specs.List.{cons_option}
 use Rattle.vhdl_tree.specs.Tree as t

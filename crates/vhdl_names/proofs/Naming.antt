@@ -1,22 +1,22 @@
 -- The names of a file's units one after another, and the first that is at fault.
-use Rattle.std.proofs.Common.{◌≡◌, Bool, true, false, not, List, [], ◌∷◌, ◌++◌, map, Option, Some, None, Result, Ok, Err, IfOk, IfErr, refl, ap, sym, ◌∙◌, append_assoc, append-nil}
+use Rattle.std.proofs.Common.{◌≡◌, Bool, true, false, not, List, [], ◌∷◌, ◌++◌, map, Option, Some, Result, Ok, Err, IfOk, IfErr, refl, ap, sym, ◌∙◌, append_assoc, append-nil}
 use Rattle.vhdl_tree.specs.Tree as t
 use Rattle.vhdl_tree.specs.Tree.{ContextItem, DesignUnit, LibraryUnit}
 use Rattle.vhdl_names_rules.specs.declared.fault.NameFault.{NameFault}
 use Rattle.vhdl_names_rules.specs.declared.fault.NameFault.TheVariants.{At, NoMemory}
 use Rattle.vhdl_names_rules.specs.declared.fault.NameProblem.TheVariants.{Undeclared, Twice, SecondArchitecture}
-use Rattle.vhdl_names_rules.specs.Rules.{◌>>=◌, ◌>>◌, met, then_some}
+use Rattle.vhdl_names_rules.specs.Rules.{◌>>=◌, then_some}
 use Rattle.vhdl_names_rules.specs.Gives.{Gives}
-use Rattle.vhdl_names_rules.specs.Visibility.{Name, is_among, are_distinct}
+use Rattle.vhdl_names_rules.specs.Visibility.{is_among, are_distinct}
 use Rattle.vhdl_names_rules.specs.Files.{entity_names, described_names, architectures_of, stand_after}
 use Rattle.vhdl_names_rules.proofs.laws.Rules.{comes, kept, some_is}
 use Rattle.vhdl_names_labels.specs.Lists.{in_turn}
-use Rattle.vhdl_names_problems.specs.Broken.{Broken, Tells, nothing, ◌▸◌, unless}
+use Rattle.vhdl_names_problems.specs.Broken.{Tells, ◌▸◌, unless}
 use Rattle.vhdl_names_problems.specs.Files.{name_of_unit, names}
 use Rattle.vhdl_names_problems.proofs.Telling.{IsKept, both_kept, behind_kept, unless_kept, told_left, told_same}
 use Rattle.vhdl_names.specs.Breaking.{one_unit}
 use Rattle.vhdl_names.specs.Finding.{Finds, first_of}
-use Rattle.vhdl_names.specs.Views.{Keyed, OutlineView}
+use Rattle.vhdl_names.specs.Views.{OutlineView}
 use Rattle.vhdl_names.specs.steps.Outlines.{keyed, names_of, one_described, with_unit, no_outline, outline_of, outlined}
 use Rattle.vhdl_names.proofs.Outlining.{outlined_in_turn}
 

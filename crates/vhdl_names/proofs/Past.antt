@@ -3,16 +3,14 @@ use Rattle.std.proofs.Common.{◌≡◌, ℕ, ◌+◌, Bool, true, false, cond, 
 use Rattle.std.specs.Prelude.{◌&&◌, ◌||◌, bytes_eq, find, flat_map, option_map, if◌then◌else◌}
 use Rattle.std.specs.List.{list_all, enumerate_from}
 use Rattle.std.proofs.Math.Seq.{take-append_seam}
-use Rattle.std.proofs.lemmas.List.{map-append, length-append}
-use Rattle.std.proofs.lemmas.List.Elements.{filter_map-append}
+use Rattle.std.proofs.lemmas.List.{length-append}
 use Rattle.std.proofs.lemmas.List.Folds.{list_any-append}
 use Rattle.std.proofs.lemmas.Slice.Eq.{bytes_eq-Decides}
 use Rattle.vhdl_tree.specs.Tree as t
 use Rattle.vhdl_tree.specs.Tree.{ContextItem, DesignUnit, LibraryUnit}
-use Rattle.vhdl_names_rules.specs.declared.fault.NameProblem.TheVariants.{Undeclared, Twice, SecondArchitecture}
 use Rattle.vhdl_names_rules.specs.Rules.{◌>>=◌, ◌>>◌, met, then_some}
-use Rattle.vhdl_names_rules.specs.Visibility.{Name, is_among, are_distinct}
-use Rattle.vhdl_names_rules.specs.Files.{as_architecture, entity_names, described_names, architectures_of, stands_after, stand_after}
+use Rattle.vhdl_names_rules.specs.Visibility.{Name, is_among}
+use Rattle.vhdl_names_rules.specs.Files.{entity_names, described_names, architectures_of, stands_after, stand_after}
 use Rattle.vhdl_names_rules.proofs.laws.Rules.{comes, kept, both, some_is}
 use Rattle.vhdl_names_labels.specs.Once.{one_name}
 use Rattle.vhdl_names_problems.specs.Files.{placed_architectures}

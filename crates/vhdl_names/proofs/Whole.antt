@@ -1,6 +1,6 @@
 -- A file, of what its three readings find.
-use Rattle.std.proofs.Common.{◌≡◌, ◌≢◌, Bool, true, false, not, List, [], map, length, Option, Some, None, Result, Ok, Err, IfOk, refl, ap, sym, ◌∙◌, subst}
-use Rattle.std.specs.Prelude.{◌&&◌, replicate, filter_map}
+use Rattle.std.proofs.Common.{◌≡◌, ◌≢◌, Bool, true, false, not, List, [], map, length, Option, Some, None, Result, Ok, Err, refl, ap, sym, ◌∙◌}
+use Rattle.std.specs.Prelude.{◌&&◌, replicate}
 use Rattle.vhdl_tree.specs.Tree.{DesignUnit, File}
 use Rattle.vhdl_names_rules.specs.declared.fault.NameFault.{NameFault}
 use Rattle.vhdl_names_rules.specs.declared.fault.NameFault.TheVariants.{NoMemory}
@@ -12,12 +12,11 @@ use Rattle.vhdl_names_rules.specs.Files.{entity_names, described_names, entities
 use Rattle.vhdl_names_rules.proofs.laws.Rules.{kept, some_is}
 use Rattle.vhdl_names_labels.specs.Lists.{in_turn}
 use Rattle.vhdl_names_problems.specs.Broken.{Broken, Tells, any_of, earlier}
-use Rattle.vhdl_names_problems.specs.Files.{placed_architectures, with_entities, is_hidden, described, names, file}
+use Rattle.vhdl_names_problems.specs.Files.{placed_architectures, is_hidden, described, names, file}
 use Rattle.vhdl_names_problems.proofs.Telling.{told_same}
 use Rattle.vhdl_names.specs.Finding.{Finds, HasMemory}
-use Rattle.vhdl_names.specs.Views.{Keyed, OutlineView}
+use Rattle.vhdl_names.specs.Views.{OutlineView}
 use Rattle.vhdl_names.specs.steps.Outlines.{keyed, described_of, outline_of, outlined}
-use Rattle.vhdl_names.specs.steps.Entities.{viewed_by}
 use Rattle.vhdl_names.specs.steps.Architectures.{own, with_unit}
 use Rattle.vhdl_names.specs.steps.Units.{joined}
 use Rattle.vhdl_names.proofs.Entering.{broken, given_behind, AllViewed}

@@ -5,7 +5,7 @@ use Rattle.vhdl_tree.specs.declared.expression.Expr as code
 use Rattle.vhdl_tree.specs.declared.expression.Expr.TheVariants as x
 use Rattle.vhdl_tree.specs.declared.expression.Chain.{Chain, out-Chain}
 use Rattle.vhdl_tree.specs.Tree as t
-use Rattle.vhdl_tree.specs.Tree.{Ident, Suffix, Expr, Pair, all_joined}
+use Rattle.vhdl_tree.specs.Tree.{Expr, Pair, all_joined}
 use Rattle.vhdl_tree.specs.View.{view, chain_view, pair_view}
 use Rattle.vhdl_tree.proofs.Rows.{chain_is}
 use Rattle.vhdl_names_rules.specs.Instances.{as_name}

@@ -17,7 +17,6 @@ use Rattle.vhdl_names_rules.specs.Concurrent.{concurrent_labels, sight_within, g
 use Rattle.vhdl_names_units.specs.views.Concurrent.{concurrents_of}
 use Rattle.vhdl_names_labels.proofs.Lists.{bound}
 use Rattle.vhdl_names_concurrent.specs.steps.Concurrents as steps
-use Rattle.vhdl_names_concurrent.specs.steps.Concurrents.{in_generate}
 
 pub generate_is : (g : Generate) → tree.concurrent_view (c.Generate g)
     ≡ t.generated (tree.ident_view (out-Generate g).label) (out-Generate g).at (tree.scheme_view (out-Generate g).scheme) (out-Generate g).begin_word

@@ -88,7 +88,7 @@ statement_split q qs = sym (append_assoc (label_if_any q.label) (inner_labels q.
 pub statement_named : (q : t.Sequential) → names_of (of_statement q) ≡ are.label_names q.label ++ are.inner_labels q.statement
 statement_named q =
     ap (λ is. names_of (label_if_any q.label ++ is)) (sym (append-nil (inner_labels q.statement)))
-    ∙ statements_named (t.statement q.label q.statement t.no_statements)
+    ∙ statements_named (t.step q.label q.statement t.done)
     ∙ ap (λ ns. are.label_names q.label ++ ns) (append-nil (are.inner_labels q.statement))
 
 pub statements_listed : (keys new : List Name) (qs : List t.Sequential) → with_statements keys qs ≡ Some new → in_turn one_name keys (names_of (of_statements qs)) ≡ Some new
@@ -108,7 +108,7 @@ branch_split b bs = refl
 branches_named : (bs : t.Conditionals) → names_of (conditional_labels bs) ≡ are.conditional_labels bs
 branches_named bs =
     ap names_of (sym (append-nil (conditional_labels bs ++ []) ∙ append-nil (conditional_labels bs)))
-    ∙ statements_named (t.statement None (t.if_of 0 bs t.no_else None) t.no_statements)
+    ∙ statements_named (t.step None (t.if_of 0 bs t.no_else None) t.done)
     ∙ append-nil (are.conditional_labels bs ++ []) ∙ append-nil (are.conditional_labels bs)
 
 pub branches_listed : (keys new : List Name) (bs : List t.Conditional) → in_turn with_branch keys bs ≡ Some new → in_turn one_name keys (names_of (of_branches bs)) ≡ Some new

@@ -2,7 +2,6 @@
 use Rattle.std.proofs.Common.{◌≡◌, ℕ, ◌≤◌, List, [], ◌∷◌, map, Option, Some, None, refl, sym, ap, ◌∙◌, arith}
 use Rattle.std.specs.Prelude.{is_none}
 use Rattle.vhdl_tree.specs.Tree as t
-use Rattle.vhdl_tree.specs.Tree.{Ident}
 use Rattle.vhdl_tree.specs.declared.declaration.Mode.{Mode}
 use Rattle.vhdl_names_rules.specs.declared.kind.ElementKind.{ElementKind}
 use Rattle.vhdl_names_rules.specs.declared.operator.IntegerType.{IntegerType}
@@ -11,7 +10,7 @@ use Rattle.vhdl_names_rules.specs.units.Units as u
 use Rattle.vhdl_names_rules.specs.units.Units.{Fixed}
 use Rattle.vhdl_names_rules.specs.Rules.{◌>>=◌, met, if_any}
 use Rattle.vhdl_names_rules.specs.Visibility as visibility
-use Rattle.vhdl_names_rules.specs.Visibility.{Name, Meaning, Declared, Sight, Declares, names_of, count_of, with_declared, with_variables, numbered, meaning}
+use Rattle.vhdl_names_rules.specs.Visibility.{Meaning, Sight, Declares, names_of, count_of, with_declared, with_variables, numbered, meaning}
 use Rattle.vhdl_names_rules.specs.Expressions.{static}
 use Rattle.vhdl_names_rules.specs.Subtypes.{Subtype, subtype, fixed_value, object, as_integer_type, declaring_literal}
 use Rattle.vhdl_names_rules.specs.Declarations.{within, within_variables, signals, variables, port, constants, constants_by, as_kind, mode_of, for_each, single_expression}

@@ -20,7 +20,7 @@ use Rattle.vhdl_names_problems.specs.Declarations.{standing_twice}
 use Rattle.vhdl_names_problems.proofs.Telling.{told_left, behind_kept}
 use Rattle.vhdl_names_rules.specs.Rules.{◌>>=◌, met, if_any}
 use Rattle.vhdl_names_rules.specs.Visibility as visibility
-use Rattle.vhdl_names_rules.specs.Visibility.{Name, Meaning, Declared, Sight, Declares, declare, meaning, names_of, count_of, with_declared, are_distinct, numbered}
+use Rattle.vhdl_names_rules.specs.Visibility.{Meaning, Declared, Sight, Declares, declare, meaning, names_of, count_of, with_declared, are_distinct, numbered}
 use Rattle.vhdl_names_rules.specs.Expressions.{static}
 use Rattle.vhdl_names_rules.specs.Subtypes.{as_integer_type}
 use Rattle.vhdl_names_rules.specs.Interfaces.{declared_names}

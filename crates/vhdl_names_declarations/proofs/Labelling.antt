@@ -11,7 +11,7 @@ use Rattle.vhdl_tree.specs.View.{concurrent_view}
 use Rattle.vhdl_tree.specs.declared.concurrent.Concurrent.{Concurrent}
 use Rattle.vhdl_names_rules.specs.Rules.{◌>>=◌, met}
 use Rattle.vhdl_names_rules.specs.Visibility as visibility
-use Rattle.vhdl_names_rules.specs.Visibility.{Name, Declared, names_of, are_distinct, all_declared}
+use Rattle.vhdl_names_rules.specs.Visibility.{Name, Declared, names_of, are_distinct}
 use Rattle.vhdl_names_rules.specs.Interfaces.{declared_names}
 use Rattle.vhdl_names_rules.specs.Files.{labelled}
 use Rattle.vhdl_names_rules.specs.Concurrent.{concurrent_label, concurrent_labels}

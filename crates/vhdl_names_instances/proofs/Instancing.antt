@@ -11,7 +11,7 @@ use Rattle.vhdl_names_rules.specs.Rules.{◌>>=◌, ◌>>◌, met, each, if_any,
 use Rattle.vhdl_names_rules.specs.Visibility.{Name, Sight}
 use Rattle.vhdl_names_rules.specs.Expressions.{static}
 use Rattle.vhdl_names_rules.specs.Instances as rules
-use Rattle.vhdl_names_rules.specs.Instances.{Formal, associated, is_architecture, as_component, generic_name, port_formal, port_actual}
+use Rattle.vhdl_names_rules.specs.Instances.{Formal, associated, is_architecture, generic_name, port_formal, port_actual}
 use Rattle.vhdl_names_rules.specs.Interfaces.{EntityView, entity_named}
 use Rattle.vhdl_names_labels.proofs.Lists.{bound}
 use Rattle.vhdl_names_instances.specs.Table.{Seen, seen, seen_view, type_of, items, AreEntities}

@@ -17,7 +17,7 @@ use Rattle.vhdl_names_rules.specs.units.Units as u
 use Rattle.vhdl_names_rules.specs.units.Units.{Form, Fixed}
 use Rattle.vhdl_names_rules.specs.Rules.{if_any}
 use Rattle.vhdl_names_rules.specs.Visibility as visibility
-use Rattle.vhdl_names_rules.specs.Visibility.{Name, Meaning, Declared, declare, all_declared, numbered, names_of, count_of, Sight, meaning, with_declared, with_variables, Declares}
+use Rattle.vhdl_names_rules.specs.Visibility.{Name, Meaning, Declared, declare, names_of, count_of, Sight, meaning, with_declared, Declares}
 use Rattle.vhdl_names_rules.specs.Expressions.{static}
 use Rattle.vhdl_names_rules.specs.Subtypes.{subtype, fixed_value, declaring_literal, as_integer_type, object}
 use Rattle.vhdl_names_rules.specs.Declarations.{within, as_kind, single_expression, signals, integer_constants, other_constants, constants_by, constants, literals, enumeration}

@@ -4,16 +4,16 @@ use Rattle.std.proofs.lemmas.Bool.{and_from}
 use Rattle.vhdl_tree.specs.declared.operator.Sign.{Sign}
 use Rattle.vhdl_tree.specs.declared.operator.Sign.TheVariants.{Plus, Minus}
 use Rattle.vhdl_tree.specs.Tree as t
-use Rattle.vhdl_tree.specs.Tree.{Expr, Exprs, Ident}
+use Rattle.vhdl_tree.specs.Tree.{Expr, Exprs}
 use Rattle.vhdl_names_rules.specs.declared.kind.ElementKind.TheVariants.{Element, LogicVector, Unsigned, OpenVector}
 use Rattle.vhdl_names_rules.specs.units.Expressions as e
 use Rattle.vhdl_names_rules.specs.units.Expressions.{Static, Range, Vector}
 use Rattle.vhdl_names_rules.specs.Visibility.{Sight, meaning}
 use Rattle.vhdl_names_rules.specs.Literals.{number_of, nine_of, values_of_string, values_of_bits}
 use Rattle.vhdl_names_rules.specs.Operators as o
-use Rattle.vhdl_names_rules.specs.Operators.{Typed, inverse, operated}
+use Rattle.vhdl_names_rules.specs.Operators.{Typed, inverse}
 use Rattle.vhdl_names_rules.specs.Names as n
-use Rattle.vhdl_names_rules.specs.Names.{Suffix, denoted, attributed}
+use Rattle.vhdl_names_rules.specs.Names.{Suffix, denoted}
 use Rattle.vhdl_names_rules.specs.Expressions.{as_integer, signed, enclosed, beside, is_one_name, typed, typed_suffix, typed_each, static, static_range}
 use Rattle.vhdl_names_rules.specs.sound.Expressions.{Inside, static_fits, range_fits}
 use Rattle.vhdl_names_laws.specs.Meanings.{Counts, IsInside, TypedFits}

@@ -4,7 +4,7 @@ use Rattle.std.specs.List.{filter_map, cons_option}
 use Rattle.std.proofs.lemmas.List.{length-append, append-nil}
 use Rattle.vhdl_names_rules.specs.units.Units as u
 use Rattle.vhdl_names_rules.specs.Visibility as visibility
-use Rattle.vhdl_names_rules.specs.Visibility.{Name, Meaning, Declared, declare}
+use Rattle.vhdl_names_rules.specs.Visibility.{Name, Declared, declare}
 use Rattle.vhdl_names_rules.specs.Declarations.{literals}
 use Rattle.vhdl_names_rules.specs.Instances.{Formal, generic_name, port_formal}
 use Rattle.vhdl_names_rules.specs.sound.Expressions.{shape_of}

@@ -8,7 +8,7 @@ use Rattle.vhdl_tree.specs.Tree as t
 use Rattle.vhdl_names_rules.specs.units.Units as u
 use Rattle.vhdl_names_rules.specs.Rules.{all_of}
 use Rattle.vhdl_names_rules.specs.Visibility as visibility
-use Rattle.vhdl_names_rules.specs.Visibility.{Name, Meaning, Declared, declare, is_among, are_distinct, ends, Sight, with_declared, Declares}
+use Rattle.vhdl_names_rules.specs.Visibility.{Name, Meaning, Declared, declare, is_among, are_distinct, ends, with_declared}
 use Rattle.vhdl_names_rules.specs.Packages.{standard, std_logic_1164, numeric_std, Context, no_context, context, visible, sight_of}
 use Rattle.vhdl_names_rules.specs.Declarations.{in_order, generic, port}
 use Rattle.vhdl_names_rules.specs.Interfaces.{Interface, EntityView, declared_names, interface, entity}

@@ -8,10 +8,9 @@ use Rattle.vhdl_tree.specs.Tree.{Ident}
 use Rattle.vhdl_names_rules.specs.declared.kind.ObjectType.{ObjectType}
 use Rattle.vhdl_names_rules.specs.units.Units.{Form}
 use Rattle.vhdl_names_rules.specs.Visibility as visibility
-use Rattle.vhdl_names_rules.specs.Visibility.{Name, Meaning, Declared, declare, all_declared, numbered, names_of, count_of, Sight, meaning, with_declared, with_variables, Declares}
+use Rattle.vhdl_names_rules.specs.Visibility.{Name, Meaning, Declared, all_declared, names_of, count_of, Sight, meaning, with_declared, with_variables}
 use Rattle.vhdl_names_rules.specs.Declarations.{within, within_variables}
 use Rattle.vhdl_names_rules.specs.Instances.{generic_name, port_formal}
-use Rattle.vhdl_names_rules.specs.Visibility.{ends}
 use Rattle.vhdl_names_rules.specs.sound.Expressions.{Inside, shape_of}
 use Rattle.vhdl_names_laws.specs.Meanings.{Counts, type_shape, IsCounted, IsForm, MeaningFits, AllFit, IsInside}
 use Rattle.vhdl_names_laws.proofs.Statics.{get_last, each_append, HasMore, all_more}

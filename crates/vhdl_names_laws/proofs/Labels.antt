@@ -5,15 +5,14 @@ use Rattle.std.specs.Option.{option_map}
 use Rattle.std.proofs.lemmas.Bool.{and_from}
 use Rattle.vhdl_lexer.specs.declared.token.TokenKind.TheVariants as k
 use Rattle.vhdl_tree.specs.Tree as t
-use Rattle.vhdl_tree.specs.Tree.{Ident, File, DesignUnit, LibraryUnit, ContextItem}
+use Rattle.vhdl_tree.specs.Tree.{Ident}
 use Rattle.vhdl_tree.specs.Pieces as p
-use Rattle.vhdl_tree.specs.Pieces.{Piece, spell_word, spell_ident, spell_idents, spell_option, spell_each, spell_list}
+use Rattle.vhdl_tree.specs.Pieces.{Piece, spell_word, spell_idents, spell_option, spell_each}
 use Rattle.vhdl_tree.specs.grammar.Sequential.{spell_label}
 use Rattle.vhdl_tree.specs.grammar.Process.{spell_sensitivity, spell_variables}
 use Rattle.vhdl_tree.specs.grammar.Concurrent.{spell_scheme, spell_concurrent, spell_concurrents}
 use Rattle.vhdl_names_rules.specs.units.Statements as s
 use Rattle.vhdl_names_rules.specs.units.Units as u
-use Rattle.vhdl_names_rules.specs.units.Units.{Units}
 use Rattle.vhdl_names_rules.specs.Rules.{each, if_any, all_of}
 use Rattle.vhdl_names_rules.specs.Visibility.{Name, are_distinct, ends, label_ends, Sight, with_variables}
 use Rattle.vhdl_names_rules.specs.Expressions.{typed, static}

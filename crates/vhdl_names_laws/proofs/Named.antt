@@ -5,7 +5,7 @@ use Rattle.std.specs.Str.{bytes_eq}
 use Rattle.std.proofs.lemmas.Bool.{and_from}
 use Rattle.vhdl_lexer.specs.declared.token.TokenKind.TheVariants as k
 use Rattle.vhdl_tree.specs.Tree as t
-use Rattle.vhdl_tree.specs.Tree.{Ident, File, DesignUnit, LibraryUnit, ContextItem}
+use Rattle.vhdl_tree.specs.Tree.{File, DesignUnit, LibraryUnit, ContextItem}
 use Rattle.vhdl_tree.specs.Pieces.{spell_word, spell_idents, spell_option, spell_each, spell_list}
 use Rattle.vhdl_tree.specs.grammar.Concurrent.{spell_concurrent}
 use Rattle.vhdl_tree.specs.grammar.Declarations.{spell_generics, spell_port, spell_ports, spell_declaration}

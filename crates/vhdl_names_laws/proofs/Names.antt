@@ -25,7 +25,7 @@ use Rattle.vhdl_names_rules.specs.Visibility.{Meaning}
 use Rattle.vhdl_names_rules.specs.Operators as o
 use Rattle.vhdl_names_rules.specs.Operators.{Typed}
 use Rattle.vhdl_names_rules.specs.Names as n
-use Rattle.vhdl_names_rules.specs.Names.{Suffix, part, part_of, place_of, if_plain, read_by, read_signal, converted, is_static, is_static_part, edge_signal, edge_of, counted, encoding, called, denoted, attributed}
+use Rattle.vhdl_names_rules.specs.Names.{Suffix, part, part_of, place_of, if_plain, read_by, converted, is_static, is_static_part, edge_signal, edge_of, counted, encoding, called, denoted, attributed}
 use Rattle.vhdl_names_rules.specs.sound.Expressions.{Inside, one, vector, state, shape_of, static_fits, range_fits, part_shape, port_form, signal_form, place_shape, is_elements, with_static, vector_shape, value_shape, state_shape, edge_fits}
 use Rattle.vhdl_names_laws.specs.Meanings.{Counts, kind_shape, type_shape, IsForm, IsCounted, IsPort, MeaningFits, TypedFits}
 use Rattle.vhdl_names_laws.proofs.Statics.{some_same}

@@ -14,7 +14,7 @@ use Rattle.vhdl_names_rules.specs.declared.operator.Numeric.{Numeric}
 use Rattle.vhdl_names_rules.specs.declared.operator.VectorOperator.{VectorOperator}
 use Rattle.vhdl_names_rules.specs.declared.operator.VectorOperator.TheVariants as v
 use Rattle.vhdl_names_rules.specs.units.Expressions as e
-use Rattle.vhdl_names_rules.specs.units.Expressions.{Static, StaticTest, Vector, Value, Test}
+use Rattle.vhdl_names_rules.specs.units.Expressions.{Static, Vector, Value, Test}
 use Rattle.vhdl_names_rules.specs.Rules.{◌>>=◌, met, then_some}
 use Rattle.vhdl_names_rules.specs.Operators as o
 use Rattle.vhdl_names_rules.specs.Operators.{Typed, common_kind, joined_kind, is_number, are_numbers, binary, both, negated, logical, inverse, concatenated, integral, arithmetic, integers_compared, equal_by, equality, ordering, operated}

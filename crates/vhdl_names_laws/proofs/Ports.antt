@@ -3,20 +3,17 @@ use Rattle.std.proofs.Common.{◌≡◌, suc, Bool, true, ◌&&◌, [], ◌∷�
 use Rattle.std.specs.List.{slice_get}
 use Rattle.std.proofs.lemmas.Bool.{and_from, lt-ltb}
 use Rattle.vhdl_tree.specs.Tree as t
-use Rattle.vhdl_tree.specs.Tree.{Ident}
 use Rattle.vhdl_tree.specs.declared.declaration.Mode.{Mode}
 use Rattle.vhdl_names_rules.specs.declared.kind.ElementKind.{ElementKind}
 use Rattle.vhdl_names_rules.specs.declared.kind.ObjectType.{ObjectType}
 use Rattle.vhdl_names_rules.specs.declared.kind.ObjectType.TheVariants.{Elements, Enumeration}
 use Rattle.vhdl_names_rules.specs.units.Units as u
-use Rattle.vhdl_names_rules.specs.units.Units.{Form, Fixed}
 use Rattle.vhdl_names_rules.specs.Rules.{if_any}
 use Rattle.vhdl_names_rules.specs.Visibility as visibility
-use Rattle.vhdl_names_rules.specs.Visibility.{Name, Meaning, Declared, declare, all_declared, numbered, names_of, count_of, Sight, meaning, with_declared, with_variables, Declares}
+use Rattle.vhdl_names_rules.specs.Visibility.{Name, Declared, declare, names_of, count_of, Sight, meaning, with_declared, Declares}
 use Rattle.vhdl_names_rules.specs.Expressions.{static}
 use Rattle.vhdl_names_rules.specs.Subtypes.{subtype, fixed_value, as_integer_type, object}
 use Rattle.vhdl_names_rules.specs.Declarations.{as_kind, mode_of, generic, port}
-use Rattle.vhdl_names_rules.specs.Visibility.{ends}
 use Rattle.vhdl_names_rules.specs.sound.Expressions.{Inside, shape_of, is_elements}
 use Rattle.vhdl_names_rules.specs.sound.Units.{object_fits, port_fits, static_default_fits}
 use Rattle.vhdl_names_laws.specs.Meanings.{Counts, kind_shape, type_shape}

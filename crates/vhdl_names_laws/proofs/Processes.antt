@@ -12,7 +12,7 @@ use Rattle.vhdl_names_rules.specs.units.Units as u
 use Rattle.vhdl_names_rules.specs.units.Units.{Form}
 use Rattle.vhdl_names_rules.specs.Rules.{each, if_any}
 use Rattle.vhdl_names_rules.specs.Visibility as visibility
-use Rattle.vhdl_names_rules.specs.Visibility.{Name, Meaning, Declared, declare, names_of, count_of, are_distinct, label_ends, Sight, with_variables, Declares}
+use Rattle.vhdl_names_rules.specs.Visibility.{Name, Declared, declare, names_of, count_of, are_distinct, label_ends, Sight, with_variables, Declares}
 use Rattle.vhdl_names_rules.specs.Subtypes.{subtype, fixed_value, object}
 use Rattle.vhdl_names_rules.specs.Declarations.{in_order, within_variables, variables}
 use Rattle.vhdl_names_rules.specs.Interfaces.{declared_names}

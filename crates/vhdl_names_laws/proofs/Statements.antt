@@ -6,12 +6,12 @@ use Rattle.std.proofs.lemmas.Bool.{and_from, lt-ltb}
 use Rattle.vhdl_tree.specs.declared.declaration.Mode.{Mode}
 use Rattle.vhdl_tree.specs.declared.declaration.Mode.TheVariants.{In, Out}
 use Rattle.vhdl_tree.specs.Tree as t
-use Rattle.vhdl_tree.specs.Tree.{Ident, Expr}
+use Rattle.vhdl_tree.specs.Tree.{Ident}
 use Rattle.vhdl_names_rules.specs.declared.kind.ElementKind.{ElementKind}
 use Rattle.vhdl_names_rules.specs.declared.kind.ObjectType.{ObjectType}
 use Rattle.vhdl_names_rules.specs.declared.kind.ObjectType.TheVariants.{Elements}
 use Rattle.vhdl_names_rules.specs.units.Expressions as e
-use Rattle.vhdl_names_rules.specs.units.Expressions.{Part, SignalPart, Signal, Value}
+use Rattle.vhdl_names_rules.specs.units.Expressions.{Part, Signal}
 use Rattle.vhdl_names_rules.specs.units.Statements as s
 use Rattle.vhdl_names_rules.specs.Rules.{◌>>=◌}
 use Rattle.vhdl_names_rules.specs.Visibility as visibility
@@ -22,7 +22,7 @@ use Rattle.vhdl_names_rules.specs.Choices.{covered, selector, arranged}
 use Rattle.vhdl_names_rules.specs.Statements.{SignalName, named_part, as_signal, signal, is_input, target, VariableName, as_variable, variable, choice_lists, statement, statements, conditionals, otherwise, alternatives}
 use Rattle.vhdl_names_rules.specs.sound.Expressions.{Inside, Shape, range_fits, part_shape, port_form, place_shape, value_shape, test_fits}
 use Rattle.vhdl_names_rules.specs.sound.Statements as w
-use Rattle.vhdl_names_rules.specs.sound.Statements.{given_fits, given_fits_target, is_out, is_driven, choice_fits, selector_fits, statement_fits, statements_fit, branches_fit, alternatives_fit}
+use Rattle.vhdl_names_rules.specs.sound.Statements.{given_fits, given_fits_target, is_out, is_driven, selector_fits, statement_fits, statements_fit, branches_fit, alternatives_fit}
 use Rattle.vhdl_names_laws.specs.Meanings.{Counts, type_shape, IsCounted, IsPort, MeaningFits, IsInside}
 use Rattle.vhdl_names_laws.proofs.Statics.{some_same, HasMore, keeps_all, all_more, meant}
 use Rattle.vhdl_names_laws.proofs.Operators.{mapped}
@@ -223,8 +223,8 @@ mutual
 
   pub statements_are : (ys : t.Statements) (i : Inside) (counts : Counts) (sight : Sight) (xs : s.Statements) → IsInside i counts sight
       → statements sight ys ≡ Some xs → statements_fit i xs ≡ true
-  statements_are t.no_statements i counts sight xs h q = subst (λ xs. statements_fit i xs ≡ true) (some_same s.done xs q) refl
-  statements_are (t.statement label y ys) i counts sight xs h q =
+  statements_are t.done i counts sight xs h q = subst (λ xs. statements_fit i xs ≡ true) (some_same s.done xs q) refl
+  statements_are (t.step label y ys) i counts sight xs h q =
       let a = comes (statement sight label y) _ xs q in
       let b = comes (statements sight ys) _ xs a.rest in
       subst (λ xs. statements_fit i xs ≡ true) (some_same _ xs b.rest)

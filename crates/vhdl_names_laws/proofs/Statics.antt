@@ -11,11 +11,11 @@ use Rattle.vhdl_names_rules.specs.declared.kind.ElementKind.TheVariants.{Element
 use Rattle.vhdl_names_rules.specs.declared.kind.ObjectType.{ObjectType}
 use Rattle.vhdl_names_rules.specs.declared.kind.ObjectType.TheVariants.{Elements, Enumeration}
 use Rattle.vhdl_names_rules.specs.units.Expressions as e
-use Rattle.vhdl_names_rules.specs.units.Expressions.{Static, Range, StaticTest}
+use Rattle.vhdl_names_rules.specs.units.Expressions.{Static, Range}
 use Rattle.vhdl_names_rules.specs.units.Units as u
 use Rattle.vhdl_names_rules.specs.units.Units.{Form}
 use Rattle.vhdl_names_rules.specs.Visibility as visibility
-use Rattle.vhdl_names_rules.specs.Visibility.{Name, Meaning, Declared, declare, Sight, in_sight, meaning}
+use Rattle.vhdl_names_rules.specs.Visibility.{Name, Meaning, Declared, Sight, in_sight, meaning}
 use Rattle.vhdl_names_rules.specs.sound.Expressions.{Inside, shape_of, static_fits, range_fits}
 use Rattle.vhdl_names_rules.specs.sound.Units.{fixed_fits}
 use Rattle.vhdl_names_laws.specs.Meanings.{Counts, kind_shape, type_shape, IsForm, IsCounted, IsLiteralOf, MeaningFits, AllFit, IsInside}

@@ -13,9 +13,9 @@ use Rattle.vhdl_names_rules.specs.declared.kind.ElementKind.TheVariants.{Element
 use Rattle.vhdl_names_rules.specs.declared.kind.ObjectType.{ObjectType}
 use Rattle.vhdl_names_rules.specs.declared.kind.ObjectType.TheVariants.{Elements, Enumeration}
 use Rattle.vhdl_names_rules.specs.units.Expressions as e
-use Rattle.vhdl_names_rules.specs.units.Expressions.{Vector, Value, Test, StaticTest}
+use Rattle.vhdl_names_rules.specs.units.Expressions.{Value, Test, StaticTest}
 use Rattle.vhdl_names_rules.specs.units.Statements as s
-use Rattle.vhdl_names_rules.specs.units.Statements.{Given, Choice, Statements, Alternatives}
+use Rattle.vhdl_names_rules.specs.units.Statements.{Given}
 use Rattle.vhdl_names_rules.specs.units.Units as u
 use Rattle.vhdl_names_rules.specs.Rules.{each}
 use Rattle.vhdl_names_rules.specs.Visibility.{Sight}
@@ -31,7 +31,7 @@ use Rattle.vhdl_names_rules.specs.sound.Units.{fixed_fits}
 use Rattle.vhdl_names_laws.specs.Meanings.{Counts, kind_shape, type_shape, IsCounted, IsInside, TypedFits}
 use Rattle.vhdl_names_laws.proofs.Statics.{some_same}
 use Rattle.vhdl_names_laws.proofs.Operators as p
-use Rattle.vhdl_names_laws.proofs.Operators.{Given as Holds, Mapped, mapped, same_shapes, fits_self}
+use Rattle.vhdl_names_laws.proofs.Operators.{mapped, fits_self}
 use Rattle.vhdl_names_laws.proofs.Expressions.{typed_fits}
 use Rattle.vhdl_names_rules.proofs.laws.Rules.{comes}
 

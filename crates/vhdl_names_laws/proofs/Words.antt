@@ -6,13 +6,12 @@ use Rattle.std.proofs.lemmas.Bool.{and_from}
 use Rattle.vhdl_lexer.specs.declared.token.TokenKind.{TokenKind}
 use Rattle.vhdl_lexer.specs.declared.token.TokenKind.TheVariants as k
 use Rattle.vhdl_tree.specs.Tree as t
-use Rattle.vhdl_tree.specs.Tree.{Ident, File, DesignUnit, LibraryUnit, ContextItem}
+use Rattle.vhdl_tree.specs.Tree.{Ident}
 use Rattle.vhdl_tree.specs.Pieces as p
-use Rattle.vhdl_tree.specs.Pieces.{Piece, spell_word, spell_ident, spell_idents, spell_option, spell_each, spell_list}
+use Rattle.vhdl_tree.specs.Pieces.{Piece, spell_ident, spell_idents, spell_each, spell_list}
 use Rattle.vhdl_tree.specs.grammar.Declarations.{spell_declaration}
 use Rattle.vhdl_names_rules.specs.declared.operator.IntegerType.{IntegerType}
 use Rattle.vhdl_names_rules.specs.units.Units as u
-use Rattle.vhdl_names_rules.specs.units.Units.{Units}
 use Rattle.vhdl_names_rules.specs.Rules.{if_any}
 use Rattle.vhdl_names_rules.specs.Visibility.{Name, Declared, names_of, ends, Sight, meaning, Declares}
 use Rattle.vhdl_names_rules.specs.Expressions.{static}

@@ -32,8 +32,8 @@ abbrev mutual
   inner_labels (t.for_of at n r body end) = statement_labels body
 
   pub statement_labels : t.Statements → List Ident
-  statement_labels t.no_statements = []
-  statement_labels (t.statement label x xs) = label_if_any label ++ (inner_labels x ++ statement_labels xs)
+  statement_labels t.done = []
+  statement_labels (t.step label x xs) = label_if_any label ++ (inner_labels x ++ statement_labels xs)
 
   pub conditional_labels : t.Conditionals → List Ident
   conditional_labels t.no_conditionals = []

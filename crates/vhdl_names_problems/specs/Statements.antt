@@ -78,8 +78,8 @@ unfoldable mutual
   statement sight label (t.for_of at n r body end) = static_range sight r ▸ statements (within_loop sight n) body ▸ end_label label end
 
   pub statements : Sight → t.Statements → Broken
-  statements sight t.no_statements = nothing
-  statements sight (t.statement label x xs) = statement sight label x ▸ statements sight xs
+  statements sight t.done = nothing
+  statements sight (t.step label x xs) = statement sight label x ▸ statements sight xs
 
   pub conditionals : Sight → t.Conditionals → Broken
   conditionals sight t.no_conditionals = nothing

@@ -116,8 +116,8 @@ unfoldable mutual
     Some (s.for_of range turn)
 
   pub statements : Sight → t.Statements → Option s.Statements
-  statements sight t.no_statements = Some s.done
-  statements sight (t.statement label x xs) = do
+  statements sight t.done = Some s.done
+  statements sight (t.step label x xs) = do
     y ← statement sight label x
     ys ← statements sight xs
     Some (s.step y ys)
@@ -158,8 +158,8 @@ abbrev mutual
   inner_labels (t.for_of at n r body end) = statement_labels body
 
   pub statement_labels : t.Statements → List Name
-  statement_labels t.no_statements = []
-  statement_labels (t.statement label x xs) = label_names label ++ (inner_labels x ++ statement_labels xs)
+  statement_labels t.done = []
+  statement_labels (t.step label x xs) = label_names label ++ (inner_labels x ++ statement_labels xs)
 
   pub conditional_labels : t.Conditionals → List Name
   conditional_labels t.no_conditionals = []

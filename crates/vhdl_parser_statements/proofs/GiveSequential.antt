@@ -3,7 +3,7 @@ use Rattle.std.proofs.Common.{◌≡◌, ℕ, suc, true, false, List, [], ◌∷
 use Rattle.vhdl_lexer.specs.declared.token.TokenKind.{TokenKind}
 use Rattle.vhdl_lexer.specs.declared.token.TokenKind.TheVariants as k
 use Rattle.vhdl_tree.specs.Lexeme.{same_kind}
-use Rattle.vhdl_tree.specs.Tree.{Ident, Expr, Suffix, plain, arguments, sliced, Name, Value, Range, Choice, Statement, null_of, assigned, variable_assigned, if_of, case_of, for_of, Statements, no_statements, statement, Conditionals, no_conditionals, guarded, Otherwise, no_else, else_do, Alternatives, no_alternatives, alternative, Sequential, Conditional, Alternative, statements_of, conditionals_of, alternatives_of, otherwise_of}
+use Rattle.vhdl_tree.specs.Tree.{Ident, Expr, Suffix, plain, arguments, sliced, Name, Value, Range, Choice, Statement, null_of, assigned, variable_assigned, if_of, case_of, for_of, Statements, done, step, Conditionals, no_conditionals, guarded, Otherwise, no_else, else_do, Alternatives, no_alternatives, alternative, Sequential, Conditional, Alternative, statements_of, conditionals_of, alternatives_of, otherwise_of}
 use Rattle.vhdl_tree.specs.Pieces.{Piece, some, one_at, spell_ident, spell_option, spell_list, IsEach, IsList, IsOption}
 use Rattle.vhdl_tree.specs.grammar.Expressions.{spell, spell_name, spell_value, IsExpr, IsName, IsValue, IsRange, AreChoices}
 use Rattle.vhdl_tree.specs.grammar.Sequential.{spell_label, spell_end, spell_statement, spell_else, spell_sequential, IsStatement, AreStatements, AreElsifs, IsElse, AreAlternatives}
@@ -194,13 +194,13 @@ null_gives at n = g_choose (statement_by n (deeper n)) (Some k.Null) (λ next _.
 -- ---- trees as lists
 
 pub list_of : Statements → List Sequential
-list_of no_statements = []
-list_of (statement l s more) = record { label = l; statement = s } ∷ list_of more
+list_of done = []
+list_of (step l s more) = record { label = l; statement = s } ∷ list_of more
 
 pub statements_of-list_of : (ss : Statements) → statements_of (list_of ss) ≡ ss
 unfolding list_of
-statements_of-list_of no_statements = refl
-statements_of-list_of (statement l s more) = ap (statement l s) (statements_of-list_of more)
+statements_of-list_of done = refl
+statements_of-list_of (step l s more) = ap (step l s) (statements_of-list_of more)
 
 conditions_of : Conditionals → List Conditional
 unfolding list_of
@@ -256,8 +256,8 @@ mutual
   statement_gives (for_of at p r ss l) f n = for_gives at p r f.0 (list_of ss) (all_ready ss f.1) l ss (statements_of-list_of ss) n
 
   pub all_ready : (ss : Statements) → AreStatements ss → IsEach Ready (list_of ss)
-  all_ready no_statements f = tt
-  all_ready (statement l s more) f = ((λ n. sequential_from n (deeper n) l s (statement_gives s f.0 n)), all_ready more f.1)
+  all_ready done f = tt
+  all_ready (step l s more) f = ((λ n. sequential_from n (deeper n) l s (statement_gives s f.0 n)), all_ready more f.1)
 
   elsifs_ready : (cs : Conditionals) → AreElsifs cs → IsEach ReadyCondition (conditions_of cs)
   elsifs_ready no_conditionals f = tt

@@ -2,7 +2,7 @@
 use Rattle.std.proofs.Common.{ℕ, ◌≤◌, [], ◌∷◌, ◌++◌, length, length-append, None, refl, arith}
 use Rattle.vhdl_lexer.specs.declared.token.TokenKind.TheVariants as k
 use Rattle.vhdl_tree.specs.declared.operator.Direction.TheVariants.{To}
-use Rattle.vhdl_tree.specs.Tree.{Ident, Name, Range, single, otherwise, Statement, null_of, assigned, variable_assigned, if_of, case_of, for_of, no_statements, no_conditionals, guarded, no_else, no_alternatives, alternative, Sequential}
+use Rattle.vhdl_tree.specs.Tree.{Ident, Name, Range, single, otherwise, Statement, null_of, assigned, variable_assigned, if_of, case_of, for_of, done, no_conditionals, guarded, no_else, no_alternatives, alternative, Sequential}
 use Rattle.vhdl_tree.specs.Pieces.{Piece, some, one_at, word_at, text_at, spell_option}
 use Rattle.vhdl_tree.specs.grammar.Expressions.{spell_name, IsName}
 use Rattle.vhdl_tree.specs.grammar.Sequential.{spell_label, spell_end, spell_statement, spell_sequential, IsStatement}
@@ -29,7 +29,7 @@ plain_assigned t good = record { tree = assigned t (single number); more = some 
 -- if 0 then end if ;
 pub plain_if : (at : ℕ) → Example (λ r. one_at k.If at ∷ r) spell_statement IsStatement
 plain_if at = record {
-  tree = if_of at (guarded number no_statements no_conditionals) no_else None;
+  tree = if_of at (guarded number done no_conditionals) no_else None;
   more = a_number ∷ (some k.Then ∷ spell_end k.If None);
   is = refl;
   formed = ((tt, tt, tt), tt);
@@ -38,7 +38,7 @@ plain_if at = record {
 -- case 0 is when others => end case ;
 pub plain_case : (at : ℕ) → Example (λ r. one_at k.Case at ∷ r) spell_statement IsStatement
 plain_case at = record {
-  tree = case_of at number (alternative (otherwise 0 ∷ []) no_statements no_alternatives) None;
+  tree = case_of at number (alternative (otherwise 0 ∷ []) done no_alternatives) None;
   more = a_number ∷ (some k.Is ∷ (some k.When ∷ (one_at k.Others 0 ∷ (some k.Arrow ∷ spell_end k.Case None))));
   is = refl;
   formed = (tt, ((tt, tt), tt, tt));
@@ -47,7 +47,7 @@ plain_case at = record {
 -- for id in 0 to 0 loop end loop ;
 pub plain_for : (at : ℕ) → Example (λ r. one_at k.For at ∷ r) spell_statement IsStatement
 plain_for at = record {
-  tree = for_of at an_ident a_range no_statements None;
+  tree = for_of at an_ident a_range done None;
   more = word_at 0 [] ∷ (some k.In ∷ (a_number ∷ (some k.To ∷ (a_number ∷ (some k.Loop ∷ spell_end k.Loop None)))));
   is = refl;
   formed = ((tt, tt), tt);

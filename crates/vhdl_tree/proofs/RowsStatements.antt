@@ -19,7 +19,7 @@ use Rattle.vhdl_tree.specs.View.{ident_view, option_ident_view, view, range_view
 
 sequentials_rows : (n : Count) (row : Row_of-Sequential n) → statements_row row ≡ t.statements_of (map sequential_view (items-the_row-Sequential n row))
 sequentials_rows n end_of-Sequential = refl
-sequentials_rows n (more_of-Sequential label s rest) = ap (t.statement (option_map ident_view label) (statement_view s)) (sequentials_rows _ rest)
+sequentials_rows n (more_of-Sequential label s rest) = ap (t.step (option_map ident_view label) (statement_view s)) (sequentials_rows _ rest)
 
 sequentials_hidden : (v : Vec Sequential Global) → statements_row (hidden-the_row-Sequential-0 v) ≡ t.statements_of (sequentials_view v)
 sequentials_hidden v = sequentials_rows _ (hidden-the_row-Sequential-0 v) ∙ ap (λ ss. t.statements_of (map sequential_view ss)) (items_hidden-the_row-Sequential-0 v)

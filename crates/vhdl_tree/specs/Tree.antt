@@ -114,8 +114,8 @@ mutual
 
   -- each after its label
   pub data Statements : Type 0 where
-    no_statements : Statements
-    statement : Option Ident → Statement → Statements → Statements
+    done : Statements
+    step : Option Ident → Statement → Statements → Statements
 
   pub data Conditionals : Type 0 where
     no_conditionals : Conditionals
@@ -149,8 +149,8 @@ abbrev pub chosen_by : List Choice → List Sequential → Alternative
 chosen_by choices body = record { choices = choices; statements = body }
 
 abbrev pub statements_of : List Sequential → Statements
-statements_of [] = no_statements
-statements_of (s ∷ ss) = statement s.label s.statement (statements_of ss)
+statements_of [] = done
+statements_of (s ∷ ss) = step s.label s.statement (statements_of ss)
 
 abbrev pub conditionals_of : List Conditional → Conditionals
 conditionals_of [] = no_conditionals

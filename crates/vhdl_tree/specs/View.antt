@@ -179,8 +179,8 @@ abbrev mutual
       tree.for_of at (ident_view parameter) (range_view range) (statements_row statements) (option_map ident_view end_label)
 
   pub statements_row : {m : _} → Row_of-Sequential m → tree.Statements
-  statements_row end_of-Sequential = tree.no_statements
-  statements_row (more_of-Sequential label s rest) = tree.statement (option_map ident_view label) (statement_view s) (statements_row rest)
+  statements_row end_of-Sequential = tree.done
+  statements_row (more_of-Sequential label s rest) = tree.step (option_map ident_view label) (statement_view s) (statements_row rest)
 
   pub conditionals_row : {m : _} → Row_of-Conditional m → tree.Conditionals
   conditionals_row end_of-Conditional = tree.no_conditionals

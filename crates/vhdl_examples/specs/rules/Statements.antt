@@ -111,7 +111,7 @@ empty_if test = t.generated (word (codes "g")) 0 (t.if_holds test) false t.no_co
 abbrev pub loop_over_v : t.Statement
 loop_over_v =
     t.Statement.for_of 0 (word (codes "i")) to_three
-    (t.statement None (t.assigned (target (codes "y")) (y_from_v (word (codes "i")))) t.no_statements) None
+    (t.step None (t.assigned (target (codes "y")) (y_from_v (word (codes "i")))) t.done) None
 
 -- an assignment of an element of v to y, alone
 abbrev pub y_is_element : u.Static → s.Statements

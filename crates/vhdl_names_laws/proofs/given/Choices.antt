@@ -25,7 +25,7 @@ use Rattle.vhdl_names_problems.specs.Subtypes.{literal}
 use Rattle.vhdl_names_problems.specs.Choices as broken
 use Rattle.vhdl_names_problems.specs.Choices.{choice_problem}
 use Rattle.vhdl_names_problems.specs.Covered as covering
-use Rattle.vhdl_names_problems.specs.Covered.{stands, each_once, is_empty, alternative_in_place, in_place, complete, any_alternative}
+use Rattle.vhdl_names_problems.specs.Covered.{stands, each_once, is_empty, alternative_in_place, in_place, any_alternative}
 use Rattle.vhdl_names_problems.specs.Statements.{by_selector}
 use Rattle.vhdl_names_rules.proofs.laws.Rules.{comes, both, neither, some_is, not_true}
 use Rattle.vhdl_names_problems.proofs.Telling.{IsKept}

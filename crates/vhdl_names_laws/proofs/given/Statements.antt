@@ -13,7 +13,7 @@ use Rattle.vhdl_names_rules.specs.Names.{Suffix}
 use Rattle.vhdl_names_rules.specs.Expressions.{typed, typed_suffix, static_range, condition, value_given}
 use Rattle.vhdl_names_rules.specs.Choices.{choices, covered, selector, arranged}
 use Rattle.vhdl_names_rules.specs.Statements as are
-use Rattle.vhdl_names_rules.specs.Statements.{SignalName, VariableName, as_signal, as_variable, is_input, choice_lists}
+use Rattle.vhdl_names_rules.specs.Statements.{SignalName, as_signal, as_variable, is_input, choice_lists}
 use Rattle.vhdl_names_problems.specs.Broken.{◌▸◌, unless, lacking, where_given}
 use Rattle.vhdl_names_problems.specs.Expressions as expressions
 use Rattle.vhdl_names_problems.specs.Expressions.{no_attribute}
@@ -149,8 +149,8 @@ mutual
       (bound (are.statements (within_loop sight n) body) (λ turn. Some (s.for_of range.value turn)) turn.value turn.is (this (s.for_of range.value turn.value))))
 
   pub statements_given : (ys : t.Statements) (sight : Sight) → IsKept (broken.statements sight ys) → IsGiven (are.statements sight ys)
-  statements_given t.no_statements sight h = this s.done
-  statements_given (t.statement label y ys) sight h =
+  statements_given t.done sight h = this s.done
+  statements_given (t.step label y ys) sight h =
       let k = parts _ _ h in
       let x = statement_given y sight label k.0 in
       let xs = statements_given ys sight k.1 in

@@ -14,7 +14,7 @@ use Rattle.vhdl_tree.specs.grammar.Units.{spell_selected, spell_context, IsConte
 use Rattle.vhdl_names_rules.specs.declared.operator.IntegerType.{IntegerType}
 use Rattle.vhdl_names_rules.specs.declared.fault.NameProblem.TheVariants.{Undeclared, Twice, WrongKind, TypeMismatch, LeftOut}
 use Rattle.vhdl_names_rules.specs.Visibility as visibility
-use Rattle.vhdl_names_rules.specs.Visibility.{Name, Declared, Meaning, Sight, Declares, is_among}
+use Rattle.vhdl_names_rules.specs.Visibility.{Name, Declared, Sight, Declares, is_among}
 use Rattle.vhdl_names_rules.specs.Packages as packages
 use Rattle.vhdl_names_rules.specs.Packages.{Context, is_ieee, is_library, is_logic, is_numbers}
 use Rattle.vhdl_names_rules.specs.Subtypes as subtypes

@@ -45,8 +45,8 @@ mutual
   inner_stand (t.for_of at n r body end) P h = statements_stand body P (first P (spell_statements body) _ (behind P (spell_range r) _ h.1.1.1).1)
 
   pub statements_stand : (xs : t.Statements) (P : ℕ → Type 0) → Stand P (spell_statements xs) → NamesStand P (statement_labels xs)
-  statements_stand t.no_statements P h = tt
-  statements_stand (t.statement label x xs) P h =
+  statements_stand t.done P h = tt
+  statements_stand (t.step label x xs) P h =
       let g = first P (spell_option spell_label label ++ spell_statement x) (spell_statements xs) h in
       both P (label_if_any label) (inner_labels x ++ statement_labels xs) (label_stands P label (first P (spell_option spell_label label) (spell_statement x) g))
       (both P (inner_labels x) (statement_labels xs) (inner_stand x P (behind P (spell_option spell_label label) (spell_statement x) g))

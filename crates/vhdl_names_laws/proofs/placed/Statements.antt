@@ -109,8 +109,8 @@ mutual
       (told_behind (statements_told body P (within_loop sight n) (first P (spell_statements body) _ g)) (end_told P k.Loop label end (behind P (spell_statements body) _ g)))
 
   pub statements_told : (xs : t.Statements) (P : ℕ → Type 0) (sight : Sight) → Stand P (spell_statements xs) → Told P (broken.statements sight xs)
-  statements_told t.no_statements P sight h = told_nothing
-  statements_told (t.statement label x xs) P sight h =
+  statements_told t.done P sight h = told_nothing
+  statements_told (t.step label x xs) P sight h =
       let g = first P (spell_option spell_label label ++ spell_statement x) (spell_statements xs) h in
       told_behind (statement_told x P sight label (behind P (spell_option spell_label label) (spell_statement x) g))
       (statements_told xs P sight (behind P (spell_option spell_label label ++ spell_statement x) (spell_statements xs) h))

@@ -38,8 +38,8 @@ mutual
   inner_named (t.for_of at n r body end) = statements_named body
 
   pub statements_named : (xs : t.Statements) → names_of (statement_labels xs) ≡ are.statement_labels xs
-  statements_named t.no_statements = refl
-  statements_named (t.statement label x xs) =
+  statements_named t.done = refl
+  statements_named (t.step label x xs) =
       both_named (label_if_any label) (inner_labels x ++ statement_labels xs) (are.label_names label) (are.inner_labels x ++ are.statement_labels xs) (label_named label)
       (both_named (inner_labels x) (statement_labels xs) (are.inner_labels x) (are.statement_labels xs) (inner_named x) (statements_named xs))
 

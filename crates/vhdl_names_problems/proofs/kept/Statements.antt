@@ -142,8 +142,8 @@ mutual
       (both_kept _ _ (statements_kept body (within_loop sight n) turn.value turn.is) (end_label_kept label end a.0))
 
   pub statements_kept : (ys : t.Statements) (sight : Sight) (xs : s.Statements) → are.statements sight ys ≡ Some xs → IsKept (broken.statements sight ys)
-  statements_kept t.no_statements sight xs h = nothing_kept
-  statements_kept (t.statement label y ys) sight xs h =
+  statements_kept t.done sight xs h = nothing_kept
+  statements_kept (t.step label y ys) sight xs h =
       let a = comes (are.statement sight label y) _ xs h in
       let b = comes (are.statements sight ys) _ xs a.rest in
       both_kept _ _ (statement_kept y sight label a.value a.is) (statements_kept ys sight b.value b.is)

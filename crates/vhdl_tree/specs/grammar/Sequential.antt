@@ -2,7 +2,7 @@
 use Rattle.std.specs.Prelude.{Option, List, [], ◌∷◌, ◌++◌}
 use Rattle.vhdl_lexer.specs.declared.token.TokenKind.{TokenKind}
 use Rattle.vhdl_lexer.specs.declared.token.TokenKind.TheVariants as k
-use Rattle.vhdl_tree.specs.Tree.{Ident, Statement, null_of, assigned, variable_assigned, if_of, case_of, for_of, Statements, no_statements, statement, Conditionals, no_conditionals, guarded, Otherwise, no_else, else_do, Alternatives, no_alternatives, alternative, Sequential}
+use Rattle.vhdl_tree.specs.Tree.{Ident, Statement, null_of, assigned, variable_assigned, if_of, case_of, for_of, Statements, done, step, Conditionals, no_conditionals, guarded, Otherwise, no_else, else_do, Alternatives, no_alternatives, alternative, Sequential}
 use Rattle.vhdl_tree.specs.Pieces.{Piece, some, one_at, word_at, spell_ident, spell_option}
 use Rattle.vhdl_tree.specs.grammar.Expressions.{spell, spell_name, spell_value, spell_range, spell_choices, IsExpr, IsName, IsValue, IsRange, AreChoices}
 
@@ -34,8 +34,8 @@ abbrev mutual
 
   -- seq = [ id : ] ..
   pub spell_statements : Statements → List Piece
-  spell_statements no_statements = []
-  spell_statements (statement label s more) = (spell_option spell_label label ++ spell_statement s) ++ spell_statements more
+  spell_statements done = []
+  spell_statements (step label s more) = (spell_option spell_label label ++ spell_statement s) ++ spell_statements more
 
   -- expr then { seq } { elsif expr then { seq } }
   pub spell_conditionals : Conditionals → List Piece
@@ -71,8 +71,8 @@ abbrev mutual
   IsStatement (for_of at parameter range statements label) = IsRange range × AreStatements statements
 
   pub AreStatements : Statements → Type 0
-  AreStatements no_statements = Unit {0}
-  AreStatements (statement label s more) = IsStatement s × AreStatements more
+  AreStatements done = Unit {0}
+  AreStatements (step label s more) = IsStatement s × AreStatements more
 
   -- there is at least one
   pub AreBranches : Conditionals → Type 0

@@ -1,5 +1,4 @@
-use Rattle.std.proofs.Common.{rules, arith, ◌≡◌, map, set, position, Some, ap, sym, ◌∙◌}
-use Rattle.std.proofs.lemmas.Grind.{common_steps}
+use Rattle.std.proofs.Common.{rules, map, set, position, Some, ap, sym, ◌∙◌}
 use Rattle.std.proofs.lemmas.List.{map-set}
 use Rattle.std.specs.Prelude.{bytes_eq, option_map}
 use Rattle.std.specs.Map.{lookup, keys_of}
@@ -7,7 +6,6 @@ use Rattle.vhdl_tree.specs.View as view
 use Rattle.vhdl_names_rules.specs.Files as rules
 use Rattle.vhdl_names_rules.specs.Rules.{◌>>=◌}
 use Rattle.vhdl_names_labels.specs.Once.{names_view}
-use Rattle.vhdl_names_problems.specs.Broken.{Tells}
 use Rattle.vhdl_names_problems.specs.Files as broken
 use Rattle.vhdl_names_problems.proofs.Telling.{told_same}
 use Rattle.vhdl_names_interfaces.specs.Views.{entities_view, entity_view, named_view}

@@ -1,5 +1,4 @@
-use Rattle.std.proofs.Common.{◌≡◌, false, length, map, replicate, None}
-use Rattle.std.specs.Prelude.{option_map}
+use Rattle.std.proofs.Common.{◌≡◌, false, length, replicate, None}
 use Rattle.vhdl_tree.specs.View as view
 use Rattle.vhdl_names_labels.specs.Lists.{in_turn}
 use Rattle.vhdl_names_labels.specs.Once.{names_view}

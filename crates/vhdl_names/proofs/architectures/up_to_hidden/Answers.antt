@@ -1,4 +1,4 @@
-use Rattle.std.proofs.Common.{◌≡◌, true, false, ap, sym, ◌∙◌, true≢false}
+use Rattle.std.proofs.Common.{true, false, ap, sym, ◌∙◌, true≢false}
 use Rattle.vhdl_tree.specs.View as view
 use Rattle.vhdl_names_problems.specs.Files as broken
 use Rattle.vhdl_names.specs.Views.{is_hidden}

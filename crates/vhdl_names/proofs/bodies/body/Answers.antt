@@ -1,7 +1,6 @@
-use Rattle.std.proofs.Common.{List, map, ap, sym, ◌∙◌}
+use Rattle.std.proofs.Common.{map, sym, ◌∙◌}
 use Rattle.vhdl_tree.specs.Tree as t
 use Rattle.vhdl_tree.specs.View as view
-use Rattle.vhdl_names_rules.specs.declared.fault.NameFault.TheVariants.{NoMemory}
 use Rattle.vhdl_names_rules.specs.Concurrent as are
 use Rattle.vhdl_names_problems.specs.Broken.{◌▸◌}
 use Rattle.vhdl_names_problems.specs.Concurrent.{concurrents}

@@ -1,6 +1,5 @@
-use Rattle.std.proofs.Common.{rules, arith, length, ◌<◌, ◌≡◌, true, false, map, ap, sym, ◌∙◌}
+use Rattle.std.proofs.Common.{rules, arith, length, ◌<◌, ◌≡◌, true, false, ap, sym, ◌∙◌}
 use Rattle.std.proofs.lemmas.Grind.{common_steps}
-use Rattle.vhdl_tree.specs.Tree as tree
 use Rattle.vhdl_tree.specs.View as view
 use Rattle.vhdl_names_problems.specs.Files as broken
 use Rattle.vhdl_names.specs.Views.{one_is_hidden}

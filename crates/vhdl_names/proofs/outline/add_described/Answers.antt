@@ -1,4 +1,4 @@
-use Rattle.std.proofs.Common.{◌≡◌, true, false, not, None, refl, sym, ap, ◌∙◌}
+use Rattle.std.proofs.Common.{◌≡◌, true, false, not, None, sym, ap, ◌∙◌}
 use Rattle.vhdl_names_rules.specs.declared.fault.NameProblem.TheVariants.{SecondArchitecture}
 use Rattle.vhdl_names_rules.specs.Visibility.{is_among}
 use Rattle.vhdl_names_problems.proofs.Telling.{told_unless}

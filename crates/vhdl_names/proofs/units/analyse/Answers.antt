@@ -1,6 +1,5 @@
-use Rattle.std.proofs.Common.{◌≡◌, Some, Ok, refl, ap, sym, ◌∙◌}
+use Rattle.std.proofs.Common.{◌≡◌, Some, Ok, ap, sym, ◌∙◌}
 use Rattle.vhdl_tree.specs.View.{file_view}
-use Rattle.vhdl_names_problems.specs.Broken.{Tells}
 use Rattle.vhdl_names_problems.specs.Files as broken
 use Rattle.vhdl_names_rules.specs.Files.{units_of}
 use Rattle.vhdl_names_units.specs.views.Units as views

@@ -5,7 +5,6 @@ use Rattle.vhdl_tree.specs.View.{component_view}
 use Rattle.vhdl_names_types.specs.Views.{sight_view}
 use Rattle.vhdl_names_problems.specs.Broken.{Tells}
 use Rattle.vhdl_names_problems.specs.Interfaces as broken
-use Rattle.vhdl_names_problems.specs.Interfaces.{same_text}
 use Rattle.vhdl_names_problems.proofs.Telling.{told_left, told_on}
 use Rattle.vhdl_names_interfaces.specs.Views.{entities_view, named_view}
 use Rattle.vhdl_names_components.proofs.Telling.{named_twice, behind, no_entity, other_entity, own_region, other_end, named_last}

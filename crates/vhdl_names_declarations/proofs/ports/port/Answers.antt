@@ -5,9 +5,9 @@ use Rattle.vhdl_names_rules.specs.declared.fault.NameFault.TheVariants.{NoMemory
 use Rattle.vhdl_names_rules.specs.units.Units.{Fixed}
 use Rattle.vhdl_names_rules.specs.Subtypes.{Subtype, object}
 use Rattle.vhdl_names_rules.specs.Declarations as d
-use Rattle.vhdl_names_rules.specs.Declarations.{for_each, within, within_variables, mode_of}
+use Rattle.vhdl_names_rules.specs.Declarations.{for_each}
 use Rattle.vhdl_names_rules.specs.Visibility as visibility
-use Rattle.vhdl_names_rules.specs.Visibility.{names_of, all_declared, with_declared, with_variables}
+use Rattle.vhdl_names_rules.specs.Visibility.{names_of, all_declared, with_declared}
 use Rattle.vhdl_tree.specs.View as tree
 use Rattle.vhdl_tree.specs.View.{ident_view}
 use Rattle.vhdl_names_types.specs.Views.{region_view, sight_view, entry_view}

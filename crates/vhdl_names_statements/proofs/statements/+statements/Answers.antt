@@ -1,4 +1,4 @@
-use Rattle.std.proofs.Common.{rules, arith, ◌≡◌, ◌≢◌, ◌<◌, ◌∷◌, [], length, map, None, Some, IfOk, IfErr, ap, sym, ◌∙◌}
+use Rattle.std.proofs.Common.{rules, arith, ◌≡◌, ◌≢◌, ◌<◌, ◌∷◌, [], length, map, None, Some, ap, sym, ◌∙◌}
 use Rattle.std.proofs.lemmas.Grind.{common_steps}
 use Rattle.std.proofs.lemmas.List.{map-append}
 use Rattle.vhdl_tree.specs.Tree as tree'
@@ -7,13 +7,12 @@ use Rattle.vhdl_tree.specs.declared.sequential.Case.{out-Case}
 use Rattle.vhdl_tree.specs.declared.sequential.If.{out-If}
 use Rattle.vhdl_names_rules.specs.declared.fault.NameFault.TheVariants.{NoMemory}
 use Rattle.vhdl_names_rules.specs.Rules.{◌>>◌, each, if_any}
-use Rattle.vhdl_names_rules.specs.Gives.{Gives}
 use Rattle.vhdl_names_rules.specs.Choices as are
 use Rattle.vhdl_names_rules.specs.Statements.{statement}
 use Rattle.vhdl_names_types.specs.Views.{sight_view}
 use Rattle.vhdl_names_types.proofs.Along.{gives_along}
 use Rattle.vhdl_names_units.specs.views.Sequential.{statement_view, statements_view, branch_view, branches_view, alternative_view, alternatives_view}
-use Rattle.vhdl_names_problems.specs.Broken.{Tells, nothing}
+use Rattle.vhdl_names_problems.specs.Broken.{Tells}
 use Rattle.vhdl_names_problems.specs.Expressions.{condition}
 use Rattle.vhdl_names_problems.specs.Choices.{choices}
 use Rattle.vhdl_names_problems.specs.Covered.{covered, any_alternative}
