@@ -1,5 +1,5 @@
 /* How long the checker takes, and how long a second look at its report. The time of a call is a quarter of what four more take;
-   the memory of a check is what a process takes at most that makes the net and checks it, less what one takes that makes it
+   the memory of a check is what a process takes at most that makes the netlist and checks it, less what one takes that makes it
    alone. */
 #include <stdbool.h>
 #include <stdint.h>

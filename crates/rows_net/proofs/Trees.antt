@@ -1,4 +1,4 @@
--- Bodies that run a net's bodies: its trees, its codes, and bodies that stand for others.
+-- Bodies that run a netlist's bodies: its trees, its codes, and bodies that stand for others.
 use Rattle.std.proofs.Common.{◌≡◌, ℕ, ◌<◌, List, length, map, get_or, sym, ap, ◌∙◌, subst, arith}
 use Rattle.std.proofs.lemmas.List.{get_or-map, length-map}
 use Rattle.std.proofs.lemmas.List.FromFn.{length-map-range_with_len, get_or-map-range_with_len}
@@ -9,7 +9,7 @@ use Rattle.rtl_kernel.specs.kernel.Kept.{RunBodies}
 use Rattle.rtl_eval.specs.Trees.{ProcessOf, process_of, processes_of}
 use Rattle.rtl_eval_code.specs.Codes.{CodeOf, process_of as code_process}
 
--- bodies run a net's bodies where what they stand for does
+-- bodies run a netlist's bodies where what they stand for does
 pub through : {B E : Type 0} (process : E → FlatProcess) (types : E → List ElementType) (net : FlatNetlist) (stands_for : B → E) (bodies : List B)
     → RunBodies process types net (map stands_for bodies) → RunBodies (λ b. process (stands_for b)) (λ b. types (stands_for b)) net bodies
 through process types net stands_for bodies run = record {

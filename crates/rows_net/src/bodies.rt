@@ -6,7 +6,7 @@ use rtl_eval::{Drives, Exec};
 use std::alloc::{AllocError, Global};
 use std::cell::Cell;
 
-/// The forms that the bodies of a netlist have.
+/// The form that the bodies of a netlist have.
 #[derive(Clone, Copy)]
 pub enum Bodies {
     Trees,

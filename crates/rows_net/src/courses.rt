@@ -1,8 +1,8 @@
-//! Nets, and what is done with them step by step.
+//! Netlists, and what is done with them step by step.
 
 use vhdl_values::Nine;
 
-/// A net, its steps, and how they are told.
+/// A netlist, its steps, and how they are told.
 pub struct Course {
     pub net: &'static str,
     /// What the inputs are at the start.

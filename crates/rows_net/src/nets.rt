@@ -1,4 +1,4 @@
-//! The nets that rows of simulations and of the kernel name, as VHDL.
+//! The netlists that rows of simulations and of the kernel name, as VHDL.
 
 ghost use Rattle.std.specs.Prelude.{IfSome};
 ghost use Rattle.rtl_stim.specs.Ports.{HasOwnPorts};
@@ -31,7 +31,7 @@ const TWO_DRIVERS: &str =
 const SIBLINGS: &str =
     "library ieee; use ieee.std_logic_1164.all; entity sib is port (a : in std_logic); end; architecture r of sib is signal y, z : std_logic; begin z <= not a; process (a, z) begin y <= a; end process; end;";
 
-/// The net of a name, if it has one.
+/// The netlist of a name, if it has one.
 pub fn net_named(alloc: Global, name: &str) -> Option<Net>
     ensures { IfSome result HasOwnPorts }
 {

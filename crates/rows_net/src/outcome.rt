@@ -11,7 +11,8 @@ use vhdl_source::{SourceFault, open};
 pub struct Processes;
 
 impl Teller for Processes {
-    /// What is elaborated of a text in a frame: its net, or the fault's name, where it stands at the text's mark if it has one.
+    /// What is elaborated of a text in a frame: its netlist, or the fault's name, where it stands at the text's mark if it has
+    /// one.
     fn told(&self, alloc: Global, frame: Frame<'_>, written: &str) -> Result<String, AllocError> {
         let (source, place) = frame.source_of(alloc, written)?;
         match open(alloc, source.as_str().as_bytes(), b"t") {

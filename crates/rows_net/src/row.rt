@@ -5,7 +5,7 @@ use std::alloc::{AllocError, Global};
 /// A netlist under a stimulus, and what must come of it.
 #[derive(Drop)]
 pub struct Row<'a> {
-    /// The first line as it stands in the table: the net's name, and how many delta cycles a moment may take.
+    /// The first line as it stands in the table: the netlist's name, and how many delta cycles a moment may take.
     pub head: &'a str,
     pub net: &'a str,
     pub limit: u32,
@@ -15,7 +15,7 @@ pub struct Row<'a> {
 }
 
 impl<'a> Row<'a> {
-    /// Reads a row, from the net's name on.
+    /// Reads a row, from the netlist's name on.
     pub fn read(alloc: Global, part: &'a str) -> Result<Row<'a>, AllocError> {
         let (head, rest) = part.split_once('\n').unwrap_or((part, ""));
         let (net, limit) = head.split_once(' ').unwrap_or((head, ""));

@@ -1,5 +1,5 @@
 //! Whole calls of the program, row by row. Each row is made by every call that can serve it, and each answer
-//! is compared with the row's: the status, and what goes to both outputs.
+//! is compared with the row's: the status, what goes to both outputs, and what shows how far a run is.
 //!
 //! The tables lie in `data/` with the sources that they name; `data/values.txt` tells how a row is written.
 //! Where a call answers otherwise, what it gave is printed, and so the output isn't that of `stdout`.

@@ -13,13 +13,13 @@ pub enum Told {
     Names,
     /// The lines of the netlist.
     Lines,
-    /// How many nets and processes the net has.
+    /// How many nets and processes the netlist has.
     Counts,
 }
 
 impl Teller for Told {
-    /// The answer to a call of `net`: what is told of the net, or the fault's name, where it stands at the text's mark if it has
-    /// one.
+    /// The answer to a call of `net`: what is told of the netlist, or the fault's name, where it stands at the text's mark if it
+    /// has one.
     fn told(&self, alloc: Global, frame: Frame<'_>, written: &str) -> Result<String, AllocError> {
         let (source, place) = frame.source_of(alloc, written)?;
         let words = ["net", "@", self.top()];
@@ -41,7 +41,7 @@ impl Told {
         }
     }
 
-    /// The lines that are told of a net, with `; ` between them.
+    /// The lines that are told of a netlist, with `; ` between them.
     fn told_net(self, alloc: Global, printed: &str) -> Result<String, AllocError> {
         let mut told = String::new(alloc);
         let most = match self {

@@ -1,4 +1,4 @@
--- A net's faults, or its loop.
+-- A netlist's faults, or its loop.
 use Rattle.std.proofs.Common.{◌≡◌, ◌==◌, ℕ, zero, suc, true, false, List, [], ◌∷◌, ◌++◌, length, map, refl, sym, ap, subst, ◌∙◌, arith, inr, Vec, Global, vec_len}
 use Rattle.std.specs.Prelude.{IsTrue, ◌↔◌}
 use Rattle.std.proofs.lemmas.Bool.{eqb-true}
@@ -33,7 +33,7 @@ looped net old new round none h e loop = inr (record {
 pub closed : (net : Netlist) (table : t.Table) → IsTableOf net table → t.IsClosed table
 closed net table h p q feeds = (h.combinational p).1 ((h.feeds p q).0 feeds).feeder
 
--- a net with faults isn't accepted
+-- a netlist with faults isn't accepted
 pub refused : (net : Netlist) (faults : List f.Fault) → FaultsAreListed net → AreFaults net faults → IsTrue false ↔ f.IsAccepted net
 refused net faults laws h = (to, λ a. absurd (laws.none_if_accepted faults h a))
   where

@@ -23,7 +23,7 @@ one_place k first fault = is_of_number k fault && (first_named fault == first)
 abbrev pub up_to : ℕ → Fault → Bool
 up_to k fault = nat_le (fault_number fault) k
 
--- the net's faults of some kind are appended
+-- the netlist's faults of some kind are appended
 pub record AddsFaults (net : Netlist) (among : Fault → Bool) (old new : List CheckFault) : Type 0 where
   pub added : List CheckFault
   pub is : new ≡ old ++ added

@@ -1,4 +1,4 @@
--- The levels of a table, in the words of nets.
+-- The levels of a table, in the words of netlists.
 use Rattle.std.proofs.Common.{◌≡◌, ℕ, suc, ◌<◌, ◌≤◌, [], ◌∷◌, List, get_or, Option, Some, None, sym, ap, subst, refl, ◌∙◌, arith}
 use Rattle.std.specs.Prelude.{MatchOption, IfSome}
 use Rattle.rtl_model.specs.simulation.Netlist.{Netlist, Edge, Combinational, Clocked, IsCombinational, IsClockedBy}

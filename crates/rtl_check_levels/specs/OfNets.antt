@@ -1,4 +1,4 @@
--- What a table and its levels are to a net of rtl_model.
+-- What a table and its levels are to a netlist of rtl_model.
 use Rattle.std.specs.Prelude.{◌≡◌, ◌↔◌, ℕ, List, length, Option}
 use Rattle.rtl_model.specs.simulation.Netlist.{Netlist, Edge, IsCombinational}
 use Rattle.rtl_model.specs.simulation.Accepted as net
@@ -8,18 +8,18 @@ use Rattle.rtl_check_levels.specs.Feeding.{Table, IsIn, Feeds}
 use Rattle.rtl_check_levels.specs.Levels.{AreLevels}
 use Rattle.rtl_check_levels.specs.Rounds.{IsRound}
 
--- The table of a net has its combinational processes, each with those that drive something it is sensitive to.
+-- The table of a netlist has its combinational processes, each with those that drive something it is sensitive to.
 pub record IsTableOf (n : Netlist) (table : Table) : Type 0 where
   pub each_process : length table ≡ length n.processes
   pub combinational : (q : ℕ) → IsIn table q ↔ IsCombinational n q
   pub feeds : (p q : ℕ) → Feeds table p q ↔ net.Feeds n p q
 
--- The levels of a net's table are those of a report on the netlist, and there is no loop.
+-- The levels of a netlist's table are those of a report on it, and there is no loop.
 abbrev pub LevelsAreOfNets : Type 0
 LevelsAreOfNets =
     (n : Netlist) (table : Table) (levels from : List (Option ℕ)) (greatest : ℕ) (clocks : List (ℕ × Edge)) → IsTableOf n table
     → AreLevels table levels from greatest → AreClocks n clocks → IsReport n levels from clocks (bound n greatest) × net.HasNoLoop n
 
--- A loop of a net's table is a loop of the net.
+-- A loop of a netlist's table is a loop of the netlist.
 abbrev pub RoundsAreLoops : Type 0
 RoundsAreLoops = (n : Netlist) (table : Table) (round : List ℕ) → IsTableOf n table → IsRound table round → net.IsLoop n round

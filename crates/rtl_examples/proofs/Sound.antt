@@ -181,7 +181,7 @@ connected_by net in_range h =
         go (inl f) = let k = ltb-true (length (flat_sources net n)) 2 f in absurd (omega arith)
         go (inr f) = is_of_type net.types nine_valued n f
 
--- ---- no process stores_element a variable
+-- ---- no process stores a variable
 
 abbrev forgets : FlatProcess → Bool
 forgets p = all_below (λ e. not (stores_element e p.body)) (length (element_starts p.variables))
@@ -212,7 +212,7 @@ forgets_all inputs p h which place s = go (element_number p.variables which plac
     go None e t = absurd cc
     go (Some k) e t = let f = not-true (stores_element k p.body) (below (λ e. not (stores_element e p.body)) (length (element_starts p.variables)) k h (number_below p.variables which place k e)) in cc
 
--- ---- a sound net, given a numbering of its processes that rises
+-- ---- a sound netlist, given a numbering of its processes that rises
 
 abbrev is_sound : FlatNetlist → (number : ℕ → ℕ) → Bool
 is_sound net number = (is_in_range net && is_connected net) && (is_accepted (core_netlist net) number && all_in forgets net.processes)

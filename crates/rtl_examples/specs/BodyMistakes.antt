@@ -1,5 +1,5 @@
--- Wrong definitions of what bodies do, each with a small body or net on which it differs from the right one, and a law
--- that it would break.
+-- Wrong definitions of what bodies do, each with a small body or netlist on which it differs from the right one, and a
+-- law that it would break.
 use Rattle.std.specs.Prelude.{◌≡◌, ℕ, Bool, true, false, ◌==◌, ◌&&◌, List, [], ◌∷◌, Some, None}
 use Rattle.vhdl_values.specs.declared.scalar.Nine.TheVariants.{U, One}
 use Rattle.vhdl_values.specs.declared.kinds.Logic.TheVariants.{And}

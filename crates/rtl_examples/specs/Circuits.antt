@@ -1,5 +1,5 @@
--- Flat nets of std_logic signals whose processes have one driver each. The values are those of std_logic by place: 0 is 'U',
--- 1 is 'X', 2 is '0' and 3 is '1'.
+-- Flat netlists of std_logic signals whose processes have one driver each. The values are those of std_logic by place: 0 is
+-- 'U', 1 is 'X', 2 is '0' and 3 is '1'.
 use Rattle.std.specs.Prelude.{◌≡◌, ℕ, List, [], ◌∷◌, map}
 use Rattle.rtl_model.specs.bodies.Body.{Stmts}
 use Rattle.rtl_model.specs.bodies.Types.{nine_valued}
@@ -22,6 +22,6 @@ circuit inputs start processes = record {
   processes = processes;
 }
 
--- at the moment m the net settles in this valuation
+-- at the moment m the netlist settles in this valuation
 abbrev pub SettlesAs : Netlist → (stimulus : ℕ → ℕ → ℕ) → (m : ℕ) → (v : List ℕ) → Type 0
 SettlesAs net stimulus m v = (k : ℕ) × (t : State) × HasSettled net stimulus m k t × (t.now ≡ v)

@@ -55,7 +55,7 @@ CounterIsReported =
 
 -- ---- other designs
 
--- a net of the top of this name with these processes and nothing else
+-- a netlist of the top of this name with these processes and nothing else
 abbrev pub of_processes : (name : List ℕ) → List Process → NetlistView
 of_processes name processes = record {
   types = [];

@@ -1,4 +1,4 @@
--- Nets with faults, reports and races whose names and orders are known.
+-- Netlists with faults, reports and races whose names and orders are known.
 use Rattle.std.specs.Prelude.{◌≡◌, ℕ, Bool, true, ◌==◌, List, [], ◌∷◌, slice_index, Option, Some, None, if◌then◌else◌}
 use Rattle.vhdl_values.specs.declared.scalar.Nine.TheVariants.{Zero, One}
 use Rattle.vhdl_values.specs.declared.kinds.Logic.TheVariants.{And}

@@ -1,4 +1,4 @@
--- Nets whose delta cycles are known.
+-- Netlists whose delta cycles are known.
 use Rattle.std.specs.Prelude.{◌≡◌, ℕ, ◌==◌, [], ◌∷◌, if◌then◌else◌}
 use Rattle.rtl_model.specs.bodies.Body.{inverse}
 use Rattle.rtl_model.specs.nets.FlatNetlist.{FlatNetlist}

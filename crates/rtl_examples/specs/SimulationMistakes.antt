@@ -90,7 +90,7 @@ abbrev pub cycles_from_start : (update : Netlist → State → State) → Netlis
 cycles_from_start update net order k inputs = cycles update net order k (run_each net order (start_state net inputs))
 
 -- The oscillator from 'U' would still be active after nine delta cycles, though y keeps its value; and so would the accepted
--- net that is held in reset and whose bound is three, since its two processes would resume each other.
+-- netlist that is held in reset and whose bound is three, since its two processes would resume each other.
 pub record ActivityWouldGoOn : Type 0 where
   pub right : is_quiet (cycles_from_start after_update (oscillator 0) (0 ∷ []) 1 (no_inputs 0)) ≡ true
   pub wrong : is_quiet (cycles_from_start updated_by_activity (oscillator 0) (0 ∷ []) 9 (no_inputs 0)) ≡ false

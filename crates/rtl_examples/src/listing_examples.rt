@@ -1,4 +1,4 @@
-//! Lines of known designs: what is printed of their nets and of the checker's verdicts.
+//! Lines of known designs: what is printed of their netlists and of the checker's verdicts.
 
 ghost use Rattle.rtl_examples.specs.Listing.{CounterIsListed, CounterIsReported, LoopIsListed, LevelIsListed, LinesAreAsSaid};
 

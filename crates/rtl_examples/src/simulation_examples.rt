@@ -1,5 +1,5 @@
-//! Small nets on which the definitions of simulation are tried: that the laws' premises can be met, that known counts of
-//! delta cycles come out, and that wrong definitions would differ.
+//! Small netlists on which the definitions of simulation are tried: that the laws' premises can be met, that known
+//! counts of delta cycles come out, and that wrong definitions would differ.
 
 ghost use Rattle.rtl_examples.specs.Toggling.{PremisesCanBeMet, BoundsAreMet};
 ghost use Rattle.rtl_examples.specs.Rows.{OscillatorSettles, SiblingWakes};
@@ -20,7 +20,7 @@ pub fn known_counts_come_out()
     ensures sibling { SiblingWakes }
 {}
 
-/// Each of these wrong definitions differs from the right one on a small net, and with it a law would fail: a process sees
+/// Each of these wrong definitions differs from the right one on a small netlist, and with it a law would fail: a process sees
 /// another's new value in its cycle; one is resumed by activity without an event; the bound leaves out the registers' cycle;
 /// levels go by reads in place of sensitivities; a register falls back to its start, or takes its value from after the
 /// edge; races are looked for at rising edges alone.

@@ -38,7 +38,7 @@ module _ (scopes : List ScopeView) (are : AreScopes scopes) where
       enough k (suc k) k (omega arith) (omega arith) l ∙ ap (λ (o : Option ℕ). labels_behind (labels_within k scopes) o (label_at scopes k)) e
       ∙ ap (λ (x : List ℕ). x ++ label_at scopes k ++ codes ".") (enough k p p (omega arith) (omega arith) (omega arith))
 
--- a signal of the net as the code keeps it, and as contracts see it
+-- a signal of the netlist as the code keeps it, and as contracts see it
 pub signal_at : (net : NetlistView) → (signals : List Signal) → map signal_view signals ≡ net.signals → (i : ℕ) (s d : Signal) → i < length signals → s ≡ get_or signals i d
     → slice_get net.signals i ≡ Some (signal_view s)
 signal_at net signals views i s d within is =

@@ -76,6 +76,6 @@ after_lines net number (line ∷ lines) so_far = after_lines net (suc number) li
 
 -- ---- the whole
 
--- what a text expects of the net's signals, in order of time and of lines, or its first bad line
+-- what a text expects of the netlist's signals, in order of time and of lines, or its first bad line
 abbrev pub expectations_of : NetlistView → (text : List ℕ) → Result (List Expectation) ExpectFault
 expectations_of net text = after_lines net 1 (lines_of text) (Ok [])

@@ -14,8 +14,8 @@ use rtl_net::{Net, Scope, Signal, SignalKind};
 use rtl_sink::{Sink, push_number, push_text};
 use vhdl_values::Nine;
 
-/// Writes the line that tells a difference from what a net's signals were expected to be: `rtlsim: expect 1 Differs TIME NAME is VALUE line
-/// LINE`, the time in ns, or `rtlsim: expect 2 AfterStop line LINE`. It takes no memory.
+/// Writes the line that tells a difference from what a netlist's signals were expected to be: `rtlsim: expect 1 Differs TIME NAME is VALUE
+/// line LINE`, the time in ns, or `rtlsim: expect 2 AfterStop line LINE`. It takes no memory.
 pub fn push_difference<S: Sink>(net: &Net, difference: &Difference, sink: &mut S)
     ensures { Goes (S.state sink.old) (S.state sink.new) (spec.difference_line net.now (difference_view difference.now)) }
 {

@@ -1,4 +1,4 @@
-//! Expectations that are compared while a net is simulated.
+//! Expectations that are compared while a netlist is simulated.
 
 ghost use Rattle.std.specs.Prelude.{◌≡◌, ◌+◌, ◌<◌, ◌≤◌, ◌∷◌, ◌++◌, List, drop, length, option_map, slice_get, vec_len, Some, IfSome};
 ghost use Rattle.rtl_watch.specs.Stands.{Stand};
@@ -14,8 +14,8 @@ use rtl_net::Net;
 use rtl_watch::Watch;
 use std::alloc::Global;
 
-/// What is expected of the signals of a net, in order of time and of lines; how many of these have been compared, and the first that
-/// doesn't hold.
+/// What is expected of the signals of a netlist, in order of time and of lines; how many of these have been compared, and the first
+/// that doesn't hold.
 #[derive(Drop)]
 pub struct Expectations {
     list: Vec<Expectation>,
@@ -24,9 +24,9 @@ pub struct Expectations {
 }
 
 impl Expectations {
-    /// Reads a file of expected values of a net's signals. It takes memory for each line, and for each letter of the full names of the
-    /// net's signals, in a table of which a line's name is found by its hash. It takes time that goes by these letters, and by the lines,
-    /// times the logarithm of their number where they don't stand in order of time.
+    /// Reads a file of expected values of a netlist's signals. It takes memory for each line, and for each letter of the full names of
+    /// the netlist's signals, in a table of which a line's name is found by its hash. It takes time that goes by these letters, and by
+    /// the lines, times the logarithm of their number where they don't stand in order of time.
     ///
     /// # Errors
     ///

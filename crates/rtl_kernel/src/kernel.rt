@@ -61,7 +61,7 @@ impl<'a, E: Exec> Model for Kernel<'a, E> {
 
 impl<'a, E: Exec> Kernel<'a, E> {
     /// A simulation that is to be started: of this netlist, whose k-th process the k-th body runs, with a value for each of the
-    /// net's inputs, in their order.
+    /// netlist's inputs, in their order.
     ///
     /// It takes the room of all later calls.
     pub fn new(

@@ -11,7 +11,8 @@ use rtl_net::{Net, Process, Signal};
 use rtl_net_layout::{Groups, Lists};
 use std::alloc::{AllocError, Global};
 
-/// A net's nets in groups that the same processes wake on, and that have one source each, or none of them just one.
+/// A netlist's nets in groups that the same processes wake on, and that have one source each, or none of them just
+/// one.
 pub fn wake_groups(alloc: Global, net: &Net) -> Result<Groups, AllocError>
     ensures runs { IfOk result (λ groups. AreRuns groups.of_net groups.first) }
     ensures each_group { IfOk result (λ groups. length groups.listed ≡ length groups.first) }

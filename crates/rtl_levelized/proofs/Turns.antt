@@ -96,7 +96,7 @@ module _ (alike : EachMachineGoesOnAlike) (net : NetlistView) (is_net : IsNet ne
         (alike (core net) (connected_is_elaborated (flat net) is_net.in_range is_net.connected) accepted (inputs_at s) run synchronous.machine).step m
         (with_changes (changes_of taken) values) new lead (subst (λ (v : List ℕ). IsStep (core net) v (with_changes (changes_of taken) values) new) same step)
 
-    -- ---- of a machine of this net, given these changes
+    -- ---- of a machine of this netlist, given these changes
 
     module _ (machine_net : NetlistView) (is_same : machine_net ≡ net) (changes : List Change) (are : changes ≡ taken) where
       pub changes_inputs : All (λ change. Contains machine_net.inputs change.0) changes

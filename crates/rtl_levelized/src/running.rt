@@ -1,4 +1,4 @@
-//! The levelized simulation of a net under a text.
+//! The levelized simulation of a netlist under a text.
 
 ghost use Rattle.std.specs.Prelude.{IfErr, IfOk};
 ghost use Rattle.rtl_stim.specs.Ports.{HasOwnPorts};
@@ -17,9 +17,9 @@ use rtl_stim::Wheel;
 use rtl_watch::{Unwatched, Watch};
 use std::alloc::Global;
 
-/// Simulates a net under the stimulus that a text says, as the synchronous machine that it is: at each moment the clocked processes
-/// that the inputs wake run once, and then the combinational ones in order of level. It writes the trace that `run` writes. Nothing is
-/// written before the checker, the stimulus and the search for a race have passed.
+/// Simulates a netlist under the stimulus that a text says, as the synchronous machine that it is: at each moment the clocked
+/// processes that the inputs wake run once, and then the combinational ones in order of level. It writes the trace that `run` writes.
+/// Nothing is written before the checker, the stimulus and the search for a race have passed.
 ///
 /// It takes the checker's memory, the stimulus's, the machine's, that of the names' blocks, and a byte for each net.
 ///

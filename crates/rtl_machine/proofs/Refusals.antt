@@ -1,4 +1,4 @@
--- Why a net or a stimulus is not admitted.
+-- Why a netlist or a stimulus is not admitted.
 use Rattle.std.proofs.Common.{◌≡◌, ℕ, List, Result, Ok, Err, sym, subst}
 use Rattle.std.specs.Prelude.{IsErrAnd}
 use Rattle.rtl_model.specs.simulation.Accepted.{IsAccepted}

@@ -1,5 +1,5 @@
--- Which nets and texts of stimuli are simulated as a synchronous machine, and why others are refused: by the checker first,
--- then by the text, and then by a race.
+-- Which netlists and texts of stimuli are simulated as a synchronous machine, and why others are refused: by the checker
+-- first, then by the text, and then by a race.
 use Rattle.std.specs.Prelude.{◌≡◌, ℕ, suc, ◌<◌, List, map, length, slice_index, Ok, Err}
 use Rattle.rtl_model.specs.simulation.Netlist.{Edge}
 use Rattle.rtl_model.specs.simulation.Accepted.{IsAccepted}

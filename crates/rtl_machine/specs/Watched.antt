@@ -13,7 +13,7 @@ use Rattle.rtl_machine.specs.Synchronous.{IsSynchronous}
 abbrev pub AreStandsOf : StimulusView → (run : ℕ → List ℕ) → List Stand → Type 0
 AreStandsOf s run stands = (m : ℕ) (x : Stand) → slice_get stands m ≡ Some x → (x.values ≡ run m) × (x.until ≡ until_of s m)
 
--- the net is a synchronous machine under the stimulus, and its valuation at each moment was told, in order
+-- the netlist is a synchronous machine under the stimulus, and its valuation at each moment was told, in order
 pub record IsToldRun (net : NetlistView) (s : StimulusView) (bound : ℕ) (Told : List Stand → Type 0) : Type 0 where
   pub run : ℕ → List ℕ
   pub synchronous : IsSynchronous (core net) bound (inputs_at s) run
@@ -24,7 +24,7 @@ pub record IsToldRun (net : NetlistView) (s : StimulusView) (bound : ℕ) (Told 
 
 -- ---- of a run that fails
 
--- the net is a synchronous machine under the stimulus, and its valuations at the first moments were told, in order
+-- the netlist is a synchronous machine under the stimulus, and its valuations at the first moments were told, in order
 pub record IsToldRunFirst (net : NetlistView) (s : StimulusView) (bound : ℕ) (Told : List Stand → Type 0) : Type 0 where
   pub run : ℕ → List ℕ
   pub synchronous : IsSynchronous (core net) bound (inputs_at s) run
@@ -33,6 +33,6 @@ pub record IsToldRunFirst (net : NetlistView) (s : StimulusView) (bound : ℕ) (
   pub there : length stands ≤ length (moments s)
   pub told : Told stands
 
--- of a net or a stimulus that isn't admitted nothing was told
+-- of a netlist or a stimulus that isn't admitted nothing was told
 abbrev pub WasToldRun : NetlistView → (text : List ℕ) → (Told : List Stand → Type 0) → Type 0
 WasToldRun net text Told = Told [] ⊎ Admits net text (λ s bound. IsToldRunFirst net s bound Told)

@@ -1,4 +1,4 @@
-//! Which nets and stimuli are simulated as a machine.
+//! Which netlists and stimuli are simulated as a machine.
 
 ghost use Rattle.std.specs.Prelude.{◌≡◌, IfOk, IfErr, ℕ, List, map, Ok};
 ghost use Rattle.rtl_model.specs.simulation.Accepted.{IsAccepted};

@@ -1,4 +1,4 @@
-//! The values of a net's out ports at the first moment.
+//! The values of a netlist's out ports at the first moment.
 
 ghost use Rattle.std.specs.Prelude.{◌≡◌, map, length, IfOk};
 ghost use Rattle.rtl_model.specs.simulation.Moments.{Begun, HasNoneToRun};

@@ -1,11 +1,11 @@
-//! Accepted nets as synchronous machines: what the checker's yes means for a simulation, and the calls that rest on it.
+//! Accepted netlists as synchronous machines: what the checker's yes means for a simulation, and the calls that rest on it.
 //!
 //! `specs/Synchronous.antt` has the settling theorem, `specs/Traced.antt`, `specs/Admitted.antt` and `specs/Answered.antt` say
 //! what `run` answers, `specs/Watched.antt` what a watch is told meanwhile, and `specs/Words.antt` and `specs/Evaluated.antt` what `eval` does.
 //!
-//! Both ask that the ports of the net's top have names of their own, and that the elements of its in ports are the net's inputs,
-//! in their order (`HasOwnPorts` of rtl_stim). A net that a front gives has that (`Front::open` of vhdl_source_rules). Whoever makes
-//! a `Net` of parts has to show it: `Net::new` doesn't ask it, and no call tests it.
+//! Both ask that the ports of the netlist's top have names of their own, and that the elements of its in ports are the netlist's
+//! inputs, in their order (`HasOwnPorts` of rtl_stim). A netlist that a front gives has that (`Front::open` of vhdl_source_rules).
+//! Whoever makes a `Net` of parts has to show it: `Net::new` doesn't ask it, and no call tests it.
 #![tactic(auto)]
 
 mod admission;

@@ -1,4 +1,4 @@
-//! The simulation of a net as a machine, with its trace.
+//! The simulation of a netlist as a machine, with its trace.
 
 ghost use Rattle.std.specs.Prelude.{◌≡◌, [], None, IfErr, IfOk};
 ghost use Rattle.rtl_kernel.specs.kernel.Kept.{RunBodies};
@@ -29,9 +29,9 @@ use std::alloc::Global;
 /// How many slots the agenda of a simulation has.
 pub const SLOTS: usize = 256;
 
-/// Simulates a net under the stimulus that a text says, and writes the trace: that of the synchronous machine's run, whatever
-/// order of processes `pick` picks. Each moment settles within the bound of the checker's report. Nothing is written before
-/// the checker, the stimulus and the search for a race have passed.
+/// Simulates a netlist under the stimulus that a text says, and writes the trace: that of the synchronous machine's run,
+/// whatever order of processes `pick` picks. Each moment settles within the bound of the checker's report. Nothing is written
+/// before the checker, the stimulus and the search for a race have passed.
 ///
 /// It takes the checker's memory, the stimulus's and the simulation's.
 ///

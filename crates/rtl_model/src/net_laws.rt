@@ -2,7 +2,7 @@
 
 ghost use Rattle.rtl_model.specs.nets.Laws.{EachHasValues, EachHasBodies, EachKindIsOfBody, EachForgets, InRangeIsSafe, EachKeepsRange, EachIsElaborated, EachSourceKeepsRange, EachStateIsInRange, EachSimulatesTheMachine, EachHasOneSolution};
 
-/// Resolution, edges and bodies of each flat net have what the laws of simulation ask of them.
+/// Resolution, edges and bodies of each flat netlist have what the laws of simulation ask of them.
 pub fn bodies_have_what_is_asked()
     ensures values { EachHasValues }
     ensures bodies { EachHasBodies }
@@ -44,13 +44,14 @@ pub fn states_are_in_range()
     ensures { EachStateIsInRange }
 {}
 
-/// Whatever the orders, each moment of a sound net's simulation settles within the bound, and the first within the greatest
-/// level where nothing is reset; and where no moment so far has a race, in the valuation of the synchronous machine's run.
+/// Whatever the orders, each moment of a sound netlist's simulation settles within the bound, and the first within the
+/// greatest level where nothing is reset; and where no moment so far has a race, in the valuation of the synchronous
+/// machine's run.
 pub fn simulates_the_machine()
     ensures { EachSimulatesTheMachine }
 {}
 
-/// For given inputs and registers one valuation solves a sound net, and no other.
+/// For given inputs and registers one valuation solves a sound netlist, and no other.
 pub fn has_one_solution()
     ensures { EachHasOneSolution }
 {}

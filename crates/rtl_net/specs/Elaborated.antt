@@ -87,7 +87,7 @@ pub record IsOfPort (signals : List SignalView) (n : ℕ) : Type 0 where
   pub is_port : IsPortOfTop port
   pub has : Contains port.nets n
 
--- ---- the net
+-- ---- the netlist
 
 pub record IsNet (net : NetlistView) : Type 0 where
   pub in_range : IsInRange (flat net)

@@ -1,4 +1,4 @@
--- What holds of each net.
+-- What holds of each netlist.
 use Rattle.rtl_model.specs.nets.CoreNetlist.{core_netlist}
 use Rattle.rtl_model.specs.nets.Laws.{IsSound}
 use Rattle.rtl_model.specs.simulation.Elaborated.{IsElaborated}

@@ -4,7 +4,8 @@ ghost use Rattle.rtl_net.specs.Laws.{EachNetMeetsTheLaws};
 
 use rtl_model::net_laws;
 
-/// Each net has what the laws of rtl_model ask, so that these hold of it with no premise but acceptance.
+/// Each netlist has what the laws of rtl_model ask, so that these hold of it with no premise but
+/// acceptance.
 pub fn nets_meet_the_laws()
     ensures { EachNetMeetsTheLaws }
 {

@@ -1,4 +1,4 @@
-//! Nets.
+//! The netlist of a design: its nets with their types and sources, and the names of its parts.
 
 ghost use Rattle.std.specs.Prelude.{◌≡◌, ◌<◌, length, map, slice_get, slice_index, Some};
 ghost use Rattle.rtl_model.specs.nets.FlatNetlist.{flat_sources};

@@ -70,7 +70,7 @@ HasFew v = length v.starts.items ≤ 64
 abbrev pub StoresNone : Stmts → (elements : ℕ) → Type 0
 StoresNone body elements = (e : ℕ) → e < elements → stores_element e body ≡ false
 
--- ---- parts of a net
+-- ---- parts of a netlist
 
 -- a net has no two sources
 abbrev pub HasOneSource : Netlist → (n : ℕ) → Type 0

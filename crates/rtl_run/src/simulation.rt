@@ -28,8 +28,8 @@ use rtl_vcd::{Blocks, end, first, header};
 use rtl_watch::{Unwatched, Watch};
 use std::alloc::Global;
 
-/// What is simulated: a net, whose k-th process the k-th body runs, under a stimulus, with so many delta cycles at most in each
-/// moment.
+/// What is simulated: a netlist, whose k-th process the k-th body runs, under a stimulus, with so many delta cycles at most in
+/// each moment.
 #[derive_where(Clone, Copy)]
 pub struct Simulation<'a, E: Exec> {
     pub net: &'a Net,

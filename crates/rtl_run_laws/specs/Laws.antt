@@ -22,7 +22,7 @@ pub record AreAlike (old one other : SinkState) (answer also : Result Summary Ru
   pub one_took : TakesAll old one text
   pub other_took : TakesAll old other text
 
--- Of one net, stimulus and limit, two runs into sinks that are alike before, by whatever orders.
+-- Of one netlist, stimulus and limit, two runs into sinks that are alike before, by whatever orders.
 abbrev pub EachOrderIsWrittenAlike : Type 0
 EachOrderIsWrittenAlike =
     (net : NetlistView) (s : StimulusView) (limit : ℕ) (old one other : SinkState) (answer also : Result Summary RunFault)

@@ -4,8 +4,8 @@ ghost use Rattle.rtl_run_laws.specs.Laws.{EachOrderIsWrittenAlike};
 
 use rtl_model::simulation_laws;
 
-/// Two simulations of a net under a stimulus that both come to their end, or to a moment that doesn't settle, answer the same and
-/// write the same bytes, whatever the orders in which they ran the processes.
+/// Two simulations of a netlist under a stimulus that both come to their end, or to a moment that doesn't settle, answer the same
+/// and write the same bytes, whatever the orders in which they ran the processes.
 pub fn each_order_is_written_alike()
     ensures { EachOrderIsWrittenAlike }
 {

@@ -1,4 +1,4 @@
--- The inputs of a net.
+-- The inputs of a netlist.
 use Rattle.std.proofs.Common.{◌≡◌, ℕ, suc, zero, ⊎_elim, ◌+◌, ◌++◌, take, drop, cond, filter, append_assoc, subst, length-append, eq-or-lt_of_le, ◌<◌, ◌≤◌, Bool, true, false, List, [], ◌∷◌, length, get_or, Result, Ok, Err, refl, sym, ap, ◌∙◌, arith}
 use Rattle.std.specs.Prelude.{MatchResult, ◌==◌, ◌||◌, All, AllPairs}
 use Rattle.std.specs.List.Sorted.{IsStrictlyIncreasing}

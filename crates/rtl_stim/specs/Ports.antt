@@ -1,4 +1,4 @@
--- The inputs of a net that a stimulus speaks of: the top's in ports.
+-- The inputs of a netlist that a stimulus speaks of: the top's in ports.
 use Rattle.std.specs.Prelude.{◌≡◌, ◌≢◌, ℕ, ◌==◌, ◌&&◌, Bool, true, false, List, map, filter, slice_index, AllPairs}
 use Rattle.std.specs.List.{list_any}
 use Rattle.vhdl_values.specs.Scalar.{value_of_code}

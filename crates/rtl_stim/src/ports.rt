@@ -1,4 +1,4 @@
-//! The inputs of a net.
+//! The inputs of a netlist.
 
 ghost use Rattle.std.specs.Prelude.{◌≡◌, ◌<◌, ◌≤◌, All, length, map, option_map, slice_get, Some, IfOk};
 ghost use Rattle.rtl_net.specs.Nets.{signal_view};

@@ -42,7 +42,7 @@ impl Stimulus {
         self.schedule.stop
     }
 
-    /// The value of each input at 0, in the order of the net's `inputs`. It takes no memory.
+    /// The value of each input at 0, in the order of the netlist's `inputs`. It takes no memory.
     pub fn initial(&self) -> &[Nine]
         ensures { result.now ≡ initial_values self.now }
     {

@@ -1,4 +1,4 @@
--- What the machine takes from its net.
+-- What the machine takes from its netlist.
 use Rattle.std.proofs.Common.{◌≡◌, ℕ, ◌<◌, ◌≤◌, true, false, List, [], length, get_or, map, Option, sym, ap, subst, ◌∙◌, arith, ◌⊎◌, inl, inr, All}
 use Rattle.std.proofs.lemmas.Bool.{cases_Bool, cases_lt}
 use Rattle.std.proofs.lemmas.List.Elements.{All-map}

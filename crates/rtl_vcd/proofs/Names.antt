@@ -1,4 +1,4 @@
--- The texts of names one after another, and what every name of a net is shown to be.
+-- The texts of names one after another, and what every name of a netlist is shown to be.
 use Rattle.std.proofs.Common.{◌≡◌, ℕ, suc, ◌+◌, ◌-◌, ◌<◌, ◌≤◌, List, [], ◌∷◌, ◌++◌, length, map, take, drop, get_or, sym, ap, subst, ◌∙◌, arith, append_assoc, append-nil, All}
 use Rattle.std.proofs.lemmas.List.{take_more, map-append, length-map, length-take-le, get_or-map, take-take, drop-take, take-append-drop, length-drop, get_or-drop, take-map, drop-map}
 use Rattle.std.proofs.lemmas.List.Elements.{All-get_or, All-weaker, All-take, All-drop}
@@ -59,7 +59,7 @@ shown_at nets signals i s lt is all =
     subst (IsShown nets) (get_or-map signal_view signals i s (signal_view s) lt ∙ ap signal_view (sym is))
     (All-get_or (IsShown nets) (map signal_view signals) i (signal_view s) within all)
 
--- each name of a net is shown
+-- each name of a netlist is shown
 pub all_shown : (net : NetlistView) → IsNet net → All (IsShown (length net.types)) net.signals
 all_shown net is =
     All-weaker (SignalInRange net.types (length net.scopes)) (IsShown (length net.types))

@@ -143,7 +143,7 @@ up_to xs scope next s lt is of_scope before i d l = by_place (cases_lt i next)
     by_place (inl l) = before i d l
     by_place (inr n) = let same : next ≡ i = omega arith in omega (arith, of_scope, here, ap (λ k. (get_or xs k d).scope) same)
 
--- names of a net stand in order
+-- names of a netlist stand in order
 pub in_order : (signals : List Signal) → AllPairs ComesBefore (map signal_view signals) → StandInOrder signals
 in_order signals pairs i j d l within =
     let views : List SignalView = map signal_view signals in

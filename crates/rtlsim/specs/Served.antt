@@ -28,7 +28,7 @@ pub record IsToldOf (call : Call) (texts : TextsView) (telling : Telling) : Type
 
 module _ (telling : Telling) (source top : List ℕ) (outcome : Status) (o : Outputs) (Holds : List Stand → Type 0) where
   -- A run under the text of a stimulus, compared with what is expected if that is given. This holds of what is seen of it where it writes the
-  -- whole trace. No order of processes counts
+  -- whole trace. No order of processes counts.
   abbrev pub ServesMachine : (text : List ℕ) → (expected : Option (List ℕ)) → Type 0
   ServesMachine text expected = ServesSource (Watched (Comparing (machine text) (RunsMachine text) expected) (OfMachine text Holds)) summary telling source top outcome o
 
@@ -53,7 +53,7 @@ module _ (telling : Telling) (source top : List ℕ) (outcome : Status) (o : Out
   ServesBy (Run is_event order file entity stimulus) sets text expected = ServesRun is_event text expected
   ServesBy (Levels file entity stimulus) sets text expected = ServesLevels text expected
 
--- The command of a call serves the source of the files. How far a run is is shown where the call asks for it, and nothing where it doesn't.
+-- The command of a call serves the source of the files. Where the call asks for it, it is shown how far a run is, and else nothing.
 pub record ServesTexts (call : Call) (texts : TextsView) (outcome : Status) (s : Sinks) : Type 0 where
   pub telling : Telling
   pub told : IsToldOf call texts telling

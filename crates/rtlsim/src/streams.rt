@@ -25,7 +25,7 @@ pub struct Ended<O, E, P> {
     pub progress: P,
 }
 
-/// The program over the system's arguments and files, a reader and two writers: does what the arguments ask for, as `tool_with`
+/// The program over the system's arguments and files, a reader and three writers: does what the arguments ask for, as `tool_with`
 /// does, or `tool_first_line` where there are none, and sees that all that it prints and tells goes out, in as few writes as it
 /// can. The status is that of what was done, or `Failed` where something didn't go out. How far a run is goes to `progress` at once.
 pub fn program<

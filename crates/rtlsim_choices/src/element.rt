@@ -163,7 +163,8 @@ fn is_bit_string(text: &[u8]) -> bool
     begins_word(text) && begins(b'"', behind(1, text))
 }
 
-/// How many bytes the separator, comment or element takes that the text begins with.
+/// How many bytes the comment, literal or word takes that the text begins with, 0 where it begins
+/// with none.
 #[tactic(auto, unfolding(crate::specs::Elements::element_len))]
 fn element_len(text: &[u8]) -> usize
     ensures { result ≡ spec.element_len text.now }
@@ -181,7 +182,7 @@ fn element_len(text: &[u8]) -> usize
     }
 }
 
-/// The same, one where it is no word.
+/// How many bytes the separator, comment or element takes that the text begins with.
 fn len(text: &[u8]) -> usize
     ensures { result ≡ spec.len text.now }
 {

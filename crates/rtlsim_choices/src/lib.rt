@@ -1,4 +1,4 @@
-//! A choice that a case or a selected assignment lacks, told to whom leaves out `others`.
+//! A choice that a case statement or a selected assignment lacks where it has no `others`.
 //!
 //! `specs/Choices.antt` says which it is, and how it is told.
 #![tactic(auto)]

@@ -17,7 +17,7 @@ use Rattle.rtl_sink.specs.Written.{SinkState}
 use Rattle.vhdl_names_rules.specs.declared.fault.NameFault.{NameFault}
 use Rattle.vhdl_source_rules.specs.Designs.{IsNetOf}
 
--- a fault whose lines have names is one of the source's net
+-- a fault whose lines have names is one of the source's netlist
 abbrev pub HasNet : (source top : List ℕ) → Fault → NetlistView → Type 0
 HasNet source top fault net = has_names fault ≡ true → IsNetOf source top net
 

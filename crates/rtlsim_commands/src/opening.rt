@@ -21,7 +21,7 @@ use std::alloc::Global;
 use vhdl_source_rules::Front;
 
 /// Opens a source, and does a command on its netlist: `source` has the bytes of the file, `top` the name of an entity in it, in letters of
-/// either case. It takes memory for the source's net, and what the command takes.
+/// either case. It takes memory for the source's netlist, and what the command takes.
 ///
 /// # Errors
 ///
@@ -43,7 +43,7 @@ pub fn on_source<F: Front, C: Command, S: Sink>(
 }
 
 // Writes the lines of the netlist of a source: `source` has the bytes of the file, `top` the name of an entity in it, in letters of
-/// either case. It takes memory for the source's net, and then for one name at a time.
+/// either case. It takes memory for the source's netlist, and then for one name at a time.
 ///
 /// # Errors
 ///
@@ -63,7 +63,7 @@ pub fn show_net<F: Front, S: Sink>(
 }
 
 /// Checks the netlist of a source, writes the lines of the verdict, and answers whether it is yes: `source` has the bytes of the file,
-/// `top` the name of an entity in it, in letters of either case. It takes memory for the source's net, and in proportion to it.
+/// `top` the name of an entity in it, in letters of either case. It takes memory for the source's netlist, and in proportion to it.
 ///
 /// # Errors
 ///
@@ -103,11 +103,11 @@ pub fn show_check_dot<F: Front, S: Sink>(
     check_net_dot(alloc, &net, out)
 }
 
-/// Simulates the netlist of a source under a stimulus, where the checker accepts the net and the stimulus has no race, and writes the
+/// Simulates the netlist of a source under a stimulus, where the checker accepts it and the stimulus has no race, and writes the
 /// trace: that of the synchronous machine. `source` has the bytes of the file, `top` the name of an entity in it, in letters of
 /// either case, `stimulus` the lines of the stimulus, with times in ns; `pick` chooses the order of processes within a cycle. It
 /// answers the number of moments and the greatest number of delta cycles of one, which is the checker's bound at most. It takes
-/// memory for the source's net, for the stimulus and for the values of the nets.
+/// memory for the source's netlist, for the stimulus and for the values of the nets.
 ///
 /// # Errors
 ///
@@ -132,7 +132,7 @@ pub fn run<F: Front, P: Pick, S: Sink>(
 /// Simulates the netlist of a source under a stimulus, where `run` does, and writes the trace that it writes: at each moment the clocked
 /// processes that an input wakes run once, and then the combinational ones in order of level. `source` has the bytes of the file,
 /// `top` the name of an entity in it, in letters of either case, `stimulus` the lines of the stimulus, with times in ns. It answers
-/// the number of moments, and the checker's bound. It takes memory for the source's net, for the stimulus and for the values of the
+/// the number of moments, and the checker's bound. It takes memory for the source's netlist, for the stimulus and for the values of the
 /// nets.
 ///
 /// # Errors
@@ -155,7 +155,7 @@ pub fn run_levels<F: Front, S: Sink>(
 /// Simulates the netlist of a source under a stimulus, by events, and writes the trace: `source` has the bytes of the file, `top` the
 /// name of an entity in it, in letters of either case, `stimulus` the lines of the stimulus, with times in ns; `pick` chooses the
 /// order of processes within a cycle. It answers the number of moments and the greatest number of delta cycles of one, each of
-/// which takes 1,000 at most. Neither checker nor races are asked. It takes memory for the source's net, for the stimulus and for
+/// which takes 1,000 at most. Neither checker nor races are asked. It takes memory for the source's netlist, for the stimulus and for
 /// the values of the nets.
 ///
 /// # Errors
@@ -182,7 +182,7 @@ pub fn run_event<F: Front, P: Pick, S: Sink>(
 
 /// Writes, for each out port of the top in order of declaration, the line `NAME=VALUE` with its value once the netlist of the source
 /// has settled under these inputs: `source` has the bytes of the file, `top` the name of an entity in it, in letters of either
-/// case, and each of `sets` is a text NAME=VALUE. It takes memory for the source's net and for the values of the nets.
+/// case, and each of `sets` is a text NAME=VALUE. It takes memory for the source's netlist and for the values of the nets.
 ///
 /// # Errors
 ///

@@ -53,7 +53,7 @@ fn index_of(name: &[u8]) -> Option<u32>
     number_in(index_part(name))
 }
 
-/// Whether two indexes are one beside the other.
+/// Whether two indices are one beside the other.
 fn are_beside(first: Option<u32>, second: Option<u32>) -> bool
     ensures { result ≡ spec.are_beside first second }
 {

@@ -12,8 +12,8 @@ use Rattle.rtl_net.specs.Nets.{NetlistView}
 use Rattle.rtl_run.specs.declared.summary.Summary.{Summary}
 use Rattle.rtl_sink.specs.Written.{SinkState, TakesBeginning, Goes}
 
--- The fault is told, with the net's names; or, where memory for its names is refused, a beginning of that, and
--- then the refusal.
+-- The fault is told, with the netlist's names; or, where memory for its names is refused, a beginning of that,
+-- and then the refusal.
 pub record TellsInPart (telling : Telling) (net : NetlistView) (fault : Fault) (old new : SinkState) : Type 0 where
   pub named : takes_memory fault ≡ true
   pub between : SinkState

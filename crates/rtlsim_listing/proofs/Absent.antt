@@ -1,4 +1,4 @@
--- What a net doesn't have has no name.
+-- What a netlist doesn't have has no name.
 use Rattle.std.proofs.Common.{◌≡◌, ℕ, suc, ◌<◌, ◌≤◌, false, ◌==◌, List, [], ◌∷◌, length, refl, ap, ◌∙◌, arith, cond, All}
 use Rattle.std.specs.Prelude.{Some, None, option_map}
 use Rattle.std.proofs.lemmas.Option.{slice_get_within}

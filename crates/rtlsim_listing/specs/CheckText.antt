@@ -1,6 +1,6 @@
 -- What is printed of the checker's verdict on a netlist: yes, with the greatest level, the bound and a line for each
--- combinational process; or no, with a line for each fault. A number that the net doesn't have has no name, and nothing is
--- printed in its place.
+-- combinational process; or no, with a line for each fault. A number that the netlist doesn't have has no name, and
+-- nothing is printed in its place.
 use Rattle.std.specs.Prelude.{ℕ, nat_lt, if◌then◌else◌, max, List, [], ◌∷◌, ◌++◌, length, flat_map, slice_get, slice_index_or, Option, Some, None, codes, decimal}
 use Rattle.std.specs.Option.{unwrap_or}
 use Rattle.rtl_model.specs.simulation.Netlist.{Source, Driver, Idle}

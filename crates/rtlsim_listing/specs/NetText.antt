@@ -1,4 +1,4 @@
--- What is printed of a net: how many nets and processes it has, a line for each net, and a line for each process.
+-- What is printed of a netlist: how many nets and processes it has, a line for each net, and a line for each process.
 use Rattle.std.specs.Prelude.{ℕ, Bool, true, false, List, [], ◌∷◌, ◌++◌, length, flat_map, slice_index, slice_index_or, codes, decimal}
 use Rattle.std.specs.List.{range_with_len}
 use Rattle.vhdl_values.specs.Scalar.{letter_of, value_of_code}
@@ -46,7 +46,7 @@ net_line net n =
 abbrev pub process_line : NetlistView → (p : ℕ) → List ℕ
 process_line net p = codes "process " ++ decimal p ++ codes " " ++ process_name net p ++ codes "\n"
 
--- ---- the net
+-- ---- the netlist
 
 abbrev pub counts_text : (nets processes : ℕ) → List ℕ
 counts_text nets processes = codes "nets " ++ decimal nets ++ codes "\nprocesses " ++ decimal processes ++ codes "\n"

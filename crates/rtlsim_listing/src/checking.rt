@@ -15,8 +15,8 @@ use rtl_sink::{Sink, finish};
 use std::alloc::Global;
 
 /// Writes the checker's verdict on a netlist: `yes` with the greatest level, the bound and the level of each combinational process,
-/// or `no` with a line for each fault. It takes the memory of a few names at a time. Where a verdict names what the net
-/// doesn't have, as one on another net may, nothing stands for the name.
+/// or `no` with a line for each fault. It takes the memory of a few names at a time. Where a verdict names what the netlist doesn't
+/// have, as one on another netlist may, nothing stands for the name.
 ///
 /// # Errors
 ///

@@ -1,4 +1,4 @@
--- What `net` and `check` write of a net.
+-- What `net` and `check` write of a netlist.
 use Rattle.std.specs.Prelude.{◌≡◌, ◌⊎◌, ℕ, Bool, if◌then◌else◌, List, [], ◌++◌, Result, Ok, Err}
 use Rattle.rtl_check.specs.Verdicts.{IsVerdict, ListsLoopsOnce, is_yes}
 use Rattle.rtl_net.specs.Core.{core}

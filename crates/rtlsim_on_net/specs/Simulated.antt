@@ -1,5 +1,5 @@
--- What event-driven simulation answers, from the net and the text of the stimulus to the trace (IEEE 1076-2008, 14.7.5; IEEE
--- 1364-2005, clause 18).
+-- What event-driven simulation answers, from the netlist and the text of the stimulus to the trace (IEEE 1076-2008, 14.7.5;
+-- IEEE 1364-2005, clause 18).
 use Rattle.std.specs.Prelude.{◌≡◌, ◌≢◌, ◌⊎◌, ℕ, List, [], map, Result, Ok, Err}
 use Rattle.rtl_net.specs.Core.{core}
 use Rattle.rtl_check.specs.Views.{fault_view}
@@ -25,9 +25,9 @@ most_deltas = 1000
 abbrev pub HasNoneStored : NetlistView → Type 0
 HasNoneStored net = AreStored (core net) []
 
--- The net is simulated under what the text says, within so many delta cycles at each moment, and the trace is written as
--- `Answers` says: whole; up to the first moment that doesn't settle; or a beginning of it, where memory is refused or the
--- sink fails.
+-- The netlist is simulated under what the text says, within so many delta cycles at each moment, and the trace is written
+-- as `Answers` says: whole; up to the first moment that doesn't settle; or a beginning of it, where memory is refused or
+-- the sink fails.
 pub record Simulates (text : List ℕ) (net : NetlistView) (answer : Result Summary RunFault) (old new : SinkState) : Type 0 where
   pub none_stored : HasNoneStored net
   pub stimulus : StimulusView

@@ -48,7 +48,7 @@ pub fn check_net<S: Sink>(alloc: Global, net: &Net, out: &mut S) -> Result<bool,
 }
 
 /// Checks a netlist, draws its levels where the verdict is yes and writes its lines else, and answers whether it is yes. It takes memory in
-/// proportion to the net.
+/// proportion to the netlist.
 ///
 /// # Errors
 ///

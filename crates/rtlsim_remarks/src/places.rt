@@ -16,7 +16,7 @@ use std::alloc::Global;
 /// So many bytes stand between two marks.
 const STEP: usize = 1024;
 
-/// A file, and where every so manieth byte of it stands.
+/// A file, and where the byte at each mark of it stands.
 #[derive(Drop)]
 pub(crate) struct MarkedFile<'a> {
     pub file: SourceFile<'a>,

@@ -15,8 +15,9 @@ use rtlsim_files::SourceFile;
 use rtlsim_listing::ListingFault;
 use std::alloc::Global;
 
-/// Writes the remarks on a netlist, whatever the checker says of it: a line for each, at the place of its process in these files, whose
-/// texts joined are the netlist's source; nothing where there are none. It takes memory for the remarks and the text.
+/// Writes the remarks on a netlist, whatever the checker says of it: a line for each, or one for elements of a vector that stand side
+/// by side and of which the same is told, at the place of its process in these files, whose texts joined are the netlist's source;
+/// nothing where there are none. It takes memory for the remarks and the text.
 ///
 /// # Errors
 ///

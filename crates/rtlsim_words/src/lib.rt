@@ -1,7 +1,7 @@
 //! The words of the command line: which request they say.
 //!
-//! `specs/Words.antt` has the words of each request. For words that say none clap writes the text, which is the
-//! help where that is asked for.
+//! `specs/Words.antt` has the words of each request, and `specs/Extras.antt` the options beside them. For words
+//! that say none clap writes the text, which is the help where that is asked for.
 #![tactic(auto)]
 
 mod arguments;

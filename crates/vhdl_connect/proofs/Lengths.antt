@@ -50,7 +50,7 @@ module _ (d : Numbered) (m : Made) (h : IsMade d m) where
     uses = h.uses;
   })
 
--- with processes that were settled, by the number of nets
+-- with processes that are those of the flat netlist of so many nets
 pub settled-told : (d : Numbered) (m n : Made) (nets : ℕ) (before : List Process) → IsMade d m → NetsAreThere d → n ≡ record m { processes = n.processes } → before ≡ m.processes.items
     → nets ≡ length m.kinds.items → ((xs : List Located) → AllZip IsLocated xs before → NetsAreBelow nets xs → AllZip (IsSettled nets) xs n.processes.items) → IsTold d n
 settled-told d m n nets before h there same is count settled =

@@ -1,4 +1,4 @@
--- The parts that are made show the net of the numbered design.
+-- The parts that are made show the netlist of the numbered design.
 use Rattle.std.proofs.Common.{◌≡◌, ℕ, zero, suc, ◌+◌, ◌<◌, Bool, true, false, not, ◌&&◌, List, [], ◌∷◌, ◌++◌, length, map, All, Ok, Err, refl, sym, ap, ◌∙◌, arith}
 use Rattle.std.specs.Prelude.{nat_le, slice_index, flat_map}
 use Rattle.std.specs.List.{AllZip, AllByRecursion, list_any, range_with_len, enumerate_from}
@@ -63,7 +63,7 @@ map-run f g first (suc n) bound e h = λ i. h first (omega (arith, e)) i ∷ map
 
 -- ---- the tables of a design
 
--- tables that are made of a design, whose processes are those of its flat net
+-- tables that are made of a design, whose processes are those of its flat netlist
 pub record IsTold (d : Numbered) (m : Made) : Type 0 where
   pub scopes : map scope_view m.scopes.items ≡ scope_views (map scope_of d.instances)
   pub signals : map signal_view m.signals.items ≡ map signal_shown (flat_map signals_of (enumerate_from 0 d.instances))

@@ -25,7 +25,8 @@ pub struct Element {
     pub at: u32,
 }
 
-/// What is made of the instances of a design: the parts of its net, and beside them its elements.
+/// What is made of the instances of a design: the parts of its netlist, and beside them its
+/// elements.
 #[derive(Drop)]
 pub struct Made {
     /// The top first, and instances in order of the text.

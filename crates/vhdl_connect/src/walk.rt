@@ -102,7 +102,7 @@ fn part(round: &Round, from: &mut InstancePart, made: &mut Made) -> Result<(), A
     }
 }
 
-/// Numbers the instances, nets and processes of a design in order of the text, and makes of them the tables of its net (IEEE
+/// Numbers the instances, nets and processes of a design in order of the text, and makes of them the tables of its netlist (IEEE
 /// 1076-2008, 14.2). The tree is taken apart. It takes the memory of the tables, and at each level of instances that of the nets
 /// and defaults of one.
 pub fn number(alloc: Global, mut design: Design) -> Result<Made, AllocError>

@@ -7,7 +7,7 @@ ghost use Rattle.vhdl_elab_rules.specs.laws.Signals as elab;
 use rtl_net::SignalKind;
 use vhdl_expand_rules::ObjectKind;
 
-/// A kind as nets have it.
+/// A kind as netlists have it.
 pub fn signal_kind(kind: ObjectKind) -> SignalKind
     ensures { result ≡ elab.kind_view (kind_view kind) }
 {

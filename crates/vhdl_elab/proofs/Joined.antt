@@ -112,7 +112,7 @@ may-refuse {problem} units top t (inr begun) = by (is-many problem)
     by (inl many) = inr (many, record { begun = begun; refused = not-expanded (expanded_design units top) t.refused })
     by (inr other) = inl (same-in problem (expanded_design units top) (t.first other))
 
--- what connection shows is a net
+-- what connection shows is a netlist
 pub connected-is-net : (units : Units) (top : List ℕ) (design : Design) (net : NetlistView) → IsTrue (are_sound units) → IsTrue (are_named units) → within_limits (expanded_design units top) ≡ Ok design
     → as_shown (netlist_of design) ≡ Ok (net_shown net) → All ReadsOfBody net.processes → IsNet net
 connected-is-net units top design net sound named h e reads =

@@ -1,4 +1,4 @@
--- Nets and processes have the names that rtl_net makes of a net that shows them.
+-- Nets and processes have the names that rtl_net makes of a netlist that shows them.
 use Rattle.std.proofs.Common.{◌≡◌, ℕ, zero, suc, ◌+◌, List, [], ◌∷◌, ◌++◌, length, map, Option, Some, None, All, refl, sym, ap, ◌∙◌, subst, arith, codes, append_assoc}
 use Rattle.std.specs.Prelude.{slice_get}
 use Rattle.std.specs.List.{AllZip, range_with_len, enumerate_from}

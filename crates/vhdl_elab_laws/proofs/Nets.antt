@@ -1,4 +1,4 @@
--- A net that shows an elaborated one is a net.
+-- A netlist that shows an elaborated one is one in the sense of rtl_net.
 use Rattle.std.proofs.Common.{◌≡◌, ℕ, zero, suc, ◌+◌, ◌<◌, ◌≤◌, List, [], ◌∷◌, length, map, Option, Some, None, Ok, All, AllPairs, refl, sym, ap, ◌∙◌, subst, arith}
 use Rattle.std.specs.Prelude.{◌≢◌, IsTrue, IfSome, option_map}
 use Rattle.std.specs.List.{AllZip, range_with_len}
@@ -47,7 +47,7 @@ use Rattle.vhdl_elab_laws.proofs.Paths.{views, path-is, nets-found}
 use Rattle.vhdl_elab_laws.proofs.Top.{input_nets, inputs-are, ports-in-or-out, inputs-of-ports}
 use Rattle.vhdl_elab_laws.proofs.Named.{alike, net-names, process-names, same-parts}
 
--- ---- the design behind a net
+-- ---- the design behind a netlist
 
 -- how the instances of an elaborated netlist stand
 pub record Behind (units : Units) (top : List ℕ) (x : Elaborated) : Type 0 where
@@ -128,7 +128,7 @@ signals-in-range types scopes (s ∷ ss) h g =
     })
     (signals-in-range types scopes ss (All-tail (SignalFits types scopes) s ss h) (All-tail (λ (t : Signal). t.name ≢ []) s ss g))
 
--- ---- what is told of the nets of a design
+-- ---- what is told of the netlist of a design
 
 record Told (d : Numbered) : Type 0 where
   in_order : AllPairs ComesBefore (all_signals 0 d.instances)

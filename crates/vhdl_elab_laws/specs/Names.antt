@@ -1,4 +1,4 @@
--- The names of an elaborated netlist are those that rtl_net makes of the net's scopes, signals and processes (IEEE 1076-2008,
+-- The names of an elaborated netlist are those that rtl_net makes of its scopes, signals and processes (IEEE 1076-2008,
 -- 16.2.5).
 use Rattle.std.specs.Prelude.{◌≡◌, ℕ, List, length, map, Ok, IsTrue}
 use Rattle.std.specs.List.{range_with_len}

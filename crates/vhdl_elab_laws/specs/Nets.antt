@@ -1,4 +1,4 @@
--- Elaborated nets are nets in the sense of rtl_net.
+-- Elaborated netlists are netlists in the sense of rtl_net.
 use Rattle.std.specs.Prelude.{◌≡◌, ℕ, All, List, Ok, IsTrue}
 use Rattle.rtl_net.specs.Nets.{NetlistView}
 use Rattle.rtl_net.specs.Elaborated.{ReadsOfBody, IsNet}

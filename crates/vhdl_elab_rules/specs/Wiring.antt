@@ -116,7 +116,7 @@ flat_process count x = record {
   body = connected_body x.round.nets x.process.drives x.process.body;
 }
 
--- ---- the net
+-- ---- the netlist
 
 -- with the defaults of the nets' own names in place of what they start with
 abbrev pub with_defaults : Numbered → FlatNetlist

@@ -1,4 +1,5 @@
-//! Small designs (`specs/designs`) on which the definitions are tried: their nets, and what is refused.
+//! Small designs (`specs/designs`) on which the definitions are tried: their netlists, and what is
+//! refused.
 
 ghost use Rattle.vhdl_examples.specs.designs.Bodies.{ConditionsBecomeTests, NumbersBecomeConstants, DefaultsAreTaken};
 ghost use Rattle.vhdl_examples.specs.designs.Designs.{CounterHasItsNet, InvertersAreJoined, IdlePortsHoldTheirDefaults, LoopsAreUnrolled};

@@ -1,4 +1,4 @@
--- What contracts see of the place in which concurrent statements stand.
+-- What contracts see of where concurrent statements stand.
 use Rattle.std.specs.Prelude.{ℕ, ℤ, List}
 use Rattle.vhdl_expand_rules.specs.Site.{Site}
 use Rattle.vhdl_expand_rules.specs.Expansion as definition

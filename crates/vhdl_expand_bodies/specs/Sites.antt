@@ -1,4 +1,4 @@
--- What contracts see of the place in which a body stands.
+-- What contracts see of a site.
 use Rattle.std.specs.Prelude.{◌≡◌, ℕ, ℤ, ◌+◌, ◌^◌, ◌<◌, List, map, take, slice_get, Some}
 use Rattle.rtl_model.specs.bodies.Fits.{IsWidth}
 use Rattle.vhdl_expand_rules.specs.declared.kind.Run.{Run}

@@ -76,7 +76,7 @@ joined_parts (ps ∷ rest) = followed_by ps (joined_parts rest)
 
 -- The parameters are the units, and what an instance of a unit is: with what is known of it, and its ports.
 module _ (units : Units) (instance_of : Entity → InstanceObjects → Elab Instance) where
-  -- an instance in this place (11.7)
+  -- an instance that stands here (11.7)
   unfoldable pub instance : Spot → u.Instance → Elab Instance
   instance here x = do
     unit ← item_or NoTop (slice_get units x.unit)

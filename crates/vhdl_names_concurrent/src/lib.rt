@@ -1,5 +1,5 @@
-//! How concurrent statements, entities and architectures are analysed (IEEE 1076-2008, clauses 3, 11 and 13), by the rules of
-//! `vhdl_names_rules`: each is what the rules give, or is refused where they give nothing.
+//! How concurrent statements are analysed (IEEE 1076-2008, clause 11, and 10.1 for the labels inside a process), by the rules
+//! of `vhdl_names_rules`: each is what the rules give, or is refused where they give nothing.
 #![tactic(auto)]
 
 mod architectures;

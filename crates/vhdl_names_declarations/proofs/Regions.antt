@@ -149,7 +149,7 @@ grown es es' n key m apart new same e =
     ∙ ap (λ t. Some (map entry_view es ++ visibility.declare t (meaning_view m) ∷ [])) (sym same)
     ∙ ap Some (sym (map-append entry_view es ((key, m) ∷ []))) ∙ ap (λ l. Some (map entry_view l)) (sym e)
 
--- ---- names that are settled
+-- ---- names that get their meaning
 
 place_more : (f : ℕ → Meaning) (number place : ℕ) (es : List (Vec ℕ Global × CodeMeaning)) (m : CodeMeaning) → place < length es → meaning_view m ≡ f number →
     settled f number place (map entry_view es) ≡ settled f (suc number) (suc place) (map entry_view (set_value_at es place m))

@@ -13,7 +13,7 @@ use Rattle.vhdl_names_declarations.proofs.Counting.{count_below}
 use Rattle.vhdl_names_declarations.specs.Settled.{settled}
 use Rattle.vhdl_names_declarations.proofs.Regions.{names-append, names-numbered, names-all}
 
--- names that are hidden first and settled then
+-- names that are hidden first and get their meaning then
 pub settled_hidden : (f : ℕ → Meaning) (number : ℕ) (ds : List Declared) (ns : List Name) →
     settled f number (length ds) (ds ++ all_declared visibility.unfinished ns) ≡ ds ++ numbered f number ns
 settled_hidden f number ds ns =
@@ -77,7 +77,7 @@ module _ (region : Sight → List Declared) (with_more : Sight → List Declared
         ∙ ap (λ b. met b >>= λ _. Some (pair (with_more s (numbered (f x) (k x) ns)) (a x)))
         (ap are_distinct (same_names (f x) (k x) (region s) ns) ∙ has_more (region s) (all_declared visibility.unfinished ns) r h)
 
--- a region once its last names are settled
+-- a region once its last names have their meaning
 pub settled_region : (f : ℕ → Meaning) (k first : ℕ) (old hid new : List Declared) (ns : List Name) → first ≡ length old →
     more old (all_declared visibility.unfinished ns) ≡ Some hid → new ≡ settled f k first hid → old ++ numbered f k ns ≡ new
 settled_region f k first old hid new ns size h e =

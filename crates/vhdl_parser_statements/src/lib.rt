@@ -1,4 +1,5 @@
-//! From tokens to subtypes, sequential statements, processes, and what is assigned by conditions.
+//! From tokens to declarations of objects, sequential statements, processes, and conditional and
+//! selected assignments.
 #![tactic(auto)]
 
 mod behind;

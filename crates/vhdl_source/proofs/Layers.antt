@@ -1,4 +1,4 @@
--- From the tree of a source to its net.
+-- From the tree of a source to its netlist.
 use Rattle.std.proofs.Common.{◌≡◌, ◌≢◌, ◌<◌, subst, ℕ, length, List, None, Some, Result, Ok, Err, arith}
 use Rattle.std.specs.Prelude.{IsTrue, IsErrAnd, IfOk, IfErr, IfSome}
 use Rattle.vhdl_lexer.proofs.Reached.{cut_within}
@@ -43,7 +43,7 @@ file_sound source file units read typed = units_are_sound file units read.well_f
 pub file_named : (source : List ℕ) (file : File) (units : u.Units) → IsFileOf source file → units_of file ≡ Some units → IsTrue (are_named units)
 file_named source file units read typed = units_are_named file units (words source file read) typed
 
--- ---- its net
+-- ---- its netlist
 
 pub opened : (source top : List ℕ) (file : File) (units : u.Units) (net : NetlistView) → IsFileOf source file → units_of file ≡ Some units → ShowsTop units top net → IsNetOf source top net
 opened source top file units net read typed shown = record {

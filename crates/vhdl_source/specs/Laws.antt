@@ -13,7 +13,7 @@ abbrev pub EachSourceHasOneDesign : Type 0
 EachSourceHasOneDesign =
     (source top : List ℕ) (one other : Elaborated) → HasDesign source top one → HasDesign source top other → one ≡ other
 
--- so nets of it show the same
+-- so netlists of it show the same
 abbrev pub EachSourceHasOneNet : Type 0
 EachSourceHasOneNet =
     (source top : List ℕ) (one other : NetlistView) → IsNetOf source top one → IsNetOf source top other

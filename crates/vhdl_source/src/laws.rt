@@ -2,7 +2,7 @@
 
 ghost use Rattle.vhdl_source.specs.Laws.{EachSourceHasOneDesign, EachSourceHasOneNet, EachRefusedHasNone, EachNetHasOwnPorts};
 
-/// A source has one design at most under a top, and its nets show the same.
+/// A source has one design at most under a top, and its netlists show the same.
 pub fn a_source_has_one_design()
     ensures design { EachSourceHasOneDesign }
     ensures net { EachSourceHasOneNet }

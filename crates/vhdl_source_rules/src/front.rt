@@ -10,7 +10,7 @@ use crate::fault::SourceFault;
 use rtl_net::Net;
 use std::alloc::Global;
 
-/// Whatever turns sources into nets.
+/// Whatever turns sources into netlists.
 pub trait Front {
     /// The netlist of a source: `source` has the bytes of one file, `top` the name of an entity in it, in letters of either case
     /// (IEEE 1076-2008, 13.5 and clause 14). It takes memory in proportion to the source and to the netlist.

@@ -1,4 +1,4 @@
--- Truth tables: tests that computation settles for all values, or all pairs of values.
+-- Truth tables: tests that computation decides for all values, or all pairs of values.
 use Rattle.std.proofs.Common.{◌≡◌, Bool, true, false, refl}
 use Rattle.std.specs.Prelude.{◌&&◌}
 use Rattle.std.specs.List.{list_all}

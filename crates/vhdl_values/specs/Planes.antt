@@ -35,7 +35,7 @@ plane_of j vs = marks (has_bit j) vs
 abbrev pub planes_of : List Nine → List ℕ
 planes_of vs = plane_of 0 vs ∷ plane_of 1 vs ∷ plane_of 2 vs ∷ plane_of 3 vs ∷ []
 
--- these words are the planes of a part of a vector
+-- these words are the planes of a vector, or of a part of one
 abbrev pub ArePlanes : List Nine → ℕ → ℕ → ℕ → ℕ → Type 0
 ArePlanes vs a b c d = (a ≡ plane_of 0 vs) × (b ≡ plane_of 1 vs) × (c ≡ plane_of 2 vs) × (d ≡ plane_of 3 vs)
 

@@ -205,7 +205,7 @@ put_alike (d ∷ ds) values v w l =
     let more = put_alike ds (drop 1 values) (slice_set v d x) (slice_set w d x) (length-set v d x ∙ l ∙ sym (length-set w d x)) in
     record { effect_is = λ place. refl; as_many = more.as_many; after = λ e h. more.after e (first_set v w d x (are_in ds) e l h) }
 
--- what a later statement stores_element was the same before, or is assigned
+-- what a later statement stores was the same before, or is assigned
 stored_next : (m t : Bool) (P Q : Type 0) → t ≡ true → (not m && t ≡ true → P) → (P ⊎ (m ≡ true) → Q) → Q
 stored_next true t P Q h f g = g (inr refl)
 stored_next false t P Q h f g = g (inl (f h))

@@ -33,7 +33,7 @@ variables-followed_by (step s rest) later seen = variables-followed_by rest late
 pub later_replaces : EachLaterReplaces
 later_replaces earlier later seen = record { effect_is = effect-followed_by earlier later seen; variables_are = variables-followed_by earlier later seen }
 
--- ---- what a sequence reads, assigns, tests and stores_element, and when it fits
+-- ---- what a sequence reads, assigns, tests and stores, and when it fits
 
 or_assoc : (a b c : Bool) → a || (b || c) ≡ (a || b) || c
 or_assoc true b c = refl

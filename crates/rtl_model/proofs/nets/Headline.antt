@@ -1,4 +1,5 @@
--- Flat nets that are accepted simulate the synchronous machine; and what stores_element no variable forgets them all.
+-- Flat netlists that are accepted simulate the synchronous machine; and a process that stores no variable forgets
+-- them all.
 use Rattle.std.proofs.Common.{◌≡◌, ℕ, suc, ◌-◌, ◌<◌, ◌≤◌, true, false, List, [], ◌∷◌, length, map, slice_index, Option, Some, refl, sym, ap, ◌∙◌, arith, length-append, ◌⊎◌, inl, inr}
 use Rattle.std.specs.List.{range_with_len}
 use Rattle.std.proofs.lemmas.List.{get_or_past}

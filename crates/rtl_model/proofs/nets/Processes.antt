@@ -230,7 +230,7 @@ each_kind_is_of_body inputs p = record {
   mixed = (mixed_parts p (clocking inputs p.body) (events p.body), λ (e, some). mixed_kind p (clocking inputs p.body) (events p.body) e some);
 }
 
--- ---- the facts, of a net
+-- ---- the facts, of a netlist
 
 pub has_bodies : (net : FlatNetlist) → HasBodies (core_netlist net)
 has_bodies net = record {

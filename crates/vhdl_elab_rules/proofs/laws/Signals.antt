@@ -1,4 +1,4 @@
--- Signals fit their net: the nets of a name are those of its elements.
+-- Signals fit their netlist: the nets of a name are those of its elements.
 use Rattle.std.proofs.Common.{◌≡◌, ℕ, zero, suc, ◌+◌, ◌-◌, ◌<◌, ◌≤◌, Bool, cond, List, [], ◌∷◌, ◌++◌, length, map, replicate, All, refl, sym, ap, ◌∙◌, subst, arith, append_assoc, ◌⊎◌, inl, inr}
 use Rattle.std.specs.Prelude.{max, min, pos, ◌-ℤ◌, nat_abs, slice_range, flat_map}
 use Rattle.std.specs.List.{AllZip, enumerate_from}

@@ -1,4 +1,4 @@
--- Elaborated nets are in range and connected, and within the limits.
+-- Elaborated netlists are in range and connected, and within the limits.
 use Rattle.std.proofs.Common.{◌≡◌, ℕ, ◌+◌, ◌<◌, ◌≤◌, true, false, not, ◌&&◌, List, [], ◌∷◌, ◌++◌, length, map, Ok, All, refl, sym, ap, ◌∙◌, subst, arith, ◌⊎◌, inl, inr}
 use Rattle.std.specs.Prelude.{slice_index, slice_index_or, flat_map, Contains, IsTrue, nat_le}
 use Rattle.std.specs.List.{list_any}

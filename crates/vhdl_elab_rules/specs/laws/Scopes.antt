@@ -1,5 +1,5 @@
--- Instances stand in order of the text, as a net's scopes do: the top first, and each other one in the one before it or in one
--- round that (IEEE 1076-2008, 14.2).
+-- Instances stand in order of the text, as a netlist's scopes do: the top first, and each other one in the one before it or in
+-- one round that (IEEE 1076-2008, 14.2).
 use Rattle.std.specs.Prelude.{◌≡◌, ℕ, suc, ◌<◌, List, length, map, None, Ok}
 use Rattle.rtl_net.specs.Nets.{ScopeView, parent_of}
 use Rattle.rtl_net.specs.Elaborated.{FollowsInText}

@@ -14,7 +14,7 @@ use Rattle.vhdl_expand_rules.specs.Kinds.{ObjectKind, one, vector, enumeration, 
 use Rattle.vhdl_elab_rules.specs.Names.{Signal, NamedVariable, NamedProcess}
 use Rattle.vhdl_elab_rules.specs.Elaboration.{Elaborated, elaborated_net}
 
--- what contracts see of a kind in a net
+-- what contracts see of a kind in a netlist
 abbrev pub kind_view : ObjectKind → SignalKind
 kind_view one = g.One
 kind_view (vector b) = g.Vector b.left b.right

@@ -1,4 +1,4 @@
--- The nets of specs/examples/Designs.antt compute.
+-- The netlists of specs/designs/Designs.antt compute.
 use Rattle.std.proofs.Common.{refl, arith}
 use Rattle.std.proofs.lemmas.Fmt.{decimal_digit}
 use Rattle.vhdl_values.specs.Numbers.{digits_of}

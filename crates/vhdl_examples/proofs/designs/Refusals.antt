@@ -1,4 +1,4 @@
--- The refusals of specs/examples/Refusals.antt compute.
+-- The refusals of specs/designs/Refusals.antt compute.
 use Rattle.std.proofs.Common.{refl}
 use Rattle.vhdl_values.specs.Numbers.{digits_of}
 use Rattle.vhdl_expand_rules.specs.Integers.{integer, natural, integer_of, decision, turns}

@@ -1,4 +1,4 @@
--- The small trees of specs/examples/Declarations.antt compute.
+-- The small trees of specs/rules/Declarations.antt compute.
 use Rattle.std.proofs.Common.{refl}
 use Rattle.vhdl_names_rules.specs.Expressions.{typed, static}
 use Rattle.vhdl_names_rules.specs.Subtypes.{subtype, fixed_value}

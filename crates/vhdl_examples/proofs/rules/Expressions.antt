@@ -1,4 +1,4 @@
--- The small trees of specs/examples/Expressions.antt compute.
+-- The small trees of specs/rules/Expressions.antt compute.
 use Rattle.std.proofs.Common.{refl}
 use Rattle.vhdl_names_rules.specs.Expressions.{typed, value_given}
 use Rattle.vhdl_examples.specs.rules.Expressions.{OperatorsHaveTypes, NamesHaveMeanings, EdgesAskForSignals, LiteralsHaveValues}

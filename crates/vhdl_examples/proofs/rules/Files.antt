@@ -1,4 +1,4 @@
--- The small trees of specs/examples/Files.antt compute.
+-- The small trees of specs/rules/Files.antt compute.
 use Rattle.std.proofs.Common.{refl}
 use Rattle.vhdl_tree.specs.Lexeme.{same_kind}
 use Rattle.vhdl_names_rules.specs.Expressions.{typed, static, value_given}

@@ -1,4 +1,4 @@
--- The small trees of specs/examples/Statements.antt compute.
+-- The small trees of specs/rules/Statements.antt compute.
 use Rattle.std.proofs.Common.{refl}
 use Rattle.vhdl_names_rules.specs.Expressions.{typed, static, condition, value_given}
 use Rattle.vhdl_names_rules.specs.Subtypes.{subtype}

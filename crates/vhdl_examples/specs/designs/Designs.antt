@@ -1,4 +1,4 @@
--- Small designs and their nets.
+-- Small designs and their netlists.
 use Rattle.std.specs.Prelude.{◌≡◌, [], ◌∷◌, map, Some, Ok, codes}
 use Rattle.vhdl_values.specs.declared.scalar.Nine.TheVariants.{Zero, One}
 use Rattle.vhdl_values.specs.declared.kinds.Edge.TheVariants.{Rising}

@@ -12,7 +12,7 @@ use Rattle.vhdl_names_declarations.specs.Entered.{entering_variables}
 use Rattle.vhdl_names_declarations.proofs.Listed.{left_variables}
 use Rattle.vhdl_names_declarations.proofs.objects.variables.Given as goal
 
--- what is left_variables, on what is done, gives the whole; what is in the region is counted; what is told of what is left is told of the whole
+-- what is left, on what is done, gives the whole; what is in the region is counted; what is told of what is left is told of the whole
 abbrev pub invariant-loop-one : goal.invariant-loop-one
 invariant-loop-one l =
     (entering_variables (in_order with_variables variables) (sight_view l.initial.sight) (map variables_view l.all) ≡ left_variables variables variables_view (sight_view l.sight) (objects_view l.done) l.all l.one-index)
