@@ -1,21 +1,20 @@
 -- Runs: their nets, values and lines.
-use Rattle.std.proofs.Common.{◌≡◌, ℕ, zero, suc, ◌+◌, ◌-◌, ◌<◌, ◌≤◌, List, [], ◌∷◌, ◌++◌, length, map, take, drop, get_or, slice_index, sym, ap, subst, ◌∙◌, arith, ⊎_elim}
-use Rattle.std.specs.Prelude.{Option, IfSome, slice_index_or}
+use Rattle.std.proofs.Common.{◌≡◌, ℕ, zero, suc, false, All, ◌+◌, ◌-◌, ◌<◌, ◌≤◌, List, [], ◌∷◌, ◌++◌, length, map, take, drop, get_or, sym, ap, subst, ◌∙◌, arith, ⊎_elim}
+use Rattle.std.specs.Prelude.{Option, Some, None, IfSome, slice_index_or}
 use Rattle.std.specs.Str.{bytes_eq}
 use Rattle.std.specs.List.{range_with_len}
-use Rattle.std.proofs.lemmas.List.{append_cancel_left, append_cancel_right, get_or-take, get_or-drop, get_or-map, get_or_append_left, length-take, length-take-le, length-drop, length-map, length-append, take_more, map-append}
+use Rattle.std.proofs.lemmas.List.{append_cancel_left, append_cancel_right, get_or-take, get_or-drop, get_or-map, get_or_default, get_or_append_left, length-take, length-take-le, length-drop, length-map, length-append, take_more, map-append}
 use Rattle.std.proofs.lemmas.Bool.{cases_lt}
 use Rattle.std.proofs.Math.Seq.{get_or-append_seam}
 use Rattle.std.proofs.lemmas.List.FromFn.{length-range_with_len, get_or-range_with_len}
 use Rattle.std.proofs.lemmas.List.Elements.{All-get_or}
-use Rattle.std.proofs.lemmas.Simd.{pick_l-range_with_len}
 use Rattle.rtl_net.specs.declared.signal.Signal.{Signal}
+use Rattle.rtl_net.specs.declared.signal.SignalKind.TheVariants.{One}
 use Rattle.rtl_net.specs.Nets.{SignalView, signal_view}
 use Rattle.rtl_vcd.specs.declared.ready.Run.{Run}
-use Rattle.rtl_vcd.specs.Values.{code, character, value_change}
 use Rattle.rtl_vcd.specs.Trace.{printed}
 use Rattle.rtl_vcd.specs.Shown.{IsShown}
-use Rattle.rtl_vcd.specs.Ready.{IsRun, AreReady, beginning}
+use Rattle.rtl_vcd.specs.Ready.{LiesAmong, IsRun, AreReady, beginning, elements}
 use Rattle.rtl_vcd.proofs.Names.{part_of_names}
 use Rattle.rtl_vcd.proofs.Printing.{same_test}
 
@@ -29,33 +28,36 @@ step_more a (suc n) =
 pub range_more : (a n : ℕ) → range_with_len a (n + 1) ≡ range_with_len a n ++ (a + n) ∷ []
 range_more a n = let e : n + 1 ≡ suc n = omega arith in ap (range_with_len a) e ∙ step_more a n
 
--- where a name is shown, its run lies within the nets
-pub within : (nets k : ℕ) (s : SignalView) (r : Run) → IsShown nets s → IsRun k s r → (r.first + r.count ≤ nets) × (r.count ≤ 64)
+-- where a name is shown, its run has nets, and they are among these
+pub within : (nets k : ℕ) (s : SignalView) (r : Run) → IsShown nets s → IsRun k s r → LiesAmong nets r
 within nets k s r shown is =
     let long : length s.nets ≡ r.count = ap length is.nets ∙ length-range_with_len r.first r.count in
     let last : r.count - 1 < length s.nets = omega (arith, long, shown.width.0) in
     let at = ap (λ ns. get_or ns (r.count - 1) 0) is.nets ∙ get_or-range_with_len r.first r.count (r.count - 1) 0 (omega (arith, long, last)) in
     let below = All-get_or (λ n. n < nets) s.nets (r.count - 1) 0 last shown.there in
-    (omega (arith, at, below, long, shown.width.0), omega (arith, long, shown.width.1))
+    record { some = omega (arith, long, shown.width.0); there = omega (arith, at, below, long, shown.width.0) }
 
--- what it prints
-pub run_prints : (k : ℕ) (s : SignalView) (r : Run) (values : List ℕ) → IsRun k s r → r.first + r.count ≤ length values
-    → printed k s values ≡ beginning r.is_vector ++ map character (take r.count (drop r.first values)) ++ take r.end.len r.end.bytes
-run_prints k s r values is there =
-    let elements = ap (map (slice_index values)) is.nets ∙ pick_l-range_with_len 0 values r.first r.count there in
-    ap (value_change s.kind (code k)) elements ∙ is.line (take r.count (drop r.first values))
+pub some_within : (nets k : ℕ) (s : SignalView) (r : Option Run) → IsShown nets s → IfSome r (IsRun k s) → IfSome r (LiesAmong nets)
+some_within nets k s None shown is = is
+some_within nets k s (Some r) shown is = within nets k s r shown is
 
--- its characters tell whether it prints otherwise
+-- where it prints the same for its elements, it prints the same
+pub run_prints : (k : ℕ) (s : SignalView) (r : Run) (old new : List ℕ) → IsRun k s r → r.first + r.count ≤ length old → r.first + r.count ≤ length new
+    → elements r old ≡ elements r new → printed k s old ≡ printed k s new
+run_prints k s r old new is before after e =
+    is.line old before ∙ ap (λ cs. beginning r.form ++ cs ++ take r.end.len r.end.bytes) e ∙ sym (is.line new after)
+
+-- what it prints for its elements tells whether it prints otherwise
 pub run_tells : (k : ℕ) (s : SignalView) (r : Run) (old new : List ℕ) → IsRun k s r → r.first + r.count ≤ length old → r.first + r.count ≤ length new
-    → bytes_eq (map character (take r.count (drop r.first old))) (map character (take r.count (drop r.first new))) ≡ bytes_eq (printed k s old) (printed k s new)
+    → bytes_eq (elements r old) (elements r new) ≡ bytes_eq (printed k s old) (printed k s new)
 run_tells k s r old new is before after =
-    let xs = map character (take r.count (drop r.first old)) in
-    let ys = map character (take r.count (drop r.first new)) in
-    let one = run_prints k s r old is before in
-    let other = run_prints k s r new is after in
+    let xs = elements r old in
+    let ys = elements r new in
+    let one = is.line old before in
+    let other = is.line new after in
     same_test xs ys (printed k s old) (printed k s new)
-    (λ e. one ∙ ap (λ cs. beginning r.is_vector ++ cs ++ take r.end.len r.end.bytes) e ∙ sym other)
-    (λ e. append_cancel_left (beginning r.is_vector) xs ys (append_cancel_right (beginning r.is_vector ++ xs) (beginning r.is_vector ++ ys) (take r.end.len r.end.bytes) (sym one ∙ e ∙ other)))
+    (run_prints k s r old new is before after)
+    (λ e. append_cancel_left (beginning r.form) xs ys (append_cancel_right (beginning r.form ++ xs) (beginning r.form ++ ys) (take r.end.len r.end.bytes) (sym one ∙ e ∙ other)))
 
 -- one name more
 ready_more : (names : List SignalView) (runs : List (Option Run)) (s : SignalView) (r : Option Run) → AreReady 0 names runs → IfSome r (IsRun (length names) s)
@@ -119,3 +121,20 @@ ready_at first names runs i s r lt is at are =
     let name = get_or-map signal_view names i s (signal_view s) lt ∙ ap signal_view (sym is) in
     subst (λ x. IfSome x (IsRun (first + i) (signal_view s))) (sym at)
     (subst (λ t. IfSome (slice_index_or runs i r) (IsRun (first + i) t)) name (are.each i (signal_view s) r there))
+
+-- the run at hand has its nets among so many
+pub lies_at : (nets first : ℕ) (names : List SignalView) (runs : List (Option Run)) (i : ℕ) (r : Option Run) → i < length runs → r ≡ get_or runs i r
+    → AreReady first names runs → All (IsShown nets) names → IfSome r (LiesAmong nets)
+lies_at nets first names runs i r lt is are shown =
+    let none : SignalView = record { scope = 0; name = []; port = false; kind = One; nets = [] } in
+    let there : i < length names = omega (arith, are.as_many, lt) in
+    subst (λ x. IfSome x (LiesAmong nets)) (sym is)
+    (some_within nets (first + i) (get_or names i none) (get_or runs i r) (All-get_or (IsShown nets) names i none there shown) (are.each i none r there))
+
+-- the name of a run
+pub name_there : (first : ℕ) (names : List Signal) (runs : List (Option Run)) (i : ℕ) → i < length runs → AreReady first (map signal_view names) runs → i < length names
+name_there first names runs i lt are = omega (arith, lt, are.as_many, length-map names signal_view)
+
+pub with_name : {P : Type 0} (names : List Signal) (i : ℕ) → i < length names → ((s : Signal) → s ≡ get_or names i s → P) → P
+with_name [] i lt k = absurd (omega (arith, lt))
+with_name (s ∷ ss) i lt k = k (get_or (s ∷ ss) i s) (get_or_default (s ∷ ss) i s (get_or (s ∷ ss) i s) lt)

@@ -27,22 +27,35 @@ one_name nets s b shown count least greatest lie = record {
 wider : (l g least greatest : ℕ) (ns : List ℕ) → least ≤ l → g ≤ greatest → All (λ n. (l ≤ n) × (n ≤ g)) ns → All (λ n. (least ≤ n) × (n ≤ greatest)) ns
 wider l g least greatest ns low high = All-weaker (λ n. (l ≤ n) × (n ≤ g)) (λ n. (least ≤ n) × (n ≤ greatest)) (λ n h. (omega (arith, low, h.0), omega (arith, high, h.1))) ns
 
-pub one_name_more : (nets : ℕ) (names : List SignalView) (s : SignalView) (b c : Block) (least greatest : ℕ) → IsShown nets s → IsBlockOf nets b names
-    → c.names ≡ b.names + 1 → c.least ≡ min b.least least → c.greatest ≡ max b.greatest greatest → Contains s.nets greatest
-    → All (λ n. (least ≤ n) × (n ≤ greatest)) s.nets → IsBlockOf nets c (names ++ s ∷ [])
-one_name_more nets names s b c least greatest shown is count low high there lie =
-    let within : greatest < nets = All-contains (λ n. n < nets) s.nets greatest shown.there there in
-    let Between : SignalView → Type 0 = λ t. All (λ n. (c.least ≤ n) × (n ≤ c.greatest)) t.nets in
+-- the names of two blocks in one
+pub both_blocks : (nets : ℕ) (names more : List SignalView) (b c d : Block) → d.names ≡ b.names + c.names → d.least ≡ min b.least c.least
+    → d.greatest ≡ max b.greatest c.greatest → IsBlockOf nets b names → IsBlockOf nets c more → IsBlockOf nets d (names ++ more)
+both_blocks nets names more b c d count low high one other =
+    let Between : SignalView → Type 0 = λ t. All (λ n. (d.least ≤ n) × (n ≤ d.greatest)) t.nets in
     let before : All Between names =
     All-weaker (λ (t : SignalView). All (λ n. (b.least ≤ n) × (n ≤ b.greatest)) t.nets) Between
-    (λ t h. wider b.least b.greatest c.least c.greatest t.nets (omega (arith, low)) (omega (arith, high)) h) names is.between in
-    let last : Between s = wider least greatest c.least c.greatest s.nets (omega (arith, low)) (omega (arith, high)) lie in
+    (λ t h. wider b.least b.greatest d.least d.greatest t.nets (omega (arith, low)) (omega (arith, high)) h) names one.between in
+    let behind : All Between more =
+    All-weaker (λ (t : SignalView). All (λ n. (c.least ≤ n) × (n ≤ c.greatest)) t.nets) Between
+    (λ t h. wider c.least c.greatest d.least d.greatest t.nets (omega (arith, low)) (omega (arith, high)) h) more other.between in
     record {
-      count = omega (arith, count, is.count, length-append names (s ∷ []));
-      order = omega (arith, low, high, is.order);
-      there = omega (arith, high, within, is.there);
-      between = All-append Between names (s ∷ []) before (All-cons Between s [] last (All-nil Between));
+      count = omega (arith, count, one.count, other.count, length-append names more);
+      order = omega (arith, low, high, one.order);
+      there = omega (arith, high, one.there, other.there);
+      between = All-append Between names more before behind;
     }
+
+-- one that is compared, or isn't
+pub same_bounds : (nets : ℕ) (names : List SignalView) (b c : Block) → c.names ≡ b.names → c.least ≡ b.least → c.greatest ≡ b.greatest
+    → IsBlockOf nets b names → IsBlockOf nets c names
+same_bounds nets names b c count low high is = record {
+  count = count ∙ is.count;
+  order = omega (arith, low, high, is.order);
+  there = omega (arith, high, is.there);
+  between =
+      All-weaker (λ (t : SignalView). All (λ n. (b.least ≤ n) × (n ≤ b.greatest)) t.nets) (λ (t : SignalView). All (λ n. (c.least ≤ n) × (n ≤ c.greatest)) t.nets)
+      (λ t h. wider b.least b.greatest c.least c.greatest t.nets (omega (arith, low)) (omega (arith, high)) h) names is.between;
+}
 
 min_either : (P : ℕ → Type 0) (a b : ℕ) → P a → P b → P (min a b)
 min_either P a b p q =
@@ -93,6 +106,11 @@ this_block nets bs k d next names lt le are =
       omega (arith, le, both.0.count, length-take b.names (drop next names), length-drop next names),
       subst (AreBlocks nets (drop (k + 1) bs)) (drop-drop b.names next names) both.1,
     )
+
+-- the last name of a block is among the names
+pub ends_within : (nets : ℕ) (b : Block) (first : ℕ) (names : List SignalView) → first ≤ length names → IsBlockOf nets b (take b.names (drop first names))
+    → first + b.names ≤ length names
+ends_within nets b first names le is = omega (arith, le, is.count, length-take b.names (drop first names), length-drop first names)
 
 -- no block is left
 pub all_taken : (nets : ℕ) (bs : List Block) (k next : ℕ) (names : List SignalView) → length bs ≤ k → AreBlocks nets (drop k bs) (drop next names)

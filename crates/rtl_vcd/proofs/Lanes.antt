@@ -1,5 +1,5 @@
 -- Values as characters, lane by lane.
-use Rattle.std.proofs.Common.{◌≡◌, ℕ, Bool, true, not, cond, eqb, List, [], ◌∷◌, ◌+◌, length, map, get_or, Fits, w8, refl, ap, ◌∙◌, ◌≤◌, ◌%◌, ◌^◌, sym, arith, ⊎_elim}
+use Rattle.std.proofs.Common.{◌≡◌, ℕ, Bool, true, not, cond, eqb, List, [], ◌∷◌, length, map, get_or, Fits, w8, refl, ap, ◌∙◌, ◌≤◌, ◌%◌, ◌^◌, sym, arith, ⊎_elim}
 use Rattle.std.specs.Prelude.{◌==◌}
 use Rattle.std.proofs.lemmas.Bool.{agree_below, agree_below_at, eqb-true, eqb-false, cases_Bool, false_from_ne_true, both_ways}
 use Rattle.std.proofs.lemmas.Simd.{map-map, chunk-fits, length-zip2, tops_compared, mask_l-mod}

@@ -1,10 +1,13 @@
+pub mod Changes
 pub mod Codes
 pub mod Digits
 pub mod Ends
+pub mod Forms
 pub mod Hulls
 pub mod Lanes
 pub mod Names
 pub mod Pages
+pub mod Binaries
 pub mod Printing
 pub mod Runs
 pub mod Scopes

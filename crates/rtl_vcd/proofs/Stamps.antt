@@ -42,6 +42,10 @@ pub or_some : (b : Bool) (xs ys : List ℕ) → are_some ys ≡ true → (b || a
 or_some true xs ys some = refl
 or_some false xs ys some = are_some_behind xs ys some
 
+pub or_append : (b : Bool) (xs ys : List ℕ) → (b || are_some (xs ++ ys)) ≡ ((b || are_some xs) || are_some ys)
+or_append true xs ys = refl
+or_append false xs ys = are_some_append xs ys
+
 -- changes behind others
 pub continued_more : (is_printed : Bool) (time : ℕ) (xs ys : List ℕ)
     → continued is_printed time (xs ++ ys) ≡ continued is_printed time xs ++ continued (is_printed || are_some xs) time ys

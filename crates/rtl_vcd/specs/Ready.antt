@@ -1,24 +1,53 @@
 -- Names that are ready to print.
-use Rattle.std.specs.Prelude.{◌≡◌, ℕ, ◌+◌, ◌<◌, Bool, true, false, List, [], ◌++◌, length, map, codes, Option, IfSome, slice_index_or, take}
+use Rattle.std.specs.Prelude.{◌≡◌, ℕ, ◌+◌, ◌-◌, ◌<◌, ◌≤◌, List, [], ◌∷◌, ◌++◌, length, map, codes, Option, IfSome, slice_index, slice_index_or, take, drop}
 use Rattle.std.specs.List.{range_with_len}
+use Rattle.rtl_net.specs.declared.signal.SignalKind.{SignalKind}
+use Rattle.rtl_net.specs.declared.signal.SignalKind.TheVariants.{One, Vector, Enumeration}
 use Rattle.rtl_net.specs.Nets.{SignalView}
+use Rattle.rtl_vcd.specs.declared.ready.Form.{Form}
+use Rattle.rtl_vcd.specs.declared.ready.Form.TheVariants.{Single, Several, Position}
 use Rattle.rtl_vcd.specs.declared.ready.Run.{Run}
-use Rattle.rtl_vcd.specs.Values.{code, character, value_change}
+use Rattle.rtl_vcd.specs.Values.{character, binary, binary_digits}
+use Rattle.rtl_vcd.specs.Trace.{printed}
 
--- what a vector's line begins with, and what stands behind its characters
-abbrev pub beginning : (is_vector : Bool) → List ℕ
-beginning true = codes "b"
-beginning false = []
+-- how a name of this kind prints its elements
+abbrev pub form_of : SignalKind → Form
+form_of One = Single
+form_of (Vector left right) = Several
+form_of (Enumeration count) = Position (binary_digits (count - 1))
 
-abbrev pub behind : (is_vector : Bool) → List ℕ
-behind true = codes " "
-behind false = []
+-- what a line of this form begins with, and what stands behind the characters of its elements
+abbrev pub beginning : Form → List ℕ
+beginning Single = []
+beginning Several = codes "b"
+beginning (Position digits) = codes "b"
 
--- The name number k is this run: its nets stand one behind the other, so many from the first on, and its line has the characters
--- of its elements between what it begins with and its end.
+abbrev pub behind : Form → List ℕ
+behind Single = []
+behind Several = codes " "
+behind (Position digits) = codes " "
+
+-- what the nets from the first on, so many, print between the two
+abbrev pub elements_as : Form → (first count : ℕ) → (valuation : List ℕ) → List ℕ
+elements_as Single first count valuation = character (slice_index valuation first) ∷ []
+elements_as Several first count valuation = map character (take count (drop first valuation))
+elements_as (Position digits) first count valuation = binary digits (slice_index valuation first)
+
+abbrev pub elements : Run → (valuation : List ℕ) → List ℕ
+elements r valuation = elements_as r.form r.first r.count valuation
+
+-- it has nets, and they are among so many
+pub record LiesAmong (nets : ℕ) (r : Run) : Type 0 where
+  pub some : 0 < r.count
+  pub there : r.first + r.count ≤ nets
+
+-- The name number k is this run: its nets stand one behind the other, so many from the first on, and its line has what these
+-- print, no more than the characters of the longest vector, between what it begins with and its end.
 pub record IsRun (k : ℕ) (s : SignalView) (r : Run) : Type 0 where
   pub nets : s.nets ≡ range_with_len r.first r.count
-  pub line : (values : List ℕ) → value_change s.kind (code k) values ≡ beginning r.is_vector ++ map character values ++ take r.end.len r.end.bytes
+  pub short : (valuation : List ℕ) → length (elements r valuation) ≤ 64
+  pub line : (valuation : List ℕ) → r.first + r.count ≤ length valuation
+      → printed k s valuation ≡ beginning r.form ++ elements r valuation ++ take r.end.len r.end.bytes
 
 -- each of these names, the first of them being number k, is the run at its place, if there is one
 pub record AreReady (k : ℕ) (names : List SignalView) (runs : List (Option Run)) : Type 0 where

@@ -8,11 +8,11 @@ ghost use Rattle.rtl_vcd.specs.Shown.{IsShown};
 use rtl_net::{Net, Signal};
 use std::alloc::{AllocError, Global};
 
-/// The most names of a block.
+/// The most names of a block whose nets are compared, and at how many others a block ends.
 const NAMES: usize = 64;
 
 /// How many names are looked at as fast as their nets are compared.
-const FEW: usize = 2;
+const FEW: usize = 7;
 
 /// How many nets for each name of a block are compared at most.
 const REACH: usize = 128;
@@ -24,6 +24,8 @@ pub(crate) struct Block {
     pub(crate) names: usize,
     pub(crate) least: usize,
     pub(crate) greatest: usize,
+    /// Whether all nets between these are compared before a name is looked at.
+    pub(crate) is_compared: bool,
 }
 
 impl Block {
@@ -38,22 +40,33 @@ impl Block {
             names: 1,
             least,
             greatest,
+            is_compared: false,
         }
     }
 
-    /// The block with this name behind its own.
-    fn with(&self, signal: &Signal) -> Block
-        requires some { 0 < length signal.now.nets.items }
-        requires room { self.now.names < 18446744073709551615 }
-        ensures names { result.names ≡ self.now.names + 1 }
-        ensures block { (nets : ℕ) (names : List SignalView) → IsShown nets (signal_view signal.now)
-            → IsBlockOf nets self.now names → IsBlockOf nets result (names ++ signal_view signal.now ∷ []) }
+    /// The block with the names of both, the other's behind its own.
+    fn with(&self, other: &Block) -> Block
+        requires room { self.now.names + other.now.names < 18446744073709551616 }
+        ensures names { result.names ≡ self.now.names + other.now.names }
+        ensures block { (nets : ℕ) (names more : List SignalView) → IsBlockOf nets self.now names → IsBlockOf nets other.now more
+            → IsBlockOf nets result (names ++ more) }
     {
-        let (least, greatest) = bounds(&signal.nets);
         Block {
-            names: self.names + 1,
-            least: self.least.min(least),
-            greatest: self.greatest.max(greatest),
+            names: self.names + other.names,
+            least: self.least.min(other.least),
+            greatest: self.greatest.max(other.greatest),
+            is_compared: false,
+        }
+    }
+
+    /// The same block, compared.
+    fn compared(&self) -> Block
+        ensures names { result.names ≡ self.now.names }
+        ensures block { (nets : ℕ) (names : List SignalView) → IsBlockOf nets self.now names → IsBlockOf nets result names }
+    {
+        Block {
+            is_compared: true,
+            ..*self
         }
     }
 
@@ -64,7 +77,7 @@ impl Block {
         (self.greatest - self.least) / REACH < self.names
     }
 
-    /// Whether the nets from the least to the greatest are compared and have the same values in both. Of few names each is looked at.
+    /// Whether the nets from the least to the greatest are compared and have the same values in both.
     pub(crate) fn is_quiet(&self, old: &[u8], new: &[u8]) -> bool
         requires order { self.now.least ≤ self.now.greatest }
         requires before { self.now.greatest < length old.now }
@@ -72,7 +85,7 @@ impl Block {
         ensures { result ≡ true → (n : ℕ) → self.now.least ≤ n → n ≤ self.now.greatest → slice_index old.now n ≡ slice_index new.now n }
     {
         let beyond = self.greatest + 1;
-        self.names > FEW && self.is_dense() && old[self.least..beyond] == new[self.least..beyond]
+        self.is_compared && old[self.least..beyond] == new[self.least..beyond]
     }
 }
 
@@ -108,8 +121,31 @@ pub(crate) fn blocks_of(alloc: Global, net: &Net) -> Result<Vec<Block>, AllocErr
     Ok(blocks)
 }
 
-/// The block that begins with the name of this number. It ends where one name more would be too many, or too far off.
+/// The block that begins with the name of this number: names whose nets stand close to one another, or those before so many.
 fn block_at(net: &Net, first: usize) -> Block
+    requires there { first < length net.now.signals }
+    ensures some { 0 < result.names }
+    ensures block { IsBlockOf (length net.now.types) result (take result.names (drop first net.now.signals)) }
+{
+    let signals = net.signals();
+    let mut block = close_at(net, first);
+    if block.names > FEW {
+        return block.compared();
+    }
+    let mut next = first + block.names;
+    while next < signals.len() {
+        let more = close_at(net, next);
+        if more.names > FEW || block.names >= NAMES {
+            return block;
+        }
+        block = block.with(&more);
+        next += more.names;
+    }
+    block
+}
+
+/// The names from this number on whose nets stand close to one another. They end where one name more would be too many, or too far off.
+fn close_at(net: &Net, first: usize) -> Block
     requires there { first < length net.now.signals }
     ensures some { 0 < result.names }
     ensures block { IsBlockOf (length net.now.types) result (take result.names (drop first net.now.signals)) }
@@ -118,7 +154,7 @@ fn block_at(net: &Net, first: usize) -> Block
     let signals = net.signals();
     let mut block = Block::of(&signals[first]);
     for number in first + 1..signals.len() {
-        let more = block.with(&signals[number]);
+        let more = block.with(&Block::of(&signals[number]));
         if more.names > NAMES || !more.is_dense() {
             return block;
         }

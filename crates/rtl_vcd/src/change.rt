@@ -46,35 +46,12 @@ pub fn prints_otherwise(number: usize, signal: &Signal, old: &[u8], new: &[u8]) 
     ensures { result ≡ not (bytes_eq (printed number (signal_view signal.now) old.now) (printed number (signal_view signal.now) new.now)) }
 {
     match signal.kind {
-        SignalKind::Enumeration { .. } => has_other_line(number, signal, old, new),
+        SignalKind::Enumeration { .. } => {
+            change_line(number, signal, old).as_slice()
+                != change_line(number, signal, new).as_slice()
+        }
         _ => has_other_characters(&signal.nets, old, new),
     }
-}
-
-/// The same, found by its lines.
-fn has_other_line(number: usize, signal: &Signal, old: &[u8], new: &[u8]) -> bool
-    requires before { IsShown (length old.now) (signal_view signal.now) }
-    requires after { IsShown (length new.now) (signal_view signal.now) }
-    ensures { result ≡ not (bytes_eq (printed number (signal_view signal.now) old.now) (printed number (signal_view signal.now) new.now)) }
-{
-    if are_alike(&signal.nets, old, new) {
-        return false;
-    }
-    change_line(number, signal, old).as_slice() != change_line(number, signal, new).as_slice()
-}
-
-/// Whether the nets have the same values in both.
-fn are_alike(nets: &[usize], old: &[u8], new: &[u8]) -> bool
-    requires before { All (λ n. n < length old.now) nets.now }
-    requires after { All (λ n. n < length new.now) nets.now }
-    ensures { result ≡ true → map (slice_index old.now) nets.now ≡ map (slice_index new.now) nets.now }
-{
-    for net in nets {
-        if old[*net] != new[*net] {
-            return false;
-        }
-    }
-    true
 }
 
 /// Whether the values of these nets print otherwise.

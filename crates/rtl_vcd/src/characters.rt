@@ -1,6 +1,6 @@
 //! Runs of values as characters, sixteen, eight and one at a time.
 
-ghost use Rattle.std.specs.Prelude.{◌≡◌, ◌+◌, ◌<◌, ◌≤◌, ◌++◌, not, length, map, take, drop, IfSome, IfNone};
+ghost use Rattle.std.specs.Prelude.{◌≡◌, ◌+◌, ◌<◌, ◌≤◌, ◌++◌, not, true, length, map, take, drop, IfSome, IfNone};
 ghost use Rattle.std.specs.Str.{bytes_eq};
 ghost use Rattle.rtl_vcd.specs.Values.{character};
 
@@ -23,6 +23,7 @@ fn characters<const LANES: usize>(values: &[u8], at: usize) -> Simd<u8, LANES>
 }
 
 /// Appends what these values print as.
+#[inline(never)]
 pub(crate) fn push_run(page: &mut Page, values: &[u8])
     requires room { length page.old + length values.now ≤ PAGE }
     ensures characters { page.new ≡ page.old ++ map character values.now }
@@ -64,6 +65,7 @@ fn push_each(page: &mut Page, values: &[u8])
 }
 
 /// Whether these values print otherwise in `new` than in `old`.
+#[inline(never)]
 pub(crate) fn is_other_run(old: &[u8], new: &[u8]) -> bool
     requires { length old.now ≡ length new.now }
     ensures { result ≡ not (bytes_eq (map character old.now) (map character new.now)) }
@@ -136,4 +138,43 @@ fn is_other_each(old: &[u8], new: &[u8]) -> bool
         }
     }
     false
+}
+
+/// Whether these values are few, and the same in both.
+pub(crate) fn are_same_few(old: &[u8], new: &[u8]) -> bool
+    requires { length old.now ≡ length new.now }
+    ensures { result ≡ true → old.now ≡ new.now }
+{
+    if old.len() == 8 {
+        return are_same_lanes::<8>(old, new);
+    }
+    if old.len() == 4 {
+        return are_same_lanes::<4>(old, new);
+    }
+    old.len() < 8 && are_same_each(old, new)
+}
+
+/// Whether so many values are the same in both.
+fn are_same_lanes<const LANES: usize>(old: &[u8], new: &[u8]) -> bool
+    requires most { LANES ≤ 64 }
+    requires before { length old.now ≡ LANES }
+    requires after { length new.now ≡ LANES }
+    ensures { result ≡ true → old.now ≡ new.now }
+{
+    let before = Simd::<u8, LANES>::from_slice(old);
+    let after = Simd::<u8, LANES>::from_slice(new);
+    !are_different::<LANES>(before, after)
+}
+
+/// The same, one value at a time.
+fn are_same_each(old: &[u8], new: &[u8]) -> bool
+    requires { length old.now ≡ length new.now }
+    ensures { result ≡ true → old.now ≡ new.now }
+{
+    for at in 0..old.len() {
+        if old[at] != new[at] {
+            return false;
+        }
+    }
+    true
 }

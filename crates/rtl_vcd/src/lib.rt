@@ -13,7 +13,9 @@ mod heading;
 mod laws;
 mod line;
 mod moment;
+mod named;
 mod page;
+mod positions;
 mod ready;
 mod trace;
 

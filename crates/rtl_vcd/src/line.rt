@@ -12,15 +12,17 @@ pub(crate) const LINE: usize = 77;
 /// Room for the longest change.
 pub type Line = ArrayVec<u8, 77>;
 
+/// What each of the nine values prints as.
+const CHARACTERS: [u8; 9] = *b"xx01zx01x";
+
 /// What one of the nine values, by its code, prints as.
 pub fn character(value: u8) -> u8
     ensures { result ≡ spec.character value }
 {
-    match value {
-        2 | 6 => b'0',
-        3 | 7 => b'1',
-        4 => b'z',
-        _ => b'x',
+    if value < 9 {
+        CHARACTERS[value as usize]
+    } else {
+        b'x'
     }
 }
 

@@ -11,9 +11,9 @@ ghost use Rattle.rtl_vcd.specs.Pages.{Passes};
 
 use crate::blocks::{Block, blocks_of};
 use crate::fault::VcdFault;
-use crate::line::LINE;
-use crate::page::{PAGE, Page};
-use crate::ready::{Run, is_otherwise, push_ready, runs_of};
+use crate::named::{Step, push_change};
+use crate::page::Page;
+use crate::ready::{Run, keeps, runs_of};
 use crate::trace::{push_time, written};
 use rtl_net::{Net, Signal};
 use rtl_sink::{Sink, push_text};
@@ -21,11 +21,20 @@ use std::alloc::{AllocError, Global};
 use std::marker::Model;
 
 /// The names of a netlist in blocks, so that a moment passes over those whose nets keep their values. Contracts see the netlist.
-#[derive(Drop)]
 pub struct Blocks<'a> {
     net: &'a Net,
     blocks: Vec<Block>,
     runs: Vec<Option<Run>>,
+}
+
+impl Drop for Blocks<'_> {
+    fn drop(self) {
+        let Blocks {
+            net: _,
+            blocks: _,
+            runs: _,
+        } = self;
+    }
 }
 
 impl<'a> Model for Blocks<'a> {
@@ -47,8 +56,8 @@ impl<'a> Model for Blocks<'a> {
 }
 
 impl<'a> Blocks<'a> {
-    /// The blocks of the netlist's names, and the names that stand on nets one behind the other, ready to print. They take three words
-    /// for each block, and for each name: a block has 64 names where the nets of these stand close to one another, and else fewer.
+    /// The blocks of the netlist's names, and the names that stand on nets one behind the other, ready to print. They take four words
+    /// for each block, which mostly has some 64 names, and three for each name.
     pub fn new(alloc: Global, net: &'a Net) -> Result<Blocks<'a>, AllocError>
         ensures { IfOk result (λ b. b ≡ net.now) }
     {
@@ -60,8 +69,8 @@ impl<'a> Blocks<'a> {
     /// Writes what the names print at a time after 0, where the nets had the values `old` and have the values `new`, one for
     /// each net: those that print otherwise than before, behind the time. Answers whether there were such. Takes no memory.
     ///
-    /// A block in which no net has changed costs one comparison of two runs of bytes; in the others each name is looked at. The
-    /// sink gets up to a page of lines at a time.
+    /// Names whose nets stand close to one another cost one comparison of two runs of bytes where none of these has changed; each
+    /// other name is looked at. The sink gets up to a page of lines at a time.
     ///
     /// # Errors
     ///
@@ -92,14 +101,6 @@ impl<'a> Blocks<'a> {
         written(out)?;
         Ok(is_printed)
     }
-}
-
-/// A time, and the values of the nets before it and at it.
-#[derive(Clone, Copy)]
-struct Step<'a> {
-    time: u64,
-    old: &'a [u8],
-    new: &'a [u8],
 }
 
 /// The changes of the netlist's names, which stand in these blocks, behind their time. Answers whether there are any.
@@ -161,41 +162,13 @@ fn push_changes<W: Sink>(
         (continued is_printed step.now.time (changes_from first (map signal_view names.now) step.now.old.now step.now.new.now)) }
     ensures printed { result ≡ (is_printed || are_some (changes_from first (map signal_view names.now) step.now.old.now step.now.new.now)) }
 {
+    let here = *step;
     let mut printed = is_printed;
-    for (place, signal) in names.iter().enumerate() {
-        let number = first + place;
-        let run = &runs[place];
-        if !is_otherwise(number, signal, run, step.old, step.new) {
+    for (place, run) in runs.iter().enumerate() {
+        if keeps(run, here.old, here.new) {
             continue;
         }
-        make_way(step.time, printed, page, out);
-        push_ready(page, number, signal, run, step.new);
-        printed = true;
+        printed = push_change(first + place, &names[place], run, &here, printed, page, out);
     }
     printed
-}
-
-/// Makes room for a line in the page, behind the time where that isn't printed yet.
-fn make_way<W: Sink>(time: u64, is_printed: bool, page: &mut Page, out: &mut W)
-    ensures room { length page.new + 77 ≤ PAGE }
-    ensures text { Passes (W.state out.old) (W.state out.new) page.old page.new (if is_printed then [] else (time_line time)) }
-{
-    if !is_printed {
-        put_page(page, out);
-        push_time(out, time);
-        return;
-    }
-    if page.room() >= LINE {
-        return;
-    }
-    put_page(page, out);
-}
-
-/// Hands the page to the sink.
-fn put_page<W: Sink>(page: &mut Page, out: &mut W)
-    ensures empty { page.new ≡ [] }
-    ensures text { Goes (W.state out.old) (W.state out.new) page.old }
-{
-    push_text(out, page.text());
-    page.clear();
 }

@@ -3,18 +3,21 @@
 ghost use Rattle.std.specs.Prelude.{◌≡◌, ℕ, ◌+◌, ◌<◌, ◌≤◌, ◌++◌, not, length, map, take, drop, codes, true, slice_index, IfSome, IfOk};
 ghost use Rattle.std.specs.Str.{bytes_eq};
 ghost use Rattle.std.specs.List.{range_with_len};
-ghost use Rattle.rtl_net.specs.Nets.{signal_view};
+ghost use Rattle.rtl_net.specs.Nets.{SignalView, signal_view};
+ghost use Rattle.rtl_net.specs.declared.signal.SignalKind.TheVariants as k;
 ghost use Rattle.arrayvec.specs.ArrayVec.{array_vec_len};
-ghost use Rattle.rtl_vcd.specs.Values.{character, code};
+ghost use Rattle.rtl_vcd.specs.Values.{code};
 ghost use Rattle.rtl_vcd.specs.Trace.{printed};
-ghost use Rattle.rtl_vcd.specs.Shown.{IsShown};
-ghost use Rattle.rtl_vcd.specs.Ready.{IsRun, AreReady, beginning, behind};
+ghost use Rattle.rtl_vcd.specs.declared.ready.Form.TheVariants as f;
+ghost use Rattle.rtl_vcd.specs.Ready as spec;
+ghost use Rattle.rtl_vcd.specs.Ready.{LiesAmong, IsRun, AreReady};
 
-use crate::change::{change_line, prints_otherwise};
-use crate::characters::{is_other_run, push_run};
+use crate::change::is_other_character;
+use crate::characters::{are_same_few, is_other_run, push_run};
 use crate::ending::End;
-use crate::line::push_code;
+use crate::line::{binary_digits, character, push_code};
 use crate::page::{PAGE, Page};
+use crate::positions::{is_other_position, push_digits};
 use arrayvec::ArrayVec;
 use rtl_net::{Net, Signal, SignalKind};
 use std::alloc::{AllocError, Global};
@@ -22,58 +25,109 @@ use std::alloc::{AllocError, Global};
 /// Room for the end of a line: a space, a code of ten characters, and the line's end.
 type Ending = ArrayVec<u8, 12>;
 
-/// A name whose nets stand one behind the other, so many from the first on, and the end of its line.
+/// How a name that is ready prints its elements.
+#[derive(Clone, Copy)]
+pub(crate) enum Form {
+    /// One element, by its character.
+    Single,
+    /// The elements of a vector, by their characters.
+    Several,
+    /// The position of an enumeration's value, in so many binary digits.
+    Position { digits: u8 },
+}
+
+/// A name whose nets stand one behind the other, so many from the first on, how it prints them, and the end of its line.
 #[derive(Clone, Copy)]
 pub(crate) struct Run {
-    first: u32,
+    pub(crate) first: u32,
     count: u8,
-    is_vector: bool,
-    end: End,
+    pub(crate) form: Form,
+    pub(crate) end: End,
 }
 
 impl Run {
     /// The run of these nets, of the name with this number.
-    fn of(number: usize, nets: &[usize], is_vector: bool) -> Run
+    fn of(number: usize, nets: &[usize], form: Form) -> Run
         requires some { 0 < length nets.now }
         requires first { slice_index nets.now 0 < 4294967296 }
         requires count { length nets.now < 256 }
         ensures first { result.first ≡ slice_index nets.now 0 }
         ensures count { result.count ≡ length nets.now }
-        ensures is_vector { result.is_vector ≡ is_vector }
-        ensures end { take result.end.len result.end.bytes ≡ behind is_vector ++ code number ++ codes "\n" }
+        ensures form { result.form ≡ form }
+        ensures end { take result.end.len result.end.bytes ≡ spec.behind form ++ code number ++ codes "\n" }
     {
         Run {
             first: nets[0] as u32,
             count: nets.len() as u8,
-            is_vector,
-            end: end_of(number, is_vector),
+            form,
+            end: end_of(number, form),
         }
     }
 
     /// Appends the line that the name prints where the nets have these values.
-    fn push(&self, page: &mut Page, values: &[u8])
-        requires there { self.now.first + self.now.count ≤ length values.now }
-        requires short { self.now.count ≤ 64 }
+    pub(crate) fn push(&self, page: &mut Page, values: &[u8])
+        requires there { LiesAmong (length values.now) self.now }
+        requires short { length (spec.elements self.now values.now) ≤ 64 }
         requires room { length page.old + 77 ≤ PAGE }
-        ensures { page.new ≡ page.old ++ beginning self.now.is_vector ++ map character (take self.now.count (drop self.now.first values.now)) ++ take self.now.end.len self.now.end.bytes }
+        ensures { page.new ≡ page.old ++ spec.beginning self.now.form ++ spec.elements self.now values.now ++ take self.now.end.len self.now.end.bytes }
     {
-        let first = self.first as usize;
-        if self.is_vector {
-            page.push(b'b');
-        }
-        push_run(page, &values[first..first + self.count as usize]);
+        self.push_elements(page, values);
         page.push_first(&self.end.bytes, self.end.len as usize);
     }
 
-    /// Whether its elements print otherwise where the nets have the values `new` than where they have `old`.
-    fn is_other(&self, old: &[u8], new: &[u8]) -> bool
-        requires before { self.now.first + self.now.count ≤ length old.now }
-        requires after { self.now.first + self.now.count ≤ length new.now }
-        ensures { result ≡ not (bytes_eq (map character (take self.now.count (drop self.now.first old.now))) (map character (take self.now.count (drop self.now.first new.now)))) }
+    /// Appends what stands before the end of its line.
+    fn push_elements(&self, page: &mut Page, values: &[u8])
+        requires there { LiesAmong (length values.now) self.now }
+        requires short { length (spec.elements self.now values.now) ≤ 64 }
+        requires room { length page.old + 65 ≤ PAGE }
+        ensures elements { page.new ≡ page.old ++ spec.beginning self.now.form ++ spec.elements self.now values.now }
+        ensures len { length page.new ≤ length page.old + 65 }
     {
         let first = self.first as usize;
-        let beyond = first + self.count as usize;
-        is_other_run(&old[first..beyond], &new[first..beyond])
+        match self.form {
+            Form::Single => page.push(character(values[first])),
+            Form::Several => {
+                page.push(b'b');
+                push_run(page, &values[first..first + self.count as usize]);
+            }
+            Form::Position { digits } => {
+                page.push(b'b');
+                push_digits(page, digits as u32, values[first] as u32);
+            }
+        }
+    }
+
+    /// Whether its elements are few and have the same values in both.
+    fn keeps(&self, old: &[u8], new: &[u8]) -> bool
+        requires before { LiesAmong (length old.now) self.now }
+        requires after { LiesAmong (length new.now) self.now }
+        ensures { result ≡ true → spec.elements self.now old.now ≡ spec.elements self.now new.now }
+    {
+        let first = self.first as usize;
+        match self.form {
+            Form::Several => {
+                let beyond = first + self.count as usize;
+                are_same_few(&old[first..beyond], &new[first..beyond])
+            }
+            _ => old[first] == new[first],
+        }
+    }
+
+    /// Whether its elements print otherwise where the nets have the values `new` than where they have `old`.
+    pub(crate) fn is_other(&self, old: &[u8], new: &[u8]) -> bool
+        requires before { LiesAmong (length old.now) self.now }
+        requires after { LiesAmong (length new.now) self.now }
+        ensures { result ≡ not (bytes_eq (spec.elements self.now old.now) (spec.elements self.now new.now)) }
+    {
+        let first = self.first as usize;
+        match self.form {
+            Form::Single => is_other_character(old[first], new[first]),
+            Form::Several => {
+                let beyond = first + self.count as usize;
+                is_other_run(&old[first..beyond], &new[first..beyond])
+            }
+            Form::Position { digits } => is_other_position(digits, old[first], new[first]),
+        }
     }
 }
 
@@ -92,16 +146,40 @@ pub(crate) fn runs_of(alloc: Global, net: &Net) -> Result<Vec<Option<Run>>, Allo
 
 /// The name with this number as a run, if it is one.
 fn run_of(number: usize, signal: &Signal) -> Option<Run>
-    requires { 0 < length signal.now.nets.items }
+    requires some { 0 < length signal.now.nets.items }
+    requires most { length signal.now.nets.items ≤ 64 }
     ensures { IfSome result (IsRun number (signal_view signal.now)) }
 {
     if !is_short(&signal.nets) || !are_neighbours(&signal.nets) {
         return None;
     }
-    match signal.kind {
-        SignalKind::One => Some(Run::of(number, &signal.nets, false)),
-        SignalKind::Vector { .. } => Some(Run::of(number, &signal.nets, true)),
-        SignalKind::Enumeration { .. } => None,
+    if !is_as_wide(signal.kind, signal.nets.len()) {
+        return None;
+    }
+    Some(Run::of(number, &signal.nets, form_of(signal.kind)))
+}
+
+/// How a name of this kind prints its elements.
+fn form_of(kind: SignalKind) -> Form
+    ensures form { result ≡ spec.form_of kind }
+    ensures few { (digits : ℕ) → result ≡ f.Position digits → digits ≤ 64 }
+{
+    match kind {
+        SignalKind::One => Form::Single,
+        SignalKind::Vector { .. } => Form::Several,
+        SignalKind::Enumeration { count } => Form::Position {
+            digits: binary_digits(count.saturating_sub(1)) as u8,
+        },
+    }
+}
+
+/// Whether a name of this kind may have so many nets: a single element has one.
+fn is_as_wide(kind: SignalKind, nets: usize) -> bool
+    ensures { result ≡ true → kind ≡ k.One → nets ≡ 1 }
+{
+    match kind {
+        SignalKind::One => nets == 1,
+        _ => true,
     }
 }
 
@@ -136,62 +214,36 @@ fn is_behind(first: usize, net: usize, many: usize) -> bool
 }
 
 /// The end of the line of the name with this number.
-fn end_of(number: usize, is_vector: bool) -> End
-    ensures { take result.len result.bytes ≡ behind is_vector ++ code number ++ codes "\n" }
+fn end_of(number: usize, form: Form) -> End
+    ensures { take result.len result.bytes ≡ spec.behind form ++ code number ++ codes "\n" }
 {
     let mut ending = Ending::new();
-    if is_vector {
-        ending.push(b' ');
-    }
+    push_behind(&mut ending, form);
     push_code(&mut ending, number);
     ending.push(b'\n');
     End::of(&ending)
 }
 
-/// Appends the line that the name with this number prints where the nets have these values.
-pub(crate) fn push_ready(
-    page: &mut Page,
-    number: usize,
-    signal: &Signal,
-    run: &Option<Run>,
-    values: &[u8],
-)
-    requires shown { IsShown (length values.now) (signal_view signal.now) }
-    requires ready { IfSome run.now (IsRun number (signal_view signal.now)) }
-    requires room { length page.old + 77 ≤ PAGE }
-    ensures { page.new ≡ page.old ++ printed number (signal_view signal.now) values.now }
+/// Appends what stands behind the characters of the elements.
+fn push_behind(ending: &mut Ending, form: Form)
+    requires room { array_vec_len ending.old + 1 ≤ 12 }
+    ensures text { ending.new.items ≡ ending.old.items ++ spec.behind form }
+    ensures len { array_vec_len ending.new ≤ array_vec_len ending.old + 1 }
 {
-    match run {
-        Some(run) => run.push(page, values),
-        None => push_change(page, number, signal, values),
+    match form {
+        Form::Single => {}
+        _ => ending.push(b' '),
     }
 }
 
-/// The same, of a name that isn't ready.
-#[inline(never)]
-fn push_change(page: &mut Page, number: usize, signal: &Signal, values: &[u8])
-    requires shown { IsShown (length values.now) (signal_view signal.now) }
-    requires room { length page.old + 77 ≤ PAGE }
-    ensures { page.new ≡ page.old ++ printed number (signal_view signal.now) values.now }
-{
-    page.push_all(&change_line(number, signal, values));
-}
-
-/// Whether the name with this number prints otherwise where the nets have the values `new` than where they have `old`.
-pub(crate) fn is_otherwise(
-    number: usize,
-    signal: &Signal,
-    run: &Option<Run>,
-    old: &[u8],
-    new: &[u8],
-) -> bool
-    requires before { IsShown (length old.now) (signal_view signal.now) }
-    requires after { IsShown (length new.now) (signal_view signal.now) }
-    requires ready { IfSome run.now (IsRun number (signal_view signal.now)) }
-    ensures { result ≡ not (bytes_eq (printed number (signal_view signal.now) old.now) (printed number (signal_view signal.now) new.now)) }
+/// Whether a name is ready, and its elements are few and have the same values in both, so that it prints the same.
+pub(crate) fn keeps(run: &Option<Run>, old: &[u8], new: &[u8]) -> bool
+    requires before { IfSome run.now (LiesAmong (length old.now)) }
+    requires after { IfSome run.now (LiesAmong (length new.now)) }
+    ensures { result ≡ true → (k : ℕ) (name : SignalView) → IfSome run.now (IsRun k name) → printed k name old.now ≡ printed k name new.now }
 {
     match run {
-        Some(run) => run.is_other(old, new),
-        None => prints_otherwise(number, signal, old, new),
+        Some(run) => run.keeps(old, new),
+        None => false,
     }
 }

@@ -1,59 +1,46 @@
-use Rattle.std.proofs.Common.{◌≡◌, ◌+◌, ◌<◌, ◌∷◌, [], length, map, take, drop, arith, subst, sym, ap}
-use Rattle.std.proofs.lemmas.List.{length-map}
+use Rattle.std.proofs.Common.{◌≡◌, ◌+◌, ◌++◌, length, take, drop, arith, subst, sym, ap, ◌∙◌}
+use Rattle.std.proofs.lemmas.List.{length-map, drop-drop}
 use Rattle.rtl_net.specs.Nets.{signal_view}
 use Rattle.rtl_vcd.specs.Blocks.{IsBlockOf}
-use Rattle.rtl_vcd.proofs.Names.{shown_of_net, take_next}
+use Rattle.rtl_vcd.proofs.Names.{take_further}
+use Rattle.rtl_vcd.proofs.Hulls.{ends_within}
 use Rattle.rtl_vcd.proofs.blocks.block_at.Goals as goal
 
-pub of-block-requires : goal.of-block-requires
-of-block-requires c =
-    let within : c.args.first < length c.signals-signals.result.now =
-    omega (arith, c.requires.there, ap length c.signals-signals.ensures, length-map c.signals-signals.result.now signal_view) in
-    let shown = shown_of_net c.args.net.now c.is_elaborated.ensures c.signals-signals.result.now c.signals-signals.ensures c.args.first c.index-signals-first.result within c.index-signals-first.is in
-    record { some = omega (arith, shown.width.0) }
+pub returns-then-block-gt-FEW-clause-block : goal.returns-then-block-gt-FEW-clause-block
+returns-then-block-gt-FEW-clause-block c =
+    let names = c.args.net.now.signals in
+    subst (λ n. IsBlockOf (length c.args.net.now.types) c.compared.result (take n (drop c.args.first names))) (sym c.compared.ensures.names)
+    (c.compared.ensures.block (length c.args.net.now.types) (take c.close_at-block.result.names (drop c.args.first names)) c.close_at-block.ensures.block)
 
-pub loop-number-init : goal.loop-number-init
-loop-number-init c =
+pub overflow_add-next : goal.overflow_add-next
+overflow_add-next c =
     let signals = c.signals-signals.result.now in
-    let first = c.args.first in
-    let name = c.index-signals-first.result in
+    let within = ends_within (length c.args.net.now.types) c.close_at-block.result c.args.first c.args.net.now.signals (omega (arith, c.requires.there)) c.close_at-block.ensures.block in
+    record { fits = omega (arith, within, ap length c.signals-signals.ensures, length-map signals signal_view, c.signals-signals.type_inv) }
+
+pub loop-next-init : goal.loop-next-init
+loop-next-init c =
+    let within = ends_within (length c.args.net.now.types) c.close_at-block.result c.args.first c.args.net.now.signals (omega (arith, c.requires.there)) c.close_at-block.ensures.block in
+    (omega arith, within, c.close_at-block.ensures.some, c.close_at-block.ensures.block)
+
+pub loop-next-preserved : goal.loop-next-preserved
+loop-next-preserved c =
+    let names = c.args.net.now.signals in
     let types = length c.args.net.now.types in
-    let block = c.of-block.result in
-    let within : first < length signals = omega (arith, c.requires.there, ap length c.signals-signals.ensures, length-map signals signal_view) in
-    let shown = shown_of_net c.args.net.now c.is_elaborated.ensures signals c.signals-signals.ensures first name within c.index-signals-first.is in
-    let names : take (0 + 1) (drop first (map signal_view signals)) ≡ signal_view name ∷ [] =
-    take_next signals first 0 first name within (omega arith) c.index-signals-first.is in
-    let count : 0 + 1 ≡ block.names = omega (arith, c.of-block.ensures.names) in (
-      omega (arith, c.of-block.ensures.names),
-      subst (λ k. IsBlockOf types block (take k (drop first (map signal_view signals)))) count
-          (subst (IsBlockOf types block) (sym names) (c.of-block.ensures.block types shown)),
-    )
-
-pub with-more-requires-clause-some : goal.with-more-requires-clause-some
-with-more-requires-clause-some c =
-    let shown = shown_of_net c.args.net.now c.is_elaborated.ensures c.signals-signals.result.now c.signals-signals.ensures c.loop-number.number c.index-signals-number.result c.loop-number-test.true c.index-signals-number.is in
-    omega (arith, shown.width.0)
-
-pub is_dense-requires : goal.is_dense-requires
-is_dense-requires c =
-    let signals = c.signals-signals.result.now in
-    let shown = shown_of_net c.args.net.now c.is_elaborated.ensures signals c.signals-signals.ensures c.loop-number.number c.index-signals-number.result c.loop-number-test.true c.index-signals-number.is in
-    let is = c.with-more.ensures.block (length c.args.net.now.types) (take c.loop-number.block.names (drop c.args.first (map signal_view signals))) shown c.loop-number.invariant.1 in
-    record { order = is.order }
-
-pub loop-number-preserved : goal.loop-number-preserved
-loop-number-preserved c =
-    let signals = c.signals-signals.result.now in
     let first = c.args.first in
-    let number = c.loop-number.number in
-    let name = c.index-signals-number.result in
-    let types = length c.args.net.now.types in
-    let before = c.loop-number.block.names in
-    let block = c.with-more.result in
-    let shown = shown_of_net c.args.net.now c.is_elaborated.ensures signals c.signals-signals.ensures number name c.loop-number-test.true c.index-signals-number.is in
-    let names = take_next signals first before number name c.loop-number-test.true c.loop-number.invariant.0 c.index-signals-number.is in
-    let count : before + 1 ≡ block.names = omega (arith, c.with-more.ensures.names) in (
-      omega (arith, c.with-more.ensures.names, c.loop-number.invariant.0),
-      subst (λ k. IsBlockOf types block (take k (drop first (map signal_view signals)))) count
-          (subst (IsBlockOf types block) (sym names) (c.with-more.ensures.block types (take before (drop first (map signal_view signals))) shown c.loop-number.invariant.1)),
+    let next = c.loop-next.next in
+    let before = c.loop-next.block in
+    let more = c.close_at-more.result in
+    let block = c.with-block.result in
+    let I = c.loop-next.invariant in
+    let within = ends_within types more next names I.1 c.close_at-more.ensures.block in
+    let further : take before.names (drop first names) ++ take more.names (drop next names) ≡ take (before.names + more.names) (drop first names) =
+    sym (take_further before.names more.names (drop first names)
+    ∙ ap (λ ns. take before.names (drop first names) ++ take more.names ns) (drop-drop before.names first names ∙ ap (λ n. drop n names) I.0)) in (
+      omega (arith, I.0, c.with-block.ensures.names),
+      within,
+      omega (arith, I.2, c.with-block.ensures.names),
+      subst (λ n. IsBlockOf types block (take n (drop first names))) (sym c.with-block.ensures.names)
+          (subst (IsBlockOf types block) further
+          (c.with-block.ensures.block types (take before.names (drop first names)) (take more.names (drop next names)) I.3 c.close_at-more.ensures.block)),
     )

@@ -1,72 +1,80 @@
-use Rattle.std.proofs.Common.{◌≡◌, ◌+◌, ◌||◌, length, map, take, ◌∙◌, subst, sym, ap, arith}
+use Rattle.std.proofs.Common.{◌≡◌, ◌+◌, ◌||◌, false, refl, length, map, take, ◌∙◌, subst, sym, ap}
 use Rattle.rtl_vcd.specs.Pages.{Passes}
-use Rattle.rtl_vcd.proofs.Pages.{Passes-held, Passes-append}
-use Rattle.rtl_net.specs.Nets.{signal_view}
-use Rattle.rtl_vcd.specs.Trace.{printed, are_some}
+use Rattle.rtl_vcd.proofs.Pages.{Passes-append}
+use Rattle.rtl_net.specs.Nets.{SignalView, signal_view}
+use Rattle.rtl_vcd.specs.Trace.{change, are_some}
 use Rattle.rtl_vcd.specs.Blocks.{changes_from, continued}
-use Rattle.std.proofs.lemmas.List.{length-map}
-use Rattle.rtl_vcd.proofs.Names.{shown_at}
-use Rattle.rtl_vcd.proofs.Ends.{ready_at}
-use Rattle.rtl_vcd.proofs.Stamps.{changes_same, changes_new, continued_more, continued_one, printed_is_some, or_some}
+use Rattle.rtl_vcd.proofs.Names.{shown_at, numbered_more_from}
+use Rattle.rtl_vcd.proofs.Ends.{ready_at, lies_at, name_there, with_name}
+use Rattle.rtl_vcd.proofs.Runs.{are_same}
+use Rattle.rtl_vcd.proofs.Stamps.{changes_same, continued_more, or_append}
 use Rattle.rtl_vcd.proofs.moment.push_changes.Goals as goal
 
-pub is_otherwise-requires-clause-before : goal.is_otherwise-requires-clause-before
-is_otherwise-requires-clause-before g c =
-    shown_at (length c.args.step.now.old.now) c.args.names.now c.loop-place.place c.index-names-place.result c.loop-place-test.true c.index-names-place.is c.requires.before
+pub keeps-requires-clause-before : goal.keeps-requires-clause-before
+keeps-requires-clause-before g c =
+    lies_at (length c.args.step.now.old.now) c.args.first (map signal_view c.args.names.now) c.args.runs.now c.loop-place.place c.index-runs-place.result c.loop-place-test.true
+    c.index-runs-place.is c.requires.runs c.requires.before
 
-pub is_otherwise-requires-clause-after : goal.is_otherwise-requires-clause-after
-is_otherwise-requires-clause-after g c =
-    shown_at (length c.args.step.now.new.now) c.args.names.now c.loop-place.place c.index-names-place.result c.loop-place-test.true c.index-names-place.is c.requires.after
+pub keeps-requires-clause-after : goal.keeps-requires-clause-after
+keeps-requires-clause-after g c =
+    lies_at (length c.args.step.now.new.now) c.args.first (map signal_view c.args.names.now) c.args.runs.now c.loop-place.place c.index-runs-place.result c.loop-place-test.true
+    c.index-runs-place.is c.requires.runs c.requires.after
 
-pub bounds-runs-place : goal.bounds-runs-place
-bounds-runs-place g c = omega (arith, c.requires.runs.as_many, length-map c.args.names.now signal_view, c.loop-place-test.true)
-
-pub is_otherwise-requires-clause-ready : goal.is_otherwise-requires-clause-ready
-is_otherwise-requires-clause-ready g c =
-    ready_at c.args.first c.args.names.now c.args.runs.now c.loop-place.place c.index-names-place.result c.index-runs-place.result c.loop-place-test.true
-    c.index-names-place.is c.index-runs-place.is c.requires.runs
-
-pub push_ready-requires-clause-shown : goal.push_ready-requires-clause-shown
-push_ready-requires-clause-shown g c =
-    shown_at (length c.args.step.now.new.now) c.args.names.now c.loop-place.place c.index-names-place.result c.loop-place-test.true c.index-names-place.is c.requires.after
-
-pub push_ready-requires-clause-ready : goal.push_ready-requires-clause-ready
-push_ready-requires-clause-ready g c =
-    ready_at c.args.first c.args.names.now c.args.runs.now c.loop-place.place c.index-names-place.result c.index-runs-place.result c.loop-place-test.true
-    c.index-names-place.is c.index-runs-place.is c.requires.runs
-
-pub loop-place-preserved-then-not-is_otherwise : goal.loop-place-preserved-then-not-is_otherwise
-loop-place-preserved-then-not-is_otherwise g c =
-    let same = changes_same c.args.first c.args.names.now c.loop-place.place c.index-names-place.result c.loop-place-test.true c.index-names-place.is
-    c.args.step.now.old.now c.args.step.now.new.now c.is_otherwise.result c.is_otherwise.ensures c.if-not-is_otherwise.true in
+pub loop-place-preserved-then-keeps : goal.loop-place-preserved-then-keeps
+loop-place-preserved-then-keeps g c =
+    let first = c.args.first in
+    let names = c.args.names.now in
+    let place = c.loop-place.place in
+    let there = name_there first names c.args.runs.now place c.loop-place-test.true c.requires.runs in
+    with_name names place there (λ s is.
+    let ready = ready_at first names c.args.runs.now place s c.index-runs-place.result there is c.index-runs-place.is c.requires.runs in
+    let same = changes_same first names place s there is c.args.step.now.old.now c.args.step.now.new.now false
+    (are_same (c.keeps.ensures c.if-keeps.true (first + place) (signal_view s) ready)) refl in
     subst (λ xs. Passes (g.W.Sink.state c.args.out.now) (g.W.Sink.state c.loop-place.out) c.args.page.now c.loop-place.page (continued c.args.is_printed c.args.step.now.time xs)
     × (c.loop-place.printed ≡ (c.args.is_printed || are_some xs)))
-    (sym same) c.loop-place.invariant
+    (sym same) c.loop-place.invariant)
+
+pub bounds-names-place : goal.bounds-names-place
+bounds-names-place g c = name_there c.args.first c.args.names.now c.args.runs.now c.loop-place.place c.loop-place-test.true c.requires.runs
+
+pub push_change-printed-requires-clause-before : goal.push_change-printed-requires-clause-before
+push_change-printed-requires-clause-before g c =
+    shown_at (length c.args.step.now.old.now) c.args.names.now c.loop-place.place c.index-names-place.result
+    (name_there c.args.first c.args.names.now c.args.runs.now c.loop-place.place c.loop-place-test.true c.requires.runs) c.index-names-place.is c.requires.before
+
+pub push_change-printed-requires-clause-after : goal.push_change-printed-requires-clause-after
+push_change-printed-requires-clause-after g c =
+    shown_at (length c.args.step.now.new.now) c.args.names.now c.loop-place.place c.index-names-place.result
+    (name_there c.args.first c.args.names.now c.args.runs.now c.loop-place.place c.loop-place-test.true c.requires.runs) c.index-names-place.is c.requires.after
+
+pub push_change-printed-requires-clause-ready : goal.push_change-printed-requires-clause-ready
+push_change-printed-requires-clause-ready g c =
+    ready_at c.args.first c.args.names.now c.args.runs.now c.loop-place.place c.index-names-place.result c.index-runs-place.result
+    (name_there c.args.first c.args.names.now c.args.runs.now c.loop-place.place c.loop-place-test.true c.requires.runs)
+    c.index-names-place.is c.index-runs-place.is c.requires.runs
 
 pub loop-place-preserved : goal.loop-place-preserved
 loop-place-preserved g c =
     let names = c.args.names.now in
     let place = c.loop-place.place in
     let name = signal_view c.index-names-place.result in
+    let old = c.args.step.now.old.now in
+    let new = c.args.step.now.new.now in
     let time = c.args.step.now.time in
     let first = g.W.Sink.state c.args.out.now in
     let before = g.W.Sink.state c.loop-place.out in
-    let after = g.W.Sink.state c.make_way.new.out in
+    let after = g.W.Sink.state c.push_change-printed.new.out in
     let start = c.args.page.now in
     let held = c.loop-place.page in
-    let way = c.make_way.new.page in
-    let holds = c.push_ready.new.page in
-    let earlier = changes_from c.args.first (map signal_view (take place names)) c.args.step.now.old.now c.args.step.now.new.now in
-    let line = printed (c.args.first + place) name c.args.step.now.new.now in
-    let some = printed_is_some (c.args.first + place) name c.args.step.now.new.now in
-    let more = changes_new c.args.first names place c.index-names-place.result c.loop-place-test.true c.index-names-place.is
-    c.args.step.now.old.now c.args.step.now.new.now c.is_otherwise.result c.is_otherwise.ensures c.if-not-is_otherwise.false in
-    let pushed = Passes-append _ _ _ _ _ _ _ _ c.make_way.ensures.text
-    (subst (λ h. Passes after after way h line) (sym c.push_ready.ensures) (Passes-held after way line)) in
-    let change = subst (λ b. Passes before after held holds (continued b time line)) c.loop-place.invariant.1
-    (subst (Passes before after held holds) (continued_one c.loop-place.printed time line some) pushed) in (
+    let holds = c.push_change-printed.new.page in
+    let earlier = changes_from c.args.first (map signal_view (take place names)) old new in
+    let one = change (c.args.first + place) name old new in
+    let there = name_there c.args.first names c.args.runs.now place c.loop-place-test.true c.requires.runs in
+    let more = numbered_more_from (λ k (s : SignalView). change k s old new) c.args.first names place c.index-names-place.result there c.index-names-place.is in
+    let pushed = subst (λ b. Passes before after held holds (continued b time one)) c.loop-place.invariant.1 c.push_change-printed.ensures.text in (
       subst (λ xs. Passes first after start holds (continued c.args.is_printed time xs)) (sym more)
-          (subst (Passes first after start holds) (sym (continued_more c.args.is_printed time earlier line))
-          (Passes-append _ _ _ _ _ _ _ _ c.loop-place.invariant.0 change)),
-      sym (ap (λ xs. c.args.is_printed || are_some xs) more ∙ or_some c.args.is_printed earlier line some),
+          (subst (Passes first after start holds) (sym (continued_more c.args.is_printed time earlier one))
+          (Passes-append _ _ _ _ _ _ _ _ c.loop-place.invariant.0 pushed)),
+      c.push_change-printed.ensures.printed ∙ ap (λ b. b || are_some one) c.loop-place.invariant.1 ∙ sym (or_append c.args.is_printed earlier one)
+          ∙ ap (λ xs. c.args.is_printed || are_some xs) (sym more),
     )

@@ -14,7 +14,7 @@ use Rattle.rtl_vcd.proofs.moment.push_moment.Goals as goal
 
 -- no block
 abbrev none : Block
-none = record { names = 0; least = 0; greatest = 0 }
+none = record { names = 0; least = 0; greatest = 0; is_compared = false }
 
 pub push_changes-is_printed-requires-clause-before : goal.push_changes-is_printed-requires-clause-before
 push_changes-is_printed-requires-clause-before g c =

@@ -10,7 +10,7 @@ pub run_of-requires : goal.run_of-requires
 run_of-requires c =
     let shown = shown_of_net c.args.net.now c.is_elaborated.ensures c.signals-signals.result.now c.signals-signals.ensures
     c.loop-number.number c.index-signals-number.result c.loop-number-test.true c.index-signals-number.is in
-    omega (arith, shown.width.0)
+    record { some = omega (arith, shown.width.0); most = omega (arith, shown.width.1) }
 
 pub loop-number-preserved : goal.loop-number-preserved
 loop-number-preserved c =

@@ -1,0 +1,63 @@
+-- What names print by their forms.
+use Rattle.std.proofs.Common.{◌≡◌, ℕ, ◌+◌, ◌-◌, ◌<◌, ◌≤◌, List, [], ◌∷◌, ◌++◌, length, map, take, drop, get_or, slice_index, refl, sym, ap, ◌∙◌, arith, drop-cons}
+use Rattle.std.specs.Prelude.{codes}
+use Rattle.std.specs.List.{range_with_len}
+use Rattle.std.proofs.lemmas.List.{length-map, length-take, get_or-take, get_or-drop}
+use Rattle.std.proofs.lemmas.Simd.{pick_l-range_with_len}
+use Rattle.rtl_net.specs.declared.signal.SignalKind.{SignalKind}
+use Rattle.rtl_net.specs.declared.signal.SignalKind.TheVariants.{One, Vector, Enumeration}
+use Rattle.rtl_net.specs.Nets.{SignalView}
+use Rattle.rtl_vcd.specs.declared.ready.Form.{Form}
+use Rattle.rtl_vcd.specs.declared.ready.Form.TheVariants.{Single, Several, Position}
+use Rattle.rtl_vcd.specs.declared.ready.Run.{Run}
+use Rattle.rtl_vcd.specs.Values.{code, character, binary, binary_digits, value_change}
+use Rattle.rtl_vcd.specs.Trace.{printed}
+use Rattle.rtl_vcd.specs.Ready.{form_of, beginning, behind, elements_as, elements}
+use Rattle.rtl_vcd.proofs.Runs.{behind_page}
+use Rattle.rtl_vcd.proofs.Binaries.{length-binary}
+
+-- nothing prints more characters than a vector
+pub elements_short : (form : Form) (first count : ℕ) (values : List ℕ) → ((digits : ℕ) → form ≡ Position digits → digits ≤ 64) → count ≤ 64
+    → length (elements_as form first count values) ≤ 64
+elements_short Single first count values few le = omega arith
+elements_short Several first count values few le = omega (arith, le, length-map (take count (drop first values)) character, length-take count (drop first values))
+elements_short (Position digits) first count values few le = omega (arith, few digits refl, length-binary digits (slice_index values first))
+
+one_taken : (first : ℕ) (values : List ℕ) → first < length values → take 1 (drop first values) ≡ slice_index values first ∷ []
+one_taken first values lt = ap (take 1) (drop-cons values first 0 lt)
+
+first_taken : (first count : ℕ) (values : List ℕ) → 0 < count → slice_index (take count (drop first values)) 0 ≡ slice_index values first
+first_taken first count values some =
+    let e : first + 0 ≡ first = omega arith in
+    get_or-take count (drop first values) 0 0 some ∙ get_or-drop first values 0 0 ∙ ap (λ n. get_or values n 0) e
+
+-- a line by its form
+line_as : (kind : SignalKind) (c : List ℕ) (first count : ℕ) (values : List ℕ) → 0 < count → (kind ≡ One → count ≡ 1) → first + count ≤ length values
+    → value_change kind c (take count (drop first values))
+    ≡ beginning (form_of kind) ++ elements_as (form_of kind) first count values ++ (behind (form_of kind) ++ c ++ codes "\n")
+line_as One c first count values some one there =
+    ap (λ n. map character (take n (drop first values)) ++ c ++ codes "\n") (one refl)
+    ∙ ap (λ vs. map character vs ++ c ++ codes "\n") (one_taken first values (omega (arith, there, some)))
+line_as (Vector left right) c first count values some one there =
+    behind_page (codes "b" ++ map character (take count (drop first values))) (codes " ") c (codes "\n")
+line_as (Enumeration literals) c first count values some one there =
+    ap (λ v. codes "b" ++ binary (binary_digits (literals - 1)) v ++ codes " " ++ c ++ codes "\n") (first_taken first count values some)
+    ∙ behind_page (codes "b" ++ binary (binary_digits (literals - 1)) (slice_index values first)) (codes " ") c (codes "\n")
+
+-- the line of a name whose nets stand one behind the other
+pub run_line : (k : ℕ) (s : SignalView) (r : Run) → 0 < r.count → s.nets ≡ range_with_len r.first r.count → r.form ≡ form_of s.kind → (s.kind ≡ One → r.count ≡ 1)
+    → take r.end.len r.end.bytes ≡ behind r.form ++ code k ++ codes "\n"
+    → (values : List ℕ) → r.first + r.count ≤ length values → printed k s values ≡ beginning r.form ++ elements r values ++ take r.end.len r.end.bytes
+run_line k s r some nets form one end values there =
+    let taken = ap (map (slice_index values)) nets ∙ pick_l-range_with_len 0 values r.first r.count there in
+    ap (value_change s.kind (code k)) taken
+    ∙ line_as s.kind (code k) r.first r.count values some one there
+    ∙ ap (λ f. beginning f ++ elements_as f r.first r.count values ++ (behind f ++ code k ++ codes "\n")) (sym form)
+    ∙ ap (λ t. beginning r.form ++ elements r values ++ t) (sym end)
+
+-- what is printed of one net alone
+pub alone_alike : (form : Form) (first count : ℕ) (old new : List ℕ) → (form ≡ Several → ⊥) → slice_index old first ≡ slice_index new first
+    → elements_as form first count old ≡ elements_as form first count new
+alone_alike Single first count old new other e = ap (λ v. character v ∷ []) e
+alone_alike Several first count old new other e = absurd (other refl)
+alone_alike (Position digits) first count old new other e = ap (binary digits) e
