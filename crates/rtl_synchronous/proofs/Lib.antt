@@ -7,6 +7,8 @@ pub mod Marking
 pub mod Taking
 pub mod Sweeping
 pub mod Together
+pub mod Replaced
+pub mod Awake
 pub mod Resting
 pub mod Changed
 pub mod Stepping

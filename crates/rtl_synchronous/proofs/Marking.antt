@@ -1,7 +1,7 @@
 -- Marks that follow the changes of nets.
 use Rattle.std.proofs.Common.{◌≡◌, ℕ, ◌+◌, ◌-◌, ◌<◌, ◌≤◌, Bool, true, false, List, [], length, get_or, set, refl, sym, ap, subst, ◌∙◌, arith, ◌⊎◌, inl, inr, Contains}
 use Rattle.std.proofs.lemmas.Bool.{cases_eq, cases_lt}
-use Rattle.std.proofs.lemmas.List.{get_or-set_same, get_or-set_other}
+use Rattle.std.proofs.lemmas.List.{get_or-set_other}
 use Rattle.rtl_kernel.specs.wakes.Woken.{AddsPlaces}
 use Rattle.rtl_kernel.specs.values.TwoValues.{IsWritten}
 use Rattle.rtl_synchronous.specs.Marks.{Marks, IsOfRun, Follows}
@@ -9,6 +9,9 @@ use Rattle.rtl_synchronous.specs.Marks.{Marks, IsOfRun, Follows}
 module _ (index : List (List ℕ)) where
   pub marks_none : (nets : ℕ → Type 0) (v : List ℕ) (m : List Bool) → Marks index nets v v m m
   marks_none nets v m = record { as_many = refl; kept = λ k h. h; followed = λ net k differs f. absurd (differs refl); no_other = λ k h. inl h }
+
+  pub marks_same : (nets : ℕ → Type 0) (v w : List ℕ) (m : List Bool) → ((n : ℕ) → get_or v n 0 ≡ get_or w n 0) → Marks index nets v w m m
+  marks_same nets v w m same = record { as_many = refl; kept = λ k h. h; followed = λ net k differs f. absurd (differs (same net)); no_other = λ k h. inl h }
 
   pub marks_then : (nets : ℕ → Type 0) (u v w : List ℕ) (a b c : List Bool) → Marks index nets u v a b → Marks index nets v w b c → Marks index nets u w a c
   marks_then nets u v w a b c A B = record {

@@ -13,6 +13,14 @@ IsDrivenByMarked net marked n =
 abbrev pub IsCombinationallyDriven : Netlist → (n : ℕ) → Type 0
 IsCombinationallyDriven net n = (p : ℕ) × (place : ℕ) × IsCombinational net p × HasPlace net p place × (target net p place ≡ n)
 
+-- Of the marked processes those that still are have run from the values before and v, and left these entries. The others would
+-- leave none.
+pub record HaveRun (net : Netlist) (before v : List ℕ) (marked still : List Bool) (entries : ℕ → List (Option ℕ)) : Type 0 where
+  pub fewer : (p : ℕ) → IsTrue (slice_index_or still p false) → IsTrue (slice_index_or marked p false)
+  pub ran : (p : ℕ) → IsTrue (slice_index_or still p false) → entries p ≡ (process net p).effect before v
+  pub asleep : (p place : ℕ) → IsTrue (slice_index_or marked p false) → slice_index_or still p false ≡ false
+      → slice_index_or ((process net p).effect before v) place None ≡ None
+
 -- The marked processes' entries, taken over together.
 pub record AllTakeOver (net : Netlist) (marked : List Bool) (entries : ℕ → List (Option ℕ)) (v w : List ℕ) : Type 0 where
   pub each_net : length w ≡ length v

@@ -13,32 +13,42 @@ ghost use Rattle.rtl_net.specs.Nets.{flat};
 ghost use Rattle.rtl_net.specs.Core.{core};
 ghost use Rattle.rtl_synchronous.specs.Kept.{HasCuts, MayRun};
 ghost use Rattle.rtl_synchronous.specs.Marks.{AreBelow, HasNoMark, Marks};
-ghost use Rattle.rtl_synchronous.specs.Steps.{AllTakeOver};
+ghost use Rattle.rtl_synchronous.specs.Scheduled.{AreEdges};
+ghost use Rattle.rtl_synchronous.specs.Steps.{AllTakeOver, HaveRun};
 
+use crate::awaited::{ClockEdge, is_asleep};
 use crate::running::{Row, run, take_over};
 use crate::schedule::Schedule;
 use rtl_eval::{Drives, Exec};
 use rtl_net::Net;
 
-/// Runs the marked processes. Nothing is taken over, so each of them reads what was there before any of them ran.
+/// Runs the marked processes, and takes the marks off those that would assign nothing since the edge that they act at isn't there.
+/// Nothing is taken over, so each of them reads what was there before any of them ran.
 pub fn run_marked<E: Exec>(
     net: &Net,
     bodies: &[E],
-    marked: &[bool],
+    edges: &[Option<ClockEdge>],
+    marked: &mut Vec<bool>,
     before: &[u8],
     values: &[u8],
     runs: &mut Vec<Drives>,
 )
     requires may { MayRun E.process E.types E.most net.now bodies.now runs.old.items }
+    requires edges { AreEdges (core net.now) edges.now }
     requires before { IsValuation (core net.now) before.now }
     requires values { IsValuation (core net.now) values.now }
-    requires each_process { length marked.now ≡ length net.now.processes }
+    requires each_process { length marked.old.items ≡ length net.now.processes }
     ensures may { MayRun E.process E.types E.most net.now bodies.now runs.new.items }
-    ensures ran { (p : ℕ) → IsTrue (slice_index_or marked.now p false) → (slice_index_or runs.new.items p no_outcome).entries ≡ (process (core net.now) p).effect before.now values.now }
+    ensures each_process { length marked.new.items ≡ length marked.old.items }
+    ensures ran { HaveRun (core net.now) before.now values.now marked.old.items marked.new.items (λ p. (slice_index_or runs.new.items p no_outcome).entries) }
 {
     for process in 0..marked.len() {
         if marked[process] {
-            run(net, bodies, process, before, values, runs);
+            if is_asleep(edges[process], before, values) {
+                marked[process] = false;
+            } else {
+                run(net, bodies, process, before, values, runs);
+            }
         }
     }
 }

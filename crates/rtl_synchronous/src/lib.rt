@@ -6,6 +6,7 @@
 //! `specs/Scheduled.antt`, `Marks.antt`, `Steps.antt` and `Kept.antt` say how its parts go together.
 #![tactic(auto)]
 
+mod awaited;
 mod clocked;
 mod initial;
 mod inputs;

@@ -5,7 +5,7 @@ ghost use Rattle.rtl_kernel.specs.values.TwoValues.{IsWritten as HasRun};
 ghost use Rattle.rtl_kernel.specs.wakes.Woken.{AddsPlaces, wakers_of};
 ghost use Rattle.rtl_synchronous.specs.Marks.{AreBelow, IsOfRun, Marks};
 
-use crate::slices::{differ, write};
+use crate::slices::replace;
 use rtl_net_layout::Groups;
 
 /// Marks these numbers.
@@ -31,8 +31,8 @@ pub fn mark_followers(groups: &Groups, values: &[u8], net: usize, value: u8, mar
     }
 }
 
-/// Gives nets that stand one behind the other in one group these values, and marks what is sensitive to them, if one is to get
-/// another value than it has.
+/// Gives nets that stand one behind the other in one group these values, and marks what is sensitive to them, if one gets another
+/// value than it has.
 pub fn set_run(
     groups: &Groups,
     first: usize,
@@ -48,8 +48,7 @@ pub fn set_run(
     ensures written { HasRun first given.now values.old.items values.new.items }
     ensures marks { Marks (wakers_of groups.now) (IsOfRun first (length given.now)) values.old.items values.new.items marks.old.items marks.new.items }
 {
-    if differ(values, first, given) {
-        write(values, first, given);
+    if replace(values, first, given) {
         mark(marks, groups.listed(groups.of_net()[first]));
     }
 }

@@ -6,8 +6,9 @@ ghost use Rattle.rtl_model.specs.simulation.Levels.{AreLevels};
 ghost use Rattle.rtl_kernel.specs.wakes.Woken.{wakers_of};
 ghost use Rattle.rtl_net.specs.Core.{core};
 ghost use Rattle.rtl_synchronous.specs.Kept.{HasCuts};
-ghost use Rattle.rtl_synchronous.specs.Scheduled.{IsSchedule, clocked_wakes, wakes_by_rank};
+ghost use Rattle.rtl_synchronous.specs.Scheduled.{AreEdges, IsSchedule, clocked_wakes, wakes_by_rank};
 
+use crate::awaited::{ClockEdge, edges_of};
 use crate::order::order_of;
 use crate::targets::target_lists;
 use rtl_net::Net;
@@ -15,13 +16,15 @@ use rtl_net_layout::{Cuts, Groups, Lists};
 use std::alloc::{AllocError, Global};
 
 /// The combinational processes in the order in which they are run, the ranks of those that are sensitive to each net, and the
-/// clocked processes that are; and the cuts of each process's drivers over nets that the same combinational ones are sensitive to.
+/// clocked processes that are; the cuts of each process's drivers over nets that the same combinational ones are sensitive to; and
+/// of each process the edge without which it assigns nothing, if it is clocked and has no reset.
 #[derive(Drop)]
 pub struct Schedule {
     pub order: Vec<usize>,
     pub readers: Groups,
     pub clocked: Groups,
     pub cuts: Cuts,
+    pub edges: Vec<Option<ClockEdge>>,
 }
 
 impl Schedule {
@@ -32,6 +35,7 @@ impl Schedule {
         ensures schedule { IfOk result (λ s. IsSchedule (core net.now) s.order.items (wakers_of s.readers) (wakers_of s.clocked)) }
         ensures each_reader { IfOk result (λ s. length (wakers_of s.readers) ≡ length net.now.types) }
         ensures cuts { IfOk result (HasCuts net.now) }
+        ensures edges { IfOk result (λ s. AreEdges (core net.now) s.edges.items) }
         ensures each_clocked { IfOk result (λ s. length (wakers_of s.clocked) ≡ length net.now.types) }
     {
         let order = order_of(alloc, levels)?;
@@ -42,11 +46,13 @@ impl Schedule {
         let clocked = Groups::new(alloc, &together, &by_process)?;
         let targets = target_lists(alloc, net.processes())?;
         let cuts = Cuts::new(alloc, readers.of_net(), &targets)?;
+        let edges = edges_of(alloc, net)?;
         Ok(Schedule {
             order,
             readers,
             clocked,
             cuts,
+            edges,
         })
     }
 }

@@ -1,22 +1,69 @@
 //! Runs of values.
 
-ghost use Rattle.std.specs.Prelude.{◌≡◌, ◌+◌, ◌<◌, ◌≤◌, ℕ, false, length, slice_index};
+ghost use Rattle.std.specs.Prelude.{◌≡◌, ◌+◌, ◌<◌, ◌≤◌, ℕ, false, not, length, slice_index, take};
+ghost use Rattle.std.specs.Str.{bytes_eq};
 ghost use Rattle.rtl_kernel.specs.values.TwoValues.{IsWritten};
 
-/// Writes these values over those from a place on.
-pub fn write(over: &mut [u8], first: usize, values: &[u8])
+use std::simd::prelude::*;
+
+/// Writes these values over those from a place on. Answers whether they differ.
+pub fn replace(over: &mut [u8], first: usize, values: &[u8]) -> bool
     requires { first + length values.now ≤ length over.old }
-    ensures { IsWritten first values.now over.old over.new }
+    ensures written { IsWritten first values.now over.old over.new }
+    ensures alike { result ≡ false → (k : ℕ) → k < length values.now → slice_index over.old (first + k) ≡ slice_index values.now k }
 {
     let end = first + values.len();
-    over[first..end].copy_from_slice(values);
+    replace_all(&mut over[first..end], values)
 }
 
-/// Whether these values differ from those from a place on.
-pub fn differ(from: &[u8], first: usize, values: &[u8]) -> bool
-    requires { first + length values.now ≤ length from.now }
-    ensures { result ≡ false → (k : ℕ) → k < length values.now → slice_index from.now (first + k) ≡ slice_index values.now k }
+/// Writes these values over as many others. Answers whether they differ.
+fn replace_all(over: &mut [u8], values: &[u8]) -> bool
+    requires { length over.old ≡ length values.now }
+    ensures written { over.new ≡ values.now }
+    ensures alike { result ≡ false → over.old ≡ values.now }
 {
-    let end = first + values.len();
-    &from[first..end] != values
+    let mut differ = false;
+    let many = replace_lanes::<16>(over, values, 0, &mut differ);
+    let more = replace_lanes::<8>(over, values, many, &mut differ);
+    let _all = replace_lanes::<1>(over, values, more, &mut differ);
+    differ
+}
+
+/// The same from a place on, so many at a time and as far as there are so many. Answers where it ends.
+fn replace_lanes<const LANES: usize>(
+    over: &mut [u8],
+    values: &[u8],
+    from: usize,
+    differ: &mut bool,
+) -> usize
+    requires lanes { 0 < LANES }
+    requires most { LANES ≤ 64 }
+    requires as_many { length over.old ≡ length values.now }
+    requires from { from ≤ length values.now }
+    requires before { take from over.old ≡ take from values.now }
+    ensures within { result ≤ length values.now }
+    ensures few { length values.now < result + LANES }
+    ensures as_many { length over.new ≡ length values.now }
+    ensures before { take result over.new ≡ take result values.now }
+    ensures alike { differ.new ≡ false → (differ.old ≡ false) × (over.old ≡ over.new) }
+{
+    let mut at = from;
+    while values.len() - at >= LANES {
+        let old = Simd::<u8, LANES>::from_slice(&over[at..]);
+        let new = Simd::<u8, LANES>::from_slice(&values[at..]);
+        *differ = *differ | are_different::<LANES>(old, new);
+        new.copy_to_slice(&mut over[at..]);
+        at += LANES;
+    }
+    at
+}
+
+/// Whether a lane of one is another than that of the other.
+fn are_different<const LANES: usize>(old: Simd<u8, LANES>, new: Simd<u8, LANES>) -> bool
+    requires most { LANES ≤ 64 }
+    requires old { length old ≡ LANES }
+    requires new { length new ≡ LANES }
+    ensures { result ≡ not (bytes_eq old.entry new.entry) }
+{
+    old.simd_ne(new).to_bitmask() != 0
 }

@@ -91,4 +91,5 @@ invariant_of-result g c =
           (c.come_to_rest.ensures.each_process ∙ ap length c.in_ok-woken.ensures ∙ length-map c.args.levels.now without_level ∙ V.each_process ∙ processes_many net)
           c.come_to_rest.ensures.none_dirty c.come_to_rest.ensures.none_woken),
       c.in_ok-schedule.ensures.cuts,
+      c.in_ok-schedule.ensures.edges,
     )

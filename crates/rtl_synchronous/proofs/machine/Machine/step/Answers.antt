@@ -32,6 +32,9 @@ come_to_rest-requires-clause-clean g c =
 pub come_to_rest-requires-clause-cuts : goal.come_to_rest-requires-clause-cuts
 come_to_rest-requires-clause-cuts g c = c.self.invariant.1
 
+pub come_to_rest-requires-clause-edges : goal.come_to_rest-requires-clause-edges
+come_to_rest-requires-clause-edges g c = c.self.invariant.2
+
 pub set_inputs-requires : goal.set_inputs-requires
 set_inputs-requires g c =
     let K = c.self.invariant.0 in
@@ -50,6 +53,7 @@ invariant_of-self g c =
           (c.come_to_rest.ensures.each_process ∙ c.take_inputs.ensures.woken.as_many ∙ K.each_process)
           c.come_to_rest.ensures.none_dirty c.come_to_rest.ensures.none_woken,
       c.self.invariant.1,
+      c.self.invariant.2,
     )
 
 pub returns-clause-step : goal.returns-clause-step
