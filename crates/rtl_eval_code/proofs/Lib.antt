@@ -15,3 +15,4 @@ pub mod Branches
 pub mod Alternatives
 pub mod Backwards
 pub mod Bodies
+pub mod Digits

@@ -6,3 +6,4 @@ pub mod Written
 pub mod Parts
 pub mod Codes
 pub mod Kept
+pub mod Summed

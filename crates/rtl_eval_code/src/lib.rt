@@ -12,6 +12,7 @@ mod instruction;
 mod judging;
 mod reckoning;
 mod running;
+mod summing;
 mod writer;
 
 pub use code::{Code, codes};
