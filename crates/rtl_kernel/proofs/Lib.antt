@@ -1,3 +1,4 @@
+pub mod Lanes
 pub mod Marks
 pub mod Runs
 pub mod Pieces

@@ -40,7 +40,7 @@ pub struct Kernel<'a, E: Exec> {
 }
 
 /// No number of delta cycles up to the limit leaves no driver active.
-#[derive(Clone, Copy, PartialEq, Eq, Debug)]
+#[derive(Clone, Copy)]
 pub struct NoSettling;
 
 impl<'a, E: Exec> Model for Kernel<'a, E> {

@@ -17,7 +17,7 @@ pub trait Pick {
 }
 
 /// The processes run in order of number.
-#[derive(Clone, Copy, Debug)]
+#[derive(Clone, Copy)]
 pub struct Forward;
 
 impl Pick for Forward {
@@ -29,7 +29,7 @@ impl Pick for Forward {
 }
 
 /// The processes run in the reverse of the order of number.
-#[derive(Clone, Copy, Debug)]
+#[derive(Clone, Copy)]
 pub struct Reverse;
 
 impl Pick for Reverse {

@@ -3,6 +3,8 @@
 ghost use Rattle.std.specs.Prelude.{◌≡◌, ◌+◌, ◌<◌, ◌≤◌, ℕ, false, length, slice_index};
 ghost use Rattle.rtl_kernel.specs.values.TwoValues.{IsWritten};
 
+use crate::comparing::are_other;
+
 /// Writes these values over those from a place on.
 pub fn write(over: &mut [u8], first: usize, values: &[u8])
     requires { first + length values.now ≤ length over.old }
@@ -18,5 +20,5 @@ pub fn differ(from: &[u8], first: usize, values: &[u8]) -> bool
     ensures { result ≡ false → (k : ℕ) → k < length values.now → slice_index from.now (first + k) ≡ slice_index values.now k }
 {
     let end = first + values.len();
-    &from[first..end] != values
+    are_other(&from[first..end], values)
 }

@@ -6,6 +6,7 @@ ghost use Rattle.rtl_model.specs.basics.Valuations.{has_event};
 ghost use Rattle.rtl_kernel.specs.kernel.Simulation.{changes_of, each_given};
 ghost use Rattle.rtl_kernel.specs.values.TwoValues.{AreChanged, CoverEvents, HasWritten, group_of};
 
+use crate::comparing::are_other;
 use crate::slices::write;
 use crate::worklist::Worklist;
 use rtl_net_layout::Groups;
@@ -96,7 +97,7 @@ impl Values {
     {
         let first = self.groups.first(group);
         let end = self.groups.end(group);
-        self.before[first..end] != self.current[first..end]
+        are_other(&self.before[first..end], &self.current[first..end])
     }
 
     /// Begins an update: the values before are those of now, so that no net has an event.

@@ -1,9 +1,7 @@
 use Rattle.std.proofs.Common.{◌≡◌, ℕ, ◌+◌, List, length, get_or, sym, ap, ◌∙◌, arith}
 use Rattle.std.specs.List.{between}
-use Rattle.std.proofs.lemmas.Bool.Decides.{Decides-eqb}
 use Rattle.std.proofs.lemmas.List.Edits.{get_or-between}
-use Rattle.std.proofs.lemmas.Slice.Eq.{slice_eq-Decides}
-use Rattle.std.proofs.Common.{refl}
+use Rattle.std.proofs.lemmas.Slice.Eq.{bytes_eq-Decides}
 use Rattle.rtl_kernel.proofs.Runs.{alike}
 use Rattle.rtl_kernel.proofs.slices.differ.Goals as goal
 
@@ -13,5 +11,5 @@ returns c same k l =
     let first = c.args.first in
     let values = c.args.values.now in
     let end = first + length values in
-    let eq : between first end from ≡ values = alike _ c.ne.result (slice_eq-Decides Decides-eqb (between first end from) values _ refl) c.ne.ensures same in
+    let eq : between first end from ≡ values = alike _ c.are_other.result (bytes_eq-Decides (between first end from) values) c.are_other.ensures same in
     sym (get_or-between from first end k 0 (omega (arith, l))) ∙ ap (λ (vs : List ℕ). get_or vs k 0) eq

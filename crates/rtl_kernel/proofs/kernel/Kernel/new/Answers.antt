@@ -1,7 +1,7 @@
 use Rattle.std.proofs.Common.{◌≡◌, ℕ, List, [], true, length, map, replicate, ap, sym, subst, ◌∙◌, arith}
 use Rattle.std.proofs.lemmas.Option.{slice_get_within}
 use Rattle.rtl_net_layout.specs.Cuts.{AreCutsOf}
-use Rattle.rtl_net_layout.specs.Groups.{Grouping, AreRuns}
+use Rattle.rtl_net_layout.specs.Groups.{Grouping}
 use Rattle.rtl_model.specs.bodies.Types.{nine_valued}
 use Rattle.rtl_net.specs.Nets.{flat}
 use Rattle.rtl_net.specs.declared.process.Process.{Process}
@@ -20,15 +20,15 @@ driver_cuts-requires g c =
     rw (c.processes-processes.ensures, c.of_net.ensures.value, c.in_ok-layout.ensures.as_many) (nets_there c.args.net.now c.is_elaborated.ensures.in_range)
 
 pub new-requires-clause-runs : goal.new-requires-clause-runs
-new-requires-clause-runs g c = subst (λ (h : Grouping). AreRuns h.of_net h.first) (sym c.layout.view_is) c.in_ok-layout.ensures.runs
+new-requires-clause-runs g c = c.in_ok-layout.ensures.runs
 
 pub new-requires-clause-each_group : goal.new-requires-clause-each_group
-new-requires-clause-each_group g c = subst (λ (h : Grouping). length h.listed ≡ length h.first) (sym c.layout.view_is) c.in_ok-layout.ensures.each_group
+new-requires-clause-each_group g c = c.in_ok-layout.ensures.each_group
 
 pub new-requires-clause-each_net : goal.new-requires-clause-each_net
 new-requires-clause-each_net g c =
     let R = c.is_elaborated.ensures.in_range in
-    let many = ap (λ (h : Grouping). length h.of_net) c.layout.view_is ∙ c.in_ok-layout.ensures.as_many in
+    let many = c.in_ok-layout.ensures.as_many in
     let codes = ap length (c.deref.ensures.value ∙ c.in_ok-starting_codes.ensures) in
     omega (arith, many, R.each_starts, codes)
 
@@ -45,7 +45,7 @@ invariant_of-result g c =
     let N = c.is_elaborated.ensures in
     let v = c.begin.new.self in
     let start : c.in_ok-values.values.current ≡ net.starts = ap (λ (v : TwoValues). v.current) c.in_ok-values.ensures ∙ c.deref.ensures.value ∙ c.in_ok-starting_codes.ensures in
-    let same : v.groups ≡ c.in_ok-layout.layout = ap (λ (v : TwoValues). v.groups) c.begin.ensures ∙ c.set_each.ensures.groups ∙ ap (λ (v : TwoValues). v.groups) c.in_ok-values.ensures ∙ c.layout.view_is in
+    let same : v.groups ≡ c.in_ok-layout.layout = ap (λ (v : TwoValues). v.groups) c.begin.ensures ∙ c.set_each.ensures.groups ∙ ap (λ (v : TwoValues). v.groups) c.in_ok-values.ensures in
     let cuts = rw (c.processes-processes.ensures, c.of_net.ensures.value) at c.in_ok-cuts.ensures in
     kept_started _ _ _ net c.args.bodies.now v c.in_ok-drivers.drivers c.in_ok-resumed.resumed c.args.initial.now
     N.in_range N.connected c.requires.bodies
