@@ -11,13 +11,22 @@ use slab::Slab;
 use std::alloc::Global;
 
 /// Changes with their times, each in the chain of its time modulo the number of chains.
-#[derive(Drop)]
 pub struct Chains {
     pub cells: Slab<Cell>,
     pub firsts: Vec<Option<usize>>,
     pub lasts: Vec<usize>,
     pub ghost chained: { IsChained cells firsts.items },
     pub ghost closed: { IsClosed cells firsts.items lasts.items },
+}
+
+impl Drop for Chains {
+    fn drop(self) {
+        let Chains {
+            cells: _,
+            firsts: _,
+            lasts: _,
+        } = self;
+    }
 }
 
 impl Chains {

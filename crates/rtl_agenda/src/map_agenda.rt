@@ -9,13 +9,23 @@ use std::alloc::Global;
 use std::collections::BTreeMap;
 
 /// An agenda that keeps its times in an ordered map.
-#[derive(Drop)]
 pub struct MapAgenda {
     alloc: Global,
     waiting: BTreeMap<u64, Vec<Change>>,
     last: Option<u64>,
     taken: Vec<Change>,
     ghost orderly: { IsOrderly (state_of waiting last taken) },
+}
+
+impl Drop for MapAgenda {
+    fn drop(self) {
+        let MapAgenda {
+            alloc: _,
+            waiting: _,
+            last: _,
+            taken: _,
+        } = self;
+    }
 }
 
 impl MapAgenda {

@@ -12,7 +12,6 @@ use crate::occupied::Occupied;
 use std::alloc::Global;
 
 /// An agenda that keeps its changes in a ring of slots: each stands in the slot of its time modulo their number.
-#[derive(Drop)]
 pub struct Wheel {
     chains: Chains,
     occupied: Occupied,
@@ -20,6 +19,17 @@ pub struct Wheel {
     taken: Vec<Change>,
     ghost wheel: { IsWheel chains.cells chains.firsts.items occupied.words.items (vec_capacity taken) },
     ghost orderly: { IsOrderly (turned_to chains.cells chains.firsts.items last taken.items) },
+}
+
+impl Drop for Wheel {
+    fn drop(self) {
+        let Wheel {
+            chains: _,
+            occupied: _,
+            last: _,
+            taken: _,
+        } = self;
+    }
 }
 
 impl Wheel {

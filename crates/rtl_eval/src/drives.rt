@@ -17,7 +17,6 @@ use vhdl_values::Vec9;
 /// is set back at each run; and what a run lays aside while it evaluates expressions.
 ///
 /// All memory is taken by `new`.
-#[derive(Drop)]
 pub struct Drives {
     marks: Vec<bool>,
     values: Vec<u8>,
@@ -27,6 +26,21 @@ pub struct Drives {
     room: usize,
     laid: Vec<Vec9>,
     bits: Vec<u8>,
+}
+
+impl Drop for Drives {
+    fn drop(self) {
+        let Drives {
+            marks: _,
+            values: _,
+            assigned: _,
+            starts: _,
+            variables: _,
+            room: _,
+            laid: _,
+            bits: _,
+        } = self;
+    }
 }
 
 impl Model for Drives {

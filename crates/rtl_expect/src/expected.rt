@@ -10,7 +10,7 @@ use crate::expectation::Expectation;
 use arrayvec::ArrayVec;
 
 /// What is expected of a net: the code of a value, or any.
-#[derive(Clone, Copy, Debug)]
+#[derive(Clone, Copy)]
 pub(crate) struct Wanted {
     pub(crate) net: usize,
     pub(crate) code: Option<u64>,

@@ -7,7 +7,7 @@ use std::alloc::{AllocError, AllocFailed};
 use thiserror::Error;
 
 /// What is wrong with a line of a file of expected values.
-#[derive(Clone, Copy, PartialEq, Eq, Debug, Error)]
+#[derive(Clone, Copy, Debug, Error)]
 pub enum ExpectProblem {
     /// No `at`, a wrong count of words, or no number where one has to stand.
     #[error("the line is not understood")]
@@ -62,7 +62,7 @@ impl ExpectProblem {
 }
 
 /// Why a file of expected values is refused. `line` counts from 1.
-#[derive(Clone, Copy, PartialEq, Eq, Debug, Error)]
+#[derive(Clone, Copy, Debug, Error)]
 pub enum ExpectFault {
     /// This is wrong with a line.
     #[error("{problem}, in line {line}")]

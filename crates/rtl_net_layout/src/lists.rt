@@ -7,11 +7,19 @@ use std::alloc::{AllocError, Global};
 use std::marker::Model;
 
 /// Lists that stand one behind the other in one row: however many they are, they take two allocations.
-#[derive(Drop)]
 pub struct Lists<T> {
     /// Where each list starts, and behind that where the last one ends.
     starts: Vec<usize>,
     items: Vec<T>,
+}
+
+impl<T: Drop> Drop for Lists<T> {
+    fn drop(self) {
+        let Lists {
+            starts: _,
+            items: _,
+        } = self;
+    }
 }
 
 impl<T> Model for Lists<T> {

@@ -8,7 +8,7 @@ use std::alloc::AllocError;
 use thiserror::Error;
 
 /// What a simulation came to.
-#[derive(Clone, Copy, PartialEq, Eq, Debug)]
+#[derive(Clone, Copy)]
 pub struct Summary {
     /// How many moments there were.
     pub moments: u64,
@@ -17,7 +17,7 @@ pub struct Summary {
 }
 
 /// Why a simulation did not come to its end.
-#[derive(Clone, Copy, PartialEq, Eq, Debug, Error)]
+#[derive(Clone, Copy, Debug, Error)]
 pub enum RunFault {
     /// A driver is still active after as many delta cycles as are allowed, at this time in ns.
     #[error("no settling at {time} ns")]

@@ -18,7 +18,7 @@ use rtl_stim_lines::Element;
 use vhdl_values::{Edge, edge};
 
 /// A data input that changes at an active edge of a clock, both by their nets, at a time in ns.
-#[derive(Clone, Copy, PartialEq, Eq, Debug)]
+#[derive(Clone, Copy)]
 pub struct Race {
     pub time: u64,
     pub input: usize,

@@ -7,7 +7,7 @@ use std::alloc::{AllocError, AllocFailed};
 use thiserror::Error;
 
 /// What is wrong with a line of a stimulus.
-#[derive(Clone, Copy, PartialEq, Eq, Debug, Error)]
+#[derive(Clone, Copy, Debug, Error)]
 pub enum StimProblem {
     /// An unknown word, a wrong count of words, no number where one has to stand, a half period of 0, or a
     /// second stop.
@@ -74,7 +74,7 @@ impl StimProblem {
 }
 
 /// Why a stimulus is refused. `line` counts from 1.
-#[derive(Clone, Copy, PartialEq, Eq, Debug, Error)]
+#[derive(Clone, Copy, Debug, Error)]
 pub enum StimFault {
     /// This is wrong with a line.
     #[error("{problem}, in line {line}")]

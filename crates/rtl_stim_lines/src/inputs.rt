@@ -10,14 +10,14 @@ use std::alloc::{AllocError, Global};
 use vhdl_values::Nine;
 
 /// An element of an in port: its net's number, and the value of its default.
-#[derive(Clone, Copy, Debug, PartialEq, Eq)]
+#[derive(Clone, Copy)]
 pub struct Element {
     pub net: usize,
     pub start: Nine,
 }
 
 /// An in port: whether it is a scalar, and its elements from the left.
-#[derive(Debug, Drop)]
+#[derive(Drop)]
 pub struct Input {
     pub is_scalar: bool,
     pub elements: Vec<Element>,

@@ -8,7 +8,7 @@ use rtl_sink::WriteFailed;
 use thiserror::Error;
 
 /// Why lines were not written whole.
-#[derive(Clone, Copy, PartialEq, Eq, Debug, Error)]
+#[derive(Clone, Copy, Debug, Error)]
 pub enum ListingFault {
     /// Memory for a name was refused.
     #[error("out of memory")]

@@ -9,7 +9,7 @@ use crate::request::Order;
 use std::alloc::{AllocError, Global};
 
 /// An option without a value.
-#[derive(Clone, Copy, PartialEq, Eq, Debug)]
+#[derive(Clone, Copy)]
 pub enum Flag {
     Event,
     Levels,

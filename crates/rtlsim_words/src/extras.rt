@@ -9,7 +9,7 @@ use crate::request::Request;
 use std::alloc::{AllocError, Global};
 
 /// What a command is given beside its request. The name of a file may be `@`, the standard input.
-#[derive(Debug, Drop)]
+#[derive(Drop)]
 pub struct Extras<'a> {
     /// The names of files whose texts stand before the source's, in order.
     pub with: Vec<&'a str>,
@@ -22,7 +22,7 @@ pub struct Extras<'a> {
 }
 
 /// What words say.
-#[derive(Debug, Drop)]
+#[derive(Drop)]
 pub struct Call<'a> {
     pub request: Request<'a>,
     pub extras: Extras<'a>,

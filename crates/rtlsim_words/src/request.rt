@@ -7,7 +7,7 @@ use std::alloc::{AllocError, AllocFailed};
 use thiserror::Error;
 
 /// In which order the resumed processes of a simulation cycle run.
-#[derive(Clone, Copy, PartialEq, Eq, Debug)]
+#[derive(Clone, Copy)]
 pub enum Order {
     /// By their numbers.
     Forward,
@@ -16,7 +16,7 @@ pub enum Order {
 }
 
 /// What is asked for. FILE or STIM may be `@`, the standard input.
-#[derive(Debug, Drop)]
+#[derive(Drop)]
 pub enum Request<'a> {
     /// Prints the outputs of a design under these inputs.
     Eval {

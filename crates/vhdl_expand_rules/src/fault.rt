@@ -7,7 +7,7 @@ use std::alloc::{AllocError, AllocFailed};
 use thiserror::Error;
 
 /// What is wrong with a design (IEEE 1076-2008, clause 14). They are numbered from 1 in this order.
-#[derive(Clone, Copy, PartialEq, Eq, Debug, Error)]
+#[derive(Clone, Copy, Debug, Error)]
 pub enum ElabProblem {
     /// No entity of that name, or no architecture for it or for an instance (14.2).
     #[error("no such entity with an architecture")]
@@ -50,7 +50,7 @@ pub enum ElabProblem {
 }
 
 /// Why a design is not elaborated. `at` is a byte of the source, counted from 0.
-#[derive(Clone, Copy, PartialEq, Eq, Debug, Error)]
+#[derive(Clone, Copy, Debug, Error)]
 pub enum ElabFault {
     /// This is wrong with what stands here.
     #[error("{problem}, at byte {at}")]

@@ -1,13 +1,17 @@
 //! The units of a file (IEEE 1076-2008, clause 13).
 
-ghost use Rattle.std.specs.Prelude.{◌≡◌, IfOk, IfErr, drop, map, option_map};
+ghost use Rattle.std.specs.Prelude.{◌≡◌, false, IfOk, IfErr, drop, length, map, None, option_map, replicate, Some};
 ghost use Rattle.std.specs.Vec.Iter.{into_iter_items};
-ghost use Rattle.vhdl_names.specs.steps.Architectures.{options_view};
+ghost use Rattle.vhdl_names.specs.Finding.{Finds};
+ghost use Rattle.vhdl_names.specs.steps.Architectures.{options_view, with_unit};
 ghost use Rattle.vhdl_names.specs.steps.Units as steps;
 ghost use Rattle.vhdl_names_interfaces.specs.Views.{entities_view, named_view};
-ghost use Rattle.vhdl_names_problems.specs.Broken.{Tells};
+ghost use Rattle.vhdl_names_labels.specs.Lists.{in_turn};
+ghost use Rattle.vhdl_names_labels.specs.Once.{names_view};
+ghost use Rattle.vhdl_names_problems.specs.Broken.{Tells, any_of};
 ghost use Rattle.vhdl_names_problems.specs.Files as broken;
-ghost use Rattle.vhdl_names_rules.specs.Files.{units_of};
+ghost use Rattle.vhdl_names_rules.specs.Files.{architectures_of as all_of, units_of};
+ghost use Rattle.vhdl_names_rules.specs.Visibility.{Name};
 ghost use Rattle.vhdl_names_rules.specs.Gives.{Gives};
 ghost use Rattle.vhdl_tree.specs.View.{file_view};
 ghost use Rattle.vhdl_names_units.specs.views.Units as views;
@@ -15,7 +19,7 @@ ghost use Rattle.vhdl_names_units.specs.views.Units as views;
 use crate::architectures::architectures_of;
 use crate::entities::entities_of;
 use crate::faults::earlier_of;
-use crate::outline::outline_of;
+use crate::outline::{Outline, outline_of};
 use crate::tables::{Given, table};
 use std::alloc::{AllocError, Global};
 use std::vec;
@@ -71,6 +75,41 @@ fn joined(
     Ok(all)
 }
 
+/// The architectures of a file with this outline and these entities.
+fn described(
+    alloc: Global,
+    file: &File,
+    outline: &Outline<'_>,
+    entities: &Entities<'_>,
+) -> Result<Vec<Option<Architecture>>, NameFault>
+    ensures told { Finds (any_of (broken.described (names_view outline.now.entities) (entities_view entities.now)) (all_of (file_view file.now).units)) result }
+    ensures given { ((n : Name) → broken.is_hidden (names_view outline.now.entities) (entities_view entities.now) n ≡ false) → IfOk result (λ v.
+        in_turn (with_unit (entities_view entities.now)) (replicate (length (entities_view entities.now)) None) (file_view file.now).units ≡ Some (options_view v)) }
+{
+    let formals = table(alloc, entities)?;
+    let given = Given {
+        names: &outline.entities,
+        entities,
+        formals: &formals,
+    };
+    architectures_of(alloc, file, &given)
+}
+
+/// The entities that are given of a file, and the architecture of each, if the file has one.
+fn read(
+    alloc: Global,
+    file: &File,
+) -> Result<(Entities<'_>, Vec<Option<Architecture>>), NameFault>
+    ensures given { Gives (λ p. steps.joined (entities_view p.0) (options_view p.1)) (units_of (file_view file.now)) result }
+    ensures told { IfErr result (Tells (broken.file (file_view file.now))) }
+{
+    let (outline, names) = outline_of(alloc, file);
+    let (entities, interfaces) = entities_of(alloc, file, &outline);
+    let architectures = described(alloc, file, &outline, &entities);
+    let architectures = earlier_of(names, earlier_of(interfaces, architectures))?;
+    Ok((entities, architectures))
+}
+
 /// The units of a file: its entities in order of the text, each with its architecture if it has one.
 /// No two entities have one name, no entity has two architectures, and each architecture stands
 /// after its entity; instances may be of any entity of the file. It fails at the first byte where a
@@ -82,16 +121,7 @@ pub fn analyse(alloc: Global, file: &File) -> Result<Units, NameFault>
     ensures given { Gives views.units_view (units_of (file_view file.now)) result }
     ensures told { IfErr result (Tells (broken.file (file_view file.now))) }
 {
-    let (outline, names) = outline_of(alloc, file);
-    let (entities, interfaces) = entities_of(alloc, file, &outline);
-    let formals = table(alloc, &entities)?;
-    let given = Given {
-        names: &outline.entities,
-        entities: &entities,
-        formals: &formals,
-    };
-    let architectures = architectures_of(alloc, file, &given);
-    let architectures = earlier_of(names, earlier_of(interfaces, architectures))?;
+    let (entities, architectures) = read(alloc, file)?;
     let entities = joined(alloc, entities, architectures)?;
     Ok(Units { entities })
 }

@@ -30,12 +30,8 @@ fn as_test(operand: Typed, at: usize) -> Result<Test, NameFault>
 {
     match operand {
         Typed::Truth(test) => Ok(test),
-        Typed::Elements(kind, vector) => match kind {
-            ElementKind::Element => Ok(Test::Holds(vector)),
-            _ => Err(NameProblem::TypeMismatch.at(at)),
-        },
-        Typed::Integer(_) => Err(NameProblem::TypeMismatch.at(at)),
-        Typed::Enumerated { .. } => Err(NameProblem::TypeMismatch.at(at)),
+        Typed::Elements(ElementKind::Element, vector) => Ok(Test::Holds(vector)),
+        _operand => Err(NameProblem::TypeMismatch.at(at)),
     }
 }
 
@@ -74,20 +70,31 @@ pub fn static_condition(alloc: Global, sight: &Sight, e: &Expr) -> Result<Static
 }
 
 /// The value of a kind that an operand is, which starts at byte `at`.
-fn as_elements(kind: ElementKind, operand: Typed, at: usize) -> Result<Given, NameFault>
+fn as_elements(
+    alloc: Global,
+    kind: ElementKind,
+    operand: Typed,
+    at: usize,
+) -> Result<Given, NameFault>
     ensures given { Gives given_view (rules.as_value (Elements kind) (typed_view operand)) result }
     ensures told { IfErr result (Tells (refused TypeMismatch at)) }
 {
     if let Typed::Elements(own, vector) = operand {
         if kind.fits(own) {
-            return Ok(Given::Single(Value::Elements(vector)));
+            return Ok(Given::Single(Box::new(alloc, Value::Elements(vector))?));
         }
     }
     Err(NameProblem::TypeMismatch.at(at))
 }
 
 /// The value of an enumeration that an operand is, which starts at byte `at`.
-fn as_state(number: usize, count: u16, operand: Typed, at: usize) -> Result<Given, NameFault>
+fn as_state(
+    alloc: Global,
+    number: usize,
+    count: u16,
+    operand: Typed,
+    at: usize,
+) -> Result<Given, NameFault>
     ensures given { Gives given_view (rules.as_value (Enumeration number count) (typed_view operand)) result }
     ensures told { IfErr result (Tells (refused TypeMismatch at)) }
 {
@@ -96,19 +103,24 @@ fn as_state(number: usize, count: u16, operand: Typed, at: usize) -> Result<Give
             number: own,
             value,
             ..
-        } if number == own => Ok(Given::Single(value)),
+        } if number == own => Ok(Given::Single(Box::new(alloc, value)?)),
         _ => Err(NameProblem::TypeMismatch.at(at)),
     }
 }
 
 /// The value of a type that an operand is, which starts at byte `at`.
-fn as_value(object_type: ObjectType, operand: Typed, at: usize) -> Result<Given, NameFault>
+fn as_value(
+    alloc: Global,
+    object_type: ObjectType,
+    operand: Typed,
+    at: usize,
+) -> Result<Given, NameFault>
     ensures given { Gives given_view (rules.as_value object_type (typed_view operand)) result }
     ensures told { IfErr result (Tells (refused TypeMismatch at)) }
 {
     match object_type {
-        ObjectType::Elements(kind) => as_elements(kind, operand, at),
-        ObjectType::Enumeration { number, count } => as_state(number, count, operand, at),
+        ObjectType::Elements(kind) => as_elements(alloc, kind, operand, at),
+        ObjectType::Enumeration { number, count } => as_state(alloc, number, count, operand, at),
     }
 }
 
@@ -116,6 +128,7 @@ fn as_value(object_type: ObjectType, operand: Typed, at: usize) -> Result<Given,
 /// `element_at`.
 #[tactic(auto, using(crate::proofs::Asking::no_filled))]
 fn as_filled(
+    alloc: Global,
     object_type: ObjectType,
     operand: Typed,
     at: usize,
@@ -127,7 +140,7 @@ fn as_filled(
     match object_type {
         ObjectType::Elements(kind) if kind.is_vector() => match operand {
             Typed::Elements(own, vector) => match own {
-                ElementKind::Element => Ok(Given::Filled(vector)),
+                ElementKind::Element => Ok(Given::Filled(Box::new(alloc, vector)?)),
                 _ => Err(NameProblem::TypeMismatch.at(element_at)),
             },
             Typed::Integer(_) => Err(NameProblem::TypeMismatch.at(element_at)),
@@ -153,11 +166,11 @@ pub fn given(
     match value {
         TreeValue::Expr(e) => {
             let operand = typed(alloc, sight, e)?;
-            as_value(object_type, operand, start(e))
+            as_value(alloc, object_type, operand, start(e))
         }
         TreeValue::Others { at, element } => {
             let operand = typed(alloc, sight, element)?;
-            as_filled(object_type, operand, *at, start(element))
+            as_filled(alloc, object_type, operand, *at, start(element))
         }
     }
 }

@@ -281,7 +281,7 @@ pub fn typed_suffix(alloc: Global, sight: &Sight, suffix: &Suffix) -> Result<Typ
         Suffix::Arguments(all) => arguments(alloc, sight, all),
         Suffix::Range(range) => {
             let range = static_range(alloc, sight, range)?;
-            Ok(TypedSuffix::Range(range))
+            Ok(TypedSuffix::Range(Box::new(alloc, range)?))
         }
     }
 }

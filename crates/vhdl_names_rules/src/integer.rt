@@ -10,7 +10,6 @@ use vhdl_tree::Direction;
 
 /// A static integer. Declarations are numbered from 0 within their class and unit.
 #[cycle(integer)]
-#[derive(Drop)]
 pub enum Static {
     Number(u32),
     Generic(usize),
@@ -25,29 +24,69 @@ pub enum Static {
     Chain(Box<StaticStart>, Vec<StaticLink>),
 }
 
+impl Drop for Static {
+    #[cycle(integer)]
+    fn drop(self) {
+        match self {
+            Static::Number(_) => {}
+            Static::Generic(_) => {}
+            Static::Constant(_) => {}
+            Static::GenerateParameter(_) => {}
+            Static::LoopParameter(_) => {}
+            Static::Negated(_, _) => {}
+            Static::Chain(_, _) => {}
+        }
+    }
+}
+
 /// An operator on static integers, the byte at which it starts, and its right operand.
 #[cycle(integer)]
-#[derive(Drop)]
 pub struct StaticLink {
     pub operator: Arithmetic,
     pub at: usize,
     pub operand: Static,
 }
 
+impl Drop for StaticLink {
+    #[cycle(integer)]
+    fn drop(self) {
+        let StaticLink {
+            operator: _,
+            at: _,
+            operand: _,
+        } = self;
+    }
+}
+
 /// A first operand and the first operator after it, with its right operand.
 #[cycle(integer)]
-#[derive(Drop)]
 pub struct StaticStart {
     pub first: Static,
     pub link: StaticLink,
 }
 
+impl Drop for StaticStart {
+    #[cycle(integer)]
+    fn drop(self) {
+        let StaticStart { first: _, link: _ } = self;
+    }
+}
+
 /// A range and its direction.
-#[derive(Drop)]
 pub struct StaticRange {
     pub left: Static,
     pub direction: Direction,
     pub right: Static,
+}
+
+impl Drop for StaticRange {
+    fn drop(self) {
+        let StaticRange {
+            left: _,
+            direction: _,
+            right: _,
+        } = self;
+    }
 }
 
 /// A first operand with its operator, and further operators with their right operands.

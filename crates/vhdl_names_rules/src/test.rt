@@ -3,6 +3,8 @@
 ghost use Rattle.std.specs.Prelude.{◌≡◌, false, IfOk, IfErr};
 ghost use Rattle.vhdl_names_rules.specs.Operators as table;
 ghost use Rattle.vhdl_names_rules.specs.units.Expressions as units;
+ghost use Rattle.vhdl_names_rules.specs.views.Integers.{static_view};
+ghost use Rattle.vhdl_names_rules.specs.views.Vectors.{value_view, vector_view};
 ghost use Rattle.vhdl_names_rules.specs.views.Tests.{static_test_view, static_start_view, static_test_chained, test_view, start_view, test_chained, is_fixed};
 
 use crate::integer::Static;
@@ -12,7 +14,6 @@ use vhdl_values::{Cmp, Edge, Logic};
 
 /// Truth over static integers alone. Offsets are the bytes at which an operator starts.
 #[cycle(static_test)]
-#[derive(Drop)]
 pub enum StaticTest {
     Compared(Cmp, usize, Static, Static),
     Not(Box<StaticTest>),
@@ -20,36 +21,61 @@ pub enum StaticTest {
     Chain(Box<StaticTestStart>, Vec<StaticTestLink>),
 }
 
+impl Drop for StaticTest {
+    #[cycle(static_test)]
+    fn drop(self) {
+        match self {
+            StaticTest::Compared(_, _, _, _) => {}
+            StaticTest::Not(_) => {}
+            StaticTest::Chain(_, _) => {}
+        }
+    }
+}
+
 /// A logical operator and its right operand.
 #[cycle(static_test)]
-#[derive(Drop)]
 pub struct StaticTestLink {
     pub operator: Logic,
     pub operand: StaticTest,
 }
 
+impl Drop for StaticTestLink {
+    #[cycle(static_test)]
+    fn drop(self) {
+        let StaticTestLink {
+            operator: _,
+            operand: _,
+        } = self;
+    }
+}
+
 /// A first operand and the first operator after it, with its right operand.
 #[cycle(static_test)]
-#[derive(Drop)]
 pub struct StaticTestStart {
     pub first: StaticTest,
     pub link: StaticTestLink,
 }
 
+impl Drop for StaticTestStart {
+    #[cycle(static_test)]
+    fn drop(self) {
+        let StaticTestStart { first: _, link: _ } = self;
+    }
+}
+
 /// A truth. Offsets are the bytes at which an operator or a call starts.
 #[cycle(truth)]
-#[derive(Drop)]
 pub enum Test {
     /// One element as a condition.
     Holds(Vector),
     Fixed(StaticTest),
     /// Equality of the values, and its negation.
-    Alike(usize, Value, Value),
-    Unlike(usize, Value, Value),
+    Alike(usize, Box<Value>, Box<Value>),
+    Unlike(usize, Box<Value>, Box<Value>),
     /// Of two numbers, of a number and a static integer, and of a static integer and a number.
-    Compared(Cmp, usize, Vector, Vector),
-    ComparedTo(Cmp, usize, Vector, Static),
-    ComparedWith(Cmp, usize, Static, Vector),
+    Compared(Cmp, usize, Box<Vector>, Box<Vector>),
+    ComparedTo(Cmp, usize, Box<Vector>, Static),
+    ComparedWith(Cmp, usize, Static, Box<Vector>),
     /// `rising_edge` and `falling_edge`, and `'event`.
     Edge(Edge, SignalPart),
     Event(SignalPart),
@@ -58,20 +84,54 @@ pub enum Test {
     Chain(Box<TestStart>, Vec<TestLink>),
 }
 
+impl Drop for Test {
+    #[cycle(truth)]
+    fn drop(self) {
+        match self {
+            Test::Holds(_) => {}
+            Test::Fixed(_) => {}
+            Test::Alike(_, _, _) => {}
+            Test::Unlike(_, _, _) => {}
+            Test::Compared(_, _, _, _) => {}
+            Test::ComparedTo(_, _, _, _) => {}
+            Test::ComparedWith(_, _, _, _) => {}
+            Test::Edge(_, _) => {}
+            Test::Event(_) => {}
+            Test::Not(_) => {}
+            Test::Chain(_, _) => {}
+        }
+    }
+}
+
 /// A logical operator and its right operand.
 #[cycle(truth)]
-#[derive(Drop)]
 pub struct TestLink {
     pub operator: Logic,
     pub operand: Test,
 }
 
+impl Drop for TestLink {
+    #[cycle(truth)]
+    fn drop(self) {
+        let TestLink {
+            operator: _,
+            operand: _,
+        } = self;
+    }
+}
+
 /// A first operand and the first operator after it, with its right operand.
 #[cycle(truth)]
-#[derive(Drop)]
 pub struct TestStart {
     pub first: Test,
     pub link: TestLink,
+}
+
+impl Drop for TestStart {
+    #[cycle(truth)]
+    fn drop(self) {
+        let TestStart { first: _, link: _ } = self;
+    }
 }
 
 /// A first operand with its operator, and further operators with their right operands.
@@ -175,6 +235,64 @@ impl StaticTest {
 }
 
 impl Test {
+    /// Equality of two values, by `=` at byte `at`. It takes the memory of two boxes, as `unlike` does.
+    pub fn alike(alloc: Global, at: usize, left: Value, right: Value) -> Result<Test, AllocError>
+        ensures { IfOk result (λ t. test_view t ≡ units.alike (value_view left) (value_view right)) }
+    {
+        let left = Box::new(alloc, left)?;
+        Ok(Test::Alike(at, left, Box::new(alloc, right)?))
+    }
+
+    /// Its negation, by `/=` at byte `at`.
+    pub fn unlike(alloc: Global, at: usize, left: Value, right: Value) -> Result<Test, AllocError>
+        ensures { IfOk result (λ t. test_view t ≡ units.unlike (value_view left) (value_view right)) }
+    {
+        let left = Box::new(alloc, left)?;
+        Ok(Test::Unlike(at, left, Box::new(alloc, right)?))
+    }
+
+    /// A relation of two numbers, by the operator at byte `at`. It takes the memory of two boxes.
+    pub fn compared(
+        alloc: Global,
+        comparison: Cmp,
+        at: usize,
+        left: Vector,
+        right: Vector,
+    ) -> Result<Test, AllocError>
+        ensures { IfOk result (λ t. test_view t ≡ units.Test.compared comparison (vector_view left) (vector_view right)) }
+    {
+        let left = Box::new(alloc, left)?;
+        Ok(Test::Compared(comparison, at, left, Box::new(alloc, right)?))
+    }
+
+    /// A relation of a number and a static integer. It takes the memory of a box, as `compared_with` does.
+    pub fn compared_to(
+        alloc: Global,
+        comparison: Cmp,
+        at: usize,
+        left: Vector,
+        right: Static,
+    ) -> Result<Test, AllocError>
+        ensures { IfOk result (λ t. test_view t ≡ units.compared_to comparison (vector_view left) (static_view right)) }
+    {
+        let left = Box::new(alloc, left)?;
+        Ok(Test::ComparedTo(comparison, at, left, right))
+    }
+
+    /// A relation of a static integer and a number.
+    pub fn compared_with(
+        alloc: Global,
+        comparison: Cmp,
+        at: usize,
+        left: Static,
+        right: Vector,
+    ) -> Result<Test, AllocError>
+        ensures { IfOk result (λ t. test_view t ≡ units.compared_with comparison (static_view left) (vector_view right)) }
+    {
+        let right = Box::new(alloc, right)?;
+        Ok(Test::ComparedWith(comparison, at, left, right))
+    }
+
     /// A logical operator with its right operand after this one, over signals.
     fn linked(self, alloc: Global, operator: Logic, operand: Test) -> Result<Test, AllocError>
         ensures { IfOk result (λ t. test_view t ≡ units.Test.both operator (test_view self) (test_view operand)) }

@@ -1,6 +1,8 @@
 //! Elements and vectors of the nine values, and values, as they are analysed.
 
-ghost use Rattle.std.specs.Prelude.{◌≡◌, IfOk};
+ghost use Rattle.std.specs.Prelude.{◌≡◌, IfErr, IfOk};
+ghost use Rattle.vhdl_names_rules.specs.declared.vector.SignalPart.{SignalPart};
+ghost use Rattle.vhdl_names_rules.specs.declared.vector.Vector.TheVariants as vectors;
 ghost use Rattle.vhdl_names_rules.specs.units.Expressions as units;
 ghost use Rattle.vhdl_names_rules.specs.views.Integers.{static_view};
 ghost use Rattle.vhdl_names_rules.specs.views.Vectors.{vector_view, start_view, linked, vector_chained};
@@ -18,25 +20,42 @@ pub enum Signal {
 }
 
 /// The whole of what is declared, one element of it, or a slice.
-#[derive(Drop)]
 pub enum Part {
     Whole,
     Element(Static),
-    Slice(StaticRange),
+    Slice(Box<StaticRange>),
+}
+
+impl Drop for Part {
+    fn drop(self) {
+        match self {
+            Part::Whole => {}
+            Part::Element(_) => {}
+            Part::Slice(_) => {}
+        }
+    }
 }
 
 /// A signal or port or a part of one, and the byte at which its name starts.
-#[derive(Drop)]
 pub struct SignalPart {
     pub at: usize,
     pub signal: Signal,
     pub part: Part,
 }
 
+impl Drop for SignalPart {
+    fn drop(self) {
+        let SignalPart {
+            at: _,
+            signal: _,
+            part: _,
+        } = self;
+    }
+}
+
 /// One element of the nine values, or a vector of them. Offsets are the bytes at which a name, a
 /// literal, a call or an operator starts.
 #[cycle(vector)]
-#[derive(Drop)]
 pub enum Vector {
     Signal(SignalPart),
     /// The variable of this number, or a part of it.
@@ -60,20 +79,54 @@ pub enum Vector {
     Counted(usize, Counted, Box<Vector>, Static),
 }
 
+impl Drop for Vector {
+    #[cycle(vector)]
+    fn drop(self) {
+        match self {
+            Vector::Signal(_) => {}
+            Vector::Variable(_, _, _) => {}
+            Vector::Constant(_, _, _) => {}
+            Vector::Character(_, _) => {}
+            Vector::EnclosedCharacter(_, _) => {}
+            Vector::Literal(_, _) => {}
+            Vector::Not(_, _) => {}
+            Vector::Chain(_, _) => {}
+            Vector::IntegerWith(_, _, _, _) => {}
+            Vector::Encoded(_, _, _) => {}
+            Vector::Counted(_, _, _, _) => {}
+        }
+    }
+}
+
 /// An operator on vectors, the byte at which it starts, and its right operand.
 #[cycle(vector)]
-#[derive(Drop)]
 pub enum VectorLink {
     Vector(VectorOperator, usize, Vector),
     Integer(Numeric, usize, Static),
 }
 
+impl Drop for VectorLink {
+    #[cycle(vector)]
+    fn drop(self) {
+        match self {
+            VectorLink::Vector(_, _, _) => {}
+            VectorLink::Integer(_, _, _) => {}
+        }
+    }
+}
+
 /// A first operand and the first operator after it, with its right operand.
 #[cycle(vector)]
-#[derive(Drop)]
 pub struct VectorStart {
     pub first: Vector,
     pub link: VectorLink,
+}
+
+impl Drop for VectorStart {
+    #[cycle(vector)]
+    fn drop(self) {
+        let VectorStart { first: _, link: _ } = self;
+    }
 }
 
 /// What is assigned, compared or selected by.
@@ -96,6 +149,18 @@ fn chain(start: Box<VectorStart>, links: Vec<VectorLink>) -> Vector
 }
 
 impl Vector {
+    /// The signal, or part of one, that it is, or else the vector as it was.
+    pub fn into_signal(self) -> Result<SignalPart, Vector>
+        ensures place { IfOk result (λ p. self ≡ vectors.Signal p) }
+        ensures same { IfErr result (λ v. v ≡ self) }
+        ensures other { IfErr result (λ _. (p : SignalPart) → self ≡ vectors.Signal p → ⊥) }
+    {
+        match self {
+            Vector::Signal(place) => Ok(place),
+            vector => Err(vector),
+        }
+    }
+
     /// This operand with one more operator and its right operand. A chain goes on, so that its
     /// height doesn't grow. It takes the memory of a list.
     pub fn with_link(self, alloc: Global, link: VectorLink) -> Result<Vector, AllocError>

@@ -271,13 +271,7 @@ pub(crate) fn but_last(
     let mut rest = alternatives;
     match rest.pop() {
         None => Err(NameProblem::LeftOut.at(at)),
-        Some(last) => {
-            let Alternative {
-                choices: _,
-                statements,
-            } = last;
-            Ok((rest, statements))
-        }
+        Some(last) => Ok((rest, last.into_statements())),
     }
 }
 

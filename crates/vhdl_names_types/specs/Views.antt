@@ -69,4 +69,4 @@ typed_view (t.Truth x) = o.truth (test_view x)
 abbrev pub typed_suffix_view : TypedSuffix → n.Suffix
 typed_suffix_view s.Plain = n.plain
 typed_suffix_view (s.Arguments b xs) = n.arguments b (map typed_view xs.items)
-typed_suffix_view (s.Range r) = n.range (range_view r)
+typed_suffix_view (s.Range r) = n.range (range_view r.value)

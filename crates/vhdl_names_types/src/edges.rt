@@ -30,9 +30,9 @@ fn as_place(vector: Vector) -> Result<SignalPart, Vector>
     ensures other { IfErr result (λ v. is_signal (vector_view vector) ≡ false) }
     ensures same { IfErr result (λ v. v ≡ vector) }
 {
-    match vector {
-        Vector::Signal(place) => Ok(place),
-        vector => Err(vector),
+    match vector.into_signal() {
+        Ok(place) => Ok(place),
+        Err(vector) => Err(vector),
     }
 }
 

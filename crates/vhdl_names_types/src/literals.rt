@@ -18,7 +18,7 @@ use vhdl_tree::Literal;
 use vhdl_values::Nine;
 
 /// The base of a bit string.
-#[derive(Clone, Copy, PartialEq, Eq)]
+#[derive(Clone, Copy)]
 enum Base {
     Hexadecimal,
     Octal,

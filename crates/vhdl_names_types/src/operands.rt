@@ -80,9 +80,9 @@ pub fn signed(alloc: Global, sign: Sign, operand: Typed, at: usize) -> Result<Ty
 fn closed_vector(vector: Vector) -> Vector
     ensures { vector_view result ≡ closed (vector_view vector) }
 {
-    match vector {
-        Vector::Character(at, value) => Vector::EnclosedCharacter(at, value),
-        vector => vector,
+    match &vector {
+        Vector::Character(at, value) => Vector::EnclosedCharacter(*at, *value),
+        _ => vector,
     }
 }
 

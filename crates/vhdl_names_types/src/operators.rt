@@ -13,7 +13,7 @@ ghost use Rattle.vhdl_names_types.specs.Steps.{same_by};
 ghost use Rattle.vhdl_names_types.specs.Views.{typed_view};
 
 use crate::types::Typed;
-use std::alloc::Global;
+use std::alloc::{AllocError, Global};
 use vhdl_names_rules::{
     Arithmetic, ElementKind, NameFault, NameProblem, Numeric, Static, StaticTest, Test, Value,
     Vector, VectorLink, VectorOperator,
@@ -178,17 +178,29 @@ fn integers_compared(comparison: Cmp, at: usize, left: Static, right: Static) ->
 }
 
 /// = or /= of two values, by equality.
-fn same(comparison: Cmp, at: usize, left: Value, right: Value) -> Typed
-    ensures { typed_view result ≡ table.truth (same_by comparison (value_view left) (value_view right)) }
+fn same(
+    alloc: Global,
+    comparison: Cmp,
+    at: usize,
+    left: Value,
+    right: Value,
+) -> Result<Typed, AllocError>
+    ensures { IfOk result (λ t. typed_view t ≡ table.truth (same_by comparison (value_view left) (value_view right))) }
 {
-    match comparison {
-        Cmp::Ne => Typed::Truth(Test::Unlike(at, left, right)),
-        _ => Typed::Truth(Test::Alike(at, left, right)),
-    }
+    let test = match comparison {
+        Cmp::Ne => Test::unlike(alloc, at, left, right)?,
+        _ => Test::alike(alloc, at, left, right)?,
+    };
+    Ok(Typed::Truth(test))
 }
 
 /// = and /=, at byte `at`.
-fn equality(at: usize, comparison: Cmp, operands: (Typed, Typed)) -> Result<Typed, NameFault>
+fn equality(
+    alloc: Global,
+    at: usize,
+    comparison: Cmp,
+    operands: (Typed, Typed),
+) -> Result<Typed, NameFault>
     ensures given { Gives typed_view (table.equality comparison (same_by comparison) (typed_view operands.0) (typed_view operands.1)) result }
     ensures told { IfErr result (Tells (refused TypeMismatch at)) }
 {
@@ -198,20 +210,28 @@ fn equality(at: usize, comparison: Cmp, operands: (Typed, Typed)) -> Result<Type
         Typed::Integer(s) => match right {
             Typed::Integer(t) => Ok(integers_compared(comparison, at, s, t)),
             Typed::Elements(ElementKind::Unsigned, y) => {
-                Ok(Typed::Truth(Test::ComparedWith(comparison, at, s, y)))
+                Ok(Typed::Truth(Test::compared_with(alloc, comparison, at, s, y)?))
             }
             _right => Err(problem.at(at)),
         },
         Typed::Elements(j, x) => match right {
             Typed::Elements(k, y) => match j.common(k) {
                 None => Err(problem.at(at)),
-                Some(ElementKind::Unsigned) => Ok(Typed::Truth(Test::Compared(
-                    comparison, at, x, y,
-                ))),
-                Some(_) => Ok(same(comparison, at, Value::Elements(x), Value::Elements(y))),
+                Some(ElementKind::Unsigned) => {
+                    Ok(Typed::Truth(Test::compared(alloc, comparison, at, x, y)?))
+                }
+                Some(_) => Ok(same(
+                    alloc,
+                    comparison,
+                    at,
+                    Value::Elements(x),
+                    Value::Elements(y),
+                )?),
             },
             Typed::Integer(t) => match j {
-                ElementKind::Unsigned => Ok(Typed::Truth(Test::ComparedTo(comparison, at, x, t))),
+                ElementKind::Unsigned => {
+                    Ok(Typed::Truth(Test::compared_to(alloc, comparison, at, x, t)?))
+                }
                 _ => Err(problem.at(at)),
             },
             _right => Err(problem.at(at)),
@@ -221,7 +241,7 @@ fn equality(at: usize, comparison: Cmp, operands: (Typed, Typed)) -> Result<Type
                 number: other,
                 value: beside,
                 ..
-            } if number == other => Ok(same(comparison, at, value, beside)),
+            } if number == other => Ok(same(alloc, comparison, at, value, beside)?),
             _right => Err(problem.at(at)),
         },
         _left => Err(problem.at(at)),
@@ -252,6 +272,7 @@ fn unordered(operands: &(Typed, Typed)) -> NameProblem
 
 /// < <= > >=, at byte `at`; where the operands are no numbers, there is this problem.
 fn ordered(
+    alloc: Global,
     numbers: bool,
     at: usize,
     comparison: Cmp,
@@ -267,18 +288,18 @@ fn ordered(
             Typed::Integer(t) => Ok(integers_compared(comparison, at, s, t)),
             Typed::Elements(k, y) => {
                 numeric(numbers, k.is_number(), problem, at)?;
-                Ok(Typed::Truth(Test::ComparedWith(comparison, at, s, y)))
+                Ok(Typed::Truth(Test::compared_with(alloc, comparison, at, s, y)?))
             }
             _right => Err(problem.at(at)),
         },
         Typed::Elements(j, x) => match right {
             Typed::Elements(k, y) => {
                 numeric(numbers, j.is_number() && k.is_number(), problem, at)?;
-                Ok(Typed::Truth(Test::Compared(comparison, at, x, y)))
+                Ok(Typed::Truth(Test::compared(alloc, comparison, at, x, y)?))
             }
             Typed::Integer(t) => {
                 numeric(numbers, j.is_number(), problem, at)?;
-                Ok(Typed::Truth(Test::ComparedTo(comparison, at, x, t)))
+                Ok(Typed::Truth(Test::compared_to(alloc, comparison, at, x, t)?))
             }
             _right => Err(problem.at(at)),
         },
@@ -288,6 +309,7 @@ fn ordered(
 
 /// < <= > >=, at byte `at`.
 fn ordering(
+    alloc: Global,
     numbers: bool,
     at: usize,
     comparison: Cmp,
@@ -297,7 +319,7 @@ fn ordering(
     ensures told { IfErr result (Tells (refused (order_problem (typed_view operands.0) (typed_view operands.1)) at)) }
 {
     let problem = unordered(&operands);
-    ordered(numbers, at, comparison, problem, operands)
+    ordered(alloc, numbers, at, comparison, problem, operands)
 }
 
 /// A binary operator, at byte `at`, on typed operands; `numbers` says whether the operators of
@@ -321,12 +343,12 @@ pub fn operated(
         Operator::Xnor => logical(alloc, at, Logic::Xnor, operands),
         Operator::Nand => logical(alloc, at, Logic::Nand, operands),
         Operator::Nor => logical(alloc, at, Logic::Nor, operands),
-        Operator::Equal => equality(at, Cmp::Eq, operands),
-        Operator::NotEqual => equality(at, Cmp::Ne, operands),
-        Operator::Less => ordering(numbers, at, Cmp::Lt, operands),
-        Operator::LessEqual => ordering(numbers, at, Cmp::Le, operands),
-        Operator::Greater => ordering(numbers, at, Cmp::Gt, operands),
-        Operator::GreaterEqual => ordering(numbers, at, Cmp::Ge, operands),
+        Operator::Equal => equality(alloc, at, Cmp::Eq, operands),
+        Operator::NotEqual => equality(alloc, at, Cmp::Ne, operands),
+        Operator::Less => ordering(alloc, numbers, at, Cmp::Lt, operands),
+        Operator::LessEqual => ordering(alloc, numbers, at, Cmp::Le, operands),
+        Operator::Greater => ordering(alloc, numbers, at, Cmp::Gt, operands),
+        Operator::GreaterEqual => ordering(alloc, numbers, at, Cmp::Ge, operands),
         Operator::Add => arithmetic(alloc, numbers, at, Arithmetic::Add, Numeric::Add, operands),
         Operator::Subtract => {
             let by = Numeric::Subtract;

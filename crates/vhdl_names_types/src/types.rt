@@ -22,5 +22,5 @@ pub enum TypedSuffix {
     Plain,
     /// Whether it is one name alone, and what is there.
     Arguments(bool, Vec<Typed>),
-    Range(StaticRange),
+    Range(Box<StaticRange>),
 }

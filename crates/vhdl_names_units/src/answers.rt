@@ -5,17 +5,33 @@ use vhdl_tree::Mode;
 use vhdl_values::Nine;
 
 /// What is assigned: a value, or `(others => e)`, one element for each of the target's.
-#[derive(Drop)]
 pub enum Given {
-    Single(Value),
-    Filled(Vector),
+    Single(Box<Value>),
+    Filled(Box<Vector>),
+}
+
+impl Drop for Given {
+    fn drop(self) {
+        match self {
+            Given::Single(_) => {}
+            Given::Filled(_) => {}
+        }
+    }
 }
 
 /// A choice of a case: the values of a literal, or an enumeration's literal by its position.
-#[derive(Drop)]
 pub enum Choice {
     Values(Vec<Nine>),
     Position(u8),
+}
+
+impl Drop for Choice {
+    fn drop(self) {
+        match self {
+            Choice::Values(_) => {}
+            Choice::Position(_) => {}
+        }
+    }
 }
 
 /// A signal, port, or part of one, with its mode if it is a port, and its type.

@@ -9,7 +9,6 @@ use vhdl_names_rules::{SignalPart, Static, StaticRange, StaticTest};
 use vhdl_tree::Identifier;
 
 /// What resumes a process.
-#[derive(Drop)]
 pub enum Sensitivity {
     Listed(Vec<SignalPart>),
     /// `( all )`.
@@ -18,8 +17,17 @@ pub enum Sensitivity {
     AsRead,
 }
 
+impl Drop for Sensitivity {
+    fn drop(self) {
+        match self {
+            Sensitivity::Listed(_) => {}
+            Sensitivity::All => {}
+            Sensitivity::AsRead => {}
+        }
+    }
+}
+
 /// A process or a concurrent assignment, and the byte at which it starts.
-#[derive(Drop)]
 pub struct Process {
     pub at: usize,
     pub label: Option<Identifier>,
@@ -28,9 +36,20 @@ pub struct Process {
     pub statements: Vec<Statement>,
 }
 
+impl Drop for Process {
+    fn drop(self) {
+        let Process {
+            at: _,
+            label: _,
+            variables: _,
+            sensitivity: _,
+            statements: _,
+        } = self;
+    }
+}
+
 /// An instance of the unit of this number: each generic's actual, and each port's. None stands
 /// where an actual is open or not associated.
-#[derive(Drop)]
 pub struct Instance {
     pub label: Identifier,
     pub unit: usize,
@@ -38,30 +57,70 @@ pub struct Instance {
     pub ports: Vec<Option<SignalPart>>,
 }
 
+impl Drop for Instance {
+    fn drop(self) {
+        let Instance {
+            label: _,
+            unit: _,
+            generics: _,
+            ports: _,
+        } = self;
+    }
+}
+
 /// A concurrent statement.
 #[cycle(concurrent)]
-#[derive(Drop)]
 pub enum Concurrent {
     Process(Process),
     Instance(Instance),
     Generate(Generate),
 }
 
+impl Drop for Concurrent {
+    #[cycle(concurrent)]
+    fn drop(self) {
+        match self {
+            Concurrent::Process(_) => {}
+            Concurrent::Instance(_) => {}
+            Concurrent::Generate(_) => {}
+        }
+    }
+}
+
 /// What a generate goes by.
-#[derive(Drop)]
 pub enum Scheme {
     For(StaticRange),
     If(StaticTest),
 }
 
+impl Drop for Scheme {
+    fn drop(self) {
+        match self {
+            Scheme::For(_) => {}
+            Scheme::If(_) => {}
+        }
+    }
+}
+
 /// A generate, and the byte at which its scheme starts.
 #[cycle(concurrent)]
-#[derive(Drop)]
 pub struct Generate {
     pub label: Identifier,
     pub at: usize,
     pub scheme: Scheme,
     pub statements: Vec<Concurrent>,
+}
+
+impl Drop for Generate {
+    #[cycle(concurrent)]
+    fn drop(self) {
+        let Generate {
+            label: _,
+            at: _,
+            scheme: _,
+            statements: _,
+        } = self;
+    }
 }
 
 impl Concurrent {

@@ -6,16 +6,24 @@ use vhdl_names_rules::{IntegerType, Static};
 use vhdl_tree::{Identifier, Mode};
 
 /// Generics of one declaration.
-#[derive(Drop)]
 pub struct Generics {
     pub names: Vec<Identifier>,
     pub integer_type: IntegerType,
     pub default: Option<Static>,
 }
 
+impl Drop for Generics {
+    fn drop(self) {
+        let Generics {
+            names: _,
+            integer_type: _,
+            default: _,
+        } = self;
+    }
+}
+
 /// Signals, variables or ports of one declaration. `is_resolved` says whether several sources of an
 /// element are resolved; a variable has none.
-#[derive(Drop)]
 pub struct Objects {
     pub names: Vec<Identifier>,
     pub form: Form,
@@ -23,15 +31,33 @@ pub struct Objects {
     pub default: Option<Fixed>,
 }
 
+impl Drop for Objects {
+    fn drop(self) {
+        let Objects {
+            names: _,
+            form: _,
+            is_resolved: _,
+            default: _,
+        } = self;
+    }
+}
+
 /// Ports of one declaration.
-#[derive(Drop)]
 pub struct Ports {
     pub mode: Mode,
     pub objects: Objects,
 }
 
+impl Drop for Ports {
+    fn drop(self) {
+        let Ports {
+            mode: _,
+            objects: _,
+        } = self;
+    }
+}
+
 /// A declaration of an architecture that declares objects.
-#[derive(Drop)]
 pub enum Declaration {
     /// Constants of a type of integers.
     Integers {
@@ -46,4 +72,22 @@ pub enum Declaration {
         value: Fixed,
     },
     Signals(Objects),
+}
+
+impl Drop for Declaration {
+    fn drop(self) {
+        match self {
+            Declaration::Integers {
+                names: _,
+                integer_type: _,
+                value: _,
+            } => {}
+            Declaration::Constants {
+                names: _,
+                form: _,
+                value: _,
+            } => {}
+            Declaration::Signals(_) => {}
+        }
+    }
 }

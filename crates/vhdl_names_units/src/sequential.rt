@@ -13,7 +13,6 @@ use vhdl_names_rules::{Part, SignalPart, StaticRange, Test, Value};
 
 /// A sequential statement.
 #[cycle(statement)]
-#[derive(Drop)]
 pub enum Statement {
     Null,
     /// To a signal (10.5).
@@ -33,27 +32,67 @@ pub enum Statement {
     Loop(Loop),
 }
 
+impl Drop for Statement {
+    #[cycle(statement)]
+    fn drop(self) {
+        match self {
+            Statement::Null => {}
+            Statement::Assign {
+                target: _,
+                value: _,
+            } => {}
+            Statement::Set {
+                at: _,
+                variable: _,
+                part: _,
+                value: _,
+            } => {}
+            Statement::If(_) => {}
+            Statement::Case(_) => {}
+            Statement::Loop(_) => {}
+        }
+    }
+}
+
 /// An if statement, and the byte at which it starts.
 #[cycle(statement)]
-#[derive(Drop)]
 pub struct If {
     pub at: usize,
     pub branches: Vec<Branch>,
     pub otherwise: Option<Vec<Statement>>,
 }
 
+impl Drop for If {
+    #[cycle(statement)]
+    fn drop(self) {
+        let If {
+            at: _,
+            branches: _,
+            otherwise: _,
+        } = self;
+    }
+}
+
 /// A condition, and the statements that it guards.
 #[cycle(statement)]
-#[derive(Drop)]
 pub struct Branch {
     pub condition: Test,
     pub statements: Vec<Statement>,
 }
 
+impl Drop for Branch {
+    #[cycle(statement)]
+    fn drop(self) {
+        let Branch {
+            condition: _,
+            statements: _,
+        } = self;
+    }
+}
+
 /// A case statement, and the byte at which it starts. A case that names every literal of an
 /// enumeration and has no `others` does its last alternative there.
 #[cycle(statement)]
-#[derive(Drop)]
 pub struct Case {
     pub at: usize,
     pub selector: Value,
@@ -61,22 +100,53 @@ pub struct Case {
     pub others: Vec<Statement>,
 }
 
+impl Drop for Case {
+    #[cycle(statement)]
+    fn drop(self) {
+        let Case {
+            at: _,
+            selector: _,
+            alternatives: _,
+            others: _,
+        } = self;
+    }
+}
+
 /// Choices, and the statements that they guard.
 #[cycle(statement)]
-#[derive(Drop)]
 pub struct Alternative {
     pub choices: Vec<Choice>,
     pub statements: Vec<Statement>,
 }
 
+impl Drop for Alternative {
+    #[cycle(statement)]
+    fn drop(self) {
+        let Alternative {
+            choices: _,
+            statements: _,
+        } = self;
+    }
+}
+
 /// A for loop, and the byte at which it starts. Its parameter is the loop parameter with as many
 /// others round it as it has loops.
 #[cycle(statement)]
-#[derive(Drop)]
 pub struct Loop {
     pub at: usize,
     pub range: StaticRange,
     pub statements: Vec<Statement>,
+}
+
+impl Drop for Loop {
+    #[cycle(statement)]
+    fn drop(self) {
+        let Loop {
+            at: _,
+            range: _,
+            statements: _,
+        } = self;
+    }
 }
 
 impl Branch {
@@ -147,5 +217,18 @@ impl Statement {
             range,
             statements,
         })
+    }
+}
+
+impl Alternative {
+    /// The statements that the choices guard.
+    pub fn into_statements(self) -> Vec<Statement>
+        ensures { result ≡ self.statements }
+    {
+        let Alternative {
+            choices: _,
+            statements,
+        } = self;
+        statements
     }
 }

@@ -5,15 +5,23 @@ use crate::declaration::{Declaration, Generics, Ports};
 use vhdl_tree::Identifier;
 
 /// An architecture.
-#[derive(Drop)]
 pub struct Architecture {
     pub name: Identifier,
     pub declarations: Vec<Declaration>,
     pub statements: Vec<Concurrent>,
 }
 
+impl Drop for Architecture {
+    fn drop(self) {
+        let Architecture {
+            name: _,
+            declarations: _,
+            statements: _,
+        } = self;
+    }
+}
+
 /// An entity, and its architecture if the file has one.
-#[derive(Drop)]
 pub struct Entity {
     pub name: Identifier,
     pub generics: Vec<Generics>,
@@ -21,8 +29,24 @@ pub struct Entity {
     pub architecture: Option<Architecture>,
 }
 
+impl Drop for Entity {
+    fn drop(self) {
+        let Entity {
+            name: _,
+            generics: _,
+            ports: _,
+            architecture: _,
+        } = self;
+    }
+}
+
 /// The entities of a file in order of the text. Instances speak of one by its place here.
-#[derive(Drop)]
 pub struct Units {
     pub entities: Vec<Entity>,
+}
+
+impl Drop for Units {
+    fn drop(self) {
+        let Units { entities: _ } = self;
+    }
 }

@@ -1,5 +1,5 @@
 -- The plainest concurrent statements, and that each takes a token at least.
-use Rattle.std.proofs.Common.{◌≡◌, ℕ, ◌≤◌, false, List, [], ◌∷◌, ◌++◌, length, length-append, Option, Some, None, refl, arith}
+use Rattle.std.proofs.Common.{ℕ, ◌≤◌, false, [], ◌∷◌, ◌++◌, length, length-append, Option, Some, None, refl, arith}
 use Rattle.vhdl_lexer.specs.declared.token.TokenKind.TheVariants as k
 use Rattle.vhdl_tree.specs.Tree.{Ident, plain, single, Concurrent, for_each, if_holds, assignment, selected, process, instance, generated, no_concurrents}
 use Rattle.vhdl_tree.specs.Pieces.{some, one_at, word_at, spell_option}

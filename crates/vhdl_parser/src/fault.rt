@@ -8,7 +8,7 @@ use thiserror::Error;
 /// Why tokens are no file. `at` is a byte of the source, counted from 0, and never above the
 /// source's length: where the token starts at which the reading stopped, or the source's length
 /// where it stopped behind the last token.
-#[derive(Clone, Copy, Debug, PartialEq, Eq, Error)]
+#[derive(Clone, Copy, Debug, Error)]
 pub enum SyntaxFault {
     /// No file goes on with this token.
     #[error("nothing that the grammar allows begins here, at byte {at}")]

@@ -10,7 +10,7 @@ use vhdl_names_rules::NameFault;
 use vhdl_parser::SyntaxFault;
 
 /// Why a source has no netlist with this top, by the first layer that refuses it. A layer's want of memory is `NoMemory`.
-#[derive(Clone, Copy, PartialEq, Eq, Debug, Error)]
+#[derive(Clone, Copy, Debug, Error)]
 pub enum SourceFault {
     /// The source has no tokens.
     #[error("lexer: {0}")]

@@ -8,15 +8,23 @@ use crate::expression::{Choice, Expr, Identifier, Name, Range, Value};
 
 /// A sequential statement and its label.
 #[cycle(statement)]
-#[derive(Drop)]
 pub struct Sequential {
     pub label: Option<Identifier>,
     pub statement: Statement,
 }
 
+impl Drop for Sequential {
+    #[cycle(statement)]
+    fn drop(self) {
+        let Sequential {
+            label: _,
+            statement: _,
+        } = self;
+    }
+}
+
 /// A sequential statement without its label.
 #[cycle(statement)]
-#[derive(Drop)]
 pub enum Statement {
     /// `null`, and the byte at which it starts.
     Null { at: usize },
@@ -29,10 +37,29 @@ pub enum Statement {
     For(For),
 }
 
+impl Drop for Statement {
+    #[cycle(statement)]
+    fn drop(self) {
+        match self {
+            Statement::Null { at: _ } => {}
+            Statement::SignalAssignment {
+                target: _,
+                value: _,
+            } => {}
+            Statement::VariableAssignment {
+                target: _,
+                value: _,
+            } => {}
+            Statement::If(_) => {}
+            Statement::Case(_) => {}
+            Statement::For(_) => {}
+        }
+    }
+}
+
 /// An if statement, and the byte at which it starts. Each branch but the first stands after
 /// `elsif`.
 #[cycle(statement)]
-#[derive(Drop)]
 pub struct If {
     pub at: usize,
     pub branches: Vec<Conditional>,
@@ -40,17 +67,37 @@ pub struct If {
     pub end_label: Option<Identifier>,
 }
 
+impl Drop for If {
+    #[cycle(statement)]
+    fn drop(self) {
+        let If {
+            at: _,
+            branches: _,
+            otherwise: _,
+            end_label: _,
+        } = self;
+    }
+}
+
 /// A condition, and the statements that it guards.
 #[cycle(statement)]
-#[derive(Drop)]
 pub struct Conditional {
     pub condition: Expr,
     pub statements: Vec<Sequential>,
 }
 
+impl Drop for Conditional {
+    #[cycle(statement)]
+    fn drop(self) {
+        let Conditional {
+            condition: _,
+            statements: _,
+        } = self;
+    }
+}
+
 /// A case statement, and the byte at which it starts.
 #[cycle(statement)]
-#[derive(Drop)]
 pub struct Case {
     pub at: usize,
     pub selector: Expr,
@@ -58,23 +105,56 @@ pub struct Case {
     pub end_label: Option<Identifier>,
 }
 
+impl Drop for Case {
+    #[cycle(statement)]
+    fn drop(self) {
+        let Case {
+            at: _,
+            selector: _,
+            alternatives: _,
+            end_label: _,
+        } = self;
+    }
+}
+
 /// Choices, and the statements that they guard.
 #[cycle(statement)]
-#[derive(Drop)]
 pub struct Alternative {
     pub choices: Vec<Choice>,
     pub statements: Vec<Sequential>,
 }
 
+impl Drop for Alternative {
+    #[cycle(statement)]
+    fn drop(self) {
+        let Alternative {
+            choices: _,
+            statements: _,
+        } = self;
+    }
+}
+
 /// A for loop, and the byte at which it starts.
 #[cycle(statement)]
-#[derive(Drop)]
 pub struct For {
     pub at: usize,
     pub parameter: Identifier,
     pub range: Range,
     pub statements: Vec<Sequential>,
     pub end_label: Option<Identifier>,
+}
+
+impl Drop for For {
+    #[cycle(statement)]
+    fn drop(self) {
+        let For {
+            at: _,
+            parameter: _,
+            range: _,
+            statements: _,
+            end_label: _,
+        } = self;
+    }
 }
 
 impl Conditional {

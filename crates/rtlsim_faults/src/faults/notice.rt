@@ -1,7 +1,7 @@
 //! What the printed line of a fault tells.
 
 /// Where a fault is found.
-#[derive(Clone, Copy, PartialEq, Eq, Debug)]
+#[derive(Clone, Copy)]
 pub(crate) enum FaultPlace {
     /// In no one place.
     Nowhere,
@@ -14,7 +14,7 @@ pub(crate) enum FaultPlace {
 }
 
 /// What the printed line of a fault tells.
-#[derive(Clone, Copy, Debug)]
+#[derive(Clone, Copy)]
 pub(crate) struct Notice {
     /// The layer that refuses.
     pub layer: &'static str,

@@ -23,7 +23,7 @@ signal_view (g.Signal k) = u.Signal.signal k
 abbrev pub part_view : Part → u.Part
 part_view p.Whole = u.whole
 part_view (p.Element s) = u.Part.element (static_view s)
-part_view (p.Slice r) = u.slice (range_view r)
+part_view (p.Slice r) = u.slice (range_view r.value)
 
 abbrev pub place_view : SignalPart → u.SignalPart
 place_view x = record { signal = signal_view x.signal; part = part_view x.part }

@@ -23,8 +23,8 @@ use Rattle.vhdl_names_units.specs.declared.answers.Fixed.TheVariants as x
 use Rattle.vhdl_names_units.specs.declared.answers.Subtype.{Subtype}
 
 abbrev pub given_view : Given → st.Given
-given_view (g.Single x) = st.single (value_view x)
-given_view (g.Filled x) = st.filled (vector_view x)
+given_view (g.Single x) = st.single (value_view x.value)
+given_view (g.Filled x) = st.filled (vector_view x.value)
 
 abbrev pub choice_view : Choice → st.Choice
 choice_view (c.Values vs) = st.values vs.items
