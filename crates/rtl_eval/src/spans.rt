@@ -5,7 +5,7 @@ ghost use Rattle.rtl_eval.specs.Spans.{places_of};
 ghost use Rattle.rtl_eval.specs.Tracked.{LieWithin};
 
 /// So many places, each one above the one before it.
-#[derive(Clone, Copy, PartialEq, Eq, Debug)]
+#[derive(Clone, Copy)]
 pub struct Span {
     pub first: usize,
     pub len: usize,

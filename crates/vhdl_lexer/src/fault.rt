@@ -10,7 +10,7 @@ use thiserror::Error;
 /// Why a source has no tokens. `at` is a byte of the source, counted from 0, and never above the
 /// source's length: of the first five faults the first byte of the token that starts first and
 /// is none.
-#[derive(Clone, Copy, Debug, PartialEq, Eq, Error)]
+#[derive(Clone, Copy, Debug, Error)]
 pub enum LexFault {
     /// A byte that begins no token, or one outside 32 to 126 in a string.
     #[error("no token has the byte that stands here, at byte {at}")]

@@ -160,7 +160,7 @@ pub enum TokenKind {
 
 /// A token, by its kind and the bytes of the source that it takes: from `start` up to `end`,
 /// both counted from the source's first byte. A source has 4,194,304 bytes at most, so 32 bits do.
-#[derive(Clone, Copy, Debug, PartialEq, Eq)]
+#[derive(Clone, Copy, Debug)]
 pub struct Token {
     pub kind: TokenKind,
     pub start: u32,

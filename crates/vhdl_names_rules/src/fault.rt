@@ -8,7 +8,7 @@ use thiserror::Error;
 
 /// What is wrong with a name or a type. The clauses are those of IEEE 1076-2008. They are numbered
 /// from 1 in this order.
-#[derive(Clone, Copy, PartialEq, Eq, Debug, Error)]
+#[derive(Clone, Copy, Debug, Error)]
 pub enum NameProblem {
     /// A name that no declaration in sight has (12.3).
     #[error("the name is not declared")]
@@ -46,7 +46,7 @@ pub enum NameProblem {
 }
 
 /// Why a file is not well typed. `at` is a byte of the source, counted from 0.
-#[derive(Clone, Copy, PartialEq, Eq, Debug, Error)]
+#[derive(Clone, Copy, Debug, Error)]
 pub enum NameFault {
     /// This is wrong with what stands here.
     #[error("{problem}, at byte {at}")]

@@ -7,7 +7,7 @@ use vhdl_lexer::TokenKind;
 use vhdl_tree::{Direction, Operator, Sign};
 
 /// How tightly operators bind, the loosest first.
-#[derive(Clone, Copy, Debug, PartialEq, Eq)]
+#[derive(Clone, Copy)]
 pub enum Level {
     Logical,
     Relation,

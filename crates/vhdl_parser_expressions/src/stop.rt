@@ -6,7 +6,7 @@ ghost use Rattle.vhdl_parser_expressions.specs.declared.stop.Stop.TheVariants.{N
 use std::alloc::{AllocError, AllocFailed};
 
 /// Why a parser stopped. The token that it met is its next one.
-#[derive(Clone, Copy, Debug, PartialEq, Eq)]
+#[derive(Clone, Copy)]
 pub enum Stop {
     /// What is read doesn't go on with the next token.
     Unexpected,

@@ -15,7 +15,7 @@ impl Drop for Subtype {
 }
 
 /// The mode of a port.
-#[derive(Clone, Copy, Debug, PartialEq, Eq)]
+#[derive(Clone, Copy, Debug)]
 pub enum Mode {
     In,
     Out,

@@ -6,7 +6,7 @@ ghost use Rattle.vhdl_tree.specs.grammar.Expressions as grammar;
 use vhdl_lexer::TokenKind;
 
 /// A binary operator.
-#[derive(Clone, Copy, Debug, PartialEq, Eq)]
+#[derive(Clone, Copy, Debug)]
 pub enum Operator {
     And,
     Or,
@@ -30,14 +30,14 @@ pub enum Operator {
 }
 
 /// The sign of a sum's first operand.
-#[derive(Clone, Copy, Debug, PartialEq, Eq)]
+#[derive(Clone, Copy, Debug)]
 pub enum Sign {
     Plus,
     Minus,
 }
 
 /// The direction of a range.
-#[derive(Clone, Copy, Debug, PartialEq, Eq)]
+#[derive(Clone, Copy, Debug)]
 pub enum Direction {
     To,
     Downto,

@@ -3,7 +3,7 @@
 use crate::scalar::Nine;
 
 /// What counts as an edge of a scalar signal.
-#[derive(Clone, Copy, PartialEq, Eq, Debug)]
+#[derive(Clone, Copy)]
 pub enum Edge {
     /// `rising_edge(s)`: from 0 or L to 1 or H.
     Rising,
@@ -16,7 +16,7 @@ pub enum Edge {
 }
 
 /// A relation of two numbers: `=`, `/=`, `<`, `<=`, `>` and `>=`.
-#[derive(Clone, Copy, PartialEq, Eq, Debug)]
+#[derive(Clone, Copy, PartialEq, Eq)]
 pub enum Cmp {
     Eq,
     Ne,
@@ -27,7 +27,7 @@ pub enum Cmp {
 }
 
 /// A logical operator of two operands.
-#[derive(Clone, Copy, PartialEq, Eq, Debug)]
+#[derive(Clone, Copy)]
 pub enum Logic {
     And,
     Or,

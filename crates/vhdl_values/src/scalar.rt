@@ -5,7 +5,7 @@ ghost use Rattle.vhdl_values.specs.Scalar.{nines, code_of, letter_of, value_of_l
 ghost use Rattle.vhdl_values.specs.Logic.{and_of, or_of, xor_of, not_of};
 
 /// One of the nine values of a `std_ulogic`, in the order of package std_logic_1164.
-#[derive(Clone, Copy, PartialEq, Eq, Debug)]
+#[derive(Clone, Copy, PartialEq, Eq)]
 pub enum Nine {
     /// `U`: uninitialized.
     U,

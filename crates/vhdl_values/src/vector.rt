@@ -26,7 +26,7 @@ use std::marker::Model;
 /// A natural number as the other operand of `+`, `-` or `*` is `Vec9::of_nat(number, vector.len())`, a vector of
 /// the same length that stands for the number modulo 2 to the power of that length (numeric_std, A.5, A.11, A.17);
 /// for a relation there is `cmp_nat`, and a number on the left of it is the relation turned round.
-#[derive(Clone, Copy, PartialEq, Eq, Debug)]
+#[derive(Clone, Copy, PartialEq, Eq)]
 pub struct Vec9 {
     first: u64,
     second: u64,
