@@ -7,6 +7,10 @@ use std::io;
 use vhdl_values::Nine;
 
 /// Prints what each kind of agenda gives, time by time.
+///
+/// # Errors
+///
+/// Those of printing, and of memory.
 pub fn tell_agendas(rt: &(impl Print + AllocGlobal)) -> io::Result<()> {
     println!(rt; "an agenda over a map")?;
     tell_agenda(rt, &mut MapAgenda::new(rt.alloc()))?;

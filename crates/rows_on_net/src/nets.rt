@@ -5,7 +5,13 @@ ghost use Rattle.rtl_stim.specs.Ports.{HasOwnPorts};
 
 use rtl_net::Net;
 use std::alloc::Global;
-use vhdl_source::open;
+
+/// Opens netlists.
+pub trait Nets {
+    /// The netlist of this text in VHDL below this top, if it has one.
+    fn open(&self, alloc: Global, text: &str, top: &str) -> Option<Net>
+        ensures { IfSome result HasOwnPorts };
+}
 
 const COUNTER: &str =
     "library ieee; use ieee.std_logic_1164.all; use ieee.numeric_std.all; entity cnt is port (clk : in std_logic; y : out std_logic_vector(1 downto 0)); end; architecture r of cnt is signal q : unsigned(1 downto 0) := \"00\"; begin process (clk) begin if rising_edge(clk) then q <= q + 1; end if; end process; y <= std_logic_vector(q); end;";
@@ -32,14 +38,11 @@ const SIBLINGS: &str =
     "library ieee; use ieee.std_logic_1164.all; entity sib is port (a : in std_logic); end; architecture r of sib is signal y, z : std_logic; begin z <= not a; process (a, z) begin y <= a; end process; end;";
 
 /// The netlist of a name, if it has one.
-pub fn net_named(alloc: Global, name: &str) -> Option<Net>
+pub fn net_named<N: Nets>(alloc: Global, nets: &N, name: &str) -> Option<Net>
     ensures { IfSome result HasOwnPorts }
 {
     let (text, top) = text_of(name);
-    match open(alloc, text.as_bytes(), top.as_bytes()) {
-        Ok(net) => Some(net),
-        Err(_) => None,
-    }
+    nets.open(alloc, text, top)
 }
 
 /// The text of a netlist's name, and its top.

@@ -5,7 +5,7 @@ use Rattle.rtl_model.specs.nets.CoreNetlist.{core_netlist}
 use Rattle.rtl_model.specs.simulation.Cycle.{after_inputs, with_changes}
 use Rattle.rtl_kernel.specs.kernel.Simulation.{changes_of}
 use Rattle.rtl_net.specs.Nets.{flat}
-use Rattle.rows_net.proofs.stepping.change.Goals as goal
+use Rattle.rows_on_net.proofs.stepping.change.Goals as goal
 
 pub returns-then-is_quiet-clause-ready : goal.returns-then-is_quiet-clause-ready
 returns-then-is_quiet-clause-ready g c =

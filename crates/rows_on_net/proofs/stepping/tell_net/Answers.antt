@@ -1,7 +1,7 @@
 use Rattle.std.proofs.Common.{List, map, ap, ◌∙◌}
 use Rattle.rtl_eval_code.specs.Codes.{CodeOf}
-use Rattle.rows_net.proofs.Trees.{trees_run, codes_run}
-use Rattle.rows_net.proofs.stepping.tell_net.Goals as goal
+use Rattle.rows_on_net.proofs.Trees.{trees_run, codes_run}
+use Rattle.rows_on_net.proofs.stepping.tell_net.Goals as goal
 
 pub tell_bodies-requires : goal.tell_bodies-requires
 tell_bodies-requires g c = trees_run c.args.net.now c.deref.result.now (c.deref.ensures.value ∙ c.in_ok-trees-in-Trees.ensures)

@@ -6,6 +6,7 @@ use crate::courses::{
     COUNTER, CUT_COUNTER, Course, OSCILLATOR_FROM_0, OSCILLATOR_FROM_U, REGISTERS, SIBLINGS,
     THREE_REGISTERS, TWO_DRIVERS,
 };
+use crate::nets::Nets;
 use crate::pickers::Asked;
 use crate::stepping::tell_course;
 use rtl_kernel::{Forward, Reverse};
@@ -55,22 +56,31 @@ const ROWS: &[(&str, &Course, Order)] = &[
 ];
 
 /// Prints the rows, for bodies of a form.
-pub fn tell_orders(rt: &(impl Print + AllocGlobal), form: Bodies) -> io::Result<()> {
+///
+/// # Errors
+///
+/// Those of printing, and of memory.
+pub fn tell_orders<N: Nets>(
+    rt: &(impl Print + AllocGlobal),
+    nets: &N,
+    form: Bodies,
+) -> io::Result<()> {
     for (head, course, order) in ROWS {
         println!(rt; "{head}")?;
         match order {
-            Order::Forward => tell_course(rt, course, form, &mut Forward)?,
-            Order::Reverse => tell_course(rt, course, form, &mut Reverse)?,
-            Order::First => tell_asked(rt, course, form, false)?,
-            Order::Middle => tell_asked(rt, course, form, true)?,
+            Order::Forward => tell_course(rt, nets, course, form, &mut Forward)?,
+            Order::Reverse => tell_course(rt, nets, course, form, &mut Reverse)?,
+            Order::First => tell_asked(rt, nets, course, form, false)?,
+            Order::Middle => tell_asked(rt, nets, course, form, true)?,
         }
     }
     Ok(())
 }
 
 /// Prints a row, and among how many processes one was to be taken each time.
-fn tell_asked(
+fn tell_asked<N: Nets>(
     rt: &(impl Print + AllocGlobal),
+    nets: &N,
     course: &Course,
     form: Bodies,
     is_middle: bool,
@@ -79,7 +89,7 @@ fn tell_asked(
         counts: Vec::new(rt.alloc()),
         is_middle,
     };
-    tell_course(rt, course, form, &mut pick)?;
+    tell_course(rt, nets, course, form, &mut pick)?;
     for count in &pick.counts {
         println!(rt; "  asked for one of {count}")?;
     }

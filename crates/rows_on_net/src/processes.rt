@@ -7,6 +7,10 @@ use vhdl_values::Nine;
 
 /// The processes of a netlist, with `; ` between them: each with its number, the names of nets, and its variables with the values
 /// that they start with.
+///
+/// # Errors
+///
+/// Where memory was refused.
 pub fn processes_of(alloc: Global, net: &Net) -> Result<String, AllocError> {
     let mut told = String::new(alloc);
     for (number, process) in net.processes().iter().enumerate() {

@@ -1,6 +1,6 @@
 use Rattle.rtl_net.specs.Nets.{flat}
-use Rattle.rows_net.proofs.Trees.{through}
-use Rattle.rows_net.proofs.stepping.tell_bodies.Goals as goal
+use Rattle.rows_on_net.proofs.Trees.{through}
+use Rattle.rows_on_net.proofs.stepping.tell_bodies.Goals as goal
 
 pub tell_stamped-requires : goal.tell_stamped-requires
 tell_stamped-requires g c =

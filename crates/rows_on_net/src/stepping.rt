@@ -7,7 +7,7 @@ ghost use Rattle.rtl_net.specs.Nets.{flat};
 
 use crate::bodies::{Bodies, Stamped, with_stamps};
 use crate::courses::{Course, Form};
-use crate::nets::net_named;
+use crate::nets::{Nets, net_named};
 use rtl_eval::{Exec, trees};
 use rtl_eval_code::codes;
 use rtl_kernel::{Kernel, Pick};
@@ -17,13 +17,14 @@ use std::io;
 use vhdl_values::Nine;
 
 /// Starts a netlist, whose bodies have this form, and prints what it comes to at each step.
-pub fn tell_course<P: Pick>(
+pub fn tell_course<N: Nets, P: Pick>(
     rt: &(impl Print + AllocGlobal),
+    nets: &N,
     course: &Course,
     form: Bodies,
     pick: &mut P,
 ) -> io::Result<()> {
-    match net_named(rt.alloc(), course.net) {
+    match net_named(rt.alloc(), nets, course.net) {
         Some(net) => tell_net(rt, &net, course, form, pick),
         None => println!(rt; "no net has this name"),
     }

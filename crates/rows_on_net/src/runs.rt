@@ -5,7 +5,7 @@
 //! so that the transcript is the tables, comments aside; a way that gives something else is named behind its row.
 
 use crate::calls::{answered, text_of};
-use crate::nets::net_named;
+use crate::nets::{Nets, net_named};
 use crate::outputs::Counted;
 use crate::row::Row;
 use crate::ways::other_way;
@@ -14,20 +14,28 @@ use std::rt::Files;
 use std::{fs, io};
 
 /// Prints the rows of a file.
-pub fn tell_runs(rt: &(impl Files + Print + AllocGlobal), file: &str) -> io::Result<()> {
+///
+/// # Errors
+///
+/// Those of reading the file, of printing, and of memory.
+pub fn tell_runs<N: Nets>(
+    rt: &(impl Files + Print + AllocGlobal),
+    nets: &N,
+    file: &str,
+) -> io::Result<()> {
     let text = fs::read_to_string(rt, file)?;
     for part in text.as_str().split("\n$ ").skip(1) {
-        tell_row(rt, part)?;
+        tell_row(rt, nets, part)?;
     }
     Ok(())
 }
 
 /// Prints a row with what comes of it, and a way in which something else comes of it.
-fn tell_row(rt: &(impl Print + AllocGlobal), part: &str) -> io::Result<()> {
+fn tell_row<N: Nets>(rt: &(impl Print + AllocGlobal), nets: &N, part: &str) -> io::Result<()> {
     let row = Row::read(rt.alloc(), part)?;
     println!(rt; "$ {}", row.head)?;
     tell_lines(rt, "<", &row.stimulus)?;
-    let Some(net) = net_named(rt.alloc(), row.net) else {
+    let Some(net) = net_named(rt.alloc(), nets, row.net) else {
         return println!(rt; "no net has this name");
     };
     let mut out = Counted::new(rt.alloc(), usize::MAX, usize::MAX);
