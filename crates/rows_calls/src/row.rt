@@ -63,14 +63,22 @@ impl<'a> Row<'a> {
             b"*" => self.push_repeated(rt.alloc(), text)?,
             b"<<" => self.input.extend_from_slice(&fs::read(rt, text)?)?,
             b"<*" => self.push_spaces(text.parse::<usize>().unwrap_or(0))?,
-            b"!" => self.push_error(rt.alloc(), text)?,
+            b"=" => self.answer.status = text.parse::<u8>().unwrap_or(u8::MAX),
+            b"by" => self.calls = text,
+            b"" | b"#" => {}
+            _ => self.take_error(rt.alloc(), kind, text)?,
+        }
+        Ok(())
+    }
+
+    /// Takes a line of the error output that is wanted, or of what shows how far a run is.
+    fn take_error(&mut self, alloc: Global, kind: &str, text: &'a str) -> io::Result<()> {
+        match kind.as_bytes() {
+            b"!" => self.push_error(alloc, text)?,
             b"!|" => self.answer.push_error(text)?,
             b"!\\r" => self.answer.push_progress(text)?,
             b"!\\n" => self.answer.end_progress()?,
             b"!~" => self.parts.push(text)?,
-            b"=" => self.answer.status = text.parse::<u8>().unwrap_or(u8::MAX),
-            b"by" => self.calls = text,
-            b"" | b"#" => {}
             _ => return Err(io::Error::from(ErrorKind::InvalidData)),
         }
         Ok(())
@@ -215,4 +223,17 @@ pub fn words_of(alloc: Global, line: &str) -> Result<Vec<&str>, AllocError> {
         }
     }
     Ok(words)
+}
+
+/// The bytes of each text.
+///
+/// # Errors
+///
+/// Where memory was refused.
+pub fn bytes_of<'a>(alloc: Global, texts: &'a [&'a str]) -> Result<Vec<&'a [u8]>, AllocError> {
+    let mut all = Vec::with_capacity(alloc, texts.len())?;
+    for text in texts {
+        all.push(text.as_bytes())?;
+    }
+    Ok(all)
 }

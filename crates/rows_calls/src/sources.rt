@@ -1,10 +1,13 @@
-//! What the program prints for the rows of a table, in the words of the table.
+//! What the program prints for the rows of a table of small sources, in the words of the table.
 
 use crate::answer::text_of;
 use crate::calls::by_tool;
+use crate::program::Program;
 use crate::row::words_of;
-use rows_tables::{Frame, Teller};
+use rows_tables::{Frame, Teller, tell_table};
 use std::alloc::{AllocError, Global};
+use std::io;
+use std::rt::Files;
 
 /// What the rows of a table tell of the program's answer.
 #[derive(Clone, Copy)]
@@ -17,18 +20,46 @@ pub enum Told {
     Counts,
 }
 
-impl Teller for Told {
+/// Prints tables of small sources, as rows_tables reads them: a row is a call of `net`, of which it tells a few words.
+///
+/// # Errors
+///
+/// Those of reading a table, of printing, and of memory.
+pub fn tell_sources<R: Files + Print + AllocGlobal, P: Program>(
+    rt: &R,
+    program: &P,
+    tables: &[(&str, Told)],
+) -> io::Result<()> {
+    for (table, told) in tables {
+        let teller = Calls {
+            program,
+            told: *told,
+        };
+        tell_table(rt, table, &teller)?;
+    }
+    Ok(())
+}
+
+/// The program, and what rows tell of its answers.
+#[derive(Drop)]
+struct Calls<'a, P: Program> {
+    program: &'a P,
+    told: Told,
+}
+
+impl<P: Program> Teller for Calls<'_, P> {
     /// The answer to a call of `net`: what is told of the netlist, or the fault's name, where it stands at the text's mark if it
     /// has one.
     fn told(&self, alloc: Global, frame: Frame<'_>, written: &str) -> Result<String, AllocError> {
         let (source, place) = frame.source_of(alloc, written)?;
-        let words = ["net", "@", self.top()];
-        let answer = by_tool(alloc, &words, source.as_str().as_bytes());
+        let words = ["net", "@", self.told.top()];
+        let answer = by_tool(alloc, self.program, &words, source.as_str().as_bytes());
         if answer.status == 0 {
-            return self.told_net(alloc, text_of(&answer.out));
+            return self.told.told_net(alloc, text_of(&answer.out));
         }
         let mark = written.find('^').is_some().then_some(place);
-        self.told_fault(alloc, text_of(&answer.err).trim(), mark)
+        self.told
+            .told_fault(alloc, text_of(&answer.err).trim(), mark)
     }
 }
 
