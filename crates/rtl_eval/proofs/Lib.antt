@@ -1,6 +1,7 @@
 pub mod Counting
 pub mod Listing
 pub mod Assigned
+pub mod Marking
 pub mod Places
 pub mod Reading
 pub mod Chains

@@ -1,5 +1,5 @@
 -- Spans: their places, and what is written over them.
-use Rattle.std.proofs.Common.{◌≡◌, ℕ, zero, suc, ◌+◌, ◌<◌, ◌≤◌, List, [], ◌∷◌, ◌++◌, length, get_or, set, drop, Option, Some, None, refl, sym, ap, subst, ◌∙◌, arith, ◌⊎◌, inl, inr, append_assoc, append-nil}
+use Rattle.std.proofs.Common.{◌≡◌, ℕ, zero, suc, ◌+◌, ◌<◌, ◌≤◌, Bool, true, false, List, [], ◌∷◌, ◌++◌, length, get_or, set, drop, Option, Some, None, refl, sym, ap, subst, ◌∙◌, arith, ◌⊎◌, inl, inr, append_assoc, append-nil}
 use Rattle.std.specs.Prelude.{Contains, IsSome}
 use Rattle.std.specs.List.{range_with_len}
 use Rattle.std.specs.Option.{is_some}
@@ -8,7 +8,9 @@ use Rattle.std.proofs.lemmas.List.Elements.{Contains-append_left, Contains-appen
 use Rattle.std.proofs.lemmas.List.FromFn.{length-range_with_len, get_or-range_with_len}
 use Rattle.rtl_eval.specs.declared.spans.Span.{Span}
 use Rattle.rtl_eval.specs.Spans.{places_of, written}
-use Rattle.rtl_eval.specs.Tracked.{entry, AreAssigned}
+use Rattle.rtl_eval.specs.Marked.{HasNoMark}
+use Rattle.rtl_eval.specs.Tracked.{entry, entries_of, AreAssigned}
+use Rattle.rtl_eval.proofs.Assigned.{is_marked}
 use Rattle.rtl_eval.proofs.Listing.{listed_more}
 
 -- ---- places
@@ -31,6 +33,16 @@ in_span : (first len place : ℕ) → Contains (range_with_len first len) place 
 in_span first len place (k, l, is) =
     let m : k < len = rw length-range_with_len at l in
     (k, m, sym (get_or-range_with_len first len k place m) ∙ is)
+
+-- where no span is listed, no place is marked
+pub no_mark_yet : (marks : List Bool) (values : List ℕ) (spans : List Span) → AreAssigned (entries_of marks values) (places_of spans) → length spans ≡ 0 → HasNoMark marks
+no_mark_yet marks values spans A none place = by (get_or marks place false) refl
+  where
+    by : (b : Bool) → get_or marks place false ≡ b → get_or marks place false ≡ false
+    by true h =
+        let (k, l, _) = A.are_all place (is_marked marks values place ∙ h) in
+        absurd (omega (arith, l, no_places spans none))
+    by false h = h
 
 -- the places of each span are among those of all
 pub place_of : (spans : List Span) (i k : ℕ) (d : Span) → i < length spans → k < (get_or spans i d).len → Contains (places_of spans) ((get_or spans i d).first + k)

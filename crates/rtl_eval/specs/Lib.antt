@@ -1,6 +1,7 @@
 pub mod Listed
 pub mod Runs
 pub mod Spans
+pub mod Marked
 pub mod Tracked
 pub mod Evaluations
 pub mod Running

@@ -1,12 +1,13 @@
 //! What a run assigns.
 
-ghost use Rattle.std.specs.Prelude.{◌≡◌, ℕ, ◌+◌, ◌<◌, ◌≤◌, [], length, replicate, slice_index, slice_set, IfOk, Some, None, IsSome};
+ghost use Rattle.std.specs.Prelude.{◌≡◌, ℕ, ◌+◌, ◌<◌, ◌≤◌, [], length, replicate, slice_index, slice_set, true, IfOk, Some, None, IsSome};
 ghost use Rattle.rtl_eval.specs.Spans.{places_of, written};
 ghost use Rattle.rtl_eval.specs.Tracked.{entry, AreAssigned, LieWithin};
 
 mod stacks;
 
-use crate::spans::{Span, are_free, take_off};
+use crate::marks::Marks;
+use crate::spans::Span;
 use std::alloc::{AllocError, Global};
 use std::marker::Model;
 use vhdl_values::Vec9;
@@ -18,7 +19,7 @@ use vhdl_values::Vec9;
 ///
 /// All memory is taken by `new`.
 pub struct Drives {
-    marks: Vec<bool>,
+    marks: Marks,
     values: Vec<u8>,
     assigned: Vec<Span>,
     starts: Vec<u8>,
@@ -74,7 +75,7 @@ impl Drives {
         }) }
     {
         Ok(Drives {
-            marks: vec![in alloc; false; drivers]?,
+            marks: Marks::new(alloc, drivers)?,
             values: vec![in alloc; 0; drivers]?,
             assigned: Vec::with_capacity(alloc, drivers)?,
             starts: Vec::from_slice(alloc, starts)?,
@@ -106,7 +107,7 @@ impl Drives {
         requires { place < length self.now.entries }
         ensures { result ≡ entry self.now.entries place }
     {
-        if self.marks[place] {
+        if self.marks.has(place) {
             Some(self.values[place])
         } else {
             None
@@ -139,8 +140,8 @@ impl Drives {
         requires { place < length self.old.entries }
         ensures { self.new ≡ record (self.old) { entries = slice_set self.old.entries place (Some value) } }
     {
-        if !self.marks[place] {
-            self.marks[place] = true;
+        if !self.marks.has(place) {
+            self.marks.set(place);
             self.assigned.push_reserved(Span {
                 first: place,
                 len: 1,
@@ -159,11 +160,24 @@ impl Drives {
             return;
         }
         let _drivers = self.drivers();
-        if are_free(&self.marks[first..first + values.len()]) {
+        if self.are_free(first, values.len()) {
             self.set_free(first, values);
         } else {
             self.set_each(first, values);
         }
+    }
+
+    /// Whether no driver at these places has an entry.
+    #[tactic(auto, using(crate::proofs::Assigned::as_many_entries))]
+    fn are_free(&mut self, first: usize, len: usize) -> bool
+        requires { first + len ≤ length self.old.entries }
+        ensures stay { self.new ≡ self.old }
+        ensures free { result ≡ true → (k : ℕ) → k < len → entry self.old.entries (first + k) ≡ None }
+    {
+        if self.assigned.is_empty() {
+            return true;
+        }
+        self.marks.are_free(first, len)
     }
 
     /// Gives the drivers at the places from `first` on, none of which has an entry, these.
@@ -176,7 +190,8 @@ impl Drives {
     {
         let _drivers = self.drivers();
         let end = first + values.len();
-        self.marks[first..end].fill(true);
+        let are_first = self.assigned.is_empty();
+        self.marks.fill(first, values.len(), are_first);
         self.values[first..end].copy_from_slice(values);
         self.assigned.push_reserved(Span {
             first,
@@ -200,7 +215,7 @@ impl Drives {
     pub fn clear(&mut self)
         ensures { self.new ≡ record (self.old) { entries = replicate (length self.old.entries) None } }
     {
-        take_off(&mut self.marks, &self.assigned);
+        self.marks.take_off(&self.assigned);
         self.assigned.clear();
     }
 
@@ -214,7 +229,9 @@ impl Drives {
         } }
     {
         self.clear();
-        self.variables.copy_from_slice(&self.starts);
+        if !self.starts.is_empty() {
+            self.variables.copy_from_slice(&self.starts);
+        }
         self.laid.clear();
         self.bits.clear();
     }

@@ -11,6 +11,7 @@ mod drives;
 mod evaluated;
 mod exec;
 mod expressions;
+mod marks;
 mod seen;
 mod spans;
 mod statements;

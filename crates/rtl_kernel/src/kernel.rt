@@ -10,14 +10,14 @@ ghost use Rattle.rtl_kernel.specs.kernel.Simulation.{changes_of, initial_inputs}
 ghost use Rattle.rtl_kernel.specs.kernel.Kept.{RunBodies};
 ghost use Rattle.rtl_kernel.specs.kernel.Picked.{IsAt, HasRunAsPicked, HasDeltasAsPicked};
 
+use crate::both::both;
 use crate::cutting::driver_cuts;
 use crate::drivers::Drivers;
 use crate::pick::Pick;
 use crate::resumed::Resumed;
-use crate::starts::starting_codes;
+use crate::starts::first_values;
 use crate::update::resolve_groups;
 use crate::values::Values;
-use crate::wakes::wake_groups;
 use crate::worklist::Worklist;
 use rtl_eval::Exec;
 use rtl_net::Net;
@@ -79,14 +79,14 @@ impl<'a, E: Exec> Kernel<'a, E> {
     {
         net.is_elaborated();
         let processes = net.processes();
-        let layout = wake_groups(alloc, net)?;
-        let cuts = driver_cuts(alloc, layout.of_net(), processes)?;
-        let mut values = Values::new(alloc, layout, &starting_codes(alloc, net)?)?;
-        values.set_each(net.inputs(), initial);
-        values.begin();
-        let drivers = Drivers::new(alloc, processes, bodies)?;
-        let resumed = Resumed::all(alloc, processes.len())?;
-        let noted = Worklist::new(alloc, values.groups().count())?;
+        let values = first_values(alloc, net, initial)?;
+        let cuts = driver_cuts(alloc, values.groups().of_net(), processes);
+        let noted = Worklist::new(alloc, values.groups().count());
+        let drivers = Drivers::new(alloc, processes, bodies);
+        let resumed = Resumed::all(alloc, processes.len());
+        let updates = both(cuts, noted);
+        let runs = both(drivers, resumed);
+        let ((cuts, noted), (drivers, resumed)) = both(updates, runs)?;
         Ok(Kernel {
             net,
             bodies,

@@ -1,6 +1,7 @@
 //! The simulation cycle (IEEE 1076-2008, 14.7.5).
 #![tactic(auto)]
 
+mod both;
 mod comparing;
 mod cutting;
 mod drivers;

@@ -1,12 +1,21 @@
-//! What drivers and variables start with.
+//! What nets, drivers and variables start with.
 
-ghost use Rattle.std.specs.Prelude.{◌≡◌, map, IfOk};
+ghost use Rattle.std.specs.Prelude.{◌≡◌, length, map, IfOk};
 ghost use Rattle.rtl_model.specs.nets.FlatNetlist.{element_starts};
 ghost use Rattle.rtl_net.specs.Nets.{variable_view};
+ghost use Rattle.rtl_net.specs.Nets.{flat};
+ghost use Rattle.rtl_net.specs.declared.process.Process.{Process};
+ghost use Rattle.rtl_kernel.specs.drivers.Brought.{AreAloneAlike};
 ghost use Rattle.rtl_kernel.specs.drivers.Starts.{starts_of};
+ghost use Rattle.rtl_kernel.specs.kernel.Simulation.{each_given};
+ghost use Rattle.rtl_kernel.specs.values.TwoValues.{AreChanged};
+ghost use Rattle.rtl_kernel.specs.wakes.Woken.{IsIndex, wakers_of};
 
+use crate::values::Values;
+use crate::wakes::wake_groups;
 use rtl_net::{Driver, Net, Variable};
 use std::alloc::{AllocError, Global};
+use vhdl_values::Nine;
 
 /// What these drivers start with.
 pub fn start_values(alloc: Global, drives: &[Driver]) -> Result<Vec<u8>, AllocError>
@@ -30,8 +39,26 @@ pub fn variable_starts(alloc: Global, variables: &[Variable]) -> Result<Vec<u8>,
     Ok(starts)
 }
 
+/// What the nets start with, in groups that the same processes wake on, where the inputs have these values now.
+pub fn first_values(alloc: Global, net: &Net, initial: &[Nine]) -> Result<Values, AllocError>
+    requires { length initial.now ≡ length net.now.inputs }
+    ensures index { IfOk result (λ v. IsIndex (map (λ (p : Process). p.wakes.items) net.now.processes) (wakers_of v.groups)) }
+    ensures each_net { IfOk result (λ v. length v.groups.of_net ≡ length net.now.types) }
+    ensures alike { IfOk result (λ v. AreAloneAlike (flat net.now) v.groups.of_net) }
+    ensures before { IfOk result (λ v. v.before ≡ v.current) }
+    ensures current { IfOk result (λ v. AreChanged (each_given net.now.inputs initial.now) net.now.starts v.current) }
+{
+    net.is_elaborated();
+    let codes = starting_codes(alloc, net)?;
+    let layout = wake_groups(alloc, net)?;
+    let mut values = Values::new(alloc, layout, &codes)?;
+    values.set_each(net.inputs(), initial);
+    values.begin();
+    Ok(values)
+}
+
 /// What the nets start with.
-pub fn starting_codes(alloc: Global, net: &Net) -> Result<Vec<u8>, AllocError>
+fn starting_codes(alloc: Global, net: &Net) -> Result<Vec<u8>, AllocError>
     ensures { IfOk result (λ v. v.items ≡ net.now.starts) }
 {
     let nets = net.nets();

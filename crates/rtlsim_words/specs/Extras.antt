@@ -49,6 +49,16 @@ expect_sign = codes "--expect="
 abbrev pub begins_with : (sign word : Word) → Bool
 begins_with sign word = bytes_eq (take (length sign) word) sign
 
+-- what a word that may have a name adds to what the words behind it are, or to what they are where their first is its name
+abbrev pub named_first : Word → (behind file expected order : Option Parts) → Option Parts
+named_first word behind file expected order =
+    if bytes_eq word (codes "--with") then file
+    else (if begins_with with_sign word then adds_file (drop (length with_sign) word) behind
+    else (if bytes_eq word (codes "--expect") then expected
+    else (if begins_with expect_sign word then expects_once (drop (length expect_sign) word) behind
+    else (if bytes_eq word (codes "--order") then leaves word order
+    else leaves word behind))))
+
 -- ---- what words are: `--with NAME` and `--with=NAME` add a file, `--expect NAME` or `--expect=NAME` stands once, and so do `--explain` and
 -- `--progress`. The word behind `--order` is none of these, and no word behind `--` is one
 abbrev mutual
@@ -58,12 +68,7 @@ abbrev mutual
       if bytes_eq word (codes "--") then Some (nothing_taken (word ∷ words))
       else (if bytes_eq word (codes "--explain") then explains_once (parts_of words)
       else (if bytes_eq word (codes "--progress") then progresses_once (parts_of words)
-      else (if bytes_eq word (codes "--with") then file_first words
-      else (if begins_with with_sign word then adds_file (drop (length with_sign) word) (parts_of words)
-      else (if bytes_eq word (codes "--expect") then expected_first words
-      else (if begins_with expect_sign word then expects_once (drop (length expect_sign) word) (parts_of words)
-      else (if bytes_eq word (codes "--order") then leaves word (order_first words)
-      else leaves word (parts_of words))))))))
+      else named_first word (parts_of words) (file_first words) (expected_first words) (order_first words)))
 
   -- the first word names a file
   pub file_first : List Word → Option Parts

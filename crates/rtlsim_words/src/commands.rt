@@ -6,10 +6,56 @@ use std::alloc::{AllocError, Global};
 /// The orders of a run.
 static ORDERS: [&str; 2] = ["forward", "reverse"];
 
-/// How simulations are asked for.
-static RUN_USAGE: &str =
-    "rtlsim run [--event] [--order <ORDER>] [--expect <FILE>] [--progress] [--with <FILE>]... [--explain] <FILE> <TOP> <STIM>
-       rtlsim run --levels [--expect <FILE>] [--progress] [--with <FILE>]... [--explain] <FILE> <TOP> <STIM>";
+/// What is told of a command.
+struct Told {
+    kind: Kind,
+    name: &'static str,
+    about: &'static str,
+    usage: &'static str,
+    example: &'static str,
+}
+
+/// A command.
+#[derive(Clone, Copy)]
+enum Kind {
+    Eval,
+    Net,
+    Check,
+    Run,
+}
+
+/// The commands, in the order of the help.
+static COMMANDS: [Told; 4] = [
+    Told {
+        kind: Kind::Eval,
+        name: "eval",
+        about: "Prints the outputs under these inputs",
+        usage: "rtlsim eval [--with <FILE>]... [--explain] <FILE> <TOP> [NAME=VALUE]...",
+        example: "Example: rtlsim eval and2.vhd and2 a=L b=H",
+    },
+    Told {
+        kind: Kind::Net,
+        name: "net",
+        about: "Prints the nets and what drives each",
+        usage: "rtlsim net [--with <FILE>]... [--explain] <FILE> <TOP>",
+        example: "Example: rtlsim net counter.vhd counter",
+    },
+    Told {
+        kind: Kind::Check,
+        name: "check",
+        about: "Says whether the design is sure to settle",
+        usage: "rtlsim check [--dot | --json] [--with <FILE>]... [--explain] <FILE> <TOP>",
+        example: "Example: rtlsim check counter.vhd counter",
+    },
+    Told {
+        kind: Kind::Run,
+        name: "run",
+        about: "Prints the trace under a stimulus",
+        usage: "rtlsim run [--event] [--order <ORDER>] [--expect <FILE>] [--progress] [--with <FILE>]... [--explain] <FILE> <TOP> <STIM>
+       rtlsim run --levels [--expect <FILE>] [--progress] [--with <FILE>]... [--explain] <FILE> <TOP> <STIM>",
+        example: "Example: rtlsim run counter.vhd counter counter.stim",
+    },
+];
 
 /// What stands below the help of all commands.
 static EXAMPLES: &str =
@@ -28,16 +74,96 @@ Examples:
 
 /// The commands.
 pub fn command<'a>(alloc: Global) -> Result<Command<'a>, AllocError> {
+    let mut commands = Vec::new(alloc);
+    add_commands(alloc, &mut commands)?;
     Command::new(alloc, "rtlsim")
         .version("0.1.0")
         .about("Simulates the register-transfer subset of VHDL")
         .after_help(EXAMPLES)
         .no_binary_name(true)
         .subcommand_required(true)
-        .subcommand(eval_command(alloc)?)?
-        .subcommand(net_command(alloc)?)?
-        .subcommand(check_command(alloc)?)?
-        .subcommand(run_command(alloc)?)
+        .subcommands(commands)
+}
+
+/// Adds each command.
+fn add_commands(alloc: Global, commands: &mut Vec<Command<'_>>) -> Result<(), AllocError> {
+    for told in &COMMANDS {
+        add(commands, told_command(alloc, told)?)?;
+    }
+    Ok(())
+}
+
+/// A command.
+fn told_command<'a>(alloc: Global, told: &Told) -> Result<Command<'a>, AllocError> {
+    let mut args = Vec::new(alloc);
+    add_args(alloc, told.kind, &mut args)?;
+    Command::new(alloc, told.name)
+        .about(told.about)
+        .override_usage(told.usage)
+        .after_help(told.example)
+        .args(args)
+}
+
+/// Adds what a command takes: first the design, which each has.
+fn add_args(alloc: Global, kind: Kind, args: &mut Vec<Arg<'_>>) -> Result<(), AllocError> {
+    add_of_design(alloc, args)?;
+    match kind {
+        Kind::Eval => add(args, sets(alloc)),
+        Kind::Net => Ok(()),
+        Kind::Check => add_of_check(alloc, args),
+        Kind::Run => add_of_run(alloc, args),
+    }
+}
+
+/// Adds what each command takes.
+fn add_of_design(alloc: Global, args: &mut Vec<Arg<'_>>) -> Result<(), AllocError> {
+    add(
+        args,
+        operand(alloc, "FILE", "The source, or @ for the standard input"),
+    )?;
+    add(args, operand(alloc, "TOP", "The entity at the top"))?;
+    add(args, with_files(alloc))?;
+    let help = "Explains each fault: its place, the line, and what to do";
+    add(args, flag(alloc, "explain", help))
+}
+
+/// Adds what a check takes beside the design.
+fn add_of_check(alloc: Global, args: &mut Vec<Arg<'_>>) -> Result<(), AllocError> {
+    let help = "Draws the levels of one that is, as a graph of Graphviz";
+    add(args, flag(alloc, "dot", help))?;
+    add(args, json(alloc)?)
+}
+
+/// Adds what a run takes beside the design.
+fn add_of_run(alloc: Global, args: &mut Vec<Arg<'_>>) -> Result<(), AllocError> {
+    add(
+        args,
+        operand(alloc, "STIM", "The stimulus, or @ for the standard input"),
+    )?;
+    add(
+        args,
+        flag(
+            alloc,
+            "event",
+            "Simulates by events alone, without the checker",
+        ),
+    )?;
+    add(args, order(alloc))?;
+    add(args, levels(alloc)?)?;
+    add(
+        args,
+        file(
+            alloc,
+            "expect",
+            "Compares with the values that FILE expects",
+        ),
+    )?;
+    add(args, flag(alloc, "progress", "Shows how far the run is"))
+}
+
+/// Adds one more.
+fn add<T: Drop>(list: &mut Vec<T>, item: T) -> Result<(), AllocError> {
+    Ok(list.push(item)?)
 }
 
 /// An operand that has to be there.
@@ -64,36 +190,10 @@ fn file<'a>(alloc: Global, name: &'a str, help: &'a str) -> Arg<'a> {
         .help(help)
 }
 
-/// A command on a design.
-fn design_command<'a>(
-    alloc: Global,
-    name: &'a str,
-    about: &'a str,
-) -> Result<Command<'a>, AllocError> {
-    Command::new(alloc, name)
-        .about(about)
-        .arg(operand(alloc, "FILE", "The source, or @ for the standard input"))?
-        .arg(operand(alloc, "TOP", "The entity at the top"))?
-        .arg(with_files(alloc))?
-        .arg(flag(
-            alloc,
-            "explain",
-            "Explains each fault: its place, the line, and what to do",
-        ))
-}
-
 /// The files beside the source.
 fn with_files<'a>(alloc: Global) -> Arg<'a> {
     let help = "A file whose text stands before the source's; any number";
     file(alloc, "with", help).action(ArgAction::Append)
-}
-
-/// The command that evaluates a design.
-fn eval_command<'a>(alloc: Global) -> Result<Command<'a>, AllocError> {
-    design_command(alloc, "eval", "Prints the outputs under these inputs")?
-        .override_usage("rtlsim eval [--with <FILE>]... [--explain] <FILE> <TOP> [NAME=VALUE]...")
-        .after_help("Example: rtlsim eval and2.vhd and2 a=L b=H")
-        .arg(sets(alloc))
 }
 
 /// The values of inputs.
@@ -104,54 +204,10 @@ fn sets<'a>(alloc: Global) -> Arg<'a> {
         .action(ArgAction::Append)
 }
 
-/// The command that prints a design's nets.
-fn net_command<'a>(alloc: Global) -> Result<Command<'a>, AllocError> {
-    let command = design_command(alloc, "net", "Prints the nets and what drives each")?;
-    Ok(
-        command
-            .override_usage("rtlsim net [--with <FILE>]... [--explain] <FILE> <TOP>")
-            .after_help("Example: rtlsim net counter.vhd counter"),
-    )
-}
-
-/// The command that checks a design.
-fn check_command<'a>(alloc: Global) -> Result<Command<'a>, AllocError> {
-    design_command(alloc, "check", "Says whether the design is sure to settle")?
-        .override_usage("rtlsim check [--dot | --json] [--with <FILE>]... [--explain] <FILE> <TOP>")
-        .after_help("Example: rtlsim check counter.vhd counter")
-        .arg(flag(
-            alloc,
-            "dot",
-            "Draws the levels of one that is, as a graph of Graphviz",
-        ))?
-        .arg(json(alloc)?)
-}
-
 /// The verdict for tools.
 fn json<'a>(alloc: Global) -> Result<Arg<'a>, AllocError> {
     let help = "Prints the verdict as an object of JSON, for tools";
     flag(alloc, "json", help).conflicts_with("dot")
-}
-
-/// The command that simulates a design.
-fn run_command<'a>(alloc: Global) -> Result<Command<'a>, AllocError> {
-    design_command(alloc, "run", "Prints the trace under a stimulus")?
-        .override_usage(RUN_USAGE)
-        .after_help("Example: rtlsim run counter.vhd counter counter.stim")
-        .arg(operand(alloc, "STIM", "The stimulus, or @ for the standard input"))?
-        .arg(flag(
-            alloc,
-            "event",
-            "Simulates by events alone, without the checker",
-        ))?
-        .arg(order(alloc))?
-        .arg(levels(alloc)?)?
-        .arg(file(
-            alloc,
-            "expect",
-            "Compares with the values that FILE expects",
-        ))?
-        .arg(flag(alloc, "progress", "Shows how far the run is"))
 }
 
 /// The order of a run.

@@ -56,7 +56,7 @@ pub(crate) fn take_extras<'a>(
 impl<'a> Taken<'a> {
     ghost use Rattle.std.specs.Prelude.{◌≡◌, ◌∷◌, ◌≤◌, IfOk, IfSome, MatchOption, OnOk, Option, Some, None, [], drop, if◌then◌else◌, length, map};
     ghost use Rattle.rtlsim_words.specs.Extras as extras;
-    ghost use Rattle.rtlsim_words.specs.Extras.{Parts, nothing_taken, parts_of, adds_file, explains_once, expects_once, progresses_once, file_first, expected_first, leaves, order_first};
+    ghost use Rattle.rtlsim_words.specs.Extras.{Parts, nothing_taken, parts_of, adds_file, explains_once, expects_once, progresses_once, named_first, file_first, expected_first, leaves, order_first};
     ghost use Rattle.rtlsim_words.specs.Taking.{after, taken_parts};
 
     /// Nothing is taken.
@@ -93,8 +93,19 @@ impl<'a> Taken<'a> {
         if word == "--progress" {
             return Ok(self.take_progress().then_some(0));
         }
+        self.take_named(word, others)
+    }
+
+    /// The same for a word that may have a name, in it or behind it.
+    fn take_named(&mut self, word: &'a str, others: &[&'a str]) -> Result<Option<usize>, AllocError>
+        ensures read { IfOk result (λ taken. MatchOption taken
+            (after (taken_parts self.old) (named_first word.now (parts_of (map (λ w. w.now) others.now)) (file_first (map (λ w. w.now) others.now)) (expected_first (map (λ w. w.now) others.now)) (order_first (map (λ w. w.now) others.now))) ≡ None)
+            (λ count. after (taken_parts self.old) (named_first word.now (parts_of (map (λ w. w.now) others.now)) (file_first (map (λ w. w.now) others.now)) (expected_first (map (λ w. w.now) others.now)) (order_first (map (λ w. w.now) others.now)))
+            ≡ after (taken_parts self.new) (parts_of (map (λ w. w.now) (drop count others.now))))) }
+        ensures within { IfOk result (λ taken. IfSome taken (λ count. count ≤ length others.now)) }
+    {
         if word == "--with" {
-            return self.take_named(others);
+            return self.take_file_named(others);
         }
         if let Some(name) = word.strip_prefix("--with=") {
             self.add_file(name)?;
@@ -177,7 +188,7 @@ impl<'a> Taken<'a> {
     }
 
     /// Takes in the file that the first of the others names.
-    fn take_named(&mut self, others: &[&'a str]) -> Result<Option<usize>, AllocError>
+    fn take_file_named(&mut self, others: &[&'a str]) -> Result<Option<usize>, AllocError>
         ensures read { IfOk result (λ taken. MatchOption taken
             (after (taken_parts self.old) (file_first (map (λ w. w.now) others.now)) ≡ None)
             (λ count. after (taken_parts self.old) (file_first (map (λ w. w.now) others.now))

@@ -96,10 +96,7 @@ fn described(
 }
 
 /// The entities that are given of a file, and the architecture of each, if the file has one.
-fn read(
-    alloc: Global,
-    file: &File,
-) -> Result<(Entities<'_>, Vec<Option<Architecture>>), NameFault>
+fn read(alloc: Global, file: &File) -> Result<(Entities<'_>, Vec<Option<Architecture>>), NameFault>
     ensures given { Gives (λ p. steps.joined (entities_view p.0) (options_view p.1)) (units_of (file_view file.now)) result }
     ensures told { IfErr result (Tells (broken.file (file_view file.now))) }
 {

@@ -8,7 +8,7 @@ use Rattle.rtl_eval.proofs.drives.Drives.assigned.Goals as goal
 pub returns-clause-within : goal.returns-clause-within
 returns-clause-within c =
     let d = c.self.inside in
-    let many : length c.args.self.now.entries ≡ length d.marks.items =
-    sym (ap (λ (o : Outcome). length o.entries) c.self.view_is) ∙ as_many_entries d.marks.items d.values.items in
+    let many : length c.args.self.now.entries ≡ length d.marks =
+    sym (ap (λ (o : Outcome). length o.entries) c.self.view_is) ∙ as_many_entries d.marks d.values.items in
     subst (λ (spans : List Span). LieWithin (length c.args.self.now.entries) spans) (sym c.as_slice.ensures.value)
     (subst (λ (n : ℕ). LieWithin n d.assigned.items) (sym many) c.self.invariant.within)

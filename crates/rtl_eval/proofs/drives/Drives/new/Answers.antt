@@ -6,20 +6,17 @@ use Rattle.rtl_eval.specs.Tracked.{AreAssigned, entries_of}
 use Rattle.rtl_eval.proofs.Assigned.{no_marks, none_assigned}
 use Rattle.rtl_eval.proofs.drives.Drives.new.Goals as goal
 
-marks_are : (c : goal.In_ok-with_capacity-3) → c.in_ok-vec.field-0.items ≡ replicate c.args.drivers false
-marks_are c = c.in_ok-vec.ensures.items_if_clones_equal (λ y h. h)
-
-entries_are : (c : goal.In_ok-with_capacity-3) → entries_of c.in_ok-vec.field-0.items c.in_ok-vec-2.field-0.items ≡ replicate c.args.drivers None
-entries_are c = ap (λ (ms : List Bool). entries_of ms c.in_ok-vec-2.field-0.items) (marks_are c) ∙ no_marks c.args.drivers c.in_ok-vec-2.field-0.items
+entries_are : (c : goal.In_ok-with_capacity-3) → entries_of c.in_ok-new.field-0 c.in_ok-vec.field-0.items ≡ replicate c.args.drivers None
+entries_are c = ap (λ (ms : List Bool). entries_of ms c.in_ok-vec.field-0.items) c.in_ok-new.ensures ∙ no_marks c.args.drivers c.in_ok-vec.field-0.items
 
 pub invariant_of-result : goal.invariant_of-result
 invariant_of-result c =
-    let many : length c.in_ok-vec.field-0.items ≡ c.args.drivers = ap length (marks_are c) ∙ length-replicate c.args.drivers false in
-    let values : length c.in_ok-vec-2.field-0.items ≡ c.args.drivers = ap length (c.in_ok-vec-2.ensures.items_if_clones_equal (λ y h. h)) ∙ length-replicate c.args.drivers 0 in
+    let many : length c.in_ok-new.field-0 ≡ c.args.drivers = ap length c.in_ok-new.ensures ∙ length-replicate c.args.drivers false in
+    let values : length c.in_ok-vec.field-0.items ≡ c.args.drivers = ap length (c.in_ok-vec.ensures.items_if_clones_equal (λ y h. h)) ∙ length-replicate c.args.drivers 0 in
     let none : length c.in_ok-with_capacity.field-0.items ≡ 0 = ap length c.in_ok-with_capacity.ensures.items in
     record {
       each_value = values ∙ sym many;
-      assigned = subst (λ (spans : List Span). AreAssigned (entries_of c.in_ok-vec.field-0.items c.in_ok-vec-2.field-0.items) (places_of spans)) (sym c.in_ok-with_capacity.ensures.items)
+      assigned = subst (λ (spans : List Span). AreAssigned (entries_of c.in_ok-new.field-0 c.in_ok-vec.field-0.items) (places_of spans)) (sym c.in_ok-with_capacity.ensures.items)
           (subst (λ (es : List (Option ℕ)). AreAssigned es []) (sym (entries_are c)) (none_assigned c.args.drivers));
       within = λ k e l. absurd (omega (arith, l, none));
       few = omega (arith, none);

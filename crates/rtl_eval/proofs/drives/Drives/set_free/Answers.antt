@@ -1,7 +1,8 @@
-use Rattle.std.proofs.Common.{◌≡◌, ℕ, ◌+◌, ◌-◌, ◌<◌, ◌≤◌, ◌++◌, [], ◌∷◌, Bool, true, List, length, replicate, rules, Option, Some, None, ap, sym, subst, ◌∙◌, arith, refl, length-append}
+use Rattle.std.proofs.Common.{◌≡◌, ℕ, ◌+◌, ◌-◌, ◌<◌, ◌≤◌, ◌++◌, [], ◌∷◌, Bool, List, length, rules, Option, Some, None, ap, sym, subst, ◌∙◌, arith, refl, length-append}
 use Rattle.std.specs.List.{range_with_len}
 use Rattle.std.specs.Option.{is_some}
 use Rattle.std.specs.Vec.{with_items}
+use Rattle.std.proofs.lemmas.Bool.{eqb-true}
 use Rattle.std.proofs.lemmas.List.{with_items_is}
 use Rattle.std.proofs.lemmas.List.Edits.{sets}
 use Rattle.std.proofs.lemmas.List.Elements.{All-push}
@@ -11,9 +12,10 @@ use Rattle.rtl_eval.specs.declared.spans.Span.{Span}
 use Rattle.rtl_eval.specs.Runs.{Outcome}
 use Rattle.rtl_eval.specs.Spans.{places_of, written}
 use Rattle.rtl_eval.specs.Tracked.{entry, entries_of, outcome_of, AreAssigned, LieWithin}
-use Rattle.rtl_eval.proofs.Assigned.{as_many_entries, length_sets, part_copied, part_filled, set_all}
+use Rattle.rtl_eval.proofs.Assigned.{as_many_entries, length_sets, part_copied, set_all}
 use Rattle.rtl_eval.proofs.Listing.{room_left}
-use Rattle.rtl_eval.proofs.Places.{listed_written, places_more}
+use Rattle.rtl_eval.proofs.Marking.{length-marked, marked_sets}
+use Rattle.rtl_eval.proofs.Places.{no_mark_yet, listed_written, places_more}
 use Rattle.rtl_eval.proofs.drives.Drives.set_free.Goals as goal
 
 pub overflow_add-end : goal.overflow_add-end
@@ -26,7 +28,7 @@ overflow_add-end c =
 pub push_reserved-requires : goal.push_reserved-requires
 push_reserved-requires c =
     let d = c.self.inside in
-    let entries = entries_of d.marks.items d.values.items in
+    let entries = entries_of d.marks d.values.items in
     let first = c.args.first in
     let all_there = rw (← c.self.view_is) at c.requires.there in
     let all_free = rw (← c.self.view_is) at c.requires.free in
@@ -34,54 +36,50 @@ push_reserved-requires c =
     let there : first < length entries = let t = all_there 0 c.requires.some in omega (arith, t) in
     let free = ap (λ (place : ℕ). is_some (entry entries place)) at ∙ ap is_some (all_free 0 c.requires.some) in
     let l = room_left is_some None entries (places_of d.assigned.items) c.self.invariant.assigned first (Some 0) there refl free in
-    omega (arith, l, c.self.invariant.few, c.self.invariant.reserved, as_many_entries d.marks.items d.values.items)
+    omega (arith, l, c.self.invariant.few, c.self.invariant.reserved, as_many_entries d.marks d.values.items)
+
+pub fill-requires-clause-within : goal.fill-requires-clause-within
+fill-requires-clause-within c =
+    let d = c.self.inside in
+    let many = ap (λ (o : Outcome). length o.entries) c.self.view_is in
+    let last = c.requires.there (length c.args.values.now - 1) (omega (arith, c.requires.some)) in
+    omega (arith, c.requires.some, last, many, as_many_entries d.marks d.values.items)
+
+pub fill-requires-clause-first : goal.fill-requires-clause-first
+fill-requires-clause-first c none =
+    let d = c.self.inside in
+    no_mark_yet d.marks d.values.items d.assigned.items c.self.invariant.assigned (omega (arith, eqb-true _ _ (sym c.is_empty-are_first.ensures ∙ none), d.assigned.ok.0))
 
 -- the span ends within the marks
-ends : (c : goal.After-push_reserved) → c.args.first + length c.args.values.now ≤ length c.self.inside.marks.items
+ends : (c : goal.After-push_reserved) → c.args.first + length c.args.values.now ≤ length c.self.inside.marks
 ends c =
     let d = c.self.inside in
     let many = ap (λ (o : Outcome). length o.entries) c.self.view_is in
     let last = c.requires.there (length c.args.values.now - 1) (omega (arith, c.requires.some)) in
-    omega (arith, c.requires.some, last, many, as_many_entries d.marks.items d.values.items)
-
-abbrev marks_of : goal.After-push_reserved → List Bool
-marks_of c = (with_items c.self.inside.marks (put_mid c.args.first (c.args.first + length c.args.values.now - c.args.first) c.deref_mut.result.now c.fill.new.self)).items
+    omega (arith, c.requires.some, last, many, as_many_entries d.marks d.values.items)
 
 abbrev values_of : goal.After-push_reserved → List ℕ
-values_of c = (with_items c.self.inside.values (put_mid c.args.first (c.args.first + length c.args.values.now - c.args.first) c.deref_mut-2.result.now c.copy_from_slice.new.self)).items
-
-marks_are : (c : goal.After-push_reserved) → marks_of c ≡ sets c.self.inside.marks.items c.args.first (replicate (length c.args.values.now) true)
-marks_are c =
-    let marks = c.self.inside.marks in
-    let first = c.args.first in
-    let many = length c.args.values.now in
-    let was = c.deref_mut.result.now in
-    let end = ends c in
-    let within : first + many ≤ length was = omega (arith, end, ap length c.deref_mut.ensures.value) in
-    let is = part_filled first many was c.fill.new.self true within (c.fill.ensures.after (λ y h. h))
-    ∙ ap (λ (ms : List Bool). sets ms first (replicate many true)) c.deref_mut.ensures.value in
-    with_items_is marks (put_mid first (first + many - first) was c.fill.new.self)
-    (omega (arith, ap length is, length_sets (replicate many true) marks.items first, marks.ok.0)) ∙ is
+values_of c = (with_items c.self.inside.values (put_mid c.args.first (c.args.first + length c.args.values.now - c.args.first) c.deref_mut.result.now c.copy_from_slice.new.self)).items
 
 values_are : (c : goal.After-push_reserved) → values_of c ≡ sets c.self.inside.values.items c.args.first c.args.values.now
 values_are c =
     let values = c.self.inside.values in
     let first = c.args.first in
     let new = c.args.values.now in
-    let was = c.deref_mut-2.result.now in
+    let was = c.deref_mut.result.now in
     let end = ends c in
-    let within : first + length new ≤ length was = omega (arith, end, c.self.invariant.each_value, ap length c.deref_mut-2.ensures.value) in
+    let within : first + length new ≤ length was = omega (arith, end, c.self.invariant.each_value, ap length c.deref_mut.ensures.value) in
     let is = part_copied first was c.copy_from_slice.new.self new within c.copy_from_slice.ensures.after
-    ∙ ap (λ (vs : List ℕ). sets vs first new) c.deref_mut-2.ensures.value in
+    ∙ ap (λ (vs : List ℕ). sets vs first new) c.deref_mut.ensures.value in
     with_items_is values (put_mid first (first + length new - first) was c.copy_from_slice.new.self)
     (omega (arith, ap length is, length_sets new values.items first, values.ok.0)) ∙ is
 
-entries_are : (c : goal.After-push_reserved) → entries_of (marks_of c) (values_of c)
-    ≡ written c.args.first c.args.values.now (entries_of c.self.inside.marks.items c.self.inside.values.items)
+entries_are : (c : goal.After-push_reserved) → entries_of c.fill.new.self (values_of c)
+    ≡ written c.args.first c.args.values.now (entries_of c.self.inside.marks c.self.inside.values.items)
 entries_are c =
     let end = ends c in
-    (λ i. entries_of (marks_are c i) (values_are c i))
-    ∙ set_all c.args.first c.self.inside.marks.items c.self.inside.values.items c.args.values.now (omega (arith, end, c.self.invariant.each_value))
+    (λ i. entries_of ((c.fill.ensures ∙ marked_sets c.args.first (length c.args.values.now) c.self.inside.marks) i) (values_are c i))
+    ∙ set_all c.args.first c.self.inside.marks c.self.inside.values.items c.args.values.now (omega (arith, end, c.self.invariant.each_value))
 
 pub invariant_of-self : goal.invariant_of-self
 invariant_of-self c =
@@ -99,14 +97,14 @@ invariant_of-self c =
     let long : length (places_of pushed) ≡ length (places_of spans) + many =
     ap length all ∙ length-append (places_of spans) (range_with_len first many) ∙ ap (λ (n : ℕ). length (places_of spans) + n) (length-range_with_len first many) in
     let more : length pushed ≡ length spans + 1 = ap length c.push_reserved.ensures.items ∙ length-append spans (span ∷ []) in
-    let as_many : length (marks_of c) ≡ length d.marks.items = ap length (marks_are c) ∙ length_sets (replicate many true) d.marks.items first in
+    let as_many : length c.fill.new.self ≡ length d.marks = ap (λ (ms : List Bool). length ms) c.fill.ensures ∙ length-marked first many d.marks in
     record {
       each_value = ap length (values_are c) ∙ length_sets new d.values.items first ∙ I.each_value ∙ sym as_many;
       assigned = subst (λ (es : List (Option ℕ)). AreAssigned es (places_of pushed)) (sym (entries_are c))
-          (rw all (listed_written first new (entries_of d.marks.items d.values.items) (places_of spans) I.assigned there free));
+          (rw all (listed_written first new (entries_of d.marks d.values.items) (places_of spans) I.assigned there free));
       within = subst (λ (n : ℕ). LieWithin n pushed) (sym as_many)
-          (subst (λ (ss : List Span). LieWithin (length d.marks.items) ss) (sym c.push_reserved.ensures.items)
-          (All-push (λ (s : Span). s.first + s.len ≤ length d.marks.items) spans span I.within (ends c)));
+          (subst (λ (ss : List Span). LieWithin (length d.marks) ss) (sym c.push_reserved.ensures.items)
+          (All-push (λ (s : Span). s.first + s.len ≤ length d.marks) spans span I.within (ends c)));
       few = omega (arith, I.few, c.requires.some, long, more);
       reserved = omega (arith, I.reserved, c.push_reserved.ensures.capacity, as_many);
       each_element = I.each_element;

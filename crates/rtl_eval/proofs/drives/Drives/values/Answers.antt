@@ -9,7 +9,7 @@ use Rattle.rtl_eval.proofs.drives.Drives.values.Goals as goal
 
 pub returns-clause-entries : goal.returns-clause-entries
 returns-clause-entries c = λ k l some.
-    let marks = c.self.inside.marks.items in
+    let marks = c.self.inside.marks in
     let values = c.self.inside.values.items in
     let first = c.args.span.first in
     let end = first + c.args.span.len in
