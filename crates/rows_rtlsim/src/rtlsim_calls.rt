@@ -1,7 +1,5 @@
 //! The program's calls.
 
-ghost use Rattle.rtl_sink.specs.Written.{IsIntact};
-
 use crate::library::answer_by_library;
 use rows_calls::Program;
 use rtl_sink::{Reader, Sink};
