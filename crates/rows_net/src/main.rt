@@ -4,42 +4,29 @@
 //!
 //! A row that is as expected is printed as it stands in its table; of any other it is said what was found. So the
 //! transcript is the tables, comments aside.
+//!
+//! All that needs no source stands in rows_on_net, where it is proved sooner.
 #![tactic(auto)]
 
-mod agendas;
-mod bodies;
-mod calls;
-mod change;
-mod courses;
-mod nets;
-mod orders;
+mod opened;
 mod outcome;
-mod outputs;
-mod pickers;
-mod processes;
-mod row;
-mod runs;
-mod stepping;
 mod tries;
-mod ways;
 
-use agendas::tell_agendas;
-use bodies::Bodies;
-use orders::tell_orders;
+use opened::Opened;
 use outcome::Processes;
+use rows_on_net::{Bodies, tell_agendas, tell_orders, tell_runs};
 use rows_tables::tell_table;
-use runs::tell_runs;
 use std::io;
 use tries::Tries;
 
 fn main(rt: HostRuntime) -> io::Result<()> {
     tell_table(&rt, "processes.rows", &Processes)?;
     tell_table(&rt, "reports.rows", &Tries)?;
-    tell_runs(&rt, "traces.rows")?;
-    tell_runs(&rt, "faults.rows")?;
+    tell_runs(&rt, &Opened, "traces.rows")?;
+    tell_runs(&rt, &Opened, "faults.rows")?;
     println!(rt; "bodies as trees")?;
-    tell_orders(&rt, Bodies::Trees)?;
+    tell_orders(&rt, &Opened, Bodies::Trees)?;
     println!(rt; "bodies as codes")?;
-    tell_orders(&rt, Bodies::Codes)?;
+    tell_orders(&rt, &Opened, Bodies::Codes)?;
     tell_agendas(&rt)
 }

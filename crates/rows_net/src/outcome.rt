@@ -1,6 +1,6 @@
 //! What is elaborated of a text, in words.
 
-use crate::processes::processes_of;
+use rows_on_net::processes_of;
 use rows_tables::{Frame, Teller};
 use std::alloc::{AllocError, Global};
 use vhdl_expand_rules::{ElabFault, ElabProblem};

@@ -6,21 +6,16 @@
 //!
 //! `data/names/` and `data/nets/` have tables of many small sources, as rows_tables reads them: a row is a call of `net`, of
 //! which it tells a few words. They are printed as they stand, comments aside.
+//!
+//! All that needs no program stands in rows_calls, where it is proved sooner: here are the calls alone.
 #![tactic(auto)]
 
-mod answer;
-mod calls;
-mod faulty;
-mod row;
-mod tables;
+mod library;
+mod rtlsim_calls;
 
-use answer::text_of;
-use calls::wrong_answer;
-use row::Row;
-use rows_tables::tell_table;
-use std::rt::Files;
-use std::{fs, io};
-use tables::Told;
+use rows_calls::{Told, tell_calls, tell_sources};
+use rtlsim_calls::Rtlsim;
+use std::io;
 
 /// The tables of calls, in the folder in which the program runs.
 const TABLES: [&str; 23] = [
@@ -72,49 +67,6 @@ const SOURCES: [(&str, Told); 18] = [
 ];
 
 fn main(rt: HostRuntime) -> io::Result<()> {
-    for table in TABLES {
-        tell_calls(&rt, table)?;
-    }
-    tell_sources(&rt)
-}
-
-/// Prints a table of calls.
-fn tell_calls<R: Files + Print + AllocGlobal>(rt: &R, table: &str) -> io::Result<()> {
-    println!(rt; "{table}")?;
-    let text = fs::read_to_string(rt, table)?;
-    for part in text.as_str().split("\n$").skip(1) {
-        tell_row(rt, part)?;
-    }
-    Ok(())
-}
-
-/// Prints the tables of small sources.
-fn tell_sources<R: Files + Print + AllocGlobal>(rt: &R) -> io::Result<()> {
-    for (table, told) in SOURCES {
-        tell_table(rt, table, &told)?;
-    }
-    Ok(())
-}
-
-/// Prints a row with its answer and its calls, and what a call gives that answers otherwise.
-fn tell_row<R: Files + Print + AllocGlobal>(rt: &R, part: &str) -> io::Result<()> {
-    let row = Row::read(rt, part)?;
-    println!(rt;
-        "{}: {} {}, by {}",
-        row.line,
-        row.answer.status,
-        row.told(),
-        row.calls
-    )?;
-    for call in row.calls.split(' ') {
-        if let Some(answer) = wrong_answer(rt, &row, call)? {
-            println!(rt;
-                "NOT by {call}: {}\n{}{}",
-                answer.status,
-                text_of(&answer.out),
-                text_of(&answer.err)
-            )?;
-        }
-    }
-    Ok(())
+    tell_calls(&rt, &Rtlsim, &TABLES)?;
+    tell_sources(&rt, &Rtlsim, &SOURCES)
 }

@@ -6,3 +6,4 @@ pub mod Concurrent
 pub mod Covering
 pub mod Sequential
 pub mod Told
+pub mod Turns

@@ -1,4 +1,4 @@
-use Rattle.std.proofs.Common.{ℕ, List, All, subst, below_more}
+use Rattle.std.proofs.Common.{ℕ, zero, suc, ◌<◌, List, [], ◌∷◌, length, get_or, All, Option, None, IsSome, arith, subst, below_more}
 use Rattle.rtl_check_levels.specs.Finding.{IsRanked}
 use Rattle.rtl_check_levels.proofs.Growing.{placed_grows, released_placed, released_less}
 use Rattle.rtl_check_levels.proofs.finding.find.Goals as goal
@@ -26,3 +26,24 @@ loop-waiters-preserved c =
 pub loop-waiters-smaller : goal.loop-waiters-smaller
 loop-waiters-smaller c =
     released_less c.args.table.now c.loop-waiters.finding c.release.new.self c.place_all.new.self c.in-Some.waiters.items 0 c.in-Some.ensures.released c.in_ok-place_all.ensures.grows
+
+within : {A : Type 0} (table : List (Option A)) (q : ℕ) → IsSome (get_or table q None) → q < length table
+within [] q some = absurd cc
+within (x ∷ xs) zero some = omega arith
+within (x ∷ xs) (suc q) some = let l = within xs q some in omega (arith, l)
+
+pub loop-q-init : goal.loop-q-init
+loop-q-init c = record { sound = c.in_ok-finding.ensures; placed = λ r l. absurd (omega (arith, l)) }
+
+pub loop-waiters-init : goal.loop-waiters-init
+loop-waiters-init c =
+    let past = c.loop-q-test.false in
+    record {
+      sound = c.loop-q.invariant.sound;
+      placed = λ r inside. c.loop-q.invariant.placed r (let l = within c.args.table.now r inside in omega (arith, l, past)) inside;
+    }
+
+pub returns : goal.returns
+returns c =
+    let d = rw c.in_default.is at c.release.ensures.done in
+    record { sound = c.release.ensures.sound; done = d.0; placed = λ q. rw (d.1, d.2) (c.loop-waiters.invariant.placed q) }

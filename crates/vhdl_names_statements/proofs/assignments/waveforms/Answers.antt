@@ -1,4 +1,4 @@
-use Rattle.std.proofs.Common.{rules, arith, ◌<◌, ◌∷◌, [], length, map, ap, ◌∙◌}
+use Rattle.std.proofs.Common.{rules, arith, ◌<◌, ◌∷◌, [], length, map, refl, ap, ◌∙◌}
 use Rattle.std.proofs.lemmas.Grind.{common_steps}
 use Rattle.std.proofs.lemmas.List.{map-append}
 use Rattle.vhdl_tree.specs.View as tree
@@ -9,6 +9,7 @@ use Rattle.vhdl_names_problems.specs.Concurrent as broken
 use Rattle.vhdl_names_statements.specs.steps.Concurrent as steps
 use Rattle.vhdl_names_labels.proofs.Behind.{next_told, next_left}
 use Rattle.vhdl_names_statements.proofs.steps.Told.{more_done}
+use Rattle.vhdl_names_statements.proofs.steps.Turns.{none_done, all_done}
 use Rattle.vhdl_names_statements.proofs.steps.Assigning.{branch_kept}
 use Rattle.vhdl_names_statements.proofs.assignments.waveforms.Goals as goal
 
@@ -33,3 +34,11 @@ loop-item-preserved c =
           (ap (map views.branch_view) c.in_ok-push.ensures.items ∙ map-append views.branch_view c.loop-item.all.items (c.in_ok-next.next ∷ [])),
       next_left tree.branch_view xs i x lt c.item-item.is (broken.branch s (tree.name_view c.args.target.now)) c.loop-item.invariant.1 (branch_kept s (tree.name_view c.args.target.now) (tree.branch_view x) _ c.in_ok-next.ensures.given),
     )
+
+pub loop-item-init : goal.loop-item-init
+loop-item-init c =
+    (none_done tree.branch_view c.args.list.now (steps.waveform (sight_view c.args.sight.now) (tree.name_view c.args.target.now)) _ (ap (map views.branch_view) c.new-all.ensures.items), refl)
+
+pub returns-clause-given : goal.returns-clause-given
+returns-clause-given c =
+    all_done tree.branch_view c.args.list.now (steps.waveform (sight_view c.args.sight.now) (tree.name_view c.args.target.now)) _ c.loop-item.item-index c.loop-item-test.false c.loop-item.invariant.0

@@ -1,4 +1,4 @@
-use Rattle.std.proofs.Common.{rules, arith, ◌≡◌, ◌≢◌, ◌<◌, ◌∷◌, [], length, map, None, Some, ap, sym, ◌∙◌}
+use Rattle.std.proofs.Common.{rules, arith, ◌≡◌, ◌≢◌, ◌<◌, ◌∷◌, [], length, map, None, Some, refl, ap, sym, ◌∙◌}
 use Rattle.std.proofs.lemmas.Grind.{common_steps}
 use Rattle.std.proofs.lemmas.List.{map-append}
 use Rattle.vhdl_tree.specs.Tree as tree'
@@ -28,6 +28,7 @@ use Rattle.vhdl_names_statements.proofs.steps.Sequential.{if_gives, loop_gives, 
 use Rattle.vhdl_names_statements.proofs.steps.Cases.{case_gives}
 use Rattle.vhdl_names_statements.proofs.steps.Told as by
 use Rattle.vhdl_names_statements.proofs.steps.Covering as part
+use Rattle.vhdl_names_statements.proofs.steps.Turns.{none_done, all_done}
 use Rattle.vhdl_names_statements.proofs.statements.+statements.Goals as goal
 
 pub turn-returns-clause-kept : goal.turn-returns-clause-kept
@@ -69,15 +70,14 @@ pub statements-loop-item-preserved : goal.statements-loop-item-preserved
 statements-loop-item-preserved m c =
     let s = sight_view c.args.sight.now in
     let xs = c.args.list.now in
-    let i = c.loop-item.item-index in
     let x = c.item-item.result in
     let lt : c.loop-item.item-index < length c.args.list.now = omega arith in
     let given : steps.labelled s (tree.sequential_view x) ≡ Some (statement_view c.in_ok-next.next) =
     ap (λ e. steps.labelled e (tree.sequential_view x)) (sym c.loop-item.invariant.0) ∙ c.in_ok-next.ensures.given in (
       c.in_ok-next.ensures.kept ∙ c.loop-item.invariant.0,
-      by.more_done tree.sequential_view xs i x lt c.item-item.is (steps.labelled s) (statements_view c.loop-item.all) _ (statement_view c.in_ok-next.next) _ c.loop-item.invariant.1 given
+      by.more_done tree.sequential_view xs c.loop-item.item-index x lt c.item-item.is (steps.labelled s) (statements_view c.loop-item.all) _ (statement_view c.in_ok-next.next) _ c.loop-item.invariant.1 given
           (ap (map statement_view) c.in_ok-push.ensures.items ∙ map-append statement_view c.loop-item.all.items (c.in_ok-next.next ∷ [])),
-      next_left tree.sequential_view xs i x lt c.item-item.is (told.labelled s) c.loop-item.invariant.2 (by.labelled_kept s (tree.sequential_view x) _ given),
+      next_left tree.sequential_view xs c.loop-item.item-index x lt c.item-item.is (told.labelled s) c.loop-item.invariant.2 (by.labelled_kept s (tree.sequential_view x) _ given),
     )
 
 pub branches-returns-in_err-next-clause-told : goal.branches-returns-in_err-next-clause-told
@@ -96,15 +96,14 @@ pub branches-loop-item-preserved : goal.branches-loop-item-preserved
 branches-loop-item-preserved m c =
     let s = sight_view c.args.sight.now in
     let xs = c.args.list.now in
-    let i = c.loop-item.item-index in
     let x = c.item-item.result in
     let lt : c.loop-item.item-index < length c.args.list.now = omega arith in
     let given : steps.guarded s (tree.conditional_view x) ≡ Some (branch_view c.in_ok-next.next) =
     ap (λ e. steps.guarded e (tree.conditional_view x)) (sym c.loop-item.invariant.0) ∙ c.in_ok-next.ensures.given in (
       c.in_ok-next.ensures.kept ∙ c.loop-item.invariant.0,
-      by.more_done tree.conditional_view xs i x lt c.item-item.is (steps.guarded s) (branches_view c.loop-item.all) _ (branch_view c.in_ok-next.next) _ c.loop-item.invariant.1 given
+      by.more_done tree.conditional_view xs c.loop-item.item-index x lt c.item-item.is (steps.guarded s) (branches_view c.loop-item.all) _ (branch_view c.in_ok-next.next) _ c.loop-item.invariant.1 given
           (ap (map branch_view) c.in_ok-push.ensures.items ∙ map-append branch_view c.loop-item.all.items (c.in_ok-next.next ∷ [])),
-      next_left tree.conditional_view xs i x lt c.item-item.is (told.guarded s) c.loop-item.invariant.2 (by.guarded_kept s (tree.conditional_view x) _ given),
+      next_left tree.conditional_view xs c.loop-item.item-index x lt c.item-item.is (told.guarded s) c.loop-item.invariant.2 (by.guarded_kept s (tree.conditional_view x) _ given),
     )
 
 pub alternatives-returns-in_err-next-clause-told : goal.alternatives-returns-in_err-next-clause-told
@@ -123,15 +122,14 @@ pub alternatives-loop-item-preserved : goal.alternatives-loop-item-preserved
 alternatives-loop-item-preserved m c =
     let s = sight_view c.args.sight.now in
     let xs = c.args.list.now in
-    let i = c.loop-item.item-index in
     let x = c.item-item.result in
     let lt : c.loop-item.item-index < length c.args.list.now = omega arith in
     let given : cases.chosen s c.args.selected (tree.alternative_view x) ≡ Some (alternative_view c.in_ok-next.next) =
     ap (λ e. cases.chosen e c.args.selected (tree.alternative_view x)) (sym c.loop-item.invariant.0) ∙ c.in_ok-next.ensures.given in (
       c.in_ok-next.ensures.kept ∙ c.loop-item.invariant.0,
-      by.more_done tree.alternative_view xs i x lt c.item-item.is (cases.chosen s c.args.selected) (alternatives_view c.loop-item.all) _ (alternative_view c.in_ok-next.next) _ c.loop-item.invariant.1 given
+      by.more_done tree.alternative_view xs c.loop-item.item-index x lt c.item-item.is (cases.chosen s c.args.selected) (alternatives_view c.loop-item.all) _ (alternative_view c.in_ok-next.next) _ c.loop-item.invariant.1 given
           (ap (map alternative_view) c.in_ok-push.ensures.items ∙ map-append alternative_view c.loop-item.all.items (c.in_ok-next.next ∷ [])),
-      next_left tree.alternative_view xs i x lt c.item-item.is (told.alternative s c.args.selected) c.loop-item.invariant.2 (by.alternative_kept s c.args.selected (tree.alternative_view x) _ given),
+      next_left tree.alternative_view xs c.loop-item.item-index x lt c.item-item.is (told.alternative s c.args.selected) c.loop-item.invariant.2 (by.alternative_kept s c.args.selected (tree.alternative_view x) _ given),
     )
 
 pub statement-returns-in-SignalAssignment-clause-told : goal.statement-returns-in-SignalAssignment-clause-told
@@ -380,3 +378,21 @@ case_parts-returns-clause-told m c =
     (λ f h. part.parts_none s k (map tree.alternative_view xs) l end at f (alternatives_view c.in_ok-all.all) covered c.in_ok-all-2.ensures.asked
     (told_same _ _ f (ap (λ v. any_alternative at (alternatives_view v)) c.in_ok-all-2.ensures.same) h))
     c.but_last.ensures.told
+
+pub statements-loop-item-init : goal.statements-loop-item-init
+statements-loop-item-init m c = (refl, none_done tree.sequential_view c.args.list.now (steps.labelled (sight_view c.args.sight.now)) _ (ap (map statement_view) c.new-all.ensures.items), refl)
+
+pub statements-returns-clause-given : goal.statements-returns-clause-given
+statements-returns-clause-given m c = all_done tree.sequential_view c.args.list.now (steps.labelled (sight_view c.args.sight.now)) _ c.loop-item.item-index c.loop-item-test.false c.loop-item.invariant.1
+
+pub branches-loop-item-init : goal.branches-loop-item-init
+branches-loop-item-init m c = (refl, none_done tree.conditional_view c.args.list.now (steps.guarded (sight_view c.args.sight.now)) _ (ap (map branch_view) c.new-all.ensures.items), refl)
+
+pub branches-returns-clause-given : goal.branches-returns-clause-given
+branches-returns-clause-given m c = all_done tree.conditional_view c.args.list.now (steps.guarded (sight_view c.args.sight.now)) _ c.loop-item.item-index c.loop-item-test.false c.loop-item.invariant.1
+
+pub alternatives-loop-item-init : goal.alternatives-loop-item-init
+alternatives-loop-item-init m c = (refl, none_done tree.alternative_view c.args.list.now (cases.chosen (sight_view c.args.sight.now) c.args.selected) _ (ap (map alternative_view) c.new-all.ensures.items), refl)
+
+pub alternatives-returns-clause-given : goal.alternatives-returns-clause-given
+alternatives-returns-clause-given m c = all_done tree.alternative_view c.args.list.now (cases.chosen (sight_view c.args.sight.now) c.args.selected) _ c.loop-item.item-index c.loop-item-test.false c.loop-item.invariant.1
