@@ -1,11 +1,17 @@
-use Rattle.std.proofs.Common.{rules, arith, ◌≡◌, ◌<◌, ◌+◌, length, map, drop}
+use Rattle.std.proofs.Common.{rules, arith, ◌≡◌, ◌<◌, ◌+◌, length, map, drop, refl, ap, sym, ◌∙◌}
 use Rattle.std.proofs.lemmas.Grind.{common_steps}
+use Rattle.std.proofs.lemmas.List.{at_drop_all}
 use Rattle.vhdl_tree.specs.View.{name_view}
 use Rattle.vhdl_names_types.specs.Views.{sight_view}
 use Rattle.vhdl_names_problems.specs.Broken.{Tells, any_of}
 use Rattle.vhdl_names_problems.specs.Statements.{signal}
 use Rattle.vhdl_names_problems.proofs.kept.Statements.{signal_kept}
+use Rattle.vhdl_names_labels.specs.Lists.{in_turn, one_more}
 use Rattle.vhdl_names_labels.proofs.Behind.{next_told, next_left}
+use Rattle.vhdl_names_labels.proofs.Lists.{each_in_turn}
+use Rattle.vhdl_names_rules.specs.views.Vectors.{place_view}
+use Rattle.vhdl_names_concurrent.specs.Views.{all_places_view}
+use Rattle.vhdl_names_concurrent.specs.steps.Processes.{place_of}
 use Rattle.vhdl_names_concurrent.proofs.processes.places.Goals as goal
 
 pub returns-in_err-named-clause-told : goal.returns-in_err-named-clause-told
@@ -26,3 +32,15 @@ loop-name-preserved c =
     next_left name_view c.args.names.now c.loop-name.name-index c.name-item.result lt c.name-item.is b c.loop-name.invariant.1
     (signal_kept s (name_view c.name-item.result) _ c.in_ok-named.ensures.given) in
     first_of (search rules, grind (arith, common_steps))
+
+pub loop-name-init : goal.loop-name-init
+loop-name-init c =
+    let views = map name_view c.args.names.now in
+    let g = place_of (sight_view c.args.sight.now) in
+    (each_in_turn g views ∙ ap (λ done. in_turn (one_more g) done views) (sym (ap (map place_view) c.new-all.ensures.items)), refl)
+
+pub returns-clause-given : goal.returns-clause-given
+returns-clause-given c =
+    let g = place_of (sight_view c.args.sight.now) in
+    c.loop-name.invariant.0
+    ∙ at_drop_all (λ left. in_turn (one_more g) (all_places_view c.loop-name.all) (map name_view left)) c.args.names.now c.loop-name.name-index c.loop-name-test.false
