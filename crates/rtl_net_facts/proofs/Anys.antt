@@ -1,6 +1,6 @@
 -- Searches of a list, one element at a time.
 use Rattle.std.proofs.Common.{◌≡◌, ℕ, zero, suc, ◌==◌, nat_lt, nat_le, ◌⊎◌, inl, inr, arith, ◌+◌, ◌<◌, ◌≤◌, Bool, true, false, ◌&&◌, ◌||◌, List, length, get_or, drop, refl, sym, ap, ◌∙◌}
-use Rattle.std.specs.List.{list_any, range_with_len}
+use Rattle.std.specs.List.{list_any, list_all, range_with_len}
 use Rattle.std.proofs.lemmas.Bool.{cases_Bool, eqb-true, eq-eqb, lt-ltb, le-ltb, lt-leb}
 use Rattle.std.proofs.lemmas.List.{at_drop_more, at_drop_all}
 
@@ -27,8 +27,24 @@ module _ {X : Type 0} (f : X → Bool) (xs : List X) (i : ℕ) where
   pub any_found : (x : X) → i < length xs → x ≡ get_or xs i x → list_any f (drop i xs) ≡ list_any f xs → f x ≡ true → true ≡ list_any f xs
   any_found x l e inv t = sym (ap (λ (b : Bool). b || list_any f (drop (i + 1) xs)) t) ∙ (sym (any_at x l e) ∙ inv)
 
+  pub any_next : (x : X) → i < length xs → x ≡ get_or xs i x → list_any f (drop i xs) ≡ list_any f xs → f x ≡ false → list_any f (drop (i + 1) xs) ≡ list_any f xs
+  any_next x l e inv t = sym (ap (λ (b : Bool). b || list_any f (drop (i + 1) xs)) t) ∙ (sym (any_at x l e) ∙ inv)
+
   pub any_end : length xs ≤ i → list_any f (drop i xs) ≡ list_any f xs → false ≡ list_any f xs
   any_end l inv = sym (at_drop_all (list_any f) xs i l) ∙ inv
+
+module _ {X : Type 0} (f : X → Bool) (xs : List X) (i : ℕ) where
+  all_at : (x : X) → i < length xs → x ≡ get_or xs i x → list_all f (drop i xs) ≡ (f x && list_all f (drop (i + 1) xs))
+  all_at x l e = at_drop_more (list_all f) xs i x l ∙ ap (λ (y : X). f y && list_all f (drop (i + 1) xs)) (sym e)
+
+  pub all_lost : (x : X) → i < length xs → x ≡ get_or xs i x → list_all f (drop i xs) ≡ list_all f xs → f x ≡ false → false ≡ list_all f xs
+  all_lost x l e inv t = sym (ap (λ (b : Bool). b && list_all f (drop (i + 1) xs)) t) ∙ (sym (all_at x l e) ∙ inv)
+
+  pub all_next : (x : X) → i < length xs → x ≡ get_or xs i x → list_all f (drop i xs) ≡ list_all f xs → f x ≡ true → list_all f (drop (i + 1) xs) ≡ list_all f xs
+  all_next x l e inv t = sym (ap (λ (b : Bool). b && list_all f (drop (i + 1) xs)) t) ∙ (sym (all_at x l e) ∙ inv)
+
+  pub all_end : length xs ≤ i → list_all f (drop i xs) ≡ list_all f xs → true ≡ list_all f xs
+  all_end l inv = sym (at_drop_all (list_all f) xs i l) ∙ inv
 
 -- ---- a whole of two parts, of which the first may decide
 

@@ -29,6 +29,11 @@ all_append : {X : Type 0} (f : X → Bool) (xs ys : List X) → list_all f (xs +
 all_append f [] ys = refl
 all_append f (x ∷ xs) ys = ap (λ (b : Bool). f x && b) (all_append f xs ys) ∙ sym (and_assoc (f x) (list_all f xs) (list_all f ys))
 
+pub any_more : {X : Type 0} (f : X → Bool) (xs : List X) (i : ℕ) (x : X) → i < length xs → x ≡ get_or xs i x
+    → list_any f (take (i + 1) xs) ≡ (list_any f (take i xs) || f x)
+any_more f xs i x l e = ap (list_any f) (take_more xs i x l ∙ ap (λ y. take i xs ++ y ∷ []) (sym e))
+    ∙ (any_append f (take i xs) (x ∷ []) ∙ ap (λ (b : Bool). list_any f (take i xs) || b) (sym (or_none (f x))))
+
 and_true : (a : Bool) → a ≡ (a && true)
 and_true true = refl
 and_true false = refl

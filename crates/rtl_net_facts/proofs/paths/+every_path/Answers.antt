@@ -1,14 +1,16 @@
-use Rattle.std.proofs.Common.{◌≡◌, ◌&&◌, ◌++◌, Bool, List, Option, Some, None, Vec, Global, ap, sym, ◌∙◌, ℕ}
+use Rattle.std.proofs.Common.{◌≡◌, ◌&&◌, ◌||◌, ◌++◌, refl, Bool, List, Option, Some, None, Vec, Global, ap, sym, ◌∙◌, ℕ}
 use Rattle.std.specs.List.{list_any, list_all}
 use Rattle.std.proofs.lemmas.List.{take_all}
+use Rattle.std.proofs.lemmas.Result.{on_ok_weaker}
 use Rattle.rtl_net.specs.declared.body.Statement.{Statement}
 use Rattle.rtl_net.specs.declared.body.Statement.TheVariants as vs
 use Rattle.rtl_net.specs.declared.body.Branch.{Branch}
 use Rattle.rtl_net.specs.declared.body.Alternative.{Alternative}
 use Rattle.rtl_net.specs.Bodies.{statements_of}
 use Rattle.rtl_model.specs.bodies.Assigns.{must_assign}
+use Rattle.rtl_net_facts.specs.Reading.{is_in}
 use Rattle.rtl_net_facts.specs.Paths.{to_net, statement_covers, branch_covers, alternative_covers}
-use Rattle.rtl_net_facts.proofs.EveryPath.{all_more, both_have, adds_none, adds_all, covers_sequence, set_covers, if_covers, if_alone_covers, case_covers}
+use Rattle.rtl_net_facts.proofs.EveryPath.{any_more, all_more, both_have, adds_none, adds_all, covers_sequence, set_covers, if_covers, if_alone_covers, case_covers}
 use Rattle.rtl_net_facts.proofs.paths.+every_path.Goals as goal
 
 pub common_with_alternatives-loop-alternative-preserved : goal.common_with_alternatives-loop-alternative-preserved
@@ -70,3 +72,37 @@ push_assigned-returns-in_ok-extend_from_slice-in-Case t c =
     (c.in_ok-common-in-Case.ensures.are n ∙ ap (λ (xs : List Statement). must_assign (to_net ds n) (statements_of xs)) c.deref-in-Case.ensures.value)
     ∙ (ap (λ (bs : List Alternative). list_all (alternative_covers ds n) bs && must_assign (to_net ds n) (statements_of i.others.items)) c.deref-in-Case-2.ensures.value
     ∙ sym (case_covers ds n c.args.statement.now i.at i.selector i.alternatives i.others i.is))))
+
+pub assigned_nets-loop-statement-init : goal.assigned_nets-loop-statement-init
+assigned_nets-loop-statement-init t c = λ n. ap (is_in n) c.new-nets.ensures.items
+
+pub assigned_nets-loop-statement-preserved : goal.assigned_nets-loop-statement-preserved
+assigned_nets-loop-statement-preserved t c =
+    let l = c.loop-statement in
+    let f = statement_covers c.args.drives.now in
+    λ n. c.in_ok-push_assigned.ensures n ∙ (ap (λ (b : Bool). b || f n c.statement-item.result) (l.invariant n)
+    ∙ sym (any_more (f n) c.args.statements.now l.statement-index c.statement-item.result c.loop-statement-test.true c.statement-item.is))
+
+pub common_with_branches-loop-branch-init : goal.common_with_branches-loop-branch-init
+common_with_branches-loop-branch-init t c = λ n. refl
+
+pub common_with_alternatives-loop-alternative-init : goal.common_with_alternatives-loop-alternative-init
+common_with_alternatives-loop-alternative-init t c = λ n. refl
+
+pub common_with_branches-returns : goal.common_with_branches-returns
+common_with_branches-returns t c =
+    let l = c.loop-branch in
+    λ n. l.invariant n ∙ ap (λ (xs : List Branch). list_all (branch_covers c.args.drives.now n) xs && is_in n c.args.common.items) (take_all l.branch-index c.args.branches.now c.loop-branch-test.false)
+
+pub common_with_alternatives-returns : goal.common_with_alternatives-returns
+common_with_alternatives-returns t c =
+    let l = c.loop-alternative in
+    λ n. l.invariant n
+    ∙ ap (λ (xs : List Alternative). list_all (alternative_covers c.args.drives.now n) xs && is_in n c.args.common.items) (take_all l.alternative-index c.args.alternatives.now c.loop-alternative-test.false)
+
+pub push_assigned-returns-in-Null : goal.push_assigned-returns-in-Null
+push_assigned-returns-in-Null t c = λ n. adds_none n c.args.nets.now.items _ (ap (statement_covers c.args.drives.now n) c.in-Null.is)
+
+pub push_assigned-returns-in-Assign : goal.push_assigned-returns-in-Assign
+push_assigned-returns-in-Assign t c =
+    on_ok_weaker c.push_targets.result (λ h n. h n ∙ ap (λ (b : Bool). is_in n c.args.nets.now.items || b) (sym (ap (statement_covers c.args.drives.now n) c.in-Assign.is))) c.push_targets.ensures

@@ -5,7 +5,7 @@ use Rattle.rtl_net.specs.declared.body.Statement.TheVariants as vs
 use Rattle.rtl_net.specs.Bodies.{statements_of}
 use Rattle.rtl_model.specs.bodies.Stored.{stores_element}
 use Rattle.rtl_net_facts.specs.Looks.{branch_stores, alternative_stores}
-use Rattle.rtl_net_facts.proofs.Anys.{first_true, then_rest}
+use Rattle.rtl_net_facts.proofs.Anys.{any_found, any_next, any_end, first_true, then_rest}
 use Rattle.rtl_net_facts.proofs.Parts.{if_stores, if_alone_stores, case_stores}
 use Rattle.rtl_net_facts.proofs.stores.+stores.Goals as goal
 
@@ -54,3 +54,28 @@ statement_stores-returns-else-some_alternative_stores t c =
     (then_rest c.some_alternative_stores.result c.body_stores-else-some_alternative_stores.result (a || b) a b
     (c.some_alternative_stores.ensures ∙ ap (list_any (alternative_stores e)) c.deref-in-Case.ensures.value) c.if-some_alternative_stores.false refl
     (c.body_stores-else-some_alternative_stores.ensures ∙ ap (λ (xs : List Statement). stores_element e (statements_of xs)) c.deref-else-some_alternative_stores.ensures.value))
+
+pub body_stores-loop-statement-init : goal.body_stores-loop-statement-init
+body_stores-loop-statement-init t c = refl
+
+pub some_branch_stores-loop-branch-init : goal.some_branch_stores-loop-branch-init
+some_branch_stores-loop-branch-init t c = refl
+
+pub some_branch_stores-returns : goal.some_branch_stores-returns
+some_branch_stores-returns t c = any_end (branch_stores c.args.element) c.args.branches.now c.loop-branch.branch-index c.loop-branch-test.false c.loop-branch.invariant
+
+pub some_alternative_stores-loop-alternative-init : goal.some_alternative_stores-loop-alternative-init
+some_alternative_stores-loop-alternative-init t c = refl
+
+pub some_alternative_stores-returns-then-body_stores : goal.some_alternative_stores-returns-then-body_stores
+some_alternative_stores-returns-then-body_stores t c =
+    any_found (alternative_stores c.args.element) c.args.alternatives.now c.loop-alternative.alternative-index c.alternative-item.result c.loop-alternative-test.true c.alternative-item.is c.loop-alternative.invariant
+    (sym (c.body_stores.ensures ∙ ap (λ (xs : List Statement). stores_element c.args.element (statements_of xs)) c.deref.ensures.value) ∙ c.if-body_stores.true)
+
+pub some_alternative_stores-loop-alternative-preserved : goal.some_alternative_stores-loop-alternative-preserved
+some_alternative_stores-loop-alternative-preserved t c =
+    any_next (alternative_stores c.args.element) c.args.alternatives.now c.loop-alternative.alternative-index c.alternative-item.result c.loop-alternative-test.true c.alternative-item.is c.loop-alternative.invariant
+    (sym (c.body_stores.ensures ∙ ap (λ (xs : List Statement). stores_element c.args.element (statements_of xs)) c.deref.ensures.value) ∙ c.if-body_stores.false)
+
+pub some_alternative_stores-returns : goal.some_alternative_stores-returns
+some_alternative_stores-returns t c = any_end (alternative_stores c.args.element) c.args.alternatives.now c.loop-alternative.alternative-index c.loop-alternative-test.false c.loop-alternative.invariant
