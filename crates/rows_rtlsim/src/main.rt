@@ -7,15 +7,29 @@
 //! `data/names/` and `data/nets/` have tables of many small sources, as rows_tables reads them: a row is a call of `net`, of
 //! which it tells a few words. They are printed as they stand, comments aside.
 //!
-//! All that needs no program stands in rows_calls, where it is proved sooner: here are the calls alone.
+//! `data/rtl/` has rows of what a whole call doesn't show: what the processes of a netlist reach, what the checker reports and a
+//! second look lets stand, and what comes of a simulation. Then it is printed what the kernel does step by step, with the
+//! processes in several orders, once for bodies as trees and once for bodies as codes; and what agendas give.
+//!
+//! All that needs no program stands in rows_calls, and what needs no source in rows_on_net, where it is proved sooner: here are
+//! the calls alone.
 #![tactic(auto)]
 
 mod library;
+mod opened;
+mod processes;
 mod rtlsim_calls;
+mod tries;
 
+use opened::Opened;
+use processes::Processes;
 use rows_calls::{Told, tell_calls, tell_sources};
+use rows_on_net::{Bodies, tell_agendas, tell_orders, tell_runs};
+use rows_tables::tell_table;
 use rtlsim_calls::Rtlsim;
 use std::io;
+use std::rt::Files;
+use tries::Tries;
 
 /// The tables of calls, in the folder in which the program runs.
 const TABLES: [&str; 23] = [
@@ -68,5 +82,19 @@ const SOURCES: [(&str, Told); 18] = [
 
 fn main(rt: HostRuntime) -> io::Result<()> {
     tell_calls(&rt, &Rtlsim, &TABLES)?;
-    tell_sources(&rt, &Rtlsim, &SOURCES)
+    tell_sources(&rt, &Rtlsim, &SOURCES)?;
+    tell_netlists(&rt)
+}
+
+/// Prints the tables of netlists, what the kernel does step by step, and what agendas give.
+fn tell_netlists(rt: &(impl Files + Print + AllocGlobal)) -> io::Result<()> {
+    tell_table(rt, "rtl/processes.rows", &Processes)?;
+    tell_table(rt, "rtl/reports.rows", &Tries)?;
+    tell_runs(rt, &Opened, "rtl/traces.rows")?;
+    tell_runs(rt, &Opened, "rtl/faults.rows")?;
+    println!(rt; "bodies as trees")?;
+    tell_orders(rt, &Opened, Bodies::Trees)?;
+    println!(rt; "bodies as codes")?;
+    tell_orders(rt, &Opened, Bodies::Codes)?;
+    tell_agendas(rt)
 }
