@@ -8,7 +8,7 @@ static ORDERS: [&str; 2] = ["forward", "reverse"];
 
 /// What is told of a command.
 struct Told {
-    kind: Kind,
+    kind: CommandKind,
     name: &'static str,
     about: &'static str,
     usage: &'static str,
@@ -17,7 +17,7 @@ struct Told {
 
 /// A command.
 #[derive(Clone, Copy)]
-enum Kind {
+enum CommandKind {
     Eval,
     Net,
     Check,
@@ -27,28 +27,28 @@ enum Kind {
 /// The commands, in the order of the help.
 static COMMANDS: [Told; 4] = [
     Told {
-        kind: Kind::Eval,
+        kind: CommandKind::Eval,
         name: "eval",
         about: "Prints the outputs under these inputs",
         usage: "rtlsim eval [--with <FILE>]... [--explain] <FILE> <TOP> [NAME=VALUE]...",
         example: "Example: rtlsim eval and2.vhd and2 a=L b=H",
     },
     Told {
-        kind: Kind::Net,
+        kind: CommandKind::Net,
         name: "net",
         about: "Prints the nets and what drives each",
         usage: "rtlsim net [--with <FILE>]... [--explain] <FILE> <TOP>",
         example: "Example: rtlsim net counter.vhd counter",
     },
     Told {
-        kind: Kind::Check,
+        kind: CommandKind::Check,
         name: "check",
         about: "Says whether the design is sure to settle",
         usage: "rtlsim check [--dot | --json] [--with <FILE>]... [--explain] <FILE> <TOP>",
         example: "Example: rtlsim check counter.vhd counter",
     },
     Told {
-        kind: Kind::Run,
+        kind: CommandKind::Run,
         name: "run",
         about: "Prints the trace under a stimulus",
         usage: "rtlsim run [--event] [--order <ORDER>] [--expect <FILE>] [--progress] [--with <FILE>]... [--explain] <FILE> <TOP> <STIM>
@@ -105,13 +105,13 @@ fn told_command<'a>(alloc: Global, told: &Told) -> Result<Command<'a>, AllocErro
 }
 
 /// Adds what a command takes: first the design, which each has.
-fn add_args(alloc: Global, kind: Kind, args: &mut Vec<Arg<'_>>) -> Result<(), AllocError> {
+fn add_args(alloc: Global, kind: CommandKind, args: &mut Vec<Arg<'_>>) -> Result<(), AllocError> {
     add_of_design(alloc, args)?;
     match kind {
-        Kind::Eval => add(args, sets(alloc)),
-        Kind::Net => Ok(()),
-        Kind::Check => add_of_check(alloc, args),
-        Kind::Run => add_of_run(alloc, args),
+        CommandKind::Eval => add(args, sets(alloc)),
+        CommandKind::Net => Ok(()),
+        CommandKind::Check => add_of_check(alloc, args),
+        CommandKind::Run => add_of_run(alloc, args),
     }
 }
 
