@@ -25,6 +25,9 @@ pub struct Ended<O, E, P> {
     pub progress: P,
 }
 
+/// How many bytes of output wait for one write: of a trace of many megabytes each write costs.
+const OUTPUT: usize = 65536;
+
 /// The program over the system's arguments and files, a reader and three writers: does what the arguments ask for, as `tool_with`
 /// does, or `tool_first_line` where there are none, and sees that all that it prints and tells goes out, in as few writes as it
 /// can. The status is that of what was done, or `Failed` where something didn't go out. How far a run is goes to `progress` at once.
@@ -39,7 +42,7 @@ pub fn program<
     ensures { RunsArguments (GivesNamed T.File.remaining) (R.remaining reader) result.status
         (record { out = O.contents stdout; out_after = O.contents result.stdout; err = E.contents stderr; err_after = E.contents result.stderr; progress = P.contents progress; progress_after = P.contents result.progress }) }
 {
-    let Ok(output) = BufWriter::new(rt.alloc(), stdout) else {
+    let Ok(output) = BufWriter::with_capacity(rt.alloc(), OUTPUT, stdout) else {
         return refuse_memory(stdout, stderr, progress);
     };
     let Ok(errors) = BufWriter::new(rt.alloc(), stderr) else {

@@ -15,19 +15,19 @@ returns g c =
     let out_held = g.O.Write.contents result.stdout in
     let err_held = g.E.Write.contents result.stderr in
     let shown_held = g.P.Write.contents result.progress in
-    let out : SinkState = record { taken = append_known (g.O.Write.contents c.new-3.result.writer.inner) c.new-3.result.writer.buf.items; failed = c.new-3.result.failed } in
+    let out : SinkState = record { taken = append_known (g.O.Write.contents c.new-2.result.writer.inner) c.new-2.result.writer.buf.items; failed = c.new-2.result.failed } in
     let err = fresh (g.E.Write.contents c.args.stderr) in
     let shown = fresh (g.P.Write.contents c.args.progress) in
     let fresh_out : out ≡ fresh (g.O.Write.contents c.args.stdout) =
-    is_fresh g.O.Write.contents c.in-Ok.output.inner c.args.stdout c.in-Ok.output.buf.items _ _ c.new-3.ensures.bytes c.in-Ok.ensures.inner c.in-Ok.ensures.empty c.new-3.ensures.intact in
+    is_fresh g.O.Write.contents c.in-Ok.output.inner c.args.stdout c.in-Ok.output.buf.items _ _ c.new-2.ensures.bytes c.in-Ok.ensures.inner c.in-Ok.ensures.empty c.new-2.ensures.intact in
     let fresh_err =
-    is_fresh g.E.Write.contents c.in-Ok-new.errors.inner c.args.stderr c.in-Ok-new.errors.buf.items _ _ c.new-4.ensures.bytes c.in-Ok-new.ensures.inner c.in-Ok-new.ensures.empty c.new-4.ensures.intact in
-    let fresh_shown : ◌≡◌ {A = SinkState} (record { taken = g.P.Write.contents c.new-5.result.writer; failed = c.new-5.result.failed }) shown =
-    rw (c.new-5.ensures.bytes, c.new-5.ensures.intact) refl in
+    is_fresh g.E.Write.contents c.in-Ok-new.errors.inner c.args.stderr c.in-Ok-new.errors.buf.items _ _ c.new-3.ensures.bytes c.in-Ok-new.ensures.inner c.in-Ok-new.ensures.empty c.new-3.ensures.intact in
+    let fresh_shown : ◌≡◌ {A = SinkState} (record { taken = g.P.Write.contents c.new-4.result.writer; failed = c.new-4.result.failed }) shown =
+    rw (c.new-4.ensures.bytes, c.new-4.ensures.intact) refl in
     inr (
       c.run_arguments.ensures.0,
       subst (λ (s : SinkState). GoesToWriters Does result.status s err shown out_held err_held shown_held) fresh_out
           (subst (λ (s : SinkState). GoesToWriters Does result.status out s shown out_held err_held shown_held) fresh_err
-          (subst (λ (s : SinkState). GoesToWriters Does result.status out (record { taken = append_known (g.E.Write.contents c.new-4.result.writer.inner) c.new-4.result.writer.buf.items; failed = c.new-4.result.failed }) s out_held err_held shown_held) fresh_shown
+          (subst (λ (s : SinkState). GoesToWriters Does result.status out (record { taken = append_known (g.E.Write.contents c.new-3.result.writer.inner) c.new-3.result.writer.buf.items; failed = c.new-3.result.failed }) s out_held err_held shown_held) fresh_shown
           c.run_arguments.ensures.1)),
     )
