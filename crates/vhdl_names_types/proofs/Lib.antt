@@ -1,4 +1,5 @@
 pub mod Along
+pub mod Characters
 pub mod Closing
 pub mod Meant
 pub mod Quotations
