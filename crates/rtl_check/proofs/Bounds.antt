@@ -10,7 +10,6 @@ use Rattle.rtl_model.specs.simulation.Levels.{is_clocked, has_clocked, is_driver
 use Rattle.rtl_model.proofs.basics.Lists.{any_true, all_none, in_contains, contains_in, Contains-none, Contains-first}
 use Rattle.rtl_net.specs.declared.net.Source.{Source as Kept}
 use Rattle.rtl_net.specs.Nets.{NetlistView, flat, source_view}
-use Rattle.rtl_net_facts.specs.declared.kinds.ProcessKind.{ProcessKind}
 use Rattle.rtl_net.specs.Core.{core}
 use Rattle.rtl_check.specs.Rules.{AreClockNets}
 use Rattle.rtl_check.specs.Bounds as b

@@ -3,8 +3,8 @@ use Rattle.std.proofs.Common.{◌≡◌, ℕ, ◌<◌, ◌≤◌, true, false, L
 use Rattle.std.proofs.lemmas.Bool.{cases_Bool, cases_lt}
 use Rattle.std.proofs.lemmas.List.Elements.{All-map}
 use Rattle.std.proofs.lemmas.List.{get_or-set_same, get_or_default, get_or_past, length-map}
-use Rattle.rtl_model.specs.bodies.Types.{ElementType}
-use Rattle.rtl_model.specs.nets.CoreNetlist.{core_process}
+use Rattle.rtl_model.specs.bodies.Types.{ElementType, KeepsTypes}
+use Rattle.rtl_model.specs.nets.CoreNetlist.{core_process, part_effect}
 use Rattle.rtl_model.specs.nets.FlatNetlist.{FlatProcess, IsInRange, element_starts, no_flat_process, process_at}
 use Rattle.rtl_model.specs.simulation.Levels.{is_clocked}
 use Rattle.rtl_model.proofs.nets.InRange.{process_in_range}
@@ -16,9 +16,11 @@ use Rattle.rtl_model.proofs.nets.Processes.{process-core_net}
 use Rattle.rtl_model.proofs.nets.Connected.{connected_is_elaborated}
 use Rattle.rtl_model.proofs.simulation.Faultless.{faultless}
 use Rattle.rtl_model.proofs.simulation.Leveled.{Leveled, leveled}
-use Rattle.rtl_eval.specs.Runs.{Outcome}
+use Rattle.rtl_model.specs.simulation.Range.{IsValuation}
+use Rattle.rtl_eval.specs.Runs.{Outcome, IsOf}
 use Rattle.rtl_kernel.specs.drivers.Transactions.{HasRunOf, all_targets, nets_of, no_outcome}
 use Rattle.rtl_kernel.specs.wakes.Woken.{AreDifferent}
+use Rattle.rtl_kernel.proofs.Steps.{keeps_types}
 use Rattle.rtl_kernel.proofs.Wiring.{nets_there, targets_are}
 use Rattle.rtl_net_layout.specs.Cuts.{AreCuts, AreCutsOf, Cutting}
 use Rattle.rtl_net.specs.Nets.{NetlistView, flat, process_view, variable_view}
@@ -110,6 +112,47 @@ module _ {E : Type 0} (process_of : E → FlatProcess) (types : E → List Eleme
 
   pub bodies_many : length bodies ≡ length net.processes
   bodies_many = M.run_bodies.as_many ∙ length-map net.processes process_view
+
+-- what the run of a process's body is given, and what it leaves
+module _ {E : Type 0} (process_of : E → FlatProcess) (types : E → List ElementType) (most : E → ℕ) (net : NetlistView) (bodies : List E) (runs : List Outcome)
+    (M : MayRun process_of types most net bodies runs) (p : ℕ) (there : p < length net.processes) (e : E) (is : e ≡ get_or bodies p e) where
+  in_bodies : p < length bodies
+  in_bodies = rw (bodies_many process_of types most net bodies runs M) there
+
+  in_runs : p < length runs
+  in_runs = rw (runs_many process_of types most net bodies runs M) there
+
+  types_are : types e ≡ (flat net).types
+  types_are = ap types is ∙ M.run_bodies.among p e in_bodies
+
+  process_is : process_of e ≡ process_at (flat net) p
+  process_is = ap process_of is ∙ M.run_bodies.each p e in_bodies
+
+  pub each_given : (v : List ℕ) → IsValuation (core net) v → length v ≡ length (types e)
+  each_given v V = V.each_net ∙ M.in_range.each_starts ∙ sym (ap length types_are)
+
+  pub typed : (v : List ℕ) → IsValuation (core net) v → KeepsTypes (types e) v
+  typed v V = subst (λ (ts : List ElementType). KeepsTypes ts v) (sym types_are) (keeps_types (flat net) M.in_range M.connected v V)
+
+  pub effect_is : (before v : List ℕ) → part_effect (process_of e) (process_of e).body before v ≡ (process (core net) p).effect before v
+  effect_is before v =
+      ap (λ (x : FlatProcess). part_effect x x.body before v) process_is
+      ∙ sym (ap (λ (x : m.Process). x.effect before v) (process-core_net (flat net) p))
+
+  -- the run that is there has its room
+  module _ (o : Outcome) (was : o ≡ get_or runs p o) where
+    pub was_run : o ≡ get_or runs p no_outcome
+    was_run = was ∙ get_or_default runs p o no_outcome in_runs
+
+    pub own : IsOf (process_of e) o
+    own = subst (λ (x : Outcome). IsOf (process_of e) x) (sym was_run)
+        (subst (λ (x : FlatProcess). IsOf x (get_or runs p no_outcome)) (sym process_is) (M.room.own p in_runs))
+
+    pub room : most e ≤ o.room
+    room = let fits = M.room.room p e in_bodies in
+        let body : most e ≡ most (get_or bodies p e) = ap most is in
+        let run : o.room ≡ (get_or runs p no_outcome).room = ap (λ (x : Outcome). x.room) was_run in
+        omega (arith, fits, body, run)
 
 module _ (net : NetlistView) (L : Leveled (core net)) (p : ℕ) (q : Process) (there : p < length net.processes) (is : q ≡ get_or net.processes p q) where
   pub targets_differ : AreDifferent (nets_of q.drives.items)

@@ -5,3 +5,4 @@ pub mod Assigned
 pub mod Sequences
 pub mod Parts
 pub mod Placing
+pub mod Passing

@@ -10,7 +10,7 @@ use Rattle.rtl_net.specs.Bodies as net
 use Rattle.vhdl_names_units.specs.views.Sequential as units
 use Rattle.vhdl_expand_rules.specs.declared.fault.ElabProblem.{ElabProblem}
 use Rattle.vhdl_expand_rules.specs.Elab.{Elab, ◌>>=◌, each}
-use Rattle.vhdl_expand_rules.specs.Integers.{numbers_from, next}
+use Rattle.vhdl_expand_rules.specs.Integers.{numbers_from}
 use Rattle.vhdl_expand_rules.specs.Parameters.{parameter}
 use Rattle.vhdl_expand_rules.specs.Site.{Site, in_loop}
 use Rattle.vhdl_expand_rules.specs.Statements.{joined_bodies, one, statement, statements}

@@ -5,3 +5,4 @@ pub mod Rising
 pub mod Prefixed
 pub mod Told
 pub mod Codes
+pub mod Turns

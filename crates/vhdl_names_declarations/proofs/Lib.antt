@@ -8,3 +8,4 @@ pub mod Clauses
 pub mod Orders
 pub mod Regions
 pub mod Turns
+pub mod Passing

@@ -8,3 +8,4 @@ pub mod Starting
 pub mod Breaking
 pub mod BreakingChoices
 pub mod BreakingValues
+pub mod Typing

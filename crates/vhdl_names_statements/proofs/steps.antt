@@ -4,6 +4,7 @@ pub mod Choosing
 pub mod Completing
 pub mod Concurrent
 pub mod Covering
+pub mod Passing
 pub mod Sequential
 pub mod Told
 pub mod Turns

@@ -1,9 +1,12 @@
-use Rattle.std.proofs.Common.{◌≡◌, ◌<◌, ℕ, List, length, get_or, sym, ap, subst, ◌∙◌, arith}
+use Rattle.std.proofs.Common.{◌≡◌, ◌<◌, ◌||◌, ℕ, Bool, List, [], ◌∷◌, take, length, get_or, sym, ap, subst, ◌∙◌, arith}
 use Rattle.std.specs.List.{list_any}
-use Rattle.std.proofs.lemmas.List.{take_all}
+use Rattle.std.proofs.lemmas.List.{take_all, take_more}
+use Rattle.std.proofs.lemmas.List.Folds.{list_any-append}
 use Rattle.rtl_model.specs.nets.FlatNetlist.{flat_sources}
 use Rattle.rtl_net.specs.declared.process.Process.{Process}
 use Rattle.rtl_net.specs.Nets.{flat}
+use Rattle.rtl_net_facts.specs.Reading.{is_in}
+use Rattle.rtl_net_facts.proofs.Anys.{or_none}
 use Rattle.rtl_check.specs.Feeders.{feeds_by}
 use Rattle.rtl_check.proofs.Processes.{many_processes}
 use Rattle.rtl_check.proofs.Rows.{row_some, nets_of_wakes}
@@ -36,3 +39,17 @@ returns c =
     (λ n (k, l, e). subst (λ (j : ℕ). j < length net.types) e (nets_of_wakes net N c.args.process x there at k n l))
     (sym c.is_combinational.ensures ∙ c.if-not-is_combinational.false) c.loop-wake.feeders
     (λ p. c.loop-wake.invariant p ∙ ap (list_any (λ n. list_any (feeds_by ks p) (flat_sources (flat net) n))) all)
+
+pub loop-wake-init : goal.loop-wake-init
+loop-wake-init c = λ p. ap (is_in p) c.new-feeders.ensures.items
+
+pub loop-wake-preserved : goal.loop-wake-preserved
+loop-wake-preserved c = λ p.
+    let l = c.loop-wake in
+    let wakes = c.as_slice-wakes.result.now in
+    let x = get_or wakes l.wake-index 0 in
+    let f : ℕ → Bool = λ n. list_any (feeds_by c.args.kinds.now p) (flat_sources (flat c.args.net.now) n) in
+    c.in_ok-push_feeders.ensures p
+    ∙ (ap (λ (b : Bool). b || f x) (l.invariant p)
+    ∙ sym (ap (list_any f) (take_more wakes l.wake-index 0 c.loop-wake-test.true)
+    ∙ (list_any-append f (take l.wake-index wakes) (x ∷ []) ∙ ap (λ (b : Bool). list_any f (take l.wake-index wakes) || b) (sym (or_none (f x))))))

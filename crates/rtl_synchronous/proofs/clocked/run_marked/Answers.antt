@@ -62,3 +62,21 @@ pub returns-clause-ran : goal.returns-clause-ran
 returns-clause-ran g c =
     let done : length c.args.marked.now.items ≤ c.loop-process.process = omega (arith, c.loop-process-test.false, c.len-process-end.ensures, c.args.marked.now.ok.0) in
     all_run (core c.args.net.now) c.args.before.now c.args.values.now c.args.marked.now.items _ c.loop-process.process c.loop-process.marked.items c.loop-process.invariant.running done
+
+pub run-requires-clause-may : goal.run-requires-clause-may
+run-requires-clause-may g c = c.loop-process.invariant.may
+
+pub run-requires-clause-before : goal.run-requires-clause-before
+run-requires-clause-before g c = c.requires.before
+
+pub run-requires-clause-values : goal.run-requires-clause-values
+run-requires-clause-values g c = c.requires.values
+
+pub run-requires-clause-there : goal.run-requires-clause-there
+run-requires-clause-there g c = omega (arith, c.loop-process-test.true, c.len-process-end.ensures, c.args.marked.now.ok.0, c.requires.each_process)
+
+pub returns-clause-may : goal.returns-clause-may
+returns-clause-may g c = c.loop-process.invariant.may
+
+pub returns-clause-each_process : goal.returns-clause-each_process
+returns-clause-each_process g c = c.loop-process.invariant.running.as_many

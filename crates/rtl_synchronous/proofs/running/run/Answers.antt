@@ -7,7 +7,7 @@ use Rattle.rtl_eval.specs.Runs.{Outcome}
 use Rattle.rtl_kernel.specs.drivers.Transactions.{no_outcome}
 use Rattle.rtl_kernel.proofs.Running.{room_ran}
 use Rattle.rtl_net.specs.Nets.{flat}
-use Rattle.rtl_synchronous.proofs.Wired.{bodies_many, runs_many}
+use Rattle.rtl_synchronous.proofs.Wired.{bodies_many, runs_many, each_given, typed, effect_is, own, room, was_run}
 use Rattle.rtl_synchronous.proofs.running.run.Goals as goal
 
 pub bounds-bodies-number : goal.bounds-bodies-number
@@ -41,4 +41,35 @@ returns-clause-may g c =
             };
             is = refl;
           }) M.room;
+    }
+
+pub run-requires-clause-now_all : goal.run-requires-clause-now_all
+run-requires-clause-now_all g c = each_given _ _ _ _ _ _ c.requires.may c.args.number c.requires.there c.index-bodies-number.result c.index-bodies-number.is c.args.values.now c.requires.values
+
+pub run-requires-clause-before_all : goal.run-requires-clause-before_all
+run-requires-clause-before_all g c = each_given _ _ _ _ _ _ c.requires.may c.args.number c.requires.there c.index-bodies-number.result c.index-bodies-number.is c.args.before.now c.requires.before
+
+pub run-requires-clause-now : goal.run-requires-clause-now
+run-requires-clause-now g c = typed _ _ _ _ _ _ c.requires.may c.args.number c.requires.there c.index-bodies-number.result c.index-bodies-number.is c.args.values.now c.requires.values
+
+pub run-requires-clause-before : goal.run-requires-clause-before
+run-requires-clause-before g c = typed _ _ _ _ _ _ c.requires.may c.args.number c.requires.there c.index-bodies-number.result c.index-bodies-number.is c.args.before.now c.requires.before
+
+pub run-requires-clause-own : goal.run-requires-clause-own
+run-requires-clause-own g c = own _ _ _ _ _ _ c.requires.may c.args.number c.requires.there c.index-bodies-number.result c.index-bodies-number.is c.index_mut.result.now c.index_mut.ensures.value
+
+pub run-requires-clause-room : goal.run-requires-clause-room
+run-requires-clause-room g c = room _ _ _ _ _ _ c.requires.may c.args.number c.requires.there c.index-bodies-number.result c.index-bodies-number.is c.index_mut.result.now c.index_mut.ensures.value
+
+pub returns-clause-ran : goal.returns-clause-ran
+returns-clause-ran g c =
+    let was : c.index_mut.result.now ≡ get_or c.args.runs.now.items c.args.number no_outcome = was_run _ _ _ _ _ _ c.requires.may c.args.number c.requires.there c.index-bodies-number.result c.index-bodies-number.is c.index_mut.result.now c.index_mut.ensures.value in
+    record {
+      outcome = c.run.new.out;
+      leaves = record {
+        entries_are = c.run.ensures.entries_are ∙ effect_is _ _ _ _ _ _ c.requires.may c.args.number c.requires.there c.index-bodies-number.result c.index-bodies-number.is c.args.before.now c.args.values.now;
+        starts_stay = c.run.ensures.starts_stay ∙ ap (λ (o : Outcome). o.starts) was;
+        room_stays = c.run.ensures.room_stays ∙ ap (λ (o : Outcome). o.room) was;
+      };
+      is = refl;
     }

@@ -106,3 +106,18 @@ returns-clause-marks g c =
     let is : q ≡ get_or net.processes p q = c.index-processes-number.is ∙ ap (λ (ps : List Process). get_or ps p q) c.processes-processes.ensures in
     let targets : nets_of c.deref-3.result.now ≡ (process (core net) p).drives = ap nets_of here ∙ drives_are net p q there is in
     subst (λ (ns : List ℕ). Marks (wakers_of c.args.schedule.now.readers) (Contains ns) c.args.values.now.items c.take_over.new.values.items c.args.marks.now.items c.take_over.new.marks.items) targets c.take_over.ensures.marks
+
+pub run-requires-clause-may : goal.run-requires-clause-may
+run-requires-clause-may g c = c.requires.may
+
+pub run-requires-clause-there : goal.run-requires-clause-there
+run-requires-clause-there g c = combinational_there _ _ _ _ _ _ c.requires.may c.args.number c.requires.combinational
+
+pub take_over-requires-clause-each_net : goal.take_over-requires-clause-each_net
+take_over-requires-clause-each_net g c = c.requires.each_net
+
+pub take_over-requires-clause-below : goal.take_over-requires-clause-below
+take_over-requires-clause-below g c = c.requires.below
+
+pub returns-clause-may : goal.returns-clause-may
+returns-clause-may g c = c.run.ensures.may

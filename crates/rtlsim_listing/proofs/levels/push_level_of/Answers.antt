@@ -1,7 +1,19 @@
 use Rattle.std.proofs.Common.{subst, ◌∙◌}
 use Rattle.rtl_sink.specs.Written.{Goes}
 use Rattle.rtl_sink.proofs.Writing.{Goes-append}
+use Rattle.rtlsim_listing.specs.CheckText as spec
+use Rattle.rtlsim_listing.proofs.Printing.{none, refused}
 use Rattle.rtlsim_listing.proofs.levels.push_level_of.Goals as goal
+
+pub returns-in_err-name : goal.returns-in_err-name
+returns-in_err-name g c =
+    let text = spec.level_of c.args.net.now c.args.number c.args.level c.args.from in
+    refused c.from_residual.result _ _ _ text c.from_residual.ensures.1 (none _ text)
+
+pub returns-in_err-behind : goal.returns-in_err-behind
+returns-in_err-behind g c =
+    let text = spec.level_of c.args.net.now c.args.number c.args.level c.args.from in
+    refused c.from_residual-in_err-behind.result _ _ _ text c.from_residual-in_err-behind.ensures.1 (none _ text)
 
 pub returns : goal.returns
 returns g c =

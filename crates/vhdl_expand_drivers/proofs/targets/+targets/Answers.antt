@@ -1,5 +1,8 @@
-use Rattle.std.proofs.Common.{ap, ◌∙◌}
-use Rattle.vhdl_expand_drivers.specs.Targets.{statement_targets}
+use Rattle.std.proofs.Common.{◌++◌, refl, ap, ◌∙◌}
+use Rattle.std.specs.Prelude.{flat_map}
+use Rattle.vhdl_expand_drivers.specs.Targets.{statement_targets, branch_targets, alternative_targets}
+use Rattle.vhdl_expand_drivers.specs.Named.{named_by}
+use Rattle.vhdl_expand_drivers.proofs.Turns.{refused, one_more, all_done}
 use Rattle.vhdl_expand_drivers.proofs.Walks.{adds_along}
 use Rattle.vhdl_expand_drivers.proofs.Assigning.{if_targets, case_targets, loop_targets}
 use Rattle.vhdl_expand_drivers.proofs.targets.+targets.Goals as goal
@@ -12,3 +15,53 @@ of_statement-returns-in-Case t c = adds_along _ _ _ _ _ (ap statement_targets c.
 
 pub of_statement-returns-in-Loop : goal.of_statement-returns-in-Loop
 of_statement-returns-in-Loop t c = adds_along _ _ _ _ _ (ap statement_targets c.in-Loop.is ∙ loop_targets c.in-Loop.repeated) c.of_loop.ensures
+
+-- ---- walks
+
+pub of_statements-loop-item-init : goal.of_statements-loop-item-init
+of_statements-loop-item-init t c = refl
+
+pub of_statements-loop-item-preserved : goal.of_statements-loop-item-preserved
+of_statements-loop-item-preserved t c =
+    one_more statement_targets _ (named_by c.loop-item.found) c.args.list.now c.loop-item.item-index c.loop-item.invariant c.item-item.result _ c.loop-item-test.true c.item-item.is
+    c.in_ok-of_statement.ensures
+
+pub of_statements-returns : goal.of_statements-returns
+of_statements-returns t c = all_done statement_targets _ (named_by c.loop-item.found) c.args.list.now c.loop-item.item-index c.loop-item.invariant c.loop-item-test.false
+
+pub of_statements-returns-in_err-of_statement : goal.of_statements-returns-in_err-of_statement
+of_statements-returns-in_err-of_statement t c = refused c.from_residual.result _ c.from_residual.ensures.0
+
+pub of_branches-loop-item-init : goal.of_branches-loop-item-init
+of_branches-loop-item-init t c = refl
+
+pub of_branches-loop-item-preserved : goal.of_branches-loop-item-preserved
+of_branches-loop-item-preserved t c =
+    one_more branch_targets _ (named_by c.loop-item.found) c.args.list.now c.loop-item.item-index c.loop-item.invariant c.item-item.result _ c.loop-item-test.true c.item-item.is
+    (c.in_ok-of_statements.ensures ∙ ap (λ l. named_by c.loop-item.found ++ flat_map statement_targets l) c.deref.ensures.value)
+
+pub of_branches-returns : goal.of_branches-returns
+of_branches-returns t c = all_done branch_targets _ (named_by c.loop-item.found) c.args.list.now c.loop-item.item-index c.loop-item.invariant c.loop-item-test.false
+
+pub of_branches-returns-in_err-of_statements : goal.of_branches-returns-in_err-of_statements
+of_branches-returns-in_err-of_statements t c = refused c.from_residual.result _ c.from_residual.ensures.0
+
+pub of_alternatives-loop-item-init : goal.of_alternatives-loop-item-init
+of_alternatives-loop-item-init t c = refl
+
+pub of_alternatives-loop-item-preserved : goal.of_alternatives-loop-item-preserved
+of_alternatives-loop-item-preserved t c =
+    one_more alternative_targets _ (named_by c.loop-item.found) c.args.list.now c.loop-item.item-index c.loop-item.invariant c.item-item.result _ c.loop-item-test.true c.item-item.is
+    (c.in_ok-of_statements.ensures ∙ ap (λ l. named_by c.loop-item.found ++ flat_map statement_targets l) c.deref.ensures.value)
+
+pub of_alternatives-returns : goal.of_alternatives-returns
+of_alternatives-returns t c = all_done alternative_targets _ (named_by c.loop-item.found) c.args.list.now c.loop-item.item-index c.loop-item.invariant c.loop-item-test.false
+
+pub of_alternatives-returns-in_err-of_statements : goal.of_alternatives-returns-in_err-of_statements
+of_alternatives-returns-in_err-of_statements t c = refused c.from_residual.result _ c.from_residual.ensures.0
+
+pub of_if-returns-in_err-of_branches : goal.of_if-returns-in_err-of_branches
+of_if-returns-in_err-of_branches t c = refused c.from_residual.result _ c.from_residual.ensures.0
+
+pub of_case-returns-in_err-of_alternatives : goal.of_case-returns-in_err-of_alternatives
+of_case-returns-in_err-of_alternatives t c = refused c.from_residual.result _ c.from_residual.ensures.0

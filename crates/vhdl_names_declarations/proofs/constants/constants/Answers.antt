@@ -1,5 +1,4 @@
-use Rattle.std.proofs.Common.{rules, arith, ◌≡◌, ◌≢◌, length, map, Some, None, ap, ◌∙◌, sym, subst}
-use Rattle.std.proofs.lemmas.Grind.{common_steps}
+use Rattle.std.proofs.Common.{arith, ◌≡◌, ◌≢◌, length, map, Some, None, ap, ◌∙◌, sym, subst}
 use Rattle.std.proofs.lemmas.List.{length-map}
 use Rattle.vhdl_names_rules.specs.declared.fault.NameFault.TheVariants.{NoMemory}
 use Rattle.vhdl_names_rules.specs.Declarations as d
@@ -15,6 +14,8 @@ use Rattle.vhdl_names_declarations.specs.Entered.{more, entering}
 use Rattle.vhdl_names_declarations.specs.Settled.{settled}
 use Rattle.vhdl_names_declarations.proofs.Classes.{constants_is, constant_number, number_below}
 use Rattle.vhdl_names_declarations.proofs.Turns.{refused, unknown, known, settled_region, grows_by, first_below, more_is}
+use Rattle.vhdl_names_declarations.proofs.Breaking.{passed_on}
+use Rattle.vhdl_names_declarations.proofs.Passing.{gives_none}
 use Rattle.vhdl_names_declarations.proofs.constants.constants.Goals as goal
 use Rattle.vhdl_names_problems.specs.Broken.{Tells}
 use Rattle.vhdl_names_problems.specs.Declarations as broken
@@ -31,7 +32,7 @@ returns-in_err-hide-clause-given c =
     λ n. constants_is s g
     ∙ refused (λ s. s.region) with_declared s (names_of g.names) (constant_number s) k.declared_as (k.declarations g.names)
     (ap (λ l. more s.region (all_declared visibility.unfinished (names_of (map ident_view l)))) (sym c.deref.ensures.value) ∙ c.in_err-hide.ensures.given n) (k.constant (within s g.names) g) in
-    first_of (search rules, grind (arith, common_steps))
+    gives_none _ _ c.in_err-hide.field-0.0 _ c.from_residual.result c.from_residual.ensures.1 (λ e p. p) f
 
 pub returns-in_err-typed-clause-given : goal.returns-in_err-typed-clause-given
 returns-in_err-typed-clause-given c =
@@ -43,7 +44,7 @@ returns-in_err-typed-clause-given c =
     let f : c.in_err-typed.field-0.0 ≢ NoMemory → entering d.constants (sight_view c.args.sight.now) (tree.constants_view c.args.declaration.now) ≡ None =
     λ n. constants_is s g
     ∙ unknown (λ s. s.region) with_declared s (names_of g.names) (constant_number s) k.declared_as (k.declarations g.names) (k.constant (within s g.names) g) (sym along ∙ c.in_err-typed.ensures.given n) in
-    first_of (search rules, grind (arith, common_steps))
+    gives_none _ _ c.in_err-typed.field-0.0 _ c.from_residual-in_err-typed.result c.from_residual-in_err-typed.ensures.1 (λ e p. p) f
 
 pub settle-requires-clause-place : goal.settle-requires-clause-place
 settle-requires-clause-place c =
@@ -84,7 +85,7 @@ returns-in_err-hide-clause-told c =
     let f : Tells (broken.constants (sight_view c.args.sight.now) (tree.constants_view c.args.declaration.now)) c.in_err-hide.field-0.0 =
     told_left (standing_twice s.region g.names) (broken.typed_constants (within s g.names) g) c.in_err-hide.field-0.0
     (subst (λ l. Tells (standing_twice s.region (map ident_view l)) c.in_err-hide.field-0.0) c.deref.ensures.value c.in_err-hide.ensures.told) in
-    first_of (search rules, grind (arith, common_steps))
+    passed_on _ c.in_err-hide.field-0.0 _ c.from_residual.result c.from_residual.ensures.1 (λ e p. p) f
 
 pub returns-in_err-typed-clause-told : goal.returns-in_err-typed-clause-told
 returns-in_err-typed-clause-told c =
@@ -95,4 +96,4 @@ returns-in_err-typed-clause-told c =
     let once = standing_once s.region (all_declared visibility.unfinished (names_of g.names)) g.names (names-all visibility.unfinished (names_of g.names)) (region_view c.hide.new.region) hid in
     let f : Tells (broken.constants (sight_view c.args.sight.now) (tree.constants_view c.args.declaration.now)) c.in_err-typed.field-0.0 =
     told_right (standing_twice s.region g.names) (broken.typed_constants (within s g.names) g) c.in_err-typed.field-0.0 once (subst (λ r. Tells (broken.typed_constants (record s { region = r }) g) c.in_err-typed.field-0.0) (more_is s.region (all_declared visibility.unfinished (names_of g.names)) (region_view c.hide.new.region) hid) c.in_err-typed.ensures.told) in
-    first_of (search rules, grind (arith, common_steps))
+    passed_on _ c.in_err-typed.field-0.0 _ c.from_residual-in_err-typed.result c.from_residual-in_err-typed.ensures.1 (λ e p. p) f

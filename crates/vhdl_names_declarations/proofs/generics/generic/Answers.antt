@@ -1,5 +1,4 @@
-use Rattle.std.proofs.Common.{rules, arith, ◌≡◌, ◌≢◌, length, map, option_map, Option, Some, None, ap, ◌∙◌, sym, subst}
-use Rattle.std.proofs.lemmas.Grind.{common_steps}
+use Rattle.std.proofs.Common.{arith, ◌≡◌, ◌≢◌, length, map, option_map, Option, Some, None, ap, ◌∙◌, sym, subst}
 use Rattle.std.proofs.lemmas.List.{length-map}
 use Rattle.vhdl_names_rules.specs.declared.operator.IntegerType.{IntegerType}
 use Rattle.vhdl_names_rules.specs.units.Expressions.{Static}
@@ -15,6 +14,8 @@ use Rattle.vhdl_names_declarations.specs.Entered.{more, entering}
 use Rattle.vhdl_names_declarations.specs.Typed.{typed_generic}
 use Rattle.vhdl_names_declarations.proofs.Declaring.{generic_is, generics_of}
 use Rattle.vhdl_names_declarations.proofs.Turns.{refused, unknown, known, settled_region, grows_by, first_below}
+use Rattle.vhdl_names_declarations.proofs.Breaking.{passed_on}
+use Rattle.vhdl_names_declarations.proofs.Passing.{gives_none}
 use Rattle.vhdl_names_declarations.proofs.generics.generic.Goals as goal
 use Rattle.vhdl_names_problems.specs.Broken.{Tells}
 use Rattle.vhdl_names_problems.specs.Declarations as broken
@@ -31,7 +32,7 @@ returns-in_err-hide-clause-given c =
     λ n. generic_is s g c.args.number c.requires
     ∙ refused (λ s. s.region) with_declared s (names_of g.names) (λ x. c.args.number) (λ x. visibility.generic) (generics_of g)
     (ap (λ l. more s.region (all_declared visibility.unfinished (names_of (map ident_view l)))) (sym c.deref.ensures.value) ∙ c.in_err-hide.ensures.given n) (typed_generic s g) in
-    first_of (search rules, grind (arith, common_steps))
+    gives_none _ _ c.in_err-hide.field-0.0 _ c.from_residual.result c.from_residual.ensures.1 (λ e p. p) f
 
 pub returns-in_err-integer_type-clause-given : goal.returns-in_err-integer_type-clause-given
 returns-in_err-integer_type-clause-given c =
@@ -40,7 +41,7 @@ returns-in_err-integer_type-clause-given c =
     let f : c.in_err-integer_type.field-0.0 ≢ NoMemory → entering d.generic (sight_view c.args.sight.now) (generic_view c.args.generic.now) ≡ None =
     λ n. generic_is s g c.args.number c.requires
     ∙ unknown (λ s. s.region) with_declared s (names_of g.names) (λ x. c.args.number) (λ x. visibility.generic) (generics_of g) (typed_generic s g) (c.in_err-integer_type.ensures.given n) in
-    first_of (search rules, grind (arith, common_steps))
+    gives_none _ _ c.in_err-integer_type.field-0.0 _ c.from_residual-in_err-integer_type.result c.from_residual-in_err-integer_type.ensures.1 (λ e p. p) f
 
 pub settle-requires-clause-place : goal.settle-requires-clause-place
 settle-requires-clause-place c =
@@ -73,7 +74,7 @@ returns-in_err-hide-clause-told c =
     let f : Tells (broken.generic (sight_view c.args.sight.now) (generic_view c.args.generic.now)) c.in_err-hide.field-0.0 =
     told_left (standing_twice s.region g.names) (broken.typed_generic s g) c.in_err-hide.field-0.0
     (subst (λ l. Tells (standing_twice s.region (map ident_view l)) c.in_err-hide.field-0.0) c.deref.ensures.value c.in_err-hide.ensures.told) in
-    first_of (search rules, grind (arith, common_steps))
+    passed_on _ c.in_err-hide.field-0.0 _ c.from_residual.result c.from_residual.ensures.1 (λ e p. p) f
 
 pub returns-in_err-integer_type-clause-told : goal.returns-in_err-integer_type-clause-told
 returns-in_err-integer_type-clause-told c =
@@ -84,4 +85,4 @@ returns-in_err-integer_type-clause-told c =
     let once = standing_once s.region (all_declared visibility.unfinished (names_of g.names)) g.names (names-all visibility.unfinished (names_of g.names)) (region_view c.hide.new.region) hid in
     let f : Tells (broken.generic (sight_view c.args.sight.now) (generic_view c.args.generic.now)) c.in_err-integer_type.field-0.0 =
     told_right (standing_twice s.region g.names) (broken.typed_generic s g) c.in_err-integer_type.field-0.0 once c.in_err-integer_type.ensures.told in
-    first_of (search rules, grind (arith, common_steps))
+    passed_on _ c.in_err-integer_type.field-0.0 _ c.from_residual-in_err-integer_type.result c.from_residual-in_err-integer_type.ensures.1 (λ e p. p) f

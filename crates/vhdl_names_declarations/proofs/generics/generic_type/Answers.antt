@@ -1,5 +1,3 @@
-use Rattle.std.proofs.Common.{rules, arith}
-use Rattle.std.proofs.lemmas.Grind.{common_steps}
 use Rattle.vhdl_names_problems.specs.Broken.{Tells, ◌▸◌, where_given, of_any}
 use Rattle.vhdl_names_problems.specs.Declarations as broken
 use Rattle.vhdl_names_problems.specs.Expressions as expressions_broken
@@ -9,6 +7,7 @@ use Rattle.vhdl_names_rules.specs.Subtypes.{as_integer_type}
 use Rattle.vhdl_names_rules.specs.Visibility.{meaning}
 use Rattle.vhdl_tree.specs.View.{generic_view}
 use Rattle.vhdl_names_types.specs.Views.{sight_view, meaning_view}
+use Rattle.vhdl_names_declarations.proofs.Breaking.{passed_on}
 use Rattle.vhdl_names_declarations.proofs.generics.generic_type.Goals as goal
 
 pub returns-in_err-mark-clause-told : goal.returns-in_err-mark-clause-told
@@ -20,7 +19,7 @@ returns-in_err-mark-clause-told c =
     let default = of_any (expressions_broken.static s) g.default in
     let f : Tells (broken.typed_generic (sight_view c.args.sight.now) (generic_view c.args.generic.now)) c.in_err-mark.field-0.0 =
     told_left first (type ▸ default) c.in_err-mark.field-0.0 c.in_err-mark.ensures.told in
-    first_of (search rules, grind (arith, common_steps))
+    passed_on _ c.in_err-mark.field-0.0 _ c.from_residual.result c.from_residual.ensures.1 (λ e p. p) f
 
 pub returns-in_err-integer_type-clause-told : goal.returns-in_err-integer_type-clause-told
 returns-in_err-integer_type-clause-told c =
@@ -35,7 +34,7 @@ returns-in_err-integer_type-clause-told c =
     (told_left type default c.in_err-integer_type.field-0.0
     (told_given (broken.generic_type g.mark) (meaning s g.mark.text) m c.in_err-integer_type.field-0.0 c.in_ok-mark.ensures.meant
     (told_lacking (broken.generic_problem m) g.mark.at (as_integer_type m) c.in_err-integer_type.field-0.0 c.in_err-integer_type.ensures.given c.in_err-integer_type.ensures.told))) in
-    first_of (search rules, grind (arith, common_steps))
+    passed_on _ c.in_err-integer_type.field-0.0 _ c.from_residual-in_err-integer_type.result c.from_residual-in_err-integer_type.ensures.1 (λ e p. p) f
 
 pub returns-in_err-default-clause-told : goal.returns-in_err-default-clause-told
 returns-in_err-default-clause-told c =
@@ -50,4 +49,4 @@ returns-in_err-default-clause-told c =
     (told_right type default c.in_err-default.field-0.0
     (given_kept (broken.generic_type g.mark) (meaning s g.mark.text) m c.in_ok-mark.ensures.meant (lacking_kept (broken.generic_problem m) g.mark.at (as_integer_type m) c.in_ok-integer_type.integer_type c.in_ok-integer_type.ensures.given))
     c.in_err-default.ensures.told) in
-    first_of (search rules, grind (arith, common_steps))
+    passed_on _ c.in_err-default.field-0.0 _ c.from_residual-in_err-default.result c.from_residual-in_err-default.ensures.1 (λ e p. p) f

@@ -1,5 +1,4 @@
-use Rattle.std.proofs.Common.{rules, arith, ◌≡◌, ◌≢◌, [], map, None, ap, ◌∙◌, sym, subst}
-use Rattle.std.proofs.lemmas.Grind.{common_steps}
+use Rattle.std.proofs.Common.{◌≡◌, ◌≢◌, [], map, None, ap, ◌∙◌, sym, subst}
 use Rattle.vhdl_names_rules.specs.declared.fault.NameFault.TheVariants.{NoMemory}
 use Rattle.vhdl_names_rules.specs.Rules.{met}
 use Rattle.vhdl_names_rules.specs.Files.{labelled}
@@ -10,6 +9,8 @@ use Rattle.vhdl_names_problems.specs.Broken.{Tells}
 use Rattle.vhdl_names_problems.specs.Twice.{twice}
 use Rattle.vhdl_names_problems.specs.Declarations.{standing_twice}
 use Rattle.vhdl_names_declarations.proofs.Labelling.{label_names_of, labels_in, distinct_none, distinct_some}
+use Rattle.vhdl_names_declarations.proofs.Breaking.{passed_on}
+use Rattle.vhdl_names_declarations.proofs.Passing.{gives_none}
 use Rattle.vhdl_names_declarations.proofs.labels.labels_are_distinct.Goals as goal
 
 pub returns-in_err-declare_labels-clause-given : goal.returns-in_err-declare_labels-clause-given
@@ -17,7 +18,7 @@ returns-in_err-declare_labels-clause-given c =
     let ns = label_names_of c.args.statements.now in
     let f : c.in_err-declare_labels.field-0.0 ≢ NoMemory → met (are_distinct (label_names_of c.args.statements.now)) ≡ None =
     λ n. distinct_none ns (ap (λ es. more (map entry_view es) (labelled ns)) (sym c.new-region.ensures.empty) ∙ c.in_err-declare_labels.ensures.given n) in
-    first_of (search rules, grind (arith, common_steps))
+    gives_none _ _ c.in_err-declare_labels.field-0.0 _ c.from_residual.result c.from_residual.ensures.1 (λ e p. p) f
 
 pub returns-clause-given : goal.returns-clause-given
 returns-clause-given c =
@@ -29,4 +30,4 @@ returns-in_err-declare_labels-clause-told c =
     let ls = labels_in c.args.statements.now in
     let f : Tells (twice [] (labels_in c.args.statements.now)) c.in_err-declare_labels.field-0.0 =
     subst (λ es. Tells (standing_twice (map entry_view es) ls) c.in_err-declare_labels.field-0.0) c.new-region.ensures.empty c.in_err-declare_labels.ensures.told in
-    first_of (search rules, grind (arith, common_steps))
+    passed_on _ c.in_err-declare_labels.field-0.0 _ c.from_residual.result c.from_residual.ensures.1 (λ e p. p) f

@@ -1,5 +1,3 @@
-use Rattle.std.proofs.Common.{rules, arith}
-use Rattle.std.proofs.lemmas.Grind.{common_steps}
 use Rattle.vhdl_names_problems.specs.Broken.{Tells, where_given, of_any}
 use Rattle.vhdl_names_problems.specs.Declarations as broken
 use Rattle.vhdl_names_problems.specs.Subtypes as subtypes_broken
@@ -9,6 +7,7 @@ use Rattle.vhdl_names_rules.specs.Subtypes.{Subtype, subtype}
 use Rattle.vhdl_tree.specs.View as tree
 use Rattle.vhdl_names_types.specs.Views.{sight_view}
 use Rattle.vhdl_names_units.specs.views.Answers.{subtype_view}
+use Rattle.vhdl_names_declarations.proofs.Breaking.{passed_on}
 use Rattle.vhdl_names_declarations.proofs.objects.object_type.Goals as goal
 
 pub returns-in_err-subtype-clause-told : goal.returns-in_err-subtype-clause-told
@@ -21,7 +20,7 @@ returns-in_err-subtype-clause-told c =
     let last = where_given (subtype s i) by in
     let f : Tells (broken.object (sight_view c.args.sight.now) (tree.subtype_view c.args.indication.now) (tree.option_value_view c.args.value.now)) c.in_err-subtype.field-0.0 =
     told_left first last c.in_err-subtype.field-0.0 c.in_err-subtype.ensures.told in
-    first_of (search rules, grind (arith, common_steps))
+    passed_on _ c.in_err-subtype.field-0.0 _ c.from_residual.result c.from_residual.ensures.1 (λ e p. p) f
 
 pub returns-in_err-default-clause-told : goal.returns-in_err-default-clause-told
 returns-in_err-default-clause-told c =
@@ -33,4 +32,4 @@ returns-in_err-default-clause-told c =
     let last = where_given (subtype s i) by in
     let f : Tells (broken.object (sight_view c.args.sight.now) (tree.subtype_view c.args.indication.now) (tree.option_value_view c.args.value.now)) c.in_err-default.field-0.0 =
     told_right first last c.in_err-default.field-0.0 (subtype_kept s i (subtype_view c.in_ok-subtype.subtype) c.in_ok-subtype.ensures.given) (told_given by (subtype s i) (subtype_view c.in_ok-subtype.subtype) c.in_err-default.field-0.0 c.in_ok-subtype.ensures.given c.in_err-default.ensures.told) in
-    first_of (search rules, grind (arith, common_steps))
+    passed_on _ c.in_err-default.field-0.0 _ c.from_residual-in_err-default.result c.from_residual-in_err-default.ensures.1 (λ e p. p) f

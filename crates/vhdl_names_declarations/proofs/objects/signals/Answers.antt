@@ -1,5 +1,4 @@
-use Rattle.std.proofs.Common.{rules, arith, ◌≡◌, ◌≢◌, length, map, option_map, Option, Some, None, ap, ◌∙◌, sym, subst}
-use Rattle.std.proofs.lemmas.Grind.{common_steps}
+use Rattle.std.proofs.Common.{◌≡◌, ◌≢◌, length, map, option_map, Option, Some, None, ap, ◌∙◌, sym, subst}
 use Rattle.std.proofs.lemmas.List.{length-map}
 use Rattle.vhdl_names_rules.specs.declared.fault.NameFault.TheVariants.{NoMemory}
 use Rattle.vhdl_names_rules.specs.units.Units as u
@@ -17,6 +16,8 @@ use Rattle.vhdl_names_declarations.specs.Entered.{more, entering}
 use Rattle.vhdl_names_declarations.specs.Typed.{typed_object}
 use Rattle.vhdl_names_declarations.proofs.Classes.{signals_is, signal_class, signals_of, map-map}
 use Rattle.vhdl_names_declarations.proofs.Turns.{refused, unknown, known, settled_region, more_is}
+use Rattle.vhdl_names_declarations.proofs.Breaking.{passed_on}
+use Rattle.vhdl_names_declarations.proofs.Passing.{gives_none}
 use Rattle.vhdl_names_declarations.proofs.objects.signals.Goals as goal
 use Rattle.vhdl_names_problems.specs.Broken.{Tells}
 use Rattle.vhdl_names_problems.specs.Declarations as broken
@@ -33,7 +34,7 @@ returns-in_err-hide-clause-given c =
     λ n. signals_is s g c.args.number c.requires
     ∙ refused (λ s. s.region) with_declared s (names_of g.names) (λ x. c.args.number) signal_class (signals_of g)
     (ap (λ l. more s.region (all_declared visibility.unfinished (names_of (map ident_view l)))) (sym c.deref.ensures.value) ∙ c.in_err-hide.ensures.given n) (typed_object (within s g.names) g.subtype g.default) in
-    first_of (search rules, grind (arith, common_steps))
+    gives_none _ _ c.in_err-hide.field-0.0 _ c.from_residual.result c.from_residual.ensures.1 (λ e p. p) f
 
 pub returns-in_err-subtype-clause-given : goal.returns-in_err-subtype-clause-given
 returns-in_err-subtype-clause-given c =
@@ -45,7 +46,7 @@ returns-in_err-subtype-clause-given c =
     let f : c.in_err-subtype.field-0.0 ≢ NoMemory → entering d.signals (sight_view c.args.sight.now) (tree.signals_view c.args.declaration.now) ≡ None =
     λ n. signals_is s g c.args.number c.requires
     ∙ unknown (λ s. s.region) with_declared s (names_of g.names) (λ x. c.args.number) signal_class (signals_of g) (typed_object (within s g.names) g.subtype g.default) (sym along ∙ c.in_err-subtype.ensures.given n) in
-    first_of (search rules, grind (arith, common_steps))
+    gives_none _ _ c.in_err-subtype.field-0.0 _ c.from_residual-in_err-subtype.result c.from_residual-in_err-subtype.ensures.1 (λ e p. p) f
 
 pub returns-clause-given : goal.returns-clause-given
 returns-clause-given c =
@@ -69,7 +70,7 @@ returns-in_err-hide-clause-told c =
     let f : Tells (broken.signals (sight_view c.args.sight.now) (tree.signals_view c.args.declaration.now)) c.in_err-hide.field-0.0 =
     told_left (standing_twice s.region g.names) (broken.object (within s g.names) g.subtype g.default) c.in_err-hide.field-0.0
     (subst (λ l. Tells (standing_twice s.region (map ident_view l)) c.in_err-hide.field-0.0) c.deref.ensures.value c.in_err-hide.ensures.told) in
-    first_of (search rules, grind (arith, common_steps))
+    passed_on _ c.in_err-hide.field-0.0 _ c.from_residual.result c.from_residual.ensures.1 (λ e p. p) f
 
 pub returns-in_err-subtype-clause-told : goal.returns-in_err-subtype-clause-told
 returns-in_err-subtype-clause-told c =
@@ -80,4 +81,4 @@ returns-in_err-subtype-clause-told c =
     let once = standing_once s.region (all_declared visibility.unfinished (names_of g.names)) g.names (names-all visibility.unfinished (names_of g.names)) (region_view c.hide.new.region) hid in
     let f : Tells (broken.signals (sight_view c.args.sight.now) (tree.signals_view c.args.declaration.now)) c.in_err-subtype.field-0.0 =
     told_right (standing_twice s.region g.names) (broken.object (within s g.names) g.subtype g.default) c.in_err-subtype.field-0.0 once (subst (λ r. Tells (broken.object (record s { region = r }) g.subtype g.default) c.in_err-subtype.field-0.0) (more_is s.region (all_declared visibility.unfinished (names_of g.names)) (region_view c.hide.new.region) hid) c.in_err-subtype.ensures.told) in
-    first_of (search rules, grind (arith, common_steps))
+    passed_on _ c.in_err-subtype.field-0.0 _ c.from_residual-in_err-subtype.result c.from_residual-in_err-subtype.ensures.1 (λ e p. p) f

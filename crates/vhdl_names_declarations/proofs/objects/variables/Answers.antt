@@ -1,5 +1,4 @@
-use Rattle.std.proofs.Common.{rules, arith, ◌≡◌, ◌≢◌, ◌<◌, map, flat_map, length, None, ap, sym, ◌∙◌}
-use Rattle.std.proofs.lemmas.Grind.{common_steps}
+use Rattle.std.proofs.Common.{arith, ◌≡◌, ◌≢◌, ◌<◌, map, flat_map, length, None, ap, sym, ◌∙◌}
 use Rattle.std.proofs.lemmas.List.{length-map}
 use Rattle.vhdl_names_rules.specs.declared.fault.NameFault.TheVariants.{NoMemory}
 use Rattle.vhdl_names_rules.specs.Declarations.{in_order, variables}
@@ -14,6 +13,8 @@ use Rattle.vhdl_names_declarations.proofs.Breaking.{told_at, told_behind}
 use Rattle.vhdl_names_problems.proofs.kept.Declarations.{variables_kept}
 use Rattle.vhdl_names_declarations.proofs.Listed.{of_process, left_variables, begins_variables, fails_variables, goes_variables, ends_variables, counts_before_variables, place_within_variables, all_more}
 use Rattle.vhdl_names_declarations.proofs.Regions.{names_apart}
+use Rattle.vhdl_names_declarations.proofs.Breaking.{passed_on}
+use Rattle.vhdl_names_declarations.proofs.Passing.{gives_none}
 use Rattle.vhdl_names_declarations.proofs.objects.variables.Goals as goal
 
 pub loop-one-init : goal.loop-one-init
@@ -30,7 +31,7 @@ returns-in_err-next-clause-given c =
     let f : c.in_err-next.field-0.0 ≢ NoMemory → entering_variables (in_order with_variables variables) (sight_view c.args.sight.now) (map variables_view c.args.all.now) ≡ None =
     λ n. c.loop-one.invariant.0
     ∙ fails_variables variables variables_view (sight_view c.loop-one.sight) (objects_view c.loop-one.done) c.args.all.now c.loop-one.one-index c.one-item.result lt c.one-item.is (c.in_err-next.ensures.given n) in
-    first_of (search rules, grind (arith, common_steps))
+    gives_none _ _ c.in_err-next.field-0.0 _ c.from_residual.result c.from_residual.ensures.1 (λ e p. p) f
 
 pub of-counts-requires-in-loop-one-clause-place : goal.of-counts-requires-in-loop-one-clause-place
 of-counts-requires-in-loop-one-clause-place c =
@@ -65,4 +66,4 @@ returns-in_err-next-clause-told c =
     let lt : c.loop-one.one-index < length c.args.all.now = omega arith in
     let f : Tells (broken.in_order with_variables variables broken.variables (sight_view c.args.sight.now) (map variables_view c.args.all.now)) c.in_err-next.field-0.0 =
     c.loop-one.invariant.2 c.in_err-next.field-0.0 (told_at of_process with_variables variables broken.variables variables_kept variables_view (sight_view c.loop-one.sight) c.args.all.now c.loop-one.one-index c.one-item.result c.in_err-next.field-0.0 lt c.one-item.is c.in_err-next.ensures.told) in
-    first_of (search rules, grind (arith, common_steps))
+    passed_on _ c.in_err-next.field-0.0 _ c.from_residual.result c.from_residual.ensures.1 (λ e p. p) f

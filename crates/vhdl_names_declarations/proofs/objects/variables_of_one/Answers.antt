@@ -1,5 +1,4 @@
-use Rattle.std.proofs.Common.{rules, arith, ◌≡◌, ◌≢◌, length, map, option_map, Option, Some, None, ap, ◌∙◌, sym, subst}
-use Rattle.std.proofs.lemmas.Grind.{common_steps}
+use Rattle.std.proofs.Common.{◌≡◌, ◌≢◌, length, map, option_map, Option, Some, None, ap, ◌∙◌, sym, subst}
 use Rattle.std.proofs.lemmas.List.{length-map}
 use Rattle.vhdl_names_rules.specs.declared.fault.NameFault.TheVariants.{NoMemory}
 use Rattle.vhdl_names_rules.specs.units.Units.{Fixed}
@@ -16,6 +15,8 @@ use Rattle.vhdl_names_declarations.specs.Entered.{more, entering_variables}
 use Rattle.vhdl_names_declarations.specs.Typed.{typed_object}
 use Rattle.vhdl_names_declarations.proofs.Classes.{variables_is, variable_class, variables_of}
 use Rattle.vhdl_names_declarations.proofs.Turns.{refused, unknown, known, settled_region, more_is}
+use Rattle.vhdl_names_declarations.proofs.Breaking.{passed_on}
+use Rattle.vhdl_names_declarations.proofs.Passing.{gives_none}
 use Rattle.vhdl_names_declarations.proofs.objects.variables_of_one.Goals as goal
 use Rattle.vhdl_names_problems.specs.Broken.{Tells}
 use Rattle.vhdl_names_problems.specs.Declarations as broken
@@ -32,7 +33,7 @@ returns-in_err-hide-clause-given c =
     λ n. variables_is s g c.args.number c.requires
     ∙ refused (λ s. s.variables) with_variables s (names_of g.names) (λ x. c.args.number) variable_class (variables_of g)
     (ap (λ l. more s.variables (all_declared visibility.unfinished (names_of (map ident_view l)))) (sym c.deref.ensures.value) ∙ c.in_err-hide.ensures.given n) (typed_object (within_variables s g.names) g.subtype g.default) in
-    first_of (search rules, grind (arith, common_steps))
+    gives_none _ _ c.in_err-hide.field-0.0 _ c.from_residual.result c.from_residual.ensures.1 (λ e p. p) f
 
 pub returns-in_err-subtype-clause-given : goal.returns-in_err-subtype-clause-given
 returns-in_err-subtype-clause-given c =
@@ -44,7 +45,7 @@ returns-in_err-subtype-clause-given c =
     let f : c.in_err-subtype.field-0.0 ≢ NoMemory → entering_variables d.variables (sight_view c.args.sight.now) (tree.variables_view c.args.declaration.now) ≡ None =
     λ n. variables_is s g c.args.number c.requires
     ∙ unknown (λ s. s.variables) with_variables s (names_of g.names) (λ x. c.args.number) variable_class (variables_of g) (typed_object (within_variables s g.names) g.subtype g.default) (sym along ∙ c.in_err-subtype.ensures.given n) in
-    first_of (search rules, grind (arith, common_steps))
+    gives_none _ _ c.in_err-subtype.field-0.0 _ c.from_residual-in_err-subtype.result c.from_residual-in_err-subtype.ensures.1 (λ e p. p) f
 
 pub returns-clause-given : goal.returns-clause-given
 returns-clause-given c =
@@ -68,7 +69,7 @@ returns-in_err-hide-clause-told c =
     let f : Tells (broken.variables (sight_view c.args.sight.now) (tree.variables_view c.args.declaration.now)) c.in_err-hide.field-0.0 =
     told_left (standing_twice s.variables g.names) (broken.object (within_variables s g.names) g.subtype g.default) c.in_err-hide.field-0.0
     (subst (λ l. Tells (standing_twice s.variables (map ident_view l)) c.in_err-hide.field-0.0) c.deref.ensures.value c.in_err-hide.ensures.told) in
-    first_of (search rules, grind (arith, common_steps))
+    passed_on _ c.in_err-hide.field-0.0 _ c.from_residual.result c.from_residual.ensures.1 (λ e p. p) f
 
 pub returns-in_err-subtype-clause-told : goal.returns-in_err-subtype-clause-told
 returns-in_err-subtype-clause-told c =
@@ -79,4 +80,4 @@ returns-in_err-subtype-clause-told c =
     let once = standing_once s.variables (all_declared visibility.unfinished (names_of g.names)) g.names (names-all visibility.unfinished (names_of g.names)) (region_view c.hide.new.region) hid in
     let f : Tells (broken.variables (sight_view c.args.sight.now) (tree.variables_view c.args.declaration.now)) c.in_err-subtype.field-0.0 =
     told_right (standing_twice s.variables g.names) (broken.object (within_variables s g.names) g.subtype g.default) c.in_err-subtype.field-0.0 once (subst (λ r. Tells (broken.object (record s { variables = r }) g.subtype g.default) c.in_err-subtype.field-0.0) (more_is s.variables (all_declared visibility.unfinished (names_of g.names)) (region_view c.hide.new.region) hid) c.in_err-subtype.ensures.told) in
-    first_of (search rules, grind (arith, common_steps))
+    passed_on _ c.in_err-subtype.field-0.0 _ c.from_residual-in_err-subtype.result c.from_residual-in_err-subtype.ensures.1 (λ e p. p) f

@@ -1,5 +1,4 @@
-use Rattle.std.proofs.Common.{rules, arith, ◌≡◌, ◌≢◌, ◌+◌, ◌<◌, length, get_or, drop, map, [], ◌∷◌, None, ap, sym, ◌∙◌}
-use Rattle.std.proofs.lemmas.Grind.{common_steps}
+use Rattle.std.proofs.Common.{arith, ◌≡◌, ◌≢◌, ◌+◌, ◌<◌, length, get_or, drop, map, [], ◌∷◌, None, ap, sym, ◌∙◌}
 use Rattle.vhdl_names_rules.specs.declared.fault.NameFault.TheVariants.{NoMemory}
 use Rattle.vhdl_names_rules.specs.Rules.{◌>>=◌}
 use Rattle.vhdl_names_rules.specs.Visibility.{declare}
@@ -14,6 +13,8 @@ use Rattle.vhdl_names_rules.specs.Interfaces.{declared_names}
 use Rattle.vhdl_names_problems.specs.Broken.{Tells, refused}
 use Rattle.vhdl_names_declarations.proofs.Breaking.{twice_alone}
 use Rattle.vhdl_names_declarations.proofs.Regions.{next_of, none_left}
+use Rattle.vhdl_names_declarations.proofs.Breaking.{passed_on}
+use Rattle.vhdl_names_declarations.proofs.Passing.{gives_none}
 use Rattle.vhdl_names_declarations.proofs.packages.add_rows.Goals as goal
 
 -- what the check takes for a row that is not there
@@ -29,7 +30,7 @@ returns-in_err-declare_name-clause-given c =
     ∙ next_of row_view (region_view c.loop-row.region) c.args.rows.now c.loop-row.row-index no_row lt
     ∙ ap (λ o. o >>= λ r. more r (map row_view (drop (c.loop-row.row-index + 1) c.args.rows.now)))
     (ap (λ m. more (region_view c.loop-row.region) (declare (get_or c.args.rows.now c.loop-row.row-index no_row).name.now m ∷ [])) (sym c.meaning.ensures) ∙ c.in_err-declare_name.ensures.given n) in
-    first_of (search rules, grind (arith, common_steps))
+    gives_none _ _ c.in_err-declare_name.field-0.0 _ c.from_residual.result c.from_residual.ensures.1 (λ e p. p) f
 
 pub returns-clause-given : goal.returns-clause-given
 returns-clause-given c =
@@ -41,4 +42,4 @@ returns-in_err-declare_name-clause-told c =
     let name = (get_or c.args.rows.now c.loop-row.row-index no_row).name.now in
     let f : Tells (refused Twice 0) c.in_err-declare_name.field-0.0 =
     twice_alone (declared_names (region_view c.loop-row.region)) (ident 0 name) c.in_err-declare_name.field-0.0 c.in_err-declare_name.ensures.told in
-    first_of (search rules, grind (arith, common_steps))
+    passed_on _ c.in_err-declare_name.field-0.0 _ c.from_residual.result c.from_residual.ensures.1 (λ e p. p) f

@@ -1,6 +1,5 @@
-use Rattle.std.proofs.Common.{rules, arith, option_map, ◌≡◌, ◌≢◌, suc, ◌+◌, ◌<◌, ◌∷◌, [], map, length, drop, Some, None, refl, ap, sym, ◌∙◌}
-use Rattle.std.proofs.lemmas.Grind.{common_steps}
-use Rattle.std.proofs.lemmas.List.{map-append}
+use Rattle.std.proofs.Common.{arith, option_map, ◌≡◌, ◌≢◌, suc, ◌+◌, ◌<◌, ◌∷◌, [], map, length, drop, Some, None, refl, ap, sym, ◌∙◌}
+use Rattle.std.proofs.lemmas.List.{at_drop_all, map-append}
 use Rattle.vhdl_names_rules.specs.declared.fault.NameFault.TheVariants.{NoMemory}
 use Rattle.vhdl_names_rules.specs.Expressions.{typed, typed_each, as_integer}
 use Rattle.vhdl_names_rules.specs.views.Integers.{static_view}
@@ -22,6 +21,11 @@ use Rattle.vhdl_names_problems.proofs.Telling.{told_same, told_on}
 use Rattle.vhdl_names_problems.proofs.kept.Expressions.{typed_kept}
 use Rattle.vhdl_names_expressions.specs.Breaking.{link_breaks, all_break, started_breaks}
 use Rattle.vhdl_names_expressions.proofs.Breaking.{told_as, wanted_told, chain_first, chain_further, link_told, rest_goes, operator_on, link_first, range_first, range_second, static_first, slice_told, parens_told, negation_first, negation_told, sign_first, sign_told, integer_told, character_told, string_told, bits_told, named_suffix, named_meaning, named_no_value, named_denoted, named_attributed, each_told, each_left, arguments_on, begun_first, begun_second}
+use Rattle.vhdl_names_rules.specs.Expressions.{enclosed, signed}
+use Rattle.vhdl_names_rules.specs.Operators.{integer, inverse}
+use Rattle.vhdl_names_rules.specs.Rules.{◌>>=◌}
+use Rattle.vhdl_names_expressions.proofs.Chains.{static_is}
+use Rattle.vhdl_names_expressions.proofs.Typing.{passed_on, told_on as told_by, parens_give, negation_gives, sign_gives, no_meaning, no_suffix, with_value, no_operand}
 use Rattle.vhdl_names_expressions.proofs.expressions.+typed.Goals as goal
 
 pub links-returns-in_err-done-clause-given : goal.links-returns-in_err-done-clause-given
@@ -30,7 +34,7 @@ links-returns-in_err-done-clause-given t c =
     let lt : c.loop-next.next-index < length c.args.links.now = omega arith in
     let f : c.in_err-done.field-0.0 ≢ NoMemory → all_linked s (Some (typed_view c.args.first)) c.args.links.now ≡ None =
     λ n. link_fails s _ (typed_view c.loop-next.done) c.args.links.now c.loop-next.next-index c.next-item.result c.loop-next.invariant.0 lt c.next-item.is (c.in_err-done.ensures.given n) in
-    first_of (search rules, grind (arith, common_steps))
+    passed_on _ _ c.in_err-done.field-0.0 _ c.from_residual.result c.from_residual.ensures.1 (λ e p. p) f
 
 pub begun-returns-in_err-first-clause-given : goal.begun-returns-in_err-first-clause-given
 begun-returns-in_err-first-clause-given t c =
@@ -38,7 +42,7 @@ begun-returns-in_err-first-clause-given t c =
     let k = c.args.chain.now in
     let f : c.in_err-first.field-0.0 ≢ NoMemory → started s k ≡ None =
     λ n. started_is s k ∙ ap (λ o. linked s (is_parens (view (out-Chain k).first)) o (out-Chain k).second) (c.in_err-first.ensures.given n) in
-    first_of (search rules, grind (arith, common_steps))
+    passed_on _ _ c.in_err-first.field-0.0 _ c.from_residual.result c.from_residual.ensures.1 (λ e p. p) f
 
 pub begun-returns-clause-given : goal.begun-returns-clause-given
 begun-returns-clause-given t c =
@@ -60,7 +64,7 @@ typed-returns-in_err-begun-in-Chain-clause-given t c =
     let f : c.in_err-begun-in-Chain.field-0.0 ≢ NoMemory → typed s (view c.args.e.now) ≡ None =
     λ n. chain_begun s c.args.e.now c.in-Chain.chain c.deref-in-Chain.result.now k c.in-Chain.is c.deref-in-Chain.ensures refl
     ∙ ap (λ o. all_linked s o (links_of k)) (c.in_err-begun-in-Chain.ensures.given n) ∙ all_linked_none s (links_of k) in
-    first_of (search rules, grind (arith, common_steps))
+    passed_on _ _ c.in_err-begun-in-Chain.field-0.0 _ c.from_residual-in_err-begun-in-Chain.result c.from_residual-in_err-begun-in-Chain.ensures.1 (λ e p. p) f
 
 pub typed-returns-in_ok-begun-in-Chain-clause-given : goal.typed-returns-in_ok-begun-in-Chain-clause-given
 typed-returns-in_ok-begun-in-Chain-clause-given t c =
@@ -84,7 +88,7 @@ typed_each-returns-in_err-value-clause-given t c =
     let f : c.in_err-value.field-0.0 ≢ NoMemory → typed_each s (exprs_of (map view c.args.arguments.now)) ≡ None =
     λ n. each_fails s _ (map typed_view c.loop-argument.done.items) c.args.arguments.now c.loop-argument.argument-index c.argument-item.result c.loop-argument.invariant.0 lt c.argument-item.is
     (c.in_err-value.ensures.given n) in
-    first_of (search rules, grind (arith, common_steps))
+    passed_on _ _ c.in_err-value.field-0.0 _ c.from_residual.result c.from_residual.ensures.1 (λ e p. p) f
 
 pub typed_each-loop-argument-preserved : goal.typed_each-loop-argument-preserved
 typed_each-loop-argument-preserved t c =
@@ -114,7 +118,7 @@ links-returns-in_err-done-clause-told t c =
     let f : Tells (all_break s (Some (typed_view c.args.first)) c.args.links.now) c.in_err-done.field-0.0 =
     told_same _ _ c.in_err-done.field-0.0 (sym c.loop-next.invariant.1)
     (link_told s (typed_view c.loop-next.done) c.args.links.now c.loop-next.next-index c.next-item.result c.in_err-done.field-0.0 lt c.next-item.is c.in_err-done.ensures.told) in
-    first_of (search rules, grind (arith, common_steps))
+    told_by _ c.in_err-done.field-0.0 _ c.from_residual.result c.from_residual.ensures.1 (λ e p. p) f
 
 pub links-loop-next-preserved : goal.links-loop-next-preserved
 links-loop-next-preserved t c =
@@ -130,7 +134,7 @@ pub begun-returns-in_err-first-clause-told : goal.begun-returns-in_err-first-cla
 begun-returns-in_err-first-clause-told t c =
     let s = sight_view c.args.sight.now in
     let f : Tells (started_breaks s c.args.chain.now) c.in_err-first.field-0.0 = begun_first s c.args.chain.now c.in_err-first.field-0.0 c.in_err-first.ensures.told in
-    first_of (search rules, grind (arith, common_steps))
+    told_by _ c.in_err-first.field-0.0 _ c.from_residual.result c.from_residual.ensures.1 (λ e p. p) f
 
 pub begun-returns-clause-told : goal.begun-returns-clause-told
 begun-returns-clause-told t c =
@@ -145,7 +149,7 @@ typed-returns-in_err-begun-in-Chain-clause-told t c =
     let s = sight_view c.args.sight.now in
     let f : Tells (broken.typed s (view c.args.e.now)) c.in_err-begun-in-Chain.field-0.0 =
     chain_first s c.args.e.now c.in-Chain.chain c.deref-in-Chain.result.now c.in_err-begun-in-Chain.field-0.0 c.in-Chain.is c.deref-in-Chain.ensures c.in_err-begun-in-Chain.ensures.told in
-    first_of (search rules, grind (arith, common_steps))
+    told_by _ c.in_err-begun-in-Chain.field-0.0 _ c.from_residual-in_err-begun-in-Chain.result c.from_residual-in_err-begun-in-Chain.ensures.1 (λ e p. p) f
 
 pub typed-returns-in_ok-begun-in-Chain-clause-told : goal.typed-returns-in_ok-begun-in-Chain-clause-told
 typed-returns-in_ok-begun-in-Chain-clause-told t c =
@@ -163,7 +167,7 @@ typed_each-returns-in_err-value-clause-told t c =
     let f : Tells (broken.typed_each s (exprs_of (map view c.args.arguments.now))) c.in_err-value.field-0.0 =
     told_same _ _ c.in_err-value.field-0.0 (sym c.loop-argument.invariant.1)
     (each_told s c.args.arguments.now c.loop-argument.argument-index c.argument-item.result c.in_err-value.field-0.0 lt c.argument-item.is c.in_err-value.ensures.told) in
-    first_of (search rules, grind (arith, common_steps))
+    told_by _ c.in_err-value.field-0.0 _ c.from_residual.result c.from_residual.ensures.1 (λ e p. p) f
 
 pub named-returns-in_err-meaning-clause-told : goal.named-returns-in_err-meaning-clause-told
 named-returns-in_err-meaning-clause-told t c =
@@ -171,7 +175,7 @@ named-returns-in_err-meaning-clause-told t c =
     let n = c.args.name.now in
     let f : Tells (broken.typed s (tree.named (ident_view n.identifier) (suffix_view n.suffix) (option_map ident_view n.attribute))) c.in_err-meaning.field-0.0 =
     named_meaning s (ident_view n.identifier) (suffix_view n.suffix) (option_map ident_view n.attribute) c.in_err-meaning.field-0.0 c.in_err-meaning.ensures.told in
-    first_of (search rules, grind (arith, common_steps))
+    told_by _ c.in_err-meaning.field-0.0 _ c.from_residual.result c.from_residual.ensures.1 (λ e p. p) f
 
 pub named-returns-in_err-suffix-clause-told : goal.named-returns-in_err-suffix-clause-told
 named-returns-in_err-suffix-clause-told t c =
@@ -180,7 +184,7 @@ named-returns-in_err-suffix-clause-told t c =
     let f : Tells (broken.typed s (tree.named (ident_view n.identifier) (suffix_view n.suffix) (option_map ident_view n.attribute))) c.in_err-suffix.field-0.0 =
     named_suffix s (ident_view n.identifier) (suffix_view n.suffix) (option_map ident_view n.attribute) (meaning_view c.in_ok-meaning.meaning.now) c.in_err-suffix.field-0.0
     c.in_ok-meaning.ensures.meant c.in_err-suffix.ensures.told in
-    first_of (search rules, grind (arith, common_steps))
+    told_by _ c.in_err-suffix.field-0.0 _ c.from_residual-in_err-suffix.result c.from_residual-in_err-suffix.ensures.1 (λ e p. p) f
 
 pub named-returns-in_err-of_no_value-clause-told : goal.named-returns-in_err-of_no_value-clause-told
 named-returns-in_err-of_no_value-clause-told t c =
@@ -189,7 +193,7 @@ named-returns-in_err-of_no_value-clause-told t c =
     let f : Tells (broken.typed s (tree.named (ident_view n.identifier) (suffix_view n.suffix) (option_map ident_view n.attribute))) c.in_err-of_no_value.field-0.0 =
     named_no_value s (ident_view n.identifier) (suffix_view n.suffix) (option_map ident_view n.attribute) (meaning_view c.in_ok-meaning.meaning.now) (typed_suffix_view c.in_ok-suffix.suffix)
     c.in_ok-meaning.ensures.meant c.in_ok-suffix.ensures.given c.in_err-of_no_value.field-0.0 c.in_err-of_no_value.ensures.told in
-    first_of (search rules, grind (arith, common_steps))
+    told_by _ c.in_err-of_no_value.field-0.0 _ c.from_residual-in_err-of_no_value.result c.from_residual-in_err-of_no_value.ensures.1 (λ e p. p) f
 
 pub named-returns-in_err-value-clause-told : goal.named-returns-in_err-value-clause-told
 named-returns-in_err-value-clause-told t c =
@@ -198,7 +202,7 @@ named-returns-in_err-value-clause-told t c =
     let f : Tells (broken.typed s (tree.named (ident_view n.identifier) (suffix_view n.suffix) (option_map ident_view n.attribute))) c.in_err-value.field-0.0 =
     named_denoted s (ident_view n.identifier) (suffix_view n.suffix) (option_map ident_view n.attribute) (meaning_view c.in_ok-meaning.meaning.now) (typed_suffix_view c.in_ok-suffix.suffix)
     c.in_ok-meaning.ensures.meant c.in_ok-suffix.ensures.given c.in_err-value.field-0.0 c.in_ok-of_no_value.ensures.kept c.in_err-value.ensures.told in
-    first_of (search rules, grind (arith, common_steps))
+    told_by _ c.in_err-value.field-0.0 _ c.from_residual-in_err-value.result c.from_residual-in_err-value.ensures.1 (λ e p. p) f
 
 pub named-returns-clause-told : goal.named-returns-clause-told
 named-returns-clause-told t c =
@@ -214,7 +218,7 @@ link-returns-in_err-operand-clause-told t c =
     let s = sight_view c.args.sight.now in
     let f : Tells (link_breaks s c.args.after_parens (Some (typed_view c.args.first)) c.args.link.now) c.in_err-operand.field-0.0 =
     link_first s c.args.after_parens (typed_view c.args.first) c.args.link.now c.in_err-operand.field-0.0 c.in_err-operand.ensures.told in
-    first_of (search rules, grind (arith, common_steps))
+    told_by _ c.in_err-operand.field-0.0 _ c.from_residual.result c.from_residual.ensures.1 (λ e p. p) f
 
 pub link-returns-clause-told : goal.link-returns-clause-told
 link-returns-clause-told t c =
@@ -226,7 +230,7 @@ static_integer-returns-in_err-value-clause-told t c =
     let s = sight_view c.args.sight.now in
     let f : Tells (broken.static s (view c.args.e.now)) c.in_err-value.field-0.0 =
     static_first s (view c.args.e.now) c.in_err-value.field-0.0 c.in_err-value.ensures.told in
-    first_of (search rules, grind (arith, common_steps))
+    told_by _ c.in_err-value.field-0.0 _ c.from_residual.result c.from_residual.ensures.1 (λ e p. p) f
 
 pub static_integer-returns-clause-told : goal.static_integer-returns-clause-told
 static_integer-returns-clause-told t c =
@@ -240,35 +244,35 @@ static_range-returns-in_err-left-clause-told t c =
     let s = sight_view c.args.sight.now in
     let f : Tells (broken.static_range s (range_view c.args.range.now)) c.in_err-left.field-0.0 =
     range_first s (range_view c.args.range.now) c.in_err-left.field-0.0 c.in_err-left.ensures.told in
-    first_of (search rules, grind (arith, common_steps))
+    told_by _ c.in_err-left.field-0.0 _ c.from_residual.result c.from_residual.ensures.1 (λ e p. p) f
 
 pub static_range-returns-in_err-right-clause-told : goal.static_range-returns-in_err-right-clause-told
 static_range-returns-in_err-right-clause-told t c =
     let s = sight_view c.args.sight.now in
     let f : Tells (broken.static_range s (range_view c.args.range.now)) c.in_err-right.field-0.0 =
     range_second s (range_view c.args.range.now) (static_view c.in_ok-left.left) c.in_err-right.field-0.0 c.in_ok-left.ensures.given c.in_err-right.ensures.told in
-    first_of (search rules, grind (arith, common_steps))
+    told_by _ c.in_err-right.field-0.0 _ c.from_residual-in_err-right.result c.from_residual-in_err-right.ensures.1 (λ e p. p) f
 
 pub typed-returns-in_err-operand-in-Parens-clause-told : goal.typed-returns-in_err-operand-in-Parens-clause-told
 typed-returns-in_err-operand-in-Parens-clause-told t c =
     let s = sight_view c.args.sight.now in
     let f : Tells (broken.typed s (view c.args.e.now)) c.in_err-operand-in-Parens.field-0.0 =
     parens_told s c.args.e.now c.deref.result.now c.in-Parens.at c.in-Parens.inner c.in_err-operand-in-Parens.field-0.0 c.in-Parens.is c.deref.ensures c.in_err-operand-in-Parens.ensures.told in
-    first_of (search rules, grind (arith, common_steps))
+    told_by _ c.in_err-operand-in-Parens.field-0.0 _ c.from_residual.result c.from_residual.ensures.1 (λ e p. p) f
 
 pub typed-returns-in_err-operand-in-Not-clause-told : goal.typed-returns-in_err-operand-in-Not-clause-told
 typed-returns-in_err-operand-in-Not-clause-told t c =
     let s = sight_view c.args.sight.now in
     let f : Tells (broken.typed s (view c.args.e.now)) c.in_err-operand-in-Not.field-0.0 =
     negation_first s c.args.e.now c.deref-in-Not.result.now c.in-Not.at c.in-Not.operand c.in_err-operand-in-Not.field-0.0 c.in-Not.is c.deref-in-Not.ensures c.in_err-operand-in-Not.ensures.told in
-    first_of (search rules, grind (arith, common_steps))
+    told_by _ c.in_err-operand-in-Not.field-0.0 _ c.from_residual-in_err-operand-in-Not.result c.from_residual-in_err-operand-in-Not.ensures.1 (λ e p. p) f
 
 pub typed-returns-in_err-operand-in-Signed-clause-told : goal.typed-returns-in_err-operand-in-Signed-clause-told
 typed-returns-in_err-operand-in-Signed-clause-told t c =
     let s = sight_view c.args.sight.now in
     let f : Tells (broken.typed s (view c.args.e.now)) c.in_err-operand-in-Signed.field-0.0 =
     sign_first s c.args.e.now c.deref-in-Signed.result.now c.in-Signed.at c.in-Signed.operand c.in-Signed.sign c.in_err-operand-in-Signed.field-0.0 c.in-Signed.is c.deref-in-Signed.ensures c.in_err-operand-in-Signed.ensures.told in
-    first_of (search rules, grind (arith, common_steps))
+    told_by _ c.in_err-operand-in-Signed.field-0.0 _ c.from_residual-in_err-operand-in-Signed.result c.from_residual-in_err-operand-in-Signed.ensures.1 (λ e p. p) f
 
 pub typed-returns-in-Integer-clause-told : goal.typed-returns-in-Integer-clause-told
 typed-returns-in-Integer-clause-told t c =
@@ -301,4 +305,85 @@ typed_suffix-returns-in_err-range-in-Range-clause-told t c =
     let s = sight_view c.args.sight.now in
     let f : Tells (broken.typed_suffix s (suffix_view c.args.suffix.now)) c.in_err-range-in-Range.field-0.0 =
     slice_told s c.args.suffix.now c.in-Range.range c.deref-in-Range.result.now c.in_err-range-in-Range.field-0.0 c.in-Range.is c.deref-in-Range.ensures c.in_err-range-in-Range.ensures.told in
-    first_of (search rules, grind (arith, common_steps))
+    told_by _ c.in_err-range-in-Range.field-0.0 _ c.from_residual.result c.from_residual.ensures.1 (λ e p. p) f
+
+-- ---- what is given
+
+pub typed-returns-in_err-operand-in-Parens-clause-given : goal.typed-returns-in_err-operand-in-Parens-clause-given
+typed-returns-in_err-operand-in-Parens-clause-given t c =
+    passed_on typed_view _ c.in_err-operand-in-Parens.field-0.0 _ c.from_residual.result c.from_residual.ensures.1 (λ e p. p)
+    (λ n. parens_give (sight_view c.args.sight.now) c.args.e.now c.deref.result.now c.in-Parens.at c.in-Parens.inner c.in-Parens.is c.deref.ensures ∙ ap (option_map enclosed) (c.in_err-operand-in-Parens.ensures.given n))
+
+pub typed-returns-in_ok-operand-in-Parens-clause-given : goal.typed-returns-in_ok-operand-in-Parens-clause-given
+typed-returns-in_ok-operand-in-Parens-clause-given t c =
+    parens_give (sight_view c.args.sight.now) c.args.e.now c.deref.result.now c.in-Parens.at c.in-Parens.inner c.in-Parens.is c.deref.ensures
+    ∙ ap (option_map enclosed) c.in_ok-operand-in-Parens.ensures.given ∙ ap Some (sym c.enclosed.ensures)
+
+pub typed-returns-in_err-operand-in-Not-clause-given : goal.typed-returns-in_err-operand-in-Not-clause-given
+typed-returns-in_err-operand-in-Not-clause-given t c =
+    passed_on typed_view _ c.in_err-operand-in-Not.field-0.0 _ c.from_residual-in_err-operand-in-Not.result c.from_residual-in_err-operand-in-Not.ensures.1 (λ e p. p)
+    (λ n. negation_gives (sight_view c.args.sight.now) c.args.e.now c.deref-in-Not.result.now c.in-Not.at c.in-Not.operand c.in-Not.is c.deref-in-Not.ensures ∙ ap (λ o. o >>= inverse) (c.in_err-operand-in-Not.ensures.given n))
+
+pub typed-returns-in_ok-operand-in-Not-clause-given : goal.typed-returns-in_ok-operand-in-Not-clause-given
+typed-returns-in_ok-operand-in-Not-clause-given t c =
+    gives_along typed_view _ _ _
+    (negation_gives (sight_view c.args.sight.now) c.args.e.now c.deref-in-Not.result.now c.in-Not.at c.in-Not.operand c.in-Not.is c.deref-in-Not.ensures
+    ∙ ap (λ o. o >>= inverse) c.in_ok-operand-in-Not.ensures.given) c.inverse.ensures.given
+
+pub typed-returns-in_err-operand-in-Signed-clause-given : goal.typed-returns-in_err-operand-in-Signed-clause-given
+typed-returns-in_err-operand-in-Signed-clause-given t c =
+    passed_on typed_view _ c.in_err-operand-in-Signed.field-0.0 _ c.from_residual-in_err-operand-in-Signed.result c.from_residual-in_err-operand-in-Signed.ensures.1 (λ e p. p)
+    (λ n. sign_gives (sight_view c.args.sight.now) c.args.e.now c.deref-in-Signed.result.now c.in-Signed.at c.in-Signed.operand c.in-Signed.sign c.in-Signed.is c.deref-in-Signed.ensures
+    ∙ ap (λ o. o >>= λ y. as_integer y >>= λ k. Some (integer (signed c.in-Signed.sign k))) (c.in_err-operand-in-Signed.ensures.given n))
+
+pub typed-returns-in_ok-operand-in-Signed-clause-given : goal.typed-returns-in_ok-operand-in-Signed-clause-given
+typed-returns-in_ok-operand-in-Signed-clause-given t c =
+    gives_along typed_view _ _ _
+    (sign_gives (sight_view c.args.sight.now) c.args.e.now c.deref-in-Signed.result.now c.in-Signed.at c.in-Signed.operand c.in-Signed.sign c.in-Signed.is c.deref-in-Signed.ensures
+    ∙ ap (λ o. o >>= λ y. as_integer y >>= λ k. Some (integer (signed c.in-Signed.sign k))) c.in_ok-operand-in-Signed.ensures.given) c.signed.ensures.given
+
+pub named-returns-in_err-meaning-clause-given : goal.named-returns-in_err-meaning-clause-given
+named-returns-in_err-meaning-clause-given t c =
+    passed_on typed_view _ c.in_err-meaning.field-0.0 _ c.from_residual.result c.from_residual.ensures.1 (λ e p. p)
+    (λ n. no_meaning (sight_view c.args.sight.now) (ident_view c.args.name.now.identifier) (suffix_view c.args.name.now.suffix) (option_map ident_view c.args.name.now.attribute) (c.in_err-meaning.ensures.meant n))
+
+pub named-returns-in_err-suffix-clause-given : goal.named-returns-in_err-suffix-clause-given
+named-returns-in_err-suffix-clause-given t c =
+    passed_on typed_view _ c.in_err-suffix.field-0.0 _ c.from_residual-in_err-suffix.result c.from_residual-in_err-suffix.ensures.1 (λ e p. p)
+    (λ n. no_suffix (sight_view c.args.sight.now) (ident_view c.args.name.now.identifier) (suffix_view c.args.name.now.suffix) (option_map ident_view c.args.name.now.attribute) (meaning_view c.in_ok-meaning.meaning.now) c.in_ok-meaning.ensures.meant (c.in_err-suffix.ensures.given n))
+
+pub named-returns-in_err-of_no_value-clause-given : goal.named-returns-in_err-of_no_value-clause-given
+named-returns-in_err-of_no_value-clause-given t c =
+    passed_on typed_view _ c.in_err-of_no_value.field-0.0 _ c.from_residual-in_err-of_no_value.result c.from_residual-in_err-of_no_value.ensures.1 (λ e p. p)
+    (λ n. with_value (sight_view c.args.sight.now) (ident_view c.args.name.now.identifier) (suffix_view c.args.name.now.suffix) (option_map ident_view c.args.name.now.attribute) (meaning_view c.in_ok-meaning.meaning.now) (typed_suffix_view c.in_ok-suffix.suffix) _ c.in_ok-meaning.ensures.meant c.in_ok-suffix.ensures.given c.in_err-of_no_value.ensures.none)
+
+pub named-returns-in_err-value-clause-given : goal.named-returns-in_err-value-clause-given
+named-returns-in_err-value-clause-given t c =
+    passed_on typed_view _ c.in_err-value.field-0.0 _ c.from_residual-in_err-value.result c.from_residual-in_err-value.ensures.1 (λ e p. p)
+    (λ n. with_value (sight_view c.args.sight.now) (ident_view c.args.name.now.identifier) (suffix_view c.args.name.now.suffix) (option_map ident_view c.args.name.now.attribute) (meaning_view c.in_ok-meaning.meaning.now) (typed_suffix_view c.in_ok-suffix.suffix) _ c.in_ok-meaning.ensures.meant c.in_ok-suffix.ensures.given (c.in_err-value.ensures.given n))
+
+pub named-returns-clause-given : goal.named-returns-clause-given
+named-returns-clause-given t c =
+    gives_along typed_view _ _ _ (with_value (sight_view c.args.sight.now) (ident_view c.args.name.now.identifier) (suffix_view c.args.name.now.suffix) (option_map ident_view c.args.name.now.attribute) (meaning_view c.in_ok-meaning.meaning.now) (typed_suffix_view c.in_ok-suffix.suffix) _ c.in_ok-meaning.ensures.meant c.in_ok-suffix.ensures.given c.in_ok-value.ensures.given) c.attributed.ensures.given
+
+pub static_integer-returns-in_err-value-clause-given : goal.static_integer-returns-in_err-value-clause-given
+static_integer-returns-in_err-value-clause-given t c =
+    passed_on static_view _ c.in_err-value.field-0.0 _ c.from_residual.result c.from_residual.ensures.1 (λ e p. p)
+    (λ n. static_is (sight_view c.args.sight.now) (view c.args.e.now) ∙ ap (λ o. o >>= as_integer) (c.in_err-value.ensures.given n))
+
+pub static_integer-returns-clause-given : goal.static_integer-returns-clause-given
+static_integer-returns-clause-given t c =
+    gives_along static_view _ _ _ (static_is (sight_view c.args.sight.now) (view c.args.e.now) ∙ ap (λ o. o >>= as_integer) c.in_ok-value.ensures.given) c.as_integer.ensures.given
+
+pub links-loop-next-init : goal.links-loop-next-init
+links-loop-next-init t c =
+    (refl, refl)
+
+pub links-returns-clause-given : goal.links-returns-clause-given
+links-returns-clause-given t c =
+    c.loop-next.invariant.0 ∙ at_drop_all (all_linked (sight_view c.args.sight.now) (Some (typed_view c.loop-next.done))) c.args.links.now c.loop-next.next-index c.loop-next-test.false
+
+pub link-returns-in_err-operand-clause-given : goal.link-returns-in_err-operand-clause-given
+link-returns-in_err-operand-clause-given t c =
+    passed_on typed_view _ c.in_err-operand.field-0.0 _ c.from_residual.result c.from_residual.ensures.1 (λ e p. p)
+    (λ n. no_operand (sight_view c.args.sight.now) c.args.after_parens (typed_view c.args.first) c.args.link.now (c.in_err-operand.ensures.given n))

@@ -1,5 +1,4 @@
-use Rattle.std.proofs.Common.{rules, arith, ◌<◌, ◌∷◌, [], length, map, refl, ap, ◌∙◌}
-use Rattle.std.proofs.lemmas.Grind.{common_steps}
+use Rattle.std.proofs.Common.{arith, ◌<◌, ◌∷◌, [], length, map, refl, ap, ◌∙◌}
 use Rattle.std.proofs.lemmas.List.{map-append}
 use Rattle.vhdl_tree.specs.View as tree
 use Rattle.vhdl_names_types.specs.Views.{sight_view}
@@ -8,6 +7,7 @@ use Rattle.vhdl_names_problems.specs.Broken.{Tells, any_of}
 use Rattle.vhdl_names_problems.specs.Concurrent as broken
 use Rattle.vhdl_names_statements.specs.steps.Concurrent as steps
 use Rattle.vhdl_names_labels.proofs.Behind.{next_told, next_left}
+use Rattle.vhdl_names_statements.proofs.steps.Passing.{told_by}
 use Rattle.vhdl_names_statements.proofs.steps.Told.{more_done}
 use Rattle.vhdl_names_statements.proofs.steps.Turns.{none_done, all_done}
 use Rattle.vhdl_names_statements.proofs.steps.Assigning.{branch_kept}
@@ -20,7 +20,7 @@ returns-in_err-next-clause-told c =
     let lt : c.loop-item.item-index < length c.args.list.now = omega arith in
     let h : Tells (any_of b (map tree.branch_view xs)) c.in_err-next.field-0.0 =
     next_told tree.branch_view xs c.loop-item.item-index c.item-item.result lt c.item-item.is b c.in_err-next.field-0.0 c.loop-item.invariant.1 c.in_err-next.ensures.told in
-    first_of (search rules, grind (arith, common_steps))
+    told_by _ c.in_err-next.field-0.0 _ c.from_residual.result c.from_residual.ensures.1 (λ e p. p) h
 
 pub loop-item-preserved : goal.loop-item-preserved
 loop-item-preserved c =

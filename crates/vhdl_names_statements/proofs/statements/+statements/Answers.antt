@@ -1,5 +1,4 @@
-use Rattle.std.proofs.Common.{rules, arith, ◌≡◌, ◌≢◌, ◌<◌, ◌∷◌, [], length, map, None, Some, refl, ap, sym, ◌∙◌}
-use Rattle.std.proofs.lemmas.Grind.{common_steps}
+use Rattle.std.proofs.Common.{arith, ◌≡◌, ◌≢◌, ◌<◌, ◌∷◌, [], length, map, None, Some, refl, ap, sym, ◌∙◌}
 use Rattle.std.proofs.lemmas.List.{map-append}
 use Rattle.vhdl_tree.specs.Tree as tree'
 use Rattle.vhdl_tree.specs.View as tree
@@ -15,7 +14,7 @@ use Rattle.vhdl_names_units.specs.views.Sequential.{statement_view, statements_v
 use Rattle.vhdl_names_problems.specs.Broken.{Tells}
 use Rattle.vhdl_names_problems.specs.Expressions.{condition}
 use Rattle.vhdl_names_problems.specs.Choices.{choices}
-use Rattle.vhdl_names_problems.specs.Covered.{covered, any_alternative}
+use Rattle.vhdl_names_problems.specs.Covered.{any_alternative}
 use Rattle.vhdl_names_problems.specs.Statements as broken
 use Rattle.vhdl_names_problems.proofs.Telling.{told_same, told_left, told_right, told_on}
 use Rattle.vhdl_names_problems.proofs.kept.Expressions.{condition_kept}
@@ -24,6 +23,7 @@ use Rattle.vhdl_names_labels.proofs.Behind.{next_told, next_left}
 use Rattle.vhdl_names_statements.specs.steps.Cases as cases
 use Rattle.vhdl_names_statements.specs.steps.Sequential as steps
 use Rattle.vhdl_names_statements.specs.steps.Told as told
+use Rattle.vhdl_names_statements.proofs.steps.Passing.{passed_on, told_by}
 use Rattle.vhdl_names_statements.proofs.steps.Sequential.{if_gives, loop_gives, left_loop}
 use Rattle.vhdl_names_statements.proofs.steps.Cases.{case_gives}
 use Rattle.vhdl_names_statements.proofs.steps.Told as by
@@ -64,7 +64,7 @@ statements-returns-in_err-next-clause-told m c =
     told_same _ _ c.in_err-next.field-0.0 (by.statements_any s (map tree.sequential_view xs))
     (next_told tree.sequential_view xs c.loop-item.item-index x lt c.item-item.is (told.labelled s) c.in_err-next.field-0.0 c.loop-item.invariant.2
     (told_same _ _ c.in_err-next.field-0.0 (ap (λ e. told.labelled e (tree.sequential_view x)) c.loop-item.invariant.0) c.in_err-next.ensures.told)) in
-    first_of (search rules, grind (arith, common_steps))
+    told_by _ c.in_err-next.field-0.0 _ c.from_residual.result c.from_residual.ensures.1 (λ e p. p) h
 
 pub statements-loop-item-preserved : goal.statements-loop-item-preserved
 statements-loop-item-preserved m c =
@@ -90,7 +90,7 @@ branches-returns-in_err-next-clause-told m c =
     told_same _ _ c.in_err-next.field-0.0 (by.conditionals_any s (map tree.conditional_view xs))
     (next_told tree.conditional_view xs c.loop-item.item-index x lt c.item-item.is (told.guarded s) c.in_err-next.field-0.0 c.loop-item.invariant.2
     (told_same _ _ c.in_err-next.field-0.0 (ap (λ e. told.guarded e (tree.conditional_view x)) c.loop-item.invariant.0) c.in_err-next.ensures.told)) in
-    first_of (search rules, grind (arith, common_steps))
+    told_by _ c.in_err-next.field-0.0 _ c.from_residual.result c.from_residual.ensures.1 (λ e p. p) h
 
 pub branches-loop-item-preserved : goal.branches-loop-item-preserved
 branches-loop-item-preserved m c =
@@ -116,7 +116,7 @@ alternatives-returns-in_err-next-clause-told m c =
     told_same _ _ c.in_err-next.field-0.0 (by.alternatives_any s c.args.selected (map tree.alternative_view xs))
     (next_told tree.alternative_view xs c.loop-item.item-index x lt c.item-item.is (told.alternative s c.args.selected) c.in_err-next.field-0.0 c.loop-item.invariant.2
     (told_same _ _ c.in_err-next.field-0.0 (ap (λ e. told.alternative e c.args.selected (tree.alternative_view x)) c.loop-item.invariant.0) c.in_err-next.ensures.told)) in
-    first_of (search rules, grind (arith, common_steps))
+    told_by _ c.in_err-next.field-0.0 _ c.from_residual.result c.from_residual.ensures.1 (λ e p. p) h
 
 pub alternatives-loop-item-preserved : goal.alternatives-loop-item-preserved
 alternatives-loop-item-preserved m c =
@@ -170,7 +170,7 @@ if_statement-returns-in_err-branches-clause-told m c =
     by.if_branch s l c.args.conditional.now c.in_err-branches.field-0.0
     (told_same _ _ c.in_err-branches.field-0.0 (ap (λ xs. broken.conditionals s (tree'.conditionals_of (map tree.conditional_view xs))) c.deref.ensures.value)
     c.in_err-branches.ensures.told) in
-    first_of (search rules, grind (arith, common_steps))
+    told_by _ c.in_err-branches.field-0.0 _ c.from_residual.result c.from_residual.ensures.1 (λ e p. p) h
 
 pub if_statement-returns-in_err-otherwise-clause-told : goal.if_statement-returns-in_err-otherwise-clause-told
 if_statement-returns-in_err-otherwise-clause-told m c =
@@ -184,7 +184,7 @@ if_statement-returns-in_err-otherwise-clause-told m c =
     (told_same _ _ c.in_err-otherwise.field-0.0
     (ap (λ x. broken.otherwise x (tree'.otherwise_of (tree.option_sequentials_view (out-If c.args.conditional.now).otherwise))) c.branches.ensures.kept)
     c.in_err-otherwise.ensures.told) in
-    first_of (search rules, grind (arith, common_steps))
+    told_by _ c.in_err-otherwise.field-0.0 _ c.from_residual-in_err-otherwise.result c.from_residual-in_err-otherwise.ensures.1 (λ e p. p) h
 
 pub if_statement-returns-in_err-branches-2-clause-told : goal.if_statement-returns-in_err-branches-2-clause-told
 if_statement-returns-in_err-branches-2-clause-told m c =
@@ -197,7 +197,7 @@ if_statement-returns-in_err-branches-2-clause-told m c =
     by.if_ends s l i c.in_err-branches-2.field-0.0 _ gs _
     (ap (λ x. if_any (steps.all_labelled x) (tree.option_sequentials_view (out-If c.args.conditional.now).otherwise)) (sym c.branches.ensures.kept) ∙ c.in_ok-otherwise.ensures.given)
     c.in_err-branches-2.ensures.told in
-    first_of (search rules, grind (arith, common_steps))
+    told_by _ c.in_err-branches-2.field-0.0 _ c.from_residual-in_err-branches-2.result c.from_residual-in_err-branches-2.ensures.1 (λ e p. p) h
 
 pub case_statement-returns-in_err-selected-clause-told : goal.case_statement-returns-in_err-selected-clause-told
 case_statement-returns-in_err-selected-clause-told m c =
@@ -205,7 +205,7 @@ case_statement-returns-in_err-selected-clause-told m c =
     let l = tree.option_ident_view c.args.label.now in
     let h : Tells (broken.statement s l (tree.case_view c.args.case.now)) c.in_err-selected.field-0.0 =
     by.case_selector s l c.args.case.now c.in_err-selected.field-0.0 c.in_err-selected.ensures.told in
-    first_of (search rules, grind (arith, common_steps))
+    told_by _ c.in_err-selected.field-0.0 _ c.from_residual.result c.from_residual.ensures.1 (λ e p. p) h
 
 pub case_statement-returns-in_err-alternatives-clause-told : goal.case_statement-returns-in_err-alternatives-clause-told
 case_statement-returns-in_err-alternatives-clause-told m c =
@@ -213,7 +213,7 @@ case_statement-returns-in_err-alternatives-clause-told m c =
     let l = tree.option_ident_view c.args.label.now in
     let h : Tells (broken.statement s l (tree.case_view c.args.case.now)) c.in_err-alternatives.field-0.0 =
     by.case_parts s l c.args.case.now c.in_err-alternatives.field-0.0 _ c.in_ok-selected.ensures.given c.in_err-alternatives.ensures.told in
-    first_of (search rules, grind (arith, common_steps))
+    told_by _ c.in_err-alternatives.field-0.0 _ c.from_residual-in_err-alternatives.result c.from_residual-in_err-alternatives.ensures.1 (λ e p. p) h
 
 pub for_loop-returns-in_err-range-clause-told : goal.for_loop-returns-in_err-range-clause-told
 for_loop-returns-in_err-range-clause-told m c =
@@ -221,7 +221,7 @@ for_loop-returns-in_err-range-clause-told m c =
     let l = tree.option_ident_view c.args.label.now in
     let h : Tells (broken.statement s l (tree.for_view c.args.repeated.now)) c.in_err-range.field-0.0 =
     by.loop_range s l c.args.repeated.now c.in_err-range.field-0.0 c.in_err-range.ensures.told in
-    first_of (search rules, grind (arith, common_steps))
+    told_by _ c.in_err-range.field-0.0 _ c.from_residual.result c.from_residual.ensures.1 (λ e p. p) h
 
 pub for_loop-returns-in_err-turn-clause-told : goal.for_loop-returns-in_err-turn-clause-told
 for_loop-returns-in_err-turn-clause-told m c =
@@ -229,7 +229,7 @@ for_loop-returns-in_err-turn-clause-told m c =
     let l = tree.option_ident_view c.args.label.now in
     let h : Tells (broken.statement s l (tree.for_view c.args.repeated.now)) c.in_err-turn.field-0.0 =
     by.loop_turn s l c.args.repeated.now c.in_err-turn.field-0.0 _ c.in_ok-range.ensures.given c.in_err-turn.ensures.told in
-    first_of (search rules, grind (arith, common_steps))
+    told_by _ c.in_err-turn.field-0.0 _ c.from_residual-in_err-turn.result c.from_residual-in_err-turn.ensures.1 (λ e p. p) h
 
 pub for_loop-returns-in_err-range-2-clause-told : goal.for_loop-returns-in_err-range-2-clause-told
 for_loop-returns-in_err-range-2-clause-told m c =
@@ -237,7 +237,7 @@ for_loop-returns-in_err-range-2-clause-told m c =
     let l = tree.option_ident_view c.args.label.now in
     let h : Tells (broken.statement s l (tree.for_view c.args.repeated.now)) c.in_err-range-2.field-0.0 =
     by.loop_ends s l c.args.repeated.now c.in_err-range-2.field-0.0 _ c.in_ok-range.ensures.given _ c.in_ok-turn.ensures.given c.in_err-range-2.ensures.told in
-    first_of (search rules, grind (arith, common_steps))
+    told_by _ c.in_err-range-2.field-0.0 _ c.from_residual-in_err-range-2.result c.from_residual-in_err-range-2.ensures.1 (λ e p. p) h
 
 pub branch-returns-in_err-condition-clause-told : goal.branch-returns-in_err-condition-clause-told
 branch-returns-in_err-condition-clause-told m c =
@@ -245,7 +245,7 @@ branch-returns-in_err-condition-clause-told m c =
     let x = tree.conditional_view c.args.item.now in
     let h : Tells (told.guarded s x) c.in_err-condition.field-0.0 =
     told_left (condition s x.condition) (broken.statements s (tree'.statements_of x.statements)) c.in_err-condition.field-0.0 c.in_err-condition.ensures.told in
-    first_of (search rules, grind (arith, common_steps))
+    told_by _ c.in_err-condition.field-0.0 _ c.from_residual.result c.from_residual.ensures.1 (λ e p. p) h
 
 pub branch-returns-in_err-statements-clause-told : goal.branch-returns-in_err-statements-clause-told
 branch-returns-in_err-statements-clause-told m c =
@@ -256,7 +256,7 @@ branch-returns-in_err-statements-clause-told m c =
     (condition_kept s x.condition _ c.in_ok-condition.ensures.given)
     (told_same _ _ c.in_err-statements.field-0.0 (ap (λ xs. broken.statements s (tree'.statements_of (map tree.sequential_view xs))) c.deref.ensures.value)
     c.in_err-statements.ensures.told) in
-    first_of (search rules, grind (arith, common_steps))
+    told_by _ c.in_err-statements.field-0.0 _ c.from_residual-in_err-statements.result c.from_residual-in_err-statements.ensures.1 (λ e p. p) h
 
 pub alternative-returns-in_err-choices-clause-told : goal.alternative-returns-in_err-choices-clause-told
 alternative-returns-in_err-choices-clause-told m c =
@@ -265,7 +265,7 @@ alternative-returns-in_err-choices-clause-told m c =
     let h : Tells (told.alternative s c.args.selected x) c.in_err-choices.field-0.0 =
     told_left (choices s c.args.selected x.choices) (broken.statements s (tree'.statements_of x.statements)) c.in_err-choices.field-0.0
     (told_same _ _ c.in_err-choices.field-0.0 (ap (λ xs. choices s c.args.selected (map tree.choice_view xs)) c.deref.ensures.value) c.in_err-choices.ensures.told) in
-    first_of (search rules, grind (arith, common_steps))
+    told_by _ c.in_err-choices.field-0.0 _ c.from_residual.result c.from_residual.ensures.1 (λ e p. p) h
 
 pub alternative-returns-in_err-statements-clause-told : goal.alternative-returns-in_err-statements-clause-told
 alternative-returns-in_err-statements-clause-told m c =
@@ -276,7 +276,7 @@ alternative-returns-in_err-statements-clause-told m c =
     (choices_kept s c.args.selected x.choices _ (ap (λ xs. are.choices s c.args.selected (map tree.choice_view xs)) (sym c.deref.ensures.value) ∙ c.in_ok-choices.ensures.given))
     (told_same _ _ c.in_err-statements.field-0.0 (ap (λ xs. broken.statements s (tree'.statements_of (map tree.sequential_view xs))) c.deref-2.ensures.value)
     c.in_err-statements.ensures.told) in
-    first_of (search rules, grind (arith, common_steps))
+    told_by _ c.in_err-statements.field-0.0 _ c.from_residual-in_err-statements.result c.from_residual-in_err-statements.ensures.1 (λ e p. p) h
 
 pub otherwise-returns-in_err-statements-in-Some-clause-told : goal.otherwise-returns-in_err-statements-in-Some-clause-told
 otherwise-returns-in_err-statements-in-Some-clause-told m c =
@@ -287,7 +287,7 @@ otherwise-returns-in_err-statements-in-Some-clause-told m c =
     ∙ by.otherwise_done s (tree.sequentials_view c.in-Some.list)
     ∙ ap (λ o. broken.otherwise s (tree'.otherwise_of (tree.option_sequentials_view o))) (sym c.in-Some.is))
     c.in_err-statements-in-Some.ensures.told in
-    first_of (search rules, grind (arith, common_steps))
+    told_by _ c.in_err-statements-in-Some.field-0.0 _ c.from_residual.result c.from_residual.ensures.1 (λ e p. p) h
 
 pub case_parts-returns-in_err-all-clause-given : goal.case_parts-returns-in_err-all-clause-given
 case_parts-returns-in_err-all-clause-given m c =
@@ -300,7 +300,7 @@ case_parts-returns-in_err-all-clause-given m c =
     c.alternatives-all.ensures.given in
     let none : c.in_err-all.field-0.0 ≢ NoMemory → cases.parts s k l (map tree.alternative_view xs) end ≡ None =
     λ n. part.case_by s k (map tree.alternative_view xs) l end None (part.read_covering s k xs (sight_view c.alternatives-all.new.sight) (cases.all_lists c.deref-3.result.now) c.alternatives-all.result read None (λ found g h. c.in_err-all.ensures.given found g h n)) in
-    first_of (search rules, grind (arith, common_steps))
+    passed_on _ _ c.in_err-all.field-0.0 _ c.from_residual-in_err-all.result c.from_residual-in_err-all.ensures.1 (λ e p. p) none
 
 pub case_parts-returns-in_err-all-clause-told : goal.case_parts-returns-in_err-all-clause-told
 case_parts-returns-in_err-all-clause-told m c =
@@ -315,7 +315,7 @@ case_parts-returns-in_err-all-clause-told m c =
     let h : Tells (told.parts s k l at (map tree.alternative_view xs) end) c.in_err-all.field-0.0 =
     part.parts_cover s k (map tree.alternative_view xs) l end at c.in_err-all.field-0.0
     (part.read_told s k xs _ _ _ read at _ c.in_err-all.field-0.0 c.deref-2.ensures.value c.alternatives-all.ensures.kept c.alternatives-all.ensures.told c.in_err-all.ensures.told) in
-    first_of (search rules, grind (arith, common_steps))
+    told_by _ c.in_err-all.field-0.0 _ c.from_residual-in_err-all.result c.from_residual-in_err-all.ensures.1 (λ e p. p) h
 
 pub case_parts-returns-in_err-all-2-clause-given : goal.case_parts-returns-in_err-all-2-clause-given
 case_parts-returns-in_err-all-2-clause-given m c =
@@ -330,7 +330,7 @@ case_parts-returns-in_err-all-2-clause-given m c =
     let none : c.in_err-all-2.field-0.0 ≢ NoMemory → cases.parts s k l (map tree.alternative_view xs) end ≡ None =
     λ n. part.case_by s k (map tree.alternative_view xs) l end (Some (alternatives_view c.in_ok-all.all)) covered
     ∙ ap (λ o. o >> cases.but_last (alternatives_view c.in_ok-all.all)) (c.in_err-all-2.ensures.asked n) in
-    first_of (search rules, grind (arith, common_steps))
+    passed_on _ _ c.in_err-all-2.field-0.0 _ c.from_residual-in_err-all-2.result c.from_residual-in_err-all-2.ensures.1 (λ e p. p) none
 
 pub case_parts-returns-in_err-all-2-clause-told : goal.case_parts-returns-in_err-all-2-clause-told
 case_parts-returns-in_err-all-2-clause-told m c =
@@ -345,7 +345,7 @@ case_parts-returns-in_err-all-2-clause-told m c =
     let covered = part.read_covering s k xs (sight_view c.alternatives-all.new.sight) (cases.all_lists c.deref-3.result.now) c.alternatives-all.result read (Some (alternatives_view c.in_ok-all.all)) c.in_ok-all.ensures.given in
     let h : Tells (told.parts s k l at (map tree.alternative_view xs) end) c.in_err-all-2.field-0.0 =
     part.parts_ends s k (map tree.alternative_view xs) l end at c.in_err-all-2.field-0.0 (alternatives_view c.in_ok-all.all) covered c.in_err-all-2.ensures.told in
-    first_of (search rules, grind (arith, common_steps))
+    told_by _ c.in_err-all-2.field-0.0 _ c.from_residual-in_err-all-2.result c.from_residual-in_err-all-2.ensures.1 (λ e p. p) h
 
 pub case_parts-returns-clause-given : goal.case_parts-returns-clause-given
 case_parts-returns-clause-given m c =

@@ -58,3 +58,60 @@ returns-in-Modulo-clause-told c = rw c.in-Modulo.is (told_of typed_view _ c.args
 
 pub returns-in-Remainder-clause-told : goal.returns-in-Remainder-clause-told
 returns-in-Remainder-clause-told c = rw c.in-Remainder.is (told_of typed_view _ c.args.at _ _ c.integral-in-Remainder.ensures.given c.integral-in-Remainder.ensures.told)
+
+pub returns-in-And-clause-given : goal.returns-in-And-clause-given
+returns-in-And-clause-given c = rw c.in-And.is c.logical.ensures.given
+
+pub returns-in-Or-clause-given : goal.returns-in-Or-clause-given
+returns-in-Or-clause-given c = rw c.in-Or.is c.logical-in-Or.ensures.given
+
+pub returns-in-Xor-clause-given : goal.returns-in-Xor-clause-given
+returns-in-Xor-clause-given c = rw c.in-Xor.is c.logical-in-Xor.ensures.given
+
+pub returns-in-Xnor-clause-given : goal.returns-in-Xnor-clause-given
+returns-in-Xnor-clause-given c = rw c.in-Xnor.is c.logical-in-Xnor.ensures.given
+
+pub returns-in-Nand-clause-given : goal.returns-in-Nand-clause-given
+returns-in-Nand-clause-given c = rw c.in-Nand.is c.logical-in-Nand.ensures.given
+
+pub returns-in-Nor-clause-given : goal.returns-in-Nor-clause-given
+returns-in-Nor-clause-given c = rw c.in-Nor.is c.logical-in-Nor.ensures.given
+
+pub returns-in-Equal-clause-given : goal.returns-in-Equal-clause-given
+returns-in-Equal-clause-given c = rw c.in-Equal.is c.equality.ensures.given
+
+pub returns-in-NotEqual-clause-given : goal.returns-in-NotEqual-clause-given
+returns-in-NotEqual-clause-given c = rw c.in-NotEqual.is c.equality-in-NotEqual.ensures.given
+
+pub returns-in-Less-clause-given : goal.returns-in-Less-clause-given
+returns-in-Less-clause-given c = rw c.in-Less.is c.ordering.ensures.given
+
+pub returns-in-LessEqual-clause-given : goal.returns-in-LessEqual-clause-given
+returns-in-LessEqual-clause-given c = rw c.in-LessEqual.is c.ordering-in-LessEqual.ensures.given
+
+pub returns-in-Greater-clause-given : goal.returns-in-Greater-clause-given
+returns-in-Greater-clause-given c = rw c.in-Greater.is c.ordering-in-Greater.ensures.given
+
+pub returns-in-GreaterEqual-clause-given : goal.returns-in-GreaterEqual-clause-given
+returns-in-GreaterEqual-clause-given c = rw c.in-GreaterEqual.is c.ordering-in-GreaterEqual.ensures.given
+
+pub returns-in-Add-clause-given : goal.returns-in-Add-clause-given
+returns-in-Add-clause-given c = rw c.in-Add.is c.arithmetic.ensures.given
+
+pub returns-in-Subtract-clause-given : goal.returns-in-Subtract-clause-given
+returns-in-Subtract-clause-given c = rw c.in-Subtract.is c.arithmetic-in-Subtract.ensures.given
+
+pub returns-in-Concatenate-clause-given : goal.returns-in-Concatenate-clause-given
+returns-in-Concatenate-clause-given c = rw c.in-Concatenate.is c.concatenated.ensures.given
+
+pub returns-in-Multiply-clause-given : goal.returns-in-Multiply-clause-given
+returns-in-Multiply-clause-given c = rw c.in-Multiply.is c.arithmetic-in-Multiply.ensures.given
+
+pub returns-in-Divide-clause-given : goal.returns-in-Divide-clause-given
+returns-in-Divide-clause-given c = rw c.in-Divide.is c.integral.ensures.given
+
+pub returns-in-Modulo-clause-given : goal.returns-in-Modulo-clause-given
+returns-in-Modulo-clause-given c = rw c.in-Modulo.is c.integral-in-Modulo.ensures.given
+
+pub returns-in-Remainder-clause-given : goal.returns-in-Remainder-clause-given
+returns-in-Remainder-clause-given c = rw c.in-Remainder.is c.integral-in-Remainder.ensures.given

@@ -1,4 +1,4 @@
-use Rattle.std.proofs.Common.{◌≡◌, ℕ, ◌+◌, List, [], ◌∷◌, ◌++◌, length, map, take, replicate, get_or, Option, None, Vec, IsSome, Contains, ap, sym, subst, ◌∙◌, arith, length-append}
+use Rattle.std.proofs.Common.{refl, ◌≡◌, ℕ, ◌+◌, List, [], ◌∷◌, ◌++◌, length, map, take, replicate, get_or, Option, None, Vec, IsSome, Contains, ap, sym, subst, ◌∙◌, arith, length-append}
 use Rattle.std.specs.Global.{Global}
 use Rattle.std.proofs.lemmas.List.{length-map, take_all}
 use Rattle.rtl_model.specs.nets.FlatNetlist.{element_starts}
@@ -58,3 +58,10 @@ invariant_of-result g c =
           (let (k, l, is) = subst (λ (n : Numbers). Contains n.members p) c.in_ok-new-2.ensures h in
           absurd (omega (arith, l)));
     }
+
+pub loop-number-init : goal.loop-number-init
+loop-number-init g c = record {
+  drivers = ap rows c.in_ok-drivers.ensures.items;
+  many = ap length c.in_ok-outcomes.ensures.items;
+  fresh = subst (AreFresh g.E.Exec.most [] c.args.bodies.now) (sym c.in_ok-outcomes.ensures.items) (record { entries = refl; starts = refl; room = λ k e l. absurd (omega (arith, l)) });
+}

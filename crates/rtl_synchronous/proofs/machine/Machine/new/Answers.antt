@@ -1,4 +1,4 @@
-use Rattle.std.proofs.Common.{length, ap, sym, ◌∙◌, arith}
+use Rattle.std.proofs.Common.{refl, length, ap, sym, ◌∙◌, arith}
 use Rattle.std.proofs.lemmas.List.{length-map}
 use Rattle.std.proofs.lemmas.Option.{slice_get_within}
 use Rattle.rtl_model.specs.bodies.Types.{nine_valued}
@@ -93,3 +93,24 @@ invariant_of-result g c =
       c.in_ok-schedule.ensures.cuts,
       c.in_ok-schedule.ensures.edges,
     )
+
+pub new-requires-clause-accepted : goal.new-requires-clause-accepted
+new-requires-clause-accepted g c = c.requires.accepted
+
+pub new-requires-clause-levels : goal.new-requires-clause-levels
+new-requires-clause-levels g c = c.requires.levels
+
+pub come_to_rest-requires-clause-schedule : goal.come_to_rest-requires-clause-schedule
+come_to_rest-requires-clause-schedule g c = c.in_ok-schedule.ensures.schedule
+
+pub come_to_rest-requires-clause-cuts : goal.come_to_rest-requires-clause-cuts
+come_to_rest-requires-clause-cuts g c = c.in_ok-schedule.ensures.cuts
+
+pub come_to_rest-requires-clause-edges : goal.come_to_rest-requires-clause-edges
+come_to_rest-requires-clause-edges g c = c.in_ok-schedule.ensures.edges
+
+pub come_to_rest-requires-clause-each_rank : goal.come_to_rest-requires-clause-each_rank
+come_to_rest-requires-clause-each_rank g c = omega (arith, c.in_ok-dirty.ensures.len, c.len.ensures, c.in_ok-dirty.dirty.ok.0, c.in_ok-schedule.schedule.order.ok.0)
+
+pub returns-clause-net : goal.returns-clause-net
+returns-clause-net g c = refl

@@ -1,4 +1,5 @@
 use Rattle.std.proofs.Common.{◌≡◌, ◌<◌, ℕ, List, All, length, ap, sym, subst, ◌∙◌}
+use Rattle.std.proofs.lemmas.List.{length-map}
 use Rattle.rtl_kernel.specs.drivers.Transactions.{all_targets}
 use Rattle.rtl_kernel.proofs.Grouped.{groups_index}
 use Rattle.rtl_net_layout.specs.Cuts.{AreCutsOf}
@@ -58,3 +59,18 @@ returns-clause-schedule c =
       readers_are = rw (← ranks) (groups_index c.in_ok-readers.readers c.deref-2.result.now c.in_ok-by_rank.by_rank (rw (ranks, many) (rows_there net R order)) c.in_ok-readers.ensures);
       clocked_are = rw (← c.in_ok-by_process.ensures) (groups_index c.in_ok-clocked.clocked c.deref-3.result.now c.in_ok-by_process.by_process (rw (c.in_ok-by_process.ensures, many') (clocked_there net R)) c.in_ok-clocked.ensures);
     }
+
+pub wakes_of_clocked-requires-clause-accepted : goal.wakes_of_clocked-requires-clause-accepted
+wakes_of_clocked-requires-clause-accepted c = c.requires.accepted
+
+pub wakes_of_clocked-requires-clause-levels : goal.wakes_of_clocked-requires-clause-levels
+wakes_of_clocked-requires-clause-levels c = c.requires.levels
+
+pub returns-clause-edges : goal.returns-clause-edges
+returns-clause-edges c = c.in_ok-edges.ensures
+
+pub returns-clause-each_reader : goal.returns-clause-each_reader
+returns-clause-each_reader c = length-map c.in_ok-readers.readers.of_net _ ∙ c.in_ok-readers.ensures.each_net ∙ c.deref-2.ensures.len ∙ c.in_ok-together.ensures.len ∙ c.nets.ensures.count
+
+pub returns-clause-each_clocked : goal.returns-clause-each_clocked
+returns-clause-each_clocked c = length-map c.in_ok-clocked.clocked.of_net _ ∙ c.in_ok-clocked.ensures.each_net ∙ c.deref-3.ensures.len ∙ c.in_ok-together.ensures.len ∙ c.nets.ensures.count

@@ -1,30 +1,33 @@
-use Rattle.std.proofs.Common.{◌≡◌, Err, ◌<◌, length, refl, sym, ap, ◌∙◌, arith, rules}
+use Rattle.std.proofs.Common.{◌≡◌, Err, ◌<◌, length, refl, sym, ap, ◌∙◌, arith}
 use Rattle.std.specs.Prelude.{◌≢◌}
-use Rattle.std.proofs.lemmas.Grind.{common_steps}
 use Rattle.rtl_net.specs.Bodies as net
+use Rattle.rtl_model.specs.bodies.Body as bodies
 use Rattle.vhdl_names_rules.specs.views.Tests.{test_view}
+use Rattle.vhdl_names_rules.specs.views.Vectors.{vector_view}
 use Rattle.vhdl_expand_rules.specs.declared.fault.ElabFault.TheVariants.{NoMemory}
 use Rattle.vhdl_expand_bodies.specs.Characters.{chain_view}
 use Rattle.vhdl_expand_rules.specs.Expressions as definition
 use Rattle.vhdl_expand_rules.proofs.Steps.{given}
 use Rattle.vhdl_expand_bodies.specs.Sites.{site_view}
 use Rattle.vhdl_expand_bodies.specs.steps.Tests as steps
+use Rattle.vhdl_expand_bodies.proofs.Links.{expands_along}
+use Rattle.vhdl_expand_bodies.proofs.Passing.{passed_on}
 use Rattle.vhdl_expand_bodies.proofs.TestChains.{chain_goes, chain_stops, more_stops, next_goes, next_stops, link_given}
-use Rattle.vhdl_expand_rules.specs.Elab.{problem_told}
+use Rattle.vhdl_expand_rules.specs.Elab.{Elab, ◌>>=◌, problem_told}
 use Rattle.vhdl_expand_bodies.proofs.site.Site.+condition.Goals as goal
 
 pub expanded_test-returns-in_err-chain-in-Chain : goal.expanded_test-returns-in_err-chain-in-Chain
 expanded_test-returns-in_err-chain-in-Chain t c =
     let stopped : c.in_err-chain-in-Chain.field-0.0 ≢ NoMemory → (definition.test (site_view c.args.self.now) (test_view c.args.test.now)) ≡ Err (problem_told c.in_err-chain-in-Chain.field-0.0) =
     λ n. chain_stops (site_view c.args.self.now) c.args.test.now c.in-Chain.start c.in-Chain.links _ c.in-Chain.is c.deref-in-Chain.ensures (c.in_err-chain-in-Chain.ensures n) in
-    first_of (search rules, grind (arith, common_steps))
+    passed_on _ _ c.in_err-chain-in-Chain.field-0.0 _ c.from_residual-in_err-chain-in-Chain.result c.from_residual-in_err-chain-in-Chain.ensures.1 (λ e p. p) stopped
 
 pub expanded_test-returns-in_err-add_tests-in-Chain : goal.expanded_test-returns-in_err-add_tests-in-Chain
 expanded_test-returns-in_err-add_tests-in-Chain t c =
     let stopped : c.in_err-add_tests-in-Chain.field-0.0 ≢ NoMemory → (definition.test (site_view c.args.self.now) (test_view c.args.test.now)) ≡ Err (problem_told c.in_err-add_tests-in-Chain.field-0.0) =
     λ n. more_stops (site_view c.args.self.now) c.args.test.now c.in-Chain.start c.in-Chain.links _ _ _ c.in-Chain.is c.deref-in-Chain.ensures c.deref-in-Chain-2.ensures.value
     c.in_ok-chain-in-Chain.ensures (c.in_err-add_tests-in-Chain.ensures n) in
-    first_of (search rules, grind (arith, common_steps))
+    passed_on _ _ c.in_err-add_tests-in-Chain.field-0.0 _ c.from_residual-in_err-add_tests-in-Chain.result c.from_residual-in_err-add_tests-in-Chain.ensures.1 (λ e p. p) stopped
 
 pub expanded_test-returns-in_ok-add_tests-in-Chain : goal.expanded_test-returns-in_ok-add_tests-in-Chain
 expanded_test-returns-in_ok-add_tests-in-Chain t c =
@@ -35,20 +38,122 @@ expanded_test-returns-in_ok-add_tests-in-Chain t c =
 pub add_tests-loop-link-preserved : goal.add_tests-loop-link-preserved
 add_tests-loop-link-preserved t c =
     let i = c.loop-link.link-index in
-    let below : i < length c.args.links.now = first_of (search rules, omega arith) in
+    let below : i < length c.args.links.now = omega arith in
     next_goes (site_view c.args.self.now) (chain_view c.args.chain.now) _ _ c.args.links.now i c.link-item.result below c.link-item.is
     c.loop-link.invariant c.in_ok-add_test.ensures
 
 pub add_tests-returns-in_err-add_test : goal.add_tests-returns-in_err-add_test
 add_tests-returns-in_err-add_test t c =
     let i = c.loop-link.link-index in
-    let below : i < length c.args.links.now = first_of (search rules, omega arith) in
+    let below : i < length c.args.links.now = omega arith in
     let stopped : c.in_err-add_test.field-0.0 ≢ NoMemory → (steps.all_linked (site_view c.args.self.now) (chain_view c.args.chain.now) c.args.links.now) ≡ Err (problem_told c.in_err-add_test.field-0.0) =
     λ n. next_stops (site_view c.args.self.now) (chain_view c.args.chain.now) _ c.args.links.now i c.link-item.result below c.link-item.is
     c.loop-link.invariant (c.in_err-add_test.ensures n) in
-    first_of (search rules, grind (arith, common_steps))
+    passed_on _ _ c.in_err-add_test.field-0.0 _ c.from_residual.result c.from_residual.ensures.1 (λ e p. p) stopped
 
 pub add_test-returns : goal.add_test-returns
 add_test-returns t c =
     link_given (site_view c.args.self.now) (net.test_view c.args.chain.now.first.value) c.args.chain.now.rest.items c.push.new.self.items c.args.link.now _
     c.in_ok-operand.ensures refl c.in_ok-push.ensures.items
+
+-- ---- the forms of a condition but chains
+
+on : {A B : Type 0} (f : A → Elab B) (r q : Elab A) → r ≡ q → (r >>= f) ≡ (q >>= f)
+on f r q h = ap (λ x. x >>= f) h
+
+pub expanded_test-returns-in_ok-operand-in-Holds : goal.expanded_test-returns-in_ok-operand-in-Holds
+unfolding definition.test
+expanded_test-returns-in_ok-operand-in-Holds t c =
+    ap (λ x. definition.test (site_view c.args.self.now) (test_view x)) c.in-Holds.is
+    ∙ on (λ e. given (bodies.condition e)) _ _ c.in_ok-operand-in-Holds.ensures
+
+pub expanded_test-returns-in_err-operand-in-Holds : goal.expanded_test-returns-in_err-operand-in-Holds
+unfolding definition.test
+expanded_test-returns-in_err-operand-in-Holds t c =
+    passed_on _ _ c.in_err-operand-in-Holds.field-0.0 _ c.from_residual.result c.from_residual.ensures.1 (λ e p. p)
+    (λ n. ap (λ x. definition.test (site_view c.args.self.now) (test_view x)) c.in-Holds.is
+    ∙ on (λ e. given (bodies.condition e)) _ _ (c.in_err-operand-in-Holds.ensures n))
+
+pub expanded_test-returns-in_ok-holds-in-Fixed : goal.expanded_test-returns-in_ok-holds-in-Fixed
+unfolding definition.test
+expanded_test-returns-in_ok-holds-in-Fixed t c =
+    ap (λ x. definition.test (site_view c.args.self.now) (test_view x)) c.in-Fixed.is
+    ∙ on (λ e. given (bodies.decided e)) _ _ c.in_ok-holds-in-Fixed.ensures
+
+pub expanded_test-returns-in_err-holds-in-Fixed : goal.expanded_test-returns-in_err-holds-in-Fixed
+unfolding definition.test
+expanded_test-returns-in_err-holds-in-Fixed t c =
+    passed_on _ _ c.in_err-holds-in-Fixed.field-0.0 _ c.from_residual-in_err-holds-in-Fixed.result c.from_residual-in_err-holds-in-Fixed.ensures.1 (λ e p. p)
+    (λ n. ap (λ x. definition.test (site_view c.args.self.now) (test_view x)) c.in-Fixed.is
+    ∙ on (λ e. given (bodies.decided e)) _ _ c.in_err-holds-in-Fixed.ensures)
+
+pub expanded_test-returns-in-Unlike : goal.expanded_test-returns-in-Unlike
+unfolding definition.test
+expanded_test-returns-in-Unlike t c = expands_along net.test_view _ _ _ (ap (λ x. definition.test (site_view c.args.self.now) (test_view x)) c.in-Unlike.is)
+    (rw (c.deref-in-Unlike.ensures, c.deref-in-Unlike-2.ensures) at c.unlike.ensures)
+
+pub expanded_test-returns-in-Compared : goal.expanded_test-returns-in-Compared
+unfolding definition.test
+expanded_test-returns-in-Compared t c = expands_along net.test_view _ _ _ (ap (λ x. definition.test (site_view c.args.self.now) (test_view x)) c.in-Compared.is)
+    (rw (c.deref-in-Compared.ensures, c.deref-in-Compared-2.ensures) at c.compared.ensures)
+
+pub expanded_test-returns-in-ComparedTo : goal.expanded_test-returns-in-ComparedTo
+unfolding definition.test
+expanded_test-returns-in-ComparedTo t c = expands_along net.test_view _ _ _ (ap (λ x. definition.test (site_view c.args.self.now) (test_view x)) c.in-ComparedTo.is)
+    (rw (c.deref-in-ComparedTo.ensures) at c.compared_to.ensures)
+
+pub expanded_test-returns-in_err-number-in-ComparedWith : goal.expanded_test-returns-in_err-number-in-ComparedWith
+unfolding definition.test
+expanded_test-returns-in_err-number-in-ComparedWith t c =
+    passed_on _ _ c.in_err-number-in-ComparedWith.field-0.0 _ c.from_residual-in_err-number-in-ComparedWith.result c.from_residual-in_err-number-in-ComparedWith.ensures.1 (λ e p. p)
+    (λ n. ap (λ x. definition.test (site_view c.args.self.now) (test_view x)) c.in-ComparedWith.is
+    ∙ on (λ m. definition.vector (site_view c.args.self.now) (vector_view c.in-ComparedWith.vector.value) >>= λ e. given (bodies.compared_to (definition.converse_of c.in-ComparedWith.relation) e m)) _ _ c.in_err-number-in-ComparedWith.ensures)
+
+pub expanded_test-returns-in_err-operand-in-ComparedWith : goal.expanded_test-returns-in_err-operand-in-ComparedWith
+unfolding definition.test
+expanded_test-returns-in_err-operand-in-ComparedWith t c =
+    passed_on _ _ c.in_err-operand-in-ComparedWith.field-0.0 _ c.from_residual-in_err-operand-in-ComparedWith.result c.from_residual-in_err-operand-in-ComparedWith.ensures.1 (λ e p. p)
+    (λ n. ap (λ x. definition.test (site_view c.args.self.now) (test_view x)) c.in-ComparedWith.is
+    ∙ on (λ m. definition.vector (site_view c.args.self.now) (vector_view c.in-ComparedWith.vector.value) >>= λ e. given (bodies.compared_to (definition.converse_of c.in-ComparedWith.relation) e m)) _ _ c.in_ok-number-in-ComparedWith.ensures
+    ∙ on (λ e. given (bodies.compared_to (definition.converse_of c.in-ComparedWith.relation) e c.in_ok-number-in-ComparedWith.number)) _ _ (rw (c.deref-in-ComparedWith.ensures) at (c.in_err-operand-in-ComparedWith.ensures n)))
+
+pub expanded_test-returns-in_ok-operand-in-ComparedWith : goal.expanded_test-returns-in_ok-operand-in-ComparedWith
+unfolding definition.test
+expanded_test-returns-in_ok-operand-in-ComparedWith t c =
+    ap (λ x. definition.test (site_view c.args.self.now) (test_view x)) c.in-ComparedWith.is
+    ∙ on (λ m. definition.vector (site_view c.args.self.now) (vector_view c.in-ComparedWith.vector.value) >>= λ e. given (bodies.compared_to (definition.converse_of c.in-ComparedWith.relation) e m)) _ _ c.in_ok-number-in-ComparedWith.ensures
+    ∙ on (λ e. given (bodies.compared_to (definition.converse_of c.in-ComparedWith.relation) e c.in_ok-number-in-ComparedWith.number)) _ _ (rw (c.deref-in-ComparedWith.ensures) at c.in_ok-operand-in-ComparedWith.ensures)
+    ∙ ap (λ r. given (bodies.compared_to r (net.expr_view c.in_ok-operand-in-ComparedWith.operand.expr) c.in_ok-number-in-ComparedWith.number)) (sym c.turned.ensures)
+
+pub expanded_test-returns-in_err-element-in-Edge : goal.expanded_test-returns-in_err-element-in-Edge
+unfolding definition.test
+expanded_test-returns-in_err-element-in-Edge t c =
+    passed_on _ _ c.in_err-element-in-Edge.field-0.0 _ c.from_residual-in_err-element-in-Edge.result c.from_residual-in_err-element-in-Edge.ensures.1 (λ e p. p)
+    (λ n. ap (λ x. definition.test (site_view c.args.self.now) (test_view x)) c.in-Edge.is
+    ∙ on (λ e. given (definition.edge_test c.in-Edge.edge e)) _ _ (c.in_err-element-in-Edge.ensures n))
+
+pub expanded_test-returns-in_ok-edge_test-in-Edge : goal.expanded_test-returns-in_ok-edge_test-in-Edge
+unfolding definition.test
+expanded_test-returns-in_ok-edge_test-in-Edge t c =
+    ap (λ x. definition.test (site_view c.args.self.now) (test_view x)) c.in-Edge.is
+    ∙ on (λ e. given (definition.edge_test c.in-Edge.edge e)) _ _ c.in_ok-element-in-Edge.ensures ∙ ap given (sym c.in_ok-edge_test-in-Edge.ensures)
+
+pub expanded_test-returns-in_err-element-in-Event : goal.expanded_test-returns-in_err-element-in-Event
+unfolding definition.test
+expanded_test-returns-in_err-element-in-Event t c =
+    passed_on _ _ c.in_err-element-in-Event.field-0.0 _ c.from_residual-in_err-element-in-Event.result c.from_residual-in_err-element-in-Event.ensures.1 (λ e p. p)
+    (λ n. ap (λ x. definition.test (site_view c.args.self.now) (test_view x)) c.in-Event.is
+    ∙ on (λ e. given (bodies.event e)) _ _ (c.in_err-element-in-Event.ensures n))
+
+pub expanded_test-returns-in_ok-element-in-Event : goal.expanded_test-returns-in_ok-element-in-Event
+unfolding definition.test
+expanded_test-returns-in_ok-element-in-Event t c =
+    ap (λ x. definition.test (site_view c.args.self.now) (test_view x)) c.in-Event.is
+    ∙ on (λ e. given (bodies.event e)) _ _ c.in_ok-element-in-Event.ensures
+
+pub expanded_test-returns-in_err-operand-in-Not : goal.expanded_test-returns-in_err-operand-in-Not
+unfolding definition.test
+expanded_test-returns-in_err-operand-in-Not t c =
+    passed_on _ _ c.in_err-operand-in-Not.field-0.0 _ c.from_residual-in_err-operand-in-Not.result c.from_residual-in_err-operand-in-Not.ensures.1 (λ e p. p)
+    (λ n. ap (λ x. definition.test (site_view c.args.self.now) (test_view x)) c.in-Not.is
+    ∙ on (λ e. given (bodies.negated e)) _ _ (rw (c.deref-in-Not.ensures) at (c.in_err-operand-in-Not.ensures n)))

@@ -1,0 +1,10 @@
+use Rattle.std.proofs.Common.{map, ap, ◌∙◌}
+use Rattle.std.proofs.lemmas.List.{take_all}
+use Rattle.rtl_synchronous.specs.Scheduled.{without_level}
+use Rattle.rtl_synchronous.proofs.machine.clocked_marks.Goals as goal
+
+pub loop-level-init : goal.loop-level-init
+loop-level-init c = c.in_ok-marks.ensures.items
+
+pub returns : goal.returns
+returns c = c.loop-level.invariant ∙ ap (map without_level) (take_all c.loop-level.level-index c.args.levels.now c.loop-level-test.false)
