@@ -5,8 +5,7 @@ ghost use Rattle.rtlsim_name_faults.specs.Further as spec;
 ghost use Rattle.rtlsim_name_faults.specs.Next.{Finds};
 
 use std::alloc::Global;
-use vhdl_extents::{Extent, blanked, statement_at};
-use vhdl_lexer::Token;
+use vhdl_lexer::{Extent, Token, blanked, statement_at};
 use vhdl_names_rules::{NameFault, NameProblem};
 use vhdl_source_rules::{Front, SourceFault};
 

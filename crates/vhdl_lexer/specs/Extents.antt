@@ -2,8 +2,8 @@
 -- process is taken out whole for what stands in its head, its variables too. What the rest may stand on stays: context clauses, entities,
 -- interfaces, components, types, and the choices of a case.
 use Rattle.std.specs.Prelude.{ℕ, Bool, ◌+◌, ◌-◌, ◌==◌, ◌&&◌, nat_le, nat_lt, if◌then◌else◌, List, [], ◌∷◌, Option, Some, None}
-use Rattle.vhdl_extents.specs.Kinds.{is_end, is_semicolon, opens, is_boundary, is_left, is_right, may_go}
-use Rattle.vhdl_extents.specs.declared.extent.Extent.{Extent}
+use Rattle.vhdl_lexer.specs.Kinds.{is_end, is_semicolon, opens, is_boundary, is_left, is_right, may_go}
+use Rattle.vhdl_lexer.specs.declared.extent.Extent.{Extent}
 use Rattle.vhdl_lexer.specs.Bytes.{ends_line}
 use Rattle.vhdl_lexer.specs.declared.token.Token.{Token}
 use Rattle.vhdl_lexer.specs.declared.token.TokenKind.{TokenKind}

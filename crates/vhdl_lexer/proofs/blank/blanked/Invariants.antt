@@ -1,6 +1,6 @@
 use Rattle.std.proofs.Common.{◌≡◌, ◌+◌, ◌++◌, length}
-use Rattle.vhdl_extents.specs.Extents as spec
-use Rattle.vhdl_extents.proofs.blank.blanked.Given as goal
+use Rattle.vhdl_lexer.specs.Extents as spec
+use Rattle.vhdl_lexer.proofs.blank.blanked.Given as goal
 
 -- what was pushed, and then what is left with blanks, are the whole
 abbrev pub invariant-loop-left : goal.invariant-loop-left

@@ -1,7 +1,7 @@
 //! What is left of a source.
 
 ghost use Rattle.std.specs.Prelude.{◌≡◌, IfOk};
-ghost use Rattle.vhdl_extents.specs.Extents as spec;
+ghost use Rattle.vhdl_lexer.specs.Extents as spec;
 
 use crate::extent::Extent;
 use std::alloc::{AllocError, Global};

@@ -1,9 +1,9 @@
 //! What the kinds of tokens say of statements.
 
 ghost use Rattle.std.specs.Prelude.{◌≡◌};
-ghost use Rattle.vhdl_extents.specs.Kinds as spec;
+ghost use Rattle.vhdl_lexer.specs.Kinds as spec;
 
-use vhdl_lexer::TokenKind;
+use crate::token::TokenKind;
 
 /// Whether the word begins a statement with an `end` of its own, behind a token.
 pub fn opens(last: TokenKind, kind: TokenKind) -> bool

@@ -1,6 +1,6 @@
 use Rattle.std.proofs.Common.{sym, ◌∙◌}
-use Rattle.vhdl_extents.proofs.Walks.{begins_more, depth_within}
-use Rattle.vhdl_extents.proofs.extent.beginning.Goals as goal
+use Rattle.vhdl_lexer.proofs.Walks.{begins_more, depth_within}
+use Rattle.vhdl_lexer.proofs.extent.beginning.Goals as goal
 
 pub loop-left-preserved : goal.loop-left-preserved
 loop-left-preserved c = rw (c.chosen-here.ensures, c.begins_behind.ensures, c.depth_behind-depth.ensures) (

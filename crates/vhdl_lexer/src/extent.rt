@@ -1,10 +1,10 @@
 //! What is taken out with a fault.
 
 ghost use Rattle.std.specs.Prelude.{◌≡◌, ◌<◌, ◌^◌, nat_le, if◌then◌else◌};
-ghost use Rattle.vhdl_extents.specs.Extents as spec;
+ghost use Rattle.vhdl_lexer.specs.Extents as spec;
 
 use crate::kind::{is_boundary, is_end, is_left, is_right, is_semicolon, may_go, opens};
-use vhdl_lexer::{Token, TokenKind};
+use crate::token::{Token, TokenKind};
 
 /// Bytes of a source, from `start` up to `end`, both counted from the source's first byte.
 #[derive(Clone, Copy, Debug, PartialEq, Eq)]

@@ -1,7 +1,7 @@
 use Rattle.std.proofs.Common.{◌≡◌, ◌+◌, ◌≤◌, length}
-use Rattle.vhdl_extents.specs.Extents as spec
+use Rattle.vhdl_lexer.specs.Extents as spec
 use Rattle.vhdl_lexer.specs.declared.token.TokenKind.TheVariants as k
-use Rattle.vhdl_extents.proofs.extent.end_of.Given as goal
+use Rattle.vhdl_lexer.proofs.extent.end_of.Given as goal
 
 -- the tokens that are left decide
 abbrev pub invariant-loop-left : goal.invariant-loop-left

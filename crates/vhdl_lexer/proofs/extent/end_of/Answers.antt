@@ -1,6 +1,6 @@
 use Rattle.std.proofs.Common.{sym, ◌∙◌}
-use Rattle.vhdl_extents.proofs.Walks.{end_more, open_within}
-use Rattle.vhdl_extents.proofs.extent.end_of.Goals as goal
+use Rattle.vhdl_lexer.proofs.Walks.{end_more, open_within}
+use Rattle.vhdl_lexer.proofs.extent.end_of.Goals as goal
 
 pub loop-left-preserved : goal.loop-left-preserved
 loop-left-preserved c = rw c.open_behind-opened.ensures (
