@@ -10,9 +10,9 @@ use Rattle.vhdl_names_rules.specs.Rules.{◌>>=◌}
 use Rattle.vhdl_names_rules.specs.Visibility.{Name}
 use Rattle.vhdl_names_rules.specs.Interfaces.{EntityView, entity_named}
 use Rattle.vhdl_names_rules.specs.Files.{architecture}
-use Rattle.vhdl_names_problems.specs.Broken.{Broken, nothing, ◌▸◌}
-use Rattle.vhdl_names_problems.specs.Declarations.{context}
-use Rattle.vhdl_names_problems.specs.Files as broken
+use Rattle.vhdl_names_rules.specs.problems.Broken.{Broken, nothing, ◌▸◌}
+use Rattle.vhdl_names_rules.specs.problems.Declarations.{context}
+use Rattle.vhdl_names_rules.specs.problems.Files as broken
 use Rattle.vhdl_names_interfaces.specs.declared.interface.EntityInterface.{EntityInterface}
 use Rattle.vhdl_names_interfaces.specs.Views.{entity_view, named_view}
 use Rattle.vhdl_names_interfaces.proofs.Named.{entry_view, joined, found, found_pair}

@@ -12,11 +12,11 @@ use Rattle.vhdl_names_rules.specs.Visibility.{is_among}
 use Rattle.vhdl_names_rules.specs.Interfaces.{EntityView}
 use Rattle.vhdl_names_rules.specs.Files.{entities_of}
 use Rattle.vhdl_names_rules.proofs.laws.Rules.{comes, some_is}
-use Rattle.vhdl_names_problems.specs.Broken.{Broken, Tells, nothing, ◌▸◌, any_of}
-use Rattle.vhdl_names_problems.specs.Interfaces.{entity}
-use Rattle.vhdl_names_problems.specs.Files.{with_entities}
-use Rattle.vhdl_names_problems.proofs.Telling.{behind_kept, told_same, at_is_told}
-use Rattle.vhdl_names_problems.proofs.kept.Interfaces.{entity_kept}
+use Rattle.vhdl_names_rules.specs.problems.Broken.{Broken, Tells, nothing, ◌▸◌, any_of}
+use Rattle.vhdl_names_rules.specs.problems.Interfaces.{entity}
+use Rattle.vhdl_names_rules.specs.problems.Files.{with_entities}
+use Rattle.vhdl_names_rules.proofs.Telling.{behind_kept, told_same, at_is_told}
+use Rattle.vhdl_names_rules.proofs.kept.Interfaces.{entity_kept}
 use Rattle.vhdl_names_interfaces.specs.Views.{one_more}
 use Rattle.vhdl_names.specs.Finding.{Finds, HasMemory, first_of}
 use Rattle.vhdl_names.specs.Views.{Keyed}

@@ -10,10 +10,10 @@ use Rattle.vhdl_names_rules.specs.units.Units as u
 use Rattle.vhdl_names_rules.specs.Visibility.{Name, is_among}
 use Rattle.vhdl_names_rules.specs.Interfaces.{EntityView, entity, entity_named}
 use Rattle.vhdl_names_rules.specs.Files.{entity_names, architectures_of, entities_of, units_of}
-use Rattle.vhdl_names_problems.specs.Broken.{Broken, Tells, any_of}
-use Rattle.vhdl_names_problems.specs.Declarations.{context}
-use Rattle.vhdl_names_problems.specs.Files.{architecture, placed_architectures, seen, with_entities, entities_given, is_hidden, up_to_hidden, described, file}
-use Rattle.vhdl_names_problems.proofs.kept.Files.{file_kept}
+use Rattle.vhdl_names_rules.specs.problems.Broken.{Broken, Tells, any_of}
+use Rattle.vhdl_names_rules.specs.problems.Declarations.{context}
+use Rattle.vhdl_names_rules.specs.problems.Files.{architecture, placed_architectures, seen, with_entities, entities_given, is_hidden, up_to_hidden, described, file}
+use Rattle.vhdl_names_rules.proofs.kept.Files.{file_kept}
 use Rattle.vhdl_names.specs.Views.{Keyed}
 use Rattle.vhdl_names.specs.steps.Outlines.{keyed, described_of}
 use Rattle.vhdl_names.specs.steps.Entities.{viewed_by}

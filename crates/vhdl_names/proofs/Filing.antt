@@ -9,8 +9,8 @@ use Rattle.vhdl_names_rules.specs.Visibility.{Name, are_distinct}
 use Rattle.vhdl_names_rules.specs.Interfaces.{EntityView, entity}
 use Rattle.vhdl_names_rules.specs.Files.{entities_of, entity_names, described_names, architectures_of, architecture, stand_after, viewed, unit, units_of}
 use Rattle.vhdl_names_rules.proofs.laws.Rules.{kept, some_is, each_keeps}
-use Rattle.vhdl_names_problems.specs.Files.{with_entities}
-use Rattle.vhdl_names_problems.proofs.kept.Files.{entity_name, all_entities}
+use Rattle.vhdl_names_rules.specs.problems.Files.{with_entities}
+use Rattle.vhdl_names_rules.proofs.kept.Files.{entity_name, all_entities}
 use Rattle.vhdl_names.specs.Views.{Keyed, OutlineView}
 use Rattle.vhdl_names.specs.steps.Outlines.{keyed, described_of, outline_of, outlined}
 use Rattle.vhdl_names.specs.steps.Entities.{viewed_by}

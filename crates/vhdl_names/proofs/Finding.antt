@@ -5,8 +5,8 @@ use Rattle.vhdl_names_rules.specs.declared.fault.NameFault.{NameFault}
 use Rattle.vhdl_names_rules.specs.declared.fault.NameFault.TheVariants.{At, NoMemory}
 use Rattle.vhdl_names_rules.specs.declared.fault.NameProblem.{NameProblem}
 use Rattle.vhdl_names_rules.specs.Gives.{Gives}
-use Rattle.vhdl_names_problems.specs.Broken.{Broken, Tells, nothing, refused, earlier}
-use Rattle.vhdl_names_problems.proofs.Telling.{told_same, at_is_told}
+use Rattle.vhdl_names_rules.specs.problems.Broken.{Broken, Tells, nothing, refused, earlier}
+use Rattle.vhdl_names_rules.proofs.Telling.{told_same, at_is_told}
 use Rattle.vhdl_names.specs.Finding.{Finds, HasMemory, first_of}
 
 pub found : {X : Type 0} (b : Broken) (r : Result X NameFault) → IfErr r (Tells b) → IfOk r (λ _. b ≡ nothing) → Finds b r

@@ -8,8 +8,8 @@ use Rattle.vhdl_names_rules.specs.declared.fault.NameFault.TheVariants.{At, NoMe
 use Rattle.vhdl_names_rules.specs.declared.fault.NameProblem.{NameProblem}
 use Rattle.vhdl_names_rules.specs.declared.fault.NameProblem.TheVariants.{Undeclared, Twice, WrongKind, TypeMismatch, NotVisible, WriteOfIn, NoOthers, ChoiceTwice, SecondArchitecture, NoSensitivity, LeftOut}
 use Rattle.vhdl_names_rules.specs.Visibility.{Name}
-use Rattle.vhdl_names_problems.specs.Broken.{Broken, Tells, nothing, refused}
-use Rattle.vhdl_names_problems.specs.Files.{up_to_hidden, mentions}
+use Rattle.vhdl_names_rules.specs.problems.Broken.{Broken, Tells, nothing, refused}
+use Rattle.vhdl_names_rules.specs.problems.Files.{up_to_hidden, mentions}
 use Rattle.vhdl_names.specs.Views.{is_hidden, one_is_hidden, is_undeclared, is_of_hidden}
 use Rattle.vhdl_names.specs.declared.tables.Given.{Given}
 

@@ -7,9 +7,9 @@ use Rattle.vhdl_tree.specs.declared.unit.DesignUnit.{DesignUnit}
 use Rattle.vhdl_names_rules.specs.declared.fault.NameFault.{NameFault}
 use Rattle.vhdl_names_rules.specs.Rules.{◌>>=◌}
 use Rattle.vhdl_names_rules.specs.Files.{as_architecture, architectures_of}
-use Rattle.vhdl_names_problems.specs.Broken.{Broken, Tells, nothing, any_of, ◌▸◌}
-use Rattle.vhdl_names_problems.proofs.Telling.{any_append, behind_kept, told_left, told_same}
-use Rattle.vhdl_names_problems.proofs.kept.Files.{one_behind}
+use Rattle.vhdl_names_rules.specs.problems.Broken.{Broken, Tells, nothing, any_of, ◌▸◌}
+use Rattle.vhdl_names_rules.proofs.Telling.{any_append, behind_kept, told_left, told_same}
+use Rattle.vhdl_names_rules.proofs.kept.Files.{one_behind}
 use Rattle.vhdl_names_labels.specs.Lists.{in_turn}
 use Rattle.vhdl_names.proofs.Passing.{left_at, next}
 

@@ -18,15 +18,15 @@ use Rattle.vhdl_names_rules.specs.Concurrent.{concurrent_label, concurrent_label
 use Rattle.vhdl_names_rules.specs.Statements.{label_names}
 use Rattle.vhdl_names_rules.specs.Gives.{Gives}
 use Rattle.vhdl_names_rules.proofs.laws.Rules.{kept, some_is}
-use Rattle.vhdl_names_problems.specs.Broken.{Tells, refused}
-use Rattle.vhdl_names_problems.specs.Twice.{twice}
-use Rattle.vhdl_names_problems.specs.Labels.{label_if_any, label_of, labels_of}
-use Rattle.vhdl_names_problems.specs.Declarations.{standing_twice}
-use Rattle.vhdl_names_problems.specs.Files.{with_labels}
-use Rattle.vhdl_names_problems.proofs.Telling.{told_same, at_is_told}
-use Rattle.vhdl_names_problems.proofs.kept.Twice.{apart, distinct_next, names_append}
-use Rattle.vhdl_names_problems.proofs.kept.Labels.{labels_named}
-use Rattle.vhdl_names_problems.proofs.kept.Architectures.{names_labelled, labels_enter}
+use Rattle.vhdl_names_rules.specs.problems.Broken.{Tells, refused}
+use Rattle.vhdl_names_rules.specs.problems.Twice.{twice}
+use Rattle.vhdl_names_rules.specs.problems.Labels.{label_if_any, label_of, labels_of}
+use Rattle.vhdl_names_rules.specs.problems.Declarations.{standing_twice}
+use Rattle.vhdl_names_rules.specs.problems.Files.{with_labels}
+use Rattle.vhdl_names_rules.proofs.Telling.{told_same, at_is_told}
+use Rattle.vhdl_names_rules.proofs.kept.Twice.{apart, distinct_next, names_append}
+use Rattle.vhdl_names_rules.proofs.kept.Labels.{labels_named}
+use Rattle.vhdl_names_rules.proofs.kept.Architectures.{names_labelled, labels_enter}
 use Rattle.vhdl_names_declarations.specs.Entered.{more}
 use Rattle.vhdl_names_declarations.proofs.Regions.{more_split}
 use Rattle.vhdl_names.specs.Finding.{Finds, HasMemory, first_of}

@@ -12,7 +12,7 @@ use Rattle.vhdl_tree.specs.declared.declaration.Declaration.{Declaration}
 use Rattle.vhdl_tree.specs.declared.concurrent.Generate.{Generate, out-Generate}
 use Rattle.vhdl_tree.specs.declared.concurrent.Concurrent.TheVariants as c
 use Rattle.vhdl_tree.proofs.RowsConcurrents.{view_generate}
-use Rattle.vhdl_names_problems.specs.Files.{of_declaration, of_concurrent, of_concurrents}
+use Rattle.vhdl_names_rules.specs.problems.Files.{of_declaration, of_concurrent, of_concurrents}
 use Rattle.vhdl_names.specs.Views.{is_hidden, one_is_hidden}
 use Rattle.vhdl_names.specs.declared.tables.Given.{Given}
 

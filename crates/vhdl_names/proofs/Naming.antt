@@ -11,9 +11,9 @@ use Rattle.vhdl_names_rules.specs.Visibility.{is_among, are_distinct}
 use Rattle.vhdl_names_rules.specs.Files.{entity_names, described_names, architectures_of, stand_after}
 use Rattle.vhdl_names_rules.proofs.laws.Rules.{comes, kept, some_is}
 use Rattle.vhdl_names_labels.specs.Lists.{in_turn}
-use Rattle.vhdl_names_problems.specs.Broken.{Tells, ◌▸◌, unless}
-use Rattle.vhdl_names_problems.specs.Files.{name_of_unit, names}
-use Rattle.vhdl_names_problems.proofs.Telling.{IsKept, both_kept, behind_kept, unless_kept, told_left, told_same}
+use Rattle.vhdl_names_rules.specs.problems.Broken.{Tells, ◌▸◌, unless}
+use Rattle.vhdl_names_rules.specs.problems.Files.{name_of_unit, names}
+use Rattle.vhdl_names_rules.proofs.Telling.{IsKept, both_kept, behind_kept, unless_kept, told_left, told_same}
 use Rattle.vhdl_names.specs.Breaking.{one_unit}
 use Rattle.vhdl_names.specs.Finding.{Finds, first_of}
 use Rattle.vhdl_names.specs.Views.{OutlineView}

@@ -11,12 +11,12 @@ use Rattle.vhdl_names_rules.specs.Declarations as are
 use Rattle.vhdl_names_rules.specs.Interfaces.{EntityView, declared_names}
 use Rattle.vhdl_names_rules.specs.Files as rules
 use Rattle.vhdl_names_rules.proofs.laws.Rules.{comes, kept, some_is}
-use Rattle.vhdl_names_problems.specs.Broken.{Broken, Tells, ◌▸◌, where_given}
-use Rattle.vhdl_names_problems.specs.Declarations.{context, in_order, end_name}
-use Rattle.vhdl_names_problems.specs.Files.{declaration, body, architecture_in, architecture}
-use Rattle.vhdl_names_problems.proofs.Telling.{behind_kept, told_left, told_same}
-use Rattle.vhdl_names_problems.proofs.kept.Declarations.{context_kept}
-use Rattle.vhdl_names_problems.proofs.kept.Architectures.{declarations_kept}
+use Rattle.vhdl_names_rules.specs.problems.Broken.{Broken, Tells, ◌▸◌, where_given}
+use Rattle.vhdl_names_rules.specs.problems.Declarations.{context, in_order, end_name}
+use Rattle.vhdl_names_rules.specs.problems.Files.{declaration, body, architecture_in, architecture}
+use Rattle.vhdl_names_rules.proofs.Telling.{behind_kept, told_left, told_same}
+use Rattle.vhdl_names_rules.proofs.kept.Declarations.{context_kept}
+use Rattle.vhdl_names_rules.proofs.kept.Architectures.{declarations_kept}
 use Rattle.vhdl_names_declarations.specs.Entered.{entered, entering}
 use Rattle.vhdl_names_interfaces.specs.Views.{sight_behind}
 

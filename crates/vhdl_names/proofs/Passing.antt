@@ -11,7 +11,7 @@ use Rattle.vhdl_names_rules.specs.declared.fault.NameFault.TheVariants.{NoMemory
 use Rattle.vhdl_names_rules.specs.Gives.{Gives}
 use Rattle.vhdl_names_rules.specs.Interfaces.{EntityView}
 use Rattle.vhdl_names_rules.specs.Files.{entities_of}
-use Rattle.vhdl_names_problems.specs.Broken.{Tells, any_of}
+use Rattle.vhdl_names_rules.specs.problems.Broken.{Tells, any_of}
 use Rattle.vhdl_names.specs.Breaking.{one_unit}
 use Rattle.vhdl_names.specs.Finding.{HasMemory, first_of}
 use Rattle.vhdl_names.specs.Views.{Keyed, OutlineView}

@@ -7,11 +7,11 @@ use Rattle.vhdl_names_rules.specs.declared.fault.NameFault.{NameFault}
 use Rattle.vhdl_names_rules.specs.Visibility.{Sight, Declared}
 use Rattle.vhdl_names_rules.specs.Interfaces.{EntityView}
 use Rattle.vhdl_names_rules.specs.Concurrent.{concurrent_labels}
-use Rattle.vhdl_names_problems.specs.Broken.{earlier}
-use Rattle.vhdl_names_problems.specs.Concurrent.{concurrents}
-use Rattle.vhdl_names_problems.specs.Declarations.{standing_twice}
-use Rattle.vhdl_names_problems.specs.Files.{body, with_labels}
-use Rattle.vhdl_names_problems.specs.Labels.{labels_of}
+use Rattle.vhdl_names_rules.specs.problems.Broken.{earlier}
+use Rattle.vhdl_names_rules.specs.problems.Concurrent.{concurrents}
+use Rattle.vhdl_names_rules.specs.problems.Declarations.{standing_twice}
+use Rattle.vhdl_names_rules.specs.problems.Files.{body, with_labels}
+use Rattle.vhdl_names_rules.specs.problems.Labels.{labels_of}
 use Rattle.vhdl_names.specs.Finding.{HasMemory}
 use Rattle.vhdl_names.specs.steps.Architectures.{with_region}
 

@@ -11,9 +11,9 @@ use Rattle.vhdl_names_rules.specs.Interfaces.{EntityView}
 use Rattle.vhdl_names_rules.specs.Files.{entity_names, described_names, entities_of, architectures_of, stand_after, units_of}
 use Rattle.vhdl_names_rules.proofs.laws.Rules.{kept, some_is}
 use Rattle.vhdl_names_labels.specs.Lists.{in_turn}
-use Rattle.vhdl_names_problems.specs.Broken.{Broken, Tells, any_of, earlier}
-use Rattle.vhdl_names_problems.specs.Files.{placed_architectures, is_hidden, described, names, file}
-use Rattle.vhdl_names_problems.proofs.Telling.{told_same}
+use Rattle.vhdl_names_rules.specs.problems.Broken.{Broken, Tells, any_of, earlier}
+use Rattle.vhdl_names_rules.specs.problems.Files.{placed_architectures, is_hidden, described, names, file}
+use Rattle.vhdl_names_rules.proofs.Telling.{told_same}
 use Rattle.vhdl_names.specs.Finding.{Finds, HasMemory}
 use Rattle.vhdl_names.specs.Views.{OutlineView}
 use Rattle.vhdl_names.specs.steps.Outlines.{keyed, described_of, outline_of, outlined}

@@ -4,7 +4,7 @@ use Rattle.vhdl_tree.specs.Tree as t
 use Rattle.vhdl_tree.specs.Tree.{LibraryUnit}
 use Rattle.vhdl_names_rules.specs.declared.fault.NameProblem.TheVariants.{Undeclared, Twice, SecondArchitecture}
 use Rattle.vhdl_names_rules.specs.Visibility.{is_among}
-use Rattle.vhdl_names_problems.specs.Broken.{Broken, ◌▸◌, unless}
+use Rattle.vhdl_names_rules.specs.problems.Broken.{Broken, ◌▸◌, unless}
 use Rattle.vhdl_names.specs.Views.{OutlineView}
 use Rattle.vhdl_names.specs.steps.Outlines.{names_of}
 

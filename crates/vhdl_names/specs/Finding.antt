@@ -2,7 +2,7 @@
 use Rattle.std.specs.Prelude.{◌≡◌, ◌≢◌, Result, Ok, Err, IfErr}
 use Rattle.vhdl_names_rules.specs.declared.fault.NameFault.{NameFault}
 use Rattle.vhdl_names_rules.specs.declared.fault.NameFault.TheVariants.{At, NoMemory}
-use Rattle.vhdl_names_problems.specs.Broken.{Broken, Tells, nothing}
+use Rattle.vhdl_names_rules.specs.problems.Broken.{Broken, Tells, nothing}
 
 -- all is well only where nothing is broken, and a fault is the first
 abbrev pub Finds : {X : Type 0} → Broken → Result X NameFault → Type 0

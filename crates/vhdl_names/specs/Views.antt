@@ -13,7 +13,7 @@ use Rattle.vhdl_names_rules.specs.declared.fault.NameProblem.TheVariants.{Undecl
 use Rattle.vhdl_names_rules.specs.Visibility.{Name}
 use Rattle.vhdl_names_labels.specs.Once.{names_view}
 use Rattle.vhdl_names_interfaces.specs.Views.{entities_view}
-use Rattle.vhdl_names_problems.specs.Files as broken
+use Rattle.vhdl_names_rules.specs.problems.Files as broken
 use Rattle.vhdl_names.specs.declared.outline.Described.{Described}
 use Rattle.vhdl_names.specs.declared.outline.Outline.{Outline}
 use Rattle.vhdl_names.specs.declared.tables.Given.{Given}

@@ -3,7 +3,7 @@
 ghost use Rattle.std.specs.Prelude.{◌≡◌, IfOk, Ok};
 ghost use Rattle.vhdl_names.specs.Finding as steps;
 ghost use Rattle.vhdl_names.specs.Finding.{Finds, HasMemory};
-ghost use Rattle.vhdl_names_problems.specs.Broken.{Broken, earlier};
+ghost use Rattle.vhdl_names_rules.specs.problems.Broken.{Broken, earlier};
 
 use vhdl_names_labels::earlier_in;
 use vhdl_names_rules::NameFault;

@@ -4,7 +4,7 @@ ghost use Rattle.std.specs.Prelude.{◌≡◌, ◌&&◌, nat_eq, map, flat_map};
 ghost use Rattle.vhdl_names.specs.Views as views;
 ghost use Rattle.vhdl_names.specs.Views.{one_is_hidden};
 ghost use Rattle.vhdl_names_interfaces.specs.Views.{entities_view};
-ghost use Rattle.vhdl_names_problems.specs.Files as broken;
+ghost use Rattle.vhdl_names_rules.specs.problems.Files as broken;
 ghost use Rattle.vhdl_names_rules.specs.Interfaces.{EntityView};
 ghost use Rattle.vhdl_names_rules.specs.Visibility.{is_among};
 ghost use Rattle.vhdl_tree.specs.Tree as t;

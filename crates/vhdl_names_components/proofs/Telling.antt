@@ -10,11 +10,11 @@ use Rattle.vhdl_names_rules.specs.SameText.{same_generics, same_ports}
 use Rattle.vhdl_names_rules.specs.Interfaces as are
 use Rattle.vhdl_names_rules.specs.Interfaces.{EntityView, entity_named}
 use Rattle.vhdl_names_rules.proofs.laws.Rules.{comes}
-use Rattle.vhdl_names_problems.specs.Broken.{Broken, Tells, nothing, ◌▸◌, refused, lacking, where_given}
-use Rattle.vhdl_names_problems.specs.Declarations.{standing_twice, end_name}
-use Rattle.vhdl_names_problems.specs.Interfaces.{component, interface, same_text}
-use Rattle.vhdl_names_problems.proofs.Telling.{IsKept, told_same, told_left, told_right, told_given, told_lacking, unless_kept, lacking_kept, given_kept}
-use Rattle.vhdl_names_problems.proofs.kept.Interfaces.{interface_kept}
+use Rattle.vhdl_names_rules.specs.problems.Broken.{Broken, Tells, nothing, ◌▸◌, refused, lacking, where_given}
+use Rattle.vhdl_names_rules.specs.problems.Declarations.{standing_twice, end_name}
+use Rattle.vhdl_names_rules.specs.problems.Interfaces.{component, interface, same_text}
+use Rattle.vhdl_names_rules.proofs.Telling.{IsKept, told_same, told_left, told_right, told_given, told_lacking, unless_kept, lacking_kept, given_kept}
+use Rattle.vhdl_names_rules.proofs.kept.Interfaces.{interface_kept}
 use Rattle.vhdl_names_declarations.specs.Entered.{more}
 use Rattle.vhdl_names_declarations.proofs.Breaking.{standing_once}
 use Rattle.vhdl_names_interfaces.proofs.Interfacing.{told_nothing}

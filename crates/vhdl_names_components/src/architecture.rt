@@ -12,9 +12,9 @@ ghost use Rattle.vhdl_names_rules.specs.Visibility.{with_declared};
 ghost use Rattle.vhdl_tree.specs.View as tree;
 ghost use Rattle.vhdl_names_types.specs.Views.{region_view, sight_view};
 ghost use Rattle.vhdl_names_units.specs.views.Declarations.{declarations_view};
-ghost use Rattle.vhdl_names_problems.specs.Broken.{Tells};
-ghost use Rattle.vhdl_names_problems.specs.Declarations as declarations_broken;
-ghost use Rattle.vhdl_names_problems.specs.Files as broken;
+ghost use Rattle.vhdl_names_rules.specs.problems.Broken.{Tells};
+ghost use Rattle.vhdl_names_rules.specs.problems.Declarations as declarations_broken;
+ghost use Rattle.vhdl_names_rules.specs.problems.Files as broken;
 
 use crate::components::component;
 use std::alloc::{AllocError, Global};

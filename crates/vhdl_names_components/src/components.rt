@@ -12,9 +12,9 @@ ghost use Rattle.vhdl_names_rules.specs.declared.fault.NameFault.TheVariants.{At
 ghost use Rattle.vhdl_names_rules.specs.declared.fault.NameProblem.TheVariants.{Twice, WrongKind};
 ghost use Rattle.vhdl_tree.specs.View.{component_view, ident_view, option_generics_view, option_ports_view};
 ghost use Rattle.vhdl_names_types.specs.Views.{region_view, sight_view};
-ghost use Rattle.vhdl_names_problems.specs.Broken.{Tells, unless};
-ghost use Rattle.vhdl_names_problems.specs.Interfaces as broken;
-ghost use Rattle.vhdl_names_problems.specs.Declarations.{standing_twice};
+ghost use Rattle.vhdl_names_rules.specs.problems.Broken.{Tells, unless};
+ghost use Rattle.vhdl_names_rules.specs.problems.Interfaces as broken;
+ghost use Rattle.vhdl_names_rules.specs.problems.Declarations.{standing_twice};
 
 use crate::interfaces::has_interface;
 use std::alloc::Global;

@@ -10,11 +10,11 @@ use Rattle.vhdl_names_rules.specs.declared.fault.NameProblem.TheVariants.{Twice}
 use Rattle.vhdl_names_rules.specs.Rules.{◌>>=◌, then_some}
 use Rattle.vhdl_names_rules.specs.Visibility.{Name, names_of, is_among}
 use Rattle.vhdl_names_rules.specs.Statements as are
-use Rattle.vhdl_names_problems.specs.Broken.{Tells, nothing, refused, unless}
-use Rattle.vhdl_names_problems.specs.Labels.{label_if_any, inner_labels, statement_labels, conditional_labels, alternative_labels}
-use Rattle.vhdl_names_problems.specs.Twice.{twice}
-use Rattle.vhdl_names_problems.proofs.Telling.{told_same}
-use Rattle.vhdl_names_problems.proofs.kept.Labels.{statements_named}
+use Rattle.vhdl_names_rules.specs.problems.Broken.{Tells, nothing, refused, unless}
+use Rattle.vhdl_names_rules.specs.problems.Labels.{label_if_any, inner_labels, statement_labels, conditional_labels, alternative_labels}
+use Rattle.vhdl_names_rules.specs.problems.Twice.{twice}
+use Rattle.vhdl_names_rules.proofs.Telling.{told_same}
+use Rattle.vhdl_names_rules.proofs.kept.Labels.{statements_named}
 use Rattle.vhdl_names_labels.specs.Lists.{in_turn}
 use Rattle.vhdl_names_labels.proofs.Behind.{next}
 use Rattle.vhdl_names_concurrent.specs.steps.Labels.{with_statements, with_branch}

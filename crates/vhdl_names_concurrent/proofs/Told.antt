@@ -20,15 +20,15 @@ use Rattle.vhdl_names_units.specs.views.Concurrent.{concurrents_of}
 use Rattle.vhdl_names_rules.specs.Concurrent as rules
 use Rattle.vhdl_names_rules.specs.Concurrent.{sight_within, concurrent_labels}
 use Rattle.vhdl_names_rules.proofs.laws.Rules.{comes, kept}
-use Rattle.vhdl_names_problems.specs.Broken.{Broken, Tells, ◌▸◌, where_given, any_of}
-use Rattle.vhdl_names_problems.specs.Declarations.{in_order, variables, end_name}
-use Rattle.vhdl_names_problems.specs.Concurrent as broken
-use Rattle.vhdl_names_problems.specs.Statements.{end_label}
-use Rattle.vhdl_names_problems.proofs.Telling.{IsKept, told_same, told_left, told_right}
-use Rattle.vhdl_names_problems.proofs.kept.Keeping.{among_kept}
-use Rattle.vhdl_names_problems.proofs.kept.Statements.{statements_kept}
-use Rattle.vhdl_names_problems.proofs.kept.Declarations.{all_variables_kept}
-use Rattle.vhdl_names_problems.proofs.kept.Concurrent.{sensitivity_kept, inner_labels_kept, labels_kept, scheme_kept, concurrent_kept, concurrents_kept}
+use Rattle.vhdl_names_rules.specs.problems.Broken.{Broken, Tells, ◌▸◌, where_given, any_of}
+use Rattle.vhdl_names_rules.specs.problems.Declarations.{in_order, variables, end_name}
+use Rattle.vhdl_names_rules.specs.problems.Concurrent as broken
+use Rattle.vhdl_names_rules.specs.problems.Statements.{end_label}
+use Rattle.vhdl_names_rules.proofs.Telling.{IsKept, told_same, told_left, told_right}
+use Rattle.vhdl_names_rules.proofs.kept.Keeping.{among_kept}
+use Rattle.vhdl_names_rules.proofs.kept.Statements.{statements_kept}
+use Rattle.vhdl_names_rules.proofs.kept.Declarations.{all_variables_kept}
+use Rattle.vhdl_names_rules.proofs.kept.Concurrent.{sensitivity_kept, inner_labels_kept, labels_kept, scheme_kept, concurrent_kept, concurrents_kept}
 use Rattle.vhdl_names_concurrent.specs.steps.Concurrents as parts
 use Rattle.vhdl_names_concurrent.specs.steps.Processes as steps
 use Rattle.vhdl_names_concurrent.specs.steps.Told as told

@@ -6,8 +6,8 @@ ghost use Rattle.vhdl_names_concurrent.specs.steps.Concurrents as steps;
 ghost use Rattle.vhdl_names_instances.specs.steps.Instances.{instance as instance_of};
 ghost use Rattle.vhdl_names_labels.specs.Once.{names_view};
 ghost use Rattle.vhdl_names_concurrent.specs.steps.Told as told;
-ghost use Rattle.vhdl_names_problems.specs.Broken.{Tells, nothing};
-ghost use Rattle.vhdl_names_problems.specs.Concurrent as broken;
+ghost use Rattle.vhdl_names_rules.specs.problems.Broken.{Tells, nothing};
+ghost use Rattle.vhdl_names_rules.specs.problems.Concurrent as broken;
 ghost use Rattle.vhdl_names_rules.specs.Concurrent as rules;
 ghost use Rattle.vhdl_names_rules.specs.Gives.{Gives};
 ghost use Rattle.vhdl_names_rules.specs.Interfaces.{EntityView};
@@ -104,7 +104,7 @@ fn statements(
 
 /// A statement.
 #[cycle(concurrent)]
-#[tactic(auto, unfolding(vhdl_names_problems::specs::Concurrent::concurrent))]
+#[tactic(auto, unfolding(vhdl_names_rules::specs::problems::Concurrent::concurrent))]
 fn statement(
     alloc: Global,
     entities: &InstanceEntities,

@@ -3,9 +3,9 @@
 ghost use Rattle.std.specs.Prelude.{◌≡◌, List, [], map, IfErr, OnOk};
 ghost use Rattle.vhdl_names_concurrent.specs.Views.{all_places_view};
 ghost use Rattle.vhdl_names_concurrent.specs.steps.Processes as steps;
-ghost use Rattle.vhdl_names_problems.specs.Broken.{Tells, any_of};
-ghost use Rattle.vhdl_names_problems.specs.Concurrent as broken;
-ghost use Rattle.vhdl_names_problems.specs.Statements as statements;
+ghost use Rattle.vhdl_names_rules.specs.problems.Broken.{Tells, any_of};
+ghost use Rattle.vhdl_names_rules.specs.problems.Concurrent as broken;
+ghost use Rattle.vhdl_names_rules.specs.problems.Statements as statements;
 ghost use Rattle.vhdl_names_rules.specs.Concurrent as rules;
 ghost use Rattle.vhdl_names_rules.specs.Gives.{Gives};
 ghost use Rattle.vhdl_names_rules.specs.Rules.{each};

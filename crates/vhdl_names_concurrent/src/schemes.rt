@@ -1,8 +1,8 @@
 //! What generates go by (IEEE 1076-2008, 11.9).
 
 ghost use Rattle.std.specs.Prelude.{List, ℕ, IfErr};
-ghost use Rattle.vhdl_names_problems.specs.Broken.{Tells};
-ghost use Rattle.vhdl_names_problems.specs.Concurrent as broken;
+ghost use Rattle.vhdl_names_rules.specs.problems.Broken.{Tells};
+ghost use Rattle.vhdl_names_rules.specs.problems.Concurrent as broken;
 ghost use Rattle.vhdl_names_rules.specs.Concurrent as rules;
 ghost use Rattle.vhdl_names_rules.specs.Gives.{Gives};
 ghost use Rattle.vhdl_names_rules.specs.units.Units as u;

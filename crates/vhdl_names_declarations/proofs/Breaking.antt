@@ -12,12 +12,12 @@ use Rattle.vhdl_names_rules.specs.Visibility.{Name, Declared, Sight, Declares, n
 use Rattle.vhdl_names_rules.specs.Interfaces.{declared_names}
 use Rattle.vhdl_names_rules.specs.Declarations.{single_expression}
 use Rattle.vhdl_names_rules.proofs.laws.Rules.{comes, kept}
-use Rattle.vhdl_names_problems.specs.Broken.{Broken, Tells, refused, where_given}
-use Rattle.vhdl_names_problems.specs.Twice.{twice}
-use Rattle.vhdl_names_problems.specs.Expressions.{static}
-use Rattle.vhdl_names_problems.specs.Declarations.{in_order, standing_twice, integer_value}
-use Rattle.vhdl_names_problems.proofs.Telling.{IsKept, told_same, told_left, told_right, told_given, at_is_told}
-use Rattle.vhdl_names_problems.proofs.kept.Twice.{apart, twice_kept}
+use Rattle.vhdl_names_rules.specs.problems.Broken.{Broken, Tells, refused, where_given}
+use Rattle.vhdl_names_rules.specs.problems.Twice.{twice}
+use Rattle.vhdl_names_rules.specs.problems.Expressions.{static}
+use Rattle.vhdl_names_rules.specs.problems.Declarations.{in_order, standing_twice, integer_value}
+use Rattle.vhdl_names_rules.proofs.Telling.{IsKept, told_same, told_left, told_right, told_given, at_is_told}
+use Rattle.vhdl_names_rules.proofs.kept.Twice.{apart, twice_kept}
 use Rattle.vhdl_names_declarations.specs.Entered.{more}
 use Rattle.vhdl_names_declarations.proofs.Regions.{names-append}
 use Rattle.vhdl_names_declarations.proofs.Turns.{has_more, more_is}

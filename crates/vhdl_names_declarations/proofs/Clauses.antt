@@ -8,10 +8,10 @@ use Rattle.vhdl_names_rules.specs.declared.fault.NameProblem.TheVariants.{Undecl
 use Rattle.vhdl_names_rules.specs.Rules.{◌>>=◌, met}
 use Rattle.vhdl_names_rules.specs.Packages as packages
 use Rattle.vhdl_names_rules.specs.Packages.{Context, is_ieee, is_library, is_logic, is_numbers}
-use Rattle.vhdl_names_problems.specs.Broken.{Broken, Tells, nothing, ◌▸◌, unless, where_given, any_of}
-use Rattle.vhdl_names_problems.specs.Declarations.{context, library_named, package_used, packages_used}
-use Rattle.vhdl_names_problems.proofs.Telling.{IsKept, told_same, told_left, told_right, told_given, behind_kept, unless_kept, kept_left}
-use Rattle.vhdl_names_problems.proofs.kept.Declarations.{packages_kept, context_kept}
+use Rattle.vhdl_names_rules.specs.problems.Broken.{Broken, Tells, nothing, ◌▸◌, unless, where_given, any_of}
+use Rattle.vhdl_names_rules.specs.problems.Declarations.{context, library_named, package_used, packages_used}
+use Rattle.vhdl_names_rules.proofs.Telling.{IsKept, told_same, told_left, told_right, told_given, behind_kept, unless_kept, kept_left}
+use Rattle.vhdl_names_rules.proofs.kept.Declarations.{packages_kept, context_kept}
 use Rattle.vhdl_names_declarations.proofs.Breaking.{from_one}
 
 -- ---- what one item breaks

@@ -14,10 +14,10 @@ use Rattle.vhdl_names_rules.specs.units.Expressions.{Static}
 use Rattle.vhdl_names_rules.specs.units.Units as u
 use Rattle.vhdl_names_rules.specs.declared.fault.NameFault.TheVariants.{At}
 use Rattle.vhdl_names_rules.specs.declared.fault.NameProblem.TheVariants.{LeftOut}
-use Rattle.vhdl_names_problems.specs.Broken.{Tells, unless}
-use Rattle.vhdl_names_problems.specs.Declarations as broken
-use Rattle.vhdl_names_problems.specs.Declarations.{standing_twice}
-use Rattle.vhdl_names_problems.proofs.Telling.{told_left, behind_kept}
+use Rattle.vhdl_names_rules.specs.problems.Broken.{Tells, unless}
+use Rattle.vhdl_names_rules.specs.problems.Declarations as broken
+use Rattle.vhdl_names_rules.specs.problems.Declarations.{standing_twice}
+use Rattle.vhdl_names_rules.proofs.Telling.{told_left, behind_kept}
 use Rattle.vhdl_names_rules.specs.Rules.{◌>>=◌, met, if_any}
 use Rattle.vhdl_names_rules.specs.Visibility as visibility
 use Rattle.vhdl_names_rules.specs.Visibility.{Meaning, Declared, Sight, Declares, declare, meaning, names_of, count_of, with_declared, are_distinct, numbered}

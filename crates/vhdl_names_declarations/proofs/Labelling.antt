@@ -17,10 +17,10 @@ use Rattle.vhdl_names_rules.specs.Files.{labelled}
 use Rattle.vhdl_names_rules.specs.Concurrent.{concurrent_label, concurrent_labels}
 use Rattle.vhdl_names_rules.specs.Statements.{label_names}
 use Rattle.vhdl_names_rules.specs.declared.fault.NameFault.{NameFault}
-use Rattle.vhdl_names_problems.specs.Broken.{Tells}
-use Rattle.vhdl_names_problems.specs.Labels.{label_if_any, label_of, labels_of}
-use Rattle.vhdl_names_problems.specs.Declarations.{standing_twice}
-use Rattle.vhdl_names_problems.proofs.Telling.{told_same}
+use Rattle.vhdl_names_rules.specs.problems.Broken.{Tells}
+use Rattle.vhdl_names_rules.specs.problems.Labels.{label_if_any, label_of, labels_of}
+use Rattle.vhdl_names_rules.specs.problems.Declarations.{standing_twice}
+use Rattle.vhdl_names_rules.proofs.Telling.{told_same}
 use Rattle.vhdl_names_types.specs.declared.meaning.Meaning.{Meaning as CodeMeaning}
 use Rattle.vhdl_names_types.specs.Views.{entry_view}
 use Rattle.vhdl_names_declarations.specs.Entered.{more}

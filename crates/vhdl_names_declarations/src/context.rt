@@ -7,8 +7,8 @@ ghost use Rattle.vhdl_names_rules.specs.Gives.{Gives};
 ghost use Rattle.vhdl_names_rules.specs.declared.fault.NameFault.TheVariants.{NoMemory};
 ghost use Rattle.vhdl_names_rules.specs.Packages as rules;
 ghost use Rattle.vhdl_tree.specs.View.{ident_view, selected_view, context_view as item_view};
-ghost use Rattle.vhdl_names_problems.specs.Broken.{Tells, any_of};
-ghost use Rattle.vhdl_names_problems.specs.Declarations as broken;
+ghost use Rattle.vhdl_names_rules.specs.problems.Broken.{Tells, any_of};
+ghost use Rattle.vhdl_names_rules.specs.problems.Declarations as broken;
 
 use vhdl_names_rules::{NameFault, NameProblem};
 use vhdl_tree::{ContextItem, Identifier, Selected};

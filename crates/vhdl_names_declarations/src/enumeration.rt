@@ -7,8 +7,8 @@ ghost use Rattle.vhdl_names_rules.specs.Gives.{Gives};
 ghost use Rattle.vhdl_names_rules.specs.Visibility.{count_of, names_of, is_enumeration_type};
 ghost use Rattle.vhdl_tree.specs.View.{ident_view, enumeration_view};
 ghost use Rattle.vhdl_names_types.specs.Views.{region_view, sight_view};
-ghost use Rattle.vhdl_names_problems.specs.Broken.{Tells};
-ghost use Rattle.vhdl_names_problems.specs.Declarations as broken;
+ghost use Rattle.vhdl_names_rules.specs.problems.Broken.{Tells};
+ghost use Rattle.vhdl_names_rules.specs.problems.Declarations as broken;
 
 use crate::region::declare;
 use std::alloc::Global;

@@ -13,10 +13,10 @@ ghost use Rattle.vhdl_names_rules.specs.views.Integers.{static_view};
 ghost use Rattle.vhdl_tree.specs.View.{option_expr_view, generic_view};
 ghost use Rattle.vhdl_names_types.specs.Views.{meaning_view, sight_view};
 ghost use Rattle.vhdl_names_units.specs.views.Declarations.{generics_view, all_generics_view};
-ghost use Rattle.vhdl_names_problems.specs.Broken.{Tells, refused, of_any};
-ghost use Rattle.vhdl_names_problems.specs.Declarations as broken;
-ghost use Rattle.vhdl_names_problems.specs.Expressions as expressions_broken;
-ghost use Rattle.vhdl_names_problems.specs.Interfaces as interfaces_broken;
+ghost use Rattle.vhdl_names_rules.specs.problems.Broken.{Tells, refused, of_any};
+ghost use Rattle.vhdl_names_rules.specs.problems.Declarations as broken;
+ghost use Rattle.vhdl_names_rules.specs.problems.Expressions as expressions_broken;
+ghost use Rattle.vhdl_names_rules.specs.problems.Interfaces as interfaces_broken;
 
 use crate::class::ObjectClass;
 use crate::counts::Counts;

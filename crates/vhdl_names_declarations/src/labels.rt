@@ -14,10 +14,10 @@ ghost use Rattle.vhdl_tree.specs.Tree.{concurrents_of};
 ghost use Rattle.vhdl_tree.specs.View.{ident_view, option_ident_view, concurrent_view};
 ghost use Rattle.vhdl_names_types.specs.Views.{region_view};
 ghost use Rattle.vhdl_names_rules.specs.declared.fault.NameFault.TheVariants.{NoMemory};
-ghost use Rattle.vhdl_names_problems.specs.Broken.{Tells};
-ghost use Rattle.vhdl_names_problems.specs.Declarations.{standing_twice};
-ghost use Rattle.vhdl_names_problems.specs.Labels.{label_if_any, label_of, labels_of};
-ghost use Rattle.vhdl_names_problems.specs.Twice.{twice};
+ghost use Rattle.vhdl_names_rules.specs.problems.Broken.{Tells};
+ghost use Rattle.vhdl_names_rules.specs.problems.Declarations.{standing_twice};
+ghost use Rattle.vhdl_names_rules.specs.problems.Labels.{label_if_any, label_of, labels_of};
+ghost use Rattle.vhdl_names_rules.specs.problems.Twice.{twice};
 
 use crate::region::declare;
 use indexmap::IndexMap;

@@ -13,9 +13,9 @@ ghost use Rattle.vhdl_tree.specs.View as tree;
 ghost use Rattle.vhdl_names_types.specs.Views.{sight_view};
 ghost use Rattle.vhdl_names_units.specs.views.Answers.{subtype_view, fixed_view};
 ghost use Rattle.vhdl_names_units.specs.views.Declarations.{declaration_view, object_view, objects_view};
-ghost use Rattle.vhdl_names_problems.specs.Broken.{Tells, of_any};
-ghost use Rattle.vhdl_names_problems.specs.Declarations as broken;
-ghost use Rattle.vhdl_names_problems.specs.Subtypes as subtypes_broken;
+ghost use Rattle.vhdl_names_rules.specs.problems.Broken.{Tells, of_any};
+ghost use Rattle.vhdl_names_rules.specs.problems.Declarations as broken;
+ghost use Rattle.vhdl_names_rules.specs.problems.Subtypes as subtypes_broken;
 
 use crate::class::ObjectClass;
 use crate::counts::Counts;

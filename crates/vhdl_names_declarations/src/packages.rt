@@ -7,7 +7,7 @@ ghost use Rattle.vhdl_names_declarations.specs.Rows.{builtin_view, row_view};
 ghost use Rattle.vhdl_names_rules.specs.Gives.{Gives};
 ghost use Rattle.vhdl_names_rules.specs.Packages as rules;
 ghost use Rattle.vhdl_names_types.specs.Views.{meaning_view, region_view, sight_view};
-ghost use Rattle.vhdl_names_problems.specs.Broken.{Tells, refused, nothing};
+ghost use Rattle.vhdl_names_rules.specs.problems.Broken.{Tells, refused, nothing};
 ghost use Rattle.vhdl_names_rules.specs.declared.fault.NameProblem.TheVariants.{Twice};
 
 use crate::context::Context;

@@ -10,9 +10,9 @@ ghost use Rattle.vhdl_tree.specs.View as tree;
 ghost use Rattle.vhdl_names_types.specs.Views.{sight_view};
 ghost use Rattle.vhdl_names_units.specs.views.Answers.{subtype_view, fixed_view};
 ghost use Rattle.vhdl_names_units.specs.views.Declarations.{ports_view, all_ports_view};
-ghost use Rattle.vhdl_names_problems.specs.Broken.{Tells, refused};
-ghost use Rattle.vhdl_names_problems.specs.Declarations as broken;
-ghost use Rattle.vhdl_names_problems.specs.Interfaces as interfaces_broken;
+ghost use Rattle.vhdl_names_rules.specs.problems.Broken.{Tells, refused};
+ghost use Rattle.vhdl_names_rules.specs.problems.Declarations as broken;
+ghost use Rattle.vhdl_names_rules.specs.problems.Interfaces as interfaces_broken;
 ghost use Rattle.vhdl_names_rules.specs.declared.fault.NameProblem.TheVariants.{LeftOut};
 
 use crate::class::ObjectClass;

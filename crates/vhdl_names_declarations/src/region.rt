@@ -10,8 +10,8 @@ ghost use Rattle.vhdl_names_rules.specs.Visibility.{all_declared, names_of};
 ghost use Rattle.vhdl_tree.specs.View.{ident_view};
 ghost use Rattle.vhdl_names_types.specs.Views.{meaning_view, region_view};
 ghost use Rattle.vhdl_names_rules.specs.declared.fault.NameFault.TheVariants.{NoMemory};
-ghost use Rattle.vhdl_names_problems.specs.Broken.{Tells};
-ghost use Rattle.vhdl_names_problems.specs.Declarations.{standing_twice};
+ghost use Rattle.vhdl_names_rules.specs.problems.Broken.{Tells};
+ghost use Rattle.vhdl_names_rules.specs.problems.Declarations.{standing_twice};
 
 use crate::class::ObjectClass;
 use std::alloc::{AllocError, Global};

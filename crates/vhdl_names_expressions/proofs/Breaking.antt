@@ -26,12 +26,12 @@ use Rattle.vhdl_names_rules.specs.Operators.{Typed, operated, inverse}
 use Rattle.vhdl_names_rules.specs.Expressions as are
 use Rattle.vhdl_names_rules.specs.Expressions.{beside, as_integer}
 use Rattle.vhdl_names_rules.proofs.laws.Rules.{comes}
-use Rattle.vhdl_names_problems.specs.Broken.{Broken, Tells, nothing, refused, ◌▸◌, lacking, where_given}
-use Rattle.vhdl_names_problems.specs.Places.{start}
-use Rattle.vhdl_names_problems.specs.Operators.{string_problem, operator_problem, name_problem}
-use Rattle.vhdl_names_problems.specs.Expressions.{typed, typed_suffix, typed_each, static, static_range, integer_wanted, meaning, attributed, of_no_value, with_suffix}
-use Rattle.vhdl_names_problems.proofs.Telling.{IsKept, both_kept, behind_kept, lacking_kept, given_kept, told_same, told_left, told_right, told_lacking, told_given, told_on}
-use Rattle.vhdl_names_problems.proofs.kept.Expressions.{meaning_kept, typed_kept, typed_suffix_kept, static_kept}
+use Rattle.vhdl_names_rules.specs.problems.Broken.{Broken, Tells, nothing, refused, ◌▸◌, lacking, where_given}
+use Rattle.vhdl_names_rules.specs.problems.Places.{start}
+use Rattle.vhdl_names_rules.specs.problems.Operators.{string_problem, operator_problem, name_problem}
+use Rattle.vhdl_names_rules.specs.problems.Expressions.{typed, typed_suffix, typed_each, static, static_range, integer_wanted, meaning, attributed, of_no_value, with_suffix}
+use Rattle.vhdl_names_rules.proofs.Telling.{IsKept, both_kept, behind_kept, lacking_kept, given_kept, told_same, told_left, told_right, told_lacking, told_given, told_on}
+use Rattle.vhdl_names_rules.proofs.kept.Expressions.{meaning_kept, typed_kept, typed_suffix_kept, static_kept}
 use Rattle.vhdl_names_expressions.specs.Breaking.{link_breaks, all_break, started_breaks}
 use Rattle.vhdl_names_expressions.specs.Chosen.{started, links_of}
 use Rattle.vhdl_names_expressions.specs.Steps.{is_parens, enclosed_if, linked}

@@ -10,12 +10,12 @@ use Rattle.vhdl_names_rules.specs.Gives.{Gives}
 use Rattle.vhdl_names_rules.specs.Visibility as visibility
 use Rattle.vhdl_names_rules.specs.Visibility.{Sight}
 use Rattle.vhdl_names_rules.specs.Choices as c
-use Rattle.vhdl_names_problems.specs.Broken.{Broken, Tells, refused, ◌▸◌, lacking, where_given, any_of}
-use Rattle.vhdl_names_problems.specs.Expressions.{meaning}
-use Rattle.vhdl_names_problems.specs.Subtypes.{literal}
-use Rattle.vhdl_names_problems.specs.Choices as b
-use Rattle.vhdl_names_problems.proofs.Telling.{IsKept, behind_kept, told_same, told_left, told_right}
-use Rattle.vhdl_names_problems.proofs.kept.Expressions.{meaning_kept}
+use Rattle.vhdl_names_rules.specs.problems.Broken.{Broken, Tells, refused, ◌▸◌, lacking, where_given, any_of}
+use Rattle.vhdl_names_rules.specs.problems.Expressions.{meaning}
+use Rattle.vhdl_names_rules.specs.problems.Subtypes.{literal}
+use Rattle.vhdl_names_rules.specs.problems.Choices as b
+use Rattle.vhdl_names_rules.proofs.Telling.{IsKept, behind_kept, told_same, told_left, told_right}
+use Rattle.vhdl_names_rules.proofs.kept.Expressions.{meaning_kept}
 use Rattle.vhdl_names_expressions.specs.Chosen.{as_name, is_bare}
 use Rattle.vhdl_names_expressions.proofs.Breaking.{wanted_by}
 

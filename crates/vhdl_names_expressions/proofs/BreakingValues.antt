@@ -27,14 +27,14 @@ use Rattle.vhdl_names_rules.specs.Operators.{Typed, elements}
 use Rattle.vhdl_names_rules.specs.Rules.{◌>>=◌, ◌>>◌, met}
 use Rattle.vhdl_names_rules.specs.units.Expressions.{Vector}
 use Rattle.vhdl_names_rules.specs.units.Units.{Fixed}
-use Rattle.vhdl_names_problems.specs.Broken.{Broken, Tells, refused, ◌▸◌, unless, lacking, where_given, of_any}
-use Rattle.vhdl_names_problems.specs.Places.{start}
-use Rattle.vhdl_names_problems.specs.Operators.{string_problem}
-use Rattle.vhdl_names_problems.specs.Expressions.{meaning, no_attribute, typed_suffix, static_range, is_vector_type}
-use Rattle.vhdl_names_problems.specs.Statements.{named}
-use Rattle.vhdl_names_problems.specs.Subtypes.{fixed, fixed_value, literal, value_of, subtype, mark_problem, is_marked, is_character}
-use Rattle.vhdl_names_problems.proofs.Telling.{told_same, told_left, told_right, told_given, told_on, at_is_told}
-use Rattle.vhdl_names_problems.proofs.kept.Expressions.{meaning_kept, typed_suffix_kept}
+use Rattle.vhdl_names_rules.specs.problems.Broken.{Broken, Tells, refused, ◌▸◌, unless, lacking, where_given, of_any}
+use Rattle.vhdl_names_rules.specs.problems.Places.{start}
+use Rattle.vhdl_names_rules.specs.problems.Operators.{string_problem}
+use Rattle.vhdl_names_rules.specs.problems.Expressions.{meaning, no_attribute, typed_suffix, static_range, is_vector_type}
+use Rattle.vhdl_names_rules.specs.problems.Statements.{named}
+use Rattle.vhdl_names_rules.specs.problems.Subtypes.{fixed, fixed_value, literal, value_of, subtype, mark_problem, is_marked, is_character}
+use Rattle.vhdl_names_rules.proofs.Telling.{told_same, told_left, told_right, told_given, told_on, at_is_told}
+use Rattle.vhdl_names_rules.proofs.kept.Expressions.{meaning_kept, typed_suffix_kept}
 use Rattle.vhdl_names_types.specs.declared.meaning.Meaning.{Meaning as DeclaredMeaning}
 use Rattle.vhdl_names_types.specs.declared.meaning.Meaning.TheVariants as d
 use Rattle.vhdl_names_types.specs.Views.{meaning_view}

@@ -7,7 +7,7 @@ use Rattle.vhdl_tree.specs.declared.expression.Expr.{Expr}
 use Rattle.vhdl_tree.specs.declared.expression.Expr.TheVariants as x
 use Rattle.vhdl_tree.specs.declared.expression.Chain.{Chain, out-Chain}
 use Rattle.vhdl_tree.proofs.Rows.{chain_is}
-use Rattle.vhdl_names_problems.specs.Places.{start}
+use Rattle.vhdl_names_rules.specs.problems.Places.{start}
 
 joined_starts : (e : t.Expr) (ps : List Pair) → start (t.all_joined e ps) ≡ start e
 joined_starts e [] = refl

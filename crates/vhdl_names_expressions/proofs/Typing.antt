@@ -16,7 +16,7 @@ use Rattle.vhdl_names_rules.specs.Operators.{Typed, integer, inverse, operated}
 use Rattle.vhdl_names_rules.specs.Expressions.{typed, typed_suffix, enclosed, as_integer, signed}
 use Rattle.vhdl_names_rules.specs.declared.fault.NameFault.{NameFault}
 use Rattle.vhdl_names_rules.specs.declared.fault.NameFault.TheVariants.{NoMemory}
-use Rattle.vhdl_names_problems.specs.Broken.{Broken, Tells}
+use Rattle.vhdl_names_rules.specs.problems.Broken.{Broken, Tells}
 use Rattle.vhdl_names_expressions.specs.Steps.{enclosed_if, linked}
 use Rattle.vhdl_names_expressions.proofs.Chains.{named_in_turn}
 

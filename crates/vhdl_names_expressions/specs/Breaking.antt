@@ -6,9 +6,9 @@ use Rattle.vhdl_tree.specs.View.{view}
 use Rattle.vhdl_names_rules.specs.Visibility.{Sight}
 use Rattle.vhdl_names_rules.specs.Expressions as are
 use Rattle.vhdl_names_rules.specs.Operators.{Typed, operated}
-use Rattle.vhdl_names_problems.specs.Broken.{Broken, nothing, ◌▸◌, lacking, where_given}
-use Rattle.vhdl_names_problems.specs.Expressions.{typed}
-use Rattle.vhdl_names_problems.specs.Operators.{operator_problem}
+use Rattle.vhdl_names_rules.specs.problems.Broken.{Broken, nothing, ◌▸◌, lacking, where_given}
+use Rattle.vhdl_names_rules.specs.problems.Expressions.{typed}
+use Rattle.vhdl_names_rules.specs.problems.Operators.{operator_problem}
 use Rattle.vhdl_names_expressions.specs.Steps.{is_parens, enclosed_if, linked}
 
 -- a link's right operand, and its operator on what the left operand is, which may stand in parentheses

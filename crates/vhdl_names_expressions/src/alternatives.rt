@@ -1,9 +1,9 @@
 //! Choices of case statements and selected assignments (IEEE 1076-2008, 10.9, 11.6).
 
 ghost use Rattle.std.specs.Prelude.{◌≡◌, ◌∷◌, [], map, IfErr};
-ghost use Rattle.vhdl_names_problems.specs.Broken.{Tells, refused, any_of};
-ghost use Rattle.vhdl_names_problems.specs.Choices as broken;
-ghost use Rattle.vhdl_names_problems.specs.Subtypes.{literal};
+ghost use Rattle.vhdl_names_rules.specs.problems.Broken.{Tells, refused, any_of};
+ghost use Rattle.vhdl_names_rules.specs.problems.Choices as broken;
+ghost use Rattle.vhdl_names_rules.specs.problems.Subtypes.{literal};
 ghost use Rattle.vhdl_names_rules.specs.Choices as rules;
 ghost use Rattle.vhdl_names_rules.specs.Gives.{Gives};
 ghost use Rattle.vhdl_names_rules.specs.Rules.{each};

@@ -2,9 +2,9 @@
 //! selects by (10.9). Each takes memory for what is analysed, and fails at the first byte where a rule is broken.
 
 ghost use Rattle.std.specs.Prelude.{◌≡◌, IfErr};
-ghost use Rattle.vhdl_names_problems.specs.Broken.{Tells, refused, ◌▸◌, unless, lacking};
-ghost use Rattle.vhdl_names_problems.specs.Choices as choices;
-ghost use Rattle.vhdl_names_problems.specs.Expressions as broken;
+ghost use Rattle.vhdl_names_rules.specs.problems.Broken.{Tells, refused, ◌▸◌, unless, lacking};
+ghost use Rattle.vhdl_names_rules.specs.problems.Choices as choices;
+ghost use Rattle.vhdl_names_rules.specs.problems.Expressions as broken;
 ghost use Rattle.vhdl_names_rules.specs.declared.fault.NameProblem.TheVariants.{TypeMismatch};
 ghost use Rattle.vhdl_names_rules.specs.Choices.{selector as selector_of};
 ghost use Rattle.vhdl_names_rules.specs.Expressions as rules;

@@ -2,9 +2,9 @@
 //! of operands before those of their operator.
 
 ghost use Rattle.std.specs.Prelude.{◌≡◌, true, Some, map, option_map, IfOk, IfErr, OnErr, None};
-ghost use Rattle.vhdl_names_problems.specs.Broken.{Tells, nothing, refused};
-ghost use Rattle.vhdl_names_problems.specs.Expressions as broken;
-ghost use Rattle.vhdl_names_problems.specs.Places as places;
+ghost use Rattle.vhdl_names_rules.specs.problems.Broken.{Tells, nothing, refused};
+ghost use Rattle.vhdl_names_rules.specs.problems.Expressions as broken;
+ghost use Rattle.vhdl_names_rules.specs.problems.Places as places;
 ghost use Rattle.vhdl_names_rules.specs.Expressions as rules;
 ghost use Rattle.vhdl_names_rules.specs.Gives.{Gives};
 ghost use Rattle.vhdl_names_rules.specs.Names.{plain, denoted as denoted_of};

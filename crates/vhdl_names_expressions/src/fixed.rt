@@ -1,9 +1,9 @@
 //! The values of constants that are no integers, and of defaults (IEEE 1076-2008, 6.4.2.2, 9.4).
 
 ghost use Rattle.std.specs.Prelude.{◌≡◌, map, option_map, is_some, IfErr};
-ghost use Rattle.vhdl_names_problems.specs.Broken.{Tells, refused, ◌▸◌, unless, lacking};
-ghost use Rattle.vhdl_names_problems.specs.Expressions.{is_vector_type};
-ghost use Rattle.vhdl_names_problems.specs.Subtypes as broken;
+ghost use Rattle.vhdl_names_rules.specs.problems.Broken.{Tells, refused, ◌▸◌, unless, lacking};
+ghost use Rattle.vhdl_names_rules.specs.problems.Expressions.{is_vector_type};
+ghost use Rattle.vhdl_names_rules.specs.problems.Subtypes as broken;
 ghost use Rattle.vhdl_names_rules.specs.declared.fault.NameProblem.TheVariants.{TypeMismatch, LeftOut};
 ghost use Rattle.vhdl_names_rules.specs.Gives.{Gives};
 ghost use Rattle.vhdl_names_rules.specs.Subtypes as rules;

@@ -2,8 +2,8 @@
 //! expressions that are one name.
 
 ghost use Rattle.std.specs.Prelude.{◌≡◌, ℕ, option_map, option_copied, IfErr};
-ghost use Rattle.vhdl_names_problems.specs.Broken.{Tells, refused};
-ghost use Rattle.vhdl_names_problems.specs.Subtypes as broken;
+ghost use Rattle.vhdl_names_rules.specs.problems.Broken.{Tells, refused};
+ghost use Rattle.vhdl_names_rules.specs.problems.Subtypes as broken;
 ghost use Rattle.vhdl_names_rules.specs.declared.kind.ObjectType.TheVariants.{Elements, Enumeration};
 ghost use Rattle.vhdl_names_rules.specs.declared.fault.NameProblem.TheVariants.{TypeMismatch};
 ghost use Rattle.vhdl_names_rules.specs.Gives.{Gives};

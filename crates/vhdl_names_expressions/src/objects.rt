@@ -2,8 +2,8 @@
 //! what is analysed.
 
 ghost use Rattle.std.specs.Prelude.{IfErr};
-ghost use Rattle.vhdl_names_problems.specs.Broken.{Tells, refused};
-ghost use Rattle.vhdl_names_problems.specs.Statements as broken;
+ghost use Rattle.vhdl_names_rules.specs.problems.Broken.{Tells, refused};
+ghost use Rattle.vhdl_names_rules.specs.problems.Statements as broken;
 ghost use Rattle.vhdl_names_rules.specs.Gives.{Gives};
 ghost use Rattle.vhdl_names_rules.specs.Statements as rules;
 ghost use Rattle.vhdl_tree.specs.View.{name_view};

@@ -1,9 +1,9 @@
 //! Subtype indications (IEEE 1076-2008, 6.3).
 
 ghost use Rattle.std.specs.Prelude.{◌≡◌, Some, None, IfErr};
-ghost use Rattle.vhdl_names_problems.specs.Broken.{Tells, ◌▸◌, unless};
-ghost use Rattle.vhdl_names_problems.specs.Expressions.{static_range as range_breaks};
-ghost use Rattle.vhdl_names_problems.specs.Subtypes as broken;
+ghost use Rattle.vhdl_names_rules.specs.problems.Broken.{Tells, ◌▸◌, unless};
+ghost use Rattle.vhdl_names_rules.specs.problems.Expressions.{static_range as range_breaks};
+ghost use Rattle.vhdl_names_rules.specs.problems.Subtypes as broken;
 ghost use Rattle.vhdl_names_rules.specs.Gives.{Gives};
 ghost use Rattle.vhdl_names_rules.specs.Expressions as expressions;
 ghost use Rattle.vhdl_names_rules.specs.Subtypes as rules;

@@ -23,14 +23,14 @@ use Rattle.vhdl_names_rules.specs.Statements.{SignalName, signal}
 use Rattle.vhdl_names_rules.specs.declared.fault.NameFault.{NameFault}
 use Rattle.vhdl_names_rules.specs.declared.fault.NameProblem.{NameProblem}
 use Rattle.vhdl_names_rules.specs.declared.fault.NameProblem.TheVariants.{TypeMismatch, WriteOfIn, LeftOut}
-use Rattle.vhdl_names_problems.specs.Broken.{Broken, Tells, refused, ◌▸◌, unless, lacking, where_given}
-use Rattle.vhdl_names_problems.specs.Places.{start}
-use Rattle.vhdl_names_problems.specs.Expressions.{meaning, no_attribute, typed_suffix as broken_suffix}
-use Rattle.vhdl_names_problems.specs.Statements.{named}
-use Rattle.vhdl_names_problems.specs.Instances.{names_value, actual_signal, port_actual}
-use Rattle.vhdl_names_problems.proofs.Telling.{IsKept, behind_kept, unless_kept, lacking_kept, told_same, told_left, told_right, told_given, told_unless, told_lacking}
-use Rattle.vhdl_names_problems.proofs.kept.Expressions.{meaning_kept, typed_suffix_kept}
-use Rattle.vhdl_names_problems.proofs.kept.Instances.{names_no_value, actual_signal_kept}
+use Rattle.vhdl_names_rules.specs.problems.Broken.{Broken, Tells, refused, ◌▸◌, unless, lacking, where_given}
+use Rattle.vhdl_names_rules.specs.problems.Places.{start}
+use Rattle.vhdl_names_rules.specs.problems.Expressions.{meaning, no_attribute, typed_suffix as broken_suffix}
+use Rattle.vhdl_names_rules.specs.problems.Statements.{named}
+use Rattle.vhdl_names_rules.specs.problems.Instances.{names_value, actual_signal, port_actual}
+use Rattle.vhdl_names_rules.proofs.Telling.{IsKept, behind_kept, unless_kept, lacking_kept, told_same, told_left, told_right, told_given, told_unless, told_lacking}
+use Rattle.vhdl_names_rules.proofs.kept.Expressions.{meaning_kept, typed_suffix_kept}
+use Rattle.vhdl_names_rules.proofs.kept.Instances.{names_no_value, actual_signal_kept}
 use Rattle.vhdl_names_expressions.proofs.Each.{behind}
 use Rattle.vhdl_names_instances.specs.declared.actuals.PortType.{PortType}
 use Rattle.vhdl_names_instances.specs.Views.{actual_view}

@@ -13,10 +13,10 @@ use Rattle.vhdl_names_rules.specs.Instances as rules
 use Rattle.vhdl_names_rules.specs.Interfaces.{EntityView}
 use Rattle.vhdl_names_rules.proofs.laws.Rules.{some_is}
 use Rattle.vhdl_names_labels.specs.Once.{names_view}
-use Rattle.vhdl_names_problems.specs.Broken.{Broken, Tells, ◌▸◌, refused, unless, lacking, where_given, of_any}
-use Rattle.vhdl_names_problems.specs.Instances as broken
-use Rattle.vhdl_names_problems.proofs.Telling.{lacking_kept, told_same, told_left, told_right, told_given, told_lacking}
-use Rattle.vhdl_names_problems.proofs.kept.Instances.{instantiated_kept}
+use Rattle.vhdl_names_rules.specs.problems.Broken.{Broken, Tells, ◌▸◌, refused, unless, lacking, where_given, of_any}
+use Rattle.vhdl_names_rules.specs.problems.Instances as broken
+use Rattle.vhdl_names_rules.proofs.Telling.{lacking_kept, told_same, told_left, told_right, told_given, told_lacking}
+use Rattle.vhdl_names_rules.proofs.kept.Instances.{instantiated_kept}
 use Rattle.vhdl_names_instances.specs.declared.instances.InstanceEntities.{InstanceEntities}
 use Rattle.vhdl_names_instances.specs.Table.{Seen, seen, seen_view, AreEntities}
 use Rattle.vhdl_names_instances.specs.Breaking as breaking

@@ -11,9 +11,9 @@ use Rattle.vhdl_names_rules.specs.Visibility.{Name, Sight}
 use Rattle.vhdl_names_rules.specs.Expressions.{static}
 use Rattle.vhdl_names_rules.specs.Instances.{Formal, associated, generic_name, port_formal}
 use Rattle.vhdl_names_rules.specs.Interfaces.{EntityView}
-use Rattle.vhdl_names_problems.specs.Broken.{Broken, Tells}
-use Rattle.vhdl_names_problems.specs.Instances.{generic_map, port_map, maps}
-use Rattle.vhdl_names_problems.proofs.Telling.{IsKept, told_same, told_left, told_right}
+use Rattle.vhdl_names_rules.specs.problems.Broken.{Broken, Tells}
+use Rattle.vhdl_names_rules.specs.problems.Instances.{generic_map, port_map, maps}
+use Rattle.vhdl_names_rules.proofs.Telling.{IsKept, told_same, told_left, told_right}
 use Rattle.vhdl_names_instances.specs.Table.{Seen, seen, type_of}
 use Rattle.vhdl_names_instances.specs.steps.Actuals.{port_actuals}
 use Rattle.vhdl_names_instances.specs.steps.Instances.{with_formals}

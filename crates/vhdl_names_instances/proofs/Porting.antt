@@ -14,12 +14,12 @@ use Rattle.vhdl_names_rules.specs.Expressions.{static}
 use Rattle.vhdl_names_rules.specs.Instances as rules
 use Rattle.vhdl_names_rules.specs.Instances.{Formal, actual_of}
 use Rattle.vhdl_names_rules.proofs.laws.Rules.{both}
-use Rattle.vhdl_names_problems.specs.Broken.{Broken, Tells, nothing, any_of, where_given}
-use Rattle.vhdl_names_problems.specs.Expressions.{static as broken_static}
-use Rattle.vhdl_names_problems.specs.Instances.{port_actual, ports_named}
-use Rattle.vhdl_names_problems.proofs.Telling.{IsKept, behind_kept, told_same, told_left}
-use Rattle.vhdl_names_problems.proofs.kept.Expressions.{static_kept}
-use Rattle.vhdl_names_problems.proofs.kept.Instances.{port_actual_kept}
+use Rattle.vhdl_names_rules.specs.problems.Broken.{Broken, Tells, nothing, any_of, where_given}
+use Rattle.vhdl_names_rules.specs.problems.Expressions.{static as broken_static}
+use Rattle.vhdl_names_rules.specs.problems.Instances.{port_actual, ports_named}
+use Rattle.vhdl_names_rules.proofs.Telling.{IsKept, behind_kept, told_same, told_left}
+use Rattle.vhdl_names_rules.proofs.kept.Expressions.{static_kept}
+use Rattle.vhdl_names_rules.proofs.kept.Instances.{port_actual_kept}
 use Rattle.vhdl_names_instances.specs.declared.actuals.PortType.{PortType}
 use Rattle.vhdl_names_instances.specs.Table.{type_of, items}
 use Rattle.vhdl_names_instances.specs.steps.Actuals as steps

@@ -15,10 +15,10 @@ use Rattle.vhdl_names_rules.specs.Instances as rules
 use Rattle.vhdl_names_rules.specs.Instances.{is_named, formal_of, expression_of, actual_of}
 use Rattle.vhdl_names_rules.proofs.laws.Rules.{comes, kept, both, some_is}
 use Rattle.vhdl_names_labels.specs.Once.{one_name}
-use Rattle.vhdl_names_problems.specs.Broken.{Broken, Tells, nothing, ◌▸◌, unless, lacking, where_given, of_any}
-use Rattle.vhdl_names_problems.specs.Places.{association_place}
-use Rattle.vhdl_names_problems.specs.Instances.{association, associations}
-use Rattle.vhdl_names_problems.proofs.Telling.{IsKept, behind_kept, told_same, told_left}
+use Rattle.vhdl_names_rules.specs.problems.Broken.{Broken, Tells, nothing, ◌▸◌, unless, lacking, where_given, of_any}
+use Rattle.vhdl_names_rules.specs.problems.Places.{association_place}
+use Rattle.vhdl_names_rules.specs.problems.Instances.{association, associations}
+use Rattle.vhdl_names_rules.proofs.Telling.{IsKept, behind_kept, told_same, told_left}
 use Rattle.vhdl_names_instances.specs.Breaking.{one_association}
 use Rattle.vhdl_names_instances.specs.steps.Associations.{formal_at, one_taken, taking, actuals}
 use Rattle.vhdl_names_instances.specs.steps.Maps.{holds_if_any, one_read, reading}

@@ -14,9 +14,9 @@ use Rattle.vhdl_names_rules.specs.Visibility.{Name, is_among}
 use Rattle.vhdl_names_rules.specs.Instances.{is_named}
 use Rattle.vhdl_names_rules.proofs.laws.Rules.{some_is}
 use Rattle.vhdl_names_labels.proofs.Once.{contained}
-use Rattle.vhdl_names_problems.specs.Broken.{Broken, Tells, ◌▸◌, refused, unless, lacking, where_given}
-use Rattle.vhdl_names_problems.specs.Places.{association_place}
-use Rattle.vhdl_names_problems.proofs.Telling.{IsKept, unless_kept, lacking_kept, told_left, told_right, told_given, told_unless}
+use Rattle.vhdl_names_rules.specs.problems.Broken.{Broken, Tells, ◌▸◌, refused, unless, lacking, where_given}
+use Rattle.vhdl_names_rules.specs.problems.Places.{association_place}
+use Rattle.vhdl_names_rules.proofs.Telling.{IsKept, unless_kept, lacking_kept, told_left, told_right, told_given, told_unless}
 use Rattle.vhdl_names_instances.specs.Breaking.{one_association}
 use Rattle.vhdl_names_instances.specs.steps.Associations.{formal_at, one_taken, taking}
 

@@ -4,8 +4,8 @@ use Rattle.std.specs.Prelude.{IsErrAnd, is_some}
 use Rattle.vhdl_names_rules.specs.declared.fault.NameFault.{NameFault}
 use Rattle.vhdl_names_rules.specs.declared.fault.NameFault.TheVariants.{At, NoMemory}
 use Rattle.vhdl_names_rules.specs.Gives.{Gives}
-use Rattle.vhdl_names_problems.specs.Broken.{Broken, Tells}
-use Rattle.vhdl_names_problems.proofs.Telling.{at_is_told, told_same}
+use Rattle.vhdl_names_rules.specs.problems.Broken.{Broken, Tells}
+use Rattle.vhdl_names_rules.proofs.Telling.{at_is_told, told_same}
 
 -- want of memory is always told
 pub or_memory : (b : Broken) (f : NameFault) → (f ≢ NoMemory → Tells b f) → Tells b f

@@ -5,9 +5,9 @@ use Rattle.vhdl_tree.specs.Tree.{Ident, Association}
 use Rattle.vhdl_names_rules.specs.declared.fault.NameProblem.TheVariants.{Undeclared, Twice, WrongKind}
 use Rattle.vhdl_names_rules.specs.Visibility.{Name, is_among}
 use Rattle.vhdl_names_rules.specs.Instances.{is_named}
-use Rattle.vhdl_names_problems.specs.Broken.{Broken, ◌▸◌, unless, lacking, where_given}
-use Rattle.vhdl_names_problems.specs.Instances.{architecture}
-use Rattle.vhdl_names_problems.specs.Places.{association_place}
+use Rattle.vhdl_names_rules.specs.problems.Broken.{Broken, ◌▸◌, unless, lacking, where_given}
+use Rattle.vhdl_names_rules.specs.problems.Instances.{architecture}
+use Rattle.vhdl_names_rules.specs.problems.Places.{association_place}
 use Rattle.vhdl_names_instances.specs.Table.{Seen}
 use Rattle.vhdl_names_instances.specs.steps.Associations.{formal_at}
 

@@ -3,10 +3,10 @@
 ghost use Rattle.std.specs.Prelude.{◌≡◌, true, IfErr, map, option_map, slice_get};
 ghost use Rattle.vhdl_names_instances.specs.Views.{actual_view, places_view, statics_view};
 ghost use Rattle.vhdl_names_instances.specs.steps.Actuals as steps;
-ghost use Rattle.vhdl_names_problems.specs.Broken.{Tells, ◌▸◌, of_any, refused};
-ghost use Rattle.vhdl_names_problems.specs.Expressions.{no_attribute, static as broken_static};
-ghost use Rattle.vhdl_names_problems.specs.Instances as broken;
-ghost use Rattle.vhdl_names_problems.specs.Statements.{named};
+ghost use Rattle.vhdl_names_rules.specs.problems.Broken.{Tells, ◌▸◌, of_any, refused};
+ghost use Rattle.vhdl_names_rules.specs.problems.Expressions.{no_attribute, static as broken_static};
+ghost use Rattle.vhdl_names_rules.specs.problems.Instances as broken;
+ghost use Rattle.vhdl_names_rules.specs.problems.Statements.{named};
 ghost use Rattle.vhdl_names_rules.specs.Expressions.{static as static_of};
 ghost use Rattle.vhdl_names_rules.specs.Gives.{Gives};
 ghost use Rattle.vhdl_names_rules.specs.Instances as rules;

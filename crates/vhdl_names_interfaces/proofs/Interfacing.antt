@@ -14,12 +14,12 @@ use Rattle.vhdl_names_rules.specs.Visibility.{Name, ends}
 use Rattle.vhdl_names_rules.specs.Packages.{Context, no_context, context, sight_of}
 use Rattle.vhdl_names_rules.specs.Interfaces.{Interface, EntityView, declared_names, interface, entity}
 use Rattle.vhdl_names_rules.proofs.laws.Rules.{some_is, comes, kept}
-use Rattle.vhdl_names_problems.specs.Broken.{Broken, Tells, nothing, ◌▸◌, where_given}
-use Rattle.vhdl_names_problems.specs.Declarations as broken
-use Rattle.vhdl_names_problems.specs.Interfaces as interfaces_broken
-use Rattle.vhdl_names_problems.proofs.Telling.{told_left, told_right, told_given, given_kept}
-use Rattle.vhdl_names_problems.proofs.kept.Declarations.{context_kept}
-use Rattle.vhdl_names_problems.proofs.kept.Interfaces.{generics_kept, interface_kept}
+use Rattle.vhdl_names_rules.specs.problems.Broken.{Broken, Tells, nothing, ◌▸◌, where_given}
+use Rattle.vhdl_names_rules.specs.problems.Declarations as broken
+use Rattle.vhdl_names_rules.specs.problems.Interfaces as interfaces_broken
+use Rattle.vhdl_names_rules.proofs.Telling.{told_left, told_right, told_given, given_kept}
+use Rattle.vhdl_names_rules.proofs.kept.Declarations.{context_kept}
+use Rattle.vhdl_names_rules.proofs.kept.Interfaces.{generics_kept, interface_kept}
 use Rattle.vhdl_names_declarations.specs.Entered.{entering, entered}
 use Rattle.vhdl_names_declarations.proofs.Orders.{first_is}
 use Rattle.vhdl_names_declarations.proofs.Regions.{names-append, still_twice}

@@ -7,8 +7,8 @@ ghost use Rattle.vhdl_names_interfaces.specs.Views.{entity_view, sight_behind};
 ghost use Rattle.vhdl_names_rules.specs.Gives.{Gives};
 ghost use Rattle.vhdl_tree.specs.View as view;
 ghost use Rattle.vhdl_names_types.specs.Views.{meaning_view, region_view, sight_view};
-ghost use Rattle.vhdl_names_problems.specs.Broken.{Tells, nothing};
-ghost use Rattle.vhdl_names_problems.specs.Declarations as broken;
+ghost use Rattle.vhdl_names_rules.specs.problems.Broken.{Tells, nothing};
+ghost use Rattle.vhdl_names_rules.specs.problems.Declarations as broken;
 
 use crate::interface::EntityInterface;
 use indexmap::IndexMap;

@@ -4,7 +4,7 @@ ghost use Rattle.std.specs.Prelude.{◌≡◌, ◌≢◌, ◌++◌, ◌∷◌, [
 ghost use Rattle.vhdl_names_interfaces.specs.Views.{entity_view, entities_view, named_view, one_more};
 ghost use Rattle.vhdl_names_rules.specs.Gives.{Gives};
 ghost use Rattle.vhdl_names_rules.specs.Interfaces as rules;
-ghost use Rattle.vhdl_names_problems.specs.Broken.{Tells, refused};
+ghost use Rattle.vhdl_names_rules.specs.problems.Broken.{Tells, refused};
 ghost use Rattle.vhdl_names_rules.specs.declared.fault.NameFault.TheVariants.{NoMemory};
 ghost use Rattle.vhdl_names_rules.specs.declared.fault.NameProblem.TheVariants.{Undeclared, Twice};
 

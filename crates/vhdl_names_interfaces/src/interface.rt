@@ -12,8 +12,8 @@ ghost use Rattle.vhdl_names_rules.specs.Visibility.{with_declared};
 ghost use Rattle.vhdl_tree.specs.View as view;
 ghost use Rattle.vhdl_names_types.specs.Views.{sight_view, region_view};
 ghost use Rattle.vhdl_names_units.specs.views.Declarations.{all_generics_view, all_ports_view};
-ghost use Rattle.vhdl_names_problems.specs.Broken.{Tells};
-ghost use Rattle.vhdl_names_problems.specs.Interfaces as broken;
+ghost use Rattle.vhdl_names_rules.specs.problems.Broken.{Tells};
+ghost use Rattle.vhdl_names_rules.specs.problems.Interfaces as broken;
 
 use indexmap::IndexMap;
 use std::alloc::Global;

@@ -1,8 +1,8 @@
 -- Of things one behind another, what is left behind those that went well.
 use Rattle.std.proofs.Common.{◌≡◌, ℕ, suc, ◌+◌, ◌<◌, arith, List, ◌∷◌, map, length, get_or, drop, drop-cons, ap, sym, ◌∙◌}
 use Rattle.vhdl_names_rules.specs.declared.fault.NameFault.{NameFault}
-use Rattle.vhdl_names_problems.specs.Broken.{Broken, Tells, ◌▸◌, any_of}
-use Rattle.vhdl_names_problems.proofs.Telling.{IsKept, behind_kept, told_same, told_left}
+use Rattle.vhdl_names_rules.specs.problems.Broken.{Broken, Tells, ◌▸◌, any_of}
+use Rattle.vhdl_names_rules.proofs.Telling.{IsKept, behind_kept, told_same, told_left}
 
 -- the next thing, and what is left behind it
 pub next : {A : Type 0} (xs : List A) (i : ℕ) (x : A) → i < length xs → x ≡ get_or xs i x → drop i xs ≡ x ∷ drop (i + 1) xs

@@ -2,8 +2,8 @@
 use Rattle.std.proofs.Common.{◌≡◌, arith, Bool, true, false, Some, if◌then◌else◌, nat_le, nat_lt, Result, Ok, Err, IfOk, IfErr, refl, ap, sym, subst, ◌∙◌, ltb-true, ltb-false, leb-true, leb-false}
 use Rattle.vhdl_names_rules.specs.declared.fault.NameFault.{NameFault}
 use Rattle.vhdl_names_rules.specs.declared.fault.NameFault.TheVariants.{At, NoMemory}
-use Rattle.vhdl_names_problems.specs.Broken as broken
-use Rattle.vhdl_names_problems.specs.Broken.{Broken, Tells, nothing}
+use Rattle.vhdl_names_rules.specs.problems.Broken as broken
+use Rattle.vhdl_names_rules.specs.problems.Broken.{Broken, Tells, nothing}
 use Rattle.vhdl_names_labels.specs.Faults.{earlier}
 
 pub told_earlier : (a b : Broken) (f g : NameFault) → Tells a f → Tells b g → Tells (broken.earlier a b) (earlier f g)

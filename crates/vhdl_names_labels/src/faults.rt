@@ -2,8 +2,8 @@
 
 ghost use Rattle.std.specs.Prelude.{◌≡◌, ◌≢◌, IfErr, IfOk};
 ghost use Rattle.vhdl_names_labels.specs.Faults as rules;
-ghost use Rattle.vhdl_names_problems.specs.Broken as broken;
-ghost use Rattle.vhdl_names_problems.specs.Broken.{Broken, Tells, nothing};
+ghost use Rattle.vhdl_names_rules.specs.problems.Broken as broken;
+ghost use Rattle.vhdl_names_rules.specs.problems.Broken.{Broken, Tells, nothing};
 ghost use Rattle.vhdl_names_rules.specs.declared.fault.NameFault.TheVariants.{NoMemory};
 
 use vhdl_names_rules::NameFault;

@@ -1,9 +1,9 @@
 //! Labels and end names (IEEE 1076-2008, 10.1, 11.1).
 
 ghost use Rattle.std.specs.Prelude.{◌≡◌, IfErr, IfOk, bytes_eq, option_map};
-ghost use Rattle.vhdl_names_problems.specs.Broken.{Tells};
-ghost use Rattle.vhdl_names_problems.specs.Declarations.{end_name};
-ghost use Rattle.vhdl_names_problems.specs.Statements.{end_label};
+ghost use Rattle.vhdl_names_rules.specs.problems.Broken.{Tells};
+ghost use Rattle.vhdl_names_rules.specs.problems.Declarations.{end_name};
+ghost use Rattle.vhdl_names_rules.specs.problems.Statements.{end_label};
 ghost use Rattle.vhdl_names_rules.specs.declared.fault.NameProblem.TheVariants.{WrongKind};
 ghost use Rattle.vhdl_names_rules.specs.Rules.{rule};
 ghost use Rattle.vhdl_names_rules.specs.Visibility as visibility;

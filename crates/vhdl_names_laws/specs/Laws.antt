@@ -22,8 +22,8 @@ use Rattle.vhdl_names_rules.specs.sound.Units.{are_sound}
 use Rattle.vhdl_names_rules.specs.Files.{units_of}
 use Rattle.vhdl_names_rules.specs.Interfaces.{EntityView, component}
 use Rattle.vhdl_names_rules.specs.sound.Named.{are_named}
-use Rattle.vhdl_names_problems.specs.Broken.{nothing}
-use Rattle.vhdl_names_problems.specs.Files as broken
+use Rattle.vhdl_names_rules.specs.problems.Broken.{nothing}
+use Rattle.vhdl_names_rules.specs.problems.Files as broken
 use Rattle.vhdl_names_laws.specs.Words.{small, HasWords}
 use Rattle.vhdl_names_laws.specs.Texts.{IsTextOfEntity}
 use Rattle.vhdl_names_laws.specs.Placed.{bytes_of}

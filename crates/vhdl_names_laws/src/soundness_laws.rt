@@ -43,12 +43,12 @@ pub fn components_are_texts()
     ensures { ComponentsAreTexts }
 {}
 
-/// A well-typed file breaks no rule of `vhdl_names_problems`: none of them asks for more than the language does.
+/// A well-typed file breaks no rule of `vhdl_names_rules`: none of them asks for more than the language does.
 pub fn well_typed_files_break_no_rule()
     ensures { WellTypedFilesBreakNoRule }
 {}
 
-/// A file that isn't well typed breaks a rule of `vhdl_names_problems`: no rule of the language is left out there, and the first has a problem and
+/// A file that isn't well typed breaks a rule of `vhdl_names_rules`: no rule of the language is left out there, and the first has a problem and
 /// a byte.
 pub fn ill_typed_files_break_a_rule()
     ensures { IllTypedFilesBreakARule }

@@ -19,3 +19,4 @@ pub mod Concurrent
 pub mod Files
 pub mod sound
 pub mod laws
+pub mod problems

@@ -1,9 +1,9 @@
 //! How concurrent assignments are analysed (IEEE 1076-2008, 11.6).
 
 ghost use Rattle.std.specs.Prelude.{◌≡◌, ◌∷◌, [], map, option_map, IfErr, IfOk};
-ghost use Rattle.vhdl_names_problems.specs.Broken.{Tells, any_of, of_any};
-ghost use Rattle.vhdl_names_problems.specs.Concurrent as problems;
-ghost use Rattle.vhdl_names_problems.specs.Statements as broken;
+ghost use Rattle.vhdl_names_rules.specs.problems.Broken.{Tells, any_of, of_any};
+ghost use Rattle.vhdl_names_rules.specs.problems.Concurrent as problems;
+ghost use Rattle.vhdl_names_rules.specs.problems.Statements as broken;
 ghost use Rattle.vhdl_names_rules.specs.Concurrent as rules;
 ghost use Rattle.vhdl_names_rules.specs.Rules.{each, if_any};
 ghost use Rattle.vhdl_names_rules.specs.Gives.{Gives};

@@ -3,9 +3,9 @@
 ghost use Rattle.std.specs.Prelude.{◌≡◌, ◌||◌, ◌∷◌, [], List, map, Option, IfErr, IfOk};
 ghost use Rattle.std.specs.List.{list_all, range_with_len};
 ghost use Rattle.vhdl_names_rules.specs.Choices as rules;
-ghost use Rattle.vhdl_names_problems.specs.Broken.{Broken, Tells, nothing, refused, unless};
-ghost use Rattle.vhdl_names_problems.specs.Covered as broken;
-ghost use Rattle.vhdl_names_problems.specs.Places.{choice_place};
+ghost use Rattle.vhdl_names_rules.specs.problems.Broken.{Broken, Tells, nothing, refused, unless};
+ghost use Rattle.vhdl_names_rules.specs.problems.Covered as broken;
+ghost use Rattle.vhdl_names_rules.specs.problems.Places.{choice_place};
 ghost use Rattle.vhdl_names_rules.specs.declared.fault.NameProblem.TheVariants.{ChoiceTwice, NoOthers, WrongKind};
 ghost use Rattle.vhdl_names_rules.specs.Rules.{rule};
 ghost use Rattle.vhdl_names_rules.specs.Visibility.{is_among};

@@ -1,8 +1,8 @@
 //! How sequential statements are analysed (IEEE 1076-2008, clause 10).
 
 ghost use Rattle.std.specs.Prelude.{◌≡◌, map, option_map, IfErr, OnErr, Some};
-ghost use Rattle.vhdl_names_problems.specs.Broken.{Tells, nothing};
-ghost use Rattle.vhdl_names_problems.specs.Statements as broken;
+ghost use Rattle.vhdl_names_rules.specs.problems.Broken.{Tells, nothing};
+ghost use Rattle.vhdl_names_rules.specs.problems.Statements as broken;
 ghost use Rattle.vhdl_names_rules.specs.Rules.{each, if_any};
 ghost use Rattle.vhdl_names_rules.specs.Statements as rules;
 ghost use Rattle.vhdl_names_rules.specs.Visibility as visibility;

@@ -21,7 +21,7 @@ use Rattle.vhdl_names_rules.specs.declared.kind.Function.{Function}
 use Rattle.vhdl_names_rules.specs.declared.kind.Function.TheVariants.{EdgeCall, ByCount, ToUnsigned}
 use Rattle.vhdl_names_rules.specs.declared.fault.NameProblem.TheVariants.{TypeMismatch}
 use Rattle.vhdl_names_rules.specs.Visibility as visibility
-use Rattle.vhdl_names_problems.specs.Operators.{edge_problem, name_problem}
+use Rattle.vhdl_names_rules.specs.problems.Operators.{edge_problem, name_problem}
 use Rattle.vhdl_names_rules.specs.Names as rules
 use Rattle.vhdl_names_rules.specs.Names.{arguments}
 use Rattle.vhdl_names_rules.specs.Operators as o

@@ -4,7 +4,7 @@ use Rattle.std.specs.Prelude.{IsErrAnd}
 use Rattle.vhdl_names_rules.specs.Gives.{Gives}
 use Rattle.vhdl_names_rules.specs.declared.fault.NameFault.{NameFault}
 use Rattle.vhdl_names_rules.specs.declared.fault.NameFault.TheVariants.{NoMemory}
-use Rattle.vhdl_names_problems.specs.Broken.{Broken, Tells}
+use Rattle.vhdl_names_rules.specs.problems.Broken.{Broken, Tells}
 
 pub memory_gives : {X Y : Type 0} (view : X → Y) (given : Option Y) (P : NameFault → Type 0) (r : Result X NameFault) → IsErrAnd r P
     → ((e : NameFault) → P e → e ≡ NoMemory) → Gives view given r

@@ -3,8 +3,8 @@ use Rattle.std.proofs.Common.{ℕ, Option, Result, Ok, Err, IfErr}
 use Rattle.vhdl_names_rules.specs.declared.fault.NameFault.{NameFault}
 use Rattle.vhdl_names_rules.specs.declared.fault.NameProblem.{NameProblem}
 use Rattle.vhdl_names_rules.specs.Gives.{Gives}
-use Rattle.vhdl_names_problems.specs.Broken.{Tells, refused, lacking}
-use Rattle.vhdl_names_problems.proofs.Telling.{told_lacking}
+use Rattle.vhdl_names_rules.specs.problems.Broken.{Tells, refused, lacking}
+use Rattle.vhdl_names_rules.proofs.Telling.{told_lacking}
 
 -- the one problem of what is given or not
 pub told_of : {X Y : Type 0} (view : X → Y) (p : NameProblem) (at : ℕ) (o : Option Y) (r : Result X NameFault) →

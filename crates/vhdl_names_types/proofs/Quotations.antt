@@ -14,9 +14,9 @@ use Rattle.vhdl_names_rules.specs.Gives.{Gives}
 use Rattle.vhdl_names_rules.specs.declared.fault.NameFault.{NameFault}
 use Rattle.vhdl_names_rules.specs.declared.fault.NameFault.TheVariants.{At, NoMemory}
 use Rattle.vhdl_names_rules.specs.declared.fault.NameProblem.TheVariants.{TypeMismatch, LeftOut}
-use Rattle.vhdl_names_problems.specs.Broken.{Tells, refused, lacking}
-use Rattle.vhdl_names_problems.specs.Operators.{characters_problem, string_problem}
-use Rattle.vhdl_names_problems.proofs.Telling.{at_is_told, told_lacking}
+use Rattle.vhdl_names_rules.specs.problems.Broken.{Tells, refused, lacking}
+use Rattle.vhdl_names_rules.specs.problems.Operators.{characters_problem, string_problem}
+use Rattle.vhdl_names_rules.proofs.Telling.{at_is_told, told_lacking}
 
 found : (b : Bool) (n i : ℕ) → cond b (Some n) None ≡ Some i → n ≡ i
 found true n i e = cc

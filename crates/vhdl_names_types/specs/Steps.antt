@@ -16,7 +16,7 @@ use Rattle.vhdl_names_rules.specs.Names.{edge_signal}
 use Rattle.vhdl_names_rules.specs.Operators.{Typed, integer, elements, truth}
 use Rattle.vhdl_names_rules.specs.declared.fault.NameProblem.{NameProblem}
 use Rattle.vhdl_names_rules.specs.declared.fault.NameProblem.TheVariants.{TypeMismatch}
-use Rattle.vhdl_names_problems.specs.Operators.{edge_problem}
+use Rattle.vhdl_names_rules.specs.problems.Operators.{edge_problem}
 use Rattle.vhdl_names_rules.specs.units.Expressions.{Static, Part, Vector, Value, Test}
 use Rattle.vhdl_names_types.specs.declared.literals.Base.{Base}
 use Rattle.vhdl_names_types.specs.declared.literals.Base.TheVariants as b

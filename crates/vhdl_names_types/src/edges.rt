@@ -1,7 +1,7 @@
 //! Edges of signals: rising_edge, falling_edge and 'event (IEEE 1076-2008, 16.2.4; IEEE 1164), of a signal's static name (8.1).
 
-ghost use Rattle.vhdl_names_problems.specs.Broken.{Tells, refused, lacking};
-ghost use Rattle.vhdl_names_problems.specs.Operators.{edge_problem as problem_of, name_problem};
+ghost use Rattle.vhdl_names_rules.specs.problems.Broken.{Tells, refused, lacking};
+ghost use Rattle.vhdl_names_rules.specs.problems.Operators.{edge_problem as problem_of, name_problem};
 ghost use Rattle.std.specs.Prelude.{◌≡◌, true, false, None, option_map, IfOk, IfErr, OnErr};
 ghost use Rattle.std.specs.List.{list_all};
 ghost use Rattle.vhdl_names_rules.specs.Gives.{Gives};

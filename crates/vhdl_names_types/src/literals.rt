@@ -1,8 +1,8 @@
 //! The values of string and bit string literals (IEEE 1076-2008, 15.7, 15.8). They take the memory
 //! of a list.
 
-ghost use Rattle.vhdl_names_problems.specs.Broken.{Tells, nothing, refused, lacking};
-ghost use Rattle.vhdl_names_problems.specs.Operators.{characters_problem, string_problem};
+ghost use Rattle.vhdl_names_rules.specs.problems.Broken.{Tells, nothing, refused, lacking};
+ghost use Rattle.vhdl_names_rules.specs.problems.Operators.{characters_problem, string_problem};
 ghost use Rattle.vhdl_names_rules.specs.declared.fault.NameProblem.TheVariants.{LeftOut};
 ghost use Rattle.std.specs.Prelude.{◌≡◌, ◌==◌, ◌++◌, ◌<◌, not, length, position, filter, flat_map, Some, IfOk, IfSome, option_map, IfErr};
 ghost use Rattle.vhdl_lexer.specs.Bytes.{quote, underscore};

@@ -1,9 +1,9 @@
 //! What names in expressions are (IEEE 1076-2008, clause 8): objects with their indexed and slice
 //! names, conversions and calls of the packages' functions (9.3.4, 9.3.6), and 'event (16.2.4).
 
-ghost use Rattle.vhdl_names_problems.specs.Broken.{Tells, refused, lacking};
-ghost use Rattle.vhdl_names_problems.specs.Expressions as broken;
-ghost use Rattle.vhdl_names_problems.specs.Operators.{name_problem};
+ghost use Rattle.vhdl_names_rules.specs.problems.Broken.{Tells, refused, lacking};
+ghost use Rattle.vhdl_names_rules.specs.problems.Expressions as broken;
+ghost use Rattle.vhdl_names_rules.specs.problems.Operators.{name_problem};
 ghost use Rattle.vhdl_names_rules.specs.declared.fault.NameProblem.TheVariants.{TypeMismatch};
 ghost use Rattle.std.specs.Prelude.{◌≡◌, option_map, IfErr};
 ghost use Rattle.vhdl_names_rules.specs.Gives.{Gives};
@@ -261,7 +261,7 @@ pub fn denoted(
 }
 
 /// The attribute of a name at byte `at`, if it has one: 'event.
-#[tactic(auto, using(vhdl_names_problems::proofs::Telling::told_left, vhdl_names_problems::proofs::Telling::told_right))]
+#[tactic(auto, using(vhdl_names_rules::proofs::Telling::told_left, vhdl_names_rules::proofs::Telling::told_right))]
 pub fn attributed(
     attribute: &Option<Identifier>,
     operand: Typed,

@@ -1,7 +1,7 @@
 //! Operands: literals (IEEE 1076-2008, 9.3.2), and what stands behind a sign or in parentheses.
 
-ghost use Rattle.vhdl_names_problems.specs.Broken.{Tells, lacking};
-ghost use Rattle.vhdl_names_problems.specs.Operators.{string_problem};
+ghost use Rattle.vhdl_names_rules.specs.problems.Broken.{Tells, lacking};
+ghost use Rattle.vhdl_names_rules.specs.problems.Operators.{string_problem};
 ghost use Rattle.vhdl_names_rules.specs.declared.fault.NameProblem.TheVariants.{TypeMismatch, LeftOut};
 ghost use Rattle.std.specs.Prelude.{◌≡◌, option_map, IfErr};
 ghost use Rattle.vhdl_names_rules.specs.Expressions as rules;

@@ -1,8 +1,8 @@
 //! Operators on typed operands (IEEE 1076-2008, 9.2; numeric_std for unsigned, 16.8). Each takes the
 //! memory of a list or a box.
 
-ghost use Rattle.vhdl_names_problems.specs.Broken.{Tells, refused, lacking};
-ghost use Rattle.vhdl_names_problems.specs.Operators.{is_numeric, is_unordered, arithmetic_problem, order_problem, operator_problem};
+ghost use Rattle.vhdl_names_rules.specs.problems.Broken.{Tells, refused, lacking};
+ghost use Rattle.vhdl_names_rules.specs.problems.Operators.{is_numeric, is_unordered, arithmetic_problem, order_problem, operator_problem};
 ghost use Rattle.vhdl_names_rules.specs.declared.fault.NameProblem.TheVariants.{TypeMismatch, LeftOut, NotVisible};
 ghost use Rattle.std.specs.Prelude.{◌≡◌, ◌&&◌, ◌||◌, if◌then◌else◌, true, false, IfOk, OnErr, IfErr};
 ghost use Rattle.vhdl_names_rules.specs.Gives.{Gives};

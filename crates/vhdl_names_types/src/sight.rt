@@ -6,9 +6,9 @@ ghost use Rattle.vhdl_names_rules.specs.Visibility as visibility;
 ghost use Rattle.vhdl_names_types.specs.Views.{meaning_view, declared_view, sight_view};
 ghost use Rattle.vhdl_names_rules.specs.Gives.{Gives};
 ghost use Rattle.vhdl_names_rules.specs.declared.fault.NameFault.TheVariants.{At};
-ghost use Rattle.vhdl_names_problems.specs.Broken.{Tells};
-ghost use Rattle.vhdl_names_problems.specs.Expressions as broken;
-ghost use Rattle.vhdl_names_problems.specs.Missing.{is_named, offered, left_out, problem_of};
+ghost use Rattle.vhdl_names_rules.specs.problems.Broken.{Tells};
+ghost use Rattle.vhdl_names_rules.specs.problems.Expressions as broken;
+ghost use Rattle.vhdl_names_rules.specs.problems.Missing.{is_named, offered, left_out, problem_of};
 ghost use Rattle.vhdl_names_types.specs.Sights.{found};
 ghost use Rattle.vhdl_tree.specs.View.{ident_view};
 

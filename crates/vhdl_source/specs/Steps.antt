@@ -5,7 +5,7 @@ use Rattle.vhdl_elab_rules.specs.Elaboration.{Elaborated, elaborated_net}
 use Rattle.vhdl_elab_laws.specs.Refused.{MayRefuse}
 use Rattle.vhdl_expand_rules.specs.declared.fault.ElabFault.{ElabFault}
 use Rattle.vhdl_expand_rules.specs.declared.fault.ElabFault.TheVariants as elab
-use Rattle.vhdl_names_problems.specs.Files as breaks
+use Rattle.vhdl_names_rules.specs.problems.Files as breaks
 use Rattle.vhdl_names_rules.specs.Files as rules
 use Rattle.vhdl_names_rules.specs.declared.fault.NameFault.TheVariants as names
 use Rattle.vhdl_names_rules.specs.units.Units as u

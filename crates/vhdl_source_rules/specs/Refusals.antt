@@ -5,7 +5,7 @@ use Rattle.vhdl_expand_rules.specs.declared.fault.ElabFault.TheVariants as elab
 use Rattle.vhdl_expand_rules.specs.declared.fault.ElabProblem.{ElabProblem}
 use Rattle.vhdl_lexer.specs.Fault.{HasFault}
 use Rattle.vhdl_lexer.specs.declared.fault.LexFault.TheVariants as lex
-use Rattle.vhdl_names_problems.specs.Files as breaks
+use Rattle.vhdl_names_rules.specs.problems.Files as breaks
 use Rattle.vhdl_names_rules.specs.Files.{units_of}
 use Rattle.vhdl_names_rules.specs.declared.fault.NameFault.TheVariants as names
 use Rattle.vhdl_names_rules.specs.declared.fault.NameProblem.{NameProblem}

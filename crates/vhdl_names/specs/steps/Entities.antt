@@ -4,7 +4,7 @@ use Rattle.vhdl_tree.specs.Tree as t
 use Rattle.vhdl_tree.specs.Tree.{ContextItem, DesignUnit, LibraryUnit}
 use Rattle.vhdl_names_rules.specs.Rules.{◌>>=◌}
 use Rattle.vhdl_names_rules.specs.Interfaces.{EntityView, entity}
-use Rattle.vhdl_names_problems.specs.Files.{with_entities}
+use Rattle.vhdl_names_rules.specs.problems.Files.{with_entities}
 use Rattle.vhdl_names.specs.Views.{Keyed}
 use Rattle.vhdl_names.specs.steps.Outlines.{described_of}
 

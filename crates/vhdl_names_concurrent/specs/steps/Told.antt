@@ -5,11 +5,11 @@ use Rattle.vhdl_tree.specs.Tree.{Ident}
 use Rattle.vhdl_names_rules.specs.Visibility.{Sight}
 use Rattle.vhdl_names_rules.specs.Interfaces.{EntityView}
 use Rattle.vhdl_names_rules.specs.Concurrent.{sight_within}
-use Rattle.vhdl_names_problems.specs.Broken.{Broken, ◌▸◌, earlier}
-use Rattle.vhdl_names_problems.specs.Twice.{twice}
-use Rattle.vhdl_names_problems.specs.Labels.{labels_of}
-use Rattle.vhdl_names_problems.specs.Declarations.{end_name}
-use Rattle.vhdl_names_problems.specs.Concurrent.{scheme, concurrents}
+use Rattle.vhdl_names_rules.specs.problems.Broken.{Broken, ◌▸◌, earlier}
+use Rattle.vhdl_names_rules.specs.problems.Twice.{twice}
+use Rattle.vhdl_names_rules.specs.problems.Labels.{labels_of}
+use Rattle.vhdl_names_rules.specs.problems.Declarations.{end_name}
+use Rattle.vhdl_names_rules.specs.problems.Concurrent.{scheme, concurrents}
 
 -- the statements directly in a generate, among which their labels stand
 abbrev pub labelled : List EntityView → Sight → List t.Concurrent → Broken

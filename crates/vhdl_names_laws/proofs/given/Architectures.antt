@@ -11,17 +11,17 @@ use Rattle.vhdl_names_rules.specs.Concurrent as concurrent
 use Rattle.vhdl_names_rules.specs.Concurrent.{concurrent_labels}
 use Rattle.vhdl_names_rules.specs.Files as are
 use Rattle.vhdl_names_rules.specs.Files.{labelled}
-use Rattle.vhdl_names_problems.specs.Broken.{Broken}
-use Rattle.vhdl_names_problems.specs.Labels.{labels_of}
-use Rattle.vhdl_names_problems.specs.Declarations.{standing_twice}
-use Rattle.vhdl_names_problems.specs.Concurrent.{concurrents}
-use Rattle.vhdl_names_problems.specs.Files as broken
-use Rattle.vhdl_names_problems.specs.Files.{with_labels}
-use Rattle.vhdl_names_problems.proofs.Telling.{IsKept}
-use Rattle.vhdl_names_problems.proofs.kept.Keeping.{among_left, among_right}
-use Rattle.vhdl_names_problems.proofs.kept.Twice.{once_distinct}
-use Rattle.vhdl_names_problems.proofs.kept.Labels.{labels_named}
-use Rattle.vhdl_names_problems.proofs.kept.Architectures.{region_names, region_is}
+use Rattle.vhdl_names_rules.specs.problems.Broken.{Broken}
+use Rattle.vhdl_names_rules.specs.problems.Labels.{labels_of}
+use Rattle.vhdl_names_rules.specs.problems.Declarations.{standing_twice}
+use Rattle.vhdl_names_rules.specs.problems.Concurrent.{concurrents}
+use Rattle.vhdl_names_rules.specs.problems.Files as broken
+use Rattle.vhdl_names_rules.specs.problems.Files.{with_labels}
+use Rattle.vhdl_names_rules.proofs.Telling.{IsKept}
+use Rattle.vhdl_names_rules.proofs.kept.Keeping.{among_left, among_right}
+use Rattle.vhdl_names_rules.proofs.kept.Twice.{once_distinct}
+use Rattle.vhdl_names_rules.proofs.kept.Labels.{labels_named}
+use Rattle.vhdl_names_rules.proofs.kept.Architectures.{region_names, region_is}
 use Rattle.vhdl_names_laws.proofs.given.Giving.{IsGiven, this, bound, ruled, parts, of_given}
 use Rattle.vhdl_names_laws.proofs.given.Declarations.{IsApart, context_given, in_region_given, signals_given, constants_given, enumeration_given, end_name_given}
 use Rattle.vhdl_names_laws.proofs.given.Interfaces.{component_given}

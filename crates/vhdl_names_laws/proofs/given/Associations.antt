@@ -12,13 +12,13 @@ use Rattle.vhdl_names_rules.specs.Rules.{◌>>=◌}
 use Rattle.vhdl_names_rules.specs.Visibility.{Name, is_among, are_distinct}
 use Rattle.vhdl_names_rules.specs.Instances as are
 use Rattle.vhdl_names_rules.specs.Instances.{is_named, positional_first, formal_of, formals_of, expression_of, actual_of}
-use Rattle.vhdl_names_problems.specs.Broken.{Broken, ◌▸◌, unless, of_any}
-use Rattle.vhdl_names_problems.specs.Places.{association_place}
-use Rattle.vhdl_names_problems.specs.Instances as broken
+use Rattle.vhdl_names_rules.specs.problems.Broken.{Broken, ◌▸◌, unless, of_any}
+use Rattle.vhdl_names_rules.specs.problems.Places.{association_place}
+use Rattle.vhdl_names_rules.specs.problems.Instances as broken
 use Rattle.vhdl_names_rules.proofs.laws.Rules.{some_is, not_true}
-use Rattle.vhdl_names_problems.proofs.Telling.{IsKept}
-use Rattle.vhdl_names_problems.proofs.kept.Twice.{distinct_next}
-use Rattle.vhdl_names_problems.proofs.kept.Associations.{AreKept, are_placed}
+use Rattle.vhdl_names_rules.proofs.Telling.{IsKept}
+use Rattle.vhdl_names_rules.proofs.kept.Twice.{distinct_next}
+use Rattle.vhdl_names_rules.proofs.kept.Associations.{AreKept, are_placed}
 use Rattle.vhdl_names_laws.proofs.given.Giving.{bound_is, ruled_is, parts, holds, given, of_given}
 
 -- ---- positional associations come first

@@ -19,19 +19,19 @@ use Rattle.vhdl_names_rules.specs.Subtypes.{literal_values}
 use Rattle.vhdl_names_rules.specs.Expressions.{typed}
 use Rattle.vhdl_names_rules.specs.Choices as are
 use Rattle.vhdl_names_rules.specs.Choices.{literal_choice, named_choice, same_choice, are_distinct_choices, is_others, is_last_others, only_last_others, names_all, selector, arranged}
-use Rattle.vhdl_names_problems.specs.Broken.{Broken, unless, lacking, where_given}
-use Rattle.vhdl_names_problems.specs.Places.{start, choice_place}
-use Rattle.vhdl_names_problems.specs.Subtypes.{literal}
-use Rattle.vhdl_names_problems.specs.Choices as broken
-use Rattle.vhdl_names_problems.specs.Choices.{choice_problem}
-use Rattle.vhdl_names_problems.specs.Covered as covering
-use Rattle.vhdl_names_problems.specs.Covered.{stands, each_once, is_empty, alternative_in_place, in_place, any_alternative}
-use Rattle.vhdl_names_problems.specs.Statements.{by_selector}
+use Rattle.vhdl_names_rules.specs.problems.Broken.{Broken, unless, lacking, where_given}
+use Rattle.vhdl_names_rules.specs.problems.Places.{start, choice_place}
+use Rattle.vhdl_names_rules.specs.problems.Subtypes.{literal}
+use Rattle.vhdl_names_rules.specs.problems.Choices as broken
+use Rattle.vhdl_names_rules.specs.problems.Choices.{choice_problem}
+use Rattle.vhdl_names_rules.specs.problems.Covered as covering
+use Rattle.vhdl_names_rules.specs.problems.Covered.{stands, each_once, is_empty, alternative_in_place, in_place, any_alternative}
+use Rattle.vhdl_names_rules.specs.problems.Statements.{by_selector}
 use Rattle.vhdl_names_rules.proofs.laws.Rules.{comes, both, neither, some_is, not_true}
-use Rattle.vhdl_names_problems.proofs.Telling.{IsKept}
-use Rattle.vhdl_names_problems.proofs.kept.Keeping.{among_left, among_right}
-use Rattle.vhdl_names_problems.proofs.kept.Covered as kept_choices
-use Rattle.vhdl_names_problems.proofs.kept.Covered.{choice_sym, given_next}
+use Rattle.vhdl_names_rules.proofs.Telling.{IsKept}
+use Rattle.vhdl_names_rules.proofs.kept.Keeping.{among_left, among_right}
+use Rattle.vhdl_names_rules.proofs.kept.Covered as kept_choices
+use Rattle.vhdl_names_rules.proofs.kept.Covered.{choice_sym, given_next}
 use Rattle.vhdl_names_laws.proofs.given.Giving.{IsGiven, this, bound, bound_is, ruled_is, mapped_given, parts, holds, given, of_given, each_given}
 use Rattle.vhdl_names_laws.proofs.given.Expressions.{meaning_given, typed_given}
 use Rattle.vhdl_names_laws.proofs.given.Values.{values_given, no_state}

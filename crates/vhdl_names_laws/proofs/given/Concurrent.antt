@@ -17,16 +17,16 @@ use Rattle.vhdl_names_rules.specs.Instances.{instance}
 use Rattle.vhdl_names_rules.specs.Statements.{SignalName, signal, target, statements, statement_labels}
 use Rattle.vhdl_names_rules.specs.Concurrent as are
 use Rattle.vhdl_names_rules.specs.Concurrent.{alone, assigning, sight_within, concurrent_labels}
-use Rattle.vhdl_names_problems.specs.Broken.{any_of, of_any}
-use Rattle.vhdl_names_problems.specs.Twice.{twice}
-use Rattle.vhdl_names_problems.specs.Labels as labels
-use Rattle.vhdl_names_problems.specs.Expressions as expressions
-use Rattle.vhdl_names_problems.specs.Statements as sequential
-use Rattle.vhdl_names_problems.specs.Concurrent as broken
-use Rattle.vhdl_names_problems.proofs.Telling.{IsKept}
-use Rattle.vhdl_names_problems.proofs.kept.Keeping.{among_left, among_right}
-use Rattle.vhdl_names_problems.proofs.kept.Twice.{once_distinct}
-use Rattle.vhdl_names_problems.proofs.kept.Labels.{labels_named, statements_named}
+use Rattle.vhdl_names_rules.specs.problems.Broken.{any_of, of_any}
+use Rattle.vhdl_names_rules.specs.problems.Twice.{twice}
+use Rattle.vhdl_names_rules.specs.problems.Labels as labels
+use Rattle.vhdl_names_rules.specs.problems.Expressions as expressions
+use Rattle.vhdl_names_rules.specs.problems.Statements as sequential
+use Rattle.vhdl_names_rules.specs.problems.Concurrent as broken
+use Rattle.vhdl_names_rules.proofs.Telling.{IsKept}
+use Rattle.vhdl_names_rules.proofs.kept.Keeping.{among_left, among_right}
+use Rattle.vhdl_names_rules.proofs.kept.Twice.{once_distinct}
+use Rattle.vhdl_names_rules.proofs.kept.Labels.{labels_named, statements_named}
 use Rattle.vhdl_names_laws.proofs.given.Giving.{IsGiven, this, bound, ruled, mapped_given, parts, of_given, each_given}
 use Rattle.vhdl_names_laws.proofs.given.Expressions.{static_range_given, condition_given, static_condition_given, value_given_given}
 use Rattle.vhdl_names_laws.proofs.given.Choices.{choices_given, covered_is, of_alternatives, each_length, arranged_given, selected_given}

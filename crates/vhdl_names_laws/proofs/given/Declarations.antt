@@ -17,14 +17,14 @@ use Rattle.vhdl_names_rules.specs.Subtypes.{subtype, as_integer_type, fixed_valu
 use Rattle.vhdl_names_rules.specs.Declarations as are
 use Rattle.vhdl_names_rules.specs.Declarations.{within, within_variables, as_kind, single_expression}
 use Rattle.vhdl_names_rules.specs.Interfaces.{declared_names}
-use Rattle.vhdl_names_problems.specs.Broken.{Broken, ◌▸◌, unless, where_given, any_of, of_any}
-use Rattle.vhdl_names_problems.specs.Expressions as expressions
-use Rattle.vhdl_names_problems.specs.Subtypes as subtypes
-use Rattle.vhdl_names_problems.specs.Declarations as broken
-use Rattle.vhdl_names_problems.specs.Declarations.{standing_twice, end_name, library_named, package_used, generic_problem, generic_type}
-use Rattle.vhdl_names_problems.proofs.Telling.{IsKept}
-use Rattle.vhdl_names_problems.proofs.kept.Twice.{once_distinct, names_append}
-use Rattle.vhdl_names_problems.proofs.kept.Named.{HasNames, of_generic, of_port, of_signals, of_variables, of_constants, of_enumeration}
+use Rattle.vhdl_names_rules.specs.problems.Broken.{Broken, ◌▸◌, unless, where_given, any_of, of_any}
+use Rattle.vhdl_names_rules.specs.problems.Expressions as expressions
+use Rattle.vhdl_names_rules.specs.problems.Subtypes as subtypes
+use Rattle.vhdl_names_rules.specs.problems.Declarations as broken
+use Rattle.vhdl_names_rules.specs.problems.Declarations.{standing_twice, end_name, library_named, package_used, generic_problem, generic_type}
+use Rattle.vhdl_names_rules.proofs.Telling.{IsKept}
+use Rattle.vhdl_names_rules.proofs.kept.Twice.{once_distinct, names_append}
+use Rattle.vhdl_names_rules.proofs.kept.Named.{HasNames, of_generic, of_port, of_signals, of_variables, of_constants, of_enumeration}
 use Rattle.vhdl_names_laws.proofs.given.Giving.{IsGiven, this, bound, bound_is, ruled, parts, holds, given, of_given, if_any_given}
 use Rattle.vhdl_names_laws.proofs.given.Expressions.{meaning_given, static_given}
 use Rattle.vhdl_names_laws.proofs.given.Values.{subtype_given, fixed_value_given}

@@ -16,13 +16,13 @@ use Rattle.vhdl_names_rules.specs.Names as names
 use Rattle.vhdl_names_rules.specs.Names.{Suffix, denoted, attributed, edge_signal}
 use Rattle.vhdl_names_rules.specs.Expressions as are
 use Rattle.vhdl_names_rules.specs.Expressions.{as_integer, signed, enclosed, beside, is_one_name, as_test, as_static_test, as_value, as_filled}
-use Rattle.vhdl_names_problems.specs.Broken.{◌▸◌, unless, lacking, where_given}
-use Rattle.vhdl_names_problems.specs.Places.{start}
-use Rattle.vhdl_names_problems.specs.Missing.{problem_of}
-use Rattle.vhdl_names_problems.specs.Operators.{string_problem, operator_problem, edge_problem, name_problem}
-use Rattle.vhdl_names_problems.specs.Expressions as broken
-use Rattle.vhdl_names_problems.specs.Expressions.{is_event, is_vector_type}
-use Rattle.vhdl_names_problems.proofs.Telling.{IsKept}
+use Rattle.vhdl_names_rules.specs.problems.Broken.{◌▸◌, unless, lacking, where_given}
+use Rattle.vhdl_names_rules.specs.problems.Places.{start}
+use Rattle.vhdl_names_rules.specs.problems.Missing.{problem_of}
+use Rattle.vhdl_names_rules.specs.problems.Operators.{string_problem, operator_problem, edge_problem, name_problem}
+use Rattle.vhdl_names_rules.specs.problems.Expressions as broken
+use Rattle.vhdl_names_rules.specs.problems.Expressions.{is_event, is_vector_type}
+use Rattle.vhdl_names_rules.proofs.Telling.{IsKept}
 use Rattle.vhdl_names_laws.proofs.given.Giving.{IsGiven, this, bound, ruled, mapped_given, parts, holds, given, of_given}
 
 -- ---- names

@@ -16,19 +16,19 @@ use Rattle.vhdl_names_rules.specs.Visibility.{Name, is_among, are_distinct}
 use Rattle.vhdl_names_rules.specs.Interfaces.{EntityView, declared_names, entity_named}
 use Rattle.vhdl_names_rules.specs.Files as are
 use Rattle.vhdl_names_rules.specs.Files.{as_entity, as_architecture, entities_of, architectures_of, entity_names, described_names, stands_after, stand_after, architecture_of, viewed, unit, units_of}
-use Rattle.vhdl_names_problems.specs.Broken.{Broken, refused, nothing, any_of}
-use Rattle.vhdl_names_problems.specs.Declarations as declarations
-use Rattle.vhdl_names_problems.specs.Interfaces.{entity}
-use Rattle.vhdl_names_problems.specs.Files as broken
-use Rattle.vhdl_names_problems.specs.Files.{entities_given, is_hidden, up_to_hidden, mentions, described, name_of_unit}
+use Rattle.vhdl_names_rules.specs.problems.Broken.{Broken, refused, nothing, any_of}
+use Rattle.vhdl_names_rules.specs.problems.Declarations as declarations
+use Rattle.vhdl_names_rules.specs.problems.Interfaces.{entity}
+use Rattle.vhdl_names_rules.specs.problems.Files as broken
+use Rattle.vhdl_names_rules.specs.problems.Files.{entities_given, is_hidden, up_to_hidden, mentions, described, name_of_unit}
 use Rattle.vhdl_names_rules.proofs.laws.Rules.{both, comes, some_is, not_true}
 use Rattle.vhdl_names_rules.proofs.laws.Once.{differs}
 use Rattle.vhdl_names_laws.specs.Laws.{IllTypedFilesBreakARule}
-use Rattle.vhdl_names_problems.proofs.Telling.{IsKept}
-use Rattle.vhdl_names_problems.proofs.kept.Keeping.{among_left, among_right}
-use Rattle.vhdl_names_problems.proofs.kept.Twice.{distinct_next}
-use Rattle.vhdl_names_problems.proofs.kept.Files as kept
-use Rattle.vhdl_names_problems.proofs.kept.Files.{NamedEntity, NamedArchitecture, view_names, entity_text, text, unit_of_entity, unit_of_architecture, take_front, length_next}
+use Rattle.vhdl_names_rules.proofs.Telling.{IsKept}
+use Rattle.vhdl_names_rules.proofs.kept.Keeping.{among_left, among_right}
+use Rattle.vhdl_names_rules.proofs.kept.Twice.{distinct_next}
+use Rattle.vhdl_names_rules.proofs.kept.Files as kept
+use Rattle.vhdl_names_rules.proofs.kept.Files.{NamedEntity, NamedArchitecture, view_names, entity_text, text, unit_of_entity, unit_of_architecture, take_front, length_next}
 use Rattle.vhdl_names_laws.proofs.given.Giving.{IsGiven, this, bound, ruled, parts, holds, each_given, any_at}
 use Rattle.vhdl_names_laws.proofs.given.Interfaces.{entity_given, interface_distinct}
 use Rattle.vhdl_names_laws.proofs.given.Architectures.{architecture_given}

@@ -13,15 +13,15 @@ use Rattle.vhdl_names_rules.specs.Statements as statements
 use Rattle.vhdl_names_rules.specs.Interfaces.{EntityView, entity_named}
 use Rattle.vhdl_names_rules.specs.Instances as are
 use Rattle.vhdl_names_rules.specs.Instances.{Formal, as_name, is_kind, may_join, is_architecture, as_component, generic_name, port_formal, expression_of, actual_of, port_actuals}
-use Rattle.vhdl_names_problems.specs.Broken.{Broken, ◌▸◌, refused, unless, lacking, where_given, any_of, of_any}
-use Rattle.vhdl_names_problems.specs.Places.{start}
-use Rattle.vhdl_names_problems.specs.Expressions as expressions
-use Rattle.vhdl_names_problems.specs.Statements as sequential
-use Rattle.vhdl_names_problems.specs.Instances as broken
-use Rattle.vhdl_names_problems.specs.Instances.{names_value, actual_signal, ports_named}
+use Rattle.vhdl_names_rules.specs.problems.Broken.{Broken, ◌▸◌, refused, unless, lacking, where_given, any_of, of_any}
+use Rattle.vhdl_names_rules.specs.problems.Places.{start}
+use Rattle.vhdl_names_rules.specs.problems.Expressions as expressions
+use Rattle.vhdl_names_rules.specs.problems.Statements as sequential
+use Rattle.vhdl_names_rules.specs.problems.Instances as broken
+use Rattle.vhdl_names_rules.specs.problems.Instances.{names_value, actual_signal, ports_named}
 use Rattle.vhdl_names_rules.proofs.laws.Rules.{some_is}
-use Rattle.vhdl_names_problems.proofs.Telling.{IsKept}
-use Rattle.vhdl_names_problems.proofs.kept.Associations.{AreKept}
+use Rattle.vhdl_names_rules.proofs.Telling.{IsKept}
+use Rattle.vhdl_names_rules.proofs.kept.Associations.{AreKept}
 use Rattle.vhdl_names_laws.proofs.given.Giving.{IsGiven, this, bound, ruled, parts, holds, given, of_given, if_any_given, any_at}
 use Rattle.vhdl_names_laws.proofs.given.Expressions.{meaning_given, static_given}
 use Rattle.vhdl_names_laws.proofs.given.Statements.{signal_given}

@@ -10,14 +10,14 @@ use Rattle.vhdl_names_rules.specs.Declarations.{in_order, generic, port}
 use Rattle.vhdl_names_rules.specs.SameText.{same_generics, same_ports}
 use Rattle.vhdl_names_rules.specs.Interfaces as are
 use Rattle.vhdl_names_rules.specs.Interfaces.{EntityView, declared_names, entity_named}
-use Rattle.vhdl_names_problems.specs.Broken.{◌▸◌, lacking, where_given}
-use Rattle.vhdl_names_problems.specs.Declarations as declarations
-use Rattle.vhdl_names_problems.specs.Declarations.{end_name}
-use Rattle.vhdl_names_problems.specs.Interfaces as broken
-use Rattle.vhdl_names_problems.specs.Interfaces.{same_text}
+use Rattle.vhdl_names_rules.specs.problems.Broken.{◌▸◌, lacking, where_given}
+use Rattle.vhdl_names_rules.specs.problems.Declarations as declarations
+use Rattle.vhdl_names_rules.specs.problems.Declarations.{end_name}
+use Rattle.vhdl_names_rules.specs.problems.Interfaces as broken
+use Rattle.vhdl_names_rules.specs.problems.Interfaces.{same_text}
 use Rattle.vhdl_names_rules.proofs.laws.Rules.{comes, kept, some_is}
-use Rattle.vhdl_names_problems.proofs.Telling.{IsKept}
-use Rattle.vhdl_names_problems.proofs.kept.Named.{of_component}
+use Rattle.vhdl_names_rules.proofs.Telling.{IsKept}
+use Rattle.vhdl_names_rules.proofs.kept.Named.{of_component}
 use Rattle.vhdl_names_laws.proofs.given.Giving.{IsGiven, this, bound, ruled, parts, holds, given, of_given}
 use Rattle.vhdl_names_laws.proofs.given.Declarations.{IsApart, stands_apart, end_name_given, context_given, in_region_given, generic_given, port_given}
 

@@ -14,14 +14,14 @@ use Rattle.vhdl_names_rules.specs.Expressions.{typed, typed_suffix, static_range
 use Rattle.vhdl_names_rules.specs.Choices.{choices, covered, selector, arranged}
 use Rattle.vhdl_names_rules.specs.Statements as are
 use Rattle.vhdl_names_rules.specs.Statements.{SignalName, as_signal, as_variable, is_input, choice_lists}
-use Rattle.vhdl_names_problems.specs.Broken.{◌▸◌, unless, lacking, where_given}
-use Rattle.vhdl_names_problems.specs.Expressions as expressions
-use Rattle.vhdl_names_problems.specs.Expressions.{no_attribute}
-use Rattle.vhdl_names_problems.specs.Statements as broken
-use Rattle.vhdl_names_problems.specs.Statements.{signal_problem, variable_problem, end_label}
+use Rattle.vhdl_names_rules.specs.problems.Broken.{◌▸◌, unless, lacking, where_given}
+use Rattle.vhdl_names_rules.specs.problems.Expressions as expressions
+use Rattle.vhdl_names_rules.specs.problems.Expressions.{no_attribute}
+use Rattle.vhdl_names_rules.specs.problems.Statements as broken
+use Rattle.vhdl_names_rules.specs.problems.Statements.{signal_problem, variable_problem, end_label}
 use Rattle.vhdl_names_rules.proofs.laws.Rules.{comes, some_is}
-use Rattle.vhdl_names_problems.proofs.Telling.{IsKept}
-use Rattle.vhdl_names_problems.proofs.kept.Statements.{object_named}
+use Rattle.vhdl_names_rules.proofs.Telling.{IsKept}
+use Rattle.vhdl_names_rules.proofs.kept.Statements.{object_named}
 use Rattle.vhdl_names_laws.proofs.given.Giving.{IsGiven, this, bound, ruled, mapped_given, parts, holds, given, of_given}
 use Rattle.vhdl_names_laws.proofs.given.Expressions.{meaning_given, suffix_given, static_range_given, condition_given, value_given_given}
 use Rattle.vhdl_names_laws.proofs.given.Choices.{choices_given, covered_is, of_alternatives, each_length, arranged_given, selected_given}

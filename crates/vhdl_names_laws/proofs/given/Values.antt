@@ -22,15 +22,15 @@ use Rattle.vhdl_names_rules.specs.Expressions as are
 use Rattle.vhdl_names_rules.specs.Expressions.{as_integer, is_one_name, typed_suffix, typed_each, static_range}
 use Rattle.vhdl_names_rules.specs.Subtypes as subtypes
 use Rattle.vhdl_names_rules.specs.Subtypes.{Subtype, marked, named_value, encoded_value, literal_value, literal_values, filled_value}
-use Rattle.vhdl_names_problems.specs.Broken.{unless, lacking, where_given}
-use Rattle.vhdl_names_problems.specs.Places.{start}
-use Rattle.vhdl_names_problems.specs.Operators.{string_problem}
-use Rattle.vhdl_names_problems.specs.Expressions as expressions
-use Rattle.vhdl_names_problems.specs.Subtypes as broken
-use Rattle.vhdl_names_problems.specs.Subtypes.{is_marked, mark_problem, suffixed_problem, value_of}
+use Rattle.vhdl_names_rules.specs.problems.Broken.{unless, lacking, where_given}
+use Rattle.vhdl_names_rules.specs.problems.Places.{start}
+use Rattle.vhdl_names_rules.specs.problems.Operators.{string_problem}
+use Rattle.vhdl_names_rules.specs.problems.Expressions as expressions
+use Rattle.vhdl_names_rules.specs.problems.Subtypes as broken
+use Rattle.vhdl_names_rules.specs.problems.Subtypes.{is_marked, mark_problem, suffixed_problem, value_of}
 use Rattle.vhdl_names_rules.proofs.laws.Rules.{comes, some_is}
-use Rattle.vhdl_names_problems.proofs.Telling.{IsKept}
-use Rattle.vhdl_names_problems.proofs.kept.Values.{range_given}
+use Rattle.vhdl_names_rules.proofs.Telling.{IsKept}
+use Rattle.vhdl_names_rules.proofs.kept.Values.{range_given}
 use Rattle.vhdl_names_laws.proofs.given.Giving.{IsGiven, this, bound, mapped_given, parts, fails, holds, given, of_given, if_any_given}
 use Rattle.vhdl_names_laws.proofs.given.Expressions.{meaning_given, suffix_given, each_typed_given, static_range_given}
 

@@ -12,11 +12,11 @@ use Rattle.vhdl_names_rules.specs.Visibility as visibility
 use Rattle.vhdl_names_rules.specs.Visibility.{Sight}
 use Rattle.vhdl_names_rules.specs.Choices as are
 use Rattle.vhdl_names_rules.specs.Choices.{named_choice, selector, is_last_others, names_all}
-use Rattle.vhdl_names_problems.specs.Broken.{Broken, any_of, lacking, unless}
-use Rattle.vhdl_names_problems.specs.Places.{choice_place}
-use Rattle.vhdl_names_problems.specs.Choices as broken
-use Rattle.vhdl_names_problems.specs.Choices.{choice_problem}
-use Rattle.vhdl_names_problems.specs.Covered.{stands, once, each_once, alternative_in_place, is_empty, in_place, covered, any_alternative}
+use Rattle.vhdl_names_rules.specs.problems.Broken.{Broken, any_of, lacking, unless}
+use Rattle.vhdl_names_rules.specs.problems.Places.{choice_place}
+use Rattle.vhdl_names_rules.specs.problems.Choices as broken
+use Rattle.vhdl_names_rules.specs.problems.Choices.{choice_problem}
+use Rattle.vhdl_names_rules.specs.problems.Covered.{stands, once, each_once, alternative_in_place, is_empty, in_place, covered, any_alternative}
 use Rattle.vhdl_names_laws.proofs.placed.Told.{Stand, EachStands, Told, told_nothing, told_refused, told_unless, told_lacking, told_given, told_behind, told_earlier, told_any}
 use Rattle.vhdl_names_laws.proofs.placed.Expressions.{choice_stands, meaning_told, asked_told}
 use Rattle.vhdl_names_laws.proofs.placed.Subtypes.{literal_told}

@@ -15,11 +15,11 @@ use Rattle.vhdl_names_rules.specs.Visibility.{Sight, with_variables}
 use Rattle.vhdl_names_rules.specs.Declarations as declarations
 use Rattle.vhdl_names_rules.specs.Interfaces.{EntityView}
 use Rattle.vhdl_names_rules.specs.Concurrent.{sight_within}
-use Rattle.vhdl_names_problems.specs.Labels.{labels_of, statement_labels}
-use Rattle.vhdl_names_problems.specs.Broken.{any_of}
-use Rattle.vhdl_names_problems.specs.Statements.{signal, assigned}
-use Rattle.vhdl_names_problems.specs.Declarations.{variables}
-use Rattle.vhdl_names_problems.specs.Concurrent as broken
+use Rattle.vhdl_names_rules.specs.problems.Labels.{labels_of, statement_labels}
+use Rattle.vhdl_names_rules.specs.problems.Broken.{any_of}
+use Rattle.vhdl_names_rules.specs.problems.Statements.{signal, assigned}
+use Rattle.vhdl_names_rules.specs.problems.Declarations.{variables}
+use Rattle.vhdl_names_rules.specs.problems.Concurrent as broken
 use Rattle.vhdl_names_laws.proofs.placed.Told.{Stand, EachStands, first, behind, Told, told_nothing, told_refused, told_given, told_behind, told_earlier, told_any, option_told, each_stands, list_stands}
 use Rattle.vhdl_names_laws.proofs.placed.Expressions.{static_range_told, condition_told, static_condition_told}
 use Rattle.vhdl_names_laws.proofs.placed.Choices.{ChoicesStand, choices_told, covered_told, any_alternative_told}

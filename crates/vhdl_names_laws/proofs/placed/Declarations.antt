@@ -21,12 +21,12 @@ use Rattle.vhdl_names_rules.specs.Subtypes as subtypes
 use Rattle.vhdl_names_rules.specs.Subtypes.{as_integer_type}
 use Rattle.vhdl_names_rules.specs.Declarations.{within, within_variables, as_kind}
 use Rattle.vhdl_names_rules.specs.Interfaces.{declared_names}
-use Rattle.vhdl_names_problems.specs.Broken.{Broken, ◌▸◌, unless, any_of, of_any}
-use Rattle.vhdl_names_problems.specs.Twice.{twice}
-use Rattle.vhdl_names_problems.specs.Expressions.{static}
-use Rattle.vhdl_names_problems.specs.Subtypes.{fixed_value}
-use Rattle.vhdl_names_problems.specs.Declarations as broken
-use Rattle.vhdl_names_problems.specs.Declarations.{library_named, package_used, generic_problem, generic_type, constants_by}
+use Rattle.vhdl_names_rules.specs.problems.Broken.{Broken, ◌▸◌, unless, any_of, of_any}
+use Rattle.vhdl_names_rules.specs.problems.Twice.{twice}
+use Rattle.vhdl_names_rules.specs.problems.Expressions.{static}
+use Rattle.vhdl_names_rules.specs.problems.Subtypes.{fixed_value}
+use Rattle.vhdl_names_rules.specs.problems.Declarations as broken
+use Rattle.vhdl_names_rules.specs.problems.Declarations.{library_named, package_used, generic_problem, generic_type, constants_by}
 use Rattle.vhdl_names_laws.proofs.placed.Told.{Stand, EachStands, NamesStand, first, behind, Told, told_nothing, told_refused, told_unless, told_lacking, told_given, told_behind, told_if, told_any, option_told, list_stands}
 use Rattle.vhdl_names_laws.proofs.placed.Expressions.{meaning_told, static_told}
 use Rattle.vhdl_names_laws.proofs.placed.Subtypes.{subtype_told, fixed_value_told, default_told}

@@ -13,12 +13,12 @@ use Rattle.vhdl_names_rules.specs.Operators.{Typed, inverse, operated}
 use Rattle.vhdl_names_rules.specs.Names.{Suffix, plain, arguments, range, denoted, edge_signal}
 use Rattle.vhdl_names_rules.specs.Expressions as are
 use Rattle.vhdl_names_rules.specs.Expressions.{as_integer, beside, as_test, as_static_test, as_value, as_filled}
-use Rattle.vhdl_names_problems.specs.Broken.{◌▸◌, lacking, where_given}
-use Rattle.vhdl_names_problems.specs.Missing.{problem_of}
-use Rattle.vhdl_names_problems.specs.Places.{start, choice_place, actual_place, place_from, association_place}
-use Rattle.vhdl_names_problems.specs.Operators.{string_problem, operator_problem, edge_problem, name_problem}
-use Rattle.vhdl_names_problems.specs.Expressions as broken
-use Rattle.vhdl_names_problems.specs.Expressions.{is_event, is_no_value, is_vector_type}
+use Rattle.vhdl_names_rules.specs.problems.Broken.{◌▸◌, lacking, where_given}
+use Rattle.vhdl_names_rules.specs.problems.Missing.{problem_of}
+use Rattle.vhdl_names_rules.specs.problems.Places.{start, choice_place, actual_place, place_from, association_place}
+use Rattle.vhdl_names_rules.specs.problems.Operators.{string_problem, operator_problem, edge_problem, name_problem}
+use Rattle.vhdl_names_rules.specs.problems.Expressions as broken
+use Rattle.vhdl_names_rules.specs.problems.Expressions.{is_event, is_no_value, is_vector_type}
 use Rattle.vhdl_names_laws.proofs.placed.Told.{Stand, first, behind, Told, told_nothing, told_refused, told_unless, told_lacking, told_given, told_behind, told_if}
 
 -- ---- where a part starts

@@ -18,12 +18,12 @@ use Rattle.vhdl_names_rules.specs.Interfaces.{EntityView, entity_named}
 use Rattle.vhdl_names_rules.specs.Concurrent.{concurrent_labels}
 use Rattle.vhdl_names_rules.specs.Files as are
 use Rattle.vhdl_names_rules.specs.Files.{as_entity, as_architecture, entity_names, described_names, entities_of, architectures_of}
-use Rattle.vhdl_names_problems.specs.Broken.{Broken}
-use Rattle.vhdl_names_problems.specs.Labels.{labels_of}
-use Rattle.vhdl_names_problems.specs.Declarations.{context}
-use Rattle.vhdl_names_problems.specs.Interfaces.{entity}
-use Rattle.vhdl_names_problems.specs.Files as broken
-use Rattle.vhdl_names_problems.specs.Files.{with_labels, mentions, up_to_hidden, is_hidden, entities_given, described}
+use Rattle.vhdl_names_rules.specs.problems.Broken.{Broken}
+use Rattle.vhdl_names_rules.specs.problems.Labels.{labels_of}
+use Rattle.vhdl_names_rules.specs.problems.Declarations.{context}
+use Rattle.vhdl_names_rules.specs.problems.Interfaces.{entity}
+use Rattle.vhdl_names_rules.specs.problems.Files as broken
+use Rattle.vhdl_names_rules.specs.problems.Files.{with_labels, mentions, up_to_hidden, is_hidden, entities_given, described}
 use Rattle.vhdl_names_laws.proofs.Labels.{spelled_alike}
 use Rattle.vhdl_names_laws.proofs.placed.Told.{Stand, EachStands, first, behind, Told, told_nothing, told_unless, told_given, told_behind, told_if, told_earlier, told_any, each_stands}
 use Rattle.vhdl_names_laws.proofs.placed.Declarations.{ItemsStand, standing_told, context_told, in_order_told, signals_told, constants_told, enumeration_told}

@@ -17,11 +17,11 @@ use Rattle.vhdl_names_rules.specs.Interfaces.{EntityView, entity_named}
 use Rattle.vhdl_names_rules.specs.Statements as statements
 use Rattle.vhdl_names_rules.specs.Instances as are
 use Rattle.vhdl_names_rules.specs.Instances.{Formal, is_named, formal_of, expression_of, as_name, is_kind, may_join, is_architecture, as_component, generic_name, port_formal}
-use Rattle.vhdl_names_problems.specs.Broken.{Broken, ◌▸◌, unless, lacking, where_given, of_any, any_of}
-use Rattle.vhdl_names_problems.specs.Places.{start, association_place}
-use Rattle.vhdl_names_problems.specs.Expressions.{static}
-use Rattle.vhdl_names_problems.specs.Instances as broken
-use Rattle.vhdl_names_problems.specs.Instances.{names_value, ports_named}
+use Rattle.vhdl_names_rules.specs.problems.Broken.{Broken, ◌▸◌, unless, lacking, where_given, of_any, any_of}
+use Rattle.vhdl_names_rules.specs.problems.Places.{start, association_place}
+use Rattle.vhdl_names_rules.specs.problems.Expressions.{static}
+use Rattle.vhdl_names_rules.specs.problems.Instances as broken
+use Rattle.vhdl_names_rules.specs.problems.Instances.{names_value, ports_named}
 use Rattle.vhdl_names_laws.proofs.placed.Told.{Stand, EachStands, first, behind, Told, told_nothing, told_refused, told_unless, told_lacking, told_given, told_behind, told_if, told_absent, option_told, list_stands}
 use Rattle.vhdl_names_laws.proofs.placed.Expressions.{start_stands, association_stands, meaning_told, static_told}
 use Rattle.vhdl_names_laws.proofs.placed.Statements.{named_told, signal_told}

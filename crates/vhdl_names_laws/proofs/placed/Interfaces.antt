@@ -15,8 +15,8 @@ use Rattle.vhdl_names_rules.specs.Packages.{no_context, sight_of}
 use Rattle.vhdl_names_rules.specs.Declarations as declarations
 use Rattle.vhdl_names_rules.specs.SameText.{same_generics, same_ports}
 use Rattle.vhdl_names_rules.specs.Interfaces.{EntityView, entity_named}
-use Rattle.vhdl_names_problems.specs.Declarations.{end_name, generic, port}
-use Rattle.vhdl_names_problems.specs.Interfaces as broken
+use Rattle.vhdl_names_rules.specs.problems.Declarations.{end_name, generic, port}
+use Rattle.vhdl_names_rules.specs.problems.Interfaces as broken
 use Rattle.vhdl_names_laws.proofs.placed.Told.{Stand, EachStands, first, behind, Told, told_unless, told_lacking, told_given, told_behind, list_stands}
 use Rattle.vhdl_names_laws.proofs.placed.Declarations.{ItemsStand, standing_told, end_name_told, context_told, in_order_told, generic_told, port_told}
 

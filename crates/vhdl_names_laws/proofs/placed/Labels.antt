@@ -6,7 +6,7 @@ use Rattle.vhdl_tree.specs.Pieces.{spell_ident, spell_option}
 use Rattle.vhdl_tree.specs.grammar.Expressions.{spell, spell_range, spell_choices}
 use Rattle.vhdl_tree.specs.grammar.Sequential.{spell_label, spell_statement, spell_statements, spell_conditionals, spell_elsifs, spell_else, spell_alternatives}
 use Rattle.vhdl_tree.specs.grammar.Concurrent.{spell_concurrent, spell_concurrents}
-use Rattle.vhdl_names_problems.specs.Labels.{label_if_any, label_of, labels_of, inner_labels, statement_labels, conditional_labels, otherwise_labels, alternative_labels}
+use Rattle.vhdl_names_rules.specs.problems.Labels.{label_if_any, label_of, labels_of, inner_labels, statement_labels, conditional_labels, otherwise_labels, alternative_labels}
 use Rattle.vhdl_names_laws.proofs.placed.Told.{Stand, NamesStand, first, behind, all_of_both}
 
 label_stands : (P : ℕ → Type 0) (label : Option Ident) → Stand P (spell_option spell_label label) → NamesStand P (label_if_any label)

@@ -17,11 +17,11 @@ use Rattle.vhdl_names_rules.specs.Expressions.{typed, typed_suffix}
 use Rattle.vhdl_names_rules.specs.Choices.{selector}
 use Rattle.vhdl_names_rules.specs.Statements as are
 use Rattle.vhdl_names_rules.specs.Statements.{as_signal, as_variable, is_input, choice_lists}
-use Rattle.vhdl_names_problems.specs.Broken.{Broken, ◌▸◌, unless, lacking, where_given}
-use Rattle.vhdl_names_problems.specs.Expressions as expressions
-use Rattle.vhdl_names_problems.specs.Statements as broken
-use Rattle.vhdl_names_problems.specs.Statements.{signal_problem, variable_problem}
-use Rattle.vhdl_names_problems.specs.Covered.{covered}
+use Rattle.vhdl_names_rules.specs.problems.Broken.{Broken, ◌▸◌, unless, lacking, where_given}
+use Rattle.vhdl_names_rules.specs.problems.Expressions as expressions
+use Rattle.vhdl_names_rules.specs.problems.Statements as broken
+use Rattle.vhdl_names_rules.specs.problems.Statements.{signal_problem, variable_problem}
+use Rattle.vhdl_names_rules.specs.problems.Covered.{covered}
 use Rattle.vhdl_names_laws.proofs.placed.Told.{Stand, first, behind, Told, told_nothing, told_unless, told_lacking, told_given, told_behind, option_told, list_stands}
 use Rattle.vhdl_names_laws.proofs.placed.Expressions.{meaning_told, no_attribute_told, typed_suffix_told, static_range_told, condition_told, value_given_told}
 use Rattle.vhdl_names_laws.proofs.placed.Choices.{ChoicesStand, choices_told, selected_by_told, covered_told, any_alternative_told}

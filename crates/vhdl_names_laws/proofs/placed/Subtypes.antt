@@ -11,12 +11,12 @@ use Rattle.vhdl_names_rules.specs.Visibility.{Sight}
 use Rattle.vhdl_names_rules.specs.Literals.{nine_of, values_of_string, values_of_bits}
 use Rattle.vhdl_names_rules.specs.Expressions as are
 use Rattle.vhdl_names_rules.specs.Subtypes.{filled_value}
-use Rattle.vhdl_names_problems.specs.Broken.{unless, lacking, where_given}
-use Rattle.vhdl_names_problems.specs.Places.{start}
-use Rattle.vhdl_names_problems.specs.Operators.{string_problem}
-use Rattle.vhdl_names_problems.specs.Expressions.{is_vector_type, static_range}
-use Rattle.vhdl_names_problems.specs.Subtypes as broken
-use Rattle.vhdl_names_problems.specs.Subtypes.{is_marked, mark_problem, is_element_type, suffixed_problem, value_of, is_character}
+use Rattle.vhdl_names_rules.specs.problems.Broken.{unless, lacking, where_given}
+use Rattle.vhdl_names_rules.specs.problems.Places.{start}
+use Rattle.vhdl_names_rules.specs.problems.Operators.{string_problem}
+use Rattle.vhdl_names_rules.specs.problems.Expressions.{is_vector_type, static_range}
+use Rattle.vhdl_names_rules.specs.problems.Subtypes as broken
+use Rattle.vhdl_names_rules.specs.problems.Subtypes.{is_marked, mark_problem, is_element_type, suffixed_problem, value_of, is_character}
 use Rattle.vhdl_names_laws.proofs.placed.Told.{Stand, first, behind, Told, told_refused, told_unless, told_lacking, told_given, told_behind, option_told}
 use Rattle.vhdl_names_laws.proofs.placed.Expressions.{start_stands, meaning_told, no_attribute_told, typed_suffix_told, static_range_told}
 

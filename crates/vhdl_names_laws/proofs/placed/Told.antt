@@ -7,7 +7,7 @@ use Rattle.vhdl_tree.specs.Tree.{Ident}
 use Rattle.vhdl_tree.specs.Pieces as p
 use Rattle.vhdl_tree.specs.Pieces.{Piece, spell_ident, spell_option, spell_each, spell_list}
 use Rattle.vhdl_names_rules.specs.declared.fault.NameProblem.{NameProblem}
-use Rattle.vhdl_names_problems.specs.Broken.{Broken, nothing, refused, ◌▸◌, unless, lacking, where_given, of_any, any_of, earlier}
+use Rattle.vhdl_names_rules.specs.problems.Broken.{Broken, nothing, refused, ◌▸◌, unless, lacking, where_given, of_any, any_of, earlier}
 
 -- ---- pieces
 

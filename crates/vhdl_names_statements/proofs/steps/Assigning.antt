@@ -11,15 +11,15 @@ use Rattle.vhdl_names_rules.specs.Choices as chosen
 use Rattle.vhdl_names_rules.specs.Statements.{SignalName}
 use Rattle.vhdl_names_rules.specs.Statements as objects
 use Rattle.vhdl_names_rules.proofs.laws.Rules.{comes}
-use Rattle.vhdl_names_problems.specs.Broken.{Broken, Tells, where_given, any_of}
-use Rattle.vhdl_names_problems.specs.Expressions.{value_given}
-use Rattle.vhdl_names_problems.specs.Statements.{target, assigned, variable, variable_assigned}
-use Rattle.vhdl_names_problems.specs.Concurrent as broken
-use Rattle.vhdl_names_problems.proofs.Telling.{IsKept, both_kept, told_left, told_right, told_given}
-use Rattle.vhdl_names_problems.proofs.kept.Keeping.{each_kept}
-use Rattle.vhdl_names_problems.proofs.kept.Statements.{target_kept, variable_kept, assigned_kept}
-use Rattle.vhdl_names_problems.proofs.kept.Expressions.{condition_kept}
-use Rattle.vhdl_names_problems.proofs.kept.Choices.{choices_kept}
+use Rattle.vhdl_names_rules.specs.problems.Broken.{Broken, Tells, where_given, any_of}
+use Rattle.vhdl_names_rules.specs.problems.Expressions.{value_given}
+use Rattle.vhdl_names_rules.specs.problems.Statements.{target, assigned, variable, variable_assigned}
+use Rattle.vhdl_names_rules.specs.problems.Concurrent as broken
+use Rattle.vhdl_names_rules.proofs.Telling.{IsKept, both_kept, told_left, told_right, told_given}
+use Rattle.vhdl_names_rules.proofs.kept.Keeping.{each_kept}
+use Rattle.vhdl_names_rules.proofs.kept.Statements.{target_kept, variable_kept, assigned_kept}
+use Rattle.vhdl_names_rules.proofs.kept.Expressions.{condition_kept}
+use Rattle.vhdl_names_rules.proofs.kept.Choices.{choices_kept}
 use Rattle.vhdl_names_units.specs.views.Sequential.{Guarded, Chosen}
 use Rattle.vhdl_names_statements.specs.steps.Concurrent as steps
 use Rattle.vhdl_names_statements.specs.steps.Sequential as sequential

@@ -21,13 +21,13 @@ use Rattle.vhdl_names_rules.specs.Gives.{Gives}
 use Rattle.vhdl_names_rules.specs.Visibility.{Name, Sight, are_distinct, is_among}
 use Rattle.vhdl_names_rules.specs.Choices as are
 use Rattle.vhdl_names_rules.specs.Choices.{is_others, only_last_others}
-use Rattle.vhdl_names_problems.specs.Broken.{Broken, Tells, refused, ◌▸◌, unless, where_given}
-use Rattle.vhdl_names_problems.specs.Places.{choice_place}
-use Rattle.vhdl_names_problems.specs.Choices.{choice}
-use Rattle.vhdl_names_problems.specs.Covered as broken
-use Rattle.vhdl_names_problems.specs.Covered.{is_empty}
-use Rattle.vhdl_names_problems.proofs.Telling.{IsKept, both_kept, behind_kept, unless_kept, given_kept, told_same, told_left, told_right, told_given, told_unless, kept_left, kept_right}
-use Rattle.vhdl_names_problems.proofs.kept.Choices.{choice_kept}
+use Rattle.vhdl_names_rules.specs.problems.Broken.{Broken, Tells, refused, ◌▸◌, unless, where_given}
+use Rattle.vhdl_names_rules.specs.problems.Places.{choice_place}
+use Rattle.vhdl_names_rules.specs.problems.Choices.{choice}
+use Rattle.vhdl_names_rules.specs.problems.Covered as broken
+use Rattle.vhdl_names_rules.specs.problems.Covered.{is_empty}
+use Rattle.vhdl_names_rules.proofs.Telling.{IsKept, both_kept, behind_kept, unless_kept, given_kept, told_same, told_left, told_right, told_given, told_unless, kept_left, kept_right}
+use Rattle.vhdl_names_rules.proofs.kept.Choices.{choice_kept}
 use Rattle.vhdl_names_labels.specs.Lists.{in_turn}
 use Rattle.vhdl_names_labels.specs.Once.{one_name, key_of}
 use Rattle.vhdl_names_labels.proofs.Behind.{next}

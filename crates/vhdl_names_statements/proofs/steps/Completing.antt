@@ -16,11 +16,11 @@ use Rattle.vhdl_names_rules.specs.Visibility.{Name, Sight, are_distinct}
 use Rattle.vhdl_names_rules.specs.Choices as are
 use Rattle.vhdl_names_rules.specs.Choices.{are_distinct_choices, only_last_others, is_last_others, names_all}
 use Rattle.vhdl_names_rules.proofs.laws.Rules.{comes, some_is}
-use Rattle.vhdl_names_problems.specs.Broken.{Broken, Tells, unless, earlier}
-use Rattle.vhdl_names_problems.specs.Covered as broken
-use Rattle.vhdl_names_problems.proofs.Telling.{IsKept, told_same, told_left, told_right, told_given}
-use Rattle.vhdl_names_problems.proofs.kept.Keeping.{among_kept}
-use Rattle.vhdl_names_problems.proofs.kept.Covered.{choices_given, in_place_kept}
+use Rattle.vhdl_names_rules.specs.problems.Broken.{Broken, Tells, unless, earlier}
+use Rattle.vhdl_names_rules.specs.problems.Covered as broken
+use Rattle.vhdl_names_rules.proofs.Telling.{IsKept, told_same, told_left, told_right, told_given}
+use Rattle.vhdl_names_rules.proofs.kept.Keeping.{among_kept}
+use Rattle.vhdl_names_rules.proofs.kept.Covered.{choices_given, in_place_kept}
 use Rattle.vhdl_names_units.specs.declared.sequential.Alternative.{Alternative}
 use Rattle.vhdl_names_units.specs.views.Sequential.{Chosen, alternatives_view}
 use Rattle.vhdl_names_labels.specs.Once.{key_of}

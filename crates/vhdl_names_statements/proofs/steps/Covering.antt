@@ -19,15 +19,15 @@ use Rattle.vhdl_names_rules.specs.Choices as are
 use Rattle.vhdl_names_rules.specs.Choices.{only_last_others, is_last_others, are_distinct_choices, names_all}
 use Rattle.vhdl_names_rules.specs.Statements.{SignalName, target}
 use Rattle.vhdl_names_rules.proofs.laws.Rules.{comes, kept, some_is}
-use Rattle.vhdl_names_problems.specs.Broken.{Broken, Tells, nothing, ◌▸◌, any_of}
-use Rattle.vhdl_names_problems.specs.Covered as broken
-use Rattle.vhdl_names_problems.specs.Covered.{any_alternative}
-use Rattle.vhdl_names_problems.specs.Statements as broken'
-use Rattle.vhdl_names_problems.specs.Statements.{end_label}
-use Rattle.vhdl_names_problems.specs.Concurrent as problems
-use Rattle.vhdl_names_problems.proofs.Telling.{IsKept, told_same, told_left, told_right}
-use Rattle.vhdl_names_problems.proofs.kept.Statements.{target_kept, end_label_kept}
-use Rattle.vhdl_names_problems.proofs.kept.Covered.{covered_kept}
+use Rattle.vhdl_names_rules.specs.problems.Broken.{Broken, Tells, nothing, ◌▸◌, any_of}
+use Rattle.vhdl_names_rules.specs.problems.Covered as broken
+use Rattle.vhdl_names_rules.specs.problems.Covered.{any_alternative}
+use Rattle.vhdl_names_rules.specs.problems.Statements as broken'
+use Rattle.vhdl_names_rules.specs.problems.Statements.{end_label}
+use Rattle.vhdl_names_rules.specs.problems.Concurrent as problems
+use Rattle.vhdl_names_rules.proofs.Telling.{IsKept, told_same, told_left, told_right}
+use Rattle.vhdl_names_rules.proofs.kept.Statements.{target_kept, end_label_kept}
+use Rattle.vhdl_names_rules.proofs.kept.Covered.{covered_kept}
 use Rattle.vhdl_names_types.proofs.Along.{gives_along}
 use Rattle.vhdl_names_units.specs.declared.sequential.Alternative.{Alternative}
 use Rattle.vhdl_names_units.specs.views.Sequential.{Chosen, alternatives_view}

@@ -20,18 +20,18 @@ use Rattle.vhdl_names_rules.specs.Choices as chosen
 use Rattle.vhdl_names_rules.proofs.laws.Rules.{comes}
 use Rattle.vhdl_names_expressions.specs.Asked.{selected_by}
 use Rattle.vhdl_names_units.specs.views.Sequential.{Guarded, Chosen, statements_of}
-use Rattle.vhdl_names_problems.specs.Broken.{Broken, Tells, ◌▸◌, where_given, any_of}
-use Rattle.vhdl_names_problems.specs.Expressions.{condition, static_range}
-use Rattle.vhdl_names_problems.specs.Choices.{choices}
-use Rattle.vhdl_names_problems.specs.Choices as asked
-use Rattle.vhdl_names_problems.specs.Covered.{covered, any_alternative}
-use Rattle.vhdl_names_problems.specs.Statements as broken
-use Rattle.vhdl_names_problems.specs.Statements.{end_label, by_selector}
-use Rattle.vhdl_names_problems.proofs.Telling.{IsKept, both_kept, behind_kept, told_same, told_left, told_right, told_on}
-use Rattle.vhdl_names_problems.proofs.kept.Keeping.{nothing_kept}
-use Rattle.vhdl_names_problems.proofs.kept.Expressions.{condition_kept, static_range_kept}
-use Rattle.vhdl_names_problems.proofs.kept.Choices.{choices_kept, selected_by_kept}
-use Rattle.vhdl_names_problems.proofs.kept.Statements.{statement_kept, statements_kept}
+use Rattle.vhdl_names_rules.specs.problems.Broken.{Broken, Tells, ◌▸◌, where_given, any_of}
+use Rattle.vhdl_names_rules.specs.problems.Expressions.{condition, static_range}
+use Rattle.vhdl_names_rules.specs.problems.Choices.{choices}
+use Rattle.vhdl_names_rules.specs.problems.Choices as asked
+use Rattle.vhdl_names_rules.specs.problems.Covered.{covered, any_alternative}
+use Rattle.vhdl_names_rules.specs.problems.Statements as broken
+use Rattle.vhdl_names_rules.specs.problems.Statements.{end_label, by_selector}
+use Rattle.vhdl_names_rules.proofs.Telling.{IsKept, both_kept, behind_kept, told_same, told_left, told_right, told_on}
+use Rattle.vhdl_names_rules.proofs.kept.Keeping.{nothing_kept}
+use Rattle.vhdl_names_rules.proofs.kept.Expressions.{condition_kept, static_range_kept}
+use Rattle.vhdl_names_rules.proofs.kept.Choices.{choices_kept, selected_by_kept}
+use Rattle.vhdl_names_rules.proofs.kept.Statements.{statement_kept, statements_kept}
 use Rattle.vhdl_names_labels.specs.Lists.{in_turn, one_more}
 use Rattle.vhdl_names_labels.proofs.Behind.{next}
 use Rattle.vhdl_names_statements.specs.steps.Cases as cases

@@ -8,13 +8,13 @@ use Rattle.vhdl_names_rules.specs.declared.fault.NameProblem.TheVariants.{WrongK
 use Rattle.vhdl_names_rules.specs.Rules.{each}
 use Rattle.vhdl_names_rules.specs.Visibility.{Name, Sight, is_among}
 use Rattle.vhdl_names_rules.specs.Choices as are
-use Rattle.vhdl_names_problems.specs.Broken.{Broken, nothing, ◌▸◌, unless, where_given, any_of, of_any}
-use Rattle.vhdl_names_problems.specs.Places.{choice_place}
-use Rattle.vhdl_names_problems.specs.Expressions.{condition}
-use Rattle.vhdl_names_problems.specs.Choices.{choice, choices}
-use Rattle.vhdl_names_problems.specs.Covered.{is_empty, covered, any_alternative}
-use Rattle.vhdl_names_problems.specs.Statements as broken
-use Rattle.vhdl_names_problems.specs.Concurrent.{branch}
+use Rattle.vhdl_names_rules.specs.problems.Broken.{Broken, nothing, ◌▸◌, unless, where_given, any_of, of_any}
+use Rattle.vhdl_names_rules.specs.problems.Places.{choice_place}
+use Rattle.vhdl_names_rules.specs.problems.Expressions.{condition}
+use Rattle.vhdl_names_rules.specs.problems.Choices.{choice, choices}
+use Rattle.vhdl_names_rules.specs.problems.Covered.{is_empty, covered, any_alternative}
+use Rattle.vhdl_names_rules.specs.problems.Statements as broken
+use Rattle.vhdl_names_rules.specs.problems.Concurrent.{branch}
 use Rattle.vhdl_names_units.specs.declared.sequential.Alternative.{Alternative}
 use Rattle.vhdl_names_units.specs.views.Sequential.{alternatives_view}
 use Rattle.vhdl_names_labels.specs.Once.{key_of}

@@ -4,8 +4,8 @@ use Rattle.std.specs.Prelude.{option_map}
 use Rattle.vhdl_tree.specs.View as view
 use Rattle.vhdl_names_rules.specs.Files as rules
 use Rattle.vhdl_names_labels.specs.Once.{names_view}
-use Rattle.vhdl_names_problems.specs.Files as broken
-use Rattle.vhdl_names_problems.proofs.Telling.{told_same}
+use Rattle.vhdl_names_rules.specs.problems.Files as broken
+use Rattle.vhdl_names_rules.proofs.Telling.{told_same}
 use Rattle.vhdl_names_interfaces.specs.Views.{entities_view, entity_view}
 use Rattle.vhdl_names_units.specs.views.Units.{architecture_view}
 use Rattle.vhdl_names.proofs.Finding.{found_same, passed_told}

@@ -7,8 +7,8 @@ use Rattle.vhdl_names_units.specs.views.Units.{architecture_view}
 use Rattle.vhdl_names_interfaces.specs.Views.{entities_view}
 use Rattle.vhdl_tree.specs.View as view
 use Rattle.vhdl_names_rules.specs.Files.{architectures_of}
-use Rattle.vhdl_names_problems.specs.Broken.{any_of}
-use Rattle.vhdl_names_problems.specs.Files.{described}
+use Rattle.vhdl_names_rules.specs.problems.Broken.{any_of}
+use Rattle.vhdl_names_rules.specs.problems.Files.{described}
 use Rattle.vhdl_names.specs.steps.Architectures.{with_unit}
 use Rattle.vhdl_names.proofs.Finding.{passed_told}
 use Rattle.vhdl_names.proofs.InTurn.{told_here, told_behind, given_behind}

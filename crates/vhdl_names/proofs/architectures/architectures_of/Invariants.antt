@@ -5,8 +5,8 @@ use Rattle.vhdl_names_labels.specs.Once.{names_view}
 use Rattle.vhdl_names_interfaces.specs.Views.{entities_view}
 use Rattle.vhdl_names_rules.specs.Visibility.{Name}
 use Rattle.vhdl_names_rules.specs.Files.{architectures_of}
-use Rattle.vhdl_names_problems.specs.Broken.{any_of}
-use Rattle.vhdl_names_problems.specs.Files.{described}
+use Rattle.vhdl_names_rules.specs.problems.Broken.{any_of}
+use Rattle.vhdl_names_rules.specs.problems.Files.{described}
 use Rattle.vhdl_names.specs.Views.{is_hidden}
 use Rattle.vhdl_names.specs.steps.Architectures.{options_view, with_unit}
 use Rattle.vhdl_names.proofs.Passing.{left_at}

@@ -1,6 +1,6 @@
 use Rattle.std.proofs.Common.{true, false, map}
 use Rattle.vhdl_tree.specs.View as view
-use Rattle.vhdl_names_problems.proofs.kept.Declarations.{context_kept}
+use Rattle.vhdl_names_rules.proofs.kept.Declarations.{context_kept}
 use Rattle.vhdl_names.proofs.architectures.context.Goals as goal
 
 pub returns : goal.returns

@@ -1,6 +1,6 @@
 use Rattle.std.proofs.Common.{ap, sym, ◌∙◌, true≢false}
 use Rattle.vhdl_tree.specs.View as view
-use Rattle.vhdl_names_problems.specs.Files as broken
+use Rattle.vhdl_names_rules.specs.problems.Files as broken
 use Rattle.vhdl_names.specs.Views.{is_hidden}
 use Rattle.vhdl_names.proofs.Finding.{found_ok, found_at}
 use Rattle.vhdl_names.proofs.Hiding.{hidden_there, told_there, none_there}

@@ -8,11 +8,11 @@ use Rattle.vhdl_names_units.specs.views.Declarations.{declarations_view}
 use Rattle.vhdl_names_units.specs.views.Units.{architecture_view}
 use Rattle.vhdl_names_declarations.specs.Entered.{entering}
 use Rattle.vhdl_names_interfaces.specs.Views.{entities_view, entity_view}
-use Rattle.vhdl_names_problems.specs.Broken.{◌▸◌}
-use Rattle.vhdl_names_problems.specs.Declarations.{in_order as in_turn, end_name}
-use Rattle.vhdl_names_problems.specs.Files as broken
-use Rattle.vhdl_names_problems.proofs.Telling.{told_same, told_on}
-use Rattle.vhdl_names_problems.proofs.kept.Architectures.{architecture_kept}
+use Rattle.vhdl_names_rules.specs.problems.Broken.{◌▸◌}
+use Rattle.vhdl_names_rules.specs.problems.Declarations.{in_order as in_turn, end_name}
+use Rattle.vhdl_names_rules.specs.problems.Files as broken
+use Rattle.vhdl_names_rules.proofs.Telling.{told_same, told_on}
+use Rattle.vhdl_names_rules.proofs.kept.Architectures.{architecture_kept}
 use Rattle.vhdl_tree.specs.Tree as t
 use Rattle.vhdl_names.specs.steps.Architectures as steps
 use Rattle.vhdl_names.proofs.Behind.{then_body}

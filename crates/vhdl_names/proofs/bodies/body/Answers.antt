@@ -1,14 +1,14 @@
 use Rattle.std.proofs.Common.{map, sym, ◌∙◌}
 use Rattle.vhdl_tree.specs.Tree as t
 use Rattle.vhdl_tree.specs.View as view
-use Rattle.vhdl_names_problems.specs.Broken.{◌▸◌}
-use Rattle.vhdl_names_problems.specs.Concurrent.{concurrents}
-use Rattle.vhdl_names_problems.specs.Declarations.{standing_twice, end_name}
-use Rattle.vhdl_names_problems.specs.Files as broken
-use Rattle.vhdl_names_problems.specs.Labels.{labels_of}
-use Rattle.vhdl_names_problems.proofs.Telling.{told_left, told_right, told_same}
-use Rattle.vhdl_names_problems.proofs.kept.Keeping.{among_kept}
-use Rattle.vhdl_names_problems.proofs.kept.Concurrent.{concurrents_kept}
+use Rattle.vhdl_names_rules.specs.problems.Broken.{◌▸◌}
+use Rattle.vhdl_names_rules.specs.problems.Concurrent.{concurrents}
+use Rattle.vhdl_names_rules.specs.problems.Declarations.{standing_twice, end_name}
+use Rattle.vhdl_names_rules.specs.problems.Files as broken
+use Rattle.vhdl_names_rules.specs.problems.Labels.{labels_of}
+use Rattle.vhdl_names_rules.proofs.Telling.{told_left, told_right, told_same}
+use Rattle.vhdl_names_rules.proofs.kept.Keeping.{among_kept}
+use Rattle.vhdl_names_rules.proofs.kept.Concurrent.{concurrents_kept}
 use Rattle.vhdl_names_types.specs.Views.{sight_view, region_view}
 use Rattle.vhdl_names_concurrent.specs.steps.Concurrents.{body_view}
 use Rattle.vhdl_names.specs.steps.Architectures.{with_region}

@@ -1,9 +1,9 @@
 use Rattle.std.proofs.Common.{[], ◌∷◌, map, ap, sym}
 use Rattle.vhdl_tree.specs.Tree as t
 use Rattle.vhdl_tree.specs.View as view
-use Rattle.vhdl_names_problems.specs.Broken.{any_of, nothing}
-use Rattle.vhdl_names_problems.specs.Interfaces.{entity}
-use Rattle.vhdl_names_problems.proofs.Telling.{told_left, told_same, told_on}
+use Rattle.vhdl_names_rules.specs.problems.Broken.{any_of, nothing}
+use Rattle.vhdl_names_rules.specs.problems.Interfaces.{entity}
+use Rattle.vhdl_names_rules.proofs.Telling.{told_left, told_same, told_on}
 use Rattle.vhdl_names_rules.specs.Files.{entities_of}
 use Rattle.vhdl_names.proofs.Entering.{broken}
 use Rattle.vhdl_names.proofs.entities.add_unit.Goals as goal

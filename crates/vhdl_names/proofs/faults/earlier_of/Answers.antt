@@ -1,5 +1,5 @@
 use Rattle.std.proofs.Common.{sym}
-use Rattle.vhdl_names_problems.specs.Broken.{earlier}
+use Rattle.vhdl_names_rules.specs.problems.Broken.{earlier}
 use Rattle.vhdl_names.proofs.Finding.{found_ok, found_same, earlier_none}
 use Rattle.vhdl_names.proofs.faults.earlier_of.Goals as goal
 

@@ -1,7 +1,7 @@
 use Rattle.std.proofs.Common.{rules, arith, length, ◌<◌, ◌≡◌, true, false, ap, sym, ◌∙◌}
 use Rattle.std.proofs.lemmas.Grind.{common_steps}
 use Rattle.vhdl_tree.specs.View as view
-use Rattle.vhdl_names_problems.specs.Files as broken
+use Rattle.vhdl_names_rules.specs.problems.Files as broken
 use Rattle.vhdl_names.specs.Views.{one_is_hidden}
 use Rattle.vhdl_names.proofs.Mentioning.{statement_skipped, statement_stopped, none_named, in_generate}
 use Rattle.vhdl_names.proofs.mentions.+instances.Goals as goal

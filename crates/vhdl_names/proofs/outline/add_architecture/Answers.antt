@@ -4,8 +4,8 @@ use Rattle.vhdl_tree.specs.Tree as t
 use Rattle.vhdl_tree.specs.View as view
 use Rattle.vhdl_names_rules.specs.declared.fault.NameProblem.TheVariants.{Undeclared, SecondArchitecture}
 use Rattle.vhdl_names_rules.specs.Visibility.{is_among}
-use Rattle.vhdl_names_problems.specs.Broken.{unless}
-use Rattle.vhdl_names_problems.proofs.Telling.{told_left, told_right, told_on, told_unless, unless_kept}
+use Rattle.vhdl_names_rules.specs.problems.Broken.{unless}
+use Rattle.vhdl_names_rules.proofs.Telling.{told_left, told_right, told_on, told_unless, unless_kept}
 use Rattle.vhdl_names.specs.Views.{outline_view}
 use Rattle.vhdl_names.specs.Breaking.{one_unit}
 use Rattle.vhdl_names.specs.steps.Outlines.{names_of}

@@ -1,7 +1,7 @@
 use Rattle.std.proofs.Common.{◌≡◌, true, false, not, None, sym, ap, ◌∙◌}
 use Rattle.vhdl_names_rules.specs.declared.fault.NameProblem.TheVariants.{SecondArchitecture}
 use Rattle.vhdl_names_rules.specs.Visibility.{is_among}
-use Rattle.vhdl_names_problems.proofs.Telling.{told_unless}
+use Rattle.vhdl_names_rules.proofs.Telling.{told_unless}
 use Rattle.vhdl_names.specs.steps.Outlines.{names_of}
 use Rattle.std.specs.Prelude.{bytes_eq, is_some}
 use Rattle.std.specs.Map.{lookup}

@@ -3,8 +3,8 @@ use Rattle.vhdl_tree.specs.Tree as t
 use Rattle.vhdl_tree.specs.View as view
 use Rattle.vhdl_names_rules.specs.declared.fault.NameProblem.TheVariants.{Twice}
 use Rattle.vhdl_names_rules.specs.Visibility.{is_among}
-use Rattle.vhdl_names_problems.specs.Broken.{unless}
-use Rattle.vhdl_names_problems.proofs.Telling.{told_same, told_on}
+use Rattle.vhdl_names_rules.specs.problems.Broken.{unless}
+use Rattle.vhdl_names_rules.proofs.Telling.{told_same, told_on}
 use Rattle.vhdl_names.specs.Views.{outline_view}
 use Rattle.vhdl_names.specs.Breaking.{one_unit}
 use Rattle.vhdl_names.proofs.outline.add_entity.Goals as goal

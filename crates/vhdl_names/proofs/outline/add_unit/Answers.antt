@@ -1,6 +1,6 @@
 use Rattle.std.proofs.Common.{ap, sym}
 use Rattle.vhdl_tree.specs.View as view
-use Rattle.vhdl_names_problems.proofs.Telling.{told_same, told_on}
+use Rattle.vhdl_names_rules.proofs.Telling.{told_same, told_on}
 use Rattle.vhdl_names.specs.Views.{outline_view}
 use Rattle.vhdl_names.specs.Breaking.{one_unit}
 use Rattle.vhdl_names.proofs.outline.add_unit.Goals as goal

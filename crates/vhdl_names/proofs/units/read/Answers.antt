@@ -1,6 +1,6 @@
 use Rattle.std.proofs.Common.{◌≡◌, Some, Ok, ap, sym, ◌∙◌}
 use Rattle.vhdl_tree.specs.View.{file_view}
-use Rattle.vhdl_names_problems.specs.Files as broken
+use Rattle.vhdl_names_rules.specs.problems.Files as broken
 use Rattle.vhdl_names_rules.specs.Files.{units_of}
 use Rattle.vhdl_names_units.specs.views.Units as views
 use Rattle.vhdl_names_interfaces.specs.Views.{entities_view}

@@ -11,11 +11,11 @@ use Rattle.vhdl_names_units.specs.views.Declarations.{declaration_view, declarat
 use Rattle.vhdl_names_interfaces.specs.Views.{entities_view}
 use Rattle.vhdl_names_components.specs.Components.{analysed_view}
 use Rattle.vhdl_names_declarations.specs.Entered.{entering}
-use Rattle.vhdl_names_problems.specs.Broken.{Tells}
-use Rattle.vhdl_names_problems.specs.Declarations as declarations_broken
-use Rattle.vhdl_names_problems.specs.Files as broken
+use Rattle.vhdl_names_rules.specs.problems.Broken.{Tells}
+use Rattle.vhdl_names_rules.specs.problems.Declarations as declarations_broken
+use Rattle.vhdl_names_rules.specs.problems.Files as broken
 use Rattle.vhdl_names_declarations.proofs.Breaking.{told_at, told_behind}
-use Rattle.vhdl_names_problems.proofs.kept.Architectures.{declaration_kept}
+use Rattle.vhdl_names_rules.proofs.kept.Architectures.{declaration_kept}
 use Rattle.vhdl_names_declarations.proofs.Listed.{in_region, left, begins, fails, goes, ends, counts_before, place_within}
 use Rattle.vhdl_names_declarations.proofs.Regions.{names_apart}
 use Rattle.vhdl_names_components.proofs.architecture.declarations.Goals as goal

@@ -8,9 +8,9 @@ use Rattle.vhdl_names_units.specs.views.Declarations.{declarations_view}
 use Rattle.vhdl_names_declarations.specs.Counts.{AreCounts}
 use Rattle.vhdl_names_declarations.specs.Entered.{entering}
 use Rattle.vhdl_names_rules.specs.declared.fault.NameFault.{NameFault}
-use Rattle.vhdl_names_problems.specs.Broken.{Tells}
-use Rattle.vhdl_names_problems.specs.Declarations as declarations_broken
-use Rattle.vhdl_names_problems.specs.Files as broken
+use Rattle.vhdl_names_rules.specs.problems.Broken.{Tells}
+use Rattle.vhdl_names_rules.specs.problems.Declarations as declarations_broken
+use Rattle.vhdl_names_rules.specs.problems.Files as broken
 use Rattle.vhdl_names_declarations.proofs.Listed.{left}
 use Rattle.vhdl_names_interfaces.specs.Views.{entities_view}
 use Rattle.vhdl_names_components.proofs.architecture.declarations.Given as goal

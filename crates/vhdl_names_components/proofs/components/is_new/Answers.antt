@@ -4,8 +4,8 @@ use Rattle.std.specs.Map.{lookup}
 use Rattle.vhdl_tree.specs.View.{ident_view}
 use Rattle.vhdl_names_rules.specs.Interfaces.{declared_names}
 use Rattle.vhdl_names_types.specs.Views.{region_view}
-use Rattle.vhdl_names_problems.specs.Broken.{Tells}
-use Rattle.vhdl_names_problems.specs.Declarations.{standing_twice}
+use Rattle.vhdl_names_rules.specs.problems.Broken.{Tells}
+use Rattle.vhdl_names_rules.specs.problems.Declarations.{standing_twice}
 use Rattle.vhdl_names_declarations.proofs.Breaking.{twice_here}
 use Rattle.vhdl_names_declarations.proofs.Regions.{among_keys}
 use Rattle.vhdl_names_components.proofs.Standing.{is_twice, is_once}

@@ -9,13 +9,13 @@ use Rattle.vhdl_names_rules.specs.Concurrent.{concurrent_labels}
 use Rattle.vhdl_names_types.specs.Views.{sight_view}
 use Rattle.vhdl_names_types.proofs.Along.{gives_along}
 use Rattle.vhdl_names_units.specs.views.Concurrent as views
-use Rattle.vhdl_names_problems.specs.Broken.{Tells, any_of}
-use Rattle.vhdl_names_problems.specs.Twice.{twice}
-use Rattle.vhdl_names_problems.specs.Labels.{labels_of}
-use Rattle.vhdl_names_problems.specs.Concurrent as broken
-use Rattle.vhdl_names_problems.proofs.Telling.{told_on, told_same}
-use Rattle.vhdl_names_problems.proofs.kept.Keeping.{among_second}
-use Rattle.vhdl_names_problems.proofs.kept.Concurrent.{labels_kept}
+use Rattle.vhdl_names_rules.specs.problems.Broken.{Tells, any_of}
+use Rattle.vhdl_names_rules.specs.problems.Twice.{twice}
+use Rattle.vhdl_names_rules.specs.problems.Labels.{labels_of}
+use Rattle.vhdl_names_rules.specs.problems.Concurrent as broken
+use Rattle.vhdl_names_rules.proofs.Telling.{told_on, told_same}
+use Rattle.vhdl_names_rules.proofs.kept.Keeping.{among_second}
+use Rattle.vhdl_names_rules.proofs.kept.Concurrent.{labels_kept}
 use Rattle.vhdl_names_labels.specs.Once.{names_view}
 use Rattle.vhdl_names_labels.proofs.Behind.{next_told, next_left}
 use Rattle.vhdl_names_rules.specs.Interfaces.{EntityView}

@@ -6,8 +6,8 @@ use Rattle.vhdl_names_units.specs.views.Concurrent.{concurrents_view}
 use Rattle.vhdl_names_labels.specs.Lists.{in_turn, one_more}
 use Rattle.vhdl_names_labels.specs.Once.{names_view}
 use Rattle.vhdl_names_rules.specs.Interfaces.{EntityView}
-use Rattle.vhdl_names_problems.specs.Broken.{any_of}
-use Rattle.vhdl_names_problems.specs.Concurrent as broken
+use Rattle.vhdl_names_rules.specs.problems.Broken.{any_of}
+use Rattle.vhdl_names_rules.specs.problems.Concurrent as broken
 use Rattle.vhdl_names_instances.specs.Table.{AreEntities, seens_view}
 use Rattle.vhdl_names_concurrent.specs.steps.Concurrents as steps
 use Rattle.vhdl_names_instances.specs.steps.Instances.{instance}

@@ -5,10 +5,10 @@ use Rattle.vhdl_tree.specs.View as tree
 use Rattle.vhdl_tree.specs.declared.sequential.Case.{out-Case}
 use Rattle.vhdl_tree.specs.declared.sequential.If.{out-If}
 use Rattle.vhdl_names_rules.specs.Statements.{inner_labels}
-use Rattle.vhdl_names_problems.specs.Broken.{Tells}
-use Rattle.vhdl_names_problems.specs.Labels as broken
-use Rattle.vhdl_names_problems.specs.Twice.{twice}
-use Rattle.vhdl_names_problems.proofs.Telling.{told_same, told_on}
+use Rattle.vhdl_names_rules.specs.problems.Broken.{Tells}
+use Rattle.vhdl_names_rules.specs.problems.Labels as broken
+use Rattle.vhdl_names_rules.specs.problems.Twice.{twice}
+use Rattle.vhdl_names_rules.proofs.Telling.{told_same, told_on}
 use Rattle.vhdl_names_types.proofs.Along.{gives_along}
 use Rattle.vhdl_names_labels.specs.Lists.{in_turn}
 use Rattle.vhdl_names_labels.specs.Once.{names_view, one_name}

@@ -1,11 +1,11 @@
 use Rattle.std.proofs.Common.{not, ap, sym, ◌∙◌}
 use Rattle.vhdl_names_rules.specs.declared.fault.NameProblem.TheVariants.{Twice}
 use Rattle.vhdl_names_rules.specs.Visibility.{is_among}
-use Rattle.vhdl_names_problems.specs.Broken.{unless}
-use Rattle.vhdl_names_problems.specs.Labels.{label_if_any}
-use Rattle.vhdl_names_problems.specs.Twice.{twice}
+use Rattle.vhdl_names_rules.specs.problems.Broken.{unless}
+use Rattle.vhdl_names_rules.specs.problems.Labels.{label_if_any}
+use Rattle.vhdl_names_rules.specs.problems.Twice.{twice}
 use Rattle.vhdl_tree.specs.View as tree
-use Rattle.vhdl_names_problems.proofs.Telling.{told_on, told_same}
+use Rattle.vhdl_names_rules.proofs.Telling.{told_on, told_same}
 use Rattle.vhdl_names_labels.specs.Once.{names_view}
 use Rattle.vhdl_names_concurrent.proofs.Standing.{label_told}
 use Rattle.vhdl_names_concurrent.proofs.labels.label.Goals as goal

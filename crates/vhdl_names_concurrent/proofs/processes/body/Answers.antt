@@ -5,14 +5,14 @@ use Rattle.vhdl_names_rules.specs.Visibility.{are_distinct}
 use Rattle.vhdl_names_rules.specs.Statements as rules
 use Rattle.vhdl_names_types.specs.Views.{sight_view}
 use Rattle.vhdl_names_units.specs.views.Sequential.{body_view}
-use Rattle.vhdl_names_problems.specs.Twice.{twice}
-use Rattle.vhdl_names_problems.specs.Labels.{statement_labels}
-use Rattle.vhdl_names_problems.specs.Concurrent as broken
-use Rattle.vhdl_names_problems.specs.Statements.{statements}
-use Rattle.vhdl_names_problems.proofs.Telling.{told_on, told_same}
-use Rattle.vhdl_names_problems.proofs.kept.Keeping.{among_second}
-use Rattle.vhdl_names_problems.proofs.kept.Concurrent.{inner_labels_kept}
-use Rattle.vhdl_names_problems.proofs.kept.Statements.{statements_kept}
+use Rattle.vhdl_names_rules.specs.problems.Twice.{twice}
+use Rattle.vhdl_names_rules.specs.problems.Labels.{statement_labels}
+use Rattle.vhdl_names_rules.specs.problems.Concurrent as broken
+use Rattle.vhdl_names_rules.specs.problems.Statements.{statements}
+use Rattle.vhdl_names_rules.proofs.Telling.{told_on, told_same}
+use Rattle.vhdl_names_rules.proofs.kept.Keeping.{among_second}
+use Rattle.vhdl_names_rules.proofs.kept.Concurrent.{inner_labels_kept}
+use Rattle.vhdl_names_rules.proofs.kept.Statements.{statements_kept}
 use Rattle.vhdl_names_concurrent.proofs.Told.{met_holds, ok_kept}
 use Rattle.vhdl_names_concurrent.proofs.processes.body.Goals as goal
 

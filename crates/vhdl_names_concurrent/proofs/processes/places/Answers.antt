@@ -3,9 +3,9 @@ use Rattle.std.proofs.lemmas.Grind.{common_steps}
 use Rattle.std.proofs.lemmas.List.{at_drop_all}
 use Rattle.vhdl_tree.specs.View.{name_view}
 use Rattle.vhdl_names_types.specs.Views.{sight_view}
-use Rattle.vhdl_names_problems.specs.Broken.{Tells, any_of}
-use Rattle.vhdl_names_problems.specs.Statements.{signal}
-use Rattle.vhdl_names_problems.proofs.kept.Statements.{signal_kept}
+use Rattle.vhdl_names_rules.specs.problems.Broken.{Tells, any_of}
+use Rattle.vhdl_names_rules.specs.problems.Statements.{signal}
+use Rattle.vhdl_names_rules.proofs.kept.Statements.{signal_kept}
 use Rattle.vhdl_names_labels.specs.Lists.{in_turn, one_more}
 use Rattle.vhdl_names_labels.proofs.Behind.{next_told, next_left}
 use Rattle.vhdl_names_labels.proofs.Lists.{each_in_turn}

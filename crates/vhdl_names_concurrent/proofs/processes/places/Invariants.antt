@@ -3,8 +3,8 @@ use Rattle.vhdl_names_rules.specs.Rules.{each}
 use Rattle.vhdl_tree.specs.View.{name_view}
 use Rattle.vhdl_names_types.specs.Views.{sight_view}
 use Rattle.vhdl_names_labels.specs.Lists.{in_turn, one_more}
-use Rattle.vhdl_names_problems.specs.Broken.{any_of}
-use Rattle.vhdl_names_problems.specs.Statements as statements
+use Rattle.vhdl_names_rules.specs.problems.Broken.{any_of}
+use Rattle.vhdl_names_rules.specs.problems.Statements as statements
 use Rattle.vhdl_names_concurrent.specs.Views.{all_places_view}
 use Rattle.vhdl_names_concurrent.specs.steps.Processes.{place_of}
 use Rattle.vhdl_names_concurrent.proofs.processes.places.Given as goal

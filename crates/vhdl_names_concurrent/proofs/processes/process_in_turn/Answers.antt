@@ -5,10 +5,10 @@ use Rattle.vhdl_tree.specs.View as tree
 use Rattle.vhdl_names_types.specs.Views.{sight_view}
 use Rattle.vhdl_names_rules.specs.Visibility.{with_variables}
 use Rattle.vhdl_names_rules.specs.Declarations as declarations
-use Rattle.vhdl_names_problems.specs.Broken.{Tells}
-use Rattle.vhdl_names_problems.specs.Declarations.{in_order, variables}
-use Rattle.vhdl_names_problems.specs.Concurrent as broken
-use Rattle.vhdl_names_problems.proofs.Telling.{told_same}
+use Rattle.vhdl_names_rules.specs.problems.Broken.{Tells}
+use Rattle.vhdl_names_rules.specs.problems.Declarations.{in_order, variables}
+use Rattle.vhdl_names_rules.specs.problems.Concurrent as broken
+use Rattle.vhdl_names_rules.proofs.Telling.{told_same}
 use Rattle.vhdl_names_concurrent.specs.steps.Processes as steps
 use Rattle.vhdl_names_concurrent.proofs.Running.{left_process}
 use Rattle.vhdl_names_concurrent.proofs.Told.{process_resumed, process_variables, process_body, process_ends}

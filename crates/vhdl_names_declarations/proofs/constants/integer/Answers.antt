@@ -4,10 +4,10 @@ use Rattle.std.specs.Prelude.{is_none, is_some}
 use Rattle.vhdl_tree.specs.View as tree
 use Rattle.vhdl_names_rules.specs.declared.fault.NameFault.TheVariants.{At}
 use Rattle.vhdl_names_rules.specs.declared.fault.NameProblem.TheVariants.{LeftOut}
-use Rattle.vhdl_names_problems.specs.Broken.{Tells, unless}
-use Rattle.vhdl_names_problems.specs.Declarations as broken
-use Rattle.vhdl_names_problems.specs.Expressions as expressions_broken
-use Rattle.vhdl_names_problems.proofs.Telling.{told_same, told_left, told_right, unless_kept}
+use Rattle.vhdl_names_rules.specs.problems.Broken.{Tells, unless}
+use Rattle.vhdl_names_rules.specs.problems.Declarations as broken
+use Rattle.vhdl_names_rules.specs.problems.Expressions as expressions_broken
+use Rattle.vhdl_names_rules.proofs.Telling.{told_same, told_left, told_right, unless_kept}
 use Rattle.vhdl_names_types.specs.Views.{sight_view}
 use Rattle.vhdl_names_declarations.proofs.Breaking.{stands_there, not_there, value_is}
 use Rattle.vhdl_names_declarations.proofs.Breaking.{passed_on}

@@ -1,8 +1,8 @@
-use Rattle.vhdl_names_problems.specs.Broken.{Tells, ◌▸◌, where_given}
-use Rattle.vhdl_names_problems.specs.Declarations as broken
-use Rattle.vhdl_names_problems.specs.Subtypes as subtypes_broken
-use Rattle.vhdl_names_problems.proofs.Telling.{told_left, told_right, told_given, told_lacking, lacking_kept}
-use Rattle.vhdl_names_problems.proofs.kept.Values.{subtype_kept}
+use Rattle.vhdl_names_rules.specs.problems.Broken.{Tells, ◌▸◌, where_given}
+use Rattle.vhdl_names_rules.specs.problems.Declarations as broken
+use Rattle.vhdl_names_rules.specs.problems.Subtypes as subtypes_broken
+use Rattle.vhdl_names_rules.proofs.Telling.{told_left, told_right, told_given, told_lacking, lacking_kept}
+use Rattle.vhdl_names_rules.proofs.kept.Values.{subtype_kept}
 use Rattle.vhdl_names_rules.specs.declared.fault.NameProblem.TheVariants.{LeftOut}
 use Rattle.vhdl_names_rules.specs.Declarations.{as_kind}
 use Rattle.vhdl_names_rules.specs.Subtypes.{Subtype, subtype}

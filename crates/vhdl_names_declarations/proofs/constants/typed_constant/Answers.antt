@@ -3,11 +3,11 @@ use Rattle.vhdl_tree.specs.View as tree
 use Rattle.vhdl_names_rules.specs.Visibility.{Meaning, meaning}
 use Rattle.vhdl_names_rules.specs.Subtypes.{as_integer_type}
 use Rattle.vhdl_names_types.specs.Views.{sight_view, meaning_view}
-use Rattle.vhdl_names_problems.specs.Broken.{Tells, where_given}
-use Rattle.vhdl_names_problems.specs.Declarations as broken
-use Rattle.vhdl_names_problems.specs.Expressions as expressions_broken
-use Rattle.vhdl_names_problems.proofs.Telling.{told_left, told_right, told_given, told_on}
-use Rattle.vhdl_names_problems.proofs.kept.Expressions.{meaning_kept}
+use Rattle.vhdl_names_rules.specs.problems.Broken.{Tells, where_given}
+use Rattle.vhdl_names_rules.specs.problems.Declarations as broken
+use Rattle.vhdl_names_rules.specs.problems.Expressions as expressions_broken
+use Rattle.vhdl_names_rules.proofs.Telling.{told_left, told_right, told_given, told_on}
+use Rattle.vhdl_names_rules.proofs.kept.Expressions.{meaning_kept}
 use Rattle.vhdl_names_declarations.proofs.Breaking.{passed_on}
 use Rattle.vhdl_names_declarations.proofs.constants.typed_constant.Goals as goal
 

@@ -1,9 +1,9 @@
 use Rattle.std.proofs.Common.{◌∷◌, [], map, sym, ap, subst, ◌∙◌}
 use Rattle.vhdl_tree.specs.Tree.{library, uses}
 use Rattle.vhdl_tree.specs.View as tree
-use Rattle.vhdl_names_problems.specs.Broken.{Tells}
-use Rattle.vhdl_names_problems.specs.Declarations as broken
-use Rattle.vhdl_names_problems.proofs.Telling.{told_on, told_same}
+use Rattle.vhdl_names_rules.specs.problems.Broken.{Tells}
+use Rattle.vhdl_names_rules.specs.problems.Declarations as broken
+use Rattle.vhdl_names_rules.proofs.Telling.{told_on, told_same}
 use Rattle.vhdl_names_declarations.specs.Contexts.{context_view}
 use Rattle.vhdl_names_declarations.proofs.Clauses.{broken_by, alone}
 use Rattle.vhdl_names_declarations.proofs.context.context_item.Goals as goal

@@ -3,9 +3,9 @@ use Rattle.vhdl_tree.specs.View.{ident_view}
 use Rattle.vhdl_names_rules.specs.declared.fault.NameFault.TheVariants.{At}
 use Rattle.vhdl_names_rules.specs.declared.fault.NameProblem.TheVariants.{LeftOut}
 use Rattle.vhdl_names_rules.specs.Packages.{is_library}
-use Rattle.vhdl_names_problems.specs.Broken.{Tells, any_of, unless}
-use Rattle.vhdl_names_problems.specs.Declarations.{library_named}
-use Rattle.vhdl_names_problems.proofs.Telling.{unless_kept}
+use Rattle.vhdl_names_rules.specs.problems.Broken.{Tells, any_of, unless}
+use Rattle.vhdl_names_rules.specs.problems.Declarations.{library_named}
+use Rattle.vhdl_names_rules.proofs.Telling.{unless_kept}
 use Rattle.vhdl_names_declarations.proofs.Clauses.{one_told, one_behind, one_passes}
 use Rattle.vhdl_names_declarations.proofs.context.libraries.Goals as goal
 

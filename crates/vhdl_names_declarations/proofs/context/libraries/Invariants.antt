@@ -2,8 +2,8 @@ use Rattle.std.proofs.Common.{◌≡◌, map, drop}
 use Rattle.std.specs.List.{list_all}
 use Rattle.vhdl_names_rules.specs.Packages.{is_library}
 use Rattle.vhdl_tree.specs.View.{ident_view}
-use Rattle.vhdl_names_problems.specs.Broken.{any_of}
-use Rattle.vhdl_names_problems.specs.Declarations.{library_named}
+use Rattle.vhdl_names_rules.specs.problems.Broken.{any_of}
+use Rattle.vhdl_names_rules.specs.problems.Declarations.{library_named}
 use Rattle.vhdl_names_declarations.proofs.context.libraries.Given as goal
 
 -- those that are left say whether all are libraries, and what is told

@@ -1,8 +1,8 @@
 use Rattle.std.proofs.Common.{sym, subst, ◌∙◌}
 use Rattle.vhdl_tree.specs.View.{selected_view}
 use Rattle.vhdl_names_rules.proofs.laws.Rules.{not_true}
-use Rattle.vhdl_names_problems.specs.Broken.{Tells}
-use Rattle.vhdl_names_problems.specs.Declarations.{package_used}
+use Rattle.vhdl_names_rules.specs.problems.Broken.{Tells}
+use Rattle.vhdl_names_rules.specs.problems.Declarations.{package_used}
 use Rattle.vhdl_names_declarations.specs.Contexts.{context_view}
 use Rattle.vhdl_names_declarations.proofs.Clauses.{not_ieee, no_library, not_offered, not_false}
 use Rattle.vhdl_names_declarations.proofs.context.use_fault.Goals as goal

@@ -6,9 +6,9 @@ use Rattle.vhdl_names_rules.specs.declared.fault.NameFault.TheVariants.{At}
 use Rattle.vhdl_names_rules.specs.declared.fault.NameProblem.TheVariants.{Undeclared}
 use Rattle.vhdl_names_rules.specs.Packages.{is_logic, is_numbers}
 use Rattle.vhdl_names_rules.proofs.laws.Rules.{not_true}
-use Rattle.vhdl_names_problems.specs.Broken.{Tells, unless, any_of}
-use Rattle.vhdl_names_problems.specs.Declarations.{package_used, packages_used}
-use Rattle.vhdl_names_problems.proofs.Telling.{told_left, told_right}
+use Rattle.vhdl_names_rules.specs.problems.Broken.{Tells, unless, any_of}
+use Rattle.vhdl_names_rules.specs.problems.Declarations.{package_used, packages_used}
+use Rattle.vhdl_names_rules.proofs.Telling.{told_left, told_right}
 use Rattle.vhdl_names_declarations.specs.Contexts.{context_view}
 use Rattle.vhdl_names_declarations.proofs.Clauses.{is_offered, neither_offered, package_kept, one_told, one_behind, one_passes}
 use Rattle.vhdl_names_declarations.proofs.context.uses.Goals as goal

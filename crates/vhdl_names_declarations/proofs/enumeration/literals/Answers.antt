@@ -3,9 +3,9 @@ use Rattle.vhdl_names_rules.specs.declared.fault.NameFault.TheVariants.{NoMemory
 use Rattle.vhdl_names_rules.specs.Rules.{◌>>=◌}
 use Rattle.vhdl_names_rules.specs.Declarations as d
 use Rattle.vhdl_names_rules.specs.Visibility.{names_of, declare, literal}
-use Rattle.vhdl_names_problems.specs.Broken.{Tells}
-use Rattle.vhdl_names_problems.specs.Declarations.{standing_twice}
-use Rattle.vhdl_names_problems.proofs.Telling.{told_same}
+use Rattle.vhdl_names_rules.specs.problems.Broken.{Tells}
+use Rattle.vhdl_names_rules.specs.problems.Declarations.{standing_twice}
+use Rattle.vhdl_names_rules.proofs.Telling.{told_same}
 use Rattle.vhdl_names_declarations.proofs.Breaking.{name_told, name_behind}
 use Rattle.vhdl_tree.specs.View.{ident_view}
 use Rattle.vhdl_names_types.specs.Views.{region_view}

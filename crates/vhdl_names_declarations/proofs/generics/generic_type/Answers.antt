@@ -1,8 +1,8 @@
-use Rattle.vhdl_names_problems.specs.Broken.{Tells, ◌▸◌, where_given, of_any}
-use Rattle.vhdl_names_problems.specs.Declarations as broken
-use Rattle.vhdl_names_problems.specs.Expressions as expressions_broken
-use Rattle.vhdl_names_problems.proofs.Telling.{told_left, told_right, told_given, told_lacking, given_kept, lacking_kept}
-use Rattle.vhdl_names_problems.proofs.kept.Expressions.{meaning_kept}
+use Rattle.vhdl_names_rules.specs.problems.Broken.{Tells, ◌▸◌, where_given, of_any}
+use Rattle.vhdl_names_rules.specs.problems.Declarations as broken
+use Rattle.vhdl_names_rules.specs.problems.Expressions as expressions_broken
+use Rattle.vhdl_names_rules.proofs.Telling.{told_left, told_right, told_given, told_lacking, given_kept, lacking_kept}
+use Rattle.vhdl_names_rules.proofs.kept.Expressions.{meaning_kept}
 use Rattle.vhdl_names_rules.specs.Subtypes.{as_integer_type}
 use Rattle.vhdl_names_rules.specs.Visibility.{meaning}
 use Rattle.vhdl_tree.specs.View.{generic_view}

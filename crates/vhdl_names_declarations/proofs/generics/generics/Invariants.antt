@@ -6,8 +6,8 @@ use Rattle.vhdl_names_types.specs.Views.{sight_view, region_view}
 use Rattle.vhdl_names_units.specs.views.Declarations.{all_generics_view}
 use Rattle.vhdl_names_declarations.specs.Counts.{AreCounts}
 use Rattle.vhdl_names_rules.specs.declared.fault.NameFault.{NameFault}
-use Rattle.vhdl_names_problems.specs.Broken.{Tells}
-use Rattle.vhdl_names_problems.specs.Interfaces as interfaces_broken
+use Rattle.vhdl_names_rules.specs.problems.Broken.{Tells}
+use Rattle.vhdl_names_rules.specs.problems.Interfaces as interfaces_broken
 use Rattle.vhdl_names_declarations.specs.Entered.{entering}
 use Rattle.vhdl_names_declarations.proofs.Listed.{left}
 use Rattle.vhdl_names_declarations.proofs.generics.generics.Given as goal

@@ -5,9 +5,9 @@ use Rattle.vhdl_names_rules.specs.Files.{labelled}
 use Rattle.vhdl_names_rules.specs.Visibility.{are_distinct}
 use Rattle.vhdl_names_types.specs.Views.{entry_view}
 use Rattle.vhdl_names_declarations.specs.Entered.{more}
-use Rattle.vhdl_names_problems.specs.Broken.{Tells}
-use Rattle.vhdl_names_problems.specs.Twice.{twice}
-use Rattle.vhdl_names_problems.specs.Declarations.{standing_twice}
+use Rattle.vhdl_names_rules.specs.problems.Broken.{Tells}
+use Rattle.vhdl_names_rules.specs.problems.Twice.{twice}
+use Rattle.vhdl_names_rules.specs.problems.Declarations.{standing_twice}
 use Rattle.vhdl_names_declarations.proofs.Labelling.{label_names_of, labels_in, distinct_none, distinct_some}
 use Rattle.vhdl_names_declarations.proofs.Breaking.{passed_on}
 use Rattle.vhdl_names_declarations.proofs.Passing.{gives_none}

@@ -1,8 +1,8 @@
-use Rattle.vhdl_names_problems.specs.Broken.{Tells, where_given, of_any}
-use Rattle.vhdl_names_problems.specs.Declarations as broken
-use Rattle.vhdl_names_problems.specs.Subtypes as subtypes_broken
-use Rattle.vhdl_names_problems.proofs.Telling.{told_left, told_right, told_given}
-use Rattle.vhdl_names_problems.proofs.kept.Values.{subtype_kept}
+use Rattle.vhdl_names_rules.specs.problems.Broken.{Tells, where_given, of_any}
+use Rattle.vhdl_names_rules.specs.problems.Declarations as broken
+use Rattle.vhdl_names_rules.specs.problems.Subtypes as subtypes_broken
+use Rattle.vhdl_names_rules.proofs.Telling.{told_left, told_right, told_given}
+use Rattle.vhdl_names_rules.proofs.kept.Values.{subtype_kept}
 use Rattle.vhdl_names_rules.specs.Subtypes.{Subtype, subtype}
 use Rattle.vhdl_tree.specs.View as tree
 use Rattle.vhdl_names_types.specs.Views.{sight_view}

@@ -7,10 +7,10 @@ use Rattle.vhdl_tree.specs.View.{variables_view}
 use Rattle.vhdl_names_types.specs.Views.{sight_view, entry_view}
 use Rattle.vhdl_names_units.specs.views.Declarations.{object_view, objects_view}
 use Rattle.vhdl_names_declarations.specs.Entered.{entering_variables}
-use Rattle.vhdl_names_problems.specs.Broken.{Tells}
-use Rattle.vhdl_names_problems.specs.Declarations as broken
+use Rattle.vhdl_names_rules.specs.problems.Broken.{Tells}
+use Rattle.vhdl_names_rules.specs.problems.Declarations as broken
 use Rattle.vhdl_names_declarations.proofs.Breaking.{told_at, told_behind}
-use Rattle.vhdl_names_problems.proofs.kept.Declarations.{variables_kept}
+use Rattle.vhdl_names_rules.proofs.kept.Declarations.{variables_kept}
 use Rattle.vhdl_names_declarations.proofs.Listed.{of_process, left_variables, begins_variables, fails_variables, goes_variables, ends_variables, counts_before_variables, place_within_variables, all_more}
 use Rattle.vhdl_names_declarations.proofs.Regions.{names_apart}
 use Rattle.vhdl_names_declarations.proofs.Breaking.{passed_on}

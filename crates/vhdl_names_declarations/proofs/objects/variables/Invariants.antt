@@ -6,8 +6,8 @@ use Rattle.vhdl_names_types.specs.Views.{sight_view, region_view}
 use Rattle.vhdl_names_units.specs.views.Declarations.{objects_view}
 use Rattle.vhdl_names_declarations.specs.Counts.{AreCounts}
 use Rattle.vhdl_names_rules.specs.declared.fault.NameFault.{NameFault}
-use Rattle.vhdl_names_problems.specs.Broken.{Tells}
-use Rattle.vhdl_names_problems.specs.Declarations as broken
+use Rattle.vhdl_names_rules.specs.problems.Broken.{Tells}
+use Rattle.vhdl_names_rules.specs.problems.Declarations as broken
 use Rattle.vhdl_names_declarations.specs.Entered.{entering_variables}
 use Rattle.vhdl_names_declarations.proofs.Listed.{left_variables}
 use Rattle.vhdl_names_declarations.proofs.objects.variables.Given as goal

@@ -10,7 +10,7 @@ use Rattle.vhdl_names_declarations.specs.declared.packages.Row.{Row}
 use Rattle.vhdl_names_declarations.specs.Rows.{row_view}
 use Rattle.vhdl_names_rules.specs.declared.fault.NameProblem.TheVariants.{Twice}
 use Rattle.vhdl_names_rules.specs.Interfaces.{declared_names}
-use Rattle.vhdl_names_problems.specs.Broken.{Tells, refused}
+use Rattle.vhdl_names_rules.specs.problems.Broken.{Tells, refused}
 use Rattle.vhdl_names_declarations.proofs.Breaking.{twice_alone}
 use Rattle.vhdl_names_declarations.proofs.Regions.{next_of, none_left}
 use Rattle.vhdl_names_declarations.proofs.Breaking.{passed_on}

@@ -8,11 +8,11 @@ use Rattle.vhdl_names_types.specs.declared.sight.Sight.{Sight}
 use Rattle.vhdl_names_types.specs.Views.{sight_view, entry_view}
 use Rattle.vhdl_names_units.specs.views.Declarations.{ports_view, all_ports_view}
 use Rattle.vhdl_names_declarations.specs.Entered.{entering}
-use Rattle.vhdl_names_problems.specs.Broken.{Tells}
-use Rattle.vhdl_names_problems.specs.Declarations as broken
-use Rattle.vhdl_names_problems.specs.Interfaces as interfaces_broken
+use Rattle.vhdl_names_rules.specs.problems.Broken.{Tells}
+use Rattle.vhdl_names_rules.specs.problems.Declarations as broken
+use Rattle.vhdl_names_rules.specs.problems.Interfaces as interfaces_broken
 use Rattle.vhdl_names_declarations.proofs.Breaking.{told_at, told_behind}
-use Rattle.vhdl_names_problems.proofs.kept.Declarations.{port_kept}
+use Rattle.vhdl_names_rules.proofs.kept.Declarations.{port_kept}
 use Rattle.vhdl_names_declarations.proofs.Listed.{in_region, left, begins, fails, goes, ends, counts_before, place_within, all_more}
 use Rattle.vhdl_names_declarations.proofs.Regions.{names_apart}
 use Rattle.vhdl_names_declarations.proofs.Breaking.{passed_on}

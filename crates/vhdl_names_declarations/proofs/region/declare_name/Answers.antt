@@ -4,8 +4,8 @@ use Rattle.std.specs.Map.{lookup}
 use Rattle.indexmap.proofs.CallerLemmas.{insert_entry-new}
 use Rattle.vhdl_names_types.specs.Views.{meaning_view, region_view}
 use Rattle.vhdl_names_rules.specs.Interfaces.{declared_names}
-use Rattle.vhdl_names_problems.specs.Broken.{Tells}
-use Rattle.vhdl_names_problems.specs.Declarations.{standing_twice}
+use Rattle.vhdl_names_rules.specs.problems.Broken.{Tells}
+use Rattle.vhdl_names_rules.specs.problems.Declarations.{standing_twice}
 use Rattle.vhdl_names_declarations.specs.Entered.{ident}
 use Rattle.vhdl_names_declarations.proofs.Breaking.{twice_here}
 use Rattle.vhdl_names_declarations.proofs.Regions.{absent, refused, grown, among_keys}

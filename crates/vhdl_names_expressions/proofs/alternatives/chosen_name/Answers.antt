@@ -6,8 +6,8 @@ use Rattle.vhdl_names_rules.specs.declared.fault.NameFault.TheVariants.{At}
 use Rattle.vhdl_names_rules.specs.declared.fault.NameProblem.TheVariants.{LeftOut}
 use Rattle.vhdl_names_units.specs.views.Answers.{choice_view}
 use Rattle.vhdl_names_types.specs.Views.{sight_view, meaning_view}
-use Rattle.vhdl_names_problems.specs.Broken.{Tells}
-use Rattle.vhdl_names_problems.specs.Choices as broken
+use Rattle.vhdl_names_rules.specs.problems.Broken.{Tells}
+use Rattle.vhdl_names_rules.specs.problems.Choices as broken
 use Rattle.vhdl_names_expressions.proofs.Breaking.{told_fault}
 use Rattle.vhdl_names_expressions.proofs.BreakingChoices.{chosen_meaning, chosen_behind, chosen_bare}
 use Rattle.vhdl_names_expressions.proofs.alternatives.chosen_name.Goals as goal

@@ -8,10 +8,10 @@ use Rattle.vhdl_tree.specs.View.{choice_view as tree_choice_view}
 use Rattle.vhdl_names_types.specs.Views.{sight_view}
 use Rattle.vhdl_names_units.specs.views.Answers.{choice_view, choices_view}
 use Rattle.vhdl_names_expressions.proofs.Each.{behind, each_fails, each_goes, each_ends}
-use Rattle.vhdl_names_problems.specs.Broken.{Tells, any_of}
-use Rattle.vhdl_names_problems.specs.Choices as broken
-use Rattle.vhdl_names_problems.proofs.Telling.{told_same}
-use Rattle.vhdl_names_problems.proofs.kept.Choices.{choice_kept}
+use Rattle.vhdl_names_rules.specs.problems.Broken.{Tells, any_of}
+use Rattle.vhdl_names_rules.specs.problems.Choices as broken
+use Rattle.vhdl_names_rules.proofs.Telling.{told_same}
+use Rattle.vhdl_names_rules.proofs.kept.Choices.{choice_kept}
 use Rattle.vhdl_names_expressions.proofs.BreakingChoices.{next_told, any_left}
 use Rattle.vhdl_names_expressions.proofs.alternatives.each_choice.Goals as goal
 

@@ -2,8 +2,8 @@ use Rattle.std.proofs.Common.{◌≡◌, drop, map}
 use Rattle.vhdl_tree.specs.View.{choice_view as tree_choice_view}
 use Rattle.vhdl_names_rules.specs.Choices.{choice}
 use Rattle.vhdl_names_rules.specs.Rules.{each}
-use Rattle.vhdl_names_problems.specs.Broken.{any_of}
-use Rattle.vhdl_names_problems.specs.Choices as broken
+use Rattle.vhdl_names_rules.specs.problems.Broken.{any_of}
+use Rattle.vhdl_names_rules.specs.problems.Choices as broken
 use Rattle.vhdl_names_types.specs.Views.{sight_view}
 use Rattle.vhdl_names_units.specs.views.Answers.{choices_view}
 use Rattle.vhdl_names_expressions.proofs.Each.{behind}

@@ -6,12 +6,12 @@ use Rattle.vhdl_names_rules.specs.Expressions as are
 use Rattle.vhdl_names_rules.specs.Expressions.{as_value, as_filled}
 use Rattle.vhdl_names_units.specs.views.Answers.{given_view}
 use Rattle.vhdl_names_types.specs.Views.{sight_view, typed_view}
-use Rattle.vhdl_names_problems.specs.Broken.{Tells, ◌▸◌, unless, lacking, where_given}
-use Rattle.vhdl_names_problems.specs.Places.{start}
-use Rattle.vhdl_names_problems.specs.Expressions as broken
-use Rattle.vhdl_names_problems.specs.Expressions.{is_vector_type}
-use Rattle.vhdl_names_problems.proofs.Telling.{told_same, told_left}
-use Rattle.vhdl_names_problems.proofs.kept.Expressions.{typed_kept}
+use Rattle.vhdl_names_rules.specs.problems.Broken.{Tells, ◌▸◌, unless, lacking, where_given}
+use Rattle.vhdl_names_rules.specs.problems.Places.{start}
+use Rattle.vhdl_names_rules.specs.problems.Expressions as broken
+use Rattle.vhdl_names_rules.specs.problems.Expressions.{is_vector_type}
+use Rattle.vhdl_names_rules.proofs.Telling.{told_same, told_left}
+use Rattle.vhdl_names_rules.proofs.kept.Expressions.{typed_kept}
 use Rattle.vhdl_names_expressions.proofs.Breaking.{told_as, asked_told, wanted_told}
 use Rattle.vhdl_names_expressions.proofs.asked.given.Goals as goal
 

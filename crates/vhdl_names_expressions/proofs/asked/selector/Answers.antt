@@ -6,12 +6,12 @@ use Rattle.vhdl_names_rules.specs.Expressions as are
 use Rattle.vhdl_names_rules.specs.Choices.{selector as wanted}
 use Rattle.vhdl_names_units.specs.views.Answers.{selector_view}
 use Rattle.vhdl_names_types.specs.Views.{sight_view, typed_view}
-use Rattle.vhdl_names_problems.specs.Broken.{Tells, lacking, where_given}
-use Rattle.vhdl_names_problems.specs.Places.{start}
-use Rattle.vhdl_names_problems.specs.Expressions.{typed}
-use Rattle.vhdl_names_problems.specs.Choices as broken
-use Rattle.vhdl_names_problems.proofs.Telling.{told_left}
-use Rattle.vhdl_names_problems.proofs.kept.Expressions.{typed_kept}
+use Rattle.vhdl_names_rules.specs.problems.Broken.{Tells, lacking, where_given}
+use Rattle.vhdl_names_rules.specs.problems.Places.{start}
+use Rattle.vhdl_names_rules.specs.problems.Expressions.{typed}
+use Rattle.vhdl_names_rules.specs.problems.Choices as broken
+use Rattle.vhdl_names_rules.proofs.Telling.{told_left}
+use Rattle.vhdl_names_rules.proofs.kept.Expressions.{typed_kept}
 use Rattle.vhdl_names_expressions.proofs.Breaking.{wanted_told}
 use Rattle.vhdl_names_expressions.proofs.asked.selector.Goals as goal
 

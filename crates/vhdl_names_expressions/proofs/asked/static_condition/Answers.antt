@@ -6,12 +6,12 @@ use Rattle.vhdl_names_rules.specs.Expressions as are
 use Rattle.vhdl_names_rules.specs.Expressions.{as_static_test as wanted}
 use Rattle.vhdl_names_rules.specs.views.Tests.{static_test_view}
 use Rattle.vhdl_names_types.specs.Views.{sight_view, typed_view}
-use Rattle.vhdl_names_problems.specs.Broken.{Tells, lacking, where_given}
-use Rattle.vhdl_names_problems.specs.Places.{start}
-use Rattle.vhdl_names_problems.specs.Expressions.{typed}
-use Rattle.vhdl_names_problems.specs.Expressions as broken
-use Rattle.vhdl_names_problems.proofs.Telling.{told_left}
-use Rattle.vhdl_names_problems.proofs.kept.Expressions.{typed_kept}
+use Rattle.vhdl_names_rules.specs.problems.Broken.{Tells, lacking, where_given}
+use Rattle.vhdl_names_rules.specs.problems.Places.{start}
+use Rattle.vhdl_names_rules.specs.problems.Expressions.{typed}
+use Rattle.vhdl_names_rules.specs.problems.Expressions as broken
+use Rattle.vhdl_names_rules.proofs.Telling.{told_left}
+use Rattle.vhdl_names_rules.proofs.kept.Expressions.{typed_kept}
 use Rattle.vhdl_names_expressions.proofs.Breaking.{wanted_told}
 use Rattle.vhdl_names_expressions.proofs.asked.static_condition.Goals as goal
 

@@ -2,7 +2,7 @@ use Rattle.std.proofs.Common.{◌≡◌, drop, map, Some}
 use Rattle.vhdl_tree.specs.Tree.{exprs_of}
 use Rattle.vhdl_tree.specs.View.{view}
 use Rattle.vhdl_names_rules.specs.Expressions as are
-use Rattle.vhdl_names_problems.specs.Expressions.{typed_each}
+use Rattle.vhdl_names_rules.specs.problems.Expressions.{typed_each}
 use Rattle.vhdl_names_expressions.specs.Breaking.{all_break}
 use Rattle.vhdl_names_expressions.specs.Steps.{all_linked}
 use Rattle.vhdl_names_types.specs.Views.{sight_view, typed_view}

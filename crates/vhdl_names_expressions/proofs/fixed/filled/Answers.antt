@@ -1,7 +1,7 @@
 use Rattle.std.proofs.Common.{ap, sym, ◌∙◌}
 use Rattle.vhdl_names_rules.specs.declared.fault.NameFault.TheVariants.{At}
 use Rattle.vhdl_names_rules.specs.declared.fault.NameProblem.TheVariants.{TypeMismatch, LeftOut}
-use Rattle.vhdl_names_problems.specs.Expressions.{is_vector_type}
+use Rattle.vhdl_names_rules.specs.problems.Expressions.{is_vector_type}
 use Rattle.vhdl_names_expressions.proofs.Breaking.{told_fault}
 use Rattle.vhdl_names_expressions.proofs.BreakingValues.{no_character, no_vector, none_of_nine, not_vector}
 use Rattle.vhdl_names_expressions.proofs.fixed.filled.Goals as goal

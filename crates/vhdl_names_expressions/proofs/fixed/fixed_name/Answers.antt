@@ -6,9 +6,9 @@ use Rattle.vhdl_names_rules.specs.declared.fault.NameFault.TheVariants.{At}
 use Rattle.vhdl_names_rules.specs.declared.fault.NameProblem.TheVariants.{LeftOut}
 use Rattle.vhdl_names_units.specs.views.Answers.{fixed_view}
 use Rattle.vhdl_names_types.specs.Views.{sight_view, meaning_view, typed_suffix_view}
-use Rattle.vhdl_names_problems.specs.Broken.{Tells, refused, lacking}
-use Rattle.vhdl_names_problems.specs.Subtypes as broken
-use Rattle.vhdl_names_problems.specs.Subtypes.{suffixed_problem, value_of}
+use Rattle.vhdl_names_rules.specs.problems.Broken.{Tells, refused, lacking}
+use Rattle.vhdl_names_rules.specs.problems.Subtypes as broken
+use Rattle.vhdl_names_rules.specs.problems.Subtypes.{suffixed_problem, value_of}
 use Rattle.vhdl_names_expressions.specs.Fixing.{suffixed_value}
 use Rattle.vhdl_names_expressions.proofs.Breaking.{told_fault, told_as, refused_told}
 use Rattle.vhdl_names_expressions.proofs.BreakingValues.{name_meaning, name_suffix, name_attribute, name_more, value_is}

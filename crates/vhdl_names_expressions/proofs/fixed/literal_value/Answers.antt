@@ -1,7 +1,7 @@
 use Rattle.std.proofs.Common.{sym, ap}
 use Rattle.vhdl_tree.specs.View.{view}
-use Rattle.vhdl_names_problems.specs.Subtypes.{literal}
-use Rattle.vhdl_names_problems.proofs.Telling.{told_same}
+use Rattle.vhdl_names_rules.specs.problems.Subtypes.{literal}
+use Rattle.vhdl_names_rules.proofs.Telling.{told_same}
 use Rattle.vhdl_names_expressions.proofs.fixed.literal_value.Goals as goal
 
 pub returns-in-Enumeration-clause-told : goal.returns-in-Enumeration-clause-told

@@ -3,8 +3,8 @@ use Rattle.vhdl_tree.specs.View.{view}
 use Rattle.vhdl_names_rules.specs.declared.fault.NameFault.TheVariants.{At}
 use Rattle.vhdl_names_rules.specs.declared.fault.NameProblem.TheVariants.{TypeMismatch, LeftOut}
 use Rattle.vhdl_names_rules.specs.declared.kind.ObjectType.TheVariants.{Elements}
-use Rattle.vhdl_names_problems.specs.Broken.{refused}
-use Rattle.vhdl_names_problems.specs.Subtypes as broken
+use Rattle.vhdl_names_rules.specs.problems.Broken.{refused}
+use Rattle.vhdl_names_rules.specs.problems.Subtypes as broken
 use Rattle.vhdl_names_expressions.proofs.Breaking.{told_fault, told_as}
 use Rattle.vhdl_names_expressions.proofs.BreakingValues.{character_told, string_literal, no_string, bits_literal, no_bits, chain_literal}
 use Rattle.vhdl_names_expressions.proofs.literals.literal_values.Goals as goal

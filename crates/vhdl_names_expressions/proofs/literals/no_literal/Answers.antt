@@ -3,7 +3,7 @@ use Rattle.vhdl_tree.specs.View.{view}
 use Rattle.vhdl_names_rules.specs.declared.fault.NameFault.TheVariants.{At}
 use Rattle.vhdl_names_rules.specs.declared.fault.NameProblem.TheVariants.{TypeMismatch}
 use Rattle.vhdl_names_rules.specs.declared.kind.ObjectType.TheVariants.{Enumeration}
-use Rattle.vhdl_names_problems.specs.Subtypes as broken
+use Rattle.vhdl_names_rules.specs.problems.Subtypes as broken
 use Rattle.vhdl_names_expressions.proofs.Breaking.{told_fault}
 use Rattle.vhdl_names_expressions.proofs.BreakingValues.{enumerated_character, enumerated_string, enumerated_bits}
 use Rattle.vhdl_names_expressions.proofs.literals.no_literal.Goals as goal

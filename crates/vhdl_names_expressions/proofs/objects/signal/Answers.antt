@@ -6,10 +6,10 @@ use Rattle.vhdl_names_rules.specs.declared.fault.NameProblem.TheVariants.{LeftOu
 use Rattle.vhdl_names_rules.specs.Statements.{as_signal}
 use Rattle.vhdl_names_units.specs.views.Answers.{signal_name_view}
 use Rattle.vhdl_names_types.specs.Views.{sight_view, meaning_view, typed_suffix_view}
-use Rattle.vhdl_names_problems.specs.Broken.{Tells, refused, lacking}
-use Rattle.vhdl_names_problems.specs.Statements.{signal_problem}
-use Rattle.vhdl_names_problems.specs.Statements as broken
-use Rattle.vhdl_names_problems.proofs.Telling.{told_on}
+use Rattle.vhdl_names_rules.specs.problems.Broken.{Tells, refused, lacking}
+use Rattle.vhdl_names_rules.specs.problems.Statements.{signal_problem}
+use Rattle.vhdl_names_rules.specs.problems.Statements as broken
+use Rattle.vhdl_names_rules.proofs.Telling.{told_on}
 use Rattle.vhdl_names_expressions.proofs.Breaking.{told_fault, refused_told}
 use Rattle.vhdl_names_expressions.proofs.BreakingValues.{object_told, name_meaning, name_suffix, name_attribute, name_more}
 use Rattle.vhdl_names_expressions.proofs.objects.signal.Goals as goal

@@ -9,10 +9,10 @@ use Rattle.vhdl_names_rules.specs.Statements as are
 use Rattle.vhdl_names_rules.specs.Statements.{is_input}
 use Rattle.vhdl_names_units.specs.views.Answers.{signal_name_view}
 use Rattle.vhdl_names_types.specs.Views.{sight_view}
-use Rattle.vhdl_names_problems.specs.Broken.{Tells, unless, where_given}
-use Rattle.vhdl_names_problems.specs.Statements as broken
-use Rattle.vhdl_names_problems.proofs.Telling.{told_left, told_right, told_given}
-use Rattle.vhdl_names_problems.proofs.kept.Statements.{signal_kept}
+use Rattle.vhdl_names_rules.specs.problems.Broken.{Tells, unless, where_given}
+use Rattle.vhdl_names_rules.specs.problems.Statements as broken
+use Rattle.vhdl_names_rules.proofs.Telling.{told_left, told_right, told_given}
+use Rattle.vhdl_names_rules.proofs.kept.Statements.{signal_kept}
 use Rattle.vhdl_names_expressions.proofs.Breaking.{told_fault}
 use Rattle.vhdl_names_expressions.proofs.objects.target.Goals as goal
 

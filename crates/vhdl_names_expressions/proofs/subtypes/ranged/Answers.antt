@@ -2,10 +2,10 @@ use Rattle.std.proofs.Common.{rules, arith, Some, ap}
 use Rattle.std.proofs.lemmas.Grind.{common_steps}
 use Rattle.vhdl_tree.specs.View.{range_view}
 use Rattle.vhdl_names_types.specs.Views.{sight_view, meaning_view}
-use Rattle.vhdl_names_problems.specs.Broken.{Tells, ◌▸◌, unless}
-use Rattle.vhdl_names_problems.specs.Expressions.{static_range}
-use Rattle.vhdl_names_problems.specs.Subtypes.{mark_problem, is_marked}
-use Rattle.vhdl_names_problems.proofs.Telling.{told_left, told_right}
+use Rattle.vhdl_names_rules.specs.problems.Broken.{Tells, ◌▸◌, unless}
+use Rattle.vhdl_names_rules.specs.problems.Expressions.{static_range}
+use Rattle.vhdl_names_rules.specs.problems.Subtypes.{mark_problem, is_marked}
+use Rattle.vhdl_names_rules.proofs.Telling.{told_left, told_right}
 use Rattle.vhdl_names_expressions.proofs.Marks.{no_range}
 use Rattle.vhdl_names_expressions.proofs.BreakingValues.{unmarked, marked_range, misfit}
 use Rattle.vhdl_names_expressions.proofs.subtypes.ranged.Goals as goal

@@ -2,8 +2,8 @@ use Rattle.std.proofs.Common.{rules, arith, option_map, ap}
 use Rattle.std.proofs.lemmas.Grind.{common_steps}
 use Rattle.vhdl_tree.specs.View.{subtype_view, range_view}
 use Rattle.vhdl_names_types.specs.Views.{sight_view, meaning_view}
-use Rattle.vhdl_names_problems.specs.Broken.{Tells}
-use Rattle.vhdl_names_problems.specs.Subtypes as broken
+use Rattle.vhdl_names_rules.specs.problems.Broken.{Tells}
+use Rattle.vhdl_names_rules.specs.problems.Subtypes as broken
 use Rattle.vhdl_names_expressions.proofs.BreakingValues.{subtype_meaning, subtype_alone, subtype_ranged}
 use Rattle.vhdl_names_expressions.proofs.subtypes.subtype.Goals as goal
 

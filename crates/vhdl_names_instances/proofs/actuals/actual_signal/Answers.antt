@@ -2,10 +2,10 @@ use Rattle.std.proofs.Common.{ap, sym, ◌∙◌}
 use Rattle.std.specs.Prelude.{if◌then◌else◌}
 use Rattle.vhdl_tree.specs.View.{name_view}
 use Rattle.vhdl_names_rules.specs.declared.fault.NameProblem.TheVariants.{LeftOut}
-use Rattle.vhdl_names_problems.specs.Broken.{◌▸◌, refused}
-use Rattle.vhdl_names_problems.specs.Instances.{actual_signal}
-use Rattle.vhdl_names_problems.specs.Statements.{named, signal}
-use Rattle.vhdl_names_problems.proofs.Telling.{told_on, told_same}
+use Rattle.vhdl_names_rules.specs.problems.Broken.{◌▸◌, refused}
+use Rattle.vhdl_names_rules.specs.problems.Instances.{actual_signal}
+use Rattle.vhdl_names_rules.specs.problems.Statements.{named, signal}
+use Rattle.vhdl_names_rules.proofs.Telling.{told_on, told_same}
 use Rattle.vhdl_names_types.specs.Views.{sight_view}
 use Rattle.vhdl_names_instances.proofs.actuals.actual_signal.Goals as goal
 

@@ -1,9 +1,9 @@
 use Rattle.std.proofs.Common.{refl, ap, ◌∙◌}
 use Rattle.vhdl_tree.specs.View.{option_ident_view}
 use Rattle.vhdl_names_rules.specs.declared.fault.NameProblem.TheVariants.{LeftOut}
-use Rattle.vhdl_names_problems.specs.Broken.{◌▸◌, nothing, refused}
-use Rattle.vhdl_names_problems.specs.Expressions.{no_attribute}
-use Rattle.vhdl_names_problems.proofs.Telling.{behind_kept}
+use Rattle.vhdl_names_rules.specs.problems.Broken.{◌▸◌, nothing, refused}
+use Rattle.vhdl_names_rules.specs.problems.Expressions.{no_attribute}
+use Rattle.vhdl_names_rules.proofs.Telling.{behind_kept}
 use Rattle.vhdl_names_instances.proofs.Actual.{refused_first}
 use Rattle.vhdl_names_instances.proofs.actuals.left_out_place.Goals as goal
 

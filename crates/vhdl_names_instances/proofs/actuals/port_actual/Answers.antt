@@ -2,9 +2,9 @@ use Rattle.std.proofs.Common.{rules, arith, ◌≡◌, true, false, ap, refl, sy
 use Rattle.std.proofs.lemmas.Grind.{common_steps}
 use Rattle.vhdl_tree.specs.View.{view, name_view}
 use Rattle.vhdl_names_rules.specs.declared.fault.NameProblem.TheVariants.{TypeMismatch, WriteOfIn, LeftOut}
-use Rattle.vhdl_names_problems.specs.Broken.{Tells, refused}
-use Rattle.vhdl_names_problems.specs.Places.{start}
-use Rattle.vhdl_names_problems.specs.Instances.{port_actual}
+use Rattle.vhdl_names_rules.specs.problems.Broken.{Tells, refused}
+use Rattle.vhdl_names_rules.specs.problems.Places.{start}
+use Rattle.vhdl_names_rules.specs.problems.Instances.{port_actual}
 use Rattle.vhdl_names_types.specs.Views.{sight_view}
 use Rattle.vhdl_names_units.specs.views.Answers.{signal_name_view}
 use Rattle.vhdl_names_instances.specs.steps.Actuals.{formal}

@@ -2,8 +2,8 @@ use Rattle.std.proofs.Common.{refl, sym, subst}
 use Rattle.vhdl_tree.specs.View.{name_view}
 use Rattle.vhdl_names_rules.specs.declared.fault.NameProblem.TheVariants.{LeftOut}
 use Rattle.vhdl_names_rules.specs.Statements.{signal}
-use Rattle.vhdl_names_problems.specs.Broken.{Tells, ◌▸◌, refused}
-use Rattle.vhdl_names_problems.specs.Statements.{named}
+use Rattle.vhdl_names_rules.specs.problems.Broken.{Tells, ◌▸◌, refused}
+use Rattle.vhdl_names_rules.specs.problems.Statements.{named}
 use Rattle.vhdl_names_types.specs.Views.{sight_view, typed_suffix_view}
 use Rattle.vhdl_names_units.specs.views.Answers.{signal_name_view}
 use Rattle.vhdl_names_instances.proofs.Actual.{value_is_no_signal, suffix_told, value_told}

@@ -5,9 +5,9 @@ use Rattle.vhdl_names_rules.specs.declared.fault.NameProblem.TheVariants.{Undecl
 use Rattle.vhdl_names_rules.specs.Visibility.{is_among}
 use Rattle.vhdl_names_rules.specs.Instances.{is_named}
 use Rattle.vhdl_names_labels.specs.Once.{names_view}
-use Rattle.vhdl_names_problems.specs.Broken.{Tells, refused, unless}
-use Rattle.vhdl_names_problems.specs.Places.{association_place}
-use Rattle.vhdl_names_problems.proofs.Telling.{told_on}
+use Rattle.vhdl_names_rules.specs.problems.Broken.{Tells, refused, unless}
+use Rattle.vhdl_names_rules.specs.problems.Places.{association_place}
+use Rattle.vhdl_names_rules.proofs.Telling.{told_on}
 use Rattle.vhdl_names_instances.specs.Breaking.{one_association}
 use Rattle.vhdl_names_instances.proofs.Taking.{behind_told, no_formal_told, unknown_told, twice_told}
 use Rattle.vhdl_names_instances.proofs.Told.{passed_told}

@@ -1,7 +1,7 @@
 use Rattle.std.proofs.Common.{true≢false, ap, sym, ◌∙◌}
 use Rattle.std.specs.Prelude.{is_some}
 use Rattle.vhdl_tree.specs.View as tree
-use Rattle.vhdl_names_problems.specs.Instances.{maps}
+use Rattle.vhdl_names_rules.specs.problems.Instances.{maps}
 use Rattle.vhdl_names_types.specs.Views.{sight_view}
 use Rattle.vhdl_names_instances.proofs.Told.{or_memory}
 use Rattle.vhdl_names_instances.proofs.instances.first_of_maps.Goals as goal

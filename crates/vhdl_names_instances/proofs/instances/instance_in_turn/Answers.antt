@@ -1,7 +1,7 @@
 use Rattle.std.proofs.Common.{refl, sym, subst}
 use Rattle.vhdl_names_rules.specs.declared.fault.NameProblem.TheVariants.{Undeclared}
-use Rattle.vhdl_names_problems.specs.Broken.{Tells, refused}
-use Rattle.vhdl_names_problems.specs.Instances as broken
+use Rattle.vhdl_names_rules.specs.problems.Broken.{Tells, refused}
+use Rattle.vhdl_names_rules.specs.problems.Instances as broken
 use Rattle.vhdl_names_instances.proofs.Told.{passed_told}
 use Rattle.vhdl_names_instances.proofs.Instanced.{unit_told, unseen_told, maps_told, of_each}
 use Rattle.vhdl_tree.specs.View as tree

@@ -2,12 +2,12 @@ use Rattle.std.proofs.Common.{ap, sym}
 use Rattle.vhdl_names_rules.specs.declared.fault.NameProblem.TheVariants.{WrongKind}
 use Rattle.vhdl_names_rules.specs.Visibility as visibility
 use Rattle.vhdl_names_rules.specs.Instances.{as_component}
-use Rattle.vhdl_names_problems.specs.Broken.{lacking, where_given}
-use Rattle.vhdl_names_problems.specs.Expressions.{meaning}
+use Rattle.vhdl_names_rules.specs.problems.Broken.{lacking, where_given}
+use Rattle.vhdl_names_rules.specs.problems.Expressions.{meaning}
 use Rattle.std.specs.Prelude.{option_map}
-use Rattle.vhdl_names_problems.specs.Instances as broken
-use Rattle.vhdl_names_problems.proofs.Telling.{told_left, told_right, told_given, told_on}
-use Rattle.vhdl_names_problems.proofs.kept.Expressions.{meaning_kept}
+use Rattle.vhdl_names_rules.specs.problems.Instances as broken
+use Rattle.vhdl_names_rules.proofs.Telling.{told_left, told_right, told_given, told_on}
+use Rattle.vhdl_names_rules.proofs.kept.Expressions.{meaning_kept}
 use Rattle.vhdl_names_instances.specs.Breaking as breaking
 use Rattle.vhdl_names_instances.proofs.Told.{told_along, passed_told}
 use Rattle.vhdl_names_instances.proofs.Instanced.{entity_of_told}

@@ -2,9 +2,9 @@ use Rattle.std.proofs.Common.{refl, sym, ◌∙◌, subst}
 use Rattle.std.specs.Prelude.{option_map, slice_get}
 use Rattle.vhdl_tree.specs.View as tree
 use Rattle.vhdl_names_rules.specs.declared.fault.NameProblem.TheVariants.{Undeclared, WrongKind}
-use Rattle.vhdl_names_problems.specs.Broken.{Tells, refused, lacking, where_given}
-use Rattle.vhdl_names_problems.specs.Instances.{architecture}
-use Rattle.vhdl_names_problems.proofs.Telling.{lacking_kept, told_same, told_left, told_right, told_given, told_lacking}
+use Rattle.vhdl_names_rules.specs.problems.Broken.{Tells, refused, lacking, where_given}
+use Rattle.vhdl_names_rules.specs.problems.Instances.{architecture}
+use Rattle.vhdl_names_rules.proofs.Telling.{lacking_kept, told_same, told_left, told_right, told_given, told_lacking}
 use Rattle.vhdl_names_instances.specs.Table.{Seen, seen_view, seens_view}
 use Rattle.vhdl_names_instances.proofs.instances.with_architecture.Goals as goal
 

@@ -3,9 +3,9 @@ use Rattle.vhdl_tree.specs.Tree.{Expr}
 use Rattle.vhdl_tree.specs.View.{association_view}
 use Rattle.vhdl_names_rules.specs.Visibility.{Name}
 use Rattle.vhdl_names_labels.specs.Once.{names_view}
-use Rattle.vhdl_names_problems.specs.Broken.{Broken}
-use Rattle.vhdl_names_problems.specs.Expressions.{static}
-use Rattle.vhdl_names_problems.specs.Instances.{associations, generic_map}
+use Rattle.vhdl_names_rules.specs.problems.Broken.{Broken}
+use Rattle.vhdl_names_rules.specs.problems.Expressions.{static}
+use Rattle.vhdl_names_rules.specs.problems.Instances.{associations, generic_map}
 use Rattle.vhdl_names_types.specs.Views.{sight_view}
 use Rattle.vhdl_names_instances.specs.Table.{items}
 use Rattle.vhdl_names_instances.specs.steps.Maps.{is_static, reading}

@@ -3,8 +3,8 @@ use Rattle.std.specs.Prelude.{filter_map}
 use Rattle.vhdl_tree.specs.View as tree
 use Rattle.vhdl_names_rules.specs.Instances.{port_formal}
 use Rattle.vhdl_names_rules.specs.Rules.{all_of}
-use Rattle.vhdl_names_problems.specs.Instances as broken
-use Rattle.vhdl_names_problems.proofs.Telling.{told_on}
+use Rattle.vhdl_names_rules.specs.problems.Instances as broken
+use Rattle.vhdl_names_rules.proofs.Telling.{told_on}
 use Rattle.vhdl_names_types.specs.Views.{sight_view}
 use Rattle.vhdl_names_instances.specs.Table.{Seen, seen_view}
 use Rattle.vhdl_names_instances.proofs.Told.{passed_told, ok_on}

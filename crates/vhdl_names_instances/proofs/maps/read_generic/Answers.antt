@@ -5,9 +5,9 @@ use Rattle.vhdl_names_rules.specs.Visibility.{Name}
 use Rattle.vhdl_names_rules.specs.Expressions as rules
 use Rattle.vhdl_names_rules.specs.Rules.{if_any}
 use Rattle.vhdl_names_labels.specs.Once.{names_view}
-use Rattle.vhdl_names_problems.specs.Broken.{Broken, of_any}
-use Rattle.vhdl_names_problems.specs.Expressions.{static}
-use Rattle.vhdl_names_problems.specs.Instances.{association}
+use Rattle.vhdl_names_rules.specs.problems.Broken.{Broken, of_any}
+use Rattle.vhdl_names_rules.specs.problems.Expressions.{static}
+use Rattle.vhdl_names_rules.specs.problems.Instances.{association}
 use Rattle.vhdl_names_types.specs.Views.{sight_view}
 use Rattle.vhdl_names_instances.specs.steps.Maps.{is_static}
 use Rattle.vhdl_names_instances.proofs.Porting.{static_holds}

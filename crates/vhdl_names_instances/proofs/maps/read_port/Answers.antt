@@ -5,9 +5,9 @@ use Rattle.vhdl_names_rules.specs.Visibility.{Name}
 use Rattle.vhdl_names_rules.specs.Instances.{Formal, expression_of}
 use Rattle.vhdl_names_rules.proofs.laws.Rules.{some_is}
 use Rattle.vhdl_names_labels.specs.Once.{names_view}
-use Rattle.vhdl_names_problems.specs.Broken.{Broken, any_of, of_any}
-use Rattle.vhdl_names_problems.specs.Instances.{association, port_actual, ports_named}
-use Rattle.vhdl_names_problems.proofs.Telling.{told_on}
+use Rattle.vhdl_names_rules.specs.problems.Broken.{Broken, any_of, of_any}
+use Rattle.vhdl_names_rules.specs.problems.Instances.{association, port_actual, ports_named}
+use Rattle.vhdl_names_rules.proofs.Telling.{told_on}
 use Rattle.vhdl_names_types.specs.Views.{sight_view}
 use Rattle.vhdl_names_instances.specs.Breaking.{one_association}
 use Rattle.vhdl_names_instances.specs.steps.Associations.{formal_at, one_taken}

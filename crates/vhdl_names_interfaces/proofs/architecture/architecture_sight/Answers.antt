@@ -1,8 +1,8 @@
 use Rattle.std.proofs.Common.{rules, arith, map}
 use Rattle.std.proofs.lemmas.Grind.{common_steps}
 use Rattle.vhdl_tree.specs.View as view
-use Rattle.vhdl_names_problems.specs.Broken.{Tells}
-use Rattle.vhdl_names_problems.specs.Declarations as broken
+use Rattle.vhdl_names_rules.specs.problems.Broken.{Tells}
+use Rattle.vhdl_names_rules.specs.problems.Declarations as broken
 use Rattle.vhdl_names_interfaces.specs.Views.{entity_view}
 use Rattle.vhdl_names_interfaces.proofs.Interfacing.{told_nothing}
 use Rattle.vhdl_names_interfaces.proofs.architecture.architecture_sight.Goals as goal

@@ -6,7 +6,7 @@ use Rattle.vhdl_names_rules.specs.Rules.{◌>>=◌}
 use Rattle.vhdl_names_rules.specs.Visibility.{declare}
 use Rattle.vhdl_names_types.specs.Views.{meaning_view, region_view, entry_view}
 use Rattle.vhdl_names_declarations.specs.Entered.{more}
-use Rattle.vhdl_names_problems.specs.Broken.{nothing}
+use Rattle.vhdl_names_rules.specs.problems.Broken.{nothing}
 use Rattle.vhdl_names_declarations.proofs.Breaking.{told_never}
 use Rattle.vhdl_names_declarations.proofs.Breaking as tells
 use Rattle.vhdl_names_interfaces.proofs.Interfacing.{passed_on}

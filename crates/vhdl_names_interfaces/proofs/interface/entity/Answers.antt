@@ -9,8 +9,8 @@ use Rattle.vhdl_names_types.specs.Views.{sight_view, entry_view}
 use Rattle.vhdl_names_declarations.specs.Contexts.{context_view}
 use Rattle.vhdl_names_interfaces.specs.Views.{interface_in, entity_view}
 use Rattle.vhdl_names_interfaces.proofs.Interfacing.{no_entity, entity_is, behind_interface, entity_of, passed_on, context_told, interface_told, end_told, told_nothing}
-use Rattle.vhdl_names_problems.specs.Broken.{Tells}
-use Rattle.vhdl_names_problems.specs.Interfaces as broken
+use Rattle.vhdl_names_rules.specs.problems.Broken.{Tells}
+use Rattle.vhdl_names_rules.specs.problems.Interfaces as broken
 use Rattle.vhdl_names_declarations.proofs.Breaking as tells
 use Rattle.vhdl_names_interfaces.proofs.interface.entity.Goals as goal
 

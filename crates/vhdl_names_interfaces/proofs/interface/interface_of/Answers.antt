@@ -3,8 +3,8 @@ use Rattle.std.proofs.lemmas.Grind.{common_steps}
 use Rattle.vhdl_tree.specs.View as view
 use Rattle.vhdl_names_types.specs.Views.{sight_view}
 use Rattle.vhdl_names_units.specs.views.Declarations.{all_generics_view}
-use Rattle.vhdl_names_problems.specs.Broken.{Tells}
-use Rattle.vhdl_names_problems.specs.Interfaces as broken
+use Rattle.vhdl_names_rules.specs.problems.Broken.{Tells}
+use Rattle.vhdl_names_rules.specs.problems.Interfaces as broken
 use Rattle.vhdl_names_interfaces.proofs.Interfacing.{generics_told, ports_told}
 use Rattle.vhdl_names_interfaces.proofs.interface.interface_of.Goals as goal
 

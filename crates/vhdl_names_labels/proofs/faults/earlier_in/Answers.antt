@@ -1,6 +1,6 @@
 use Rattle.std.proofs.Common.{sym, subst}
-use Rattle.vhdl_names_problems.specs.Broken as broken
-use Rattle.vhdl_names_problems.specs.Broken.{Tells}
+use Rattle.vhdl_names_rules.specs.problems.Broken as broken
+use Rattle.vhdl_names_rules.specs.problems.Broken.{Tells}
 use Rattle.vhdl_names_labels.proofs.Told.{answer_taken, answer_refused}
 use Rattle.vhdl_names_labels.proofs.faults.earlier_in.Goals as goal
 use Rattle.vhdl_names_labels.proofs.faults.earlier_in.Goals.{in-Ok, in-Err}

@@ -1,4 +1,4 @@
-use Rattle.vhdl_names_problems.proofs.kept.Files as laws
+use Rattle.vhdl_names_rules.proofs.kept.Files as laws
 use Rattle.vhdl_names_laws.proofs.soundness_laws.well_typed_files_break_no_rule.Goals as goal
 
 pub returns : goal.returns

@@ -3,11 +3,11 @@ use Rattle.std.proofs.lemmas.Grind.{common_steps}
 use Rattle.std.proofs.Common.{map, ap}
 use Rattle.vhdl_tree.specs.View as tree
 use Rattle.vhdl_names_types.specs.Views.{sight_view}
-use Rattle.vhdl_names_problems.specs.Broken.{Tells}
-use Rattle.vhdl_names_problems.specs.Statements.{target}
-use Rattle.vhdl_names_problems.specs.Concurrent.{assignment}
-use Rattle.vhdl_names_problems.proofs.Telling.{told_same, told_left, told_right}
-use Rattle.vhdl_names_problems.proofs.kept.Statements.{target_kept}
+use Rattle.vhdl_names_rules.specs.problems.Broken.{Tells}
+use Rattle.vhdl_names_rules.specs.problems.Statements.{target}
+use Rattle.vhdl_names_rules.specs.problems.Concurrent.{assignment}
+use Rattle.vhdl_names_rules.proofs.Telling.{told_same, told_left, told_right}
+use Rattle.vhdl_names_rules.proofs.kept.Statements.{target_kept}
 use Rattle.vhdl_names_statements.specs.steps.Told as told
 use Rattle.vhdl_names_statements.proofs.assignments.assignment_in_turn.Goals as goal
 

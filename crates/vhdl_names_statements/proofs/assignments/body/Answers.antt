@@ -2,10 +2,10 @@ use Rattle.std.proofs.Common.{arith, ◌<◌, length, map, ap, sym}
 use Rattle.std.specs.Prelude.{option_map}
 use Rattle.vhdl_tree.specs.View as tree
 use Rattle.vhdl_names_types.specs.Views.{sight_view}
-use Rattle.vhdl_names_problems.specs.Broken.{any_of, of_any}
-use Rattle.vhdl_names_problems.specs.Statements.{assigned}
-use Rattle.vhdl_names_problems.specs.Concurrent.{branch}
-use Rattle.vhdl_names_problems.proofs.Telling.{told_same, told_right, told_on}
+use Rattle.vhdl_names_rules.specs.problems.Broken.{any_of, of_any}
+use Rattle.vhdl_names_rules.specs.problems.Statements.{assigned}
+use Rattle.vhdl_names_rules.specs.problems.Concurrent.{branch}
+use Rattle.vhdl_names_rules.proofs.Telling.{told_same, told_right, told_on}
 use Rattle.vhdl_names_statements.specs.steps.Told as told
 use Rattle.vhdl_names_statements.proofs.steps.Told.{none_below}
 use Rattle.vhdl_names_statements.proofs.assignments.body.Goals as goal

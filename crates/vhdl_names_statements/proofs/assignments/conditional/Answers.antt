@@ -4,10 +4,10 @@ use Rattle.std.proofs.Common.{map}
 use Rattle.std.specs.Prelude.{option_map}
 use Rattle.vhdl_tree.specs.View as tree
 use Rattle.vhdl_names_types.specs.Views.{sight_view}
-use Rattle.vhdl_names_problems.specs.Broken.{Tells, any_of, of_any}
-use Rattle.vhdl_names_problems.specs.Statements.{assigned}
-use Rattle.vhdl_names_problems.specs.Concurrent.{branch}
-use Rattle.vhdl_names_problems.proofs.Telling.{told_left, told_right}
+use Rattle.vhdl_names_rules.specs.problems.Broken.{Tells, any_of, of_any}
+use Rattle.vhdl_names_rules.specs.problems.Statements.{assigned}
+use Rattle.vhdl_names_rules.specs.problems.Concurrent.{branch}
+use Rattle.vhdl_names_rules.proofs.Telling.{told_left, told_right}
 use Rattle.vhdl_names_statements.specs.steps.Told as told
 use Rattle.vhdl_names_statements.proofs.steps.Assigning.{branches_kept}
 use Rattle.vhdl_names_statements.proofs.assignments.conditional.Goals as goal

@@ -3,10 +3,10 @@ use Rattle.std.proofs.lemmas.Grind.{common_steps}
 use Rattle.std.proofs.Common.{sym}
 use Rattle.vhdl_tree.specs.View as tree
 use Rattle.vhdl_names_types.specs.Views.{sight_view}
-use Rattle.vhdl_names_problems.specs.Broken.{Tells}
-use Rattle.vhdl_names_problems.specs.Choices.{selected_by}
-use Rattle.vhdl_names_problems.specs.Concurrent.{selected, waveforms}
-use Rattle.vhdl_names_problems.proofs.Telling.{told_same, told_left}
+use Rattle.vhdl_names_rules.specs.problems.Broken.{Tells}
+use Rattle.vhdl_names_rules.specs.problems.Choices.{selected_by}
+use Rattle.vhdl_names_rules.specs.problems.Concurrent.{selected, waveforms}
+use Rattle.vhdl_names_rules.proofs.Telling.{told_same, told_left}
 use Rattle.vhdl_names_statements.proofs.steps.Told.{selector_given}
 use Rattle.vhdl_names_statements.proofs.assignments.selected_in_turn.Goals as goal
 

@@ -8,11 +8,11 @@ use Rattle.vhdl_names_rules.specs.Choices as are
 use Rattle.vhdl_names_types.specs.Views.{sight_view}
 use Rattle.vhdl_names_types.proofs.Along.{gives_along}
 use Rattle.vhdl_names_units.specs.views.Sequential as views
-use Rattle.vhdl_names_problems.specs.Broken.{Tells, nothing, any_of}
-use Rattle.vhdl_names_problems.specs.Covered.{covered}
-use Rattle.vhdl_names_problems.specs.Statements as broken
-use Rattle.vhdl_names_problems.specs.Concurrent as problems
-use Rattle.vhdl_names_problems.proofs.Telling.{told_same, told_left, told_on}
+use Rattle.vhdl_names_rules.specs.problems.Broken.{Tells, nothing, any_of}
+use Rattle.vhdl_names_rules.specs.problems.Covered.{covered}
+use Rattle.vhdl_names_rules.specs.problems.Statements as broken
+use Rattle.vhdl_names_rules.specs.problems.Concurrent as problems
+use Rattle.vhdl_names_rules.proofs.Telling.{told_same, told_left, told_on}
 use Rattle.vhdl_names_statements.specs.steps.Cases as cases
 use Rattle.vhdl_names_statements.specs.steps.Concurrent as steps
 use Rattle.vhdl_names_statements.specs.steps.Told as told

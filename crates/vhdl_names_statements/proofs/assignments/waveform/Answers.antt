@@ -2,11 +2,11 @@ use Rattle.std.proofs.Common.{rules, arith}
 use Rattle.std.proofs.lemmas.Grind.{common_steps}
 use Rattle.vhdl_tree.specs.View as tree
 use Rattle.vhdl_names_types.specs.Views.{sight_view}
-use Rattle.vhdl_names_problems.specs.Broken.{Tells}
-use Rattle.vhdl_names_problems.specs.Expressions.{condition}
-use Rattle.vhdl_names_problems.specs.Statements.{assigned}
-use Rattle.vhdl_names_problems.specs.Concurrent.{branch}
-use Rattle.vhdl_names_problems.proofs.Telling.{told_left, told_right}
+use Rattle.vhdl_names_rules.specs.problems.Broken.{Tells}
+use Rattle.vhdl_names_rules.specs.problems.Expressions.{condition}
+use Rattle.vhdl_names_rules.specs.problems.Statements.{assigned}
+use Rattle.vhdl_names_rules.specs.problems.Concurrent.{branch}
+use Rattle.vhdl_names_rules.proofs.Telling.{told_left, told_right}
 use Rattle.vhdl_names_statements.proofs.steps.Assigning.{alone_kept}
 use Rattle.vhdl_names_statements.proofs.assignments.waveform.Goals as goal
 

@@ -3,8 +3,8 @@ use Rattle.std.proofs.lemmas.List.{map-append}
 use Rattle.vhdl_tree.specs.View as tree
 use Rattle.vhdl_names_types.specs.Views.{sight_view}
 use Rattle.vhdl_names_units.specs.views.Sequential as views
-use Rattle.vhdl_names_problems.specs.Broken.{Tells, any_of}
-use Rattle.vhdl_names_problems.specs.Concurrent as broken
+use Rattle.vhdl_names_rules.specs.problems.Broken.{Tells, any_of}
+use Rattle.vhdl_names_rules.specs.problems.Concurrent as broken
 use Rattle.vhdl_names_statements.specs.steps.Concurrent as steps
 use Rattle.vhdl_names_labels.proofs.Behind.{next_told, next_left}
 use Rattle.vhdl_names_statements.proofs.steps.Passing.{told_by}

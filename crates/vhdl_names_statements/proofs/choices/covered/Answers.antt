@@ -2,8 +2,8 @@ use Rattle.std.proofs.Common.{rules, arith, ◌≡◌, ◌≢◌, [], None}
 use Rattle.std.proofs.lemmas.Grind.{common_steps}
 use Rattle.vhdl_names_rules.specs.declared.fault.NameFault.TheVariants.{NoMemory}
 use Rattle.vhdl_names_types.specs.Views.{sight_view}
-use Rattle.vhdl_names_problems.specs.Broken.{Tells, nothing}
-use Rattle.vhdl_names_problems.specs.Covered as broken
+use Rattle.vhdl_names_rules.specs.problems.Broken.{Tells, nothing}
+use Rattle.vhdl_names_rules.specs.problems.Covered as broken
 use Rattle.vhdl_names_units.specs.views.Sequential as views
 use Rattle.vhdl_names_labels.specs.Once.{names_view}
 use Rattle.vhdl_names_statements.specs.steps.Cases as steps

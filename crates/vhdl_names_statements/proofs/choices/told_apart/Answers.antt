@@ -1,7 +1,7 @@
 use Rattle.std.proofs.Common.{rules, arith, ◌<◌, [], length}
 use Rattle.std.proofs.lemmas.Grind.{common_steps}
 use Rattle.vhdl_names_types.specs.Views.{sight_view}
-use Rattle.vhdl_names_problems.specs.Broken.{Tells}
+use Rattle.vhdl_names_rules.specs.problems.Broken.{Tells}
 use Rattle.vhdl_names_labels.specs.Once.{names_view}
 use Rattle.vhdl_names_statements.specs.steps.Cases as steps
 use Rattle.vhdl_names_statements.specs.steps.Told as told

@@ -11,14 +11,14 @@ use Rattle.vhdl_names_rules.specs.Statements.{statement}
 use Rattle.vhdl_names_types.specs.Views.{sight_view}
 use Rattle.vhdl_names_types.proofs.Along.{gives_along}
 use Rattle.vhdl_names_units.specs.views.Sequential.{statement_view, statements_view, branch_view, branches_view, alternative_view, alternatives_view}
-use Rattle.vhdl_names_problems.specs.Broken.{Tells}
-use Rattle.vhdl_names_problems.specs.Expressions.{condition}
-use Rattle.vhdl_names_problems.specs.Choices.{choices}
-use Rattle.vhdl_names_problems.specs.Covered.{any_alternative}
-use Rattle.vhdl_names_problems.specs.Statements as broken
-use Rattle.vhdl_names_problems.proofs.Telling.{told_same, told_left, told_right, told_on}
-use Rattle.vhdl_names_problems.proofs.kept.Expressions.{condition_kept}
-use Rattle.vhdl_names_problems.proofs.kept.Choices.{choices_kept}
+use Rattle.vhdl_names_rules.specs.problems.Broken.{Tells}
+use Rattle.vhdl_names_rules.specs.problems.Expressions.{condition}
+use Rattle.vhdl_names_rules.specs.problems.Choices.{choices}
+use Rattle.vhdl_names_rules.specs.problems.Covered.{any_alternative}
+use Rattle.vhdl_names_rules.specs.problems.Statements as broken
+use Rattle.vhdl_names_rules.proofs.Telling.{told_same, told_left, told_right, told_on}
+use Rattle.vhdl_names_rules.proofs.kept.Expressions.{condition_kept}
+use Rattle.vhdl_names_rules.proofs.kept.Choices.{choices_kept}
 use Rattle.vhdl_names_labels.proofs.Behind.{next_told, next_left}
 use Rattle.vhdl_names_statements.specs.steps.Cases as cases
 use Rattle.vhdl_names_statements.specs.steps.Sequential as steps

@@ -6,7 +6,7 @@ use Rattle.vhdl_lexer.specs.Words.{base_class}
 use Rattle.vhdl_names_rules.specs.declared.fault.NameProblem.TheVariants.{LeftOut}
 use Rattle.vhdl_names_rules.specs.Rules.{◌>>=◌}
 use Rattle.vhdl_names_rules.specs.Literals.{values_of_bits, values_by, at_least_one, bits_of, digit_value, quoted}
-use Rattle.vhdl_names_problems.specs.Broken.{Tells, lacking}
+use Rattle.vhdl_names_rules.specs.problems.Broken.{Tells, lacking}
 use Rattle.vhdl_names_types.specs.Steps.{class_of}
 use Rattle.vhdl_names_types.proofs.Along.{gives_along}
 use Rattle.vhdl_names_types.proofs.Operating.{told_of}

@@ -1,5 +1,5 @@
 use Rattle.std.proofs.Common.{◌≡◌, ℕ, List, map, length}
-use Rattle.vhdl_names_problems.specs.Missing.{is_named}
+use Rattle.vhdl_names_rules.specs.problems.Missing.{is_named}
 use Rattle.vhdl_names_types.proofs.sight.is_among.Given as goal
 
 -- the names that are left decide

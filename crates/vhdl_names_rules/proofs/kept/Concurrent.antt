@@ -1,0 +1,196 @@
+-- Concurrent statements that are given break no rule (IEEE 1076-2008, clause 11).
+use Rattle.std.proofs.Common.{◌≡◌, ℕ, true, List, [], ◌∷◌, ◌++◌, map, Option, Some, None, ap, ◌∙◌}
+use Rattle.std.specs.Prelude.{option_map}
+use Rattle.vhdl_tree.specs.Tree as t
+use Rattle.vhdl_tree.specs.Tree.{Ident}
+use Rattle.vhdl_names_rules.specs.declared.kind.ObjectType.{ObjectType}
+use Rattle.vhdl_names_rules.specs.units.Statements as s
+use Rattle.vhdl_names_rules.specs.units.Units as u
+use Rattle.vhdl_names_rules.specs.Rules.{◌>>=◌, each}
+use Rattle.vhdl_names_rules.specs.Visibility.{Name, Sight, are_distinct, ends, label_ends, with_variables}
+use Rattle.vhdl_names_rules.specs.Expressions.{typed, static_range, condition, value_given, as_static_test}
+use Rattle.vhdl_names_rules.specs.Choices.{choices, covered, selector, arranged}
+use Rattle.vhdl_names_rules.specs.Declarations.{in_order, variables}
+use Rattle.vhdl_names_rules.specs.Interfaces.{EntityView, declared_names}
+use Rattle.vhdl_names_rules.specs.Instances.{instance}
+use Rattle.vhdl_names_rules.specs.Statements.{SignalName, signal, target, statements, statement_labels}
+use Rattle.vhdl_names_rules.specs.Concurrent as are
+use Rattle.vhdl_names_rules.specs.Concurrent.{alone, sight_within, concurrent_labels}
+use Rattle.vhdl_names_rules.specs.problems.Broken.{any_of, of_any}
+use Rattle.vhdl_names_rules.specs.problems.Twice.{twice}
+use Rattle.vhdl_names_rules.specs.problems.Labels as labels
+use Rattle.vhdl_names_rules.specs.problems.Covered.{any_alternative}
+use Rattle.vhdl_names_rules.specs.problems.Statements as sequential
+use Rattle.vhdl_names_rules.specs.problems.Concurrent as broken
+use Rattle.vhdl_names_rules.proofs.laws.Rules.{comes, kept}
+use Rattle.vhdl_names_rules.proofs.Telling.{IsKept, both_kept, given_kept}
+use Rattle.vhdl_names_rules.proofs.kept.Keeping.{nothing_kept, mapped, each_kept, among_kept}
+use Rattle.vhdl_names_rules.proofs.kept.Twice.{twice_kept}
+use Rattle.vhdl_names_rules.proofs.kept.Labels.{labels_named, statements_named}
+use Rattle.vhdl_names_rules.proofs.kept.Expressions.{static_range_kept, condition_kept, static_condition_kept}
+use Rattle.vhdl_names_rules.proofs.kept.Choices.{choices_kept}
+use Rattle.vhdl_names_rules.proofs.kept.Covered.{covered_kept, any_alternative_kept, choices_of_covered}
+use Rattle.vhdl_names_rules.proofs.kept.Statements.{signal_kept, target_kept, assigned_kept, end_label_kept, by_selector_kept, statements_kept}
+use Rattle.vhdl_names_rules.proofs.kept.Declarations.{all_variables_kept, end_name_kept}
+use Rattle.vhdl_names_rules.proofs.kept.Instances.{instance_kept}
+
+-- ---- conditional and selected assignments
+
+-- a value that is given to a target
+pub value_kept : (sight : Sight) (n : t.Name) (x : SignalName) (v : t.Value) (y : s.Statement) → target sight n ≡ Some x → are.assigned sight x v ≡ Some y
+    → IsKept (sequential.assigned sight n v)
+value_kept sight n x v y is h = let g = comes (value_given sight x.type v) _ y h in assigned_kept sight n v x g.value is g.is
+
+-- the branches of an assignment, and its last value
+pub record BranchesKept (sight : Sight) (n : t.Name) (bs : List t.Branch) (o : Option t.Value) : Type 0 where
+  pub branches : IsKept (any_of (broken.branch sight n) bs)
+  pub last : IsKept (of_any (sequential.assigned sight n) o)
+
+pub branches_kept : (sight : Sight) (n : t.Name) (x : SignalName) (bs : List t.Branch) (o : Option t.Value) (y : s.Branches) → target sight n ≡ Some x
+    → are.branches sight x bs o ≡ Some y → BranchesKept sight n bs o
+branches_kept sight n x [] None y is h = record { branches = nothing_kept; last = nothing_kept }
+branches_kept sight n x [] (Some v) y is h =
+    let m = mapped (λ z. s.otherwise (alone z)) (are.assigned sight x v) y h in
+    record { branches = nothing_kept; last = value_kept sight n x v m.value is m.from }
+branches_kept sight n x (b ∷ bs) o y is h =
+    let a = comes (are.assigned sight x b.value) _ y h in
+    let c = comes (condition sight b.condition) _ y a.rest in
+    let d = comes (are.branches sight x bs o) _ y c.rest in
+    let more = branches_kept sight n x bs o d.value is d.is in
+    record {
+      branches =
+          both_kept _ _ (both_kept _ _ (value_kept sight n x b.value a.value is a.is) (condition_kept sight b.condition c.value c.is)) more.branches;
+      last = more.last;
+    }
+
+pub body_kept : (sight : Sight) (n : t.Name) (x : SignalName) (bs : List t.Branch) (o : Option t.Value) (y : s.Statement) → target sight n ≡ Some x
+    → are.assignment_body sight x bs o ≡ Some y → BranchesKept sight n bs o
+body_kept sight n x [] (Some v) y is h = record { branches = nothing_kept; last = value_kept sight n x v y is h }
+body_kept sight n x [] None y is h = let m = mapped s.if_of (are.branches sight x [] None) y h in branches_kept sight n x [] None m.value is m.from
+body_kept sight n x (b ∷ bs) o y is h = let m = mapped s.if_of (are.branches sight x (b ∷ bs) o) y h in branches_kept sight n x (b ∷ bs) o m.value is m.from
+
+pub assignment_kept : (sight : Sight) (a : t.Assignment) (y : u.Concurrent) → are.assignment sight a ≡ Some y → IsKept (broken.assignment sight a)
+unfolding are.assignment
+assignment_kept sight a y h =
+    let x = comes (target sight a.target) _ y h in
+    let body = comes (are.assignment_body sight x.value a.branches a.otherwise) _ y x.rest in
+    let all = body_kept sight a.target x.value a.branches a.otherwise body.value x.is body.is in
+    both_kept _ _ (target_kept sight a.target x.value x.is) (both_kept _ _ all.branches all.last)
+
+pub waveforms_kept : (sight : Sight) (type : ObjectType) (n : t.Name) (x : SignalName) (ws : List t.Waveform) (css : List (List s.Choice)) (ys : List s.Statements)
+    → target sight n ≡ Some x → each (choices sight type) (map (λ (w : t.Waveform). w.choices) ws) ≡ Some css
+    → each (λ (w : t.Waveform). option_map alone (are.assigned sight x w.value)) ws ≡ Some ys → IsKept (any_of (broken.waveform sight type n) ws)
+waveforms_kept sight type n x [] css ys is g h = nothing_kept
+waveforms_kept sight type n x (w ∷ ws) css ys is g h =
+    let a = comes (choices sight type w.choices) _ css g in
+    let b = comes (each (choices sight type) (map (λ (w : t.Waveform). w.choices) ws)) _ css a.rest in
+    let c = comes (option_map alone (are.assigned sight x w.value)) _ ys h in
+    let m = mapped alone (are.assigned sight x w.value) c.value c.is in
+    let d = comes (each (λ (w : t.Waveform). option_map alone (are.assigned sight x w.value)) ws) _ ys c.rest in
+    both_kept _ _ (both_kept _ _ (value_kept sight n x w.value m.value is m.from) (choices_kept sight type w.choices a.value a.is))
+    (waveforms_kept sight type n x ws b.value d.value is b.is d.is)
+
+-- there are waveforms where there are lists of their choices
+any_waveform : (at : ℕ) (ws : List t.Waveform) → IsKept (any_alternative at (map (λ (w : t.Waveform). w.choices) ws)) → IsKept (any_alternative at ws)
+any_waveform at [] h = h
+any_waveform at (w ∷ ws) h = h
+
+pub selected_kept : (sight : Sight) (label : Option Ident) (a : t.SelectedAssignment) (y : u.Concurrent) → are.selected sight label a ≡ Some y → IsKept (broken.selected sight a)
+unfolding are.selected
+selected_kept sight label a y h =
+    let lists : List (List t.Choice) = map (λ (w : t.Waveform). w.choices) a.waveforms in
+    let e = comes (typed sight a.selector) _ y h in
+    let by = comes (selector e.value) _ y e.rest in
+    let type : ObjectType = by.value.0 in
+    let x = comes (target sight a.target) _ y by.rest in
+    let cs = comes (covered sight type lists) _ y x.rest in
+    let bodies = comes (each (λ (w : t.Waveform). option_map alone (are.assigned sight x.value w.value)) a.waveforms) _ y cs.rest in
+    let all = comes (arranged cs.value bodies.value) _ y bodies.rest in
+    by_selector_kept sight a.selector (λ type. broken.waveforms sight type a) e.value by.value e.is by.is
+    (both_kept _ _ (target_kept sight a.target x.value x.is)
+    (both_kept _ _
+    (covered_kept sight type a.at lists (any_of (broken.waveform sight type a.target) a.waveforms) cs.value cs.is
+    (waveforms_kept sight type a.target x.value a.waveforms cs.value bodies.value x.is (choices_of_covered sight type lists cs.value cs.is) bodies.is))
+    (any_waveform a.at a.waveforms (any_alternative_kept sight type a.at lists cs.value bodies.value all.value cs.is all.is))))
+
+-- ---- processes
+
+pub sensitivity_kept : (sight : Sight) (at : ℕ) (o : t.Sensitivity) (y : u.Sensitivity) → are.sensitivity sight o ≡ Some y → IsKept (broken.sensitivity sight at o)
+sensitivity_kept sight at t.absent y h = absurd cc
+sensitivity_kept sight at t.every y h = nothing_kept
+sensitivity_kept sight at (t.listed ns) y h =
+    let places : List SignalName → u.Sensitivity = λ xs. u.listed (map (λ (x : SignalName). x.place) xs) in
+    let m = mapped places (each (signal sight) ns) y h in
+    each_kept (sequential.signal sight) (signal sight) (signal_kept sight) ns m.value m.from
+
+-- labels that are distinct stand once
+pub inner_labels_kept : (xs : t.Statements) → are_distinct (statement_labels xs) ≡ true → IsKept (twice [] (labels.statement_labels xs))
+inner_labels_kept xs h = twice_kept [] (labels.statement_labels xs) (ap are_distinct (statements_named xs) ∙ h)
+
+pub labels_kept : (cs : t.Concurrents) → are_distinct (concurrent_labels cs) ≡ true → IsKept (twice [] (labels.labels_of cs))
+labels_kept cs h = twice_kept [] (labels.labels_of cs) (ap are_distinct (labels_named cs) ∙ h)
+
+-- no variables are in sight of a process but its own
+pub process_kept : (sight : Sight) (label : Option Ident) (p : t.Process) (y : u.Process) → sight.variables ≡ [] → are.process sight label p ≡ Some y
+    → IsKept (broken.process sight label p)
+unfolding are.process
+process_kept sight label p y none h =
+    let inside : List Name = statement_labels (t.statements_of p.statements) in
+    let on = comes (are.sensitivity sight p.sensitivity) _ y h in
+    let vs = comes (in_order with_variables variables sight p.variables) _ y on.rest in
+    let a = kept (are_distinct (declared_names vs.value.declared)) _ y vs.rest in
+    let b = kept (are_distinct inside) _ y a.1 in
+    let body = comes (statements (with_variables sight vs.value.declared) (t.statements_of p.statements)) _ y b.1 in
+    let e = kept (label_ends label p.end_label) _ y body.rest in
+    both_kept _ _ (sensitivity_kept sight p.at p.sensitivity on.value on.is)
+    (both_kept _ _ (all_variables_kept p.variables sight vs.value vs.is (ap (λ r. are_distinct (declared_names (r ++ vs.value.declared))) none ∙ a.0))
+    (both_kept _ _
+    (given_kept (λ vs. broken.body (with_variables sight vs.declared) (t.statements_of p.statements)) (in_order with_variables variables sight p.variables) vs.value vs.is
+    (among_kept _ _ (inner_labels_kept (t.statements_of p.statements) b.0)
+    (statements_kept (t.statements_of p.statements) (with_variables sight vs.value.declared) body.value body.is)))
+    (end_label_kept label p.end_label e.0)))
+
+-- ---- all statements
+
+pub scheme_kept : (sight : Sight) (label : Name) (o : t.Scheme) (body : u.Concurrents) (y : u.Concurrent) → are.generated sight label o body ≡ Some y
+    → IsKept (broken.scheme sight o)
+scheme_kept sight label (t.for_each n r) body y h =
+    let m = mapped (λ range. u.generate_for label range body) (static_range sight r) y h in
+    static_range_kept sight r m.value m.from
+scheme_kept sight label (t.if_holds e) body y h =
+    let m = mapped (λ test. u.generate_if label test body) (typed sight e >>= as_static_test) y h in
+    static_condition_kept sight e m.value m.from
+
+variables_within : (sight : Sight) (s : t.Scheme) → sight.variables ≡ [] → (sight_within sight s).variables ≡ []
+variables_within sight (t.for_each n r) none = none
+variables_within sight (t.if_holds e) none = none
+
+mutual
+  unfolding are.concurrent broken.concurrent
+
+  pub concurrent_kept : (c : t.Concurrent) (entities : List EntityView) (sight : Sight) (x : u.Concurrent) → sight.variables ≡ [] → are.concurrent entities sight c ≡ Some x
+      → IsKept (broken.concurrent entities sight c)
+  concurrent_kept (t.assignment a) entities sight x none h = assignment_kept sight a x h
+  concurrent_kept (t.selected label a) entities sight x none h = selected_kept sight label a x h
+  concurrent_kept (t.process label p) entities sight x none h =
+      let m = mapped u.process (are.process sight label p) x h in
+      process_kept sight label p m.value none m.from
+  concurrent_kept (t.instance label i) entities sight x none h =
+      let m = mapped u.instance (instance entities sight label i) x h in
+      instance_kept entities sight label i m.value m.from
+  concurrent_kept (t.generated label at s word cs end) entities sight x none h =
+      let a = kept (ends label.text end) _ x h in
+      let b = kept (are_distinct (concurrent_labels cs)) _ x a.1 in
+      let body = comes (are.concurrents entities (sight_within sight s) cs) _ x b.1 in
+      both_kept _ _ (scheme_kept sight label.text s body.value x body.rest)
+      (both_kept _ _
+      (among_kept _ _ (labels_kept cs b.0) (concurrents_kept cs entities (sight_within sight s) body.value (variables_within sight s none) body.is))
+      (end_name_kept label end a.0))
+
+  pub concurrents_kept : (cs : t.Concurrents) (entities : List EntityView) (sight : Sight) (xs : u.Concurrents) → sight.variables ≡ []
+      → are.concurrents entities sight cs ≡ Some xs → IsKept (broken.concurrents entities sight cs)
+  concurrents_kept t.no_concurrents entities sight xs none h = nothing_kept
+  concurrents_kept (t.concurrent c cs) entities sight xs none h =
+      let a = comes (are.concurrent entities sight c) _ xs h in
+      let b = comes (are.concurrents entities sight cs) _ xs a.rest in
+      both_kept _ _ (concurrent_kept c entities sight a.value none a.is) (concurrents_kept cs entities sight b.value none b.is)

@@ -1,0 +1,74 @@
+-- Interfaces, entities and components that are given break no rule (IEEE 1076-2008, 3.2, 6.5.6 and 6.8).
+use Rattle.std.proofs.Common.{◌≡◌, true, ◌&&◌, List, [], ◌∷◌, ◌++◌, Option, Some, refl, ap, sym, ◌∙◌}
+use Rattle.vhdl_tree.specs.Tree as t
+use Rattle.vhdl_tree.specs.Tree.{ContextItem}
+use Rattle.vhdl_names_rules.specs.declared.fault.NameProblem.TheVariants.{Undeclared, WrongKind}
+use Rattle.vhdl_names_rules.specs.units.Units as u
+use Rattle.vhdl_names_rules.specs.Rules.{all_of}
+use Rattle.vhdl_names_rules.specs.Visibility.{Name, Sight, are_distinct, ends, with_declared, Declares}
+use Rattle.vhdl_names_rules.specs.Packages.{no_context, context, sight_of}
+use Rattle.vhdl_names_rules.specs.Declarations.{in_order, generic, port}
+use Rattle.vhdl_names_rules.specs.SameText.{same_generics, same_ports}
+use Rattle.vhdl_names_rules.specs.Interfaces as are
+use Rattle.vhdl_names_rules.specs.Interfaces.{Interface, EntityView, declared_names, entity_named}
+use Rattle.vhdl_names_rules.specs.problems.Declarations as declarations
+use Rattle.vhdl_names_rules.specs.problems.Interfaces as broken
+use Rattle.vhdl_names_rules.specs.problems.Interfaces.{same_text}
+use Rattle.vhdl_names_rules.proofs.laws.Rules.{comes, kept}
+use Rattle.vhdl_names_rules.proofs.Telling.{IsKept, both_kept, unless_kept, lacking_kept, given_kept}
+use Rattle.vhdl_names_rules.proofs.kept.Twice.{distinct_front, names_append}
+use Rattle.vhdl_names_rules.proofs.kept.Named.{of_component}
+use Rattle.vhdl_names_rules.proofs.kept.Declarations.{standing_kept, end_name_kept, context_kept, in_region_kept, generic_kept, port_kept}
+
+pub generics_kept : (sight : Sight) (gs : List t.Generic) (x : Declares u.Generic) → in_order with_declared generic sight gs ≡ Some x
+    → are_distinct (declared_names (sight.region ++ x.declared)) ≡ true → IsKept (broken.generics sight gs)
+generics_kept sight gs x h distinct = in_region_kept generic declarations.generic generic_kept gs sight x h distinct
+
+pub ports_kept : (sight : Sight) (ps : List t.Port) (x : Declares u.Port) → in_order with_declared port sight ps ≡ Some x
+    → are_distinct (declared_names (sight.region ++ x.declared)) ≡ true → IsKept (broken.ports sight ps)
+ports_kept sight ps x h distinct = in_region_kept port declarations.port port_kept ps sight x h distinct
+
+-- an interface is a region of its own
+pub interface_kept : (sight : Sight) (gs : Option (List t.Generic)) (ps : Option (List t.Port)) (i : Interface) → sight.region ≡ [] → are.interface sight gs ps ≡ Some i
+    → IsKept (broken.interface sight gs ps)
+unfolding are.interface
+interface_kept sight gs ps i none h =
+    let g = comes (in_order with_declared generic sight (all_of gs)) _ i h in
+    let p = comes (in_order with_declared port (with_declared sight g.value.declared) (all_of ps)) _ i g.rest in
+    let k = kept (are_distinct (declared_names (g.value.declared ++ p.value.declared))) _ i p.rest in
+    let first : are_distinct (declared_names g.value.declared) ≡ true =
+    distinct_front (declared_names g.value.declared) (declared_names p.value.declared)
+    (ap are_distinct (sym (names_append g.value.declared p.value.declared)) ∙ k.0) in
+    both_kept _ _ (generics_kept sight (all_of gs) g.value g.is (ap (λ r. are_distinct (declared_names (r ++ g.value.declared))) none ∙ first))
+    (given_kept (λ g. broken.ports (with_declared sight g.declared) (all_of ps)) (in_order with_declared generic sight (all_of gs)) g.value g.is
+    (ports_kept (with_declared sight g.value.declared) (all_of ps) p.value p.is
+    (ap (λ r. are_distinct (declared_names ((r ++ g.value.declared) ++ p.value.declared))) none ∙ k.0)))
+
+pub entity_kept : (items : List ContextItem) (e : t.Entity) (architecture : Option Name) (v : EntityView) → are.entity items e architecture ≡ Some v
+    → IsKept (broken.entity items e)
+unfolding are.entity
+entity_kept items e architecture v h =
+    let c = comes (context no_context items) _ v h in
+    let i = comes (are.interface (sight_of c.value []) e.generics e.ports) _ v c.rest in
+    let k = kept (ends e.name.text e.end_name) _ v i.rest in
+    both_kept _ _ (context_kept items no_context c.value c.is)
+    (both_kept _ _
+    (given_kept (λ c. broken.interface (sight_of c []) e.generics e.ports) (context no_context items) c.value c.is
+    (interface_kept (sight_of c.value []) e.generics e.ports i.value refl i.is))
+    (end_name_kept e.name e.end_name k.0))
+
+pub component_kept : (entities : List EntityView) (sight : Sight) (c : t.Component) (x : Declares u.Declaration) → are.component entities sight c ≡ Some x
+    → are_distinct (declared_names (sight.region ++ x.declared)) ≡ true → IsKept (broken.component entities sight c)
+unfolding are.component
+component_kept entities sight c x h distinct =
+    let inner : Sight = record sight { region = []; outside = sight.region ++ sight.outside } in
+    let e = comes (entity_named entities c.name.text) _ x h in
+    let same = kept (same_generics c.generics e.value.1.generic_text && same_ports c.ports e.value.1.port_text) _ x e.rest in
+    let i = comes (are.interface inner c.generics c.ports) _ x same.1 in
+    let k = kept (ends c.name.text c.end_name) _ x i.rest in
+    both_kept _ _ (standing_kept sight.region (c.name ∷ []) x (of_component entities sight c x h) distinct)
+    (both_kept _ _ (lacking_kept Undeclared c.name.at (entity_named entities c.name.text) e.value e.is)
+    (both_kept _ _
+    (given_kept (same_text c) (entity_named entities c.name.text) e.value e.is
+    (unless_kept WrongKind c.name.at (same_generics c.generics e.value.1.generic_text && same_ports c.ports e.value.1.port_text) same.0))
+    (both_kept _ _ (interface_kept inner c.generics c.ports i.value refl i.is) (end_name_kept c.name c.end_name k.0))))

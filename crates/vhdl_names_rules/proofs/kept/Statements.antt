@@ -1,0 +1,175 @@
+-- Sequential statements that are given break no rule (IEEE 1076-2008, clause 10).
+use Rattle.std.proofs.Common.{◌≡◌, true, not, List, Option, Some, None}
+use Rattle.std.specs.Prelude.{is_none}
+use Rattle.vhdl_tree.specs.Tree as t
+use Rattle.vhdl_tree.specs.Tree.{Ident, Expr}
+use Rattle.vhdl_names_rules.specs.declared.kind.ObjectType.{ObjectType}
+use Rattle.vhdl_names_rules.specs.declared.fault.NameProblem.{NameProblem}
+use Rattle.vhdl_names_rules.specs.declared.fault.NameProblem.TheVariants.{WrongKind, WriteOfIn, LeftOut}
+use Rattle.vhdl_names_rules.specs.units.Expressions.{Value}
+use Rattle.vhdl_names_rules.specs.units.Statements as s
+use Rattle.vhdl_names_rules.specs.Rules.{◌>>=◌, ◌>>◌, rule, each}
+use Rattle.vhdl_names_rules.specs.Visibility.{Meaning, Sight, meaning, label_ends, within_loop}
+use Rattle.vhdl_names_rules.specs.Operators.{Typed}
+use Rattle.vhdl_names_rules.specs.Names.{Suffix}
+use Rattle.vhdl_names_rules.specs.Expressions.{typed, typed_suffix, static_range, condition, value_given}
+use Rattle.vhdl_names_rules.specs.Choices.{choices, covered, selector, arranged}
+use Rattle.vhdl_names_rules.specs.Statements as are
+use Rattle.vhdl_names_rules.specs.Statements.{SignalName, VariableName, as_signal, as_variable, is_input, choice_lists}
+use Rattle.vhdl_names_rules.specs.problems.Broken.{Broken, ◌▸◌, unless, lacking, where_given}
+use Rattle.vhdl_names_rules.specs.problems.Expressions as expressions
+use Rattle.vhdl_names_rules.specs.problems.Expressions.{no_attribute}
+use Rattle.vhdl_names_rules.specs.problems.Statements as broken
+use Rattle.vhdl_names_rules.specs.problems.Statements.{signal_problem, variable_problem, end_label, by_selector}
+use Rattle.vhdl_names_rules.proofs.laws.Rules.{comes, kept}
+use Rattle.vhdl_names_rules.proofs.Telling.{IsKept, both_kept, unless_kept, lacking_kept, given_kept}
+use Rattle.vhdl_names_rules.proofs.kept.Keeping.{nothing_kept, mapped}
+use Rattle.vhdl_names_rules.proofs.kept.Expressions.{meaning_kept, typed_suffix_kept, static_range_kept, condition_kept, value_given_kept}
+use Rattle.vhdl_names_rules.proofs.kept.Choices.{choices_kept, selected_by_kept}
+use Rattle.vhdl_names_rules.proofs.kept.Covered.{covered_kept, any_alternative_kept, choices_of_covered}
+
+-- ---- names of signals and variables
+
+-- what an object's name is
+abbrev pub object_named : {A : Type 0} → (Meaning → Suffix → Option A) → Sight → t.Name → Option A
+object_named f sight n = do
+  rule LeftOut (is_none n.attribute)
+  suffix ← typed_suffix sight n.suffix
+  d ← meaning sight n.identifier.text
+  f d suffix
+
+pub no_attribute_kept : (a : Option Ident) → is_none a ≡ true → IsKept (no_attribute a)
+no_attribute_kept None h = nothing_kept
+no_attribute_kept (Some i) h = absurd cc
+
+pub named_kept : (sight : Sight) (n : t.Name) (d : Meaning) (s : Suffix) → meaning sight n.identifier.text ≡ Some d → typed_suffix sight n.suffix ≡ Some s
+    → is_none n.attribute ≡ true → IsKept (broken.named sight n)
+named_kept sight n d s meant given none =
+    both_kept _ _ (meaning_kept sight n.identifier d meant) (both_kept _ _ (typed_suffix_kept n.suffix sight s given) (no_attribute_kept n.attribute none))
+
+object_kept : {A : Type 0} (problem : Meaning → NameProblem) (f : Meaning → Suffix → Option A) (sight : Sight) (n : t.Name) (x : A) → object_named f sight n ≡ Some x
+    → IsKept (broken.named sight n ▸ where_given (meaning sight n.identifier.text) (λ d. where_given (typed_suffix sight n.suffix) (λ s. lacking (problem d) n.identifier.at (f d s))))
+object_kept problem f sight n x h =
+    let a = kept (is_none n.attribute) _ x h in
+    let b = comes (typed_suffix sight n.suffix) _ x a.1 in
+    let d = comes (meaning sight n.identifier.text) _ x b.rest in
+    both_kept _ _ (named_kept sight n d.value b.value d.is b.is a.0)
+    (given_kept (λ d. where_given (typed_suffix sight n.suffix) (λ s. lacking (problem d) n.identifier.at (f d s))) (meaning sight n.identifier.text) d.value d.is
+    (given_kept (λ s. lacking (problem d.value) n.identifier.at (f d.value s)) (typed_suffix sight n.suffix) b.value b.is
+    (lacking_kept (problem d.value) n.identifier.at (f d.value b.value) x d.rest)))
+
+pub signal_kept : (sight : Sight) (n : t.Name) (x : SignalName) → are.signal sight n ≡ Some x → IsKept (broken.signal sight n)
+unfolding are.signal
+signal_kept sight n x h = object_kept signal_problem as_signal sight n x h
+
+pub target_kept : (sight : Sight) (n : t.Name) (x : SignalName) → are.target sight n ≡ Some x → IsKept (broken.target sight n)
+unfolding are.target
+target_kept sight n x h =
+    let a = comes (are.signal sight n) _ x h in
+    let b = kept (not (is_input a.value.mode)) _ x a.rest in
+    both_kept _ _ (signal_kept sight n a.value a.is)
+    (given_kept (λ x. unless WriteOfIn n.identifier.at (not (is_input x.mode))) (are.signal sight n) a.value a.is
+    (unless_kept WriteOfIn n.identifier.at (not (is_input a.value.mode)) b.0))
+
+pub variable_kept : (sight : Sight) (n : t.Name) (x : VariableName) → are.variable sight n ≡ Some x → IsKept (broken.variable sight n)
+unfolding are.variable
+variable_kept sight n x h = object_kept variable_problem as_variable sight n x h
+
+-- ---- assignments
+
+pub assigned_kept : (sight : Sight) (n : t.Name) (v : t.Value) (x : SignalName) (g : s.Given) → are.target sight n ≡ Some x → value_given sight x.type v ≡ Some g
+    → IsKept (broken.assigned sight n v)
+assigned_kept sight n v x g h k =
+    both_kept _ _ (target_kept sight n x h)
+    (given_kept (λ x. expressions.value_given sight x.type v) (are.target sight n) x h (value_given_kept sight x.type v g k))
+
+pub variable_assigned_kept : (sight : Sight) (n : t.Name) (v : t.Value) (x : VariableName) (g : s.Given) → are.variable sight n ≡ Some x → value_given sight x.type v ≡ Some g
+    → IsKept (broken.variable_assigned sight n v)
+variable_assigned_kept sight n v x g h k =
+    both_kept _ _ (variable_kept sight n x h)
+    (given_kept (λ x. expressions.value_given sight x.type v) (are.variable sight n) x h (value_given_kept sight x.type v g k))
+
+-- ---- statements
+
+pub end_label_kept : (label end : Option Ident) → label_ends label end ≡ true → IsKept (end_label label end)
+end_label_kept label None h = nothing_kept
+end_label_kept label (Some e) h = unless_kept WrongKind e.at (label_ends label (Some e)) h
+
+pub by_selector_kept : (sight : Sight) (e : Expr) (f : ObjectType → Broken) (x : Typed) (by : ObjectType × Value) → typed sight e ≡ Some x → selector x ≡ Some by
+    → IsKept (f by.0) → IsKept (by_selector sight e f)
+by_selector_kept sight e f x by typed_is selected h =
+    both_kept _ _ (selected_by_kept sight e x by typed_is selected)
+    (given_kept (λ x. where_given (selector x) (λ by. f by.0)) (typed sight e) x typed_is (given_kept (λ by. f by.0) (selector x) by selected h))
+
+mutual
+  unfolding are.statement broken.statement
+
+  pub statement_kept : (y : t.Statement) (sight : Sight) (label : Option Ident) (x : s.Statement) → are.statement sight label y ≡ Some x
+      → IsKept (broken.statement sight label y)
+  statement_kept (t.null_of at) sight label x h = nothing_kept
+  statement_kept (t.assigned n v) sight label x h =
+      let a = comes (are.target sight n) _ x h in
+      let b = comes (value_given sight a.value.type v) _ x a.rest in
+      assigned_kept sight n v a.value b.value a.is b.is
+  statement_kept (t.variable_assigned n v) sight label x h =
+      let a = comes (are.variable sight n) _ x h in
+      let b = comes (value_given sight a.value.type v) _ x a.rest in
+      variable_assigned_kept sight n v a.value b.value a.is b.is
+  statement_kept (t.if_of at bs o end) sight label x h =
+      let a = kept (label_ends label end) _ x h in
+      let last = comes (are.otherwise sight o) _ x a.1 in
+      let b = comes (are.conditionals sight last.value bs) _ x last.rest in
+      both_kept _ _ (conditionals_kept bs sight last.value b.value b.is)
+      (both_kept _ _ (otherwise_kept o sight last.value last.is) (end_label_kept label end a.0))
+  statement_kept (t.case_of at e alts end) sight label x h =
+      let a = kept (label_ends label end) _ x h in
+      let y = comes (typed sight e) _ x a.1 in
+      let by = comes (selector y.value) _ x y.rest in
+      let choices = comes (covered sight by.value.0 (choice_lists alts)) _ x by.rest in
+      let bodies = comes (are.alternatives sight alts) _ x choices.rest in
+      let all = comes (arranged choices.value bodies.value) _ x bodies.rest in
+      both_kept _ _
+      (by_selector_kept sight e _ y.value by.value y.is by.is
+      (covered_kept sight by.value.0 at (choice_lists alts) (broken.alternatives sight by.value.0 alts) choices.value choices.is
+      (alternatives_kept alts sight by.value.0 choices.value bodies.value (choices_of_covered sight by.value.0 (choice_lists alts) choices.value choices.is) bodies.is)))
+      (both_kept _ _ (end_label_kept label end a.0)
+      (any_alternative_kept sight by.value.0 at (choice_lists alts) choices.value bodies.value all.value choices.is all.is))
+  statement_kept (t.for_of at n r body end) sight label x h =
+      let a = kept (label_ends label end) _ x h in
+      let range = comes (static_range sight r) _ x a.1 in
+      let turn = comes (are.statements (within_loop sight n) body) _ x range.rest in
+      both_kept _ _ (static_range_kept sight r range.value range.is)
+      (both_kept _ _ (statements_kept body (within_loop sight n) turn.value turn.is) (end_label_kept label end a.0))
+
+  pub statements_kept : (ys : t.Statements) (sight : Sight) (xs : s.Statements) → are.statements sight ys ≡ Some xs → IsKept (broken.statements sight ys)
+  statements_kept t.done sight xs h = nothing_kept
+  statements_kept (t.step label y ys) sight xs h =
+      let a = comes (are.statement sight label y) _ xs h in
+      let b = comes (are.statements sight ys) _ xs a.rest in
+      both_kept _ _ (statement_kept y sight label a.value a.is) (statements_kept ys sight b.value b.is)
+
+  pub conditionals_kept : (bs : t.Conditionals) (sight : Sight) (last xs : s.Branches) → are.conditionals sight last bs ≡ Some xs → IsKept (broken.conditionals sight bs)
+  conditionals_kept t.no_conditionals sight last xs h = nothing_kept
+  conditionals_kept (t.guarded e body bs) sight last xs h =
+      let c = comes (condition sight e) _ xs h in
+      let a = comes (are.statements sight body) _ xs c.rest in
+      let b = comes (are.conditionals sight last bs) _ xs a.rest in
+      both_kept _ _ (condition_kept sight e c.value c.is)
+      (both_kept _ _ (statements_kept body sight a.value a.is) (conditionals_kept bs sight last b.value b.is))
+
+  pub otherwise_kept : (o : t.Otherwise) (sight : Sight) (x : s.Branches) → are.otherwise sight o ≡ Some x → IsKept (broken.otherwise sight o)
+  otherwise_kept t.no_else sight x h = nothing_kept
+  otherwise_kept (t.else_do body) sight x h =
+      let a = mapped s.otherwise (are.statements sight body) x h in
+      statements_kept body sight a.value a.from
+
+  pub alternatives_kept : (alts : t.Alternatives) (sight : Sight) (type : ObjectType) (css : List (List s.Choice)) (xs : List s.Statements)
+      → each (choices sight type) (choice_lists alts) ≡ Some css → are.alternatives sight alts ≡ Some xs → IsKept (broken.alternatives sight type alts)
+  alternatives_kept t.no_alternatives sight type css xs g h = nothing_kept
+  alternatives_kept (t.alternative cs body more) sight type css xs g h =
+      let c = comes (choices sight type cs) _ css g in
+      let d = comes (each (choices sight type) (choice_lists more)) _ css c.rest in
+      let a = comes (are.statements sight body) _ xs h in
+      let b = comes (are.alternatives sight more) _ xs a.rest in
+      both_kept _ _ (choices_kept sight type cs c.value c.is)
+      (both_kept _ _ (statements_kept body sight a.value a.is) (alternatives_kept more sight type d.value b.value d.is b.is))

@@ -1,0 +1,82 @@
+-- Which rules concurrent statements break (IEEE 1076-2008, clause 11), with the declarations in sight.
+use Rattle.std.specs.Prelude.{ℕ, List, [], map, Option}
+use Rattle.vhdl_tree.specs.Tree as t
+use Rattle.vhdl_tree.specs.Tree.{Ident}
+use Rattle.vhdl_names_rules.specs.declared.kind.ObjectType.{ObjectType}
+use Rattle.vhdl_names_rules.specs.declared.fault.NameProblem.TheVariants.{NoSensitivity}
+use Rattle.vhdl_names_rules.specs.Visibility.{Sight, with_variables}
+use Rattle.vhdl_names_rules.specs.Declarations as declarations
+use Rattle.vhdl_names_rules.specs.Interfaces.{EntityView}
+use Rattle.vhdl_names_rules.specs.Concurrent.{sight_within}
+use Rattle.vhdl_names_rules.specs.problems.Broken.{Broken, nothing, refused, ◌▸◌, earlier, where_given, any_of, of_any}
+use Rattle.vhdl_names_rules.specs.problems.Twice.{twice}
+use Rattle.vhdl_names_rules.specs.problems.Labels.{labels_of, statement_labels}
+use Rattle.vhdl_names_rules.specs.problems.Expressions.{static_range, condition, static_condition}
+use Rattle.vhdl_names_rules.specs.problems.Choices.{choices}
+use Rattle.vhdl_names_rules.specs.problems.Covered.{covered, any_alternative}
+use Rattle.vhdl_names_rules.specs.problems.Statements.{signal, target, assigned, end_label, by_selector, statements}
+use Rattle.vhdl_names_rules.specs.problems.Declarations.{end_name, in_order, variables}
+use Rattle.vhdl_names_rules.specs.problems.Instances.{instance}
+
+-- ---- conditional and selected assignments (11.6)
+
+-- value when condition
+abbrev pub branch : Sight → t.Name → t.Branch → Broken
+branch sight n b = assigned sight n b.value ▸ condition sight b.condition
+
+abbrev pub assignment : Sight → t.Assignment → Broken
+assignment sight a =
+    target sight a.target ▸ any_of (branch sight a.target) a.branches ▸ of_any (assigned sight a.target) a.otherwise
+
+-- value when choices
+abbrev pub waveform : Sight → ObjectType → t.Name → t.Waveform → Broken
+waveform sight type n w = assigned sight n w.value ▸ choices sight type w.choices
+
+abbrev pub waveforms : Sight → ObjectType → t.SelectedAssignment → Broken
+waveforms sight type a =
+    target sight a.target
+    ▸ covered sight type a.at (map (λ w. w.choices) a.waveforms) (any_of (waveform sight type a.target) a.waveforms)
+    ▸ any_alternative a.at a.waveforms
+
+abbrev pub selected : Sight → t.SelectedAssignment → Broken
+selected sight a = by_selector sight a.selector (λ type. waveforms sight type a)
+
+-- ---- processes (11.3)
+
+-- the process starts at this byte
+abbrev pub sensitivity : Sight → ℕ → t.Sensitivity → Broken
+sensitivity sight at t.absent = refused NoSensitivity at
+sensitivity sight at t.every = nothing
+sensitivity sight at (t.listed ns) = any_of (signal sight) ns
+
+-- its labels stand among its statements
+abbrev pub body : Sight → t.Statements → Broken
+body sight xs = earlier (twice [] (statement_labels xs)) (statements sight xs)
+
+abbrev pub process : Sight → Option Ident → t.Process → Broken
+process sight label p =
+    sensitivity sight p.at p.sensitivity
+    ▸ in_order with_variables declarations.variables variables sight p.variables
+    ▸ where_given (declarations.in_order with_variables declarations.variables sight p.variables)
+    (λ vs. body (with_variables sight vs.declared) (t.statements_of p.statements))
+    ▸ end_label label p.end_label
+
+-- ---- all statements, with the entities of the file
+
+abbrev pub scheme : Sight → t.Scheme → Broken
+scheme sight (t.for_each n r) = static_range sight r
+scheme sight (t.if_holds e) = static_condition sight e
+
+module _ (entities : List EntityView) where
+  unfoldable mutual
+    pub concurrent : Sight → t.Concurrent → Broken
+    concurrent sight (t.assignment a) = assignment sight a
+    concurrent sight (t.selected label a) = selected sight a
+    concurrent sight (t.process label p) = process sight label p
+    concurrent sight (t.instance label i) = instance entities sight label i
+    concurrent sight (t.generated label at s word cs end) =
+        scheme sight s ▸ earlier (twice [] (labels_of cs)) (concurrents (sight_within sight s) cs) ▸ end_name label end
+
+    pub concurrents : Sight → t.Concurrents → Broken
+    concurrents sight t.no_concurrents = nothing
+    concurrents sight (t.concurrent c cs) = concurrent sight c ▸ concurrents sight cs

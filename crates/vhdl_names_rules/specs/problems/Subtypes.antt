@@ -1,0 +1,105 @@
+-- Which rule a subtype indication breaks first (IEEE 1076-2008, 6.3), and the value of a constant that is no integer, or of a default.
+use Rattle.std.specs.Prelude.{Bool, true, false, Option, Some, None}
+use Rattle.vhdl_tree.specs.Tree as t
+use Rattle.vhdl_tree.specs.Tree.{Expr}
+use Rattle.vhdl_names_rules.specs.declared.kind.ElementKind.TheVariants.{Element, Unsigned}
+use Rattle.vhdl_names_rules.specs.declared.kind.ObjectType.{ObjectType}
+use Rattle.vhdl_names_rules.specs.declared.kind.ObjectType.TheVariants.{Elements}
+use Rattle.vhdl_names_rules.specs.declared.kind.Function.TheVariants.{ToUnsigned}
+use Rattle.vhdl_names_rules.specs.declared.fault.NameProblem.{NameProblem}
+use Rattle.vhdl_names_rules.specs.declared.fault.NameProblem.TheVariants.{Undeclared, WrongKind, TypeMismatch, LeftOut}
+use Rattle.vhdl_names_rules.specs.units.Units.{Fixed}
+use Rattle.vhdl_names_rules.specs.Visibility as visibility
+use Rattle.vhdl_names_rules.specs.Visibility.{Meaning, Sight}
+use Rattle.vhdl_names_rules.specs.Literals.{nine_of, values_of_string, values_of_bits}
+use Rattle.vhdl_names_rules.specs.Names as names
+use Rattle.vhdl_names_rules.specs.Names.{Suffix}
+use Rattle.vhdl_names_rules.specs.Expressions as are
+use Rattle.vhdl_names_rules.specs.Subtypes.{named_value, encoded_value, filled_value}
+use Rattle.vhdl_names_rules.specs.problems.Broken.{Broken, refused, ◌▸◌, unless, lacking, where_given, of_any}
+use Rattle.vhdl_names_rules.specs.problems.Places.{start}
+use Rattle.vhdl_names_rules.specs.problems.Operators.{string_problem}
+use Rattle.vhdl_names_rules.specs.problems.Expressions.{meaning, no_attribute, is_vector_type, typed_suffix, static_range}
+
+-- ---- types of objects
+
+-- a type of vectors has a range, and no other type has one
+abbrev pub is_marked : Meaning → Option t.Range → Bool
+is_marked (visibility.element_type r) None = true
+is_marked (visibility.vector_type k r) (Some range) = true
+is_marked (visibility.enumeration_type e count) None = true
+is_marked _ _ = false
+
+-- a type with a range too much or too little, or of integers; a name that isn't declared yet; a name of no type
+abbrev pub mark_problem : Meaning → NameProblem
+mark_problem (visibility.integer_type w) = LeftOut
+mark_problem (visibility.element_type r) = LeftOut
+mark_problem (visibility.vector_type k r) = LeftOut
+mark_problem (visibility.enumeration_type e count) = LeftOut
+mark_problem visibility.unfinished = Undeclared
+mark_problem _ = WrongKind
+
+-- the mark, with whether a range stands there, and then the range
+abbrev pub subtype : Sight → t.Subtype → Broken
+subtype sight s =
+    meaning sight s.mark
+    ▸ where_given (visibility.meaning sight s.mark.text) (λ d. unless (mark_problem d) s.mark.at (is_marked d s.range))
+    ▸ of_any (static_range sight) s.range
+
+-- ---- literals as they stand, which constants, defaults and choices ask for
+
+abbrev pub is_element_type : ObjectType → Bool
+is_element_type (Elements Element) = true
+is_element_type _ = false
+
+-- a character for one element, a string or a bit string for a vector; any other form is left out
+abbrev pub literal : ObjectType → Expr → Broken
+literal type (t.character at c) = unless TypeMismatch at (is_element_type type) ▸ lacking TypeMismatch at (nine_of c)
+literal type (t.string at text) = unless TypeMismatch at (is_vector_type type) ▸ lacking (string_problem text) at (values_of_string text)
+literal type (t.bits at text) = unless TypeMismatch at (is_vector_type type) ▸ lacking LeftOut at (values_of_bits text)
+literal type e = refused LeftOut (start e)
+
+-- ---- the value of a constant that is no integer, and of a default
+
+-- a name that isn't declared yet; one of another type; one of no value; a value that is no constant is left out
+abbrev pub value_problem : Meaning → NameProblem
+value_problem visibility.unfinished = Undeclared
+value_problem (visibility.literal e count p) = TypeMismatch
+value_problem (visibility.constant k kind values) = TypeMismatch
+value_problem visibility.label = WrongKind
+value_problem (visibility.component k) = WrongKind
+value_problem _ = LeftOut
+
+-- the arguments of a call aren't as they should be
+abbrev pub call_problem : ObjectType → Meaning → NameProblem
+call_problem (Elements Unsigned) (visibility.function ToUnsigned) = TypeMismatch
+call_problem _ d = value_problem d
+
+-- a slice is left out
+abbrev pub suffixed_problem : ObjectType → Meaning → Suffix → NameProblem
+suffixed_problem type d names.plain = value_problem d
+suffixed_problem type d (names.arguments b xs) = call_problem type d
+suffixed_problem type d (names.range r) = LeftOut
+
+-- what a name is, with what follows it
+abbrev pub value_of : ObjectType → Meaning → Suffix → Option Fixed
+value_of type d names.plain = named_value type d
+value_of type d (names.arguments b xs) = encoded_value type d xs
+value_of type d (names.range r) = None
+
+abbrev pub fixed : Sight → ObjectType → Expr → Broken
+fixed sight type (t.named n suffix a) =
+    meaning sight n ▸ typed_suffix sight suffix ▸ no_attribute a
+    ▸ where_given (visibility.meaning sight n.text) (λ d. where_given (are.typed_suffix sight suffix) (λ s.
+    lacking (suffixed_problem type d s) n.at (value_of type d s)))
+fixed sight type e = literal type e
+
+abbrev pub is_character : Expr → Bool
+is_character (t.character at c) = true
+is_character _ = false
+
+-- of (others => e), e is a character literal, and the type is of vectors
+abbrev pub fixed_value : Sight → ObjectType → t.Value → Broken
+fixed_value sight type (t.single e) = fixed sight type e
+fixed_value sight type (t.others at e) =
+    unless LeftOut (start e) (is_character e) ▸ unless TypeMismatch at (is_vector_type type) ▸ lacking TypeMismatch (start e) (filled_value type e)
