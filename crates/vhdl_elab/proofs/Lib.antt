@@ -1,2 +1,11 @@
+pub mod Adding
+pub mod Uses
+mod Placing
+mod Walking
+pub mod Ready
+mod Seen
+mod Settling
+mod Shown
+mod Lengths
 mod Joined
 mod There

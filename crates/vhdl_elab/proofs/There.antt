@@ -18,8 +18,8 @@ use Rattle.vhdl_elab_rules.specs.Numbering.{Placed, Located, Numbered, numbered_
 use Rattle.vhdl_elab_rules.specs.Wiring.{Element, element_of, elements_from, elements_of}
 use Rattle.vhdl_elab_laws.proofs.Ordered.{is-ordered}
 use Rattle.vhdl_elab_laws.proofs.Placed.{IsBelow, PlacedAt, Follow, LocatedAt, Walked, walk, nets-below, nets-as-elements}
-use Rattle.vhdl_connect.specs.Settled.{NetsAreBelow}
-use Rattle.vhdl_connect.specs.Wired.{NetsAreThere}
+use Rattle.vhdl_elab.specs.Settled.{NetsAreBelow}
+use Rattle.vhdl_elab.specs.Wired.{NetsAreThere}
 
 -- ---- elements
 

@@ -11,9 +11,9 @@ ghost use Rattle.vhdl_elab_laws.specs.Shown.{as_shown, net_shown};
 ghost use Rattle.vhdl_expand_rules.specs.Elab.{problem_told};
 ghost use Rattle.vhdl_expand_rules.specs.declared.fault.ElabFault.TheVariants.{NoMemory};
 
+use crate::connection::connect;
 use rtl_net::Net;
 use std::alloc::Global;
-use vhdl_connect::connect;
 use vhdl_expand::expand;
 use vhdl_expand_rules::ElabFault;
 use vhdl_names_units::Units;

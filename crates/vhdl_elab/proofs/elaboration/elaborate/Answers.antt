@@ -14,7 +14,7 @@ use Rattle.vhdl_elab_laws.specs.Refused.{MayRefuse}
 use Rattle.vhdl_elab_laws.specs.Shown.{as_shown, net_shown}
 use Rattle.vhdl_elab_laws.proofs.Dotted.{each-tree-is-dotted}
 use Rattle.vhdl_elab.proofs.Joined.{was-expanded, is-within, elaborated-by, refused, may-refuse, not-shown, connected-is-net}
-use Rattle.vhdl_connect.proofs.Ready.{is-ready}
+use Rattle.vhdl_elab.proofs.Ready.{is-ready}
 use Rattle.vhdl_elab.proofs.There.{nets-there}
 use Rattle.vhdl_elab.proofs.elaboration.elaborate.Goals as goal
 

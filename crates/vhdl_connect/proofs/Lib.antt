@@ -1,9 +1,0 @@
-pub mod Adding
-pub mod Uses
-mod Placing
-mod Walking
-pub mod Ready
-mod Seen
-mod Settling
-mod Shown
-mod Lengths

@@ -1,6 +1,0 @@
-use Rattle.vhdl_connect.proofs.Settling.{AreUnwoken}
-use Rattle.vhdl_connect.proofs.settled.settle.Given as goal
-
--- the processes so far are not woken
-abbrev pub invariant-loop-i : goal.invariant-loop-i
-invariant-loop-i l = AreUnwoken l.i l.initial.processes l.processes

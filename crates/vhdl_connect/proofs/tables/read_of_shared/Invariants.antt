@@ -1,9 +1,0 @@
-use Rattle.std.proofs.Common.{◌≡◌, drop}
-use Rattle.std.specs.List.{list_any, zip}
-use Rattle.vhdl_connect.specs.Tables.{is_read_of_shared}
-use Rattle.vhdl_connect.proofs.tables.read_of_shared.Given as goal
-
--- none of those so far
-abbrev pub invariant-loop-i : goal.invariant-loop-i
-invariant-loop-i l =
-    list_any (is_read_of_shared l.held) (zip l.elements l.uses) ≡ list_any (is_read_of_shared l.held) (zip (drop l.i l.elements) (drop l.i l.uses))
