@@ -1,3 +1,9 @@
+pub mod Generating
+pub mod Labelling
+pub mod Resuming
+pub mod Running
+pub mod StandingTwice
+pub mod Told
 pub mod Behind
 pub mod Described
 pub mod Describing

@@ -1,4 +1,5 @@
+pub mod AllPlaces
+pub mod steps
 pub mod Breaking
 pub mod Finding
 pub mod Views
-pub mod steps

@@ -1,3 +1,7 @@
+pub mod Concurrents
+pub mod Labels
+pub mod Processes
+pub mod Told
 pub mod Architectures
 pub mod Entities
 pub mod Outlines

@@ -22,10 +22,10 @@ ghost use Rattle.vhdl_names_units.specs.views.Declarations.{declarations_view};
 ghost use Rattle.vhdl_names_units.specs.views.Units.{architecture_view};
 
 use crate::faults::{earlier_of, first_of};
+use crate::statements::concurrents;
 use crate::tables::Given;
 use std::alloc::Global;
 use vhdl_names_components::declarations;
-use vhdl_names_concurrent::concurrents;
 use vhdl_names_declarations::{declare_label, ends};
 use vhdl_names_instances::InstanceEntities;
 use vhdl_names_interfaces::{EntityInterface, architecture_sight};

@@ -1,0 +1,100 @@
+-- Concurrent statements, one after another.
+use Rattle.std.proofs.Common.{◌≡◌, Bool, true, false, List, [], ◌∷◌, Option, Some, None, refl, ap, ◌∙◌}
+use Rattle.std.specs.Prelude.{option_map}
+use Rattle.vhdl_tree.specs.Tree as t
+use Rattle.vhdl_tree.specs.Tree.{Ident}
+use Rattle.vhdl_tree.specs.View as tree
+use Rattle.vhdl_tree.specs.declared.concurrent.Generate.{Generate, out-Generate}
+use Rattle.vhdl_tree.specs.declared.concurrent.Concurrent.TheVariants as c
+use Rattle.vhdl_tree.proofs.RowsConcurrents.{view_generate}
+use Rattle.vhdl_names_rules.specs.units.Units as u
+use Rattle.vhdl_names_rules.specs.Rules.{◌>>=◌, ◌>>◌, met}
+use Rattle.vhdl_names_rules.specs.Visibility.{Sight, are_distinct, ends}
+use Rattle.vhdl_names_rules.specs.Interfaces.{EntityView}
+use Rattle.vhdl_names_rules.specs.Instances.{instance}
+use Rattle.vhdl_names_rules.specs.Concurrent as rules
+use Rattle.vhdl_names_rules.specs.Concurrent.{concurrent_labels, sight_within, generated}
+use Rattle.vhdl_names_units.specs.views.Concurrent.{concurrents_of}
+use Rattle.vhdl_names_labels.proofs.Lists.{bound}
+use Rattle.vhdl_names.specs.steps.Concurrents as steps
+
+pub generate_is : (g : Generate) → tree.concurrent_view (c.Generate g)
+    ≡ t.generated (tree.ident_view (out-Generate g).label) (out-Generate g).at (tree.scheme_view (out-Generate g).scheme) (out-Generate g).begin_word
+    (t.concurrents_of (tree.concurrents_view (out-Generate g).statements)) (tree.option_ident_view (out-Generate g).end_label)
+generate_is g =
+    view_generate (out-Generate g).label (out-Generate g).at (out-Generate g).scheme (out-Generate g).begin_word (out-Generate g).statements (out-Generate g).end_label
+
+module _ (f : Sight → Ident → t.Instance → Option u.Instance) where
+  each_statement : (sight : Sight) (cs : List t.Concurrent) → steps.concurrents f sight (t.concurrents_of cs) ≡ option_map concurrents_of (steps.all f sight cs)
+  each_statement sight [] = refl
+  each_statement sight (x ∷ cs) =
+      bound (steps.concurrent f sight x) _ _ (λ y. ap (λ o. o >>= λ ys. Some (u.concurrent y ys)) (each_statement sight cs) ∙ go y (steps.all f sight cs))
+      ∙ end (steps.concurrent f sight x) (steps.all f sight cs)
+    where
+      go : (y : u.Concurrent) (o : Option (List u.Concurrent)) → (option_map concurrents_of o >>= λ ys. Some (u.concurrent y ys)) ≡ option_map concurrents_of (o >>= λ ys. Some (y ∷ ys))
+      go y None = refl
+      go y (Some ys) = refl
+
+      end : (p : Option u.Concurrent) (o : Option (List u.Concurrent)) → (p >>= λ y. option_map concurrents_of (o >>= λ ys. Some (y ∷ ys)))
+          ≡ option_map concurrents_of (p >>= λ y. o >>= λ ys. Some (y ∷ ys))
+      end None o = refl
+      end (Some y) o = refl
+
+  generate_by : (sight : Sight) (label : Ident) (at : _) (k : t.Scheme) (word : Bool) (cs : List t.Concurrent) (end : Option Ident)
+      → steps.concurrent f sight (t.generated label at k word (t.concurrents_of cs) end) ≡ steps.generate f sight label k cs end
+  generate_by sight label at k word cs end =
+      ap (λ o. met (ends label.text end) >> (met (are_distinct (concurrent_labels (t.concurrents_of cs))) >> (o >>= λ b. generated sight label.text k b)))
+      (each_statement (sight_within sight k) cs)
+      ∙ go (ends label.text end) (are_distinct (concurrent_labels (t.concurrents_of cs))) (steps.all f (sight_within sight k) cs)
+    where
+      go : (e d : Bool) (o : Option (List u.Concurrent))
+          → (met e >> (met d >> (option_map concurrents_of o >>= λ b. generated sight label.text k b)))
+          ≡ ((met d >> o) >>= λ xs. met e >> generated sight label.text k (concurrents_of xs))
+      go true true None = refl
+      go true true (Some xs) = refl
+      go true false o = refl
+      go false true None = refl
+      go false true (Some xs) = refl
+      go false false o = refl
+
+  pub generate_gives : (sight : Sight) (g : Generate) → steps.concurrent f sight (tree.concurrent_view (c.Generate g))
+      ≡ steps.generate f sight (tree.ident_view (out-Generate g).label) (tree.scheme_view (out-Generate g).scheme) (tree.concurrents_view (out-Generate g).statements)
+      (tree.option_ident_view (out-Generate g).end_label)
+  generate_gives sight g =
+      ap (steps.concurrent f sight) (generate_is g)
+      ∙ generate_by sight (tree.ident_view (out-Generate g).label) (out-Generate g).at (tree.scheme_view (out-Generate g).scheme) (out-Generate g).begin_word (tree.concurrents_view (out-Generate g).statements)
+      (tree.option_ident_view (out-Generate g).end_label)
+
+  -- where what it goes by is refused, the generate is
+  pub no_scheme : (sight : Sight) (label : Ident) (k : t.Scheme) (cs : List t.Concurrent) (end : Option Ident)
+      → ((b : u.Concurrents) → generated sight label.text k b ≡ None) → steps.generate f sight label k cs end ≡ None
+  no_scheme sight label k cs end h = go (are_distinct (concurrent_labels (t.concurrents_of cs))) (ends label.text end) (steps.all f (sight_within sight k) cs)
+    where
+      go : (d e : Bool) (o : Option (List u.Concurrent)) → ((met d >> o) >>= λ xs. met e >> generated sight label.text k (concurrents_of xs)) ≡ None
+      go true true None = refl
+      go true true (Some xs) = h (concurrents_of xs)
+      go true false None = refl
+      go true false (Some xs) = refl
+      go false e o = refl
+
+  module _ (es : List EntityView) (h : (sight : Sight) (label : Ident) (i : t.Instance) → instance es sight label i ≡ f sight label i) where
+    mutual
+      unfolding rules.concurrent rules.concurrents
+
+      pub by_instance : (sight : Sight) (x : t.Concurrent) → rules.concurrent es sight x ≡ steps.concurrent f sight x
+      by_instance sight (t.assignment a) = refl
+      by_instance sight (t.selected label a) = refl
+      by_instance sight (t.process label p) = refl
+      by_instance sight (t.instance label i) = ap (option_map u.instance) (h sight label i)
+      by_instance sight (t.generated label at k word cs end) =
+          ap (λ o. met (ends label.text end) >> (met (are_distinct (concurrent_labels cs)) >> (o >>= λ b. generated sight label.text k b)))
+          (by_instances (sight_within sight k) cs)
+
+      by_instances : (sight : Sight) (cs : t.Concurrents) → rules.concurrents es sight cs ≡ steps.concurrents f sight cs
+      by_instances sight t.no_concurrents = refl
+      by_instances sight (t.concurrent x cs) =
+          ap (λ o. o >>= λ y. rules.concurrents es sight cs >>= λ ys. Some (u.concurrent y ys)) (by_instance sight x)
+          ∙ bound (steps.concurrent f sight x) _ _ (λ y. ap (λ o. o >>= λ ys. Some (u.concurrent y ys)) (by_instances sight cs))
+
+    pub concurrents_by : (sight : Sight) (cs : List t.Concurrent) → rules.concurrents es sight (t.concurrents_of cs) ≡ option_map concurrents_of (steps.all f sight cs)
+    concurrents_by sight cs = by_instances sight (t.concurrents_of cs) ∙ each_statement sight cs

@@ -1,0 +1,171 @@
+use Rattle.std.proofs.Common.{rules, arith, ◌≡◌, ◌≢◌, ◌<◌, ◌+◌, length, map, drop, List, [], None, ap, sym, ◌∙◌}
+use Rattle.std.proofs.lemmas.Grind.{common_steps}
+use Rattle.vhdl_tree.specs.Tree as t
+use Rattle.vhdl_tree.specs.View as tree
+use Rattle.vhdl_names_rules.specs.declared.fault.NameFault.TheVariants.{NoMemory}
+use Rattle.vhdl_names_rules.specs.units.Units as u
+use Rattle.vhdl_names_rules.specs.Visibility.{are_distinct}
+use Rattle.vhdl_names_rules.specs.Concurrent.{concurrent_labels}
+use Rattle.vhdl_names_types.specs.Views.{sight_view}
+use Rattle.vhdl_names_types.proofs.Along.{gives_along}
+use Rattle.vhdl_names_units.specs.views.Concurrent as views
+use Rattle.vhdl_names_rules.specs.problems.Broken.{Tells, any_of}
+use Rattle.vhdl_names_rules.specs.problems.Twice.{twice}
+use Rattle.vhdl_names_rules.specs.problems.Labels.{labels_of}
+use Rattle.vhdl_names_rules.specs.problems.Concurrent as broken
+use Rattle.vhdl_names_rules.proofs.Telling.{told_on, told_same}
+use Rattle.vhdl_names_rules.proofs.kept.Keeping.{among_second}
+use Rattle.vhdl_names_rules.proofs.kept.Concurrent.{labels_kept}
+use Rattle.vhdl_names_labels.specs.Once.{names_view}
+use Rattle.vhdl_names_labels.proofs.Behind.{next_told, next_left}
+use Rattle.vhdl_names_rules.specs.Interfaces.{EntityView}
+use Rattle.vhdl_names_instances.specs.Table.{AreEntities, seens_view}
+use Rattle.vhdl_names_instances.specs.steps.Instances.{instance}
+use Rattle.vhdl_names_instances.proofs.Instancing.{instance_gives}
+use Rattle.vhdl_names.specs.steps.Concurrents as steps
+use Rattle.vhdl_names.specs.steps.Told as told
+use Rattle.vhdl_names.proofs.Generating.{generate_gives, no_scheme}
+use Rattle.vhdl_names.proofs.Told as by
+use Rattle.vhdl_names.proofs.statements.+concurrent.Goals as goal
+
+pub generate-returns-in_err-by-clause-given : goal.generate-returns-in_err-by-clause-given
+generate-returns-in_err-by-clause-given m c =
+    let f = instance (names_view c.args.entities.now.names) (seens_view c.args.entities.now.formals) in
+    let s = sight_view c.args.sight.now in
+    let label = tree.ident_view c.args.written.now.label in
+    let k = tree.scheme_view c.args.written.now.scheme in
+    let cs = tree.concurrents_view c.args.written.now.statements in
+    let end = tree.option_ident_view c.args.written.now.end_label in
+    let none : c.in_err-by.field-0.0 ≢ NoMemory → steps.generate f s label k cs end ≡ None =
+    λ n. no_scheme f s label k cs end (λ b. c.in_err-by.ensures.given label.text b n) in
+    first_of (search rules, grind (arith, common_steps))
+
+pub statement-returns-in-Generate-clause-given : goal.statement-returns-in-Generate-clause-given
+statement-returns-in-Generate-clause-given m c =
+    let f = instance (names_view c.args.entities.now.names) (seens_view c.args.entities.now.formals) in
+    let s = sight_view c.args.sight.now in
+    gives_along views.concurrent_view _ _ _
+    (ap (λ x. steps.concurrent f s (tree.concurrent_view x)) c.in-Generate.is ∙ generate_gives f s c.in-Generate.written) c.generate.ensures.given
+
+-- ---- what is told
+
+pub statements-returns-in_err-next-clause-told : goal.statements-returns-in_err-next-clause-told
+statements-returns-in_err-next-clause-told m c = λ es are.
+    let s = sight_view c.args.sight.now in
+    let b = broken.concurrent es s in
+    let xs = c.args.list.now in
+    let i = c.loop-item.item-index in
+    let x = c.item-item.result in
+    let f = c.in_err-next.field-0.0 in
+    let lt : c.loop-item.item-index < length c.args.list.now = omega arith in
+    let h : Tells (broken.concurrents es s (t.concurrents_of (map tree.concurrent_view c.args.list.now))) c.in_err-next.field-0.0 =
+    told_same _ _ f (by.concurrents_any es s (map tree.concurrent_view xs))
+    (next_told tree.concurrent_view xs i x lt c.item-item.is b f (c.loop-item.invariant.1.1 es are)
+    (told_same _ _ f (ap (λ s. broken.concurrent es s (tree.concurrent_view x)) c.loop-item.invariant.0) (c.in_err-next.ensures.told es are))) in
+    first_of (search rules, grind (arith, common_steps))
+
+pub statements-loop-item-preserved : goal.statements-loop-item-preserved
+statements-loop-item-preserved m c =
+    let s = sight_view c.args.sight.now in
+    let e = c.args.entities.now in
+    let g = instance (names_view e.names) (seens_view e.formals) in
+    let xs = c.args.list.now in
+    let i = c.loop-item.item-index in
+    let x = c.item-item.result in
+    let lt : c.loop-item.item-index < length c.args.list.now = omega arith in
+    let given = sym (ap (λ s. steps.concurrent g s (tree.concurrent_view x)) c.loop-item.invariant.0) ∙ c.in_ok-next.ensures.given in
+    let left : (es : List EntityView) → AreEntities c.args.entities.now es → any_of (broken.concurrent es (sight_view c.args.sight.now)) (map tree.concurrent_view c.args.list.now)
+    ≡ any_of (broken.concurrent es (sight_view c.args.sight.now)) (map tree.concurrent_view (drop (c.loop-item.item-index + 1) c.args.list.now)) =
+    λ es are. next_left tree.concurrent_view xs i x lt c.item-item.is (broken.concurrent es s) (c.loop-item.invariant.1.1 es are)
+    (by.statement_kept es s g (instance_gives e es are) c.requires.outside (tree.concurrent_view x) _ given) in
+    first_of (search rules, grind (arith, common_steps))
+
+pub statement-returns-in-Generate-clause-told : goal.statement-returns-in-Generate-clause-told
+statement-returns-in-Generate-clause-told m c = λ es are.
+    let s = sight_view c.args.sight.now in
+    told_on _ _ c.generate.result (λ f. told_same _ _ f
+    (sym (ap (λ x. broken.concurrent es s (tree.concurrent_view x)) c.in-Generate.is ∙ by.generate_told es s c.in-Generate.written))) (c.generate.ensures.told es are)
+
+pub labelled-returns-in-Ok-clause-told : goal.labelled-returns-in-Ok-clause-told
+labelled-returns-in-Ok-clause-told m c = λ es are.
+    let s = sight_view c.args.sight.now in
+    let cs = map tree.concurrent_view c.args.list.now in
+    let a = twice [] (labels_of (t.concurrents_of cs)) in
+    let b = broken.concurrents es s (t.concurrents_of cs) in
+    let k = labels_kept (t.concurrents_of cs) (by.met_holds (are_distinct (concurrent_labels (t.concurrents_of cs))) c.in-Ok.ensures.given) in
+    told_on b (told.labelled es s cs) _ (λ f. told_same b (told.labelled es s cs) f (sym (among_second a b k))) (c.statements-all.ensures.told es are)
+
+pub labelled-returns-in-Err-clause-told : goal.labelled-returns-in-Err-clause-told
+labelled-returns-in-Err-clause-told m c = λ es are.
+    let s = sight_view c.args.sight.now in
+    let e = c.args.entities.now in
+    let cs = map tree.concurrent_view c.args.list.now in
+    let a = twice [] (labels_of (t.concurrents_of cs)) in
+    let b = broken.concurrents es s (t.concurrents_of cs) in
+    let g = instance (names_view e.names) (seens_view e.formals) in
+    c.earlier_in.ensures.told a b c.in-Err.ensures.told (c.statements-all.ensures.told es are)
+    (by.ok_kept views.concurrents_view (steps.all g s cs) b _ (by.all_kept es s g (instance_gives e es are) c.requires.outside cs) c.statements-all.ensures.given)
+
+pub generate-returns-in_err-by-clause-told : goal.generate-returns-in_err-by-clause-told
+generate-returns-in_err-by-clause-told m c = λ es are.
+    let s = sight_view c.args.sight.now in
+    let label = tree.ident_view c.args.written.now.label in
+    let k = tree.scheme_view c.args.written.now.scheme in
+    let cs = tree.concurrents_view c.args.written.now.statements in
+    let end = tree.option_ident_view c.args.written.now.end_label in
+    let f = c.in_err-by.field-0.0 in
+    let h : Tells (told.generate es s label k cs end) c.in_err-by.field-0.0 = by.generate_by es s label k cs end f c.in_err-by.ensures.told in
+    first_of (search rules, grind (arith, common_steps))
+
+pub generate-returns-in_err-body-clause-told : goal.generate-returns-in_err-body-clause-told
+generate-returns-in_err-body-clause-told m c = λ es are.
+    let s = sight_view c.args.sight.now in
+    let label = tree.ident_view c.args.written.now.label in
+    let k = tree.scheme_view c.args.written.now.scheme in
+    let cs = tree.concurrents_view c.args.written.now.statements in
+    let end = tree.option_ident_view c.args.written.now.end_label in
+    let f = c.in_err-body.field-0.0 in
+    let h : Tells (told.generate es s label k cs end) c.in_err-body.field-0.0 =
+    by.generate_inside es s label k cs end f _ (c.in_ok-by.ensures.given [] u.no_concurrents) (sight_view c.enter_generate.new.sight) c.in_ok-enter_generate.ensures.given
+    (told_same _ _ f (ap (λ xs. told.labelled es (sight_view c.enter_generate.new.sight) (map tree.concurrent_view xs)) c.deref.ensures.value) (c.in_err-body.ensures.told es are)) in
+    first_of (search rules, grind (arith, common_steps))
+
+pub generate-returns-in_err-ends-clause-told : goal.generate-returns-in_err-ends-clause-told
+generate-returns-in_err-ends-clause-told m c = λ es are.
+    let s = sight_view c.args.sight.now in
+    let e = c.args.entities.now in
+    let label = tree.ident_view c.args.written.now.label in
+    let k = tree.scheme_view c.args.written.now.scheme in
+    let cs = tree.concurrents_view c.args.written.now.statements in
+    let end = tree.option_ident_view c.args.written.now.end_label in
+    let f = c.in_err-ends.field-0.0 in
+    let within = sight_view c.enter_generate.new.sight in
+    let g = instance (names_view e.names) (seens_view e.formals) in
+    let h : Tells (told.generate es s label k cs end) c.in_err-ends.field-0.0 =
+    by.generate_ends es s label k cs end f _ (c.in_ok-by.ensures.given [] u.no_concurrents) within c.in_ok-enter_generate.ensures.given
+    (by.labelled_kept es within g (instance_gives e es are) (by.within_is s within k c.requires.outside c.in_ok-enter_generate.ensures.given) cs _
+    (ap (λ xs. steps.labelled g within (map tree.concurrent_view xs)) (sym c.deref.ensures.value) ∙ c.in_ok-body.ensures.given))
+    c.in_err-ends.ensures.told in
+    first_of (search rules, grind (arith, common_steps))
+
+pub statement-returns-in_err-selected-in-Selected-clause-told : goal.statement-returns-in_err-selected-in-Selected-clause-told
+statement-returns-in_err-selected-in-Selected-clause-told m c = λ es are.
+    let s = sight_view c.args.sight.now in
+    let f = c.in_err-selected-in-Selected.field-0.0 in
+    let h : Tells (broken.concurrent es s (tree.concurrent_view c.args.item.now)) c.in_err-selected-in-Selected.field-0.0 =
+    told_same _ _ f
+    (sym (ap (λ x. broken.concurrent es s (tree.concurrent_view x)) c.in-Selected.is
+    ∙ by.selected_is es s (tree.option_ident_view c.in-Selected.label) (tree.selected_assignment_view c.in-Selected.written)))
+    c.in_err-selected-in-Selected.ensures.told in
+    first_of (search rules, grind (arith, common_steps))
+
+pub statement-returns-in_err-process-in-Process-clause-told : goal.statement-returns-in_err-process-in-Process-clause-told
+statement-returns-in_err-process-in-Process-clause-told m c = λ es are.
+    let s = sight_view c.args.sight.now in
+    let f = c.in_err-process-in-Process.field-0.0 in
+    let h : Tells (broken.concurrent es s (tree.concurrent_view c.args.item.now)) c.in_err-process-in-Process.field-0.0 =
+    told_same _ _ f
+    (sym (ap (λ x. broken.concurrent es s (tree.concurrent_view x)) c.in-Process.is
+    ∙ by.process_is es s (tree.option_ident_view c.in-Process.label) (tree.process_view c.in-Process.written)))
+    c.in_err-process-in-Process.ensures.told in
+    first_of (search rules, grind (arith, common_steps))

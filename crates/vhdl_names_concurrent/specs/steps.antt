@@ -1,4 +1,0 @@
-pub mod Concurrents
-pub mod Labels
-pub mod Processes
-pub mod Told
