@@ -4,7 +4,7 @@ use Rattle.vhdl_parser_expressions.specs.declared.stop.Stop.TheVariants.{EndOfFi
 use Rattle.vhdl_tree.specs.Tree.{Ident}
 use Rattle.vhdl_parser_expressions.specs.reader.Input.{token, expect, next_kind}
 use Rattle.vhdl_parser_expressions.proofs.Alone.{word, name_alone}
-use Rattle.vhdl_parser_declarations.proofs.Alone.{instance_alone}
+use Rattle.vhdl_parser.proofs.InstanceAlone.{instance_alone}
 use Rattle.vhdl_parser.specs.reader.Concurrent.{assign, assign_with, instance_with, unlabelled}
 
 assign_alone : (n : ℕ) (label : Option Ident) (at : ℕ) (text : List ℕ) → assign n label (word at text ∷ []) ≡ Err (EndOfFile, [])

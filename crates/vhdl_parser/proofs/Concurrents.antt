@@ -21,7 +21,7 @@ use Rattle.vhdl_parser_expressions.proofs.WalkValues.{range_rule}
 use Rattle.vhdl_parser_statements.proofs.Conditional.{conditional_rule}
 use Rattle.vhdl_parser_statements.proofs.WalkSequential.{w_end_of, w_labelled}
 use Rattle.vhdl_parser_statements.proofs.WalkProcess.{process_rule, selected_rule}
-use Rattle.vhdl_parser_declarations.proofs.WalkInstance.{instance_rule}
+use Rattle.vhdl_parser.proofs.WalkInstance.{instance_rule}
 use Rattle.vhdl_parser.proofs.Alone.{assign_with_alone, instance_with_alone, unlabelled_alone}
 use Rattle.vhdl_parser.proofs.Plain.{plain_concurrent, plain_for, plain_if, concurrent_long}
 

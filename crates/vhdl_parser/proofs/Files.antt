@@ -11,7 +11,7 @@ use Rattle.vhdl_tree.specs.Levels.{opens, closes, IsShallow, IsDeep}
 use Rattle.vhdl_tree.specs.grammar.Declarations.{spell_ports}
 use Rattle.vhdl_tree.specs.grammar.Units.{spell_context, spell_end, spell_entity, spell_architecture, spell_library_unit, spell_unit, spell_file, IsEntity, IsArchitecture, IsLibraryUnit, IsUnit, IsFile}
 use Rattle.vhdl_parser_expressions.specs.reader.Input.{Outcome, and_then, expect, next_kind, is_kind, is_more, eat, identifier, optional, refusal}
-use Rattle.vhdl_parser_declarations.specs.reader.Context.{begins_context}
+use Rattle.vhdl_parser.specs.reader.Context.{begins_context}
 use Rattle.vhdl_parser.specs.reader.Units.{max_open, entity_unit, architecture_unit, library_unit_by, library_unit, unit, units, finish, file}
 use Rattle.vhdl_parser_expressions.proofs.Steps.{bind_ok, bind_err, pure_ok, pure_err, err_why, err_at}
 use Rattle.vhdl_parser_expressions.proofs.Yields.{yields_bind}
@@ -22,9 +22,9 @@ use Rattle.vhdl_parser_expressions.proofs.Repeats.{each_rule}
 use Rattle.vhdl_parser_expressions.proofs.Gives.{Gives, Reaches, Whatever, front, g_pure, g_then, g_map, g_at, g_some, g_ident, g_choose, eat_gives, more_gives}
 use Rattle.vhdl_parser_statements.proofs.Plain.{an_ident}
 use Rattle.vhdl_parser_statements.proofs.Subtypes.{last_gives}
-use Rattle.vhdl_parser_declarations.proofs.Contexts.{context_rule, context_gives}
-use Rattle.vhdl_parser_declarations.proofs.Ports.{optional_generics_rule, optional_generics_gives, optional_ports_rule, optional_ports_gives}
-use Rattle.vhdl_parser_declarations.proofs.Declared.{declarations_rule, declarations_gives}
+use Rattle.vhdl_parser.proofs.Contexts.{context_rule, context_gives}
+use Rattle.vhdl_parser.proofs.Ports.{optional_generics_rule, optional_generics_gives, optional_ports_rule, optional_ports_gives}
+use Rattle.vhdl_parser.proofs.Declared.{declarations_rule, declarations_gives}
 use Rattle.vhdl_parser.proofs.Concurrents.{concurrents_rule}
 use Rattle.vhdl_parser.proofs.GiveConcurrents.{concurrents_gives}
 

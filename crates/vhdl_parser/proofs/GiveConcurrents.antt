@@ -19,7 +19,7 @@ use Rattle.vhdl_parser_expressions.proofs.GiveValues.{Ends, both, sees_is, g_nei
 use Rattle.vhdl_parser_statements.proofs.Conditional.{conditional_gives}
 use Rattle.vhdl_parser_statements.proofs.GiveSequential.{label_gives, end_gives}
 use Rattle.vhdl_parser_statements.proofs.GiveProcess.{process_gives, selected_gives}
-use Rattle.vhdl_parser_declarations.proofs.GiveInstance.{instance_gives}
+use Rattle.vhdl_parser.proofs.GiveInstance.{instance_gives}
 use Rattle.vhdl_parser.proofs.Plain.{concurrent_long}
 use Rattle.vhdl_parser.proofs.Concurrents.{spelled_all, spelled_all-each}
 

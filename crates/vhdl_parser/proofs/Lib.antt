@@ -1,3 +1,9 @@
+pub mod Ports
+pub mod Declared
+pub mod Contexts
+pub mod WalkInstance
+pub mod GiveInstance
+pub mod InstanceAlone
 pub mod Plain
 pub mod Concurrents
 pub mod Files

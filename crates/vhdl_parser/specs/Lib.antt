@@ -1,3 +1,3 @@
+pub mod reader
 pub mod Fault
 pub mod Stuck
-pub mod reader

@@ -6,8 +6,8 @@ ghost use Rattle.vhdl_parser.specs.reader.Concurrent as read;
 ghost use Rattle.vhdl_parser.specs.reader.Concurrent.{generate_body_view};
 ghost use Rattle.vhdl_parser_expressions.specs.reader.Input.{Reads};
 
+use crate::instances::instance;
 use vhdl_lexer::TokenKind;
-use vhdl_parser_declarations::instance;
 use vhdl_parser_expressions::{Parser, Stop, below};
 use vhdl_parser_statements::{
     conditional_waveforms, end_of, optional_label, process, selected_assignment,

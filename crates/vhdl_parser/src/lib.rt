@@ -1,10 +1,20 @@
 //! From tokens to the syntax tree of a file.
+//!
+//! From tokens to context clauses, generics and ports, declarations and instances.
 #![tactic(auto)]
 
 mod concurrent;
+mod context;
+mod declaration;
 mod fault;
 mod file;
+mod instances;
+mod interface;
 mod unit;
 
+pub use context::context_clause;
+pub use declaration::declarations;
 pub use fault::SyntaxFault;
 pub use file::parse;
+pub use instances::instance;
+pub use interface::{optional_generics, optional_ports};

@@ -7,8 +7,10 @@ ghost use Rattle.vhdl_parser_expressions.specs.reader.Input.{Reads};
 ghost use Rattle.vhdl_parser.specs.reader.Units as read;
 
 use crate::concurrent::concurrents;
+use crate::context::context_clause;
+use crate::declaration::declarations;
+use crate::interface::{optional_generics, optional_ports};
 use vhdl_lexer::TokenKind;
-use vhdl_parser_declarations::{context_clause, declarations, optional_generics, optional_ports};
 use vhdl_parser_expressions::{Parser, Stop, many};
 use vhdl_tree::{Architecture, DesignUnit, Entity, File, LibraryUnit, MAX_OPEN};
 

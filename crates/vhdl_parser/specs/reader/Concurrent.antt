@@ -14,7 +14,7 @@ use Rattle.vhdl_parser_statements.specs.reader.Sequential.{optional_label, end_o
 use Rattle.vhdl_parser_statements.specs.reader.Process as process_reader
 use Rattle.vhdl_parser_statements.specs.reader.Waveforms as waveforms_reader
 use Rattle.vhdl_parser_statements.specs.reader.Waveforms.{conditional_waveforms}
-use Rattle.vhdl_parser_declarations.specs.reader.Instance as instance_reader
+use Rattle.vhdl_parser.specs.reader.Instance as instance_reader
 
 -- behind its label
 unfoldable pub assign : ℕ → Option Ident → Parser Assignment

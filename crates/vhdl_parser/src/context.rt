@@ -4,7 +4,7 @@ ghost use Rattle.std.specs.Prelude.{◌≡◌};
 ghost use Rattle.vhdl_tree.specs.View.{selected_view, selecteds_view, context_view, contexts_view};
 ghost use Rattle.vhdl_parser_expressions.specs.reader.Input as input;
 ghost use Rattle.vhdl_parser_expressions.specs.reader.Input.{Reads};
-ghost use Rattle.vhdl_parser_declarations.specs.reader.Context as read;
+ghost use Rattle.vhdl_parser.specs.reader.Context as read;
 
 use vhdl_lexer::TokenKind;
 use vhdl_parser_expressions::{Parser, Stop, many, separated};

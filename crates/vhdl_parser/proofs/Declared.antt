@@ -8,7 +8,7 @@ use Rattle.vhdl_tree.specs.Pieces.{Piece, some, word_at, spell_ident, spell_opti
 use Rattle.vhdl_tree.specs.grammar.Expressions.{spell_value, IsValue}
 use Rattle.vhdl_tree.specs.grammar.Declarations.{spell_generics, spell_ports, spell_signals, spell_constants, spell_enumeration, spell_component, spell_declaration, IsSignals, IsConstants, IsEnumeration, IsComponent, IsDeclaration}
 use Rattle.vhdl_parser_expressions.specs.reader.Input.{is_kind}
-use Rattle.vhdl_parser_declarations.specs.reader.Declarations.{signals_of, constant_value, constants_of, enumeration_of, component_of, declaration_by, declaration, begins_declaration, declarations}
+use Rattle.vhdl_parser.specs.reader.Declarations.{signals_of, constant_value, constants_of, enumeration_of, component_of, declaration_by, declaration, begins_declaration, declarations}
 use Rattle.vhdl_parser_expressions.proofs.Halts.{Example}
 use Rattle.vhdl_parser_expressions.proofs.Walks.{Rule, afresh, w_pure, w_then, w_last}
 use Rattle.vhdl_parser_expressions.proofs.Rules.{w_some, w_end, w_ident, w_left, w_right, w_below, below_met, w_choose, w_refuse, w_option_ident, under, word_rule}
@@ -18,7 +18,7 @@ use Rattle.vhdl_parser_expressions.proofs.WalkValues.{value_rule}
 use Rattle.vhdl_parser_expressions.proofs.GiveValues.{value_gives}
 use Rattle.vhdl_parser_statements.proofs.Plain.{an_ident}
 use Rattle.vhdl_parser_statements.proofs.Subtypes.{idents_rule, idents_gives, last_gives, subtype_rule, subtype_gives, objects_rule, objects_gives}
-use Rattle.vhdl_parser_declarations.proofs.Ports.{optional_generics_rule, optional_generics_gives, optional_ports_rule, optional_ports_gives}
+use Rattle.vhdl_parser.proofs.Ports.{optional_generics_rule, optional_generics_gives, optional_ports_rule, optional_ports_gives}
 
 -- ---- what is read is spelled so
 

@@ -2,7 +2,7 @@
 
 ghost use Rattle.std.specs.Prelude.{◌≡◌};
 ghost use Rattle.vhdl_tree.specs.View.{value_view, signals_view, constants_view, enumeration_view, component_view, declaration_view, declarations_view};
-ghost use Rattle.vhdl_parser_declarations.specs.reader.Declarations as read;
+ghost use Rattle.vhdl_parser.specs.reader.Declarations as read;
 ghost use Rattle.vhdl_parser_expressions.specs.reader.Input as input;
 ghost use Rattle.vhdl_parser_expressions.specs.reader.Input.{Reads};
 

@@ -8,7 +8,7 @@ use Rattle.vhdl_tree.specs.Pieces.{some, spell_option, IsAny, IsOption}
 use Rattle.vhdl_tree.specs.grammar.Expressions.{AreAssociations}
 use Rattle.vhdl_tree.specs.grammar.Instance.{spell_chosen, spell_instantiated, spell_map, spell_instance, IsInstance}
 use Rattle.vhdl_parser_expressions.specs.reader.Input.{is_kind}
-use Rattle.vhdl_parser_declarations.specs.reader.Instance.{chosen, of_entity, of_component, instantiated, map_of, instance}
+use Rattle.vhdl_parser.specs.reader.Instance.{chosen, of_entity, of_component, instantiated, map_of, instance}
 use Rattle.vhdl_parser_expressions.proofs.Gives.{Gives, Whatever, front, g_pure, g_then, g_map, g_some, g_ident, g_below, g_yes, g_no, eat_gives, option_gives}
 use Rattle.vhdl_parser_expressions.proofs.GiveValues.{associations_gives}
 

@@ -7,7 +7,7 @@ use Rattle.vhdl_tree.specs.Tree.{Ident, Selected, ContextItem, library, uses}
 use Rattle.vhdl_tree.specs.Pieces.{some, spell_each, spell_list, IsAny, IsEach, IsList}
 use Rattle.vhdl_tree.specs.grammar.Units.{spell_selected, spell_context, IsContext}
 use Rattle.vhdl_parser_expressions.specs.reader.Input.{is_kind}
-use Rattle.vhdl_parser_declarations.specs.reader.Context.{selected, selecteds, library_clause, use_clause, context_item, begins_context, context}
+use Rattle.vhdl_parser.specs.reader.Context.{selected, selecteds, library_clause, use_clause, context_item, begins_context, context}
 use Rattle.vhdl_parser_expressions.proofs.Walks.{Rule, w_pure, w_then}
 use Rattle.vhdl_parser_expressions.proofs.Rules.{w_some, w_ident, w_test}
 use Rattle.vhdl_parser_expressions.proofs.Repeats.{each_rule, separated_rule}

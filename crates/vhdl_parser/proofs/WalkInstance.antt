@@ -7,7 +7,7 @@ use Rattle.vhdl_tree.specs.Pieces.{some, one_at, word_at, spell_option, IsAny}
 use Rattle.vhdl_tree.specs.grammar.Expressions.{AreAssociations}
 use Rattle.vhdl_tree.specs.grammar.Instance.{spell_chosen, spell_instantiated, spell_map, spell_instance, IsInstance}
 use Rattle.vhdl_parser_expressions.specs.reader.Input.{is_kind}
-use Rattle.vhdl_parser_declarations.specs.reader.Instance.{chosen, of_entity, of_component, instantiated, map_of, instance}
+use Rattle.vhdl_parser.specs.reader.Instance.{chosen, of_entity, of_component, instantiated, map_of, instance}
 use Rattle.vhdl_parser_expressions.proofs.Walks.{Rule, w_pure, w_then}
 use Rattle.vhdl_parser_expressions.proofs.Rules.{is_neutral, w_some, w_left, w_right, w_ident, w_word, w_test, w_below, below_met, under, option_rule}
 use Rattle.vhdl_parser_expressions.proofs.WalkValues.{associations_rule}

@@ -4,7 +4,7 @@ use Rattle.vhdl_parser_expressions.specs.declared.stop.Stop.TheVariants.{EndOfFi
 use Rattle.vhdl_tree.specs.Lexeme.{same_kind}
 use Rattle.vhdl_parser_expressions.specs.reader.Input.{token, expect, identifier, eat, optional, next_kind}
 use Rattle.vhdl_parser_expressions.proofs.Alone.{word}
-use Rattle.vhdl_parser_declarations.specs.reader.Instance.{of_component, instantiated, instance}
+use Rattle.vhdl_parser.specs.reader.Instance.{of_component, instantiated, instance}
 
 pub instance_alone : (n at : ℕ) (text : List ℕ) → instance n (word at text ∷ []) ≡ Err (EndOfFile, [])
 unfolding instance instantiated of_component eat optional identifier token expect next_kind same_kind

@@ -1,8 +1,8 @@
 use Rattle.std.proofs.Common.{rules}
 use Rattle.vhdl_tree.specs.View.{context_view}
 use Rattle.vhdl_parser_expressions.proofs.Lists.{reads_many}
-use Rattle.vhdl_parser_declarations.specs.reader.Context.{context, begins_context, context_item}
-use Rattle.vhdl_parser_declarations.proofs.context.context_clause.Goals as goal
+use Rattle.vhdl_parser.specs.reader.Context.{context, begins_context, context_item}
+use Rattle.vhdl_parser.proofs.context.context_clause.Goals as goal
 
 pub returns : goal.returns
 unfolding context

@@ -11,7 +11,7 @@ use Rattle.vhdl_tree.specs.grammar.Expressions.{IsExpr, IsValue}
 use Rattle.vhdl_tree.specs.grammar.Subtypes.{IsSubtype}
 use Rattle.vhdl_tree.specs.grammar.Declarations.{spell_generic_default, spell_mode, spell_generic, spell_generics, spell_port, spell_ports, IsGeneric, AreGenerics, IsPort, ArePorts}
 use Rattle.vhdl_parser_expressions.specs.reader.Input.{is_kind}
-use Rattle.vhdl_parser_declarations.specs.reader.Declarations.{generic_default, optional_generic_default, generic, generic_list, generics, optional_generics, mode_by, mode, port, port_list, ports, optional_ports}
+use Rattle.vhdl_parser.specs.reader.Declarations.{generic_default, optional_generic_default, generic, generic_list, generics, optional_generics, mode_by, mode, port, port_list, ports, optional_ports}
 use Rattle.vhdl_parser_expressions.proofs.Halts.{Example}
 use Rattle.vhdl_parser_expressions.proofs.Walks.{Rule, w_pure, w_then, w_last, w_rule}
 use Rattle.vhdl_parser_expressions.proofs.Rules.{w_some, w_ident, w_left, w_right, w_below, below_met, w_choose, under, word_rule, option_rule}

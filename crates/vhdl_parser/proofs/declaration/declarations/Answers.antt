@@ -1,8 +1,8 @@
 use Rattle.std.proofs.Common.{rules}
 use Rattle.vhdl_tree.specs.View.{declaration_view}
 use Rattle.vhdl_parser_expressions.proofs.Lists.{reads_many}
-use Rattle.vhdl_parser_declarations.specs.reader.Declarations.{declarations, begins_declaration, declaration}
-use Rattle.vhdl_parser_declarations.proofs.declaration.declarations.Goals as goal
+use Rattle.vhdl_parser.specs.reader.Declarations.{declarations, begins_declaration, declaration}
+use Rattle.vhdl_parser.proofs.declaration.declarations.Goals as goal
 
 pub returns : goal.returns
 unfolding declarations

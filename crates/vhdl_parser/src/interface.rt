@@ -2,7 +2,7 @@
 
 ghost use Rattle.std.specs.Prelude.{◌≡◌};
 ghost use Rattle.vhdl_tree.specs.View.{view, option_expr_view, generic_view, generics_view, option_generics_view, port_view, ports_view, option_ports_view};
-ghost use Rattle.vhdl_parser_declarations.specs.reader.Declarations as read;
+ghost use Rattle.vhdl_parser.specs.reader.Declarations as read;
 ghost use Rattle.vhdl_parser_expressions.specs.reader.Input.{Reads};
 
 use vhdl_lexer::TokenKind;

@@ -5,7 +5,7 @@ ghost use Rattle.vhdl_lexer.specs.declared.token.TokenKind.TheVariants as k;
 ghost use Rattle.vhdl_tree.specs.View.{ident_view, option_ident_view, associations_view, instantiated_view, instance_view};
 ghost use Rattle.vhdl_parser_expressions.specs.reader.Input as input;
 ghost use Rattle.vhdl_parser_expressions.specs.reader.Input.{Reads};
-ghost use Rattle.vhdl_parser_declarations.specs.reader.Instance as read;
+ghost use Rattle.vhdl_parser.specs.reader.Instance as read;
 
 use vhdl_lexer::TokenKind;
 use vhdl_parser_expressions::{Parser, Stop, below};
