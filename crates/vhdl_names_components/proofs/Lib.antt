@@ -1,3 +1,6 @@
+pub mod Copying
+pub mod Interfacing
+pub mod Named
 pub mod Alike
 pub mod Chained
 pub mod Forms

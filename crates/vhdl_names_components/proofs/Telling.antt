@@ -17,7 +17,7 @@ use Rattle.vhdl_names_rules.proofs.Telling.{IsKept, told_same, told_left, told_r
 use Rattle.vhdl_names_rules.proofs.kept.Interfaces.{interface_kept}
 use Rattle.vhdl_names_declarations.specs.Entered.{more}
 use Rattle.vhdl_names_declarations.proofs.Breaking.{standing_once}
-use Rattle.vhdl_names_interfaces.proofs.Interfacing.{told_nothing}
+use Rattle.vhdl_names_components.proofs.Interfacing.{told_nothing}
 use Rattle.vhdl_names_components.specs.Components.{inner, has_interface, is_new}
 
 abbrev pub named_twice : Sight → t.Component → Broken

@@ -4,7 +4,7 @@ ghost use Rattle.std.specs.Prelude.{◌≡◌, ◌++◌, [], map, OnOk, IfErr};
 ghost use Rattle.vhdl_names_components.specs.Components.{analysed_view};
 ghost use Rattle.vhdl_names_declarations.specs.Counts.{AreCounts};
 ghost use Rattle.vhdl_names_declarations.specs.Entered.{entering};
-ghost use Rattle.vhdl_names_interfaces.specs.Views.{entities_view};
+ghost use Rattle.vhdl_names_components.specs.Views.{entities_view};
 ghost use Rattle.vhdl_names_rules.specs.Declarations.{in_order};
 ghost use Rattle.vhdl_names_rules.specs.Files as rules;
 ghost use Rattle.vhdl_names_rules.specs.Gives.{Gives};
@@ -17,12 +17,12 @@ ghost use Rattle.vhdl_names_rules.specs.problems.Declarations as declarations_br
 ghost use Rattle.vhdl_names_rules.specs.problems.Files as broken;
 
 use crate::components::component;
+use crate::entities::Entities;
 use std::alloc::{AllocError, Global};
 use vhdl_names_declarations::Counts;
 use vhdl_names_declarations::constants::constants;
 use vhdl_names_declarations::enumeration::enumeration;
 use vhdl_names_declarations::objects::signals;
-use vhdl_names_interfaces::Entities;
 use vhdl_names_rules::NameFault;
 use vhdl_names_types::{Sight, names_are_apart};
 use vhdl_names_units::Declaration;

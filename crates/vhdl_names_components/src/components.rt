@@ -3,7 +3,7 @@
 ghost use Rattle.std.specs.Prelude.{◌≡◌, ◌&&◌, ◌∷◌, [], OnOk, IfErr};
 ghost use Rattle.vhdl_names_components.specs.Components as spec;
 ghost use Rattle.vhdl_names_declarations.specs.Entered.{entering};
-ghost use Rattle.vhdl_names_interfaces.specs.Views.{entities_view};
+ghost use Rattle.vhdl_names_components.specs.Views.{entities_view};
 ghost use Rattle.vhdl_names_rules.specs.Gives.{Gives};
 ghost use Rattle.vhdl_names_rules.specs.Interfaces as rules;
 ghost use Rattle.vhdl_names_rules.specs.Rules.{rule};
@@ -16,11 +16,12 @@ ghost use Rattle.vhdl_names_rules.specs.problems.Broken.{Tells, unless};
 ghost use Rattle.vhdl_names_rules.specs.problems.Interfaces as broken;
 ghost use Rattle.vhdl_names_rules.specs.problems.Declarations.{standing_twice};
 
+use crate::entities::{Entities, entity_named};
+use crate::interface::interface_of;
 use crate::interfaces::has_interface;
 use std::alloc::Global;
 use std::mem;
 use vhdl_names_declarations::{declare, ends};
-use vhdl_names_interfaces::{Entities, entity_named, interface_of};
 use vhdl_names_rules::{NameFault, NameProblem};
 use vhdl_names_types::{Meaning, Region, Sight, names_are_apart};
 use vhdl_tree::{Component, Entity, Identifier};

@@ -8,7 +8,7 @@ use Rattle.vhdl_names_rules.specs.Visibility.{with_declared}
 use Rattle.vhdl_tree.specs.View as tree
 use Rattle.vhdl_names_types.specs.Views.{sight_view, entry_view}
 use Rattle.vhdl_names_units.specs.views.Declarations.{declaration_view, declarations_view}
-use Rattle.vhdl_names_interfaces.specs.Views.{entities_view}
+use Rattle.vhdl_names_components.specs.Views.{entities_view}
 use Rattle.vhdl_names_components.specs.Components.{analysed_view}
 use Rattle.vhdl_names_declarations.specs.Entered.{entering}
 use Rattle.vhdl_names_rules.specs.problems.Broken.{Tells}

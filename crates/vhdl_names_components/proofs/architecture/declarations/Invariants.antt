@@ -12,7 +12,7 @@ use Rattle.vhdl_names_rules.specs.problems.Broken.{Tells}
 use Rattle.vhdl_names_rules.specs.problems.Declarations as declarations_broken
 use Rattle.vhdl_names_rules.specs.problems.Files as broken
 use Rattle.vhdl_names_declarations.proofs.Listed.{left}
-use Rattle.vhdl_names_interfaces.specs.Views.{entities_view}
+use Rattle.vhdl_names_components.specs.Views.{entities_view}
 use Rattle.vhdl_names_components.proofs.architecture.declarations.Given as goal
 
 -- what is left, on what is done, gives the whole; what is in the region is counted; no region encloses it;

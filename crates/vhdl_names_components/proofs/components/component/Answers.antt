@@ -6,7 +6,7 @@ use Rattle.vhdl_names_types.specs.Views.{sight_view}
 use Rattle.vhdl_names_rules.specs.problems.Broken.{Tells}
 use Rattle.vhdl_names_rules.specs.problems.Interfaces as broken
 use Rattle.vhdl_names_rules.proofs.Telling.{told_left, told_on}
-use Rattle.vhdl_names_interfaces.specs.Views.{entities_view, named_view}
+use Rattle.vhdl_names_components.specs.Views.{entities_view, named_view}
 use Rattle.vhdl_names_components.proofs.Telling.{named_twice, behind, no_entity, other_entity, own_region, other_end, named_last}
 use Rattle.vhdl_names_components.proofs.components.component.Goals as goal
 

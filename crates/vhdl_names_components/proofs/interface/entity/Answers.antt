@@ -7,12 +7,12 @@ use Rattle.vhdl_names_rules.specs.Interfaces as r
 use Rattle.vhdl_tree.specs.View as view
 use Rattle.vhdl_names_types.specs.Views.{sight_view, entry_view}
 use Rattle.vhdl_names_declarations.specs.Contexts.{context_view}
-use Rattle.vhdl_names_interfaces.specs.Views.{interface_in, entity_view}
-use Rattle.vhdl_names_interfaces.proofs.Interfacing.{no_entity, entity_is, behind_interface, entity_of, passed_on, context_told, interface_told, end_told, told_nothing}
+use Rattle.vhdl_names_components.specs.Views.{interface_in, entity_view}
+use Rattle.vhdl_names_components.proofs.Interfacing.{no_entity, entity_is, behind_interface, entity_of, passed_on, context_told, interface_told, end_told, told_nothing}
 use Rattle.vhdl_names_rules.specs.problems.Broken.{Tells}
 use Rattle.vhdl_names_rules.specs.problems.Interfaces as broken
 use Rattle.vhdl_names_declarations.proofs.Breaking as tells
-use Rattle.vhdl_names_interfaces.proofs.interface.entity.Goals as goal
+use Rattle.vhdl_names_components.proofs.interface.entity.Goals as goal
 
 pub returns-in_err-context-clause-given : goal.returns-in_err-context-clause-given
 returns-in_err-context-clause-given c =

@@ -2,9 +2,9 @@ use Rattle.std.proofs.Common.{◌≡◌, false, None, sym, ap, ◌∙◌}
 use Rattle.std.specs.Prelude.{bytes_eq, is_some}
 use Rattle.std.specs.Map.{lookup}
 use Rattle.indexmap.proofs.CallerLemmas.{insert_entry-new}
-use Rattle.vhdl_names_interfaces.specs.Views.{entity_view}
-use Rattle.vhdl_names_interfaces.proofs.Named.{absent, refused, grown}
-use Rattle.vhdl_names_interfaces.proofs.entities.add_entity.Goals as goal
+use Rattle.vhdl_names_components.specs.Views.{entity_view}
+use Rattle.vhdl_names_components.proofs.Named.{absent, refused, grown}
+use Rattle.vhdl_names_components.proofs.entities.add_entity.Goals as goal
 
 pub returns-then-contains_key-clause-given : goal.returns-then-contains_key-clause-given
 returns-then-contains_key-clause-given c = λ n.

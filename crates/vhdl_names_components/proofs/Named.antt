@@ -9,8 +9,8 @@ use Rattle.std.proofs.lemmas.Slice.Eq.{bytes_eq-Decides}
 use Rattle.vhdl_names_rules.specs.Rules.{◌>>=◌, met}
 use Rattle.vhdl_names_rules.specs.Visibility.{Name, is_among}
 use Rattle.vhdl_names_rules.specs.Interfaces.{EntityView}
-use Rattle.vhdl_names_interfaces.specs.declared.interface.EntityInterface.{EntityInterface}
-use Rattle.vhdl_names_interfaces.specs.Views.{entity_view, named_view, one_more}
+use Rattle.vhdl_names_components.specs.declared.interface.EntityInterface.{EntityInterface}
+use Rattle.vhdl_names_components.specs.Views.{entity_view, named_view, one_more}
 
 abbrev pub entry_view : Vec ℕ Global × EntityInterface → EntityView
 entry_view e = named_view e.0.items e.1

@@ -3,7 +3,7 @@
 ghost use Rattle.std.specs.Prelude.{◌≡◌, [], map, option_map, OnOk, IfOk, IfErr};
 ghost use Rattle.vhdl_names_declarations.specs.Contexts.{context_view};
 ghost use Rattle.vhdl_names_declarations.specs.Entered.{entering};
-ghost use Rattle.vhdl_names_interfaces.specs.Views.{interface_in, entity_view};
+ghost use Rattle.vhdl_names_components.specs.Views.{interface_in, entity_view};
 ghost use Rattle.vhdl_names_rules.specs.Declarations.{in_order, generic, port};
 ghost use Rattle.vhdl_names_rules.specs.Gives.{Gives};
 ghost use Rattle.vhdl_names_rules.specs.Interfaces as rules;

@@ -3,9 +3,9 @@ use Rattle.std.proofs.lemmas.Grind.{common_steps}
 use Rattle.vhdl_tree.specs.View as view
 use Rattle.vhdl_names_rules.specs.problems.Broken.{Tells}
 use Rattle.vhdl_names_rules.specs.problems.Declarations as broken
-use Rattle.vhdl_names_interfaces.specs.Views.{entity_view}
-use Rattle.vhdl_names_interfaces.proofs.Interfacing.{told_nothing}
-use Rattle.vhdl_names_interfaces.proofs.architecture.architecture_sight.Goals as goal
+use Rattle.vhdl_names_components.specs.Views.{entity_view}
+use Rattle.vhdl_names_components.proofs.Interfacing.{told_nothing}
+use Rattle.vhdl_names_components.proofs.sights.architecture_sight.Goals as goal
 
 pub returns-in_err-region-clause-told : goal.returns-in_err-region-clause-told
 returns-in_err-region-clause-told c =

@@ -2,9 +2,9 @@ use Rattle.std.proofs.Common.{Some, sym, ap, ◌∙◌, zero-add}
 use Rattle.std.specs.Prelude.{bytes_eq}
 use Rattle.std.specs.Map.{lookup, keys_of}
 use Rattle.std.proofs.Common.{position}
-use Rattle.vhdl_names_interfaces.specs.Views.{named_view}
-use Rattle.vhdl_names_interfaces.proofs.Named.{joined, found, found_pair}
-use Rattle.vhdl_names_interfaces.proofs.entities.entity_named.Goals as goal
+use Rattle.vhdl_names_components.specs.Views.{named_view}
+use Rattle.vhdl_names_components.proofs.Named.{joined, found, found_pair}
+use Rattle.vhdl_names_components.proofs.entities.entity_named.Goals as goal
 
 pub returns-in-None-clause-given : goal.returns-in-None-clause-given
 returns-in-None-clause-given c = λ m.

@@ -1,7 +1,7 @@
 //! The entities of a file, by name (IEEE 1076-2008, 13.1).
 
 ghost use Rattle.std.specs.Prelude.{◌≡◌, ◌≢◌, ◌++◌, ◌∷◌, [], map, not, IfErr};
-ghost use Rattle.vhdl_names_interfaces.specs.Views.{entity_view, entities_view, named_view, one_more};
+ghost use Rattle.vhdl_names_components.specs.Views.{entity_view, entities_view, named_view, one_more};
 ghost use Rattle.vhdl_names_rules.specs.Gives.{Gives};
 ghost use Rattle.vhdl_names_rules.specs.Interfaces as rules;
 ghost use Rattle.vhdl_names_rules.specs.problems.Broken.{Tells, refused};

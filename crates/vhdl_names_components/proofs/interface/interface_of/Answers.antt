@@ -5,8 +5,8 @@ use Rattle.vhdl_names_types.specs.Views.{sight_view}
 use Rattle.vhdl_names_units.specs.views.Declarations.{all_generics_view}
 use Rattle.vhdl_names_rules.specs.problems.Broken.{Tells}
 use Rattle.vhdl_names_rules.specs.problems.Interfaces as broken
-use Rattle.vhdl_names_interfaces.proofs.Interfacing.{generics_told, ports_told}
-use Rattle.vhdl_names_interfaces.proofs.interface.interface_of.Goals as goal
+use Rattle.vhdl_names_components.proofs.Interfacing.{generics_told, ports_told}
+use Rattle.vhdl_names_components.proofs.interface.interface_of.Goals as goal
 
 pub returns-in_err-generics-clause-told : goal.returns-in_err-generics-clause-told
 returns-in_err-generics-clause-told c =

@@ -3,7 +3,7 @@
 ghost use Rattle.std.specs.Prelude.{◌≡◌, ◌∷◌, [], map, Some, IfOk, IfErr};
 ghost use Rattle.vhdl_names_declarations.specs.Entered.{ident, more};
 ghost use Rattle.vhdl_names_rules.specs.Visibility.{declare};
-ghost use Rattle.vhdl_names_interfaces.specs.Views.{entity_view, sight_behind};
+ghost use Rattle.vhdl_names_components.specs.Views.{entity_view, sight_behind};
 ghost use Rattle.vhdl_names_rules.specs.Gives.{Gives};
 ghost use Rattle.vhdl_tree.specs.View as view;
 ghost use Rattle.vhdl_names_types.specs.Views.{meaning_view, region_view, sight_view};

@@ -14,7 +14,7 @@ use Rattle.vhdl_names_units.specs.declared.declaration.Generics.{Generics}
 use Rattle.vhdl_names_units.specs.declared.declaration.Ports.{Ports}
 use Rattle.vhdl_names_units.specs.views.Declarations.{all_generics_view, all_ports_view}
 use Rattle.vhdl_names_declarations.specs.Contexts.{context_view}
-use Rattle.vhdl_names_interfaces.specs.declared.interface.EntityInterface.{EntityInterface}
+use Rattle.vhdl_names_components.specs.declared.interface.EntityInterface.{EntityInterface}
 
 -- generics and ports, in this region
 abbrev pub interface_in : List Declared → Vec Generics Global × Vec Ports Global → Interface

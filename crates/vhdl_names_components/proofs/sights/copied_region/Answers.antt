@@ -9,9 +9,9 @@ use Rattle.vhdl_names_declarations.specs.Entered.{more}
 use Rattle.vhdl_names_rules.specs.problems.Broken.{nothing}
 use Rattle.vhdl_names_declarations.proofs.Breaking.{told_never}
 use Rattle.vhdl_names_declarations.proofs.Breaking as tells
-use Rattle.vhdl_names_interfaces.proofs.Interfacing.{passed_on}
-use Rattle.vhdl_names_interfaces.proofs.Copying.{next_entry, more_whole, no_entries}
-use Rattle.vhdl_names_interfaces.proofs.architecture.copied_region.Goals as goal
+use Rattle.vhdl_names_components.proofs.Interfacing.{passed_on}
+use Rattle.vhdl_names_components.proofs.Copying.{next_entry, more_whole, no_entries}
+use Rattle.vhdl_names_components.proofs.sights.copied_region.Goals as goal
 
 pub returns-in_err-copy_one-clause-given : goal.returns-in_err-copy_one-clause-given
 returns-in_err-copy_one-clause-given c =

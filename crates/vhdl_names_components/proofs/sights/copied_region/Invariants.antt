@@ -1,7 +1,7 @@
 use Rattle.std.proofs.Common.{◌≡◌, [], drop}
 use Rattle.vhdl_names_types.specs.Views.{region_view}
 use Rattle.vhdl_names_declarations.specs.Entered.{more}
-use Rattle.vhdl_names_interfaces.proofs.architecture.copied_region.Given as goal
+use Rattle.vhdl_names_components.proofs.sights.copied_region.Given as goal
 
 -- what is left, behind the copy, gives the whole
 abbrev pub invariant-loop-place : goal.invariant-loop-place
