@@ -7,3 +7,4 @@ pub mod Told
 pub mod Codes
 pub mod FirstMoment
 pub mod Saying
+pub mod Alike

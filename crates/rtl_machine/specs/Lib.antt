@@ -6,3 +6,4 @@ pub mod Admitted
 pub mod Answered
 pub mod Words
 pub mod Evaluated
+pub mod Laws

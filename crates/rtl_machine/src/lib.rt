@@ -6,12 +6,17 @@
 //! Both ask that the ports of the netlist's top have names of their own, and that the elements of its in ports are the netlist's
 //! inputs, in their order (`HasOwnPorts` of rtl_stim). A netlist that a front gives has that (`Front::open` of vhdl_source_rules).
 //! Whoever makes a `Net` of parts has to show it: `Net::new` doesn't ask it, and no call tests it.
+//!
+//! Whatever the order of processes, a simulation answers alike and writes the same bytes.
+//!
+//! `specs/Laws.antt` says it of any two answers of `run` of rtl_run.
 #![tactic(auto)]
 
 mod admission;
 mod evaluation;
 mod fault;
 mod laws;
+pub mod order_laws;
 mod ports;
 mod running;
 mod words;

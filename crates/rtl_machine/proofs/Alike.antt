@@ -15,7 +15,7 @@ use Rattle.rtl_run.specs.Answered.{Answers, IsWhole, StopsAt}
 use Rattle.rtl_net.specs.Core.{core}
 use Rattle.rtl_run.specs.Simulated.{Settled, SettlesAs, AreMoments, NeverSettles}
 use Rattle.rtl_run.specs.Traced.{text_so_far, whole_text}
-use Rattle.rtl_run_laws.specs.Laws.{EachOrderIsWrittenAlike, IsComplete, AreAlike}
+use Rattle.rtl_machine.specs.Laws.{EachOrderIsWrittenAlike, IsComplete, AreAlike}
 
 -- lists of one length whose elements agree place by place
 same_lists : (xs ys : List Settled) → length xs ≡ length ys

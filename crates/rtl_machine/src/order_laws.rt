@@ -1,6 +1,6 @@
 //! The law of what is written (`specs/Laws.antt`), the contract of a function that does nothing.
 
-ghost use Rattle.rtl_run_laws.specs.Laws.{EachOrderIsWrittenAlike};
+ghost use Rattle.rtl_machine.specs.Laws.{EachOrderIsWrittenAlike};
 
 use rtl_model::simulation_laws;
 
