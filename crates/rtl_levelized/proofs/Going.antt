@@ -10,12 +10,12 @@ use Rattle.rtl_vcd.specs.Header.{header_text}
 use Rattle.rtl_vcd.specs.Trace.{first_text, moment_text, end_text, are_some, changes}
 use Rattle.rtl_stim.specs.Stimuli.{StimulusView, moments, inputs_at}
 use Rattle.rtl_stim.proofs.Next.{each_begins_at_zero}
-use Rattle.rtl_run.specs.Simulated.{Settled}
-use Rattle.rtl_run.specs.Traced.{text_so_far, whole_text}
-use Rattle.rtl_run.specs.Answered.{IsTextOf}
-use Rattle.rtl_run.specs.Running.{last_values, last_printed_of}
-use Rattle.rtl_run.proofs.Texts.{text_more, last_more, text_end, values_more}
-use Rattle.rtl_run.proofs.Moments.{one_more}
+use Rattle.rtl_machine.specs.simulations.Simulated.{Settled}
+use Rattle.rtl_machine.specs.simulations.Traced.{text_so_far, whole_text}
+use Rattle.rtl_machine.specs.simulations.Answered.{IsTextOf}
+use Rattle.rtl_machine.specs.simulations.Running.{last_values, last_printed_of}
+use Rattle.rtl_machine.proofs.MomentTexts.{text_more, last_more, text_end, values_more}
+use Rattle.rtl_machine.proofs.Moments.{one_more}
 use Rattle.rtl_machine.specs.Synchronous.{IsSynchronous}
 use Rattle.rtl_machine.specs.Traced.{machine_text, IsTrace, TracesBeginning}
 use Rattle.rtl_machine.proofs.Texts.{whole_is, beginning_is}

@@ -5,8 +5,8 @@ use Rattle.rtl_net.specs.Core.{core}
 use Rattle.rtl_net.specs.Nets.{NetlistView}
 use Rattle.rtl_stim.specs.Stimuli.{StimulusView, inputs_at}
 use Rattle.rtl_watch.specs.Stands.{Stand}
-use Rattle.rtl_run.specs.Watched.{until_of}
-use Rattle.rtl_run.proofs.Stands.{at_end}
+use Rattle.rtl_machine.specs.simulations.Watched.{until_of}
+use Rattle.rtl_machine.proofs.Stands.{at_end}
 use Rattle.rtl_machine.specs.Synchronous.{IsSynchronous}
 use Rattle.rtl_machine.specs.Watched.{AreStandsOf, IsToldRunFirst}
 

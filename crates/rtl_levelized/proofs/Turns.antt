@@ -17,7 +17,7 @@ use Rattle.rtl_stim.specs.Moments.{GivesNext, IsStimulus}
 use Rattle.rtl_stim.specs.Ports.{HasOwnPorts, inputs_of}
 use Rattle.rtl_stim.specs.Stimuli.{StimulusView, moments, inputs_at, initial_values}
 use Rattle.rtl_net.specs.Core.{core}
-use Rattle.rtl_run.proofs.Steps.{first_inputs, leads, of_inputs, next_moment, later, within_stop, few}
+use Rattle.rtl_machine.proofs.Steps.{first_inputs, leads, of_inputs, next_moment, later, within_stop, few}
 use Rattle.rtl_machine.specs.Synchronous.{IsRaceless, IsSynchronous}
 use Rattle.rtl_synchronous.specs.Laws.{EachMachineGoesOnAlike}
 use Rattle.rtl_levelized.specs.declared.progress.Progress.{Progress}

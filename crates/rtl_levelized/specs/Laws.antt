@@ -6,7 +6,7 @@ use Rattle.rtl_net.specs.Elaborated.{IsNet}
 use Rattle.rtl_sink.specs.Written.{SinkState, TakesAll}
 use Rattle.rtl_stim.specs.Stimuli.{StimulusView}
 use Rattle.rtl_net.specs.Core.{core}
-use Rattle.rtl_run.specs.declared.summary.Summary.{Summary}
+use Rattle.rtl_machine.specs.declared.summary.Summary.{Summary}
 use Rattle.rtl_machine.specs.Traced.{IsTrace}
 use Rattle.rtl_machine.specs.Answered.{RunsNet}
 use Rattle.rtl_levelized.specs.declared.summary.LevelSummary.{LevelSummary}

@@ -3,9 +3,9 @@ use Rattle.std.specs.Prelude.{◌≡◌, ℕ, suc, ◌<◌, List, ◌∷◌, len
 use Rattle.rtl_net.specs.Nets.{NetlistView}
 use Rattle.rtl_sink.specs.Written.{SinkState, IsIntact, Goes}
 use Rattle.rtl_stim.specs.Stimuli.{StimulusView, moments}
-use Rattle.rtl_run.specs.Simulated.{Settled}
-use Rattle.rtl_run.specs.Traced.{text_so_far}
-use Rattle.rtl_run.specs.Running.{last_values, last_printed_of}
+use Rattle.rtl_machine.specs.simulations.Simulated.{Settled}
+use Rattle.rtl_machine.specs.simulations.Traced.{text_so_far}
+use Rattle.rtl_machine.specs.simulations.Running.{last_values, last_printed_of}
 use Rattle.rtl_machine.specs.declared.fault.MachineFault.{MachineFault}
 use Rattle.rtl_levelized.specs.declared.progress.Progress.{Progress}
 use Rattle.rtl_levelized.specs.Answered.{TracesLevels}

@@ -8,13 +8,13 @@ use Rattle.rtl_model.specs.simulation.Moments.{HasSettled, SettlesIn, IsMost}
 use Rattle.rtl_net.specs.Nets.{NetlistView}
 use Rattle.rtl_sink.specs.Written.{SinkState, TakesAll}
 use Rattle.rtl_stim.specs.Stimuli.{StimulusView, moments, inputs_at}
-use Rattle.rtl_run.specs.declared.summary.Summary.{Summary}
-use Rattle.rtl_run.specs.declared.summary.RunFault.{RunFault}
-use Rattle.rtl_run.specs.declared.summary.RunFault.TheVariants.{NoSettling, Memory, Output}
-use Rattle.rtl_run.specs.Answered.{Answers, IsWhole, StopsAt}
+use Rattle.rtl_machine.specs.declared.summary.Summary.{Summary}
+use Rattle.rtl_machine.specs.declared.summary.RunFault.{RunFault}
+use Rattle.rtl_machine.specs.declared.summary.RunFault.TheVariants.{NoSettling, Memory, Output}
+use Rattle.rtl_machine.specs.simulations.Answered.{Answers, IsWhole, StopsAt}
 use Rattle.rtl_net.specs.Core.{core}
-use Rattle.rtl_run.specs.Simulated.{Settled, SettlesAs, AreMoments, NeverSettles}
-use Rattle.rtl_run.specs.Traced.{text_so_far, whole_text}
+use Rattle.rtl_machine.specs.simulations.Simulated.{Settled, SettlesAs, AreMoments, NeverSettles}
+use Rattle.rtl_machine.specs.simulations.Traced.{text_so_far, whole_text}
 use Rattle.rtl_machine.specs.Laws.{EachOrderIsWrittenAlike, IsComplete, AreAlike}
 
 -- lists of one length whose elements agree place by place

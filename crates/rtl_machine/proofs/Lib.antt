@@ -1,3 +1,10 @@
+pub mod MomentTexts
+pub mod Steps
+pub mod Turns
+pub mod Stands
+pub mod Moments
+pub mod Going
+pub mod Failing
 pub mod Theorem
 pub mod BadLines
 pub mod Refusals

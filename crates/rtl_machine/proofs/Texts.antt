@@ -10,9 +10,9 @@ use Rattle.rtl_sink.proofs.Writing.{TakesBeginning-append}
 use Rattle.rtl_vcd.specs.Header.{header_text}
 use Rattle.rtl_vcd.specs.Trace.{Moment, first_text, moment_text, moments_text, trace_text, are_some, changes}
 use Rattle.rtl_stim.specs.Stimuli.{StimulusView, moments, inputs_at}
-use Rattle.rtl_run.specs.Simulated.{Settled, AreMoments}
-use Rattle.rtl_run.specs.Traced.{behind_first, at_times, changes_text, text_so_far, whole_text}
-use Rattle.rtl_run.specs.Answered.{IsTextOf}
+use Rattle.rtl_machine.specs.simulations.Simulated.{Settled, AreMoments}
+use Rattle.rtl_machine.specs.simulations.Traced.{behind_first, at_times, changes_text, text_so_far, whole_text}
+use Rattle.rtl_machine.specs.simulations.Answered.{IsTextOf}
 use Rattle.rtl_machine.specs.Traced.{run_at, machine_text}
 
 -- these settle in the valuations of a run

@@ -9,8 +9,8 @@ use Rattle.rtl_sink.specs.Written.{SinkState, TakesAll}
 use Rattle.rtl_model.proofs.nets.Connected.{connected_is_elaborated}
 use Rattle.rtl_stim.specs.Stimuli.{StimulusView, moments, inputs_at}
 use Rattle.rtl_stim.proofs.Next.{each_begins_at_zero}
-use Rattle.rtl_run.specs.declared.summary.Summary.{Summary}
-use Rattle.rtl_run.specs.Answered.{IsWhole, StopsAt, LeavesBeginning}
+use Rattle.rtl_machine.specs.declared.summary.Summary.{Summary}
+use Rattle.rtl_machine.specs.simulations.Answered.{IsWhole, StopsAt, LeavesBeginning}
 use Rattle.rtl_machine.specs.Synchronous.{SaysYes, IsSynchronous}
 use Rattle.rtl_machine.specs.Traced.{machine_text, IsTrace, TracesAll, TracesBeginning}
 use Rattle.rtl_machine.proofs.Texts.{are_of_run, whole_is, beginning_is}

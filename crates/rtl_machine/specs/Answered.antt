@@ -3,7 +3,7 @@ use Rattle.std.specs.Prelude.{◌≡◌, ℕ, ◌⊎◌, List, Result, Err}
 use Rattle.rtl_net.specs.Nets.{NetlistView}
 use Rattle.rtl_sink.specs.Written.{SinkState}
 use Rattle.rtl_stim.specs.Stimuli.{StimulusView}
-use Rattle.rtl_run.specs.declared.summary.Summary.{Summary}
+use Rattle.rtl_machine.specs.declared.summary.Summary.{Summary}
 use Rattle.rtl_machine.specs.declared.fault.MachineFault.{MachineFault}
 use Rattle.rtl_machine.specs.Traced.{Traces}
 use Rattle.rtl_machine.specs.Admitted.{IsAdmitted, RefusesNet}

@@ -3,10 +3,10 @@ use Rattle.std.specs.Prelude.{◌≡◌, ⊤, ℕ, List, Result, Ok, Err}
 use Rattle.rtl_net.specs.Nets.{NetlistView}
 use Rattle.rtl_sink.specs.Written.{SinkState, TakesAll}
 use Rattle.rtl_stim.specs.Stimuli.{StimulusView}
-use Rattle.rtl_run.specs.declared.summary.Summary.{Summary}
-use Rattle.rtl_run.specs.declared.summary.RunFault.{RunFault}
-use Rattle.rtl_run.specs.declared.summary.RunFault.TheVariants.{NoSettling, Memory, Output}
-use Rattle.rtl_run.specs.Answered.{Answers}
+use Rattle.rtl_machine.specs.declared.summary.Summary.{Summary}
+use Rattle.rtl_machine.specs.declared.summary.RunFault.{RunFault}
+use Rattle.rtl_machine.specs.declared.summary.RunFault.TheVariants.{NoSettling, Memory, Output}
+use Rattle.rtl_machine.specs.simulations.Answered.{Answers}
 
 -- the run has come to its end, or to a moment that doesn't settle, and not to want of memory nor a failed output
 abbrev pub IsComplete : Result Summary RunFault → Type 0

@@ -1,3 +1,4 @@
+pub mod simulations
 pub mod Synchronous
 pub mod Traced
 pub mod Watched

@@ -9,7 +9,13 @@
 //!
 //! Whatever the order of processes, a simulation answers alike and writes the same bytes.
 //!
-//! `specs/Laws.antt` says it of any two answers of `run` of rtl_run.
+//! `specs/Laws.antt` says it of any two answers of `run` of rtl_machine.
+//!
+//! The simulation of a netlist under a stimulus, from the first moment to the stop, with its trace (IEEE 1076-2008, 14.7.5;
+//! IEEE 1364-2005, clause 18).
+//!
+//! `specs/simulations/Simulated.antt` says what the moments settle to, `specs/simulations/Traced.antt` what their trace is, and `specs/simulations/Answered.antt`
+//! what a simulation answers.
 #![tactic(auto)]
 
 mod admission;
@@ -18,12 +24,16 @@ mod fault;
 mod laws;
 pub mod order_laws;
 mod ports;
+mod progress;
 mod running;
+mod simulation;
+mod summary;
 mod words;
 
 pub use admission::{Admitted, admit};
 pub use evaluation::eval;
 pub use fault::MachineFault;
 pub use laws::{accepted_nets_are_synchronous, each_word_sets};
-pub use rtl_run::Summary;
 pub use running::{SLOTS, run, run_watched, trace, trace_watched};
+pub use simulation::Simulation;
+pub use summary::{RunFault, Summary};

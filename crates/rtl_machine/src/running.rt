@@ -15,12 +15,13 @@ ghost use Rattle.rtl_machine.specs.Watched.{IsToldRun, IsToldRunFirst, WasToldRu
 use crate::admission::admit;
 use crate::fault::MachineFault;
 use crate::laws::accepted_nets_are_synchronous;
+use crate::simulation::Simulation;
+use crate::summary::{RunFault, Summary};
 use rtl_eval::Exec;
 use rtl_eval_code::codes;
 use rtl_kernel::Pick;
 use rtl_model::simulation_laws;
 use rtl_net::Net;
-use rtl_run::{RunFault, Simulation, Summary};
 use rtl_sink::Sink;
 use rtl_stim::{Agenda, Wheel};
 use rtl_watch::{Unwatched, Watch};

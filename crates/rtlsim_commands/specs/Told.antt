@@ -12,7 +12,7 @@ use Rattle.rtlsim_on_net.specs.Answered.{TellsText, verdict_status}
 use Rattle.rtlsim_commands.specs.Unsettled.{TellsChanging}
 use Rattle.rtl_levelized.specs.declared.summary.LevelSummary.{LevelSummary}
 use Rattle.rtl_net.specs.Nets.{NetlistView}
-use Rattle.rtl_run.specs.declared.summary.Summary.{Summary}
+use Rattle.rtl_machine.specs.declared.summary.Summary.{Summary}
 use Rattle.rtl_sink.specs.Written.{SinkState}
 use Rattle.vhdl_names_rules.specs.declared.fault.NameFault.{NameFault}
 use Rattle.vhdl_source_rules.specs.Designs.{IsNetOf}

@@ -18,8 +18,8 @@ pub use opening::{
 pub use rtl_check::CheckFault;
 pub use rtl_kernel::{Forward, Pick, Reverse};
 pub use rtl_levelized::LevelSummary;
+pub use rtl_machine::Summary;
 pub use rtl_net::Net;
-pub use rtl_run::Summary;
 pub use rtl_sink::Sink;
 pub use rtl_stim::StimFault;
 pub use rtl_watch::{Unwatched, Watch};

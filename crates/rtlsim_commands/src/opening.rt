@@ -10,7 +10,7 @@ ghost use Rattle.rtlsim_commands.specs.Opened.{Opens};
 
 use rtl_kernel::Pick;
 use rtl_levelized::LevelSummary;
-use rtl_run::Summary;
+use rtl_machine::Summary;
 use rtl_sink::Sink;
 use rtl_watch::Unwatched;
 use rtlsim_faults::Fault;

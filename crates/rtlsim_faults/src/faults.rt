@@ -15,8 +15,7 @@ pub(crate) use layers::{
 pub(crate) use notice::{FaultPlace, Notice};
 use rtl_check::CheckFault;
 use rtl_expect::{Difference, ExpectFault};
-use rtl_machine::MachineFault;
-use rtl_run::RunFault;
+use rtl_machine::{MachineFault, RunFault};
 use rtl_stim::StimFault;
 use rtlsim_listing::ListingFault;
 use std::alloc::AllocError;

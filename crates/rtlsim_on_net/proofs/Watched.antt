@@ -8,8 +8,8 @@ use Rattle.rtlsim_faults.specs.declared.faults.Fault.TheVariants.{Lex, Syntax, N
 use Rattle.rtl_machine.specs.declared.fault.MachineFault.{MachineFault}
 use Rattle.rtl_machine.specs.declared.fault.MachineFault.TheVariants as machine
 use Rattle.rtl_net.specs.Nets.{NetlistView}
-use Rattle.rtl_run.specs.declared.summary.RunFault.{RunFault}
-use Rattle.rtl_run.specs.declared.summary.RunFault.TheVariants as run
+use Rattle.rtl_machine.specs.declared.summary.RunFault.{RunFault}
+use Rattle.rtl_machine.specs.declared.summary.RunFault.TheVariants as run
 use Rattle.rtl_sink.specs.Written.{SinkState}
 use Rattle.rtl_watch.specs.Stands.{Stand}
 

@@ -9,7 +9,7 @@ use Rattle.rtl_machine.specs.Answered.{RunsNet}
 use Rattle.rtl_machine.specs.Evaluated.{Evaluates}
 use Rattle.rtl_machine.specs.declared.fault.MachineFault.{MachineFault}
 use Rattle.rtl_net.specs.Nets.{NetlistView}
-use Rattle.rtl_run.specs.declared.summary.Summary.{Summary}
+use Rattle.rtl_machine.specs.declared.summary.Summary.{Summary}
 use Rattle.rtl_sink.specs.Written.{SinkState}
 
 abbrev pub as_answer : {A : Type 0} → Result A MachineFault → Result A Fault

@@ -5,7 +5,7 @@ use Rattle.rtlsim_faults.specs.declared.faults.Fault.TheVariants.{Differs}
 use Rattle.rtl_machine.specs.Answered.{Admits}
 use Rattle.rtl_machine.specs.Watched.{IsToldRun}
 use Rattle.rtl_net.specs.Nets.{NetlistView}
-use Rattle.rtl_run.specs.Watched.{IsToldAll}
+use Rattle.rtl_machine.specs.simulations.Watched.{IsToldAll}
 use Rattle.rtl_sink.specs.Written.{SinkState}
 use Rattle.rtl_stim.specs.Stimuli.{StimulusView, IsRead}
 use Rattle.rtl_watch.specs.Stands.{Stand}

@@ -13,8 +13,8 @@ ghost use Rattle.rtlsim_on_net.specs.Expected.{IsOfRun};
 ghost use Rattle.rtlsim_on_net.specs.Sights.{Sight, Seeing, IsOfNet};
 
 use rtl_levelized::LevelSummary;
+use rtl_machine::Summary;
 use rtl_net::Net;
-use rtl_run::Summary;
 use rtl_sink::Sink;
 use rtl_watch::Watch;
 use rtlsim_faults::{Fault, Status, tell_levels, tell_summary};

@@ -7,7 +7,7 @@ use Rattle.rtl_model.proofs.simulation.Order.{HasRun-done}
 use Rattle.rtl_net.specs.Nets.{flat}
 use Rattle.rtl_net.specs.Core.{core}
 use Rattle.rtl_kernel.specs.kernel.Simulation.{Simulation, initial_inputs}
-use Rattle.rtl_run.proofs.Steps.{first_begun}
+use Rattle.rtl_machine.proofs.Steps.{first_begun}
 use Rattle.rtl_machine.proofs.Codes.{run_of, codes_run}
 use Rattle.rtl_machine.proofs.evaluation.first_values.Goals as goal
 

@@ -1,8 +1,8 @@
 use Rattle.std.proofs.Common.{Result, Err, subst, ap, ◌∙◌}
-use Rattle.rtl_run.specs.declared.summary.Summary.{Summary}
-use Rattle.rtl_run.specs.declared.summary.RunFault.{RunFault}
-use Rattle.rtl_run.specs.declared.summary.RunFault.TheVariants as run
-use Rattle.rtl_run.specs.Answered.{Answers}
+use Rattle.rtl_machine.specs.declared.summary.Summary.{Summary}
+use Rattle.rtl_machine.specs.declared.summary.RunFault.{RunFault}
+use Rattle.rtl_machine.specs.declared.summary.RunFault.TheVariants as run
+use Rattle.rtl_machine.specs.simulations.Answered.{Answers}
 use Rattle.rtl_stim.specs.Stimuli.{inputs_at}
 use Rattle.rtl_machine.proofs.Traces.{never_stops, beginning, whole}
 use Rattle.rtl_machine.proofs.Told.{told_run, told_first, of_ok, of_err}

@@ -1,6 +1,6 @@
 use Rattle.std.proofs.Common.{map, sym, ap, ◌∙◌}
 use Rattle.std.proofs.lemmas.Bool.{eqb-true}
-use Rattle.rtl_run.specs.declared.summary.Summary.{Summary}
+use Rattle.rtl_machine.specs.declared.summary.Summary.{Summary}
 use Rattle.rtlsim_on_net.specs.Simulated.{RunsEvents}
 use Rattle.rtlsim_on_net.proofs.Runs.{none_stored, failed_run, began, run_fault}
 use Rattle.rtlsim_on_net.proofs.Watched.{watched_failed, watched_so, run_part}

@@ -6,9 +6,9 @@ use Rattle.rtl_net.specs.Nets.{NetlistView}
 use Rattle.rtl_stim.specs.Stimuli.{StimulusView, moments, inputs_at}
 use Rattle.rtl_watch.specs.Stands.{Stand}
 use Rattle.rtl_net.specs.Core.{core}
-use Rattle.rtl_run.specs.Simulated.{NeverSettles}
-use Rattle.rtl_run.specs.declared.summary.RunFault.{RunFault}
-use Rattle.rtl_run.specs.declared.summary.RunFault.TheVariants.{NoSettling}
+use Rattle.rtl_machine.specs.simulations.Simulated.{NeverSettles}
+use Rattle.rtl_machine.specs.declared.summary.RunFault.{RunFault}
+use Rattle.rtl_machine.specs.declared.summary.RunFault.TheVariants.{NoSettling}
 
 -- What the moment m settles to stands until the next moment; at the last one, until the stop is over.
 abbrev pub until_of : StimulusView → (m : ℕ) → ℕ

@@ -5,9 +5,9 @@ use Rattle.rtl_net.specs.Nets.{NetlistView, SignalView}
 use Rattle.rtl_vcd.specs.Header.{header_text}
 use Rattle.rtl_vcd.specs.Trace.{Moment, first_text, moment_text, moments_text, end_text, are_some, changes}
 use Rattle.rtl_stim.specs.Stimuli.{StimulusView, moments}
-use Rattle.rtl_run.specs.Simulated.{Settled}
-use Rattle.rtl_run.specs.Traced.{behind_first, at_times, changes_text, text_so_far, whole_text}
-use Rattle.rtl_run.specs.Running.{last_values, last_printed, last_printed_of}
+use Rattle.rtl_machine.specs.simulations.Simulated.{Settled}
+use Rattle.rtl_machine.specs.simulations.Traced.{behind_first, at_times, changes_text, text_so_far, whole_text}
+use Rattle.rtl_machine.specs.simulations.Running.{last_values, last_printed, last_printed_of}
 
 module _ (signals : List SignalView) where
   -- the changes at one more moment stand behind those before it

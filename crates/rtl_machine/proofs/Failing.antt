@@ -7,11 +7,11 @@ use Rattle.rtl_net.specs.Core.{core}
 use Rattle.rtl_net.specs.Nets.{NetlistView}
 use Rattle.rtl_stim.specs.Stimuli.{StimulusView, moments, inputs_at}
 use Rattle.rtl_watch.specs.Stands.{Stand}
-use Rattle.rtl_run.specs.declared.summary.RunFault.{RunFault}
-use Rattle.rtl_run.specs.declared.summary.RunFault.TheVariants.{NoSettling}
-use Rattle.rtl_run.specs.Watched.{AreStands, IsToldFirst, WasTold}
-use Rattle.rtl_run.proofs.Going.{err_with}
-use Rattle.rtl_run.proofs.Stands.{stands_none}
+use Rattle.rtl_machine.specs.declared.summary.RunFault.{RunFault}
+use Rattle.rtl_machine.specs.declared.summary.RunFault.TheVariants.{NoSettling}
+use Rattle.rtl_machine.specs.simulations.Watched.{AreStands, IsToldFirst, WasTold}
+use Rattle.rtl_machine.proofs.Going.{err_with}
+use Rattle.rtl_machine.proofs.Stands.{stands_none}
 
 module _ (net : NetlistView) (s : StimulusView) (limit : ℕ) (Told : List Stand → Type 0) (Stuck : List Stand → (before now : List ℕ) → (time : ℕ) → Type 0) where
   -- of an answer that is this fault

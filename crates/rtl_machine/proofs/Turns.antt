@@ -12,10 +12,10 @@ use Rattle.rtl_stim_lines.specs.Filling.{Waits}
 use Rattle.rtl_stim.specs.Moments.{GivesNext, IsStimulus}
 use Rattle.rtl_stim.specs.Ports.{HasOwnPorts, inputs_of}
 use Rattle.rtl_stim.specs.Stimuli.{StimulusView, moments, inputs_at}
-use Rattle.rtl_run.specs.declared.progress.Progress.{Progress}
+use Rattle.rtl_machine.specs.declared.progress.Progress.{Progress}
 use Rattle.rtl_net.specs.Core.{core}
-use Rattle.rtl_run.specs.Running.{IsNextMoment, HasSettledIn}
-use Rattle.rtl_run.proofs.Steps.{of_inputs, next_begun, next_moment, later, within_stop, few}
+use Rattle.rtl_machine.specs.simulations.Running.{IsNextMoment, HasSettledIn}
+use Rattle.rtl_machine.proofs.Steps.{of_inputs, next_begun, next_moment, later, within_stop, few}
 
 -- At this time, which comes next, these changes are taken, and the moment behind m, the last one so far, begins.
 pub record ComesNext (s : StimulusView) (p : Progress) (m time : ℕ) (taken : List Change) : Type 0 where

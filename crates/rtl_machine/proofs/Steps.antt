@@ -31,7 +31,7 @@ use Rattle.rtl_stim.specs.Stimuli.{StimulusView, initial_values, inputs_at, mome
 use Rattle.rtl_stim.proofs.Next.{any_from, each_begins_at_zero, each_moment_follows}
 use Rattle.rtl_stim.proofs.Values.{first_or_later}
 use Rattle.rtl_net.specs.Core.{core}
-use Rattle.rtl_run.specs.Running.{HasSettledIn}
+use Rattle.rtl_machine.specs.simulations.Running.{HasSettledIn}
 
 is_same : (m n : ℕ) → (m == n) ≡ true → m ≡ n
 is_same m n e = grind (arith, nat_tests)

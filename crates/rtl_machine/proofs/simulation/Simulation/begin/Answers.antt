@@ -3,16 +3,16 @@ use Rattle.rtl_net.specs.Nets.{NetlistView}
 use Rattle.rtl_model.specs.simulation.Moments.{SettlesTo, IsUnsettled}
 use Rattle.rtl_vcd.specs.Trace.{first_text}
 use Rattle.rtl_sink.specs.Written.{Goes}
-use Rattle.rtl_run.specs.declared.summary.RunFault.{RunFault}
-use Rattle.rtl_run.specs.declared.summary.RunFault.TheVariants.{Memory, Output}
+use Rattle.rtl_machine.specs.declared.summary.RunFault.{RunFault}
+use Rattle.rtl_machine.specs.declared.summary.RunFault.TheVariants.{Memory, Output}
 use Rattle.rtl_net.specs.Core.{core}
-use Rattle.rtl_run.specs.Running.{Begins}
+use Rattle.rtl_machine.specs.simulations.Running.{Begins}
 use Rattle.rtl_stim.proofs.Next.{each_begins_at_zero}
 use Rattle.rtl_watch.specs.Stands.{Stand}
-use Rattle.rtl_run.proofs.Failing.{told_of, told_unsettled, told_nothing}
-use Rattle.rtl_run.proofs.Stands.{stands_none}
-use Rattle.rtl_run.proofs.Going.{err_with, begins, never_begins, first_leaves}
-use Rattle.rtl_run.proofs.simulation.Simulation.begin.Goals as goal
+use Rattle.rtl_machine.proofs.Failing.{told_of, told_unsettled, told_nothing}
+use Rattle.rtl_machine.proofs.Stands.{stands_none}
+use Rattle.rtl_machine.proofs.Going.{err_with, begins, never_begins, first_leaves}
+use Rattle.rtl_machine.proofs.simulation.Simulation.begin.Goals as goal
 
 pub returns-in_err-deltas-clause-begins : goal.returns-in_err-deltas-clause-begins
 returns-in_err-deltas-clause-begins g c start begun =

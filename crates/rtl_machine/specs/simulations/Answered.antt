@@ -4,12 +4,12 @@ use Rattle.rtl_model.specs.simulation.Moments.{IsMost}
 use Rattle.rtl_net.specs.Nets.{NetlistView}
 use Rattle.rtl_sink.specs.Written.{SinkState, IsIntact, HasFailed, Goes, TakesBeginning}
 use Rattle.rtl_stim.specs.Stimuli.{StimulusView, moments, inputs_at}
-use Rattle.rtl_run.specs.declared.summary.Summary.{Summary}
-use Rattle.rtl_run.specs.declared.summary.RunFault.{RunFault}
-use Rattle.rtl_run.specs.declared.summary.RunFault.TheVariants.{NoSettling, Memory, Output}
+use Rattle.rtl_machine.specs.declared.summary.Summary.{Summary}
+use Rattle.rtl_machine.specs.declared.summary.RunFault.{RunFault}
+use Rattle.rtl_machine.specs.declared.summary.RunFault.TheVariants.{NoSettling, Memory, Output}
 use Rattle.rtl_net.specs.Core.{core}
-use Rattle.rtl_run.specs.Simulated.{Settled, AreMoments, NeverSettles}
-use Rattle.rtl_run.specs.Traced.{text_so_far, whole_text}
+use Rattle.rtl_machine.specs.simulations.Simulated.{Settled, AreMoments, NeverSettles}
+use Rattle.rtl_machine.specs.simulations.Traced.{text_so_far, whole_text}
 
 -- the trace of these moments, or the whole where they are all
 abbrev pub IsTextOf : NetlistView → StimulusView → List Settled → (text : List ℕ) → Type 0

@@ -5,9 +5,9 @@ use Rattle.rtl_model.specs.simulation.Moments.{HasNoneToRun}
 use Rattle.rtl_stim_lines.specs.Filling.{Waits}
 use Rattle.rtl_stim.specs.Stimuli.{moments}
 use Rattle.rtl_watch.specs.Stands.{Stand}
-use Rattle.rtl_run.specs.Watched.{AreStands}
-use Rattle.rtl_run.specs.Running.{HasCome, HasSettledIn}
-use Rattle.rtl_run.proofs.simulation.Simulation.run_moments.Given as goal
+use Rattle.rtl_machine.specs.simulations.Watched.{AreStands}
+use Rattle.rtl_machine.specs.simulations.Running.{HasCome, HasSettledIn}
+use Rattle.rtl_machine.proofs.simulation.Simulation.run_moments.Given as goal
 
 -- the last moment so far, m, has settled, the watch was told of those before it, and what comes after it waits
 abbrev pub invariant-loop-time : goal.invariant-loop-time

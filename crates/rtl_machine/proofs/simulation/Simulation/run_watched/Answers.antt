@@ -6,14 +6,14 @@ use Rattle.rtl_model.specs.simulation.Moments.{HasRun}
 use Rattle.rtl_model.proofs.simulation.Order.{HasRun-done}
 use Rattle.rtl_net.specs.Nets.{flat}
 use Rattle.rtl_kernel.specs.kernel.Simulation.{Simulation, initial_inputs}
-use Rattle.rtl_run.specs.declared.summary.RunFault.TheVariants.{Memory}
+use Rattle.rtl_machine.specs.declared.summary.RunFault.TheVariants.{Memory}
 use Rattle.rtl_net.specs.Core.{core}
-use Rattle.rtl_run.specs.Answered.{Answers}
-use Rattle.rtl_run.proofs.Steps.{first_begun}
+use Rattle.rtl_machine.specs.simulations.Answered.{Answers}
+use Rattle.rtl_machine.proofs.Steps.{first_begun}
 use Rattle.rtl_watch.specs.Stands.{Stand}
-use Rattle.rtl_run.proofs.Failing.{told_of, told_nothing}
-use Rattle.rtl_run.proofs.Going.{err_with, nothing_leaves}
-use Rattle.rtl_run.proofs.simulation.Simulation.run_watched.Goals as goal
+use Rattle.rtl_machine.proofs.Failing.{told_of, told_nothing}
+use Rattle.rtl_machine.proofs.Going.{err_with, nothing_leaves}
+use Rattle.rtl_machine.proofs.simulation.Simulation.run_watched.Goals as goal
 
 pub returns-in_err-load-clause-answers : goal.returns-in_err-load-clause-answers
 returns-in_err-load-clause-answers g c =

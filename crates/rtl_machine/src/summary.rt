@@ -1,7 +1,7 @@
 //! What a simulation answers.
 
 ghost use Rattle.std.specs.Prelude.{◌≡◌};
-ghost use Rattle.rtl_run.specs.declared.summary.RunFault.TheVariants.{Memory, Output};
+ghost use Rattle.rtl_machine.specs.declared.summary.RunFault.TheVariants.{Memory, Output};
 
 use rtl_vcd::VcdFault;
 use std::alloc::AllocError;

@@ -9,15 +9,15 @@ use Rattle.rtl_stim_lines.specs.Filling.{Waits}
 use Rattle.rtl_stim.proofs.Next.{each_begins_at_zero}
 use Rattle.rtl_sink.specs.Written.{Goes}
 use Rattle.rtl_vcd.specs.Trace.{end_text}
-use Rattle.rtl_run.specs.declared.summary.RunFault.TheVariants.{Memory, Output}
-use Rattle.rtl_run.specs.Answered.{Answers}
-use Rattle.rtl_run.proofs.Steps.{no_moment}
+use Rattle.rtl_machine.specs.declared.summary.RunFault.TheVariants.{Memory, Output}
+use Rattle.rtl_machine.specs.simulations.Answered.{Answers}
+use Rattle.rtl_machine.proofs.Steps.{no_moment}
 use Rattle.rtl_watch.specs.Stands.{Stand}
-use Rattle.rtl_run.proofs.Failing.{told_of, told_nothing}
-use Rattle.rtl_run.proofs.Going.{err_with, header_leaves, end_leaves, is_whole, at_last, settled_quiet}
-use Rattle.rtl_run.proofs.Stands.{stands_none, stands_more, one_stand_more, until_next, until_end, one_behind}
-use Rattle.rtl_run.proofs.Turns.{comes_next, changes_inputs, begins_next}
-use Rattle.rtl_run.proofs.simulation.Simulation.run_moments.Goals as goal
+use Rattle.rtl_machine.proofs.Failing.{told_of, told_nothing}
+use Rattle.rtl_machine.proofs.Going.{err_with, header_leaves, end_leaves, is_whole, at_last, settled_quiet}
+use Rattle.rtl_machine.proofs.Stands.{stands_none, stands_more, one_stand_more, until_next, until_end, one_behind}
+use Rattle.rtl_machine.proofs.Turns.{comes_next, changes_inputs, begins_next}
+use Rattle.rtl_machine.proofs.simulation.Simulation.run_moments.Goals as goal
 
 pub returns-in_err-header-clause-answers : goal.returns-in_err-header-clause-answers
 returns-in_err-header-clause-answers g c =

@@ -7,8 +7,8 @@ use Rattle.rtl_agenda.specs.Agenda.{Change}
 use Rattle.rtl_stim.specs.Moments.{GivesNext}
 use Rattle.rtl_stim.specs.Stimuli.{StimulusView, moments}
 use Rattle.rtl_watch.specs.Stands.{Stand}
-use Rattle.rtl_run.specs.Running.{HasSettledIn}
-use Rattle.rtl_run.specs.Watched.{until_of, StandsFrom, AreStands}
+use Rattle.rtl_machine.specs.simulations.Running.{HasSettledIn}
+use Rattle.rtl_machine.specs.simulations.Watched.{until_of, StandsFrom, AreStands}
 
 abbrev no_stand : List Stand
 no_stand = []

@@ -4,7 +4,7 @@ use Rattle.rtl_net.specs.Nets.{NetlistView, SignalView}
 use Rattle.rtl_vcd.specs.Header.{header_text}
 use Rattle.rtl_vcd.specs.Trace.{Moment, first_text, moment_text, trace_text}
 use Rattle.rtl_stim.specs.Stimuli.{StimulusView, moments}
-use Rattle.rtl_run.specs.Simulated.{Settled}
+use Rattle.rtl_machine.specs.simulations.Simulated.{Settled}
 
 abbrev pub behind_first : List ℕ → List ℕ
 behind_first [] = []

@@ -8,8 +8,8 @@ use Rattle.rtl_model.proofs.simulation.Orders.{every_order_is_one}
 use Rattle.rtl_net.specs.Nets.{NetlistView}
 use Rattle.rtl_stim.specs.Stimuli.{StimulusView, moments, inputs_at}
 use Rattle.rtl_net.specs.Core.{core}
-use Rattle.rtl_run.specs.Simulated.{Settled, SettlesAs, AreMoments}
-use Rattle.rtl_run.specs.Running.{IsGreatest}
+use Rattle.rtl_machine.specs.simulations.Simulated.{Settled, SettlesAs, AreMoments}
+use Rattle.rtl_machine.specs.simulations.Running.{IsGreatest}
 
 -- what stands in a list with one more is of the list, or that one
 at_end : (xs : List Settled) (y : Settled) (m : ℕ) (x : Settled) → slice_get (xs ++ y ∷ []) m ≡ Some x

@@ -4,15 +4,15 @@ use Rattle.rtl_net.specs.Nets.{NetlistView}
 use Rattle.rtl_model.specs.simulation.Moments.{Begun, SettlesTo, IsUnsettled}
 use Rattle.rtl_vcd.specs.Trace.{moment_text, are_some, changes}
 use Rattle.rtl_sink.specs.Written.{Goes}
-use Rattle.rtl_run.specs.declared.summary.RunFault.{RunFault}
-use Rattle.rtl_run.specs.declared.summary.RunFault.TheVariants.{Output}
+use Rattle.rtl_machine.specs.declared.summary.RunFault.{RunFault}
+use Rattle.rtl_machine.specs.declared.summary.RunFault.TheVariants.{Output}
 use Rattle.rtl_net.specs.Core.{core}
-use Rattle.rtl_run.specs.Running.{GoesOn}
+use Rattle.rtl_machine.specs.simulations.Running.{GoesOn}
 use Rattle.rtl_stim.specs.Stimuli.{moments, inputs_at}
 use Rattle.rtl_watch.specs.Stands.{Stand}
-use Rattle.rtl_run.proofs.Failing.{told_of, told_unsettled}
-use Rattle.rtl_run.proofs.Going.{err_with, never_more, next_leaves, goes_further}
-use Rattle.rtl_run.proofs.simulation.Simulation.go_on.Goals as goal
+use Rattle.rtl_machine.proofs.Failing.{told_of, told_unsettled}
+use Rattle.rtl_machine.proofs.Going.{err_with, never_more, next_leaves, goes_further}
+use Rattle.rtl_machine.proofs.simulation.Simulation.go_on.Goals as goal
 
 pub returns-in_err-deltas-clause-goes_on : goal.returns-in_err-deltas-clause-goes_on
 returns-in_err-deltas-clause-goes_on g c start come next =

@@ -3,7 +3,7 @@ use Rattle.std.proofs.Common.{◌≡◌, ℕ, suc, ◌+◌, ◌<◌, ◌≤◌, 
 use Rattle.std.specs.Prelude.{if◌then◌else◌, IsErrAnd, IsTrue}
 use Rattle.std.proofs.Common.{inl, inr}
 use Rattle.std.proofs.KnownBytes.{Appends-nil}
-use Rattle.rtl_run.specs.Running.{IsGreatest}
+use Rattle.rtl_machine.specs.simulations.Running.{IsGreatest}
 use Rattle.rtl_model.specs.simulation.Cycle.{State, is_quiet}
 use Rattle.rtl_model.specs.simulation.Moments.{Begun, SettlesTo, IsUnsettled}
 use Rattle.rtl_net.specs.Nets.{NetlistView}
@@ -13,15 +13,15 @@ use Rattle.rtl_vcd.specs.Header.{header_text}
 use Rattle.rtl_vcd.specs.Trace.{first_text, moment_text, end_text, are_some, changes}
 use Rattle.rtl_stim.specs.Stimuli.{StimulusView, moments, inputs_at}
 use Rattle.rtl_stim.proofs.Next.{each_begins_at_zero}
-use Rattle.rtl_run.specs.declared.progress.Progress.{Progress}
-use Rattle.rtl_run.specs.declared.summary.RunFault.{RunFault}
+use Rattle.rtl_machine.specs.declared.progress.Progress.{Progress}
+use Rattle.rtl_machine.specs.declared.summary.RunFault.{RunFault}
 use Rattle.rtl_net.specs.Core.{core}
-use Rattle.rtl_run.specs.Simulated.{Settled, AreMoments}
-use Rattle.rtl_run.specs.Traced.{text_so_far, whole_text}
-use Rattle.rtl_run.specs.Answered.{IsWhole, StopsAt, LeavesBeginning}
-use Rattle.rtl_run.specs.Running.{last_values, last_printed_of, HasBegun, HasCome, HasSettledIn, IsNextMoment}
-use Rattle.rtl_run.proofs.Texts.{text_more, last_more, text_end, values_more}
-use Rattle.rtl_run.proofs.Moments.{one_more, greatest_one, greatest_more, are_more, are_none, is_most}
+use Rattle.rtl_machine.specs.simulations.Simulated.{Settled, AreMoments}
+use Rattle.rtl_machine.specs.simulations.Traced.{text_so_far, whole_text}
+use Rattle.rtl_machine.specs.simulations.Answered.{IsWhole, StopsAt, LeavesBeginning}
+use Rattle.rtl_machine.specs.simulations.Running.{last_values, last_printed_of, HasBegun, HasCome, HasSettledIn, IsNextMoment}
+use Rattle.rtl_machine.proofs.MomentTexts.{text_more, last_more, text_end, values_more}
+use Rattle.rtl_machine.proofs.Moments.{one_more, greatest_one, greatest_more, are_more, are_none, is_most}
 
 -- an answer that is this fault
 pub err_with : {X : Type 0} (P : Result X RunFault → Type 0) (answer : Result X RunFault) (fault : RunFault) → IsErrAnd answer (λ f. f ≡ fault) → P (Err fault) → P answer

@@ -10,11 +10,11 @@ ghost use Rattle.rtl_kernel.specs.kernel.Kept.{RunBodies};
 ghost use Rattle.rtl_stim_lines.specs.Filling.{Waits};
 ghost use Rattle.rtl_stim.specs.Ports.{HasOwnPorts, inputs_of};
 ghost use Rattle.rtl_stim.specs.Stimuli.{inputs_at, moments};
-ghost use Rattle.rtl_run.specs.declared.summary.RunFault.TheVariants.{NoSettling};
-ghost use Rattle.rtl_run.specs.Answered.{Answers};
-ghost use Rattle.rtl_run.specs.Running.{HasBegun, Begins, HasCome, IsNextMoment, GoesOn};
+ghost use Rattle.rtl_machine.specs.declared.summary.RunFault.TheVariants.{NoSettling};
+ghost use Rattle.rtl_machine.specs.simulations.Answered.{Answers};
+ghost use Rattle.rtl_machine.specs.simulations.Running.{HasBegun, Begins, HasCome, IsNextMoment, GoesOn};
 ghost use Rattle.rtl_net.specs.Core.{core};
-ghost use Rattle.rtl_run.specs.Watched.{AreStands, IsToldAll, WasTold};
+ghost use Rattle.rtl_machine.specs.simulations.Watched.{AreStands, IsToldAll, WasTold};
 ghost use Rattle.rtl_watch.specs.Stands.{Stand};
 
 use crate::progress::Progress;

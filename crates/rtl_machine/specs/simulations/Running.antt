@@ -7,12 +7,12 @@ use Rattle.rtl_sink.specs.Written.{SinkState, IsIntact, Goes}
 use Rattle.rtl_vcd.specs.Header.{header_text}
 use Rattle.rtl_vcd.specs.Trace.{Moment, are_some, changes}
 use Rattle.rtl_stim.specs.Stimuli.{StimulusView, moments, inputs_at}
-use Rattle.rtl_run.specs.declared.progress.Progress.{Progress}
-use Rattle.rtl_run.specs.declared.summary.RunFault.{RunFault}
-use Rattle.rtl_run.specs.Answered.{Answers}
+use Rattle.rtl_machine.specs.declared.progress.Progress.{Progress}
+use Rattle.rtl_machine.specs.declared.summary.RunFault.{RunFault}
+use Rattle.rtl_machine.specs.simulations.Answered.{Answers}
 use Rattle.rtl_net.specs.Core.{core}
-use Rattle.rtl_run.specs.Simulated.{Settled, AreMoments}
-use Rattle.rtl_run.specs.Traced.{behind_first, at_times, text_so_far}
+use Rattle.rtl_machine.specs.simulations.Simulated.{Settled, AreMoments}
+use Rattle.rtl_machine.specs.simulations.Traced.{behind_first, at_times, text_so_far}
 
 -- the values behind these, which were there before
 abbrev pub last_values : (before : List ℕ) → List Settled → List ℕ
