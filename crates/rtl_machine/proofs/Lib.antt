@@ -15,3 +15,4 @@ pub mod Codes
 pub mod FirstMoment
 pub mod Saying
 pub mod Alike
+pub mod levels

@@ -8,3 +8,4 @@ pub mod Answered
 pub mod Words
 pub mod Evaluated
 pub mod Laws
+pub mod levels

@@ -16,24 +16,38 @@
 //!
 //! `specs/simulations/Simulated.antt` says what the moments settle to, `specs/simulations/Traced.antt` what their trace is, and `specs/simulations/Answered.antt`
 //! what a simulation answers.
+//!
+//! Levelized simulation: the run of an accepted netlist as the synchronous machine that it is, without delta cycles, with the trace
+//! that an event-driven simulation writes.
+//!
+//! `specs/levels/Answered.antt` says what `run_levels` answers, and `specs/levels/Laws.antt` that it writes what `run` of rtl_machine writes.
+//! `specs/levels/Running.antt` says how far a run has come between the moments.
 #![tactic(auto)]
 
 mod admission;
+mod by_levels;
 mod evaluation;
 mod fault;
 mod laws;
+pub mod level_laws;
+mod level_progress;
+mod level_summary;
 pub mod order_laws;
 mod ports;
 mod progress;
 mod running;
 mod simulation;
+mod stepping;
 mod summary;
 mod words;
 
 pub use admission::{Admitted, admit};
+pub use by_levels::{run_levels, run_levels_watched};
 pub use evaluation::eval;
 pub use fault::MachineFault;
 pub use laws::{accepted_nets_are_synchronous, each_word_sets};
+pub use level_summary::LevelSummary;
 pub use running::{SLOTS, run, run_watched, trace, trace_watched};
 pub use simulation::Simulation;
+pub use stepping::Stepping;
 pub use summary::{RunFault, Summary};

@@ -10,7 +10,7 @@ use Rattle.rtlsim_faults.specs.declared.telling.Telling.{Telling}
 use Rattle.rtlsim_name_faults.specs.Further.{TellsFurther}
 use Rattle.rtlsim_on_net.specs.Answered.{TellsText, verdict_status}
 use Rattle.rtlsim_commands.specs.Unsettled.{TellsChanging}
-use Rattle.rtl_levelized.specs.declared.summary.LevelSummary.{LevelSummary}
+use Rattle.rtl_machine.specs.declared.level_summary.LevelSummary.{LevelSummary}
 use Rattle.rtl_net.specs.Nets.{NetlistView}
 use Rattle.rtl_machine.specs.declared.summary.Summary.{Summary}
 use Rattle.rtl_sink.specs.Written.{SinkState}

@@ -17,8 +17,7 @@ pub use opening::{
 };
 pub use rtl_check::CheckFault;
 pub use rtl_kernel::{Forward, Pick, Reverse};
-pub use rtl_levelized::LevelSummary;
-pub use rtl_machine::Summary;
+pub use rtl_machine::{LevelSummary, Summary};
 pub use rtl_net::Net;
 pub use rtl_sink::Sink;
 pub use rtl_stim::StimFault;

@@ -9,8 +9,7 @@ ghost use Rattle.rtlsim_on_net.specs.Simulated.{RunsEvents};
 ghost use Rattle.rtlsim_commands.specs.Opened.{Opens};
 
 use rtl_kernel::Pick;
-use rtl_levelized::LevelSummary;
-use rtl_machine::Summary;
+use rtl_machine::{LevelSummary, Summary};
 use rtl_sink::Sink;
 use rtl_watch::Unwatched;
 use rtlsim_faults::Fault;

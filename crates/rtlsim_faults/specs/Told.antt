@@ -7,7 +7,7 @@ use Rattle.rtlsim_faults.specs.declared.faults.Fault.{Fault}
 use Rattle.rtlsim_faults.specs.declared.status.Status.{Status}
 use Rattle.rtlsim_faults.specs.declared.status.Status.TheVariants as status
 use Rattle.rtlsim_faults.specs.declared.telling.Telling.{Telling}
-use Rattle.rtl_levelized.specs.declared.summary.LevelSummary.{LevelSummary}
+use Rattle.rtl_machine.specs.declared.level_summary.LevelSummary.{LevelSummary}
 use Rattle.rtl_net.specs.Nets.{NetlistView}
 use Rattle.rtl_machine.specs.declared.summary.Summary.{Summary}
 use Rattle.rtl_sink.specs.Written.{SinkState, TakesBeginning, Goes}

@@ -22,8 +22,7 @@ use crate::faults::{
 use crate::status::Status;
 use crate::telling::Telling;
 use rtl_expect::push_difference;
-use rtl_levelized::LevelSummary;
-use rtl_machine::Summary;
+use rtl_machine::{LevelSummary, Summary};
 use rtl_net::Net;
 use rtl_sink::{Sink, finish, push_number, push_text};
 use rtl_stim::StimFault;

@@ -1,10 +1,10 @@
--- What `run`, `run --levels` and `eval` do on a netlist: the calls of rtl_machine and rtl_levelized, with their faults as those of a
+-- What `run`, `run --levels` and `eval` do on a netlist: the calls of rtl_machine and rtl_machine, with their faults as those of a
 -- command.
 use Rattle.std.specs.Prelude.{◌≡◌, ℕ, List, Result, Ok, Err}
 use Rattle.rtlsim_faults.specs.Faults.{of_machine}
 use Rattle.rtlsim_faults.specs.declared.faults.Fault.{Fault}
-use Rattle.rtl_levelized.specs.Answered.{RunsLevels}
-use Rattle.rtl_levelized.specs.declared.summary.LevelSummary.{LevelSummary}
+use Rattle.rtl_machine.specs.levels.Answered.{RunsLevels}
+use Rattle.rtl_machine.specs.declared.level_summary.LevelSummary.{LevelSummary}
 use Rattle.rtl_machine.specs.Answered.{RunsNet}
 use Rattle.rtl_machine.specs.Evaluated.{Evaluates}
 use Rattle.rtl_machine.specs.declared.fault.MachineFault.{MachineFault}

@@ -12,8 +12,7 @@ ghost use Rattle.rtlsim_on_net.specs.Answered.{TellsText, verdict_status};
 ghost use Rattle.rtlsim_on_net.specs.Expected.{IsOfRun};
 ghost use Rattle.rtlsim_on_net.specs.Sights.{Sight, Seeing, IsOfNet};
 
-use rtl_levelized::LevelSummary;
-use rtl_machine::Summary;
+use rtl_machine::{LevelSummary, Summary};
 use rtl_net::Net;
 use rtl_sink::Sink;
 use rtl_watch::Watch;

@@ -9,10 +9,8 @@ use crate::command::{Command, Run};
 use rtl_check::stored;
 use rtl_eval_code::codes;
 use rtl_kernel::Pick;
-use rtl_levelized;
-use rtl_levelized::LevelSummary;
 use rtl_machine;
-use rtl_machine::{SLOTS, Simulation, Summary};
+use rtl_machine::{LevelSummary, SLOTS, Simulation, Summary};
 use rtl_net::Net;
 use rtl_sink::Sink;
 use rtl_stim::{Stimulus, Wheel};
@@ -77,7 +75,7 @@ impl Command for RunLevels<'_> {
         watch: &mut V,
         out: &mut S,
     ) -> Result<LevelSummary, Fault> {
-        match rtl_levelized::run_levels_watched(alloc, net, self.stimulus, watch, out) {
+        match rtl_machine::run_levels_watched(alloc, net, self.stimulus, watch, out) {
             Ok(summary) => Ok(summary),
             Err(fault) => Err(Fault::from(fault)),
         }

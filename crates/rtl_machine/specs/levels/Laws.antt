@@ -9,8 +9,8 @@ use Rattle.rtl_net.specs.Core.{core}
 use Rattle.rtl_machine.specs.declared.summary.Summary.{Summary}
 use Rattle.rtl_machine.specs.Traced.{IsTrace}
 use Rattle.rtl_machine.specs.Answered.{RunsNet}
-use Rattle.rtl_levelized.specs.declared.summary.LevelSummary.{LevelSummary}
-use Rattle.rtl_levelized.specs.Answered.{RunsLevels}
+use Rattle.rtl_machine.specs.declared.level_summary.LevelSummary.{LevelSummary}
+use Rattle.rtl_machine.specs.levels.Answered.{RunsLevels}
 
 -- an accepted netlist has one trace under a stimulus
 abbrev pub EachTraceIsTheOne : Type 0

@@ -4,9 +4,9 @@ use Rattle.rtl_sink.specs.Written.{Goes}
 use Rattle.rtl_vcd.specs.Trace.{first_text}
 use Rattle.rtl_machine.specs.declared.fault.MachineFault.TheVariants.{Memory, Output}
 use Rattle.rtl_machine.proofs.Refusals.{err_with}
-use Rattle.rtl_levelized.specs.Running.{Begins}
-use Rattle.rtl_levelized.proofs.Going.{header_leaves, first_leaves, begins}
-use Rattle.rtl_levelized.proofs.stepping.Stepping.begin.Goals as goal
+use Rattle.rtl_machine.specs.levels.Running.{Begins}
+use Rattle.rtl_machine.proofs.levels.Going.{header_leaves, first_leaves, begins}
+use Rattle.rtl_machine.proofs.stepping.Stepping.begin.Goals as goal
 
 pub returns-in_err-header-clause-begins : goal.returns-in_err-header-clause-begins
 returns-in_err-header-clause-begins g c run synchronous same =

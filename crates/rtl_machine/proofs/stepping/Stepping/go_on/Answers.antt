@@ -4,9 +4,9 @@ use Rattle.rtl_sink.specs.Written.{Goes}
 use Rattle.rtl_vcd.specs.Trace.{moment_text, are_some, changes}
 use Rattle.rtl_machine.specs.declared.fault.MachineFault.TheVariants.{Output}
 use Rattle.rtl_machine.proofs.Refusals.{err_with}
-use Rattle.rtl_levelized.specs.Running.{GoesOn}
-use Rattle.rtl_levelized.proofs.Going.{next_leaves, goes_further}
-use Rattle.rtl_levelized.proofs.stepping.Stepping.go_on.Goals as goal
+use Rattle.rtl_machine.specs.levels.Running.{GoesOn}
+use Rattle.rtl_machine.proofs.levels.Going.{next_leaves, goes_further}
+use Rattle.rtl_machine.proofs.stepping.Stepping.go_on.Goals as goal
 
 pub returns-in_err-is_printed-clause-goes_on : goal.returns-in_err-is_printed-clause-goes_on
 returns-in_err-is_printed-clause-goes_on g c run synchronous start intact come next =

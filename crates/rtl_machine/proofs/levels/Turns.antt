@@ -20,8 +20,8 @@ use Rattle.rtl_net.specs.Core.{core}
 use Rattle.rtl_machine.proofs.Steps.{first_inputs, leads, of_inputs, next_moment, later, within_stop, few}
 use Rattle.rtl_machine.specs.Synchronous.{IsRaceless, IsSynchronous}
 use Rattle.rtl_synchronous.specs.Laws.{EachMachineGoesOnAlike}
-use Rattle.rtl_levelized.specs.declared.progress.Progress.{Progress}
-use Rattle.rtl_levelized.specs.Running.{IsNext}
+use Rattle.rtl_machine.specs.declared.level_progress.Progress.{Progress}
+use Rattle.rtl_machine.specs.levels.Running.{IsNext}
 
 -- At this time, which comes next, these changes are taken: it is the moment behind m, the last one so far.
 pub record ComesNext (s : StimulusView) (p : Progress) (m time : ℕ) (taken : List Change) : Type 0 where

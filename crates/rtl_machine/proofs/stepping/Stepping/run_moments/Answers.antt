@@ -10,11 +10,11 @@ use Rattle.rtl_machine.proofs.Stands.{one_stand_more, until_next, until_end, one
 use Rattle.rtl_machine.specs.declared.fault.MachineFault.TheVariants.{Memory, Output}
 use Rattle.rtl_machine.proofs.Refusals.{err_with}
 use Rattle.rtl_machine.proofs.Told.{any_err}
-use Rattle.rtl_levelized.specs.Answered.{TracesLevels}
-use Rattle.rtl_levelized.proofs.Going.{come_leaves, end_leaves, is_whole, is_at_last}
-use Rattle.rtl_levelized.proofs.Stands.{stands_none, stands_more, told_nothing}
-use Rattle.rtl_levelized.proofs.Turns.{comes_next, changes_inputs, changes_race, steps_to, is_next}
-use Rattle.rtl_levelized.proofs.stepping.Stepping.run_moments.Goals as goal
+use Rattle.rtl_machine.specs.levels.Answered.{TracesLevels}
+use Rattle.rtl_machine.proofs.levels.Going.{come_leaves, end_leaves, is_whole, is_at_last}
+use Rattle.rtl_machine.proofs.levels.Stands.{stands_none, stands_more, told_nothing}
+use Rattle.rtl_machine.proofs.levels.Turns.{comes_next, changes_inputs, changes_race, steps_to, is_next}
+use Rattle.rtl_machine.proofs.stepping.Stepping.run_moments.Goals as goal
 
 pub returns-in_err-progress-clause-traces : goal.returns-in_err-progress-clause-traces
 returns-in_err-progress-clause-traces g c =

@@ -1,6 +1,6 @@
-//! The laws of what is written (`specs/Laws.antt`), each the contract of a function that does nothing.
+//! The laws of what is written (`specs/levels/Laws.antt`), each the contract of a function that does nothing.
 
-ghost use Rattle.rtl_levelized.specs.Laws.{EachTraceIsTheOne, EachRunIsWrittenAlike};
+ghost use Rattle.rtl_machine.specs.levels.Laws.{EachTraceIsTheOne, EachRunIsWrittenAlike};
 
 use rtl_model::simulation_laws;
 use rtl_net::nets_meet_the_laws;

@@ -8,11 +8,11 @@ use Rattle.rtl_stim.specs.Stimuli.{inputs_at}
 use Rattle.rtl_machine.specs.declared.fault.MachineFault.TheVariants.{Memory}
 use Rattle.rtl_machine.proofs.Refusals.{err_with}
 use Rattle.rtl_machine.proofs.Told.{any_err}
-use Rattle.rtl_levelized.specs.Answered.{TracesLevels}
-use Rattle.rtl_levelized.proofs.Stands.{told_nothing}
-use Rattle.rtl_levelized.proofs.Going.{nothing_leaves}
-use Rattle.rtl_levelized.proofs.Turns.{first_is}
-use Rattle.rtl_levelized.proofs.stepping.Stepping.trace.Goals as goal
+use Rattle.rtl_machine.specs.levels.Answered.{TracesLevels}
+use Rattle.rtl_machine.proofs.levels.Stands.{told_nothing}
+use Rattle.rtl_machine.proofs.levels.Going.{nothing_leaves}
+use Rattle.rtl_machine.proofs.levels.Turns.{first_is}
+use Rattle.rtl_machine.proofs.stepping.Stepping.trace.Goals as goal
 
 pub returns-in_err-load-clause-traces : goal.returns-in_err-load-clause-traces
 returns-in_err-load-clause-traces g c =

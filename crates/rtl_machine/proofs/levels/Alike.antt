@@ -13,9 +13,9 @@ use Rattle.rtl_machine.specs.declared.summary.Summary.{Summary}
 use Rattle.rtl_machine.specs.Traced.{machine_text, IsTrace, Traces}
 use Rattle.rtl_machine.specs.Admitted.{IsAdmitted}
 use Rattle.rtl_machine.specs.Answered.{Admits, RunsNet}
-use Rattle.rtl_levelized.specs.declared.summary.LevelSummary.{LevelSummary}
-use Rattle.rtl_levelized.specs.Answered.{RunsLevels, TracesLevels}
-use Rattle.rtl_levelized.specs.Laws.{EachTraceIsTheOne, EachRunIsWrittenAlike, AreAlike}
+use Rattle.rtl_machine.specs.declared.level_summary.LevelSummary.{LevelSummary}
+use Rattle.rtl_machine.specs.levels.Answered.{RunsLevels, TracesLevels}
+use Rattle.rtl_machine.specs.levels.Laws.{EachTraceIsTheOne, EachRunIsWrittenAlike, AreAlike}
 
 pub each_trace_is_the_one : EachNetMeetsTheLaws → OneMachineRun → EachTraceIsTheOne
 each_trace_is_the_one meets one net s is_net accepted bound other_bound text other T U =

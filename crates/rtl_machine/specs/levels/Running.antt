@@ -7,8 +7,8 @@ use Rattle.rtl_machine.specs.simulations.Simulated.{Settled}
 use Rattle.rtl_machine.specs.simulations.Traced.{text_so_far}
 use Rattle.rtl_machine.specs.simulations.Running.{last_values, last_printed_of}
 use Rattle.rtl_machine.specs.declared.fault.MachineFault.{MachineFault}
-use Rattle.rtl_levelized.specs.declared.progress.Progress.{Progress}
-use Rattle.rtl_levelized.specs.Answered.{TracesLevels}
+use Rattle.rtl_machine.specs.declared.level_progress.Progress.{Progress}
+use Rattle.rtl_machine.specs.levels.Answered.{TracesLevels}
 
 -- these are the valuations of a run
 abbrev pub AreOfRun : (run : ℕ → List ℕ) → List Settled → Type 0

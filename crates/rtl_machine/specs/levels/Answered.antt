@@ -8,7 +8,7 @@ use Rattle.rtl_machine.specs.declared.fault.MachineFault.{MachineFault}
 use Rattle.rtl_machine.specs.declared.fault.MachineFault.TheVariants.{Memory, Output}
 use Rattle.rtl_machine.specs.Traced.{IsTrace, TracesBeginning}
 use Rattle.rtl_machine.specs.Answered.{Admits, IsNetRefused}
-use Rattle.rtl_levelized.specs.declared.summary.LevelSummary.{LevelSummary}
+use Rattle.rtl_machine.specs.declared.level_summary.LevelSummary.{LevelSummary}
 
 module _ (net : NetlistView) (s : StimulusView) (bound : ℕ) where
   -- The whole trace of the machine's run went out. The summary tells how many moments there were, and the bound of the checker's

@@ -1,7 +1,7 @@
 use Rattle.std.proofs.Common.{map, ap, inl, inr, ◌∙◌}
 use Rattle.rtl_machine.proofs.Codes.{run_of, codes_run}
 use Rattle.rtl_machine.proofs.Told.{if_ok, any_err, if_err}
-use Rattle.rtl_levelized.proofs.running.run_levels_watched.Goals as goal
+use Rattle.rtl_machine.proofs.by_levels.run_levels_watched.Goals as goal
 
 pub trace-requires-clause-bodies : goal.trace-requires-clause-bodies
 trace-requires-clause-bodies g c =

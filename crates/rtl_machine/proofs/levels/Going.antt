@@ -19,10 +19,10 @@ use Rattle.rtl_machine.proofs.Moments.{one_more}
 use Rattle.rtl_machine.specs.Synchronous.{IsSynchronous}
 use Rattle.rtl_machine.specs.Traced.{machine_text, IsTrace, TracesBeginning}
 use Rattle.rtl_machine.proofs.Texts.{whole_is, beginning_is}
-use Rattle.rtl_levelized.specs.declared.progress.Progress.{Progress}
-use Rattle.rtl_levelized.specs.declared.summary.LevelSummary.{LevelSummary}
-use Rattle.rtl_levelized.specs.Answered.{TracesAllMoments}
-use Rattle.rtl_levelized.specs.Running.{AreOfRun, HasCome, IsNext}
+use Rattle.rtl_machine.specs.declared.level_progress.Progress.{Progress}
+use Rattle.rtl_machine.specs.declared.level_summary.LevelSummary.{LevelSummary}
+use Rattle.rtl_machine.specs.levels.Answered.{TracesAllMoments}
+use Rattle.rtl_machine.specs.levels.Running.{AreOfRun, HasCome, IsNext}
 
 abbrev no_moment : List Settled
 no_moment = []

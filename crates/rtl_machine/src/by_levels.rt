@@ -5,12 +5,14 @@ ghost use Rattle.rtl_stim.specs.Ports.{HasOwnPorts};
 ghost use Rattle.rtl_sink.specs.Written.{IsIntact};
 ghost use Rattle.rtl_machine.specs.Answered.{Admits};
 ghost use Rattle.rtl_machine.specs.Watched.{IsToldRun, WasToldRun};
-ghost use Rattle.rtl_levelized.specs.Answered.{RunsLevels};
+ghost use Rattle.rtl_machine.specs.levels.Answered.{RunsLevels};
 
+use crate::admission::admit;
+use crate::fault::MachineFault;
+use crate::level_summary::LevelSummary;
+use crate::running::SLOTS;
 use crate::stepping::Stepping;
-use crate::summary::LevelSummary;
 use rtl_eval_code::codes;
-use rtl_machine::{MachineFault, SLOTS, admit};
 use rtl_net::Net;
 use rtl_sink::Sink;
 use rtl_stim::Wheel;

@@ -5,8 +5,8 @@ use Rattle.rtl_stim.specs.Stimuli.{inputs_at}
 use Rattle.rtl_watch.specs.Stands.{Stand}
 use Rattle.rtl_machine.specs.Watched.{AreStandsOf}
 use Rattle.rtl_machine.specs.Synchronous.{IsSynchronous}
-use Rattle.rtl_levelized.specs.Running.{HasCome}
-use Rattle.rtl_levelized.proofs.stepping.Stepping.run_moments.Given as goal
+use Rattle.rtl_machine.specs.levels.Running.{HasCome}
+use Rattle.rtl_machine.proofs.stepping.Stepping.run_moments.Given as goal
 
 -- the moments so far went out, the watch was told of those before the last, the machine has the run's valuation at the last of them, and what comes after it waits
 abbrev pub invariant-loop-time : goal.invariant-loop-time
