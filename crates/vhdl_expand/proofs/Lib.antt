@@ -1,3 +1,9 @@
+pub mod Paying
+pub mod Sums
+pub mod Declaring
+pub mod Measured
+pub mod Made
+pub mod Room
 pub mod Counted
 pub mod Making
 pub mod Statements

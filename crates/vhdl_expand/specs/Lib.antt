@@ -1,3 +1,7 @@
+pub mod Unrolled
+pub mod Processes
+pub mod Variables
+pub mod Laws
 pub mod Limits
 pub mod Making
 pub mod Spots

@@ -1,0 +1,288 @@
+-- The parts of a process, made and paid in the order of the code, are the process and what it costs.
+use Rattle.std.proofs.Common.{◌≡◌, ℕ, ◌+◌, List, Ok, Err, refl, sym, ap, ◌∙◌, subst, arith}
+use Rattle.std.specs.Prelude.{◌≢◌, IsErr}
+use Rattle.vhdl_names_rules.specs.units.Units as u
+use Rattle.rtl_model.specs.bodies.Body as bodies
+use Rattle.vhdl_expand_rules.specs.declared.fault.ElabProblem.{ElabProblem}
+use Rattle.vhdl_expand_rules.specs.declared.fault.ElabProblem.TheVariants.{TooMany}
+use Rattle.vhdl_expand_rules.specs.Elab.{Elab, ◌>>=◌, each, MayTell}
+use Rattle.vhdl_expand_rules.specs.Site.{Site, elements_count}
+use Rattle.vhdl_expand_rules.specs.Tree as t
+use Rattle.vhdl_expand_rules.specs.Prefixes.{targets, prefixes_elements, in_order}
+use Rattle.vhdl_expand_rules.specs.Declarations.{variable}
+use Rattle.vhdl_expand_rules.specs.Statements.{statements, statements_turns}
+use Rattle.vhdl_expand_rules.specs.Expansion.{sensitivity, with_variables, process}
+use Rattle.vhdl_expand_rules.proofs.Chains.{bind-assoc}
+use Rattle.vhdl_expand_rules.proofs.Steps.{given, ok, bound}
+use Rattle.vhdl_elab_rules.specs.Limits.{Counts, statements_count}
+use Rattle.vhdl_expand_tree.specs.Costs.{a_process, plus, variables_costs, process_costs, spent, charged}
+use Rattle.vhdl_expand_tree.proofs.Alike.{Alike, wrong, same_problem, tells_first, tells_next, tells_again}
+use Rattle.vhdl_expand_tree.proofs.Charging.{left_with, spent-plus, spent_told}
+use Rattle.vhdl_expand_drivers.specs.Driven.{drives_of}
+use Rattle.vhdl_expand.specs.Unrolled.{paid, statements_costs}
+use Rattle.vhdl_expand.specs.Processes.{turns_paid, process_steps}
+use Rattle.vhdl_expand.proofs.Measured.{body_costs, statements-measured, turns_of, statements-turned}
+
+then_ok : {A B : Type 0} (r : Elab A) (f : A → Elab B) (x : A) (y : B) → r ≡ Ok x → f x ≡ Ok y → (r >>= f) ≡ Ok y
+then_ok r f x y h k = ap (λ q. q >>= f) h ∙ k
+
+-- what each part is
+record Parts (n : Counts) (at : Site) (p : u.Process) : Type 0 where
+  unstarted : Counts
+  started : spent n a_process ≡ Ok unstarted
+  vs : List t.Variable
+  declared : each (variable at) p.variables ≡ Ok vs
+  unbodied : Counts
+  held : spent unstarted (variables_costs vs) ≡ Ok unbodied
+  ds : List ℕ
+  driven : drives_of at p.body ≡ Ok ds
+  on : t.Sensitivity
+  resumed : sensitivity at p.sensitivity p.body ≡ Ok on
+  turned : ℕ × Counts
+  counted : turns_paid unbodied (statements_costs at.integers p.body) ≡ Ok turned
+  body : bodies.Stmts
+  expanded : statements (with_variables at vs) p.body ≡ Ok body
+
+abbrev made : (n : Counts) (at : Site) (prefix : List ℕ) (p : u.Process) → Parts n at p → t.Process
+made n at prefix p x = record { prefix = prefix; label = p.label; drives = x.ds; sensitivity = x.on; variables = x.vs; body = x.body; turns = x.turned.0 }
+
+none-more : (n : ℕ) → n ≡ 0 + (n + 0)
+none-more n = omega arith
+
+none-before : (n : ℕ) → n ≡ 0 + (0 + n)
+none-before n = omega arith
+
+made-costs : (q : t.Process) → process_costs q ≡ plus a_process (plus (variables_costs q.variables) (body_costs q.turns (statements_count q.body)))
+made-costs q = λ i. record {
+  processes = 1;
+  instances = 0;
+  nets = 0;
+  turns = none-before q.turns i;
+  statements = none-before (statements_count q.body) i;
+  variable_elements = none-more (variables_costs q.variables).variable_elements i;
+}
+
+-- ---- the first broken rule is the same
+
+-- behind a charge that is told as TooMany alone
+skip : {A B : Type 0} (n c : Counts) (f : Counts → Elab A) (whole : Elab B) (problem : ElabProblem) → problem ≢ TooMany → (spent n c >>= f) ≡ Err problem
+    → ((left : Counts) → f left ≡ Err problem → whole ≡ Err problem) → whole ≡ Err problem
+skip {A} {B} n c f whole problem unspent h go = by (spent n c) (spent_told n c) h
+  where
+    by : (r : Elab Counts) → ((other : ElabProblem) → r ≡ Err other → other ≡ TooMany) → (r >>= f) ≡ Err problem → whole ≡ Err problem
+    by (Ok left) only k = go left k
+    by (Err other) only k = absurd (unspent (sym (same_problem {A = A} other problem k) ∙ only other refl))
+
+along : {A B C : Type 0} (r : Elab A) (f : A → Elab B) (g : A → Elab C) (problem : ElabProblem) → (r >>= f) ≡ Err problem
+    → ((x : A) → f x ≡ Err problem → g x ≡ Err problem) → (r >>= g) ≡ Err problem
+along (Ok x) f g problem h go = go x h
+along {A} {B} {C} (Err other) f g problem h go = ap (λ q. wrong {A = C} q) (same_problem {A = B} other problem h)
+
+turns-along : {A B : Type 0} (cost : Elab Counts) (turned : Elab ℕ) → turned ≡ turns_of cost → (n : Counts) (f : ℕ × Counts → Elab A) (g : ℕ → Elab B) (problem : ElabProblem)
+    → problem ≢ TooMany → (turns_paid n cost >>= f) ≡ Err problem → ((x : ℕ × Counts) → f x ≡ Err problem → g x.0 ≡ Err problem) → (turned >>= g) ≡ Err problem
+turns-along {A} {B} cost turned same n f g problem unspent h go = ap (λ r. r >>= g) same ∙ by cost h
+  where
+    by : (q : Elab Counts) → (turns_paid n q >>= f) ≡ Err problem → (turns_of q >>= g) ≡ Err problem
+    by (Ok c) k = skip n c (λ rest. f (c.turns, rest)) (g c.turns) problem unspent (sym (bind-assoc (spent n c) (λ rest. left_with c.turns rest) f) ∙ k) (λ rest e. go (c.turns, rest) e)
+    by (Err other) k = ap (λ q. wrong {A = B} q) (same_problem {A = A} other problem k)
+
+-- what is paid for turns and statements
+record Paid (n : Counts) (c : Counts) (turned : ℕ × Counts) : Type 0 where
+  turns_are : turned.0 ≡ c.turns
+  spent_is : spent n c ≡ Ok turned.1
+
+paid-turns : (n : Counts) (q : Elab Counts) (c : Counts) (turned : ℕ × Counts) → q ≡ Ok c → turns_paid n q ≡ Ok turned → Paid n c turned
+paid-turns n q c turned h k =
+    let s = bound (spent n c) _ turned (sym (ap (turns_paid n) h) ∙ k) in
+    let here : ℕ × Counts = (c.turns, s.x) in
+    let e = ok here turned s.then_gave in
+    record { turns_are = sym (ap (λ x. x.0) e); spent_is = s.gave ∙ ap given (ap (λ x. x.1) e) }
+
+module _ (n : Counts) (at : Site) (prefix : List ℕ) (p : u.Process) where
+  steps-from : (x : Parts n at p) → process_steps n (record { site = at; prefix = prefix }) p ≡ Ok (made n at prefix p x, x.turned.1)
+  unfolding process_steps
+  steps-from x =
+      let y : t.Process × Counts = (made n at prefix p x, x.turned.1) in
+      then_ok (spent n a_process) _ x.unstarted y x.started
+      (then_ok (each (variable at) p.variables) _ x.vs y x.declared
+      (then_ok (spent x.unstarted (variables_costs x.vs)) _ x.unbodied y x.held
+      (then_ok (drives_of at p.body) _ x.ds y x.driven
+      (then_ok (sensitivity at p.sensitivity p.body) _ x.on y x.resumed
+      (then_ok (turns_paid x.unbodied (statements_costs at.integers p.body)) _ x.turned y x.counted
+      (then_ok (statements (with_variables at x.vs) p.body) _ x.body y x.expanded refl))))))
+
+  steps-of : (y : t.Process × Counts) → process_steps n (record { site = at; prefix = prefix }) p ≡ Ok y → (x : Parts n at p) × ((made n at prefix p x, x.turned.1) ≡ y)
+  unfolding process_steps
+  steps-of y h =
+      let started = bound (spent n a_process) _ y h in
+      let vs = bound (each (variable at) p.variables) _ y started.then_gave in
+      let held = bound (spent started.x (variables_costs vs.x)) _ y vs.then_gave in
+      let ds = bound (drives_of at p.body) _ y held.then_gave in
+      let on = bound (sensitivity at p.sensitivity p.body) _ y ds.then_gave in
+      let turned = bound (turns_paid held.x (statements_costs at.integers p.body)) _ y on.then_gave in
+      let body = bound (statements (with_variables at vs.x) p.body) _ y turned.then_gave in
+      let x : Parts n at p = record {
+        unstarted = started.x;
+        started = started.gave;
+        vs = vs.x;
+        declared = vs.gave;
+        unbodied = held.x;
+        held = held.gave;
+        ds = ds.x;
+        driven = ds.gave;
+        on = on.x;
+        resumed = on.gave;
+        turned = turned.x;
+        counted = turned.gave;
+        body = body.x;
+        expanded = body.gave;
+      } in
+      let z : t.Process × Counts = (made n at prefix p x, x.turned.1) in
+      (x, ok z y body.then_gave)
+
+  whole-from : (x : Parts n at p) → charged n process_costs (process (record { site = at; prefix = prefix }) p) ≡ Ok (made n at prefix p x, x.turned.1)
+  unfolding process
+  whole-from x =
+      let q = made n at prefix p x in
+      let y : t.Process × Counts = (q, x.turned.1) in
+      let m = statements-measured (with_variables at x.vs) at refl p.body x.body x.expanded in
+      let c = body_costs m.n (statements_count x.body) in
+      let paid = paid-turns x.unbodied (statements_costs at.integers p.body) c x.turned m.costs_are x.counted in
+      let es = bound (prefixes_elements at (targets p.body)) _ x.ds x.driven in
+      let drawn = ok (in_order (elements_count at.ports + elements_count at.signals) es.x) x.ds es.then_gave in
+      let is : process (record { site = at; prefix = prefix }) p ≡ Ok q =
+      then_ok (each (variable at) p.variables) _ x.vs q x.declared
+      (then_ok (prefixes_elements at (targets p.body)) _ es.x q es.gave
+      (then_ok (sensitivity at p.sensitivity p.body) _ x.on q x.resumed
+      (then_ok (statements_turns at p.body) _ m.n q m.turns_are
+      (then_ok (statements (with_variables at x.vs) p.body) _ x.body q x.expanded
+      (λ i. given (record { prefix = prefix; label = p.label; drives = drawn i; sensitivity = x.on; variables = x.vs; body = x.body; turns = sym paid.turns_are i })))))) in
+      let left : spent n (process_costs q) ≡ Ok x.turned.1 =
+      ap (spent n) (made-costs q) ∙ spent-plus a_process (plus (variables_costs x.vs) (body_costs x.turned.0 (statements_count x.body))) n
+      ∙ then_ok (spent n a_process) (λ l. spent l (plus (variables_costs x.vs) (body_costs x.turned.0 (statements_count x.body)))) x.unstarted x.turned.1 x.started
+      (spent-plus (variables_costs x.vs) (body_costs x.turned.0 (statements_count x.body)) x.unstarted
+      ∙ then_ok (spent x.unstarted (variables_costs x.vs)) (λ l. spent l (body_costs x.turned.0 (statements_count x.body))) x.unbodied x.turned.1 x.held
+      (ap (λ k. spent x.unbodied (body_costs k (statements_count x.body))) paid.turns_are ∙ paid.spent_is)) in
+      then_ok (process (record { site = at; prefix = prefix }) p) _ q y is (then_ok (spent n (process_costs q)) _ x.turned.1 y left refl)
+
+  whole-of : (y : t.Process × Counts) → charged n process_costs (process (record { site = at; prefix = prefix }) p) ≡ Ok y → Parts n at p
+  unfolding process
+  whole-of y h =
+      let q = bound (process (record { site = at; prefix = prefix }) p) _ y h in
+      let vs = bound (each (variable at) p.variables) _ q.x q.gave in
+      let es = bound (prefixes_elements at (targets p.body)) _ q.x vs.then_gave in
+      let on = bound (sensitivity at p.sensitivity p.body) _ q.x es.then_gave in
+      let k = bound (statements_turns at p.body) _ q.x on.then_gave in
+      let body = bound (statements (with_variables at vs.x) p.body) _ q.x k.then_gave in
+      let ds = in_order (elements_count at.ports + elements_count at.signals) es.x in
+      let made : t.Process = record { prefix = prefix; label = p.label; drives = ds; sensitivity = on.x; variables = vs.x; body = body.x; turns = k.x } in
+      let m = statements-measured (with_variables at vs.x) at refl p.body body.x body.gave in
+      let same = ok m.n k.x (sym m.turns_are ∙ k.gave) in
+      let s = bound (spent n (process_costs q.x)) _ y q.then_gave in
+      let rest = plus (variables_costs vs.x) (body_costs m.n (statements_count body.x)) in
+      let all : (spent n a_process >>= λ l. spent l rest) ≡ Ok s.x =
+      sym (spent-plus a_process rest n) ∙ ap (λ j. spent n (plus a_process (plus (variables_costs vs.x) (body_costs j (statements_count body.x))))) same
+      ∙ ap (spent n) (sym (made-costs made)) ∙ ap (λ z. spent n (process_costs z)) (ok made q.x body.then_gave) ∙ s.gave in
+      let started = bound (spent n a_process) (λ l. spent l rest) s.x all in
+      let held = bound (spent started.x (variables_costs vs.x)) (λ l. spent l (body_costs m.n (statements_count body.x))) s.x
+      (sym (spent-plus (variables_costs vs.x) (body_costs m.n (statements_count body.x)) started.x) ∙ started.then_gave) in
+      let turned : ℕ × Counts = (m.n, s.x) in
+      record {
+        unstarted = started.x;
+        started = started.gave;
+        vs = vs.x;
+        declared = vs.gave;
+        unbodied = held.x;
+        held = held.gave;
+        ds = ds;
+        driven = then_ok (prefixes_elements at (targets p.body)) _ es.x ds es.gave refl;
+        on = on.x;
+        resumed = on.gave;
+        turned = turned;
+        counted = then_ok (statements_costs at.integers p.body) _ (body_costs m.n (statements_count body.x)) turned m.costs_are
+            (then_ok (spent held.x (body_costs m.n (statements_count body.x))) _ s.x turned held.then_gave refl);
+        body = body.x;
+        expanded = body.gave;
+      }
+
+  steps-refused : (problem : ElabProblem) → problem ≢ TooMany → process_steps n (record { site = at; prefix = prefix }) p ≡ Err problem
+      → process (record { site = at; prefix = prefix }) p ≡ Err problem
+  unfolding process_steps process
+  steps-refused problem unspent h =
+      skip n a_process _ _ problem unspent h (λ unstarted a.
+      along (each (variable at) p.variables) _ _ problem a (λ vs b.
+      skip unstarted (variables_costs vs) _ _ problem unspent b (λ unbodied e.
+      along (prefixes_elements at (targets p.body)) _ _ problem (sym (bind-assoc (prefixes_elements at (targets p.body)) _ _) ∙ e) (λ es f.
+      along (sensitivity at p.sensitivity p.body) _ _ problem f (λ on g.
+      turns-along (statements_costs at.integers p.body) (statements_turns at p.body) (statements-turned at p.body) unbodied _ _ problem unspent g (λ turned k.
+      along (statements (with_variables at vs) p.body) _ _ problem k (λ body l. absurd cc)))))))
+
+  pub process_alike : Alike (charged n process_costs (process (record { site = at; prefix = prefix }) p)) (process_steps n (record { site = at; prefix = prefix }) p)
+  process_alike = record {
+    gives = λ y h. let x = steps-of y h in whole-from x.0 ∙ ap given x.1;
+    stops = λ problem may_tell. record {
+      refused = go (charged n process_costs (process (record { site = at; prefix = prefix }) p)) (λ y e. subst (λ r. IsErr r) (steps-from (whole-of y e)) may_tell.refused);
+      first = λ unspent. ap (λ (r : Elab t.Process). charged n process_costs r) (steps-refused problem unspent (may_tell.first unspent));
+    };
+  }
+    where
+      go : (r : Elab (t.Process × Counts)) → ((y : t.Process × Counts) → r ≡ Ok y → IsErr (given y)) → IsErr r
+      go (Ok y) k = k y refl
+      go (Err problem) k = refl
+
+-- ---- where the steps stop
+
+-- what is not paid gives no turns
+pub not_paid : {problem : ElabProblem} (n : Counts) (q : Elab Counts) → MayTell (paid n q) problem → MayTell (turns_paid n q) problem
+not_paid n (Ok c) h = tells_first (spent n c) _ h
+not_paid n (Err other) h = tells_again {A = Counts} {B = ℕ × Counts} other _ h
+
+module _ (n : Counts) (at : Site) (prefix : List ℕ) (p : u.Process) where
+  pub not_started : {problem : ElabProblem} → MayTell (spent n a_process) problem → MayTell (process_steps n (record { site = at; prefix = prefix }) p) problem
+  unfolding process_steps
+  not_started h = tells_first (spent n a_process) _ h
+
+  module _ (unstarted : Counts) (started : spent n a_process ≡ Ok unstarted) where
+    pub not_declared : {problem : ElabProblem} → MayTell (each (variable at) p.variables) problem → MayTell (process_steps n (record { site = at; prefix = prefix }) p) problem
+    unfolding process_steps
+    not_declared h = tells_next (spent n a_process) _ unstarted started (tells_first (each (variable at) p.variables) _ h)
+
+    module _ (vs : List t.Variable) (declared : each (variable at) p.variables ≡ Ok vs) where
+      pub not_held : {problem : ElabProblem} → MayTell (spent unstarted (variables_costs vs)) problem → MayTell (process_steps n (record { site = at; prefix = prefix }) p) problem
+      unfolding process_steps
+      not_held h =
+          tells_next (spent n a_process) _ unstarted started (tells_next (each (variable at) p.variables) _ vs declared
+          (tells_first (spent unstarted (variables_costs vs)) _ h))
+
+      module _ (unbodied : Counts) (held : spent unstarted (variables_costs vs) ≡ Ok unbodied) where
+        pub not_driven : {problem : ElabProblem} → MayTell (drives_of at p.body) problem → MayTell (process_steps n (record { site = at; prefix = prefix }) p) problem
+        unfolding process_steps
+        not_driven h =
+            tells_next (spent n a_process) _ unstarted started (tells_next (each (variable at) p.variables) _ vs declared
+            (tells_next (spent unstarted (variables_costs vs)) _ unbodied held (tells_first (drives_of at p.body) _ h)))
+
+        module _ (ds : List ℕ) (driven : drives_of at p.body ≡ Ok ds) where
+          pub not_resumed : {problem : ElabProblem} → MayTell (sensitivity at p.sensitivity p.body) problem → MayTell (process_steps n (record { site = at; prefix = prefix }) p) problem
+          unfolding process_steps
+          not_resumed h =
+              tells_next (spent n a_process) _ unstarted started (tells_next (each (variable at) p.variables) _ vs declared
+              (tells_next (spent unstarted (variables_costs vs)) _ unbodied held (tells_next (drives_of at p.body) _ ds driven
+              (tells_first (sensitivity at p.sensitivity p.body) _ h))))
+
+          module _ (on : t.Sensitivity) (resumed : sensitivity at p.sensitivity p.body ≡ Ok on) where
+            pub not_counted : {problem : ElabProblem} → MayTell (turns_paid unbodied (statements_costs at.integers p.body)) problem
+                → MayTell (process_steps n (record { site = at; prefix = prefix }) p) problem
+            unfolding process_steps
+            not_counted h =
+                tells_next (spent n a_process) _ unstarted started (tells_next (each (variable at) p.variables) _ vs declared
+                (tells_next (spent unstarted (variables_costs vs)) _ unbodied held (tells_next (drives_of at p.body) _ ds driven
+                (tells_next (sensitivity at p.sensitivity p.body) _ on resumed (tells_first (turns_paid unbodied (statements_costs at.integers p.body)) _ h)))))
+
+            pub not_expanded : {problem : ElabProblem} (turned : ℕ × Counts) → turns_paid unbodied (statements_costs at.integers p.body) ≡ Ok turned
+                → MayTell (statements (with_variables at vs) p.body) problem → MayTell (process_steps n (record { site = at; prefix = prefix }) p) problem
+            unfolding process_steps
+            not_expanded turned counted h =
+                tells_next (spent n a_process) _ unstarted started (tells_next (each (variable at) p.variables) _ vs declared
+                (tells_next (spent unstarted (variables_costs vs)) _ unbodied held (tells_next (drives_of at p.body) _ ds driven
+                (tells_next (sensitivity at p.sensitivity p.body) _ on resumed
+                (tells_next (turns_paid unbodied (statements_costs at.integers p.body)) _ turned counted (tells_first (statements (with_variables at vs) p.body) _ h))))))

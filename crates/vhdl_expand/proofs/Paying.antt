@@ -1,0 +1,86 @@
+-- Costs that are paid one after another, and those of lists and of turns.
+use Rattle.std.proofs.Common.{◌≡◌, ℕ, zero, suc, ◌+◌, ◌<◌, ◌≤◌, List, [], ◌∷◌, length, map, get_or, drop, drop-cons, add-one, Result, Ok, Err, refl, sym, ap, ◌∙◌, subst, arith}
+use Rattle.std.specs.Prelude.{ℤ}
+use Rattle.vhdl_tree.specs.declared.operator.Direction.{Direction}
+use Rattle.vhdl_expand_rules.specs.declared.fault.ElabFault.{ElabFault}
+use Rattle.vhdl_expand_rules.specs.Elab.{Elab, ◌>>=◌, MayTell}
+use Rattle.vhdl_expand_rules.specs.Integers.{numbers_from, next}
+use Rattle.vhdl_expand_rules.specs.Parameters.{parameter}
+use Rattle.vhdl_expand_rules.proofs.Parameters.{next-turn, no-turn}
+use Rattle.vhdl_expand_bodies.specs.Results.{Expands, Charges}
+use Rattle.vhdl_elab_rules.specs.Limits.{Counts}
+use Rattle.vhdl_expand_tree.specs.Costs.{spent}
+use Rattle.vhdl_expand_tree.proofs.Alike.{Alike, wrong, alike_same, alike_trans, both_refused, tells_first}
+use Rattle.vhdl_expand_tree.proofs.Charging.{spent-plus, spent-none, spent_told}
+use Rattle.vhdl_expand_rules.specs.declared.fault.ElabProblem.{ElabProblem}
+use Rattle.vhdl_expand_rules.specs.declared.fault.ElabProblem.TheVariants.{TooMany}
+use Rattle.vhdl_expand.specs.Unrolled.{both, together, paid}
+
+pub charges_alike : {X Y : Type 0} (view : X → Y) (p q : Elab Y) (r : Result X ElabFault) → Alike p q → Charges view q r → Charges view p r
+charges_alike view p q (Ok x) a h = a.gives (view x) h
+charges_alike view p q (Err fault) a h = λ n. a.stops _ (h n)
+
+pub expands_same : {X Y : Type 0} (view : X → Y) (p q : Elab Y) (r : Result X ElabFault) → p ≡ q → Expands view q r → Expands view p r
+expands_same {X} {Y} view p q r e h = subst (λ (a : Elab Y). Expands view a r) (sym e) h
+
+-- ---- one after another
+
+pub paid_in_turn : (n : Counts) (p q : Elab Counts) → Alike (paid n (both p q)) (paid n p >>= λ m. paid m q)
+paid_in_turn n (Err problem) q = alike_same refl
+paid_in_turn n (Ok a) (Ok b) = alike_same (spent-plus a b n)
+paid_in_turn n (Ok a) (Err problem) = go (spent n a) (spent_told n a)
+  where
+    go : (r : Elab Counts) → ((other : ElabProblem) → r ≡ Err other → other ≡ TooMany) → Alike {A = Counts} (wrong problem) (r >>= λ m. wrong problem)
+    go (Ok m) only = alike_same refl
+    go (Err other) only = both_refused (only other refl) refl
+
+pub paid_go : (total : Elab Counts) (n m : Counts) (p q : Elab Counts) → Alike total (paid n (both p q)) → paid n p ≡ Ok m → Alike total (paid m q)
+paid_go total n m p q so_far h = alike_trans so_far (alike_trans (paid_in_turn n p q) (alike_same (ap (λ r. r >>= λ k. paid k q) h)))
+
+pub paid_stop : {problem : ElabProblem} → (total : Elab Counts) (n : Counts) (p q : Elab Counts) → Alike total (paid n (both p q)) → MayTell (paid n p) problem → MayTell total problem
+paid_stop total n p q so_far h = (alike_trans so_far (paid_in_turn n p q)).stops _ (tells_first (paid n p) _ h)
+
+-- ---- of lists
+
+next-left : {X : Type 0} (xs : List X) (i : ℕ) (x : X) → i < length xs → x ≡ get_or xs i x → drop i xs ≡ x ∷ drop (i + 1) xs
+next-left xs i x h e = drop-cons xs i x h ∙ ap (λ y. y ∷ drop (suc i) xs) (sym e) ∙ ap (λ j. x ∷ drop j xs) (sym (add-one i))
+
+module _ {A X : Type 0} (f : A → Elab Counts) (v : X → A) where
+  pub list_go : (total : Elab Counts) (n m : Counts) (xs : List X) (i : ℕ) (x : X) → i < length xs → x ≡ get_or xs i x
+      → Alike total (paid n (together f (map v (drop i xs)))) → paid n (f (v x)) ≡ Ok m → Alike total (paid m (together f (map v (drop (i + 1) xs))))
+  list_go total n m xs i x below is so_far h =
+      paid_go total n m (f (v x)) (together f (map v (drop (i + 1) xs)))
+      (alike_trans so_far (alike_same (ap (λ ys. paid n (together f (map v ys))) (next-left xs i x below is)))) h
+
+  pub list_stop : {problem : ElabProblem} → (total : Elab Counts) (n : Counts) (xs : List X) (i : ℕ) (x : X) → i < length xs → x ≡ get_or xs i x
+      → Alike total (paid n (together f (map v (drop i xs)))) → MayTell (paid n (f (v x))) problem → MayTell total problem
+  list_stop total n xs i x below is so_far h =
+      paid_stop total n (f (v x)) (together f (map v (drop (i + 1) xs)))
+      (alike_trans so_far (alike_same (ap (λ ys. paid n (together f (map v ys))) (next-left xs i x below is)))) h
+
+  pub list_end : (total : Elab Counts) (n : Counts) (xs : List X) → xs ≡ [] → Alike total (paid n (together f (map v xs))) → total ≡ Ok n
+  list_end total n xs h so_far = so_far.gives n (ap (λ ys. paid n (together f (map v ys))) h ∙ spent-none n)
+
+pub none_left : {X : Type 0} (xs : List X) (i : ℕ) → length xs ≤ i → drop i xs ≡ []
+none_left [] zero h = refl
+none_left [] (suc i) h = refl
+none_left (x ∷ xs) zero h = absurd (omega arith)
+none_left (x ∷ xs) (suc i) h = none_left xs i (omega arith)
+
+-- ---- of turns
+
+module _ (f : ℤ → Elab Counts) (direction : Direction) (x : ℤ) (count : ℕ) where
+  pub turns_go : (total : Elab Counts) (n m : Counts) (k : ℕ) (i : ℤ) → k < count → i ≡ parameter direction x k
+      → Alike total (paid n (together f (drop k (numbers_from direction x count)))) → paid n (f i) ≡ Ok m → Alike total (paid m (together f (drop (k + 1) (numbers_from direction x count))))
+  turns_go total n m k i below is so_far h =
+      paid_go total n m (f i) (together f (drop (k + 1) (numbers_from direction x count)))
+      (alike_trans so_far (alike_same (ap (λ js. paid n (together f js)) (next-turn direction x count k below ∙ ap (λ j. j ∷ drop (k + 1) (numbers_from direction x count)) (sym is))))) h
+
+  pub turns_stop : {problem : ElabProblem} → (total : Elab Counts) (n : Counts) (k : ℕ) (i : ℤ) → k < count → i ≡ parameter direction x k
+      → Alike total (paid n (together f (drop k (numbers_from direction x count)))) → MayTell (paid n (f i)) problem → MayTell total problem
+  turns_stop total n k i below is so_far h =
+      paid_stop total n (f i) (together f (drop (k + 1) (numbers_from direction x count)))
+      (alike_trans so_far (alike_same (ap (λ js. paid n (together f js)) (next-turn direction x count k below ∙ ap (λ j. j ∷ drop (k + 1) (numbers_from direction x count)) (sym is))))) h
+
+  pub turns_end : (total : Elab Counts) (n : Counts) (k : ℕ) → count ≤ k → Alike total (paid n (together f (drop k (numbers_from direction x count)))) → total ≡ Ok n
+  turns_end total n k h so_far = so_far.gives n (ap (λ js. paid n (together f js)) (no-turn direction x count k h) ∙ spent-none n)

@@ -1,0 +1,36 @@
+-- A process of the tree by its parts, in the order in which they are made and paid.
+use Rattle.std.specs.Prelude.{ℕ, List, option_map, Ok}
+use Rattle.vhdl_names_rules.specs.units.Units as u
+use Rattle.vhdl_names_units.specs.declared.declaration.Objects.{Objects}
+use Rattle.vhdl_names_units.specs.views.Answers.{form_view, fixed_view}
+use Rattle.vhdl_expand_rules.specs.Elab.{Elab, ◌>>=◌, each}
+use Rattle.vhdl_expand_rules.specs.Tree as t
+use Rattle.vhdl_expand_rules.specs.Declarations.{variable}
+use Rattle.vhdl_expand_rules.specs.Statements.{statements}
+use Rattle.vhdl_expand_rules.specs.Expansion.{Spot, sensitivity, with_variables}
+use Rattle.vhdl_elab_rules.specs.Limits.{Counts}
+use Rattle.vhdl_expand_tree.specs.Costs.{a_process, variables_costs, spent}
+use Rattle.vhdl_expand_drivers.specs.Driven.{drives_of}
+use Rattle.vhdl_expand.specs.Unrolled.{statements_costs}
+
+-- the object of this name among those of a declaration
+abbrev pub named_object : Objects → List ℕ → u.Object
+named_object o name = record { name = name; form = form_view o.form; is_resolved = o.is_resolved; default = option_map fixed_view o.default }
+
+-- how many turns these costs have, and what is left of a budget when they are paid
+abbrev pub turns_paid : (budget : Counts) → Elab Counts → Elab (ℕ × Counts)
+turns_paid budget given = do
+  c ← given
+  rest ← spent budget c
+  Ok (c.turns, rest)
+
+unfoldable pub process_steps : (budget : Counts) → Spot → u.Process → Elab (t.Process × Counts)
+process_steps budget at p = do
+  unstarted ← spent budget a_process
+  vs ← each (variable at.site) p.variables
+  unbodied ← spent unstarted (variables_costs vs)
+  ds ← drives_of at.site p.body
+  on ← sensitivity at.site p.sensitivity p.body
+  turned ← turns_paid unbodied (statements_costs at.site.integers p.body)
+  body ← statements (with_variables at.site vs) p.body
+  Ok (record { prefix = at.prefix; label = p.label; drives = ds; sensitivity = on; variables = vs; body = body; turns = turned.0 }, turned.1)

@@ -1,4 +1,0 @@
-pub mod Unrolled
-pub mod Processes
-pub mod Variables
-pub mod Laws
