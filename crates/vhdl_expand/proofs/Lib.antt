@@ -1,3 +1,12 @@
+pub mod Walks
+pub mod Names
+pub mod Given
+pub mod Stepping
+pub mod Growing
+pub mod ObjectSteps
+pub mod ConstantSteps
+pub mod Associating
+pub mod OwnNets
 pub mod Paying
 pub mod Sums
 pub mod Declaring

@@ -28,7 +28,7 @@ use Rattle.vhdl_expand_tree.proofs.Charging.{left_with, charged_made, spent_told
 use Rattle.vhdl_expand.specs.Limits.{within_limits}
 use Rattle.vhdl_expand.specs.Making as made
 use Rattle.vhdl_expand.specs.Making.{Made, Progress, and_then, made_costs, made_process, made_instance, adding, together, nothing_yet}
-use Rattle.vhdl_expand_objects.specs.Associations.{associated}
+use Rattle.vhdl_expand.specs.Associations.{associated}
 use Rattle.vhdl_expand.proofs.Making.{progress, one_added, charged_first, first_added}
 
 -- ---- what an instance costs

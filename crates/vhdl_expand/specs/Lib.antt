@@ -1,3 +1,9 @@
+pub mod Stepwise
+pub mod Generics
+pub mod Views
+pub mod Objects
+pub mod Constants
+pub mod Associations
 pub mod Unrolled
 pub mod Processes
 pub mod Variables

@@ -13,11 +13,12 @@ ghost use Rattle.vhdl_expand_rules.specs.Site.{no_integers};
 ghost use Rattle.vhdl_expand_bodies.specs.Results.{Expands, Charges};
 ghost use Rattle.vhdl_expand_tree.specs.Views.{design_view};
 ghost use Rattle.vhdl_expand.specs.Limits.{within_limits};
-ghost use Rattle.vhdl_expand_objects.specs.Views.{declared_view};
+ghost use Rattle.vhdl_expand.specs.Views.{declared_view};
 
+use crate::declarative::interface;
+use crate::declared::InstanceObjects;
 use crate::walk::Walk;
 use std::alloc::{AllocError, Global};
-use vhdl_expand_objects::{InstanceObjects, interface};
 use vhdl_expand_rules::{ElabFault, ElabProblem, Integers};
 use vhdl_expand_tree::{Budget, Design};
 use vhdl_names_units::{Entity, Units};

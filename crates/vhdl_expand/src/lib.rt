@@ -3,20 +3,36 @@
 //!
 //! Processes of the tree: what a body would cost unrolled, counted before it is, and a process with its variables, its drivers,
 //! what resumes it and its body (IEEE 1076-2008, 10.10, 11.3).
+//!
+//! What an instance declares: the values of its generics and constants, its ports and signals with what they start with, and
+//! what its ports are associated with (IEEE 1076-2008, 6.4.2, 6.5.6, 6.5.7, 14.2 to 14.4).
 #![tactic(auto)]
 
+mod actuals;
 mod costs;
+mod declarative;
+mod declared;
 mod expansion;
+mod generics;
+mod known;
 mod laws;
+mod nets;
+mod objects;
 mod prefix;
 mod processes;
 mod progress;
+mod shape;
 mod spot;
+mod values;
 mod variables;
 mod walk;
 
+pub use actuals::associations;
 pub use costs::charge_body;
+pub use declarative::{declarations, interface};
+pub use declared::InstanceObjects;
 pub use expansion::expand;
 pub use laws::bodies_are_counted_as_unrolled;
+pub use nets::charge_own_nets;
 pub use processes::process;
 pub use vhdl_expand_rules::{ElabFault, ElabProblem};

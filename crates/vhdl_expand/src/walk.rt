@@ -14,17 +14,18 @@ ghost use Rattle.vhdl_expand_tree.specs.Views.{instance_view, budget_view};
 ghost use Rattle.vhdl_expand.specs.Making as made;
 ghost use Rattle.vhdl_expand.specs.Making.{TurnsFit, adding, nothing_yet, progress_view};
 ghost use Rattle.vhdl_expand.specs.Spots.{spot_view};
-ghost use Rattle.vhdl_expand_objects.specs.Views.{declared_view};
+ghost use Rattle.vhdl_expand.specs.Views.{declared_view};
 ghost use Rattle.vhdl_expand.specs.Walks.{units_of, IsAmong};
 
+use crate::actuals::associations;
+use crate::declarative::{declarations, interface};
+use crate::declared::InstanceObjects;
+use crate::nets::charge_own_nets;
 use crate::prefix::{branch_prefix, labelled, turn_prefix};
 use crate::processes::process;
 use crate::progress::TreeProgress;
 use crate::spot::Spot;
 use std::alloc::Global;
-use vhdl_expand_objects::{
-    InstanceObjects, associations, charge_own_nets, declarations, interface,
-};
 use vhdl_expand_rules::{ElabFault, ElabProblem};
 use vhdl_expand_tree::{Budget, Instance, InstancePart};
 use vhdl_names_rules::{StaticRange, StaticTest};

@@ -17,8 +17,8 @@ use Rattle.vhdl_elab_rules.specs.Numbering.{own_sizes}
 use Rattle.vhdl_expand_tree.specs.Costs.{charged, spent, nets, instance_costs}
 use Rattle.vhdl_expand_tree.specs.Views.{budget_view, object_view, parts_of}
 use Rattle.vhdl_expand_bodies.proofs.Places.{there}
-use Rattle.vhdl_expand_objects.specs.Associations.{associated}
-use Rattle.vhdl_expand_objects.specs.Views.{declared_view}
+use Rattle.vhdl_expand.specs.Associations.{associated}
+use Rattle.vhdl_expand.specs.Views.{declared_view}
 use Rattle.vhdl_expand.proofs.Nested.{outermost, too_deep, no_architecture, no_instance_left, no_declarations, no_nets_left, not_inside, instance_made, not_expanded, no_unit, no_interface, no_associations, instance_here, instance_refused, instance_behind, expanded_here}
 use Rattle.vhdl_names_rules.specs.views.Integers.{range_view, static_view}
 use Rattle.vhdl_names_rules.specs.views.Tests.{static_test_view}

@@ -1,0 +1,64 @@
+use Rattle.std.proofs.Common.{Err, ◌≡◌, ℕ, ◌<◌, List, length, map, Some, None, option_map, rules, arith, sym, ap, ◌∙◌, subst}
+use Rattle.std.specs.Prelude.{◌≢◌, slice_get}
+use Rattle.std.proofs.lemmas.Grind.{common_steps}
+use Rattle.vhdl_tree.specs.declared.expression.Identifier.{Identifier}
+use Rattle.vhdl_expand_tree.specs.Views.{object_view, role_view}
+use Rattle.vhdl_names_units.specs.views.Answers.{fixed_view, form_view}
+use Rattle.vhdl_names_units.specs.views.Declarations as units
+use Rattle.vhdl_expand_rules.specs.declared.fault.ElabFault.TheVariants.{NoMemory}
+use Rattle.vhdl_expand_rules.specs.Kinds.{ObjectKind}
+use Rattle.vhdl_expand_rules.specs.views.Kinds.{kind_view}
+use Rattle.vhdl_expand.specs.Objects.{named_object, next_object}
+use Rattle.vhdl_expand.specs.Views.{declared_view}
+use Rattle.vhdl_expand.specs.Stepwise.{stepwise}
+use Rattle.vhdl_expand.proofs.Names.{named, no_names}
+use Rattle.vhdl_expand.proofs.ObjectSteps.{object_given, shape_stays, first_refused}
+use Rattle.vhdl_expand.proofs.Walks.{one_goes, one_ends}
+use Rattle.vhdl_expand_rules.specs.Elab.{problem_told}
+use Rattle.vhdl_expand.proofs.objects.add_objects.Goals as goal
+
+pub returns-in_default : goal.returns-in_default
+returns-in_default c =
+    let objects = c.args.objects.now in
+    let none : slice_get c.as_slice-names.result.now 0 ≡ None = first_of (search rules, cc (c.in_default.is), grind (arith, common_steps)) in
+    ap (stepwise (next_object (role_view c.args.role)) (declared_view c.args.declared.now))
+    (named (named_object objects) objects.names.items ∙ ap (map (λ (n : Identifier). named_object objects n.text.items)) (sym c.as_slice-names.ensures.value ∙ no_names c.as_slice-names.result.now none))
+
+pub returns-in_err-shape : goal.returns-in_err-shape
+returns-in_err-shape c =
+    let objects = c.args.objects.now in
+    let v = λ (n : Identifier). named_object objects n.text.items in
+    let there : slice_get c.as_slice-names.result.now 0 ≡ Some c.in-Some.first.now = sym c.in-Some.ensures.value in
+    let walk = named (named_object objects) objects.names.items ∙ ap (map v) (sym c.as_slice-names.ensures.value) in
+    let stopped : c.in_err-shape.field-0.0 ≢ NoMemory → (stepwise (next_object (role_view c.args.role)) (declared_view c.args.declared.now) (units.object_view objects)) ≡ Err (problem_told c.in_err-shape.field-0.0) =
+    λ n. subst (λ (os : _). (stepwise (next_object (role_view c.args.role)) (declared_view c.args.declared.now) os) ≡ Err (problem_told c.in_err-shape.field-0.0)) (sym walk)
+    (first_refused (role_view c.args.role) (declared_view c.args.declared.now) v c.as_slice-names.result.now c.in-Some.first.now there (c.in_err-shape.ensures n)) in
+    first_of (search rules, grind (arith, common_steps))
+
+pub loop-name-init : goal.loop-name-init
+loop-name-init c =
+    let objects = c.args.objects.now in
+    record {
+      rest = ap (stepwise (next_object (role_view c.args.role)) (declared_view c.args.declared.now))
+          (named (named_object objects) objects.names.items ∙ ap (map (λ (n : Identifier). named_object objects n.text.items)) (sym c.as_slice-names.ensures.value));
+      there = c.in_ok-shape.ensures;
+    }
+
+pub loop-name-preserved : goal.loop-name-preserved
+loop-name-preserved c =
+    let objects = c.args.objects.now in
+    let role = role_view c.args.role in
+    let v = λ (n : Identifier). named_object objects n.text.items in
+    let d = declared_view c.loop-name.declared in
+    let shape : ObjectKind × List ℕ = (kind_view c.in_ok-shape.shape.kind, c.in_ok-shape.shape.starts.items) in
+    let below : c.loop-name.name-index < length c.as_slice-names.result.now = first_of (search rules, omega arith) in
+    record {
+      rest = one_goes (next_object role) v _ d _ c.as_slice-names.result.now c.loop-name.name-index c.name-item.result below c.name-item.is c.loop-name.invariant.rest
+          (object_given d role (v c.name-item.result) shape (object_view c.in_ok-object.object) _ c.loop-name.invariant.there c.in_ok-object.ensures.given c.in_ok-add_object.ensures);
+      there = shape_stays d _ (object_view c.in_ok-object.object) (form_view objects.form) (option_map fixed_view objects.default) c.in_ok-add_object.ensures ∙ c.loop-name.invariant.there;
+    }
+
+pub returns : goal.returns
+returns c =
+    let objects = c.args.objects.now in
+    one_ends (next_object (role_view c.args.role)) (λ (n : Identifier). named_object objects n.text.items) _ (declared_view c.loop-name.declared) c.as_slice-names.result.now c.loop-name.name-index (omega arith) c.loop-name.invariant.rest

@@ -1,0 +1,39 @@
+use Rattle.std.proofs.Common.{◌≡◌, Err, ◌<◌, length, rules, arith, sym, ap, ◌∙◌, subst}
+use Rattle.std.specs.Prelude.{◌≢◌, flat_map}
+use Rattle.std.proofs.lemmas.Grind.{common_steps}
+use Rattle.vhdl_names_units.specs.views.Declarations as units
+use Rattle.vhdl_expand_rules.specs.Declarations as definition
+use Rattle.vhdl_expand_rules.specs.declared.fault.ElabFault.TheVariants.{NoMemory}
+use Rattle.vhdl_expand.specs.Objects.{next_object}
+use Rattle.vhdl_expand.specs.Views.{declared_view}
+use Rattle.vhdl_expand.specs.Stepwise.{stepwise}
+use Rattle.vhdl_expand.proofs.ObjectSteps.{next_port, ports_walk, port_objects}
+use Rattle.vhdl_expand.proofs.Walks.{all_go, all_stop, all_end}
+use Rattle.vhdl_expand_rules.specs.Elab.{problem_told}
+use Rattle.vhdl_expand.proofs.objects.add_ports.Goals as goal
+
+pub loop-declaration-preserved : goal.loop-declaration-preserved
+loop-declaration-preserved c =
+    let d = declared_view c.loop-declaration.declared in
+    let item = c.declaration-item.result in
+    let below : c.loop-declaration.declaration-index < length c.args.declarations.now = first_of (search rules, omega arith) in
+    let same = port_objects item.mode d (units.object_view item.objects) ∙ ap (λ r. stepwise (next_object r) d (units.object_view item.objects)) (sym c.role_of.ensures) in
+    all_go next_port units.ports_view _ d _ c.args.declarations.now c.loop-declaration.declaration-index item below c.declaration-item.is c.loop-declaration.invariant
+    (same ∙ c.in_ok-add_objects.ensures)
+
+pub returns : goal.returns
+returns c =
+    ports_walk (declared_view c.args.declared.now) _
+    ∙ all_end next_port units.ports_view _ (declared_view c.loop-declaration.declared) c.args.declarations.now c.loop-declaration.declaration-index (omega arith) c.loop-declaration.invariant
+
+pub returns-in_err-add_objects : goal.returns-in_err-add_objects
+returns-in_err-add_objects c =
+    let d = declared_view c.loop-declaration.declared in
+    let item = c.declaration-item.result in
+    let below : c.loop-declaration.declaration-index < length c.args.declarations.now = first_of (search rules, omega arith) in
+    let same = port_objects item.mode d (units.object_view item.objects) ∙ ap (λ r. stepwise (next_object r) d (units.object_view item.objects)) (sym c.role_of.ensures) in
+    let stopped : c.in_err-add_objects.field-0.0 ≢ NoMemory → (definition.ports (declared_view c.args.declared.now) (flat_map units.ports_view c.args.declarations.now)) ≡ Err (problem_told c.in_err-add_objects.field-0.0) =
+    λ n. subst (λ r. r ≡ Err (problem_told c.in_err-add_objects.field-0.0)) (sym (ports_walk (declared_view c.args.declared.now) (flat_map units.ports_view c.args.declarations.now)))
+    (all_stop next_port units.ports_view _ d c.args.declarations.now c.loop-declaration.declaration-index item below c.declaration-item.is c.loop-declaration.invariant
+    (subst (λ r. r ≡ Err (problem_told c.in_err-add_objects.field-0.0)) (sym same) (c.in_err-add_objects.ensures n))) in
+    first_of (search rules, grind (arith, common_steps))

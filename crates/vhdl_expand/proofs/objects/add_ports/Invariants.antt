@@ -1,0 +1,13 @@
+use Rattle.std.proofs.Common.{◌≡◌, drop}
+use Rattle.std.specs.Prelude.{flat_map}
+use Rattle.vhdl_names_units.specs.views.Declarations as units
+use Rattle.vhdl_expand.specs.Views.{declared_view}
+use Rattle.vhdl_expand.specs.Stepwise.{stepwise}
+use Rattle.vhdl_expand.proofs.ObjectSteps.{next_port}
+use Rattle.vhdl_expand.proofs.objects.add_ports.Given as goal
+
+-- the ports so far, and those of the declarations that are left
+abbrev pub invariant-loop-declaration : goal.invariant-loop-declaration
+invariant-loop-declaration l =
+    stepwise next_port (declared_view l.fn.declared) (flat_map units.ports_view l.declarations)
+    ≡ stepwise next_port (declared_view l.declared) (flat_map units.ports_view (drop l.declaration-index l.declarations))

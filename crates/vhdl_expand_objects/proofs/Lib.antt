@@ -1,9 +1,0 @@
-pub mod Walks
-pub mod Names
-pub mod Given
-pub mod Stepping
-pub mod Growing
-pub mod ObjectSteps
-pub mod ConstantSteps
-pub mod Associating
-pub mod OwnNets
