@@ -1,3 +1,9 @@
+pub mod Runs
+mod Lists
+mod Searched
+mod Parts
+mod Driven
+pub mod Reading
 mod Marking
 mod Waking
 mod Taking

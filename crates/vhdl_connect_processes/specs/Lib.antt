@@ -1,3 +1,5 @@
+pub mod Connected
+pub mod BodyLaws
 pub mod Uses
 pub mod Woken
 pub mod Located

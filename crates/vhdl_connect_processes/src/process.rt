@@ -5,17 +5,17 @@ ghost use Rattle.rtl_net.specs.Bodies.{statements_of};
 ghost use Rattle.rtl_net.specs.Nets.{driver_view};
 ghost use Rattle.rtl_net.specs.Names.{generates_prefix};
 ghost use Rattle.vhdl_expand_rules.specs.laws.Trees.{Assigns};
-ghost use Rattle.vhdl_connect_bodies.specs.Connected.{IsRising};
+ghost use Rattle.vhdl_connect_processes.specs.Connected.{IsRising};
 ghost use Rattle.vhdl_expand_tree.specs.Views.{variable_view, process_view};
 ghost use Rattle.vhdl_connect_processes.specs.Located.{driver_in, net_variable, of_variable, IsDotted, IsOf};
 
+use crate::connection::Connection;
 use crate::kind::signal_kind;
 use crate::woken::wakes;
 use rtl_net::{Driver, Process, Variable};
 use smallvec::SmallVec;
 use std::alloc::{AllocError, Global};
 use std::mem;
-use vhdl_connect_bodies::Connection;
 use vhdl_expand_drivers::read_of;
 
 /// Where a process stands: the number of its scope, and of its instance's elements the nets and what they start with.

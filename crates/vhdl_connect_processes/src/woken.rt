@@ -8,10 +8,10 @@ ghost use Rattle.vhdl_elab_rules.specs.Wiring.{sensitive_to};
 ghost use Rattle.vhdl_expand_tree.specs.Views.{sensitivity_view};
 ghost use Rattle.vhdl_connect_processes.specs.Woken.{IsInOrder};
 
+use crate::connection::Connection;
 use rtl_net_facts::sort_once;
 use smallvec::SmallVec;
 use std::alloc::{AllocError, Global};
-use vhdl_connect_bodies::Connection;
 use vhdl_expand_tree::Sensitivity;
 
 /// The nets of elements. It takes the memory of the list.

@@ -6,7 +6,7 @@ use Rattle.rtl_net.specs.Bodies.{statements_of}
 use Rattle.rtl_net.specs.declared.body.Statement.{Statement}
 use Rattle.vhdl_expand_rules.specs.laws.Trees.{Assigns}
 use Rattle.vhdl_elab_rules.specs.Bodies.{connected_body}
-use Rattle.vhdl_connect_bodies.proofs.Reading.{reads_connected}
+use Rattle.vhdl_connect_processes.proofs.Reading.{reads_connected}
 use Rattle.vhdl_expand_tree.specs.Views.{process_view, variable_view}
 use Rattle.vhdl_connect_processes.specs.Located.{driver_in, of_variable}
 use Rattle.vhdl_connect_processes.proofs.process.Round.process.Goals as goal

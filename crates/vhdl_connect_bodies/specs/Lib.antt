@@ -1,2 +1,0 @@
-pub mod Connected
-pub mod Laws

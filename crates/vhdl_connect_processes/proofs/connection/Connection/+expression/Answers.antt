@@ -1,0 +1,10 @@
+use Rattle.std.proofs.Common.{ap, ◌∙◌}
+use Rattle.vhdl_connect_processes.proofs.Parts.{chain_becomes}
+use Rattle.vhdl_connect_processes.proofs.connection.Connection.+expression.Goals as goal
+
+pub connect_expr-returns-in_ok-connect_expr-in-Chain : goal.connect_expr-returns-in_ok-connect_expr-in-Chain
+connect_expr-returns-in_ok-connect_expr-in-Chain t c =
+    chain_becomes c.args.self.now c.connect_links.result c.args.expr.now c.in-Chain.first (record c.in-Chain.first { value = c.connect_expr-in-Chain.new.expr }) c.in-Chain.rest _ _ _ _
+    c.in-Chain.is (c.deref_mut-in-Chain.ensures.value ∙ ap (λ b. b.value) c.in-Chain.first-is) (c.deref_mut-in-Chain-2.ensures.value ∙ ap (λ v. v.items) c.in-Chain.rest-is)
+    c.in_ok-connect_expr-in-Chain.ensures
+    (c.connect_links.auto.links ∙ c.deref_mut-in-Chain-2.ensures.len) c.connect_links.ensures
