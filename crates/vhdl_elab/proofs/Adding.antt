@@ -8,7 +8,7 @@ use Rattle.rtl_net.specs.Nets.{signal_view, type_of}
 use Rattle.vhdl_expand_rules.specs.Kinds.{size}
 use Rattle.vhdl_expand_rules.specs.Tree as tree
 use Rattle.vhdl_elab_rules.specs.Names.{signals_from}
-use Rattle.vhdl_elab_laws.specs.Shown.{signal_shown}
+use Rattle.vhdl_elab_rules.specs.Shown.{signal_shown}
 use Rattle.vhdl_elab.specs.declared.made.Made.{Made}
 use Rattle.vhdl_elab.specs.declared.place.InstancePlace.{InstancePlace}
 use Rattle.vhdl_elab.specs.Made.{element_view}

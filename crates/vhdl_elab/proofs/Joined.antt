@@ -19,9 +19,9 @@ use Rattle.vhdl_elab_rules.specs.Elaboration.{Elaborated, net_of, netlist_of, el
 use Rattle.vhdl_expand_tree.specs.Costs.{instance_costs}
 use Rattle.vhdl_expand_tree.proofs.Alike.{wrong, same_problem, tells_same, tells_first, tells_again}
 use Rattle.vhdl_expand_tree.proofs.Counts.{each-design-costs-its-parts}
-use Rattle.vhdl_elab_laws.specs.Refused.{HasInterface, MayRefuse}
-use Rattle.vhdl_elab_laws.specs.Shown.{Shown, shown, as_shown, net_shown}
-use Rattle.vhdl_elab_laws.proofs.Nets.{each-elaborated-is-net}
+use Rattle.vhdl_elab_rules.specs.Refused.{HasInterface, MayRefuse}
+use Rattle.vhdl_elab_rules.specs.Shown.{Shown, shown, as_shown, net_shown}
+use Rattle.vhdl_elab_rules.proofs.Nets.{each-elaborated-is-net}
 use Rattle.vhdl_expand.specs.Limits.{within_limits}
 
 -- what was expanded within the limits was expanded

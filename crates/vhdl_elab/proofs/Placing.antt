@@ -11,7 +11,7 @@ use Rattle.vhdl_elab_rules.specs.Names.{scope_of, signals_of, signals_from}
 use Rattle.vhdl_elab_rules.specs.Numbering.{Placed, Numbered, own_size, own_sizes, with_placed}
 use Rattle.vhdl_elab_rules.specs.Wiring.{Element, element_of, elements_from, elements_of, own_elements, is_top}
 use Rattle.vhdl_elab_rules.specs.laws.Scopes.{scope_views}
-use Rattle.vhdl_elab_laws.specs.Shown.{signal_shown}
+use Rattle.vhdl_elab_rules.specs.Shown.{signal_shown}
 use Rattle.vhdl_connect_processes.specs.declared.uses.Use.{Use}
 use Rattle.vhdl_connect_processes.specs.Uses as uses
 use Rattle.vhdl_elab.specs.declared.made.Made.{Made}

@@ -3,7 +3,7 @@ use Rattle.std.proofs.Common.{List}
 use Rattle.vhdl_expand_rules.specs.Tree.{Object, Instance, instance, Parts, no_parts, process, inner}
 use Rattle.vhdl_expand_rules.specs.Expansion.{Design}
 use Rattle.vhdl_expand_rules.specs.laws.Trees.{DesignIsSound, InstanceIsSound, PartsAreSound}
-use Rattle.vhdl_elab_laws.specs.Prefixes.{InstanceIsDotted, PartsAreDotted}
+use Rattle.vhdl_elab_rules.specs.Prefixes.{InstanceIsDotted, PartsAreDotted}
 use Rattle.vhdl_expand_drivers.proofs.Rising.{rising}
 use Rattle.vhdl_elab.specs.Ready.{InstanceIsReady, PartsAreReady}
 

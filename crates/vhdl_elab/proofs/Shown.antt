@@ -22,7 +22,7 @@ use Rattle.vhdl_elab_rules.specs.Limits.{has_two_unresolved, has_read_of_shared,
 use Rattle.vhdl_elab_rules.specs.Names.{scope_of, signals_of, named_process}
 use Rattle.vhdl_elab_rules.specs.Elaboration.{net_of}
 use Rattle.vhdl_elab_rules.specs.laws.Scopes.{scope_views}
-use Rattle.vhdl_elab_laws.specs.Shown.{Shown, signal_shown, process_shown, net_process_shown, shown, as_shown, net_shown}
+use Rattle.vhdl_elab_rules.specs.Shown.{Shown, signal_shown, process_shown, net_process_shown, shown, as_shown, net_shown}
 use Rattle.vhdl_connect_processes.specs.Held as held
 use Rattle.vhdl_connect_processes.specs.Held.{Holds, processes_hold, idle_hold, items_at, start_with}
 use Rattle.vhdl_connect_processes.proofs.Sourced.{sources_hold, nets_start}

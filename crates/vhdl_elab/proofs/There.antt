@@ -16,8 +16,8 @@ use Rattle.vhdl_expand_rules.proofs.laws.Lengths.{design-fits}
 use Rattle.vhdl_expand_rules.proofs.laws.Trees.{each-tree-is-sound}
 use Rattle.vhdl_elab_rules.specs.Numbering.{Placed, Located, Numbered, numbered_design, own_sizes}
 use Rattle.vhdl_elab_rules.specs.Wiring.{Element, element_of, elements_from, elements_of}
-use Rattle.vhdl_elab_laws.proofs.Ordered.{is-ordered}
-use Rattle.vhdl_elab_laws.proofs.Placed.{IsBelow, PlacedAt, Follow, LocatedAt, Walked, walk, nets-below, nets-as-elements}
+use Rattle.vhdl_elab_rules.proofs.Ordered.{is-ordered}
+use Rattle.vhdl_elab_rules.proofs.Placed.{IsBelow, PlacedAt, Follow, LocatedAt, Walked, walk, nets-below, nets-as-elements}
 use Rattle.vhdl_elab.specs.Settled.{NetsAreBelow}
 use Rattle.vhdl_elab.specs.Wired.{NetsAreThere}
 

@@ -12,7 +12,7 @@ use Rattle.vhdl_elab_rules.specs.Names.{scope_of, signals_from}
 use Rattle.vhdl_elab_rules.specs.Numbering as elab
 use Rattle.vhdl_elab_rules.specs.Numbering.{Placed, Located, Numbered, placed_instance, with_process, with_placed, with_instance, with_parts, element_nets, above_parts, own_sizes}
 use Rattle.vhdl_elab_rules.specs.Wiring.{defaults_of}
-use Rattle.vhdl_elab_laws.specs.Shown.{signal_shown}
+use Rattle.vhdl_elab_rules.specs.Shown.{signal_shown}
 use Rattle.vhdl_expand_tree.specs.declared.tree.Object.{Object}
 use Rattle.vhdl_expand_tree.specs.declared.tree.Process.{Process}
 use Rattle.vhdl_expand_tree.specs.declared.tree.InstancePart.{InstancePart}

@@ -9,7 +9,7 @@ use Rattle.vhdl_elab_rules.specs.Numbering.{Placed, Located, Numbered}
 use Rattle.vhdl_elab_rules.specs.Wiring as wiring
 use Rattle.vhdl_elab_rules.specs.Wiring.{elements_of, own_elements, defaults_of, is_top}
 use Rattle.vhdl_elab_rules.specs.laws.Scopes.{scope_views}
-use Rattle.vhdl_elab_laws.specs.Shown.{signal_shown}
+use Rattle.vhdl_elab_rules.specs.Shown.{signal_shown}
 use Rattle.vhdl_expand_tree.specs.Views.{role_view}
 use Rattle.vhdl_connect_processes.specs.Located.{IsOf}
 use Rattle.vhdl_connect_processes.specs.Uses.{sources_of}

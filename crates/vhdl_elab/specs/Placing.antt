@@ -6,7 +6,7 @@ use Rattle.rtl_net.specs.Nets.{signal_view, type_of}
 use Rattle.vhdl_expand_rules.specs.Tree.{Instance, instance, objects_of, Parts}
 use Rattle.vhdl_elab_rules.specs.Names.{signals_from}
 use Rattle.vhdl_elab_rules.specs.Numbering.{driven_in, read_in}
-use Rattle.vhdl_elab_laws.specs.Shown.{signal_shown}
+use Rattle.vhdl_elab_rules.specs.Shown.{signal_shown}
 use Rattle.vhdl_connect_processes.specs.declared.uses.Use.{Use}
 use Rattle.vhdl_connect_processes.specs.Uses as uses
 use Rattle.vhdl_elab.specs.declared.made.Made.{Made}

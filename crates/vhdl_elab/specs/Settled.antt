@@ -7,7 +7,7 @@ use Rattle.rtl_net.specs.Elaborated.{ReadsOfBody}
 use Rattle.vhdl_elab_rules.specs.Numbering.{Located}
 use Rattle.vhdl_elab_rules.specs.Wiring.{flat_process}
 use Rattle.vhdl_elab_rules.specs.Names.{named_process}
-use Rattle.vhdl_elab_laws.specs.Shown.{process_shown, net_process_shown}
+use Rattle.vhdl_elab_rules.specs.Shown.{process_shown, net_process_shown}
 
 -- the nets of the elements round each process are below this number
 abbrev pub NetsAreBelow : (count : ℕ) → List Located → Type 0

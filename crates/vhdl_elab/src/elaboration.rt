@@ -6,8 +6,8 @@ ghost use Rattle.vhdl_names_rules.specs.sound.Named.{are_named};
 ghost use Rattle.vhdl_names_units.specs.views.Units.{units_view};
 ghost use Rattle.vhdl_expand_bodies.specs.Results.{Charges};
 ghost use Rattle.vhdl_elab_rules.specs.Elaboration.{elaborated_net};
-ghost use Rattle.vhdl_elab_laws.specs.Refused.{MayRefuse};
-ghost use Rattle.vhdl_elab_laws.specs.Shown.{as_shown, net_shown};
+ghost use Rattle.vhdl_elab_rules.specs.Refused.{MayRefuse};
+ghost use Rattle.vhdl_elab_rules.specs.Shown.{as_shown, net_shown};
 ghost use Rattle.vhdl_expand_rules.specs.Elab.{problem_told};
 ghost use Rattle.vhdl_expand_rules.specs.declared.fault.ElabFault.TheVariants.{NoMemory};
 

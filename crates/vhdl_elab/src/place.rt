@@ -5,7 +5,7 @@ ghost use Rattle.rtl_net.specs.Nets.{signal_view};
 ghost use Rattle.vhdl_expand_rules.specs.Kinds.{size};
 ghost use Rattle.vhdl_expand_rules.specs.views.Kinds.{kind_view};
 ghost use Rattle.vhdl_elab_rules.specs.Names.{is_port_role};
-ghost use Rattle.vhdl_elab_laws.specs.Shown.{signal_shown};
+ghost use Rattle.vhdl_elab_rules.specs.Shown.{signal_shown};
 ghost use Rattle.vhdl_expand_tree.specs.Views.{object_view, role_view};
 ghost use Rattle.vhdl_elab.specs.Made.{element_view};
 ghost use Rattle.vhdl_elab.specs.Adding.{object_statics, signal_of};

@@ -5,7 +5,7 @@ ghost use Rattle.rtl_net.specs.Elaborated.{ReadsOfBody};
 ghost use Rattle.rtl_net.specs.Parts.{assembled, IdleAreThere};
 ghost use Rattle.vhdl_expand_bodies.specs.Results.{Expands};
 ghost use Rattle.vhdl_elab_rules.specs.Numbering.{Numbered};
-ghost use Rattle.vhdl_elab_laws.specs.Shown.{as_shown, net_shown};
+ghost use Rattle.vhdl_elab_rules.specs.Shown.{as_shown, net_shown};
 ghost use Rattle.vhdl_elab.specs.Made.{IsMade};
 ghost use Rattle.vhdl_elab.specs.Wired.{wired, NetsAreThere};
 

@@ -1,2 +1,14 @@
 pub mod Segments
 pub mod laws
+pub mod Ordered
+pub mod Placed
+pub mod Objects
+pub mod Order
+pub mod Found
+pub mod Paths
+pub mod Top
+pub mod Named
+pub mod Nets
+pub mod Dotted
+pub mod Kept
+pub mod Ports

@@ -5,3 +5,9 @@ pub mod Limits
 pub mod Names
 pub mod Elaboration
 pub mod laws
+pub mod Shown
+pub mod Nets
+pub mod Named
+pub mod Prefixes
+pub mod Ports
+pub mod Refused

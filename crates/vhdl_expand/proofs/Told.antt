@@ -2,7 +2,7 @@
 use Rattle.std.proofs.Common.{◌≡◌, ℕ, List, [], Ok, Err, Some, refl, sym, ap, ◌∙◌, subst}
 use Rattle.std.specs.Prelude.{IsOk, Option}
 use Rattle.vhdl_names_rules.specs.units.Units.{Units, Entity}
-use Rattle.vhdl_elab_laws.specs.Refused.{HasInterface}
+use Rattle.vhdl_elab_rules.specs.Refused.{HasInterface}
 use Rattle.vhdl_expand_rules.specs.declared.fault.ElabProblem.TheVariants.{NoTop}
 use Rattle.vhdl_expand_rules.specs.Declarations.{InstanceObjects, interface}
 use Rattle.vhdl_expand_rules.specs.Expansion.{entity_named}

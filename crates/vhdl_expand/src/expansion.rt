@@ -4,7 +4,7 @@ ghost use Rattle.std.specs.Prelude.{◌≡◌, ◌≢◌, ◌⊎◌, [], map, fi
 ghost use Rattle.std.specs.Char.{to_ascii_lowercase};
 ghost use Rattle.vhdl_names_rules.specs.units.Units as u;
 ghost use Rattle.vhdl_names_units.specs.views.Units.{entity_view, units_view};
-ghost use Rattle.vhdl_elab_laws.specs.Refused.{HasInterface};
+ghost use Rattle.vhdl_elab_rules.specs.Refused.{HasInterface};
 ghost use Rattle.vhdl_expand_rules.specs.declared.fault.ElabFault.TheVariants.{NoMemory};
 ghost use Rattle.vhdl_expand_rules.specs.Declarations as definition;
 ghost use Rattle.vhdl_expand_rules.specs.Elab.{problem_told};

@@ -19,9 +19,9 @@ use Rattle.vhdl_names_laws.proofs.placed.Laws.{faults_lie_in_the_text}
 use Rattle.vhdl_expand_rules.specs.Elab.{problem_told}
 use Rattle.vhdl_expand_rules.specs.declared.fault.ElabFault.{ElabFault}
 use Rattle.vhdl_expand_rules.specs.declared.fault.ElabFault.TheVariants as elab
-use Rattle.vhdl_elab_laws.specs.Refused.{MayRefuse}
-use Rattle.vhdl_elab_laws.proofs.Nets.{each-has-its-names}
-use Rattle.vhdl_elab_laws.proofs.Ports.{each-has-own-ports}
+use Rattle.vhdl_elab_rules.specs.Refused.{MayRefuse}
+use Rattle.vhdl_elab_rules.proofs.Nets.{each-has-its-names}
+use Rattle.vhdl_elab_rules.proofs.Ports.{each-has-own-ports}
 use Rattle.rtl_net.specs.Nets.{NetlistView}
 use Rattle.rtl_stim.specs.Ports.{HasOwnPorts}
 use Rattle.vhdl_source_rules.specs.Sources.{IsFileOf}

@@ -21,8 +21,8 @@ use Rattle.vhdl_elab_rules.specs.Elaboration.{Elaborated, net_of, netlist_of, el
 use Rattle.vhdl_elab_rules.specs.Limits.{counts, is_within_limits, has_two_unresolved, has_read_of_shared}
 use Rattle.vhdl_elab_rules.specs.Numbering.{numbered_design}
 use Rattle.vhdl_elab_rules.specs.Wiring.{flat_net}
-use Rattle.vhdl_elab_laws.specs.Refused.{MayRefuse}
-use Rattle.vhdl_elab_laws.specs.Shown.{shown}
+use Rattle.vhdl_elab_rules.specs.Refused.{MayRefuse}
+use Rattle.vhdl_elab_rules.specs.Shown.{shown}
 use Rattle.vhdl_source_rules.specs.Sources.{SpellsTokens, IsFileOf, HasSyntaxFault}
 use Rattle.vhdl_source_rules.specs.Designs.{HasUnits, HasDesign}
 use Rattle.vhdl_source_rules.specs.Refusals.{HasNoUnits, HasNoDesign}

@@ -3,7 +3,7 @@ use Rattle.std.specs.Prelude.{◌≡◌, ℕ, List}
 use Rattle.rtl_stim.specs.Ports.{HasOwnPorts}
 use Rattle.rtl_net.specs.Nets.{NetlistView}
 use Rattle.vhdl_elab_rules.specs.Elaboration.{Elaborated}
-use Rattle.vhdl_elab_laws.specs.Shown.{net_shown}
+use Rattle.vhdl_elab_rules.specs.Shown.{net_shown}
 use Rattle.vhdl_source_rules.specs.Designs.{HasDesign, IsNetOf}
 use Rattle.vhdl_source_rules.specs.Refusals.{Refuses}
 use Rattle.vhdl_source_rules.specs.declared.fault.SourceFault.{SourceFault}

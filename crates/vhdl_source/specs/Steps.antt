@@ -2,14 +2,14 @@
 use Rattle.std.specs.Prelude.{◌≡◌, ℕ, min, List, None, Some, Result, Ok, Err}
 use Rattle.rtl_net.specs.Nets.{NetlistView}
 use Rattle.vhdl_elab_rules.specs.Elaboration.{Elaborated, elaborated_net}
-use Rattle.vhdl_elab_laws.specs.Refused.{MayRefuse}
+use Rattle.vhdl_elab_rules.specs.Refused.{MayRefuse}
 use Rattle.vhdl_expand_rules.specs.declared.fault.ElabFault.{ElabFault}
 use Rattle.vhdl_expand_rules.specs.declared.fault.ElabFault.TheVariants as elab
 use Rattle.vhdl_names_rules.specs.problems.Files as breaks
 use Rattle.vhdl_names_rules.specs.Files as rules
 use Rattle.vhdl_names_rules.specs.declared.fault.NameFault.TheVariants as names
 use Rattle.vhdl_names_rules.specs.units.Units as u
-use Rattle.vhdl_elab_laws.specs.Shown.{Shows}
+use Rattle.vhdl_elab_rules.specs.Shown.{Shows}
 use Rattle.vhdl_tree.specs.Tree.{File}
 use Rattle.vhdl_names_units.specs.declared.unit.Units.{Units}
 use Rattle.vhdl_names_units.specs.views.Units.{units_view}

@@ -4,8 +4,8 @@ use Rattle.rtl_net.specs.Nets.{NetlistView}
 use Rattle.vhdl_elab_rules.specs.Elaboration.{Elaborated, elaborated_net}
 use Rattle.vhdl_names_rules.specs.Files.{units_of}
 use Rattle.vhdl_names_rules.specs.units.Units.{Units}
-use Rattle.vhdl_elab_laws.specs.Names.{IsNamedAlike}
-use Rattle.vhdl_elab_laws.specs.Shown.{Shows}
+use Rattle.vhdl_elab_rules.specs.Named.{IsNamedAlike}
+use Rattle.vhdl_elab_rules.specs.Shown.{Shows}
 use Rattle.vhdl_tree.specs.Tree.{File}
 use Rattle.vhdl_source_rules.specs.Sources.{IsFileOf}
 

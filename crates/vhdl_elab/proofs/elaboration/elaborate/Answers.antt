@@ -10,9 +10,9 @@ use Rattle.vhdl_expand_rules.proofs.laws.Trees.{each-tree-is-sound}
 use Rattle.vhdl_elab_rules.specs.Elaboration.{netlist_of, elaborated_net}
 use Rattle.vhdl_expand_tree.specs.Views.{design_view}
 use Rattle.vhdl_expand_tree.proofs.Alike.{tells}
-use Rattle.vhdl_elab_laws.specs.Refused.{MayRefuse}
-use Rattle.vhdl_elab_laws.specs.Shown.{as_shown, net_shown}
-use Rattle.vhdl_elab_laws.proofs.Dotted.{each-tree-is-dotted}
+use Rattle.vhdl_elab_rules.specs.Refused.{MayRefuse}
+use Rattle.vhdl_elab_rules.specs.Shown.{as_shown, net_shown}
+use Rattle.vhdl_elab_rules.proofs.Dotted.{each-tree-is-dotted}
 use Rattle.vhdl_elab.proofs.Joined.{was-expanded, is-within, elaborated-by, refused, may-refuse, not-shown, connected-is-net}
 use Rattle.vhdl_elab.proofs.Ready.{is-ready}
 use Rattle.vhdl_elab.proofs.There.{nets-there}

@@ -8,7 +8,7 @@ use Rattle.rtl_net.specs.declared.process.Process.{Process}
 use Rattle.vhdl_expand_rules.specs.declared.fault.ElabFault.TheVariants.{NoMemory}
 use Rattle.vhdl_expand_rules.specs.Elab as elab
 use Rattle.vhdl_elab_rules.specs.Numbering.{Numbered, Located}
-use Rattle.vhdl_elab_laws.specs.Shown.{as_shown}
+use Rattle.vhdl_elab_rules.specs.Shown.{as_shown}
 use Rattle.vhdl_elab.specs.declared.made.Made.{Made}
 use Rattle.vhdl_elab.specs.Made.{IsMade, IsLocated}
 use Rattle.vhdl_elab.specs.Settled.{NetsAreBelow, IsSettled}

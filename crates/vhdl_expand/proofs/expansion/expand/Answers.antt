@@ -11,7 +11,7 @@ use Rattle.vhdl_expand_tree.specs.Views.{budget_view, instance_view}
 use Rattle.vhdl_expand.specs.Limits.{within_limits}
 use Rattle.vhdl_expand.specs.Views.{declared_view}
 use Rattle.vhdl_expand.proofs.Nested.{no_top, no_top_interface, no_instance, design_made}
-use Rattle.vhdl_elab_laws.specs.Refused.{HasInterface}
+use Rattle.vhdl_elab_rules.specs.Refused.{HasInterface}
 use Rattle.vhdl_expand.proofs.Told.{told_at, same_at, has_interface}
 use Rattle.vhdl_expand.proofs.Heavier.{found_among}
 use Rattle.vhdl_expand_rules.specs.Elab.{problem_told, MayTell}

@@ -8,9 +8,9 @@ use Rattle.vhdl_expand_rules.specs.Tree.{Role, input, output, internal, Object}
 use Rattle.vhdl_expand_rules.specs.laws.Trees.{is_port}
 use Rattle.vhdl_elab_rules.specs.Numbering.{object_nets, own_size, Placed, own_sizes}
 use Rattle.vhdl_elab_rules.specs.Names.{is_port_role}
-use Rattle.vhdl_elab_laws.proofs.Ordered.{IsPort, IsSignal}
-use Rattle.vhdl_elab_laws.proofs.Placed.{Follow}
-use Rattle.vhdl_elab_laws.proofs.Objects.{object_signal, object_signals, all_signals, first-signals}
+use Rattle.vhdl_elab_rules.proofs.Ordered.{IsPort, IsSignal}
+use Rattle.vhdl_elab_rules.proofs.Placed.{Follow}
+use Rattle.vhdl_elab_rules.proofs.Objects.{object_signal, object_signals, all_signals, first-signals}
 
 -- ---- pairs of a list
 

@@ -9,7 +9,7 @@ use Rattle.vhdl_names_rules.specs.Visibility.{are_distinct}
 use Rattle.vhdl_names_rules.specs.units.Units.{Port, Entity, Units}
 use Rattle.vhdl_names_rules.specs.sound.Units.{are_sound}
 use Rattle.vhdl_elab_rules.specs.Elaboration.{Elaborated, elaborated_net}
-use Rattle.vhdl_elab_laws.specs.Shown.{Shows}
+use Rattle.vhdl_elab_rules.specs.Shown.{Shows}
 
 -- no two ports of an entity have the same name, whatever the case of their letters
 abbrev pub entity_ports_are_distinct : Entity → Bool

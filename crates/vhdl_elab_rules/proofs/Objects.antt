@@ -13,8 +13,8 @@ use Rattle.vhdl_elab_rules.specs.Names.{is_port_role, signals_from, signals_of}
 use Rattle.vhdl_elab_rules.specs.laws.Signals.{kind_view}
 use Rattle.vhdl_elab_rules.proofs.Segments.{segment}
 use Rattle.vhdl_elab_rules.proofs.laws.Nets.{nets-length}
-use Rattle.vhdl_elab_laws.specs.Shown.{signal_shown}
-use Rattle.vhdl_elab_laws.proofs.Placed.{PlacedAt}
+use Rattle.vhdl_elab_rules.specs.Shown.{signal_shown}
+use Rattle.vhdl_elab_rules.proofs.Placed.{PlacedAt}
 
 abbrev pub object_signal : (scope : ℕ) → (nets : List ℕ) → Object → SignalView
 object_signal scope nets o = record { scope = scope; name = o.name; port = is_port_role o.role; kind = kind_view o.kind; nets = nets }

@@ -19,15 +19,15 @@ use Rattle.vhdl_expand_rules.specs.laws.Trees.{is_port}
 use Rattle.vhdl_elab_rules.specs.Numbering.{Placed, Numbered, numbered_design}
 use Rattle.vhdl_elab_rules.specs.Wiring.{is_input}
 use Rattle.vhdl_elab_rules.specs.Elaboration.{Elaborated, net_of}
-use Rattle.vhdl_elab_laws.specs.Shown.{Shown, shown, net_shown}
-use Rattle.vhdl_elab_laws.proofs.Ordered.{IsSignal, PortOf, is-ordered}
-use Rattle.vhdl_elab_laws.proofs.Placed.{Follow}
-use Rattle.vhdl_elab_laws.proofs.Objects.{all_signals}
-use Rattle.vhdl_elab_laws.proofs.Order.{InTurn, in-pairs}
-use Rattle.vhdl_elab_laws.proofs.Top.{input_nets, inputs-are}
-use Rattle.vhdl_elab_laws.proofs.Nets.{behind, inputs-in}
-use Rattle.vhdl_elab_laws.specs.Ports.{entity_ports_are_distinct, EachHasOwnPorts}
-use Rattle.vhdl_elab_laws.proofs.Kept.{in_port, input_signals, kept-of-all, kept-nets, kept-names}
+use Rattle.vhdl_elab_rules.specs.Shown.{Shown, shown, net_shown}
+use Rattle.vhdl_elab_rules.proofs.Ordered.{IsSignal, PortOf, is-ordered}
+use Rattle.vhdl_elab_rules.proofs.Placed.{Follow}
+use Rattle.vhdl_elab_rules.proofs.Objects.{all_signals}
+use Rattle.vhdl_elab_rules.proofs.Order.{InTurn, in-pairs}
+use Rattle.vhdl_elab_rules.proofs.Top.{input_nets, inputs-are}
+use Rattle.vhdl_elab_rules.proofs.Nets.{behind, inputs-in}
+use Rattle.vhdl_elab_rules.specs.Ports.{entity_ports_are_distinct, EachHasOwnPorts}
+use Rattle.vhdl_elab_rules.proofs.Kept.{in_port, input_signals, kept-of-all, kept-nets, kept-names}
 
 -- ---- names that differ
 

@@ -7,7 +7,7 @@ use Rattle.rtl_net.specs.Names.{net_name, process_name}
 use Rattle.vhdl_names_rules.specs.units.Units.{Units}
 use Rattle.vhdl_names_rules.specs.sound.Units.{are_sound}
 use Rattle.vhdl_elab_rules.specs.Elaboration.{Elaborated, elaborated_net}
-use Rattle.vhdl_elab_laws.specs.Shown.{Shows}
+use Rattle.vhdl_elab_rules.specs.Shown.{Shows}
 
 pub record IsNamedAlike (x : Elaborated) (net : NetlistView) : Type 0 where
   -- those of all nets, and of all processes, in order

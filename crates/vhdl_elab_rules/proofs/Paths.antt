@@ -13,9 +13,9 @@ use Rattle.vhdl_elab_rules.specs.Names.{scope_of, own_names}
 use Rattle.vhdl_elab_rules.specs.laws.Scopes.{scope_views}
 use Rattle.vhdl_elab_rules.proofs.Segments.{run-append}
 use Rattle.vhdl_elab_rules.proofs.laws.Typed.{zip_append, zip_weaker}
-use Rattle.vhdl_elab_laws.proofs.Placed.{IsBelow, JoinedTo, StandsIn, as_top, inside, Follow, object-below, get-still}
-use Rattle.vhdl_elab_laws.proofs.Objects.{object_signal, object_signals, all_signals, first-signals}
-use Rattle.vhdl_elab_laws.proofs.Found.{FoundAs, found-more, found-behind, not-in, names_of, objects-found, run-weaker}
+use Rattle.vhdl_elab_rules.proofs.Placed.{IsBelow, JoinedTo, StandsIn, as_top, inside, Follow, object-below, get-still}
+use Rattle.vhdl_elab_rules.proofs.Objects.{object_signal, object_signals, all_signals, first-signals}
+use Rattle.vhdl_elab_rules.proofs.Found.{FoundAs, found-more, found-behind, not-in, names_of, objects-found, run-weaker}
 
 -- ---- scopes
 

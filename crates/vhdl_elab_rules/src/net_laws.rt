@@ -1,8 +1,8 @@
 //! Laws of elaborated netlists in the words of rtl_net (`specs`), each the contract of a function that does nothing.
 
-ghost use Rattle.vhdl_elab_laws.specs.Names.{EachHasItsNames};
-ghost use Rattle.vhdl_elab_laws.specs.Nets.{EachElaboratedIsNet};
-ghost use Rattle.vhdl_elab_laws.specs.Prefixes.{EachTreeIsDotted};
+ghost use Rattle.vhdl_elab_rules.specs.Named.{EachHasItsNames};
+ghost use Rattle.vhdl_elab_rules.specs.Nets.{EachElaboratedIsNet};
+ghost use Rattle.vhdl_elab_rules.specs.Prefixes.{EachTreeIsDotted};
 
 /// A netlist that shows what is elaborated from sound and named units, and whose processes list what their bodies read, meets
 /// all that holds of every `Net`.

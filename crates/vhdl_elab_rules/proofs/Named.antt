@@ -10,11 +10,11 @@ use Rattle.rtl_net.specs.Names.{path, net_name, process_name, label_or_number, n
 use Rattle.vhdl_elab_rules.specs.Numbering.{Located, Numbered}
 use Rattle.vhdl_elab_rules.specs.Names.{named_process, label_text, net_names}
 use Rattle.vhdl_elab_rules.specs.Names as v
-use Rattle.vhdl_elab_laws.specs.Shown.{ShownProcess, process_shown, net_process_shown}
-use Rattle.vhdl_elab_laws.proofs.Placed.{Follow}
-use Rattle.vhdl_elab_laws.proofs.Objects.{all_signals}
-use Rattle.vhdl_elab_laws.proofs.Found.{FoundAs, found-name, grouped}
-use Rattle.vhdl_elab_laws.proofs.Paths.{views, nets-found}
+use Rattle.vhdl_elab_rules.specs.Shown.{ShownProcess, process_shown, net_process_shown}
+use Rattle.vhdl_elab_rules.proofs.Placed.{Follow}
+use Rattle.vhdl_elab_rules.proofs.Objects.{all_signals}
+use Rattle.vhdl_elab_rules.proofs.Found.{FoundAs, found-name, grouped}
+use Rattle.vhdl_elab_rules.proofs.Paths.{views, nets-found}
 
 -- ---- nets
 

@@ -6,7 +6,7 @@ use Rattle.vhdl_names_rules.specs.units.Units.{Units}
 use Rattle.vhdl_names_rules.specs.sound.Units.{are_sound}
 use Rattle.vhdl_names_rules.specs.sound.Named.{are_named}
 use Rattle.vhdl_elab_rules.specs.Elaboration.{Elaborated, elaborated_net}
-use Rattle.vhdl_elab_laws.specs.Shown.{Shows}
+use Rattle.vhdl_elab_rules.specs.Shown.{Shows}
 
 -- A netlist that shows what is elaborated from sound and named units, and whose processes list what their bodies read, is one in the sense of rtl_net.
 abbrev pub EachElaboratedIsNet : Type 0

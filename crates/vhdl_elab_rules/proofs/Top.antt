@@ -17,9 +17,9 @@ use Rattle.vhdl_elab_rules.specs.Names.{is_port_role}
 use Rattle.vhdl_elab_rules.proofs.Segments.{reads-all}
 use Rattle.vhdl_elab_rules.proofs.laws.Nets.{own-nets, own-is_size, nets-length}
 use Rattle.vhdl_elab_rules.proofs.laws.Inputs.{NotJoined}
-use Rattle.vhdl_elab_laws.proofs.Placed.{IsBelow, StandsIn, as_top, inside, Follow, run-within}
-use Rattle.vhdl_elab_laws.proofs.Objects.{object_signal, object_signals, all_signals, first-signals}
-use Rattle.vhdl_elab_laws.proofs.Order.{FromScope, from-scope}
+use Rattle.vhdl_elab_rules.proofs.Placed.{IsBelow, StandsIn, as_top, inside, Follow, run-within}
+use Rattle.vhdl_elab_rules.proofs.Objects.{object_signal, object_signals, all_signals, first-signals}
+use Rattle.vhdl_elab_rules.proofs.Order.{FromScope, from-scope}
 
 -- ---- the nets of in ports
 

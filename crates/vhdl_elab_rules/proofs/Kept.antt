@@ -15,10 +15,10 @@ use Rattle.vhdl_elab_rules.specs.Wiring.{is_input}
 use Rattle.vhdl_elab_rules.specs.Names.{is_port_role}
 use Rattle.vhdl_elab_rules.proofs.laws.Nets.{own-is_size}
 use Rattle.vhdl_elab_rules.proofs.laws.Inputs.{NotJoined}
-use Rattle.vhdl_elab_laws.proofs.Placed.{HasKind, IsBelow, Follow, run-within}
-use Rattle.vhdl_elab_laws.proofs.Objects.{object_signal, object_signals, all_signals, first-signals}
-use Rattle.vhdl_elab_laws.proofs.Order.{FromScope, from-scope}
-use Rattle.vhdl_elab_laws.proofs.Top.{AtLeast, input_nets, own-run, inputs-from-on, contains-left, contains-right, contains-either, cond-all, top-is}
+use Rattle.vhdl_elab_rules.proofs.Placed.{HasKind, IsBelow, Follow, run-within}
+use Rattle.vhdl_elab_rules.proofs.Objects.{object_signal, object_signals, all_signals, first-signals}
+use Rattle.vhdl_elab_rules.proofs.Order.{FromScope, from-scope}
+use Rattle.vhdl_elab_rules.proofs.Top.{AtLeast, input_nets, own-run, inputs-from-on, contains-left, contains-right, contains-either, cond-all, top-is}
 
 -- the test of a signal, among these inputs
 abbrev pub in_port : (inputs : List ℕ) → SignalView → Bool

@@ -35,17 +35,17 @@ use Rattle.vhdl_elab_rules.proofs.laws.Sound.{accepted, each-net-is-sound, each-
 use Rattle.vhdl_elab_rules.proofs.laws.Scopes.{each-scope-follows}
 use Rattle.vhdl_elab_rules.proofs.laws.Signals.{each-signal-fits, each-variable-fits}
 use Rattle.vhdl_elab_rules.proofs.laws.Names.{each-has-names}
-use Rattle.vhdl_elab_laws.specs.Shown.{Shown, ShownProcess, signal_shown, variable_shown, process_shown, shown, net_variable_shown, net_process_shown, net_shown}
-use Rattle.vhdl_elab_laws.specs.Nets.{EachElaboratedIsNet}
-use Rattle.vhdl_elab_laws.specs.Names.{EachHasItsNames}
-use Rattle.vhdl_elab_laws.proofs.Ordered.{is-ordered}
-use Rattle.vhdl_elab_laws.proofs.Placed.{Follow, LocatedAt, Walked, walk}
-use Rattle.vhdl_elab_laws.proofs.Objects.{all_signals}
-use Rattle.vhdl_elab_laws.proofs.Order.{signals-in-order}
-use Rattle.vhdl_elab_laws.proofs.Found.{FoundAs, found-element}
-use Rattle.vhdl_elab_laws.proofs.Paths.{views, path-is, nets-found}
-use Rattle.vhdl_elab_laws.proofs.Top.{input_nets, inputs-are, ports-in-or-out, inputs-of-ports}
-use Rattle.vhdl_elab_laws.proofs.Named.{alike, net-names, process-names, same-parts}
+use Rattle.vhdl_elab_rules.specs.Shown.{Shown, ShownProcess, signal_shown, variable_shown, process_shown, shown, net_variable_shown, net_process_shown, net_shown}
+use Rattle.vhdl_elab_rules.specs.Nets.{EachElaboratedIsNet}
+use Rattle.vhdl_elab_rules.specs.Named.{EachHasItsNames}
+use Rattle.vhdl_elab_rules.proofs.Ordered.{is-ordered}
+use Rattle.vhdl_elab_rules.proofs.Placed.{Follow, LocatedAt, Walked, walk}
+use Rattle.vhdl_elab_rules.proofs.Objects.{all_signals}
+use Rattle.vhdl_elab_rules.proofs.Order.{signals-in-order}
+use Rattle.vhdl_elab_rules.proofs.Found.{FoundAs, found-element}
+use Rattle.vhdl_elab_rules.proofs.Paths.{views, path-is, nets-found}
+use Rattle.vhdl_elab_rules.proofs.Top.{input_nets, inputs-are, ports-in-or-out, inputs-of-ports}
+use Rattle.vhdl_elab_rules.proofs.Named.{alike, net-names, process-names, same-parts}
 
 -- ---- the design behind a netlist
 

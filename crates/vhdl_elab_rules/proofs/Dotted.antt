@@ -22,7 +22,7 @@ use Rattle.vhdl_expand_rules.specs.Tree as t
 use Rattle.vhdl_expand_rules.specs.Expansion.{Spot, with_dot, in_turn, in_branch, sensitivity, with_variables, process, joined_parts, instance, concurrent, concurrents, concurrents_turns, instance_of, entity_named, Design, expanded_design}
 use Rattle.vhdl_expand_rules.proofs.Steps.{ok, bound, each-all}
 use Rattle.vhdl_expand_rules.proofs.laws.Names.{was_found}
-use Rattle.vhdl_elab_laws.specs.Prefixes.{IsDotted, InstanceIsDotted, PartsAreDotted, EachTreeIsDotted}
+use Rattle.vhdl_elab_rules.specs.Prefixes.{IsDotted, InstanceIsDotted, PartsAreDotted, EachTreeIsDotted}
 
 -- ---- prefixes
 

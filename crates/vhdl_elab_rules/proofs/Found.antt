@@ -19,8 +19,8 @@ use Rattle.vhdl_elab_rules.specs.laws.Signals.{kind_view}
 use Rattle.vhdl_elab_rules.proofs.Segments.{run-append}
 use Rattle.vhdl_elab_rules.proofs.laws.Nets.{own-nets, own-is_size, actual-is_none}
 use Rattle.vhdl_elab_rules.proofs.laws.Typed.{zip_append, zip_weaker}
-use Rattle.vhdl_elab_laws.proofs.Placed.{HasKind, IsBelow, JoinedTo, object-below}
-use Rattle.vhdl_elab_laws.proofs.Objects.{object_signal, object_signals}
+use Rattle.vhdl_elab_rules.proofs.Placed.{HasKind, IsBelow, JoinedTo, object-below}
+use Rattle.vhdl_elab_rules.proofs.Objects.{object_signal, object_signals}
 
 -- ---- the first signal with a net
 

@@ -14,7 +14,7 @@ use Rattle.vhdl_expand_rules.specs.laws.Trees.{IsKind, object_types, ObjectIsSou
 use Rattle.vhdl_elab_rules.specs.Numbering.{object_nets, own_size, element_nets, own_sizes, Placed, Located, Numbered, nothing_numbered, above_top, above_parts, placed_instance, with_process, with_placed, with_instance, with_parts}
 use Rattle.vhdl_elab_rules.proofs.laws.Nets.{own-nets, actual-nets, own-is_size, nets-length}
 use Rattle.vhdl_elab_rules.proofs.laws.Inputs.{NotJoined}
-use Rattle.vhdl_elab_laws.proofs.Ordered.{PortsFirst, InstanceIsOrdered, PartsAreOrdered}
+use Rattle.vhdl_elab_rules.proofs.Ordered.{PortsFirst, InstanceIsOrdered, PartsAreOrdered}
 
 -- ---- an instance in its place
 

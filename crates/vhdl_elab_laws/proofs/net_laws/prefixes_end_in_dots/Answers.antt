@@ -1,5 +1,0 @@
-use Rattle.vhdl_elab_laws.proofs.Dotted.{each-tree-is-dotted}
-use Rattle.vhdl_elab_laws.proofs.net_laws.prefixes_end_in_dots.Goals as goal
-
-pub returns : goal.returns
-returns c = each-tree-is-dotted
