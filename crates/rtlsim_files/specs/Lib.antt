@@ -1,2 +1,3 @@
 -- A source of several files.
 pub mod Files
+pub mod Laws

@@ -1,10 +1,15 @@
 //! A source of several files: their texts joined, and in which of them a byte stands.
 //!
 //! `specs/Files.antt` says what the joined text is, and where a byte of it stands.
+//!
+//! A byte that is told by its own file is the byte of the source, and stands where that says.
+//!
+//! `specs/Laws.antt` says so of each byte of the joined texts of rtlsim_files.
 #![tactic(auto)]
 
 mod file;
 mod joining;
+pub mod laws;
 mod places;
 
 pub use file::{FilePlace, SourceFile};

@@ -3,7 +3,7 @@ use Rattle.std.proofs.Common.{◌≡◌, ℕ, zero, suc, ◌<◌, ◌≤◌, ◌
 use Rattle.std.proofs.lemmas.Bool.{leb-true, leb-false}
 use Rattle.std.specs.Prelude.{nat_le, if◌then◌else◌, drop, take}
 use Rattle.rtlsim_files.specs.Files.{FileView, Holds, byte_at, joined, line_feed, spot, spot_in}
-use Rattle.rtlsim_files_laws.specs.Laws.{EachByteIsToldByItsFile}
+use Rattle.rtlsim_files.specs.Laws.{EachByteIsToldByItsFile}
 
 -- a byte up to the end of the text in front
 within : (text rest : List ℕ) (at : ℕ) → at ≤ length text

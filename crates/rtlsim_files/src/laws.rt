@@ -1,6 +1,6 @@
 //! The laws of places (`specs/Laws.antt`), the contracts of functions that do nothing.
 
-ghost use Rattle.rtlsim_files_laws.specs.Laws.{EachByteIsPlacedInItsFile, EachByteIsToldByItsFile};
+ghost use Rattle.rtlsim_files.specs.Laws.{EachByteIsPlacedInItsFile, EachByteIsToldByItsFile};
 
 /// The place that `place_in` of rtlsim_files gives for a byte of the joined text has that byte in its file; or it is the end of its
 /// file, and the byte is the line feed behind it.

@@ -3,7 +3,7 @@ use Rattle.std.proofs.Common.{◌≡◌, ◌≢◌, ℕ, ◌<◌, ◌≤◌, ◌
 use Rattle.std.proofs.lemmas.Bool.{leb-true, leb-false}
 use Rattle.std.specs.Prelude.{nat_le, if◌then◌else◌}
 use Rattle.rtlsim_files.specs.Files.{FileView, Spot, joined, line_feed, spot, spot_in}
-use Rattle.rtlsim_files_laws.specs.Laws.{EachByteIsPlacedInItsFile, IsPlaced, text_before}
+use Rattle.rtlsim_files.specs.Laws.{EachByteIsPlacedInItsFile, IsPlaced, text_before}
 
 first : (file : FileView) (back : List FileView) (at : ℕ) → at ≤ length file.text → IsPlaced (file ∷ back) at (spot file at)
 first file back at up = record { front = []; back = back; among = refl; far = omega arith; inside = up }
