@@ -12,7 +12,7 @@ use Rattle.rtlsim_faults.specs.declared.faults.notice.FaultPlace.{FaultPlace}
 use Rattle.rtlsim_faults.specs.declared.faults.notice.FaultPlace.TheVariants.{Byte}
 use Rattle.rtlsim_faults.specs.declared.telling.Telling.{Telling}
 use Rattle.rtlsim_choices.specs.Choices.{missing_line}
-use Rattle.rtlsim_entities.specs.Entities.{entities_line}
+use Rattle.rtlsim_files.specs.Entities.{entities_line}
 use Rattle.rtlsim_explain.specs.Explained.{Spot, Heading, lex_explained, syntax_explained, name_explained, elab_explained}
 use Rattle.rtlsim_explain.specs.Stimuli.{stim_explained, settle_explained}
 use Rattle.rtlsim_explain_check.specs.Rejected.{rejection_explained}

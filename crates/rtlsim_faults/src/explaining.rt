@@ -21,13 +21,12 @@ use rtl_net::Net;
 use rtl_sink::{Sink, finish, push_text};
 use rtl_stim::StimFault;
 use rtlsim_choices::push_missing;
-use rtlsim_entities::push_entities;
 use rtlsim_explain::{
     Place, Title, explain_elab, explain_lex, explain_name, explain_stim, explain_syntax,
     explain_unsettled,
 };
 use rtlsim_explain_check::explain_rejection;
-use rtlsim_files::{SourceFile, place_in, source_name};
+use rtlsim_files::{SourceFile, place_in, push_entities, source_name};
 use rtlsim_listing::ListingFault;
 use std::alloc::Global;
 use vhdl_expand_rules::{ElabFault, ElabProblem};

@@ -1,2 +1,3 @@
 pub mod Told
 pub mod Placed
+pub mod Names

@@ -1,5 +1,5 @@
-use Rattle.rtlsim_entities.proofs.Names.{names_step}
-use Rattle.rtlsim_entities.proofs.telling.push_names.Goals as goal
+use Rattle.rtlsim_files.proofs.Names.{names_step}
+use Rattle.rtlsim_files.proofs.telling.push_names.Goals as goal
 
 pub loop-left-preserved : goal.loop-left-preserved
 loop-left-preserved g c others end p = c.loop-left.invariant others end

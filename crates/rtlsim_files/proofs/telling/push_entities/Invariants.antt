@@ -1,8 +1,8 @@
 use Rattle.std.proofs.Common.{ℕ, List, ◌++◌, length, map}
 use Rattle.rtl_sink.specs.Written.{Goes, SinkState}
-use Rattle.rtlsim_entities.specs.Entities.{entities, listed}
+use Rattle.rtlsim_files.specs.Entities.{entities, listed}
 use Rattle.rtlsim_files.specs.Files.{file_view}
-use Rattle.rtlsim_entities.proofs.telling.push_entities.Given as goal
+use Rattle.rtlsim_files.proofs.telling.push_entities.Given as goal
 
 -- the names in the files that are left go out behind those that did
 abbrev pub invariant-loop-left : goal.invariant-loop-left

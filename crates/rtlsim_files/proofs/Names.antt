@@ -1,8 +1,8 @@
 -- The names of a text, by its first byte, and of files, by the first.
 use Rattle.std.proofs.Common.{◌≡◌, ℕ, ◌-◌, ◌<◌, ◌≤◌, Bool, true, List, [], ◌∷◌, ◌++◌, if◌then◌else◌, length, take, drop, map, refl, slice_index_or, append_assoc, arith}
 use Rattle.std.proofs.lemmas.List.{take_all}
-use Rattle.rtlsim_entities.specs.Entities.{begins_behind, entities, listed, names_at, names_from}
-use Rattle.rtlsim_entities.specs.Telling.{Tells}
+use Rattle.rtlsim_files.specs.Entities.{begins_behind, entities, listed, names_at, names_from}
+use Rattle.rtlsim_files.specs.Telling.{Tells}
 use Rattle.rtl_sink.specs.Written.{Goes, SinkState}
 use Rattle.rtlsim_files.specs.Files.{file_view}
 use Rattle.rtlsim_files.specs.declared.file.SourceFile.{SourceFile}

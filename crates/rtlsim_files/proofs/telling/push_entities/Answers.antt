@@ -1,8 +1,8 @@
 use Rattle.std.proofs.Common.{[], map, append-nil}
-use Rattle.rtlsim_entities.specs.Entities.{entities}
+use Rattle.rtlsim_files.specs.Entities.{entities}
 use Rattle.rtlsim_files.specs.Files.{file_view}
-use Rattle.rtlsim_entities.proofs.Names.{files_go, no_names}
-use Rattle.rtlsim_entities.proofs.telling.push_entities.Goals as goal
+use Rattle.rtlsim_files.proofs.Names.{files_go, no_names}
+use Rattle.rtlsim_files.proofs.telling.push_entities.Goals as goal
 
 pub loop-left-preserved : goal.loop-left-preserved
 loop-left-preserved g c others end p =

@@ -2,7 +2,7 @@
 
 ghost use Rattle.std.specs.Prelude.{◌≡◌, ◌≤◌, length, option_map};
 ghost use Rattle.std.specs.List.{prefix_len};
-ghost use Rattle.rtlsim_entities.specs.Entities as spec;
+ghost use Rattle.rtlsim_files.specs.Entities as spec;
 
 /// A space or a tab.
 fn is_blank(byte: u8) -> bool

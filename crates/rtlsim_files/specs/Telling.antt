@@ -1,7 +1,7 @@
 -- What is told of names by steps.
 use Rattle.std.specs.Prelude.{ℕ, Bool, List, ◌++◌}
 use Rattle.rtl_sink.specs.Written.{SinkState, Goes}
-use Rattle.rtlsim_entities.specs.Entities.{listed}
+use Rattle.rtlsim_files.specs.Entities.{listed}
 
 -- these names went out: whatever names follow, all of them go where the others go from here
 abbrev pub Tells : (names : List (List ℕ)) → (is_first : Bool) → (old : SinkState) → (still_first : Bool) → (new : SinkState) → Type 0

@@ -1,5 +1,5 @@
 use Rattle.rtl_sink.proofs.Writing.{Goes-append}
-use Rattle.rtlsim_entities.proofs.telling.push_name_at.Goals as goal
+use Rattle.rtlsim_files.proofs.telling.push_name_at.Goals as goal
 
 pub returns-in-Some : goal.returns-in-Some
 returns-in-Some g c others end p = rw (← c.entity_at.ensures, c.in-Some.is) (Goes-append _ _ _ _ _ c.push_name.ensures p)

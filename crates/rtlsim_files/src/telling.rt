@@ -2,14 +2,14 @@
 
 ghost use Rattle.std.specs.Prelude.{◌≡◌, ◌++◌, [], if◌then◌else◌, true, map};
 ghost use Rattle.rtl_sink.specs.Written.{Goes};
-ghost use Rattle.rtlsim_entities.specs.Entities.{entities_line};
-ghost use Rattle.rtlsim_entities.specs.Telling.{Tells};
-ghost use Rattle.rtlsim_entities.specs.Entities as spec;
+ghost use Rattle.rtlsim_files.specs.Entities.{entities_line};
+ghost use Rattle.rtlsim_files.specs.Telling.{Tells};
+ghost use Rattle.rtlsim_files.specs.Entities as spec;
 ghost use Rattle.rtlsim_files.specs.Files.{file_view};
 
+use crate::file::SourceFile;
 use crate::word::{begins_behind, entity_at};
 use rtl_sink::{Sink, push_text};
-use rtlsim_files::SourceFile;
 
 /// Writes a line with the names of the entities that these files show an architecture of, in order and as they are written; nothing where they
 /// show none.

@@ -1,7 +1,7 @@
 use Rattle.std.proofs.Common.{ℕ, List, ◌++◌, length}
 use Rattle.rtl_sink.specs.Written.{Goes, SinkState}
-use Rattle.rtlsim_entities.specs.Entities.{listed, names_from}
-use Rattle.rtlsim_entities.proofs.telling.push_names.Given as goal
+use Rattle.rtlsim_files.specs.Entities.{listed, names_from}
+use Rattle.rtlsim_files.proofs.telling.push_names.Given as goal
 
 -- the names in what is left go out behind those that did
 abbrev pub invariant-loop-left : goal.invariant-loop-left

@@ -1,2 +1,0 @@
-pub mod Entities
-pub mod Telling
