@@ -6,7 +6,7 @@ use Rattle.rtl_model.specs.simulation.Moments.{Begun, IsUnsettled}
 use Rattle.rtl_net.specs.Core.{core}
 use Rattle.rtl_net.specs.Nets.{NetlistView}
 use Rattle.rtl_stim.specs.Stimuli.{StimulusView, moments, inputs_at}
-use Rattle.rtl_watch.specs.Stands.{Stand}
+use Rattle.rtl_sink.specs.Stands.{Stand}
 use Rattle.rtl_machine.specs.declared.summary.RunFault.{RunFault}
 use Rattle.rtl_machine.specs.declared.summary.RunFault.TheVariants.{NoSettling}
 use Rattle.rtl_machine.specs.simulations.Watched.{AreStands, IsToldFirst, WasTold}

@@ -6,7 +6,7 @@ use Rattle.rtl_net.specs.Nets.{NetlistView}
 use Rattle.rtl_agenda.specs.Agenda.{Change}
 use Rattle.rtl_stim.specs.Moments.{GivesNext}
 use Rattle.rtl_stim.specs.Stimuli.{StimulusView, moments}
-use Rattle.rtl_watch.specs.Stands.{Stand}
+use Rattle.rtl_sink.specs.Stands.{Stand}
 use Rattle.rtl_machine.specs.simulations.Running.{HasSettledIn}
 use Rattle.rtl_machine.specs.simulations.Watched.{until_of, StandsFrom, AreStands}
 

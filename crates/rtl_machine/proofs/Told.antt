@@ -4,7 +4,7 @@ use Rattle.std.specs.Prelude.{IfErr, IfOk}
 use Rattle.rtl_net.specs.Nets.{NetlistView}
 use Rattle.rtl_net.specs.Core.{core}
 use Rattle.rtl_stim.specs.Stimuli.{StimulusView, inputs_at}
-use Rattle.rtl_watch.specs.Stands.{Stand}
+use Rattle.rtl_sink.specs.Stands.{Stand}
 use Rattle.rtl_machine.specs.simulations.Watched.{IsToldAll, IsToldFirst}
 use Rattle.rtl_machine.specs.Synchronous.{IsSynchronous}
 use Rattle.rtl_machine.specs.Watched.{IsToldRun, IsToldRunFirst}

@@ -14,9 +14,8 @@ use crate::running::SLOTS;
 use crate::stepping::Stepping;
 use rtl_eval_code::codes;
 use rtl_net::Net;
-use rtl_sink::Sink;
+use rtl_sink::{Sink, Unwatched, Watch};
 use rtl_stim::Wheel;
-use rtl_watch::{Unwatched, Watch};
 use std::alloc::Global;
 
 /// Simulates a netlist under the stimulus that a text says, as the synchronous machine that it is: at each moment the clocked

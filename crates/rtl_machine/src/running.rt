@@ -22,9 +22,8 @@ use rtl_eval_code::codes;
 use rtl_kernel::Pick;
 use rtl_model::simulation_laws;
 use rtl_net::Net;
-use rtl_sink::Sink;
+use rtl_sink::{Sink, Unwatched, Watch};
 use rtl_stim::{Agenda, Wheel};
-use rtl_watch::{Unwatched, Watch};
 use std::alloc::Global;
 
 /// How many slots the agenda of a simulation has.

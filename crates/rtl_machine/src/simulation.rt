@@ -15,17 +15,16 @@ ghost use Rattle.rtl_machine.specs.simulations.Answered.{Answers};
 ghost use Rattle.rtl_machine.specs.simulations.Running.{HasBegun, Begins, HasCome, IsNextMoment, GoesOn};
 ghost use Rattle.rtl_net.specs.Core.{core};
 ghost use Rattle.rtl_machine.specs.simulations.Watched.{AreStands, IsToldAll, WasTold};
-ghost use Rattle.rtl_watch.specs.Stands.{Stand};
+ghost use Rattle.rtl_sink.specs.Stands.{Stand};
 
 use crate::progress::Progress;
 use crate::summary::{RunFault, Summary};
 use rtl_eval::Exec;
 use rtl_kernel::{Kernel, Pick};
 use rtl_net::Net;
-use rtl_sink::Sink;
+use rtl_sink::{Sink, Unwatched, Watch};
 use rtl_stim::{Agenda, Stimulus};
 use rtl_vcd::{Blocks, end, first, header};
-use rtl_watch::{Unwatched, Watch};
 use std::alloc::Global;
 
 /// What is simulated: a netlist, whose k-th process the k-th body runs, under a stimulus, with so many delta cycles at most in

@@ -20,11 +20,10 @@ use crate::level_progress::Progress;
 use crate::level_summary::LevelSummary;
 use rtl_eval::Exec;
 use rtl_net::Net;
-use rtl_sink::Sink;
+use rtl_sink::{Sink, Watch};
 use rtl_stim::{Agenda, Stimulus};
 use rtl_synchronous::{Machine, laws};
 use rtl_vcd::{Blocks, end, first, header};
-use rtl_watch::Watch;
 use std::alloc::Global;
 
 /// What is simulated: an accepted netlist, whose k-th process the k-th body runs and the k-th level is of, under a stimulus without a race,

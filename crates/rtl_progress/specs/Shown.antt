@@ -3,7 +3,7 @@ use Rattle.std.specs.Prelude.{◌≡◌, ℕ, ◌*◌, ◌/◌, min, max, ◌==�
 use Rattle.std.proofs.Common.{refl}
 use Rattle.rtl_sink.specs.Written.{SinkState, Goes}
 use Rattle.rtl_sink.proofs.Writing.{Goes-nil}
-use Rattle.rtl_watch.specs.Stands.{Stand}
+use Rattle.rtl_sink.specs.Stands.{Stand}
 
 -- of the time till the stop: all where it is at 0
 abbrev pub hundredths : (stop until : ℕ) → ℕ

@@ -5,7 +5,7 @@ use Rattle.rtl_progress.specs.Shown.{HasShown, shown_after, shown_text, text_of_
 use Rattle.rtl_progress.specs.Stops.{stop_of}
 use Rattle.rtl_sink.proofs.Writing.{Goes-append}
 use Rattle.rtl_sink.specs.Written.{SinkState, Goes}
-use Rattle.rtl_watch.specs.Stands.{Stand}
+use Rattle.rtl_sink.specs.Stands.{Stand}
 use Rattle.rtlsim.specs.Served.{ServesBy, ServesEvents, ServesLevels, ServesMachine}
 use Rattle.rtlsim.specs.Sinks.{Sinks, ShowsIf}
 use Rattle.rtlsim_commands.specs.Served.{Outputs, Serves}

@@ -1,7 +1,7 @@
 -- What commands do with what was read.
 use Rattle.std.specs.Prelude.{◌≡◌, ℕ, Bool, true, false, List, Option, Some, None, map, option_map, unwrap_or}
 use Rattle.rtlsim.specs.Requests.{TextsView, set_form, sets_of, stimulus_of, top_of}
-use Rattle.rtl_watch.specs.Stands.{Stand}
+use Rattle.rtl_sink.specs.Stands.{Stand}
 use Rattle.rtlsim.specs.Sinks.{Sinks, IsSilent, ShowsIf, outputs}
 use Rattle.rtlsim_on_net.specs.Expected.{Comparing}
 use Rattle.rtlsim_on_net.specs.Listed.{ListsNet, ChecksNetJson, ChecksNetTold, DrawsNetTold}

@@ -7,8 +7,7 @@ ghost use Rattle.rtlsim_on_net.specs.Sights.{Seeing, events_of};
 ghost use Rattle.rtlsim.specs.Served.{ServesLevels, ServesRun};
 
 use crate::job::Job;
-use rtl_sink::Sink;
-use rtl_watch::Watch;
+use rtl_sink::{Sink, Watch};
 use rtlsim_commands::{
     Command, Compared, Forward, Front, Pick, Reverse, RunEvents, RunLevels, RunMachine, Status,
     serve,

@@ -5,7 +5,7 @@ use Rattle.rtl_net.specs.Names.{net_name}
 use Rattle.rtl_net.specs.Nets.{NetlistView}
 use Rattle.rtl_machine.specs.simulations.Simulated.{changing}
 use Rattle.rtl_sink.specs.Written.{SinkState, Goes}
-use Rattle.rtl_watch.specs.Stands.{Stand}
+use Rattle.rtl_sink.specs.Stands.{Stand}
 use Rattle.rtlsim_explain_check.specs.Ranges.{follows, range_text}
 use Rattle.rtlsim_faults.specs.Changing.{names_from, changing_line}
 use Rattle.rtlsim_faults.specs.Lines.{memory_line}

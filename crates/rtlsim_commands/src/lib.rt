@@ -19,9 +19,8 @@ pub use rtl_check::CheckFault;
 pub use rtl_kernel::{Forward, Pick, Reverse};
 pub use rtl_machine::{LevelSummary, Summary};
 pub use rtl_net::Net;
-pub use rtl_sink::Sink;
+pub use rtl_sink::{Sink, Unwatched, Watch};
 pub use rtl_stim::StimFault;
-pub use rtl_watch::{Unwatched, Watch};
 pub use rtlsim_faults::{
     Fault, Status, Telling, push_memory, tell_fault, tell_levels, tell_source_fault, tell_summary,
 };

@@ -5,7 +5,7 @@ ghost use Rattle.std.proofs.Common.{refl};
 ghost use Rattle.rtl_machine.specs.simulations.Simulated as spec;
 
 use arrayvec::ArrayVec;
-use rtl_watch::Watch;
+use rtl_sink::Watch;
 
 /// The numbers of nets that still change, in order: the first 17, which is one more than are named.
 pub(crate) type Numbers = ArrayVec<usize, 17>;

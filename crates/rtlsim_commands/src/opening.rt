@@ -10,8 +10,7 @@ ghost use Rattle.rtlsim_commands.specs.Opened.{Opens};
 
 use rtl_kernel::Pick;
 use rtl_machine::{LevelSummary, Summary};
-use rtl_sink::Sink;
-use rtl_watch::Unwatched;
+use rtl_sink::{Sink, Unwatched};
 use rtlsim_faults::Fault;
 use rtlsim_on_net::{
     Command, EvalNet, ListNet, RunEvents, RunLevels, RunMachine, check_net, check_net_dot,

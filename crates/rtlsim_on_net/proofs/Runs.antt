@@ -17,7 +17,7 @@ use Rattle.rtl_machine.specs.declared.summary.Summary.{Summary}
 use Rattle.rtl_sink.specs.Written.{SinkState}
 use Rattle.rtl_stim.specs.Stimuli.{StimulusView, IsRead}
 use Rattle.rtl_stim_lines.specs.declared.faults.StimFault.{StimFault}
-use Rattle.rtl_watch.specs.Stands.{Stand}
+use Rattle.rtl_sink.specs.Stands.{Stand}
 use Rattle.rtlsim_faults.specs.Faults.{of_machine, of_run}
 use Rattle.rtlsim_faults.specs.declared.faults.Fault.{Fault}
 use Rattle.rtlsim_faults.specs.declared.faults.Fault.TheVariants.{Rejected, Stim, Memory, Output}

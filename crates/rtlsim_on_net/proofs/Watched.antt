@@ -11,7 +11,7 @@ use Rattle.rtl_net.specs.Nets.{NetlistView}
 use Rattle.rtl_machine.specs.declared.summary.RunFault.{RunFault}
 use Rattle.rtl_machine.specs.declared.summary.RunFault.TheVariants as run
 use Rattle.rtl_sink.specs.Written.{SinkState}
-use Rattle.rtl_watch.specs.Stands.{Stand}
+use Rattle.rtl_sink.specs.Stands.{Stand}
 
 -- what is so of the stands is so of what follows from it
 pub of_machine_so : (text : List ℕ) (net : NetlistView) (P Q : List Stand → Type 0) → ((stands : List Stand) → P stands → Q stands) → OfMachine text P net → OfMachine text Q net

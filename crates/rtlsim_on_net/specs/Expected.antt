@@ -11,7 +11,7 @@ use Rattle.rtl_expect.specs.declared.difference.Difference.{Difference as KeptDi
 use Rattle.rtl_expect.specs.declared.faults.ExpectFault.TheVariants.{NoMemory}
 use Rattle.rtl_net.specs.Nets.{NetlistView}
 use Rattle.rtl_sink.specs.Written.{SinkState}
-use Rattle.rtl_watch.specs.Stands.{Stand}
+use Rattle.rtl_sink.specs.Stands.{Stand}
 
 -- each line of the text is good, and of what the lines expect this holds
 pub record Expects (net : NetlistView) (text : List ℕ) (Holds : List Expectation → Type 0) : Type 0 where

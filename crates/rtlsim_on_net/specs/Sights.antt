@@ -4,7 +4,7 @@ use Rattle.rtl_net.specs.Nets.{NetlistView}
 use Rattle.rtl_machine.specs.simulations.Watched.{IsToldUnsettled}
 use Rattle.rtl_sink.specs.Written.{SinkState}
 use Rattle.rtl_stim.specs.Stimuli.{StimulusView, IsRead}
-use Rattle.rtl_watch.specs.Stands.{Stand}
+use Rattle.rtl_sink.specs.Stands.{Stand}
 use Rattle.rtlsim_on_net.specs.Simulated.{most_deltas}
 use Rattle.rtlsim_on_net.specs.Watched.{OfEvents, OfMachine, Watched}
 use Rattle.rtlsim_faults.specs.declared.faults.Fault.{Fault}

@@ -8,7 +8,7 @@ use Rattle.rtl_net.specs.Nets.{NetlistView}
 use Rattle.rtl_machine.specs.simulations.Watched.{IsToldAll}
 use Rattle.rtl_sink.specs.Written.{SinkState}
 use Rattle.rtl_stim.specs.Stimuli.{StimulusView, IsRead}
-use Rattle.rtl_watch.specs.Stands.{Stand}
+use Rattle.rtl_sink.specs.Stands.{Stand}
 
 -- This holds of the synchronous machine's valuations under the stimulus that the text says, in order of moments.
 abbrev pub OfMachine : (text : List ℕ) → (Holds : List Stand → Type 0) → NetlistView → Type 0

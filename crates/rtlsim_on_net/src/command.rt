@@ -14,8 +14,7 @@ ghost use Rattle.rtlsim_on_net.specs.Sights.{Sight, Seeing, IsOfNet};
 
 use rtl_machine::{LevelSummary, Summary};
 use rtl_net::Net;
-use rtl_sink::Sink;
-use rtl_watch::Watch;
+use rtl_sink::{Sink, Watch};
 use rtlsim_faults::{Fault, Status, tell_levels, tell_summary};
 use std::alloc::Global;
 

@@ -8,8 +8,7 @@ use crate::both::Both;
 use crate::command::{Command, Run};
 use rtl_expect::{Difference, Expectations};
 use rtl_net::Net;
-use rtl_sink::Sink;
-use rtl_watch::Watch;
+use rtl_sink::{Sink, Watch};
 use rtlsim_faults::Fault;
 use std::alloc::Global;
 

@@ -9,8 +9,7 @@ use crate::command::Command;
 use crate::listing::{check_net_dot_told, check_net_json, check_net_told, list_net};
 use rtl_machine;
 use rtl_net::Net;
-use rtl_sink::Sink;
-use rtl_watch::Watch;
+use rtl_sink::{Sink, Watch};
 use rtlsim_faults::{Fault, Telling};
 use std::alloc::Global;
 

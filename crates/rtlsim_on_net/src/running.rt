@@ -12,9 +12,8 @@ use rtl_kernel::Pick;
 use rtl_machine;
 use rtl_machine::{LevelSummary, SLOTS, Simulation, Summary};
 use rtl_net::Net;
-use rtl_sink::Sink;
+use rtl_sink::{Sink, Watch};
 use rtl_stim::{Stimulus, Wheel};
-use rtl_watch::Watch;
 use rtlsim_faults::Fault;
 use std::alloc::Global;
 

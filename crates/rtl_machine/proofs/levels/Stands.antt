@@ -4,7 +4,7 @@ use Rattle.std.specs.Prelude.{slice_get}
 use Rattle.rtl_net.specs.Core.{core}
 use Rattle.rtl_net.specs.Nets.{NetlistView}
 use Rattle.rtl_stim.specs.Stimuli.{StimulusView, inputs_at}
-use Rattle.rtl_watch.specs.Stands.{Stand}
+use Rattle.rtl_sink.specs.Stands.{Stand}
 use Rattle.rtl_machine.specs.simulations.Watched.{until_of}
 use Rattle.rtl_machine.proofs.Stands.{at_end}
 use Rattle.rtl_machine.specs.Synchronous.{IsSynchronous}

@@ -8,7 +8,7 @@ use Rattle.rtl_machine.specs.declared.summary.RunFault.TheVariants.{Memory, Outp
 use Rattle.rtl_net.specs.Core.{core}
 use Rattle.rtl_machine.specs.simulations.Running.{Begins}
 use Rattle.rtl_stim.proofs.Next.{each_begins_at_zero}
-use Rattle.rtl_watch.specs.Stands.{Stand}
+use Rattle.rtl_sink.specs.Stands.{Stand}
 use Rattle.rtl_machine.proofs.Failing.{told_of, told_unsettled, told_nothing}
 use Rattle.rtl_machine.proofs.Stands.{stands_none}
 use Rattle.rtl_machine.proofs.Going.{err_with, begins, never_begins, first_leaves}

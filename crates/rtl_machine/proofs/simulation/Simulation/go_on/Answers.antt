@@ -9,7 +9,7 @@ use Rattle.rtl_machine.specs.declared.summary.RunFault.TheVariants.{Output}
 use Rattle.rtl_net.specs.Core.{core}
 use Rattle.rtl_machine.specs.simulations.Running.{GoesOn}
 use Rattle.rtl_stim.specs.Stimuli.{moments, inputs_at}
-use Rattle.rtl_watch.specs.Stands.{Stand}
+use Rattle.rtl_sink.specs.Stands.{Stand}
 use Rattle.rtl_machine.proofs.Failing.{told_of, told_unsettled}
 use Rattle.rtl_machine.proofs.Going.{err_with, never_more, next_leaves, goes_further}
 use Rattle.rtl_machine.proofs.simulation.Simulation.go_on.Goals as goal

@@ -12,7 +12,7 @@ use Rattle.rtl_vcd.specs.Trace.{end_text}
 use Rattle.rtl_machine.specs.declared.summary.RunFault.TheVariants.{Memory, Output}
 use Rattle.rtl_machine.specs.simulations.Answered.{Answers}
 use Rattle.rtl_machine.proofs.Steps.{no_moment}
-use Rattle.rtl_watch.specs.Stands.{Stand}
+use Rattle.rtl_sink.specs.Stands.{Stand}
 use Rattle.rtl_machine.proofs.Failing.{told_of, told_nothing}
 use Rattle.rtl_machine.proofs.Going.{err_with, header_leaves, end_leaves, is_whole, at_last, settled_quiet}
 use Rattle.rtl_machine.proofs.Stands.{stands_none, stands_more, one_stand_more, until_next, until_end, one_behind}

@@ -4,7 +4,7 @@ use Rattle.rtl_model.specs.simulation.Cycle.{is_quiet}
 use Rattle.rtl_model.specs.simulation.Moments.{HasNoneToRun}
 use Rattle.rtl_stim_lines.specs.Filling.{Waits}
 use Rattle.rtl_stim.specs.Stimuli.{moments}
-use Rattle.rtl_watch.specs.Stands.{Stand}
+use Rattle.rtl_sink.specs.Stands.{Stand}
 use Rattle.rtl_machine.specs.simulations.Watched.{AreStands}
 use Rattle.rtl_machine.specs.simulations.Running.{HasCome, HasSettledIn}
 use Rattle.rtl_machine.proofs.simulation.Simulation.run_moments.Given as goal

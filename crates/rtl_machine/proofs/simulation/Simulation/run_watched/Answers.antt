@@ -10,7 +10,7 @@ use Rattle.rtl_machine.specs.declared.summary.RunFault.TheVariants.{Memory}
 use Rattle.rtl_net.specs.Core.{core}
 use Rattle.rtl_machine.specs.simulations.Answered.{Answers}
 use Rattle.rtl_machine.proofs.Steps.{first_begun}
-use Rattle.rtl_watch.specs.Stands.{Stand}
+use Rattle.rtl_sink.specs.Stands.{Stand}
 use Rattle.rtl_machine.proofs.Failing.{told_of, told_nothing}
 use Rattle.rtl_machine.proofs.Going.{err_with, nothing_leaves}
 use Rattle.rtl_machine.proofs.simulation.Simulation.run_watched.Goals as goal

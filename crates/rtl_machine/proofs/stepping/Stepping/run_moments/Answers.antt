@@ -4,7 +4,7 @@ use Rattle.rtl_agenda.specs.Agenda.{Change}
 use Rattle.rtl_stim.proofs.Next.{each_begins_at_zero}
 use Rattle.rtl_sink.specs.Written.{Goes}
 use Rattle.rtl_vcd.specs.Trace.{end_text}
-use Rattle.rtl_watch.specs.Stands.{Stand}
+use Rattle.rtl_sink.specs.Stands.{Stand}
 use Rattle.rtl_machine.proofs.Steps.{no_moment}
 use Rattle.rtl_machine.proofs.Stands.{one_stand_more, until_next, until_end, one_behind}
 use Rattle.rtl_machine.specs.declared.fault.MachineFault.TheVariants.{Memory, Output}

@@ -1,7 +1,7 @@
 //! Watches.
 
 ghost use Rattle.std.specs.Prelude.{◌≡◌, ℕ, List, [], ◌∷◌, ◌++◌, length, ⊤};
-ghost use Rattle.rtl_watch.specs.Stands.{Stand};
+ghost use Rattle.rtl_sink.specs.Stands.{Stand};
 
 /// Is told what the nets of a simulation settle to, in order of time.
 pub trait Watch {
