@@ -10,8 +10,9 @@ ghost use Rattle.rtlsim_commands.specs.Unsettled.{NamesIf, TellsRun};
 
 use rtl_net::Net;
 use rtl_sink::Sink;
-use rtlsim_faults::{Fault, Status, Telling, tell_changing, tell_fault, tell_source_fault};
-use rtlsim_name_faults::push_further_faults;
+use rtlsim_faults::{
+    Fault, Status, Telling, push_further_faults, tell_changing, tell_fault, tell_source_fault,
+};
 use std::alloc::Global;
 use vhdl_names_rules::NameFault;
 use vhdl_source_rules::{Front, SourceFault};

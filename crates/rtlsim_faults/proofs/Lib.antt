@@ -3,3 +3,5 @@ pub mod Told
 pub mod Places
 pub mod Parts
 pub mod Names
+pub mod Walks
+pub mod Behind

@@ -8,3 +8,8 @@ pub mod Explanations
 pub mod Changing
 pub mod Status
 pub mod Told
+-- what is told
+pub mod Words
+pub mod Further
+-- how it is found
+pub mod Next

@@ -1,5 +1,5 @@
-use Rattle.rtlsim_name_faults.proofs.Behind.{further_all}
-use Rattle.rtlsim_name_faults.proofs.further.push_further_faults.Goals as goal
+use Rattle.rtlsim_faults.proofs.Behind.{further_all}
+use Rattle.rtlsim_faults.proofs.further.push_further_faults.Goals as goal
 
 pub returns : goal.returns
 returns g c =

@@ -2,15 +2,16 @@
 
 ghost use Rattle.std.specs.Prelude.{◌≡◌, ◌==◌};
 ghost use Rattle.rtl_sink.specs.Written.{Goes};
-ghost use Rattle.rtlsim_name_faults.specs.Further as spec;
-ghost use Rattle.rtlsim_name_faults.specs.Further.{TellsFurther};
-ghost use Rattle.rtlsim_name_faults.specs.Next.{TellsBehind, asked_of};
+ghost use Rattle.rtlsim_faults.specs.Further as spec;
+ghost use Rattle.rtlsim_faults.specs.Further.{TellsFurther};
+ghost use Rattle.rtlsim_faults.specs.Next.{TellsBehind, asked_of};
 ghost use Rattle.vhdl_lexer.specs.Cut.{AreWithin};
 
+use crate::explaining::explain_names;
 use crate::next::{Next, next_fault};
+use crate::telling::Telling;
 use crate::words::is_known;
 use rtl_sink::{Sink, push_text};
-use rtlsim_faults::{Telling, explain_names};
 use std::alloc::Global;
 use vhdl_lexer::{Token, lex};
 use vhdl_names_rules::NameFault;

@@ -2,7 +2,7 @@
 
 ghost use Rattle.std.specs.Prelude.{◌≡◌, ◌==◌, ◌≤◌, length, slice_range};
 ghost use Rattle.std.specs.Str.{str_eq_ignore_ascii_case};
-ghost use Rattle.rtlsim_name_faults.specs.Words as spec;
+ghost use Rattle.rtlsim_faults.specs.Words as spec;
 ghost use Rattle.vhdl_lexer.specs.Cut.{AreWithin};
 
 use vhdl_lexer::Token;

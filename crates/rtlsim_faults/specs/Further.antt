@@ -6,7 +6,7 @@ use Rattle.rtl_sink.specs.Written.{SinkState, Goes}
 use Rattle.rtlsim_faults.specs.Explanations.{files_of, name_said}
 use Rattle.rtlsim_faults.specs.declared.telling.Telling.{Telling}
 use Rattle.rtlsim_files.specs.Files.{FileView}
-use Rattle.rtlsim_name_faults.specs.Words.{is_known}
+use Rattle.rtlsim_faults.specs.Words.{is_known}
 use Rattle.vhdl_lexer.specs.Extents.{statement_at, blanked}
 use Rattle.vhdl_lexer.specs.declared.extent.Extent.{Extent}
 use Rattle.vhdl_lexer.specs.Cut.{Cuts}

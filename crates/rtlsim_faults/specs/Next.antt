@@ -2,10 +2,10 @@
 use Rattle.std.specs.Prelude.{◌≡◌, ℕ, Bool, List, Option, Some, None}
 use Rattle.rtl_sink.specs.Written.{SinkState, Goes}
 use Rattle.rtlsim_faults.specs.Explanations.{files_of}
-use Rattle.rtlsim_name_faults.specs.Further.{Asked, HasNames, Further}
-use Rattle.rtlsim_name_faults.specs.declared.further.Search.{Search}
-use Rattle.rtlsim_name_faults.specs.declared.next.Next.{Next}
-use Rattle.rtlsim_name_faults.specs.declared.next.Next.TheVariants.{Found, Nothing, NoMemory}
+use Rattle.rtlsim_faults.specs.Further.{Asked, HasNames, Further}
+use Rattle.rtlsim_faults.specs.declared.further.Search.{Search}
+use Rattle.rtlsim_faults.specs.declared.next.Next.{Next}
+use Rattle.rtlsim_faults.specs.declared.next.Next.TheVariants.{Found, Nothing, NoMemory}
 use Rattle.vhdl_names_rules.specs.declared.fault.NameFault.{NameFault}
 use Rattle.vhdl_source_rules.specs.Refusals.{Refuses}
 use Rattle.vhdl_source_rules.specs.declared.fault.SourceFault.TheVariants.{Name}

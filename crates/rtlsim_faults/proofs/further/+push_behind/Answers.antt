@@ -1,7 +1,7 @@
 use Rattle.std.proofs.Common.{sym, ◌∙◌}
-use Rattle.rtlsim_name_faults.specs.Next.{asked_of}
-use Rattle.rtlsim_name_faults.proofs.Behind.{as_fault, as_no_memory, as_nothing, behind_full, behind_known, behind_no_memory, behind_nothing, behind_one}
-use Rattle.rtlsim_name_faults.proofs.further.+push_behind.Goals as goal
+use Rattle.rtlsim_faults.specs.Next.{asked_of}
+use Rattle.rtlsim_faults.proofs.Behind.{as_fault, as_no_memory, as_nothing, behind_full, behind_known, behind_no_memory, behind_nothing, behind_one}
+use Rattle.rtlsim_faults.proofs.further.+push_behind.Goals as goal
 
 pub returns-then-is_known : goal.returns-then-is_known
 returns-then-is_known g t c =

@@ -5,13 +5,13 @@ use Rattle.std.specs.Global.{Vec}
 use Rattle.rtl_sink.proofs.Writing.{Goes-append}
 use Rattle.rtl_sink.specs.Written.{SinkState, Goes}
 use Rattle.rtlsim_faults.specs.Explanations.{name_said}
-use Rattle.rtlsim_name_faults.specs.Further.{Asked, Further, HasNames, Reads, Says, more_line, past}
-use Rattle.rtlsim_name_faults.specs.Next.{Finds, TellsBehind}
-use Rattle.rtlsim_name_faults.specs.Words.{is_known}
-use Rattle.rtlsim_name_faults.specs.declared.next.Next.TheVariants as n
+use Rattle.rtlsim_faults.specs.Further.{Asked, Further, HasNames, Reads, Says, more_line, past}
+use Rattle.rtlsim_faults.specs.Next.{Finds, TellsBehind}
+use Rattle.rtlsim_faults.specs.Words.{is_known}
+use Rattle.rtlsim_faults.specs.declared.next.Next.TheVariants as n
 use Rattle.rtlsim_faults.specs.Explanations.{files_of}
 use Rattle.rtlsim_faults.specs.declared.telling.Telling.{Telling}
-use Rattle.rtlsim_name_faults.specs.Further.{TellsFurther}
+use Rattle.rtlsim_faults.specs.Further.{TellsFurther}
 use Rattle.vhdl_lexer.specs.Cut.{Cuts}
 use Rattle.vhdl_lexer.specs.declared.token.Token.{Token}
 use Rattle.vhdl_names_rules.specs.declared.fault.NameFault.{NameFault}

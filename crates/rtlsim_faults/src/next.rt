@@ -1,8 +1,8 @@
 //! The next fault of a source.
 
 ghost use Rattle.std.specs.Prelude.{◌≡◌, Some, option_map};
-ghost use Rattle.rtlsim_name_faults.specs.Further as spec;
-ghost use Rattle.rtlsim_name_faults.specs.Next.{Finds};
+ghost use Rattle.rtlsim_faults.specs.Further as spec;
+ghost use Rattle.rtlsim_faults.specs.Next.{Finds};
 
 use std::alloc::Global;
 use vhdl_lexer::{Extent, Token, blanked, statement_at};
