@@ -10,7 +10,7 @@ use Rattle.rtlsim.specs.Served.{ServesBy, ServesEvents, ServesLevels, ServesMach
 use Rattle.rtlsim.specs.Sinks.{Sinks, ShowsIf}
 use Rattle.rtlsim_commands.specs.Served.{Outputs, Serves}
 use Rattle.rtlsim_commands.specs.Told.{Done}
-use Rattle.rtlsim_on_net.specs.Watched.{IfWhole, OfEvents, OfMachine, Watched}
+use Rattle.rtlsim_commands.specs.Watched.{IfWhole, OfEvents, OfMachine, Watched}
 use Rattle.rtlsim_faults.specs.declared.faults.Fault.{Fault}
 use Rattle.rtlsim_faults.specs.declared.faults.Fault.TheVariants.{Differs}
 use Rattle.rtlsim_faults.specs.declared.status.Status.{Status}

@@ -3,15 +3,15 @@ use Rattle.std.specs.Prelude.{◌≡◌, ℕ, Bool, true, false, List, Option, S
 use Rattle.rtlsim.specs.Requests.{TextsView, set_form, sets_of, stimulus_of, top_of}
 use Rattle.rtl_sink.specs.Stands.{Stand}
 use Rattle.rtlsim.specs.Sinks.{Sinks, IsSilent, ShowsIf, outputs}
-use Rattle.rtlsim_on_net.specs.Expected.{Comparing}
-use Rattle.rtlsim_on_net.specs.Listed.{ListsNet, ChecksNetJson, ChecksNetTold, DrawsNetTold}
-use Rattle.rtlsim_on_net.specs.Machine.{RunsMachine, RunsMachineByLevels, EvaluatesMachine}
+use Rattle.rtlsim_commands.specs.Expected.{Comparing}
+use Rattle.rtlsim_commands.specs.Listed.{ListsNet, ChecksNetJson, ChecksNetTold, DrawsNetTold}
+use Rattle.rtlsim_commands.specs.Machine.{RunsMachine, RunsMachineByLevels, EvaluatesMachine}
 use Rattle.rtlsim_commands.specs.Served.{Outputs, Serves as ServesSource}
-use Rattle.rtlsim_on_net.specs.Sights.{machine}
-use Rattle.rtlsim_on_net.specs.Sights as by
-use Rattle.rtlsim_on_net.specs.Simulated.{RunsEvents}
+use Rattle.rtlsim_commands.specs.Sights.{machine}
+use Rattle.rtlsim_commands.specs.Sights as by
+use Rattle.rtlsim_commands.specs.Simulated.{RunsEvents}
 use Rattle.rtlsim_commands.specs.Told.{quiet, verdict, summary, events, levels}
-use Rattle.rtlsim_on_net.specs.Watched.{OfEvents, OfMachine, Watched}
+use Rattle.rtlsim_commands.specs.Watched.{OfEvents, OfMachine, Watched}
 use Rattle.rtlsim_faults.specs.declared.status.Status.{Status}
 use Rattle.rtlsim_faults.specs.declared.telling.Telling.{Telling}
 use Rattle.rtlsim_files.specs.Files.{file_view, joined}

@@ -3,7 +3,7 @@
 ghost use Rattle.std.specs.Prelude.{option_map};
 ghost use Rattle.rtl_sink.specs.Written.{IsIntact};
 ghost use Rattle.rtlsim_commands.specs.Served.{Serves};
-ghost use Rattle.rtlsim_on_net.specs.Sights.{Seeing, events_of};
+ghost use Rattle.rtlsim_commands.specs.Sights.{Seeing, events_of};
 ghost use Rattle.rtlsim.specs.Served.{ServesLevels, ServesRun};
 
 use crate::job::Job;

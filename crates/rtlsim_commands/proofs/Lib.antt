@@ -1,3 +1,8 @@
+pub mod Listed
+pub mod Runs
+pub mod Watched
+pub mod Sights
+pub mod Expected
 pub mod Refused
 pub mod Unsettled
 pub mod Firsts

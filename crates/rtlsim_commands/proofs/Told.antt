@@ -10,7 +10,7 @@ use Rattle.rtlsim_faults.specs.declared.status.Status.{Status}
 use Rattle.rtlsim_faults.proofs.Refused.{nameless, source_told}
 use Rattle.rtlsim_commands.specs.Refused.{RefusesSource}
 use Rattle.rtlsim_commands.specs.Served.{Outputs, Serves, ended}
-use Rattle.rtlsim_on_net.specs.Answered.{TellsText}
+use Rattle.rtlsim_commands.specs.Answered.{TellsText}
 use Rattle.rtlsim_commands.specs.Told.{Done, TellsNets, TellsOthers, TellsBehind, first_of}
 use Rattle.rtlsim_commands.specs.Unsettled.{TellsChanging}
 use Rattle.rtl_net.specs.Nets.{NetlistView}

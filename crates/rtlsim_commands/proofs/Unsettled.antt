@@ -12,8 +12,8 @@ use Rattle.rtlsim_faults.specs.Lines.{memory_line}
 use Rattle.rtlsim_faults.specs.Places.{IsTold}
 use Rattle.rtlsim_faults.specs.declared.faults.Fault.{Fault}
 use Rattle.rtlsim_faults.specs.declared.faults.Fault.TheVariants.{Lex, Syntax, Name, Elab, Rejected, Stim, Expect, Differs, NoSettling, Memory, Output}
-use Rattle.rtlsim_on_net.specs.Sights.{Sight, nothing, machine, events, IsOfNet, events_of}
-use Rattle.rtlsim_on_net.proofs.Sights.{of_unsettled_so}
+use Rattle.rtlsim_commands.specs.Sights.{Sight, nothing, machine, events, IsOfNet, events_of}
+use Rattle.rtlsim_commands.proofs.Sights.{of_unsettled_so}
 use Rattle.rtlsim_commands.specs.Unsettled.{Names, NamesIf, TellsStuck, TellsChanging}
 
 -- ---- the line of the first seventeen

@@ -1,3 +1,14 @@
+-- what is told of a command's answer
+pub mod Answered
+-- what commands do on a netlist
+pub mod Listed
+pub mod Simulated
+pub mod Machine
+-- what is seen of it
+pub mod Watched
+pub mod Sights
+pub mod Expected
+pub mod Runs
 pub mod Opened
 -- what is told of it
 pub mod Unsettled

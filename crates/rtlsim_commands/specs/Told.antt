@@ -8,7 +8,7 @@ use Rattle.rtlsim_faults.specs.declared.status.Status.{Status}
 use Rattle.rtlsim_faults.specs.declared.status.Status.TheVariants as status
 use Rattle.rtlsim_faults.specs.declared.telling.Telling.{Telling}
 use Rattle.rtlsim_faults.specs.Further.{TellsFurther}
-use Rattle.rtlsim_on_net.specs.Answered.{TellsText, verdict_status}
+use Rattle.rtlsim_commands.specs.Answered.{TellsText, verdict_status}
 use Rattle.rtlsim_commands.specs.Unsettled.{TellsChanging}
 use Rattle.rtl_machine.specs.declared.level_summary.LevelSummary.{LevelSummary}
 use Rattle.rtl_net.specs.Nets.{NetlistView}

@@ -3,7 +3,7 @@ use Rattle.std.specs.Prelude.{◌≡◌, ◌⊎◌, ℕ, Bool, true, List, Optio
 use Rattle.rtl_net.specs.Nets.{NetlistView}
 use Rattle.rtl_machine.specs.simulations.Simulated.{changing}
 use Rattle.rtl_sink.specs.Written.{SinkState, Goes}
-use Rattle.rtlsim_on_net.specs.Sights.{OfUnsettled}
+use Rattle.rtlsim_commands.specs.Sights.{OfUnsettled}
 use Rattle.rtlsim_faults.specs.Told.{TellsFault}
 use Rattle.rtlsim_faults.specs.declared.status.Status.{Status}
 use Rattle.rtlsim_faults.specs.declared.telling.Telling.{Telling}

@@ -3,18 +3,34 @@
 //! Each call that opens a source has a type for its first parameter that does so, by the contract of `Front`.
 //!
 //! `specs/Opened.antt` says what a command answers that opens a source, `specs/Served.antt` and `specs/Told.antt` what it leaves on both
-//! outputs, and `specs/Unsettled.antt` what is told of nets that still change. What commands do on a netlist is rtlsim_on_net's.
+//! outputs, and `specs/Unsettled.antt` what is told of nets that still change. What commands do on a netlist is rtlsim_commands's.
+//!
+//! The commands on a netlist: each does its work and writes to a sink, while a watch looks on; and what is told of its answer.
+//!
+//! `specs/Listed.antt` says what `net` and `check` write, `specs/Machine.antt` what `run`, `run --levels` and `eval` do,
+//! `specs/Simulated.antt` what `run --event` does, `specs/Watched.antt` what is seen of a run, and `specs/Expected.antt` what is compared with
+//! what is expected of it.
 #![tactic(auto)]
 
+mod both;
+mod command;
+mod comparing;
 mod ending;
+mod listing;
 mod noting;
 mod opening;
+mod printing;
+mod running;
 mod serving;
 
+pub use command::{Answer, Command, Run};
+pub use comparing::Compared;
 pub use ending::ended_by_writes;
+pub use listing::{check_net, check_net_dot};
 pub use opening::{
     eval, on_source, run, run_event, run_levels, show_check, show_check_dot, show_net,
 };
+pub use printing::{CheckNet, DescribeNet, DrawNet, EvalNet, ListNet};
 pub use rtl_check::CheckFault;
 pub use rtl_kernel::{Forward, Pick, Reverse};
 pub use rtl_machine::{LevelSummary, Summary};
@@ -25,10 +41,7 @@ pub use rtlsim_faults::{
     Fault, Status, Telling, push_memory, tell_fault, tell_levels, tell_source_fault, tell_summary,
 };
 pub use rtlsim_files::SourceFile;
-pub use rtlsim_on_net::{
-    CheckNet, Command, Compared, DescribeNet, DrawNet, EvalNet, ListNet, MAX_DELTAS, Run,
-    RunEvents, RunLevels, RunMachine,
-};
+pub use running::{MAX_DELTAS, RunEvents, RunLevels, RunMachine};
 pub use serving::serve;
 pub use vhdl_expand_rules::{ElabFault, ElabProblem};
 pub use vhdl_names_rules::{NameFault, NameProblem};

@@ -3,18 +3,19 @@
 ghost use Rattle.std.specs.Prelude.{IfErr, length, map};
 ghost use Rattle.rtl_sink.specs.Written.{IsIntact};
 ghost use Rattle.rtlsim_faults.specs.Places.{IsTold};
-ghost use Rattle.rtlsim_on_net.specs.Listed.{ListsNet, ChecksNet, DrawsNet};
-ghost use Rattle.rtlsim_on_net.specs.Machine.{RunsMachine, RunsMachineByLevels, EvaluatesMachine};
-ghost use Rattle.rtlsim_on_net.specs.Simulated.{RunsEvents};
+ghost use Rattle.rtlsim_commands.specs.Listed.{ListsNet, ChecksNet, DrawsNet};
+ghost use Rattle.rtlsim_commands.specs.Machine.{RunsMachine, RunsMachineByLevels, EvaluatesMachine};
+ghost use Rattle.rtlsim_commands.specs.Simulated.{RunsEvents};
 ghost use Rattle.rtlsim_commands.specs.Opened.{Opens};
 
+use crate::command::Command;
+use crate::listing::{check_net, check_net_dot};
+use crate::printing::{EvalNet, ListNet};
+use crate::running::{RunEvents, RunLevels, RunMachine};
 use rtl_kernel::Pick;
 use rtl_machine::{LevelSummary, Summary};
 use rtl_sink::{Sink, Unwatched};
 use rtlsim_faults::Fault;
-use rtlsim_on_net::{
-    Command, EvalNet, ListNet, RunEvents, RunLevels, RunMachine, check_net, check_net_dot,
-};
 use std::alloc::Global;
 use vhdl_source_rules::Front;
 

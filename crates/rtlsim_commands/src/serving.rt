@@ -4,15 +4,15 @@ ghost use Rattle.std.specs.Prelude.{◌≡◌, IfErr, take};
 ghost use Rattle.rtl_machine.specs.simulations.Simulated as spec;
 ghost use Rattle.rtl_sink.specs.Written.{IsIntact};
 ghost use Rattle.rtl_stim.specs.Ports.{HasOwnPorts};
-ghost use Rattle.rtlsim_on_net.specs.Sights.{Seeing, IsOfNet, events_of};
+ghost use Rattle.rtlsim_commands.specs.Sights.{Seeing, IsOfNet, events_of};
 ghost use Rattle.rtlsim_commands.specs.Served.{Serves};
 
+use crate::command::{Answer, Command};
 use crate::ending::{ended_by_writes, refuse_net, refuse_source};
 use crate::noting::{Noting, Numbers};
 use rtl_net::Net;
 use rtl_sink::{Sink, Watch};
 use rtlsim_faults::{Fault, Status, Telling};
-use rtlsim_on_net::{Answer, Command};
 use std::alloc::Global;
 use vhdl_source_rules::Front;
 

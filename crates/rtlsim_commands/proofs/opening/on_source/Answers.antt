@@ -1,5 +1,5 @@
 use Rattle.std.proofs.Common.{inl}
-use Rattle.rtlsim_on_net.proofs.Sights.{seeing_does}
+use Rattle.rtlsim_commands.proofs.Sights.{seeing_does}
 use Rattle.rtlsim_commands.proofs.Refused.{opens_refused, refused_told}
 use Rattle.rtlsim_commands.proofs.Unsettled.{answer_told}
 use Rattle.rtlsim_commands.proofs.opening.on_source.Goals as goal

@@ -1,8 +1,8 @@
 use Rattle.std.proofs.Common.{inl}
 use Rattle.rtlsim_listing.specs.CheckText.{check_text}
-use Rattle.rtlsim_on_net.specs.Listed.{ChecksNet}
+use Rattle.rtlsim_commands.specs.Listed.{ChecksNet}
 use Rattle.rtlsim_commands.proofs.Refused.{opens_refused, refused_told}
-use Rattle.rtlsim_on_net.proofs.Listed.{checks_fault}
+use Rattle.rtlsim_commands.proofs.Listed.{checks_fault}
 use Rattle.rtlsim_commands.proofs.opening.show_check.Goals as goal
 
 pub returns-in_err-net-clause-checks : goal.returns-in_err-net-clause-checks

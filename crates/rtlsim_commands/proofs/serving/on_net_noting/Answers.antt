@@ -1,5 +1,5 @@
 use Rattle.std.proofs.Common.{rules}
-use Rattle.rtlsim_on_net.proofs.Sights.{of_net_so, seeing_so}
+use Rattle.rtlsim_commands.proofs.Sights.{of_net_so, seeing_so}
 use Rattle.rtlsim_commands.proofs.serving.on_net_noting.Goals as goal
 
 pub returns-clause-does : goal.returns-clause-does

@@ -1,0 +1,19 @@
+use Rattle.std.proofs.Common.{sym}
+use Rattle.rtlsim_faults.specs.Explanations.{with_explanation}
+use Rattle.rtlsim_listing.specs.DotText.{dot_text}
+use Rattle.rtlsim_commands.proofs.Listed.{checks_failed, unchecked}
+use Rattle.rtlsim_commands.proofs.listing.check_net_dot_told.Goals as goal
+
+pub returns-in_err-verdict : goal.returns-in_err-verdict
+returns-in_err-verdict g c = unchecked (with_explanation dot_text c.args.telling.now) c.args.net.now _ _ c.from_residual.ensures.1
+
+pub returns-in_err-show_graph : goal.returns-in_err-show_graph
+returns-in_err-show_graph g c =
+    checks_failed (with_explanation dot_text c.args.telling.now) c.args.net.now c.in_ok-verdict.verdict _ _ _ _
+    c.from_residual-in_err-show_graph.ensures.1 c.in_ok-verdict.ensures.verdict c.in_ok-verdict.ensures.once c.in_err-show_graph.ensures
+
+pub returns : goal.returns
+returns g c = (
+  record { verdict = c.in_ok-verdict.verdict; is = c.in_ok-verdict.ensures.verdict; once = c.in_ok-verdict.ensures.once; written = c.in_ok-show_graph.ensures },
+  sym c.is_yes.ensures,
+)

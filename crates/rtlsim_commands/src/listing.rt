@@ -1,0 +1,212 @@
+//! The lines of a netlist, and of the checker's verdict on it.
+
+ghost use Rattle.std.specs.Prelude.{◌≡◌, [], if◌then◌else◌};
+ghost use Rattle.rtl_check.specs.Verdicts as verdicts;
+ghost use Rattle.rtl_sink.specs.Written.{IsIntact};
+ghost use Rattle.rtlsim_commands.specs.Listed.{ListsNet, ChecksNet, ChecksNetJson, ChecksNetTold, DrawsNet, DrawsNetTold, with_remarks};
+ghost use Rattle.rtlsim_faults.specs.Explanations.{files_of, verdict_explained, with_explanation};
+ghost use Rattle.rtlsim_listing.specs.CheckText.{check_text};
+ghost use Rattle.rtlsim_listing.specs.DotText.{dot_text};
+ghost use Rattle.rtlsim_listing.specs.Printing.{IsListed};
+ghost use Rattle.rtlsim_remarks.specs.RemarkText.{remarks_text};
+
+use rtl_check::{Verdict, check};
+use rtl_net::Net;
+use rtl_sink::{Sink, finish};
+use rtlsim_explain_check::explain_rejection;
+use rtlsim_faults::{Fault, Telling};
+use rtlsim_json::show_check_json;
+use rtlsim_listing;
+use rtlsim_listing::ListingFault;
+use rtlsim_remarks::show_remarks;
+use std::alloc::Global;
+
+/// Writes the lines of a netlist. It takes memory for one name at a time.
+///
+/// # Errors
+///
+/// `Memory` and `Output`, where a beginning of the lines was written.
+pub(crate) fn list_net<S: Sink>(net: &Net, out: &mut S) -> Result<(), Fault>
+    requires intact { IsIntact (S.state out.old) }
+    ensures { ListsNet net.now result (S.state out.old) (S.state out.new) }
+{
+    Ok(rtlsim_listing::show_net(net, out)?)
+}
+
+/// Checks a netlist, writes the lines of the verdict, and answers whether it is yes. It takes memory in proportion to the netlist.
+///
+/// # Errors
+///
+/// `Memory` and `Output`, where a beginning of the lines was written.
+pub fn check_net<S: Sink>(alloc: Global, net: &Net, out: &mut S) -> Result<bool, Fault>
+    requires intact { IsIntact (S.state out.old) }
+    ensures { ChecksNet net.now result (S.state out.old) (S.state out.new) }
+{
+    let verdict = check(alloc, net)?;
+    rtlsim_listing::show_check(alloc, net, &verdict, out)?;
+    Ok(is_yes(&verdict))
+}
+
+/// Checks a netlist, draws its levels where the verdict is yes and writes its lines else, and answers whether it is yes. It takes memory in
+/// proportion to the netlist.
+///
+/// # Errors
+///
+/// `Memory` and `Output`, where a beginning of the text was written.
+pub fn check_net_dot<S: Sink>(alloc: Global, net: &Net, out: &mut S) -> Result<bool, Fault>
+    requires intact { IsIntact (S.state out.old) }
+    ensures { DrawsNet net.now result (S.state out.old) (S.state out.new) }
+{
+    let verdict = check(alloc, net)?;
+    rtlsim_listing::show_dot(alloc, net, &verdict, out)?;
+    Ok(is_yes(&verdict))
+}
+
+/// Checks a netlist and writes the lines of the verdict, as `check_net` does, and below them the explanation of its faults and the remarks
+/// on the netlist, where these are asked for.
+///
+/// # Errors
+///
+/// As `check_net`.
+pub(crate) fn check_net_told<S: Sink>(
+    alloc: Global,
+    telling: &Telling<'_>,
+    net: &Net,
+    out: &mut S,
+) -> Result<bool, Fault>
+    requires intact { IsIntact (S.state out.old) }
+    ensures { ChecksNetTold telling.now net.now result (S.state out.old) (S.state out.new) }
+{
+    let verdict = check(alloc, net)?;
+    show_told(alloc, telling, net, &verdict, out)?;
+    Ok(is_yes(&verdict))
+}
+
+/// Checks a netlist and draws its levels where the verdict is yes, as `check_net_dot` does; else writes what `check_net_told` does.
+///
+/// # Errors
+///
+/// As `check_net`.
+pub(crate) fn check_net_dot_told<S: Sink>(
+    alloc: Global,
+    telling: &Telling<'_>,
+    net: &Net,
+    out: &mut S,
+) -> Result<bool, Fault>
+    requires intact { IsIntact (S.state out.old) }
+    ensures { DrawsNetTold telling.now net.now result (S.state out.old) (S.state out.new) }
+{
+    let verdict = check(alloc, net)?;
+    show_graph(alloc, telling, net, &verdict, out)?;
+    Ok(is_yes(&verdict))
+}
+
+/// Checks a netlist, writes the verdict as an object of JSON, and answers whether it is yes. Places are told by the files. It takes memory
+/// in proportion to the netlist.
+///
+/// # Errors
+///
+/// As `check_net`.
+pub(crate) fn check_net_json<S: Sink>(
+    alloc: Global,
+    telling: &Telling<'_>,
+    net: &Net,
+    out: &mut S,
+) -> Result<bool, Fault>
+    requires intact { IsIntact (S.state out.old) }
+    ensures { ChecksNetJson telling.now net.now result (S.state out.old) (S.state out.new) }
+{
+    let verdict = check(alloc, net)?;
+    show_check_json(alloc, telling.files, net, &verdict, out)?;
+    Ok(is_yes(&verdict))
+}
+
+/// Writes the lines of a verdict, and the explanation of its faults and the remarks where they are asked for.
+fn show_told<S: Sink>(
+    alloc: Global,
+    telling: &Telling<'_>,
+    net: &Net,
+    verdict: &Verdict,
+    out: &mut S,
+) -> Result<(), ListingFault>
+    requires intact { IsIntact (S.state out.old) }
+    ensures { IsListed result (S.state out.old) (S.state out.new) (with_remarks telling.now net.now verdict.now) }
+{
+    show_lines(alloc, telling, net, verdict, out)?;
+    show_asked_remarks(alloc, telling, net, out)
+}
+
+/// Writes the remarks on a netlist, where explanations are asked for.
+fn show_asked_remarks<S: Sink>(
+    alloc: Global,
+    telling: &Telling<'_>,
+    net: &Net,
+    out: &mut S,
+) -> Result<(), ListingFault>
+    requires intact { IsIntact (S.state out.old) }
+    ensures { IsListed result (S.state out.old) (S.state out.new)
+        (if telling.now.explains then remarks_text (files_of telling.now) net.now else []) }
+{
+    if telling.explains {
+        show_remarks(alloc, telling.files, net, out)
+    } else {
+        Ok(finish(out)?)
+    }
+}
+
+/// Writes the lines of a verdict, and the explanation of its faults where that is asked for.
+fn show_lines<S: Sink>(
+    alloc: Global,
+    telling: &Telling<'_>,
+    net: &Net,
+    verdict: &Verdict,
+    out: &mut S,
+) -> Result<(), ListingFault>
+    requires intact { IsIntact (S.state out.old) }
+    ensures { IsListed result (S.state out.old) (S.state out.new) (with_explanation check_text telling.now net.now verdict.now) }
+{
+    rtlsim_listing::show_check(alloc, net, verdict, out)?;
+    show_explanation(alloc, telling, net, verdict, out)
+}
+
+/// Writes the graph of a verdict or its lines, and the explanation of its faults where that is asked for.
+fn show_graph<S: Sink>(
+    alloc: Global,
+    telling: &Telling<'_>,
+    net: &Net,
+    verdict: &Verdict,
+    out: &mut S,
+) -> Result<(), ListingFault>
+    requires intact { IsIntact (S.state out.old) }
+    ensures { IsListed result (S.state out.old) (S.state out.new) (with_explanation dot_text telling.now net.now verdict.now) }
+{
+    rtlsim_listing::show_dot(alloc, net, verdict, out)?;
+    show_explanation(alloc, telling, net, verdict, out)
+}
+
+/// Writes the explanation of a verdict's faults where that is asked for.
+fn show_explanation<S: Sink>(
+    alloc: Global,
+    telling: &Telling<'_>,
+    net: &Net,
+    verdict: &Verdict,
+    out: &mut S,
+) -> Result<(), ListingFault>
+    requires intact { IsIntact (S.state out.old) }
+    ensures { IsListed result (S.state out.old) (S.state out.new)
+        (if telling.now.explains then verdict_explained telling.now net.now verdict.now else []) }
+{
+    match verdict {
+        Verdict::No(faults) if telling.explains => {
+            explain_rejection(alloc, telling.files, net, faults, out)
+        }
+        _ => Ok(finish(out)?),
+    }
+}
+
+/// Whether a verdict is yes.
+fn is_yes(verdict: &Verdict) -> bool
+    ensures { result ≡ verdicts.is_yes verdict.now }
+{
+    matches!(verdict, Verdict::Yes(_))
+}

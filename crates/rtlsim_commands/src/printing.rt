@@ -1,0 +1,135 @@
+//! Commands that print what is known of a netlist without a run.
+
+ghost use Rattle.std.specs.Prelude.{map};
+ghost use Rattle.rtlsim_commands.specs.Listed.{ListsNet, ChecksNetJson, ChecksNetTold, DrawsNetTold};
+ghost use Rattle.rtlsim_commands.specs.Machine.{EvaluatesMachine};
+ghost use Rattle.rtlsim_commands.specs.Sights.{nothing};
+
+use crate::command::Command;
+use crate::listing::{check_net_dot_told, check_net_json, check_net_told, list_net};
+use rtl_machine;
+use rtl_net::Net;
+use rtl_sink::{Sink, Watch};
+use rtlsim_faults::{Fault, Telling};
+use std::alloc::Global;
+
+/// `net`: the lines of a netlist.
+#[derive(Drop)]
+pub struct ListNet;
+
+impl Command for ListNet {
+    type Answer = ();
+
+    ghost does = { λ command. ListsNet };
+
+    ghost sight = { λ command. nothing };
+
+    fn on_net<V: Watch, S: Sink>(
+        &mut self,
+        _alloc: Global,
+        net: &Net,
+        _watch: &mut V,
+        out: &mut S,
+    ) -> Result<(), Fault> {
+        list_net(net, out)
+    }
+}
+
+/// `check`: the lines of the verdict.
+#[derive(Drop)]
+pub struct CheckNet<'a, 'b> {
+    pub telling: &'a Telling<'b>,
+}
+
+impl Command for CheckNet<'_, '_> {
+    type Answer = bool;
+
+    ghost does = { λ command. ChecksNetTold command.telling.now };
+
+    ghost sight = { λ command. nothing };
+
+    fn on_net<V: Watch, S: Sink>(
+        &mut self,
+        alloc: Global,
+        net: &Net,
+        _watch: &mut V,
+        out: &mut S,
+    ) -> Result<bool, Fault> {
+        check_net_told(alloc, self.telling, net, out)
+    }
+}
+
+/// `check --dot`: the graph of the levels, or the lines of another verdict.
+#[derive(Drop)]
+pub struct DrawNet<'a, 'b> {
+    pub telling: &'a Telling<'b>,
+}
+
+impl Command for DrawNet<'_, '_> {
+    type Answer = bool;
+
+    ghost does = { λ command. DrawsNetTold command.telling.now };
+
+    ghost sight = { λ command. nothing };
+
+    fn on_net<V: Watch, S: Sink>(
+        &mut self,
+        alloc: Global,
+        net: &Net,
+        _watch: &mut V,
+        out: &mut S,
+    ) -> Result<bool, Fault> {
+        check_net_dot_told(alloc, self.telling, net, out)
+    }
+}
+
+/// `check --json`: the verdict as an object.
+#[derive(Drop)]
+pub struct DescribeNet<'a, 'b> {
+    pub telling: &'a Telling<'b>,
+}
+
+impl Command for DescribeNet<'_, '_> {
+    type Answer = bool;
+
+    ghost does = { λ command. ChecksNetJson command.telling.now };
+
+    ghost sight = { λ command. nothing };
+
+    fn on_net<V: Watch, S: Sink>(
+        &mut self,
+        alloc: Global,
+        net: &Net,
+        _watch: &mut V,
+        out: &mut S,
+    ) -> Result<bool, Fault> {
+        check_net_json(alloc, self.telling, net, out)
+    }
+}
+
+/// `eval`: the values of the out ports.
+#[derive(Drop)]
+pub struct EvalNet<'a, 'b> {
+    pub sets: &'a [&'b [u8]],
+}
+
+impl Command for EvalNet<'_, '_> {
+    type Answer = ();
+
+    ghost does = { λ command. EvaluatesMachine (map (λ set. set.now) command.sets.now) };
+
+    ghost sight = { λ command. nothing };
+
+    fn on_net<V: Watch, S: Sink>(
+        &mut self,
+        alloc: Global,
+        net: &Net,
+        _watch: &mut V,
+        out: &mut S,
+    ) -> Result<(), Fault> {
+        match rtl_machine::eval(alloc, net, self.sets, out) {
+            Ok(()) => Ok(()),
+            Err(fault) => Err(Fault::from(fault)),
+        }
+    }
+}

@@ -1,0 +1,131 @@
+//! Runs: the three ways to simulate a netlist under a stimulus.
+
+ghost use Rattle.rtlsim_commands.specs.Machine.{RunsMachine, RunsMachineByLevels};
+ghost use Rattle.rtlsim_commands.specs.Simulated.{RunsEvents, most_deltas};
+ghost use Rattle.rtlsim_commands.specs.Sights.{machine, events};
+ghost use Rattle.rtlsim_commands.specs.Runs.{machine_unexpecting, events_unexpecting};
+
+use crate::command::{Command, Run};
+use rtl_check::stored;
+use rtl_eval_code::codes;
+use rtl_kernel::Pick;
+use rtl_machine;
+use rtl_machine::{LevelSummary, SLOTS, Simulation, Summary};
+use rtl_net::Net;
+use rtl_sink::{Sink, Watch};
+use rtl_stim::{Stimulus, Wheel};
+use rtlsim_faults::Fault;
+use std::alloc::Global;
+
+/// The most delta cycles that a moment may take.
+pub const MAX_DELTAS: u32 = 1000;
+
+/// `run`: as a synchronous machine, where the checker accepts the netlist and the stimulus has no race. `pick` chooses the order of processes
+/// within a cycle.
+#[derive(Drop)]
+pub struct RunMachine<'a, P: Pick> {
+    pub stimulus: &'a [u8],
+    pub pick: &'a mut P,
+}
+
+impl<P: Pick> Command for RunMachine<'_, P> {
+    type Answer = Summary;
+
+    ghost does = { λ run. RunsMachine run.stimulus.now };
+
+    ghost sight = { λ run. machine run.stimulus.now };
+
+    fn on_net<V: Watch, S: Sink>(
+        &mut self,
+        alloc: Global,
+        net: &Net,
+        watch: &mut V,
+        out: &mut S,
+    ) -> Result<Summary, Fault> {
+        match rtl_machine::run_watched(alloc, net, self.stimulus, self.pick, watch, out) {
+            Ok(summary) => Ok(summary),
+            Err(fault) => Err(Fault::from(fault)),
+        }
+    }
+}
+
+impl<P: Pick> Run for RunMachine<'_, P> {
+    ghost unexpecting = { λ run net fault old new does. machine_unexpecting does.0 fault does.1 };
+}
+
+/// `run --levels`: the same trace, each process run once a moment: the clocked ones that an input wakes, and then the combinational ones in
+/// order of level.
+#[derive(Drop)]
+pub struct RunLevels<'a> {
+    pub stimulus: &'a [u8],
+}
+
+impl Command for RunLevels<'_> {
+    type Answer = LevelSummary;
+
+    ghost does = { λ run. RunsMachineByLevels run.stimulus.now };
+
+    ghost sight = { λ run. machine run.stimulus.now };
+
+    fn on_net<V: Watch, S: Sink>(
+        &mut self,
+        alloc: Global,
+        net: &Net,
+        watch: &mut V,
+        out: &mut S,
+    ) -> Result<LevelSummary, Fault> {
+        match rtl_machine::run_levels_watched(alloc, net, self.stimulus, watch, out) {
+            Ok(summary) => Ok(summary),
+            Err(fault) => Err(Fault::from(fault)),
+        }
+    }
+}
+
+impl Run for RunLevels<'_> {
+    ghost unexpecting = { λ run net fault old new does. machine_unexpecting does.0 fault does.1 };
+}
+
+/// `run --event`: by events, of any netlist without a stored variable. `pick` chooses the order of processes within a cycle.
+#[derive(Drop)]
+pub struct RunEvents<'a, P: Pick> {
+    pub stimulus: &'a [u8],
+    pub pick: &'a mut P,
+}
+
+impl<P: Pick> Command for RunEvents<'_, P> {
+    type Answer = Summary;
+
+    ghost does = { λ run. RunsEvents run.stimulus.now };
+
+    ghost sight = { λ run. events run.stimulus.now };
+
+    fn on_net<V: Watch, S: Sink>(
+        &mut self,
+        alloc: Global,
+        net: &Net,
+        watch: &mut V,
+        out: &mut S,
+    ) -> Result<Summary, Fault> {
+        let stored = stored(alloc, net)?;
+        if !stored.is_empty() {
+            return Err(Fault::Rejected(stored));
+        }
+        let stimulus = Stimulus::read(alloc, net, self.stimulus)?;
+        let bodies = codes(alloc, net)?;
+        let simulation = Simulation {
+            net,
+            bodies: &bodies,
+            stimulus: &stimulus,
+            limit: MAX_DELTAS,
+        };
+        let Ok(mut agenda) = Wheel::new(alloc, SLOTS) else {
+            return Err(Fault::Memory);
+        };
+        let summary = simulation.run_watched(alloc, &mut agenda, self.pick, watch, out)?;
+        Ok(summary)
+    }
+}
+
+impl<P: Pick> Run for RunEvents<'_, P> {
+    ghost unexpecting = { λ run net fault old new does. events_unexpecting run.stimulus.now net fault old new does };
+}
