@@ -1,8 +1,8 @@
 use Rattle.std.proofs.Common.{◌≡◌, ◌+◌, ◌-◌, ◌*◌, ◌≤◌, length, take, drop, ap, ◌∙◌, arith}
 use Rattle.std.proofs.lemmas.List.{length-append, length-drop, length-take}
-use Rattle.rtlsim_remarks.specs.Marks.{step}
-use Rattle.rtlsim_remarks.proofs.Walking.{on, Fits, walked, further, marked_on}
-use Rattle.rtlsim_remarks.proofs.places.marks_of.Goals as goal
+use Rattle.rtlsim_json.specs.Marks.{step}
+use Rattle.rtlsim_json.proofs.Walking.{on, Fits, walked, further, marked_on}
+use Rattle.rtlsim_json.proofs.places.marks_of.Goals as goal
 
 pub position_from-here-requires-clause-line : goal.position_from-here-requires-clause-line
 position_from-here-requires-clause-line c =

@@ -3,7 +3,7 @@ use Rattle.std.specs.Prelude.{◌≡◌, ℕ, ◌+◌, ◌*◌, ◌<◌, List, l
 use Rattle.rtlsim_explain.specs.Places.{position_behind}
 use Rattle.rtlsim_explain.specs.declared.place.Position.{Position}
 use Rattle.rtlsim_files.specs.Files.{FileView, file_view}
-use Rattle.rtlsim_remarks.specs.declared.places.MarkedFile.{MarkedFile}
+use Rattle.rtlsim_json.specs.declared.places.MarkedFile.{MarkedFile}
 
 -- so many bytes stand between two marks
 abbrev pub step : ℕ

@@ -4,7 +4,7 @@ ghost use Rattle.std.specs.Prelude.{◌≡◌, map, IfOk};
 ghost use Rattle.rtl_sink.specs.Written.{IsIntact};
 ghost use Rattle.rtlsim_files.specs.Files.{file_view};
 ghost use Rattle.rtlsim_listing.specs.Printing.{IsListed};
-ghost use Rattle.rtlsim_remarks.specs.RemarkText as spec;
+ghost use Rattle.rtlsim_json.specs.RemarkText as spec;
 
 use crate::lines::lines;
 use crate::places::mark_files;

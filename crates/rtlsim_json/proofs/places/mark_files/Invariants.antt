@@ -1,8 +1,8 @@
 use Rattle.std.proofs.Common.{◌≡◌, map, take}
 use Rattle.std.specs.Prelude.{All}
 use Rattle.rtlsim_files.specs.Files.{file_view}
-use Rattle.rtlsim_remarks.specs.Marks.{IsMarked, view}
-use Rattle.rtlsim_remarks.proofs.places.mark_files.Given as goal
+use Rattle.rtlsim_json.specs.Marks.{IsMarked, view}
+use Rattle.rtlsim_json.proofs.places.mark_files.Given as goal
 
 -- the files before this one are marked
 abbrev pub invariant-loop-file : goal.invariant-loop-file

@@ -1,7 +1,7 @@
 //! What is said of a remark.
 
 ghost use Rattle.std.specs.Prelude.{◌≡◌};
-ghost use Rattle.rtlsim_remarks.specs.RemarkText as spec;
+ghost use Rattle.rtlsim_json.specs.RemarkText as spec;
 
 use rtl_remarks::Remark;
 

@@ -1,7 +1,7 @@
 use Rattle.std.proofs.Common.{◌≡◌, ◌++◌, length, map}
 use Rattle.rtlsim_files.specs.Files.{file_view}
-use Rattle.rtlsim_remarks.specs.RemarkText.{lines_from, name}
-use Rattle.rtlsim_remarks.proofs.lines.lines_from.Given as goal
+use Rattle.rtlsim_json.specs.RemarkText.{lines_from, name}
+use Rattle.rtlsim_json.proofs.lines.lines_from.Given as goal
 
 -- the lines of those that are left are the rest of the text
 abbrev pub invariant-loop-left : goal.invariant-loop-left

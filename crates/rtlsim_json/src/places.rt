@@ -5,7 +5,7 @@ ghost use Rattle.rtlsim_explain.specs.Places as spec;
 ghost use Rattle.rtlsim_explain_check.specs.Placed as placed;
 ghost use Rattle.rtlsim_files.specs.Files as spots;
 ghost use Rattle.rtlsim_files.specs.Files.{file_view};
-ghost use Rattle.rtlsim_remarks.specs.Marks.{AreMarks, AreMarked, IsMarked, view};
+ghost use Rattle.rtlsim_json.specs.Marks.{AreMarks, AreMarked, IsMarked, view};
 
 use rtl_net::NoMemory;
 use rtlsim_explain::Position;

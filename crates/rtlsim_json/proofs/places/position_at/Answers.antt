@@ -2,8 +2,8 @@ use Rattle.std.proofs.Common.{◌≡◌, ℕ, ◌+◌, ◌-◌, ◌*◌, ◌/◌
 use Rattle.std.proofs.lemmas.List.{length-drop, length-take, take_min}
 use Rattle.std.proofs.lemmas.Nat.{div-add-mod'}
 use Rattle.rtlsim_explain.specs.Places.{position_behind}
-use Rattle.rtlsim_remarks.proofs.Walking.{on, Fits, walked, further}
-use Rattle.rtlsim_remarks.proofs.places.position_at.Goals as goal
+use Rattle.rtlsim_json.proofs.Walking.{on, Fits, walked, further}
+use Rattle.rtlsim_json.proofs.places.position_at.Goals as goal
 
 pub position_from-requires-clause-line : goal.position_from-requires-clause-line
 position_from-requires-clause-line c =

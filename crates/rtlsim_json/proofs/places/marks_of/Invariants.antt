@@ -2,8 +2,8 @@ use Rattle.std.proofs.Common.{◌≡◌, ℕ, ◌+◌, ◌-◌, ◌*◌, ◌<◌
 use Rattle.std.specs.Prelude.{slice_index_or}
 use Rattle.rtlsim_explain.specs.Places.{position_behind}
 use Rattle.rtlsim_explain.specs.declared.place.Position.{Position}
-use Rattle.rtlsim_remarks.specs.Marks.{step}
-use Rattle.rtlsim_remarks.proofs.places.marks_of.Given as goal
+use Rattle.rtlsim_json.specs.Marks.{step}
+use Rattle.rtlsim_json.proofs.places.marks_of.Given as goal
 
 -- the marks up to this byte, which stands here
 abbrev pub invariant-loop-at : goal.invariant-loop-at

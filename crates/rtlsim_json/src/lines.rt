@@ -2,8 +2,8 @@
 
 ghost use Rattle.std.specs.Prelude.{◌≡◌, ◌++◌, map, IfOk, OnOk};
 ghost use Rattle.rtlsim_files.specs.Files.{file_view};
-ghost use Rattle.rtlsim_remarks.specs.Marks.{AreMarked};
-ghost use Rattle.rtlsim_remarks.specs.RemarkText as spec;
+ghost use Rattle.rtlsim_json.specs.Marks.{AreMarked};
+ghost use Rattle.rtlsim_json.specs.RemarkText as spec;
 
 use crate::places::{MarkedFile, place_text};
 use crate::said::{closing, is_same, middle, net_of, opening, process_of};

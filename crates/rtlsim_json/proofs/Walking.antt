@@ -8,7 +8,7 @@ use Rattle.rtl_stim_lines.specs.Lines.{ends_line}
 use Rattle.rtlsim_explain.specs.Places.{position_from, position_behind}
 use Rattle.rtlsim_explain.specs.declared.place.Position.{Position}
 use Rattle.rtlsim_files.specs.Files.{FileView, spot, spot_in}
-use Rattle.rtlsim_remarks.specs.Marks.{step}
+use Rattle.rtlsim_json.specs.Marks.{step}
 
 abbrev pub on : Position → List ℕ → Position
 on p bytes = position_from p.line p.column bytes

@@ -2,10 +2,10 @@ use Rattle.std.proofs.Common.{◌≡◌, suc, ◌+◌, ◌-◌, ◌<◌, ◌∷�
 use Rattle.std.proofs.Math.Seq.{drop-cons}
 use Rattle.std.proofs.lemmas.List.{length-drop, length-map}
 use Rattle.rtlsim_files.specs.Files.{spot_in}
-use Rattle.rtlsim_remarks.specs.declared.places.MarkedFile.{MarkedFile}
-use Rattle.rtlsim_remarks.specs.Marks.{view}
-use Rattle.rtlsim_remarks.proofs.Walking.{spot_next}
-use Rattle.rtlsim_remarks.proofs.places.spot_text.Goals as goal
+use Rattle.rtlsim_json.specs.declared.places.MarkedFile.{MarkedFile}
+use Rattle.rtlsim_json.specs.Marks.{view}
+use Rattle.rtlsim_json.proofs.Walking.{spot_next}
+use Rattle.rtlsim_json.proofs.places.spot_text.Goals as goal
 
 pub loop-number-preserved : goal.loop-number-preserved
 loop-number-preserved c =

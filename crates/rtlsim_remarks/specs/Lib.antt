@@ -1,2 +1,0 @@
-pub mod RemarkText
-pub mod Marks
