@@ -7,10 +7,10 @@ use Rattle.rtlsim_faults.specs.Explanations.{files_of, with_explanation}
 use Rattle.rtlsim_faults.specs.declared.faults.Fault.{Fault}
 use Rattle.rtlsim_faults.specs.declared.faults.Fault.TheVariants.{Memory, Output}
 use Rattle.rtlsim_faults.specs.declared.telling.Telling.{Telling}
-use Rattle.rtlsim_json.specs.Json.{json_text}
+use Rattle.rtlsim_verdict.specs.Json.{json_text}
 use Rattle.rtlsim_listing.specs.CheckText.{check_text}
 use Rattle.rtlsim_listing.specs.DotText.{dot_text}
-use Rattle.rtlsim_json.specs.RemarkText.{remarks_text}
+use Rattle.rtlsim_verdict.specs.RemarkText.{remarks_text}
 use Rattle.rtlsim_listing.specs.NetText.{net_text}
 use Rattle.rtl_net.specs.Nets.{NetlistView}
 use Rattle.rtl_sink.specs.Written.{SinkState, IsIntact, HasFailed, TakesAll, TakesBeginning}
