@@ -2,9 +2,10 @@
 
 use crate::answer::text_of;
 use crate::calls::by_tool;
+use crate::frame::Frame;
 use crate::program::Program;
 use crate::row::words_of;
-use rows_tables::{Frame, Teller, tell_table};
+use crate::table::{Teller, tell_table};
 use std::alloc::{AllocError, Global};
 use std::io;
 use std::rt::Files;
@@ -20,7 +21,7 @@ pub enum Told {
     Counts,
 }
 
-/// Prints tables of small sources, as rows_tables reads them: a row is a call of `net`, of which it tells a few words.
+/// Prints tables of small sources, as rows_calls reads them: a row is a call of `net`, of which it tells a few words.
 ///
 /// # Errors
 ///

@@ -3,7 +3,7 @@
 ghost use Rattle.vhdl_lexer.specs.Cut.{AreWithin};
 
 use crate::source::{source_of, written_of};
-use rows_tables::{Frame, Teller};
+use rows_calls::{Frame, Teller};
 use rtl_sink::Out;
 use rtlsim_explain::{Place, Title, explain_elab, explain_lex, explain_name, explain_syntax};
 use std::alloc::{AllocError, Global};

@@ -7,7 +7,7 @@ mod explained;
 mod source;
 
 use explained::Table;
-use rows_tables::tell_table;
+use rows_calls::tell_table;
 use std::io;
 
 fn main(rt: HostRuntime) -> io::Result<()> {

@@ -16,7 +16,7 @@ mod trees;
 
 use beginnings::tell_beginnings;
 use fault::told_fault;
-use rows_tables::tell_table;
+use rows_calls::tell_table;
 use std::io;
 use std::rt::Files;
 use table::Table;

@@ -3,7 +3,7 @@
 use crate::asked::told;
 use crate::tokens::{told_integer, told_tokens};
 use crate::trees::{told_text, told_tree};
-use rows_tables::{Frame, Teller};
+use rows_calls::{Frame, Teller};
 use std::alloc::{AllocError, Global};
 
 /// What the rows of a table are.

@@ -1,8 +1,8 @@
 //! What the parser makes of a text, in words.
 
 use crate::fault::told_fault;
+use rows_calls::Frame;
 use rows_front_trees::push_file;
-use rows_tables::Frame;
 use std::alloc::{AllocError, Global};
 use vhdl_lexer::{LexFault, lex};
 use vhdl_parser::{SyntaxFault, parse};

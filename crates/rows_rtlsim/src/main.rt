@@ -4,7 +4,7 @@
 //! The tables lie in `data/` with the sources that they name; `data/values.txt` tells how a row is written.
 //! Where a call answers otherwise, what it gave is printed, and so the output isn't that of `stdout`.
 //!
-//! `data/names/` and `data/nets/` have tables of many small sources, as rows_tables reads them: a row is a call of `net`, of
+//! `data/names/` and `data/nets/` have tables of many small sources, as rows_calls reads them: a row is a call of `net`, of
 //! which it tells a few words. They are printed as they stand, comments aside.
 //!
 //! `data/rtl/` has rows of what a whole call doesn't show: what the processes of a netlist reach, what the checker reports and a
@@ -23,9 +23,8 @@ mod tries;
 
 use opened::Opened;
 use processes::Processes;
-use rows_calls::{Told, tell_calls, tell_sources};
+use rows_calls::{Told, tell_calls, tell_sources, tell_table};
 use rows_on_net::{Bodies, tell_agendas, tell_orders, tell_runs};
-use rows_tables::tell_table;
 use rtlsim_calls::Rtlsim;
 use std::io;
 use std::rt::Files;

@@ -1,7 +1,7 @@
 //! What is elaborated of a text, in words.
 
+use rows_calls::{Frame, Teller};
 use rows_on_net::processes_of;
-use rows_tables::{Frame, Teller};
 use std::alloc::{AllocError, Global};
 use vhdl_expand_rules::{ElabFault, ElabProblem};
 use vhdl_source::{SourceFault, open};

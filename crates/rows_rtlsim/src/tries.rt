@@ -1,7 +1,7 @@
 //! What is tried with a design.
 
+use rows_calls::{Frame, Teller};
 use rows_on_net::told_try;
-use rows_tables::{Frame, Teller};
 use std::alloc::{AllocError, Global};
 use vhdl_source::open;
 
