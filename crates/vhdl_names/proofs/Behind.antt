@@ -10,7 +10,7 @@ use Rattle.vhdl_names_rules.specs.Declarations.{in_order}
 use Rattle.vhdl_names_rules.specs.Interfaces.{EntityView, declared_names}
 use Rattle.vhdl_names_rules.specs.Concurrent.{concurrents, concurrent_labels}
 use Rattle.vhdl_names_rules.specs.Files.{declaration, labelled, architecture}
-use Rattle.vhdl_names_labels.proofs.Lists.{bound, inner}
+use Rattle.vhdl_names_units.proofs.Lists.{bound, inner}
 use Rattle.vhdl_names_declarations.specs.Entered.{entered, entering, more}
 use Rattle.vhdl_names_declarations.proofs.Regions.{more_split}
 use Rattle.vhdl_names_components.specs.Views.{sight_behind, named_view}

@@ -15,7 +15,7 @@ use Rattle.vhdl_names_rules.specs.Instances.{instance}
 use Rattle.vhdl_names_rules.specs.Concurrent as rules
 use Rattle.vhdl_names_rules.specs.Concurrent.{concurrent_labels, sight_within, generated}
 use Rattle.vhdl_names_units.specs.views.Concurrent.{concurrents_of}
-use Rattle.vhdl_names_labels.proofs.Lists.{bound}
+use Rattle.vhdl_names_units.proofs.Lists.{bound}
 use Rattle.vhdl_names.specs.steps.Concurrents as steps
 
 pub generate_is : (g : Generate) → tree.concurrent_view (c.Generate g)

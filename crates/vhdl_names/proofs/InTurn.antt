@@ -10,7 +10,7 @@ use Rattle.vhdl_names_rules.specs.Files.{as_architecture, architectures_of}
 use Rattle.vhdl_names_rules.specs.problems.Broken.{Broken, Tells, nothing, any_of, ◌▸◌}
 use Rattle.vhdl_names_rules.proofs.Telling.{any_append, behind_kept, told_left, told_same}
 use Rattle.vhdl_names_rules.proofs.kept.Files.{one_behind}
-use Rattle.vhdl_names_labels.specs.Lists.{in_turn}
+use Rattle.vhdl_names_units.specs.Lists.{in_turn}
 use Rattle.vhdl_names.proofs.Passing.{left_at, next}
 
 any_one : (b : List ContextItem × t.Architecture → Broken) (d : t.DesignUnit) (ds : List t.DesignUnit)

@@ -9,12 +9,12 @@ use Rattle.vhdl_tree.specs.declared.sequential.Case.{Case, out-Case}
 use Rattle.vhdl_names_rules.specs.Rules.{◌>>=◌, met, then_some}
 use Rattle.vhdl_names_rules.specs.Visibility.{Name, are_distinct}
 use Rattle.vhdl_names_rules.specs.Statements.{label_names, inner_labels, statement_labels, conditional_labels, otherwise_labels, alternative_labels}
-use Rattle.vhdl_names_labels.specs.Lists.{in_turn}
-use Rattle.vhdl_names_labels.specs.Once.{one_name}
+use Rattle.vhdl_names_units.specs.Lists.{in_turn}
+use Rattle.vhdl_names_units.specs.Once.{one_name}
 use Rattle.vhdl_names_statements.proofs.steps.Cases.{case_is}
 use Rattle.vhdl_names_statements.proofs.steps.Choosing.{turned-append}
-use Rattle.vhdl_names_labels.proofs.Lists.{bound}
-use Rattle.vhdl_names_labels.proofs.Once.{once}
+use Rattle.vhdl_names_units.proofs.Lists.{bound}
+use Rattle.vhdl_names_units.proofs.Once.{once}
 use Rattle.vhdl_names_statements.proofs.steps.Sequential.{if_is, for_is}
 use Rattle.vhdl_names.specs.steps.Labels.{with_statement, with_statements, with_branch, with_alternative, with_else, with_if}
 

@@ -10,7 +10,7 @@ use Rattle.vhdl_names_rules.specs.Gives.{Gives}
 use Rattle.vhdl_names_rules.specs.Visibility.{is_among, are_distinct}
 use Rattle.vhdl_names_rules.specs.Files.{entity_names, described_names, architectures_of, stand_after}
 use Rattle.vhdl_names_rules.proofs.laws.Rules.{comes, kept, some_is}
-use Rattle.vhdl_names_labels.specs.Lists.{in_turn}
+use Rattle.vhdl_names_units.specs.Lists.{in_turn}
 use Rattle.vhdl_names_rules.specs.problems.Broken.{Tells, ◌▸◌, unless}
 use Rattle.vhdl_names_rules.specs.problems.Files.{name_of_unit, names}
 use Rattle.vhdl_names_rules.proofs.Telling.{IsKept, both_kept, behind_kept, unless_kept, told_left, told_same}

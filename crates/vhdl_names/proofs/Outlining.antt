@@ -10,9 +10,9 @@ use Rattle.vhdl_tree.specs.Tree.{ContextItem, DesignUnit, LibraryUnit}
 use Rattle.vhdl_names_rules.specs.Rules.{◌>>=◌, ◌>>◌, met, then_some}
 use Rattle.vhdl_names_rules.specs.Visibility.{Name, is_among, are_distinct}
 use Rattle.vhdl_names_rules.specs.Files.{as_entity, entities_of, entity_names, described_names, architectures_of, stands_after, stand_after}
-use Rattle.vhdl_names_labels.specs.Lists.{in_turn}
-use Rattle.vhdl_names_labels.specs.Once.{one_name}
-use Rattle.vhdl_names_labels.proofs.Once.{once}
+use Rattle.vhdl_names_units.specs.Lists.{in_turn}
+use Rattle.vhdl_names_units.specs.Once.{one_name}
+use Rattle.vhdl_names_units.proofs.Once.{once}
 use Rattle.vhdl_names.specs.Views.{Keyed, OutlineView}
 use Rattle.vhdl_names.specs.steps.Outlines.{keyed, names_of, one_described, with_unit, no_outline, outline_of, outlined}
 

@@ -12,7 +12,7 @@ use Rattle.vhdl_names_rules.specs.Rules.{◌>>=◌, ◌>>◌, met, then_some}
 use Rattle.vhdl_names_rules.specs.Visibility.{Name, is_among}
 use Rattle.vhdl_names_rules.specs.Files.{entity_names, described_names, architectures_of, stands_after, stand_after}
 use Rattle.vhdl_names_rules.proofs.laws.Rules.{comes, kept, both, some_is}
-use Rattle.vhdl_names_labels.specs.Once.{one_name}
+use Rattle.vhdl_names_units.specs.Once.{one_name}
 use Rattle.vhdl_names_rules.specs.problems.Files.{placed_architectures}
 use Rattle.vhdl_names.proofs.Naming.{then_is}
 use Rattle.vhdl_names.specs.Views.{Keyed, OutlineView}

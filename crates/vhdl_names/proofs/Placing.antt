@@ -11,8 +11,8 @@ use Rattle.vhdl_names_rules.specs.Visibility.{Name, is_among, are_distinct}
 use Rattle.vhdl_names_rules.specs.Interfaces.{EntityView, entity_named}
 use Rattle.vhdl_names_rules.specs.Files.{architecture, architectures_of, described_names}
 use Rattle.vhdl_names_rules.proofs.laws.Rules.{comes, both, not_true, neither, some_is}
-use Rattle.vhdl_names_labels.specs.Lists.{in_turn}
-use Rattle.vhdl_names_labels.proofs.Lists.{bound}
+use Rattle.vhdl_names_units.specs.Lists.{in_turn}
+use Rattle.vhdl_names_units.proofs.Lists.{bound}
 use Rattle.vhdl_names.specs.steps.Outlines.{keyed}
 use Rattle.vhdl_names.specs.steps.Architectures.{own, with_described, with_unit}
 use Rattle.vhdl_names.proofs.Filing.{found_keyed, each_same}

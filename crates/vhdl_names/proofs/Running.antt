@@ -10,7 +10,7 @@ use Rattle.vhdl_names_rules.specs.Declarations.{in_order, variables}
 use Rattle.vhdl_names_rules.specs.Interfaces.{declared_names}
 use Rattle.vhdl_names_rules.specs.Statements.{statements, statement_labels}
 use Rattle.vhdl_names_rules.specs.Concurrent.{sensitivity, process, label_of}
-use Rattle.vhdl_names_labels.proofs.Lists.{bound, inner}
+use Rattle.vhdl_names_units.proofs.Lists.{bound, inner}
 use Rattle.vhdl_names.specs.steps.Processes as steps
 
 module _ (sight : Sight) (label : Option Ident) (p : t.Process) (outside : sight.variables ≡ []) where

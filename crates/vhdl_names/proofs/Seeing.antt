@@ -10,9 +10,9 @@ use Rattle.vhdl_names_rules.specs.Visibility.{Name, Meaning, Declared, declare, 
 use Rattle.vhdl_names_rules.specs.Interfaces.{declared_names}
 use Rattle.vhdl_names_rules.specs.Instances.{Formal, generic_name, port_formal}
 use Rattle.vhdl_names_rules.proofs.laws.Rules.{both, not_true, neither}
-use Rattle.vhdl_names_labels.specs.Lists.{in_turn}
-use Rattle.vhdl_names_labels.specs.Once.{one_name}
-use Rattle.vhdl_names_labels.proofs.Once.{once}
+use Rattle.vhdl_names_units.specs.Lists.{in_turn}
+use Rattle.vhdl_names_units.specs.Once.{one_name}
+use Rattle.vhdl_names_units.proofs.Once.{once}
 use Rattle.vhdl_names_instances.specs.Table.{Seen, type_of}
 use Rattle.vhdl_names_instances.specs.steps.Tables.{with_declared, no_formals}
 use Rattle.vhdl_names_instances.specs.declared.actuals.PortType.{PortType}

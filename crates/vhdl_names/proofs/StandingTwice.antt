@@ -15,11 +15,11 @@ use Rattle.vhdl_names_rules.specs.problems.Labels.{label_if_any, inner_labels, s
 use Rattle.vhdl_names_rules.specs.problems.Twice.{twice}
 use Rattle.vhdl_names_rules.proofs.Telling.{told_same}
 use Rattle.vhdl_names_rules.proofs.kept.Labels.{statements_named}
-use Rattle.vhdl_names_labels.specs.Lists.{in_turn}
-use Rattle.vhdl_names_labels.proofs.Behind.{next}
+use Rattle.vhdl_names_units.specs.Lists.{in_turn}
+use Rattle.vhdl_names_units.proofs.Behind.{next}
 use Rattle.vhdl_names.specs.steps.Labels.{with_statements, with_branch}
 use Rattle.vhdl_names.proofs.Labelling.{each_statement, each_branch}
-use Rattle.vhdl_names_labels.specs.Once.{one_name}
+use Rattle.vhdl_names_units.specs.Once.{one_name}
 
 pub label_told : (names : List Name) (i : Ident) → unless Twice i.at (not (is_among i.text names)) ≡ twice names (i ∷ [])
 label_told names i = go (is_among i.text names)

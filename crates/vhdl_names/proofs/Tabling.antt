@@ -7,9 +7,9 @@ use Rattle.std.proofs.lemmas.Map.Keys.{IsDistinct-head, IsDistinct-tail}
 use Rattle.vhdl_names_rules.specs.Rules.{◌>>=◌, then_some}
 use Rattle.vhdl_names_rules.specs.Visibility.{Name, is_among, are_distinct}
 use Rattle.vhdl_names_rules.specs.Interfaces.{EntityView}
-use Rattle.vhdl_names_labels.specs.Lists.{in_turn}
-use Rattle.vhdl_names_labels.specs.Once.{one_name}
-use Rattle.vhdl_names_labels.proofs.Once.{once}
+use Rattle.vhdl_names_units.specs.Lists.{in_turn}
+use Rattle.vhdl_names_units.specs.Once.{one_name}
+use Rattle.vhdl_names_units.proofs.Once.{once}
 use Rattle.vhdl_names_instances.specs.Table.{seen}
 use Rattle.vhdl_names_components.specs.declared.interface.EntityInterface.{EntityInterface}
 use Rattle.vhdl_names_components.specs.Views.{named_view}

@@ -3,7 +3,7 @@ use Rattle.std.proofs.Common.{◌≡◌, ℕ, zero, suc, ◌+◌, ◌≤◌, Lis
 use Rattle.std.specs.Prelude.{slice_get}
 use Rattle.std.proofs.lemmas.List.{length-map, drop_all}
 use Rattle.vhdl_names_rules.specs.Rules.{◌>>=◌}
-use Rattle.vhdl_names_labels.specs.Lists.{in_turn}
+use Rattle.vhdl_names_units.specs.Lists.{in_turn}
 
 module _ {A B E : Type 0} (f : A → B → Option A) (view : E → B) where
   drop_at : (es : List E) (i : ℕ) (e : E) → slice_get es i ≡ Some e → drop i (map view es) ≡ view e ∷ drop (suc i) (map view es)

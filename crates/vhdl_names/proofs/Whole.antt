@@ -10,7 +10,7 @@ use Rattle.vhdl_names_rules.specs.Visibility.{Name, is_among, are_distinct}
 use Rattle.vhdl_names_rules.specs.Interfaces.{EntityView}
 use Rattle.vhdl_names_rules.specs.Files.{entity_names, described_names, entities_of, architectures_of, stand_after, units_of}
 use Rattle.vhdl_names_rules.proofs.laws.Rules.{kept, some_is}
-use Rattle.vhdl_names_labels.specs.Lists.{in_turn}
+use Rattle.vhdl_names_units.specs.Lists.{in_turn}
 use Rattle.vhdl_names_rules.specs.problems.Broken.{Broken, Tells, any_of, earlier}
 use Rattle.vhdl_names_rules.specs.problems.Files.{placed_architectures, is_hidden, described, names, file}
 use Rattle.vhdl_names_rules.proofs.Telling.{told_same}

@@ -28,10 +28,9 @@ use std::alloc::Global;
 use vhdl_names_components::{EntityInterface, architecture_sight, declarations};
 use vhdl_names_declarations::{declare_label, ends};
 use vhdl_names_instances::InstanceEntities;
-use vhdl_names_labels::copied;
 use vhdl_names_rules::NameFault;
 use vhdl_names_types::{Region, Sight, names_are_apart};
-use vhdl_names_units::{Architecture, Declaration};
+use vhdl_names_units::{Architecture, Declaration, copied};
 use vhdl_tree as syntax;
 
 /// Each label, also those behind one that stands twice: the first of those is told.

@@ -5,8 +5,8 @@ ghost use Rattle.vhdl_names.specs.Finding as steps;
 ghost use Rattle.vhdl_names.specs.Finding.{Finds, HasMemory};
 ghost use Rattle.vhdl_names_rules.specs.problems.Broken.{Broken, earlier};
 
-use vhdl_names_labels::earlier_in;
 use vhdl_names_rules::NameFault;
+use vhdl_names_units::earlier_in;
 
 /// Of two answers in order of the text the first that is refused; want of memory comes before all.
 pub fn first_of(told: Result<(), NameFault>, next: Result<(), NameFault>) -> Result<(), NameFault>

@@ -1,7 +1,7 @@
 //! The entities and architectures of a file, before they are analysed (IEEE 1076-2008, 3.2, 3.3 and 13.1).
 
 ghost use Rattle.std.specs.Prelude.{◌≡◌, IfOk, IfErr, OnErr, not, [], map, Some, option_map};
-ghost use Rattle.vhdl_names_labels.specs.Once.{names_view};
+ghost use Rattle.vhdl_names_units.specs.Once.{names_view};
 ghost use Rattle.vhdl_names.specs.Breaking as breaking;
 ghost use Rattle.vhdl_names.specs.Finding.{Finds, HasMemory};
 ghost use Rattle.vhdl_names.specs.Views.{described_view, outline_view, architectures_view};

@@ -2,8 +2,8 @@
 
 ghost use Rattle.std.specs.Prelude.{◌≡◌, ◌++◌, [], IfErr, map};
 ghost use Rattle.vhdl_names.specs.steps.Labels as steps;
-ghost use Rattle.vhdl_names_labels.specs.Lists.{in_turn};
-ghost use Rattle.vhdl_names_labels.specs.Once.{names_view, one_name};
+ghost use Rattle.vhdl_names_units.specs.Lists.{in_turn};
+ghost use Rattle.vhdl_names_units.specs.Once.{names_view, one_name};
 ghost use Rattle.vhdl_names_rules.specs.problems.Broken.{Tells};
 ghost use Rattle.vhdl_names_rules.specs.problems.Labels as broken;
 ghost use Rattle.vhdl_names_rules.specs.problems.Twice.{twice};

@@ -21,16 +21,15 @@ use indexmap::IndexMap;
 use std::alloc::Global;
 use vhdl_names_declarations::objects::variables;
 use vhdl_names_expressions::signal;
-use vhdl_names_labels::{copied_label, earlier_in, label_ends};
 use vhdl_names_rules::{NameFault, NameProblem, SignalPart};
 use vhdl_names_statements::analysed;
 use vhdl_names_types::Sight;
-use vhdl_names_units::{Process, Sensitivity, Statement};
+use vhdl_names_units::{Process, Sensitivity, Statement, copied_label, earlier_in, label_ends};
 use vhdl_tree as syntax;
 use vhdl_tree::Identifier;
 
 /// The signals of a list of names.
-#[tactic(auto, using(vhdl_names_labels::proofs::Lists::each_in_turn))]
+#[tactic(auto, using(vhdl_names_units::proofs::Lists::each_in_turn))]
 fn places(
     alloc: Global,
     sight: &Sight,

@@ -4,7 +4,7 @@ ghost use Rattle.std.specs.Prelude.{◌≡◌, List, [], map, IfErr, Some, OnOk,
 ghost use Rattle.vhdl_names_instances.specs.Table.{AreEntities, seens_view};
 ghost use Rattle.vhdl_names.specs.steps.Concurrents as steps;
 ghost use Rattle.vhdl_names_instances.specs.steps.Instances.{instance as instance_of};
-ghost use Rattle.vhdl_names_labels.specs.Once.{names_view};
+ghost use Rattle.vhdl_names_units.specs.Once.{names_view};
 ghost use Rattle.vhdl_names.specs.steps.Told as told;
 ghost use Rattle.vhdl_names_rules.specs.problems.Broken.{Tells, nothing};
 ghost use Rattle.vhdl_names_rules.specs.problems.Concurrent as broken;
@@ -23,11 +23,10 @@ use crate::schemes::scheme;
 use std::alloc::Global;
 use vhdl_names_declarations::labels_are_distinct;
 use vhdl_names_instances::{InstanceEntities, instance_in_turn};
-use vhdl_names_labels::{copied, earlier_in, ends};
 use vhdl_names_rules::NameFault;
 use vhdl_names_statements::{assignment, selected};
 use vhdl_names_types::{Declared, Meaning, Sight};
-use vhdl_names_units::Concurrent;
+use vhdl_names_units::{Concurrent, copied, earlier_in, ends};
 use vhdl_tree as syntax;
 use vhdl_tree::Identifier;
 
@@ -80,7 +79,7 @@ fn leave_generate(sight: &mut Sight, scheme: &syntax::Scheme)
 
 /// Statements one after another.
 #[cycle(concurrent)]
-#[tactic(auto, using(vhdl_names_labels::proofs::Lists::each_in_turn))]
+#[tactic(auto, using(vhdl_names_units::proofs::Lists::each_in_turn))]
 fn statements(
     alloc: Global,
     entities: &InstanceEntities,

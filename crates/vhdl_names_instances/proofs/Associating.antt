@@ -10,10 +10,10 @@ use Rattle.vhdl_tree.specs.declared.expression.Association as a
 use Rattle.vhdl_names_rules.specs.Rules.{◌>>=◌, ◌>>◌, met, then_some}
 use Rattle.vhdl_names_rules.specs.Visibility.{Name, is_among, are_distinct}
 use Rattle.vhdl_names_rules.specs.Instances.{is_named, positional_first, formal_of, formals_of, expression_of, actual_of, associated}
-use Rattle.vhdl_names_labels.specs.Lists.{in_turn}
-use Rattle.vhdl_names_labels.specs.Once.{one_name}
-use Rattle.vhdl_names_labels.proofs.Lists.{bound}
-use Rattle.vhdl_names_labels.proofs.Once.{once}
+use Rattle.vhdl_names_units.specs.Lists.{in_turn}
+use Rattle.vhdl_names_units.specs.Once.{one_name}
+use Rattle.vhdl_names_units.proofs.Lists.{bound}
+use Rattle.vhdl_names_units.proofs.Once.{once}
 use Rattle.vhdl_names_instances.specs.steps.Associations.{formal_at, one_taken, taking, all_taken, actuals, actual_at}
 
 abbrev items : Vec ℕ Global → List ℕ

@@ -12,7 +12,7 @@ use Rattle.vhdl_names_rules.specs.Visibility.{Name, Sight}
 use Rattle.vhdl_names_rules.specs.Instances as rules
 use Rattle.vhdl_names_rules.specs.Interfaces.{EntityView}
 use Rattle.vhdl_names_rules.proofs.laws.Rules.{some_is}
-use Rattle.vhdl_names_labels.specs.Once.{names_view}
+use Rattle.vhdl_names_units.specs.Once.{names_view}
 use Rattle.vhdl_names_rules.specs.problems.Broken.{Broken, Tells, ◌▸◌, refused, unless, lacking, where_given, of_any}
 use Rattle.vhdl_names_rules.specs.problems.Instances as broken
 use Rattle.vhdl_names_rules.proofs.Telling.{lacking_kept, told_same, told_left, told_right, told_given, told_lacking}

@@ -13,13 +13,13 @@ use Rattle.vhdl_names_rules.specs.Expressions.{static}
 use Rattle.vhdl_names_rules.specs.Instances as rules
 use Rattle.vhdl_names_rules.specs.Instances.{Formal, associated, is_architecture, generic_name, port_formal, port_actual}
 use Rattle.vhdl_names_rules.specs.Interfaces.{EntityView, entity_named}
-use Rattle.vhdl_names_labels.proofs.Lists.{bound}
+use Rattle.vhdl_names_units.proofs.Lists.{bound}
 use Rattle.vhdl_names_instances.specs.Table.{Seen, seen, seen_view, type_of, items, AreEntities}
 use Rattle.vhdl_names_instances.specs.declared.instances.Formals.{Formals}
 use Rattle.vhdl_names_instances.specs.declared.instances.InstanceEntities.{InstanceEntities}
 use Rattle.vhdl_names_instances.specs.steps.Actuals as actuals
 use Rattle.vhdl_names_instances.specs.steps.Instances as steps
-use Rattle.vhdl_names_labels.specs.Once.{names_view}
+use Rattle.vhdl_names_units.specs.Once.{names_view}
 
 -- ---- places of names
 

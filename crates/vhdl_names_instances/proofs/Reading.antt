@@ -14,7 +14,7 @@ use Rattle.vhdl_names_rules.specs.Visibility.{Name, is_among}
 use Rattle.vhdl_names_rules.specs.Instances as rules
 use Rattle.vhdl_names_rules.specs.Instances.{is_named, formal_of, expression_of, actual_of}
 use Rattle.vhdl_names_rules.proofs.laws.Rules.{comes, kept, both, some_is}
-use Rattle.vhdl_names_labels.specs.Once.{one_name}
+use Rattle.vhdl_names_units.specs.Once.{one_name}
 use Rattle.vhdl_names_rules.specs.problems.Broken.{Broken, Tells, nothing, ◌▸◌, unless, lacking, where_given, of_any}
 use Rattle.vhdl_names_rules.specs.problems.Places.{association_place}
 use Rattle.vhdl_names_rules.specs.problems.Instances.{association, associations}

@@ -13,7 +13,7 @@ use Rattle.vhdl_names_rules.specs.Rules.{◌>>=◌, then_some}
 use Rattle.vhdl_names_rules.specs.Visibility.{Name, is_among}
 use Rattle.vhdl_names_rules.specs.Instances.{is_named}
 use Rattle.vhdl_names_rules.proofs.laws.Rules.{some_is}
-use Rattle.vhdl_names_labels.proofs.Once.{contained}
+use Rattle.vhdl_names_units.proofs.Once.{contained}
 use Rattle.vhdl_names_rules.specs.problems.Broken.{Broken, Tells, ◌▸◌, refused, unless, lacking, where_given}
 use Rattle.vhdl_names_rules.specs.problems.Places.{association_place}
 use Rattle.vhdl_names_rules.proofs.Telling.{IsKept, unless_kept, lacking_kept, told_left, told_right, told_given, told_unless}

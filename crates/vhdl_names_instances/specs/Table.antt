@@ -4,7 +4,7 @@ use Rattle.std.specs.Global.{Global}
 use Rattle.vhdl_names_rules.specs.Visibility.{Name}
 use Rattle.vhdl_names_rules.specs.Instances.{Formal, generic_name, port_formal}
 use Rattle.vhdl_names_rules.specs.Interfaces.{EntityView}
-use Rattle.vhdl_names_labels.specs.Once.{names_view}
+use Rattle.vhdl_names_units.specs.Once.{names_view}
 use Rattle.vhdl_names_instances.specs.declared.actuals.PortType.{PortType}
 use Rattle.vhdl_names_instances.specs.declared.instances.Formals.{Formals}
 use Rattle.vhdl_names_instances.specs.declared.instances.InstanceEntities.{InstanceEntities}

@@ -246,7 +246,7 @@ pub(crate) fn generic_entry(
 }
 
 /// The actuals of generics, in the order of the generics.
-#[tactic(auto, using(vhdl_names_labels::proofs::Lists::each_in_turn))]
+#[tactic(auto, using(vhdl_names_units::proofs::Lists::each_in_turn))]
 pub(crate) fn generic_actuals(
     alloc: Global,
     sight: &Sight,

@@ -4,7 +4,7 @@ ghost use Rattle.std.specs.Prelude.{◌≡◌, IfOk, IfErr, OnErr, false, not, m
 ghost use Rattle.vhdl_names_instances.specs.Breaking as breaking;
 ghost use Rattle.vhdl_names_instances.specs.steps.Associations as steps;
 ghost use Rattle.vhdl_names_instances.specs.Views.{actuals_view};
-ghost use Rattle.vhdl_names_labels.specs.Once.{names_view};
+ghost use Rattle.vhdl_names_units.specs.Once.{names_view};
 ghost use Rattle.vhdl_names_rules.specs.problems.Broken.{Tells, lacking, unless};
 ghost use Rattle.vhdl_names_rules.specs.problems.Places.{association_place};
 ghost use Rattle.vhdl_names_rules.specs.Gives.{Gives};

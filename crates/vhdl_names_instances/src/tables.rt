@@ -1,7 +1,7 @@
 //! What instances see of an entity, from its region (IEEE 1076-2008, 6.5.6).
 
 ghost use Rattle.std.specs.Prelude.{◌≡◌, IfOk, option_map};
-ghost use Rattle.vhdl_names_labels.specs.Lists.{in_turn};
+ghost use Rattle.vhdl_names_units.specs.Lists.{in_turn};
 ghost use Rattle.vhdl_names_instances.specs.Table.{seen_view};
 ghost use Rattle.vhdl_names_instances.specs.steps.Tables as steps;
 ghost use Rattle.vhdl_names_rules.specs.Gives.{Gives};

@@ -20,10 +20,9 @@ use crate::choices::{but_last, covered};
 use crate::statements::assigned;
 use std::alloc::{AllocError, Global};
 use vhdl_names_expressions::{choices, condition, selector, target};
-use vhdl_names_labels::copied_label;
 use vhdl_names_rules::{NameFault, ObjectType};
 use vhdl_names_types::Sight;
-use vhdl_names_units::{Alternative, Branch, Process, Sensitivity, Statement};
+use vhdl_names_units::{Alternative, Branch, Process, Sensitivity, Statement, copied_label};
 use vhdl_tree as syntax;
 use vhdl_tree::Identifier;
 
@@ -86,7 +85,7 @@ fn waveform(
 }
 
 /// Waveforms with conditions.
-#[tactic(auto, using(vhdl_names_labels::proofs::Lists::each_in_turn))]
+#[tactic(auto, using(vhdl_names_units::proofs::Lists::each_in_turn))]
 fn waveforms(
     alloc: Global,
     sight: &Sight,
@@ -194,7 +193,7 @@ fn chosen(
 }
 
 /// Waveforms with choices.
-#[tactic(auto, using(vhdl_names_labels::proofs::Lists::each_in_turn))]
+#[tactic(auto, using(vhdl_names_units::proofs::Lists::each_in_turn))]
 fn all_chosen(
     alloc: Global,
     sight: &Sight,

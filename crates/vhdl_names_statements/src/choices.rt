@@ -15,17 +15,16 @@ ghost use Rattle.vhdl_names_units.specs.views.Answers.{choice_view};
 ghost use Rattle.vhdl_names_types.specs.Views.{sight_view};
 ghost use Rattle.vhdl_names_statements.specs.steps.Cases as steps;
 ghost use Rattle.vhdl_names_statements.specs.steps.Told as told;
-ghost use Rattle.vhdl_names_labels.specs.Once.{one_name, names_view, key_of};
+ghost use Rattle.vhdl_names_units.specs.Once.{one_name, names_view, key_of};
 ghost use Rattle.vhdl_names_units.specs.views.Sequential as views;
 ghost use Rattle.vhdl_names_units.specs.views.Sequential.{Chosen};
 
 use indexmap::IndexSet;
 use std::alloc::{AllocError, Global};
 use vhdl_names_expressions::{choice, start};
-use vhdl_names_labels::earlier_in;
 use vhdl_names_rules::{NameFault, NameProblem, ObjectType};
 use vhdl_names_types::Sight;
-use vhdl_names_units::{Alternative, Choice, Statement};
+use vhdl_names_units::{Alternative, Choice, Statement, earlier_in};
 use vhdl_tree as syntax;
 
 /// What tells choices apart: the places of their values among the nine, or 9 and a position.

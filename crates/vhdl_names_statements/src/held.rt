@@ -9,8 +9,8 @@ ghost use Rattle.vhdl_names_rules.specs.Visibility as visibility;
 ghost use Rattle.vhdl_names_rules.specs.Gives.{Gives};
 ghost use Rattle.vhdl_tree.specs.View as tree;
 
-use vhdl_names_labels::label_ends;
 use vhdl_names_rules::NameFault;
+use vhdl_names_units::label_ends;
 use vhdl_tree::Identifier;
 
 /// What was analysed, whose end label repeats its label.

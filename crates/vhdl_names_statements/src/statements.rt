@@ -102,7 +102,7 @@ pub fn analysed(
 
 /// Statements one after another.
 #[cycle(statements)]
-#[tactic(auto, using(vhdl_names_labels::proofs::Lists::each_in_turn))]
+#[tactic(auto, using(vhdl_names_units::proofs::Lists::each_in_turn))]
 fn statements(
     alloc: Global,
     sight: &mut Sight,
@@ -166,7 +166,7 @@ fn if_statement(
 
 /// The branches of an if statement.
 #[cycle(statements)]
-#[tactic(auto, using(vhdl_names_labels::proofs::Lists::each_in_turn))]
+#[tactic(auto, using(vhdl_names_units::proofs::Lists::each_in_turn))]
 fn branches(
     alloc: Global,
     sight: &mut Sight,
@@ -258,7 +258,7 @@ fn case_parts(
 
 /// The alternatives of a case statement.
 #[cycle(statements)]
-#[tactic(auto, using(vhdl_names_labels::proofs::Lists::each_in_turn))]
+#[tactic(auto, using(vhdl_names_units::proofs::Lists::each_in_turn))]
 fn alternatives(
     alloc: Global,
     sight: &mut Sight,

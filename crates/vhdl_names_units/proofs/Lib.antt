@@ -1,1 +1,5 @@
 pub mod rows
+pub mod Told
+pub mod Lists
+pub mod Once
+pub mod Behind

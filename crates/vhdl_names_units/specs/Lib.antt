@@ -1,1 +1,4 @@
 pub mod views
+pub mod Faults
+pub mod Lists
+pub mod Once

@@ -1,15 +1,22 @@
 //! The units of a file as they are analysed (IEEE 1076-2008, clauses 3, 6, 10, 11 and 13): declarations, statements, entities and
 //! architectures. `specs/views` says what contracts see of them: the units of vhdl_names_rules.
+//!
+//! Labels and end names, names that stand once, and which of several faults is told first (IEEE 1076-2008, clauses 10.1, 11.1 and 12.3):
+//! what statements, instances and files share of the rules of `vhdl_names_rules`.
 #![tactic(auto)]
 
 mod answers;
 mod concurrent;
 mod declaration;
+mod faults;
+mod labels;
 mod sequential;
 mod unit;
 
 pub use answers::{Choice, Fixed, Form, Given, SignalName, Subtype, VariableName};
 pub use concurrent::{Concurrent, Generate, Instance, Process, Scheme, Sensitivity};
 pub use declaration::{Declaration, Generics, Objects, Ports};
+pub use faults::{earlier, earlier_in};
+pub use labels::{copied, copied_label, ends, is_text, label_ends};
 pub use sequential::{Alternative, Branch, Case, If, Loop, Statement};
 pub use unit::{Architecture, Entity, Units};

@@ -4,8 +4,8 @@ use Rattle.vhdl_tree.specs.Tree as t
 use Rattle.vhdl_names_rules.specs.Rules.{◌>>=◌}
 use Rattle.vhdl_names_rules.specs.Visibility.{Name}
 use Rattle.vhdl_names_rules.specs.Statements.{label_names, inner_labels}
-use Rattle.vhdl_names_labels.specs.Lists.{in_turn}
-use Rattle.vhdl_names_labels.specs.Once.{one_name}
+use Rattle.vhdl_names_units.specs.Lists.{in_turn}
+use Rattle.vhdl_names_units.specs.Once.{one_name}
 
 -- with the labels of a statement, after those before it
 abbrev pub with_statement : List Name → t.Sequential → Option (List Name)

@@ -6,7 +6,7 @@ use Rattle.vhdl_names_rules.specs.declared.fault.NameProblem.TheVariants.{Undecl
 use Rattle.vhdl_names_rules.specs.Rules.{◌>>=◌, ◌>>◌, rule, given_that}
 use Rattle.vhdl_names_rules.specs.Visibility.{Name, is_among, are_distinct}
 use Rattle.vhdl_names_rules.specs.Files.{entity_names, described_names, architectures_of, stand_after}
-use Rattle.vhdl_names_labels.specs.Once.{one_name}
+use Rattle.vhdl_names_units.specs.Once.{one_name}
 use Rattle.vhdl_names.specs.Views.{Keyed, OutlineView}
 
 abbrev pub keyed : List ContextItem × t.Architecture → Keyed

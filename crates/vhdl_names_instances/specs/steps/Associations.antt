@@ -6,7 +6,7 @@ use Rattle.vhdl_names_rules.specs.Rules.{◌>>=◌, ◌>>◌, rule}
 use Rattle.vhdl_names_rules.specs.Visibility.{Name}
 use Rattle.vhdl_names_rules.specs.Instances.{is_named, expression_of, actual_of}
 pub use Rattle.vhdl_names_rules.specs.Visibility.{is_among}
-pub use Rattle.vhdl_names_labels.specs.Once.{one_name}
+pub use Rattle.vhdl_names_units.specs.Once.{one_name}
 
 -- the name of the formal that an association at a place is for
 abbrev pub formal_at : List Name → ℕ → Option Ident → Option Name

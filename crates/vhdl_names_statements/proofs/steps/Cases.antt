@@ -21,12 +21,12 @@ use Rattle.vhdl_names_rules.specs.Choices.{choices, covered, selector, arranged,
 use Rattle.vhdl_names_rules.specs.Statements.{statement, statements, alternatives, choice_lists}
 use Rattle.vhdl_names_expressions.specs.Asked.{selected_by}
 use Rattle.vhdl_names_units.specs.views.Sequential.{Chosen, chosen_by, statements_of, alternatives_of}
-use Rattle.vhdl_names_labels.specs.Once.{key_of}
+use Rattle.vhdl_names_units.specs.Once.{key_of}
 use Rattle.vhdl_names_statements.specs.steps.Sequential.{all_labelled}
 use Rattle.vhdl_names_statements.specs.steps.Cases as steps
 use Rattle.vhdl_names_statements.specs.steps.Cases.{Divided, all_choices, choices_of, chosen, cover, covering, but_last, selection, has_all, choice_list, all_lists}
-use Rattle.vhdl_names_labels.proofs.Lists.{bound, inner}
-use Rattle.vhdl_names_labels.proofs.Once.{among_keys, distinct_keys}
+use Rattle.vhdl_names_units.proofs.Lists.{bound, inner}
+use Rattle.vhdl_names_units.proofs.Once.{among_keys, distinct_keys}
 use Rattle.vhdl_names_statements.proofs.steps.Sequential.{statements_each}
 
 -- ---- rules in another order

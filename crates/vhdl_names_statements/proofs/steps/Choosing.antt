@@ -28,11 +28,11 @@ use Rattle.vhdl_names_rules.specs.problems.Covered as broken
 use Rattle.vhdl_names_rules.specs.problems.Covered.{is_empty}
 use Rattle.vhdl_names_rules.proofs.Telling.{IsKept, both_kept, behind_kept, unless_kept, given_kept, told_same, told_left, told_right, told_given, told_unless, kept_left, kept_right}
 use Rattle.vhdl_names_rules.proofs.kept.Choices.{choice_kept}
-use Rattle.vhdl_names_labels.specs.Lists.{in_turn}
-use Rattle.vhdl_names_labels.specs.Once.{one_name, key_of}
-use Rattle.vhdl_names_labels.proofs.Behind.{next}
-use Rattle.vhdl_names_labels.proofs.Once.{among_keys}
-use Rattle.vhdl_names_labels.proofs.Once as names
+use Rattle.vhdl_names_units.specs.Lists.{in_turn}
+use Rattle.vhdl_names_units.specs.Once.{one_name, key_of}
+use Rattle.vhdl_names_units.proofs.Behind.{next}
+use Rattle.vhdl_names_units.proofs.Once.{among_keys}
+use Rattle.vhdl_names_units.proofs.Once as names
 use Rattle.vhdl_names_statements.specs.steps.Cases.{choice_list, all_lists}
 use Rattle.vhdl_names_statements.specs.steps.Told as told
 use Rattle.vhdl_names_statements.specs.steps.Told.{keys_of, with_choice, with_list, with_lists, others_alone}

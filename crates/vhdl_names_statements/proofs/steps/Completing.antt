@@ -23,8 +23,8 @@ use Rattle.vhdl_names_rules.proofs.kept.Keeping.{among_kept}
 use Rattle.vhdl_names_rules.proofs.kept.Covered.{choices_given, in_place_kept}
 use Rattle.vhdl_names_units.specs.declared.sequential.Alternative.{Alternative}
 use Rattle.vhdl_names_units.specs.views.Sequential.{Chosen, alternatives_view}
-use Rattle.vhdl_names_labels.specs.Once.{key_of}
-use Rattle.vhdl_names_labels.proofs.Once as names
+use Rattle.vhdl_names_units.specs.Once.{key_of}
+use Rattle.vhdl_names_units.proofs.Once as names
 use Rattle.vhdl_names_statements.specs.steps.Cases.{all_choices, choices_of, cover, covering, has_all}
 use Rattle.vhdl_names_statements.specs.steps.Told as told
 use Rattle.vhdl_names_statements.specs.steps.Told.{keys_of, with_lists, HasChoices}

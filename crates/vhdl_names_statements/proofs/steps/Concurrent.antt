@@ -20,7 +20,7 @@ use Rattle.vhdl_names_statements.specs.steps.Cases.{Divided, all_choices, cover,
 use Rattle.vhdl_names_statements.specs.steps.Sequential.{assigned}
 use Rattle.vhdl_names_statements.specs.steps.Concurrent as steps
 use Rattle.vhdl_names_statements.proofs.steps.Cases.{Pairs, all_there, one_pair, put_together, by_steps, same}
-use Rattle.vhdl_names_labels.proofs.Lists.{bound, inner}
+use Rattle.vhdl_names_units.proofs.Lists.{bound, inner}
 
 module _ (sight : Sight) (n : t.Name) (x : SignalName) (found : target sight n ≡ Some x) where
   assigned_by : (v : t.Value) → rules.assigned sight x v ≡ assigned sight n v

@@ -31,8 +31,8 @@ use Rattle.vhdl_names_rules.proofs.kept.Covered.{covered_kept}
 use Rattle.vhdl_names_types.proofs.Along.{gives_along}
 use Rattle.vhdl_names_units.specs.declared.sequential.Alternative.{Alternative}
 use Rattle.vhdl_names_units.specs.views.Sequential.{Chosen, alternatives_view}
-use Rattle.vhdl_names_labels.specs.Once.{key_of}
-use Rattle.vhdl_names_labels.proofs.Once.{distinct_keys}
+use Rattle.vhdl_names_units.specs.Once.{key_of}
+use Rattle.vhdl_names_units.proofs.Once.{distinct_keys}
 use Rattle.vhdl_names_statements.specs.steps.Cases as cases
 use Rattle.vhdl_names_statements.specs.steps.Cases.{all_choices, choices_of, cover, covering}
 use Rattle.vhdl_names_statements.specs.steps.Concurrent as steps

@@ -32,8 +32,8 @@ use Rattle.vhdl_names_rules.proofs.kept.Keeping.{nothing_kept}
 use Rattle.vhdl_names_rules.proofs.kept.Expressions.{condition_kept, static_range_kept}
 use Rattle.vhdl_names_rules.proofs.kept.Choices.{choices_kept, selected_by_kept}
 use Rattle.vhdl_names_rules.proofs.kept.Statements.{statement_kept, statements_kept}
-use Rattle.vhdl_names_labels.specs.Lists.{in_turn, one_more}
-use Rattle.vhdl_names_labels.proofs.Behind.{next}
+use Rattle.vhdl_names_units.specs.Lists.{in_turn, one_more}
+use Rattle.vhdl_names_units.proofs.Behind.{next}
 use Rattle.vhdl_names_statements.specs.steps.Cases as cases
 use Rattle.vhdl_names_statements.specs.steps.Sequential as steps
 use Rattle.vhdl_names_statements.specs.steps.Told as told

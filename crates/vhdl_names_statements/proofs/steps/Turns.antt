@@ -2,8 +2,8 @@
 use Rattle.std.proofs.Common.{◌≡◌, ℕ, ◌≤◌, List, [], map, length, drop, Option, Some, ap, sym, ◌∙◌}
 use Rattle.std.proofs.lemmas.List.{at_drop_all}
 use Rattle.vhdl_names_rules.specs.Rules.{each}
-use Rattle.vhdl_names_labels.specs.Lists.{in_turn, one_more}
-use Rattle.vhdl_names_labels.proofs.Lists.{each_in_turn}
+use Rattle.vhdl_names_units.specs.Lists.{in_turn, one_more}
+use Rattle.vhdl_names_units.proofs.Lists.{each_in_turn}
 
 module _ {A B C : Type 0} (view : A → B) (xs : List A) (g : B → Option C) (done : List C) where
   pub none_done : done ≡ [] → each g (map view xs) ≡ in_turn (one_more g) done (map view xs)

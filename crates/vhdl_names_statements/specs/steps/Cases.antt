@@ -15,7 +15,7 @@ use Rattle.vhdl_names_rules.specs.Visibility.{Name, Sight, label_ends, is_among,
 use Rattle.vhdl_names_rules.specs.Choices.{choices, only_last_others, is_last_others, names_all}
 use Rattle.vhdl_names_expressions.specs.Asked.{selected_by}
 use Rattle.vhdl_names_units.specs.views.Sequential.{Chosen, chosen_by, statements_of, alternatives_of}
-use Rattle.vhdl_names_labels.specs.Once.{key_of}
+use Rattle.vhdl_names_units.specs.Once.{key_of}
 use Rattle.vhdl_names_statements.specs.steps.Sequential.{all_labelled}
 
 -- the choices of an alternative, and what it does

@@ -17,7 +17,7 @@ use Rattle.vhdl_names_rules.specs.problems.Statements as broken
 use Rattle.vhdl_names_rules.specs.problems.Concurrent.{branch}
 use Rattle.vhdl_names_units.specs.declared.sequential.Alternative.{Alternative}
 use Rattle.vhdl_names_units.specs.views.Sequential.{alternatives_view}
-use Rattle.vhdl_names_labels.specs.Once.{key_of}
+use Rattle.vhdl_names_units.specs.Once.{key_of}
 use Rattle.vhdl_names_statements.specs.steps.Cases as cases
 
 -- ---- statements with statements in them

@@ -3,7 +3,7 @@ use Rattle.std.proofs.lemmas.List.{map-set}
 use Rattle.std.specs.Prelude.{option_map}
 use Rattle.vhdl_tree.specs.View as view
 use Rattle.vhdl_names_rules.specs.Files as rules
-use Rattle.vhdl_names_labels.specs.Once.{names_view}
+use Rattle.vhdl_names_units.specs.Once.{names_view}
 use Rattle.vhdl_names_rules.specs.problems.Files as broken
 use Rattle.vhdl_names_rules.proofs.Telling.{told_same}
 use Rattle.vhdl_names_components.specs.Views.{entities_view, entity_view}

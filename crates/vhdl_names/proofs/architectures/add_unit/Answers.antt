@@ -1,7 +1,7 @@
 use Rattle.std.proofs.Common.{[], ◌∷◌, map, ap, sym, ◌∙◌}
 use Rattle.vhdl_tree.specs.View as view
 use Rattle.vhdl_names_rules.specs.Files.{architectures_of}
-use Rattle.vhdl_names_labels.specs.Once.{names_view}
+use Rattle.vhdl_names_units.specs.Once.{names_view}
 use Rattle.vhdl_names_rules.specs.problems.Broken.{any_of}
 use Rattle.vhdl_names_rules.specs.problems.Files.{described}
 use Rattle.vhdl_names_components.specs.Views.{entities_view}

@@ -1,8 +1,8 @@
 use Rattle.std.proofs.Common.{◌≡◌, ◌+◌, ◌<◌, length, map, get_or, arith, ap, sym, ◌∙◌}
 use Rattle.std.specs.Prelude.{option_map}
 use Rattle.std.proofs.lemmas.List.{with_items_is}
-use Rattle.vhdl_names_labels.specs.Lists.{in_turn}
-use Rattle.vhdl_names_labels.specs.Once.{names_view}
+use Rattle.vhdl_names_units.specs.Lists.{in_turn}
+use Rattle.vhdl_names_units.specs.Once.{names_view}
 use Rattle.vhdl_names_units.specs.views.Units.{architecture_view}
 use Rattle.vhdl_names_components.specs.Views.{entities_view}
 use Rattle.vhdl_tree.specs.View as view

@@ -1,7 +1,7 @@
 use Rattle.std.proofs.Common.{◌≡◌, false, length, replicate, None}
 use Rattle.vhdl_tree.specs.View as view
-use Rattle.vhdl_names_labels.specs.Lists.{in_turn}
-use Rattle.vhdl_names_labels.specs.Once.{names_view}
+use Rattle.vhdl_names_units.specs.Lists.{in_turn}
+use Rattle.vhdl_names_units.specs.Once.{names_view}
 use Rattle.vhdl_names_components.specs.Views.{entities_view}
 use Rattle.vhdl_names_rules.specs.Visibility.{Name}
 use Rattle.vhdl_names_rules.specs.Files.{architectures_of}

@@ -1,5 +1,5 @@
 use Rattle.std.proofs.Common.{◌∙◌}
-use Rattle.vhdl_names_labels.proofs.Once.{contained}
+use Rattle.vhdl_names_units.proofs.Once.{contained}
 use Rattle.vhdl_names.proofs.outline.has_name.Goals as goal
 
 pub returns : goal.returns

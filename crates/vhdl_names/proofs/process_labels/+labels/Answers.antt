@@ -10,8 +10,8 @@ use Rattle.vhdl_names_rules.specs.problems.Labels as broken
 use Rattle.vhdl_names_rules.specs.problems.Twice.{twice}
 use Rattle.vhdl_names_rules.proofs.Telling.{told_same, told_on}
 use Rattle.vhdl_names_types.proofs.Along.{gives_along}
-use Rattle.vhdl_names_labels.specs.Lists.{in_turn}
-use Rattle.vhdl_names_labels.specs.Once.{names_view, one_name}
+use Rattle.vhdl_names_units.specs.Lists.{in_turn}
+use Rattle.vhdl_names_units.specs.Once.{names_view, one_name}
 use Rattle.vhdl_names_statements.proofs.steps.Cases.{case_is}
 use Rattle.vhdl_names_statements.proofs.steps.Sequential.{if_is, for_is}
 use Rattle.vhdl_names.specs.steps.Labels as steps

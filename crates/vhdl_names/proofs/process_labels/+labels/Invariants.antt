@@ -2,8 +2,8 @@ use Rattle.std.proofs.Common.{◌≡◌, map, drop}
 use Rattle.vhdl_tree.specs.View as tree
 use Rattle.vhdl_tree.specs.declared.sequential.Case.{out-Case}
 use Rattle.vhdl_names_rules.specs.problems.Twice.{twice}
-use Rattle.vhdl_names_labels.specs.Lists.{in_turn}
-use Rattle.vhdl_names_labels.specs.Once.{names_view}
+use Rattle.vhdl_names_units.specs.Lists.{in_turn}
+use Rattle.vhdl_names_units.specs.Once.{names_view}
 use Rattle.vhdl_names.specs.steps.Labels as steps
 use Rattle.vhdl_names.proofs.StandingTwice.{of_statements, of_branches, of_alternatives}
 use Rattle.vhdl_names.proofs.process_labels.+labels.Given as goal

@@ -6,7 +6,7 @@ use Rattle.vhdl_names_rules.specs.problems.Labels.{label_if_any}
 use Rattle.vhdl_names_rules.specs.problems.Twice.{twice}
 use Rattle.vhdl_tree.specs.View as tree
 use Rattle.vhdl_names_rules.proofs.Telling.{told_on, told_same}
-use Rattle.vhdl_names_labels.specs.Once.{names_view}
+use Rattle.vhdl_names_units.specs.Once.{names_view}
 use Rattle.vhdl_names.proofs.StandingTwice.{label_told}
 use Rattle.vhdl_names.proofs.process_labels.label.Goals as goal
 

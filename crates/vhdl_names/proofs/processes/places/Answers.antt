@@ -6,9 +6,9 @@ use Rattle.vhdl_names_types.specs.Views.{sight_view}
 use Rattle.vhdl_names_rules.specs.problems.Broken.{Tells, any_of}
 use Rattle.vhdl_names_rules.specs.problems.Statements.{signal}
 use Rattle.vhdl_names_rules.proofs.kept.Statements.{signal_kept}
-use Rattle.vhdl_names_labels.specs.Lists.{in_turn, one_more}
-use Rattle.vhdl_names_labels.proofs.Behind.{next_told, next_left}
-use Rattle.vhdl_names_labels.proofs.Lists.{each_in_turn}
+use Rattle.vhdl_names_units.specs.Lists.{in_turn, one_more}
+use Rattle.vhdl_names_units.proofs.Behind.{next_told, next_left}
+use Rattle.vhdl_names_units.proofs.Lists.{each_in_turn}
 use Rattle.vhdl_names_rules.specs.views.Vectors.{place_view}
 use Rattle.vhdl_names.specs.AllPlaces.{all_places_view}
 use Rattle.vhdl_names.specs.steps.Processes.{place_of}

@@ -2,7 +2,7 @@ use Rattle.std.proofs.Common.{◌≡◌, map, drop}
 use Rattle.vhdl_names_rules.specs.Rules.{each}
 use Rattle.vhdl_tree.specs.View.{name_view}
 use Rattle.vhdl_names_types.specs.Views.{sight_view}
-use Rattle.vhdl_names_labels.specs.Lists.{in_turn, one_more}
+use Rattle.vhdl_names_units.specs.Lists.{in_turn, one_more}
 use Rattle.vhdl_names_rules.specs.problems.Broken.{any_of}
 use Rattle.vhdl_names_rules.specs.problems.Statements as statements
 use Rattle.vhdl_names.specs.AllPlaces.{all_places_view}

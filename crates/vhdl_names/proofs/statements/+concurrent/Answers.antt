@@ -16,8 +16,8 @@ use Rattle.vhdl_names_rules.specs.problems.Concurrent as broken
 use Rattle.vhdl_names_rules.proofs.Telling.{told_on, told_same}
 use Rattle.vhdl_names_rules.proofs.kept.Keeping.{among_second}
 use Rattle.vhdl_names_rules.proofs.kept.Concurrent.{labels_kept}
-use Rattle.vhdl_names_labels.specs.Once.{names_view}
-use Rattle.vhdl_names_labels.proofs.Behind.{next_told, next_left}
+use Rattle.vhdl_names_units.specs.Once.{names_view}
+use Rattle.vhdl_names_units.proofs.Behind.{next_told, next_left}
 use Rattle.vhdl_names_rules.specs.Interfaces.{EntityView}
 use Rattle.vhdl_names_instances.specs.Table.{AreEntities, seens_view}
 use Rattle.vhdl_names_instances.specs.steps.Instances.{instance}

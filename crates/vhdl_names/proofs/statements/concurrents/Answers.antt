@@ -2,8 +2,8 @@ use Rattle.std.proofs.Common.{map}
 use Rattle.vhdl_tree.specs.View as tree
 use Rattle.vhdl_names_types.specs.Views.{sight_view}
 use Rattle.vhdl_names_units.specs.views.Concurrent.{concurrents_view, concurrents_of}
-use Rattle.vhdl_names_labels.specs.Once.{names_view}
-use Rattle.vhdl_names_labels.proofs.Lists.{gives_more}
+use Rattle.vhdl_names_units.specs.Once.{names_view}
+use Rattle.vhdl_names_units.proofs.Lists.{gives_more}
 use Rattle.vhdl_names_instances.specs.Table.{seens_view}
 use Rattle.vhdl_names_instances.specs.steps.Instances.{instance}
 use Rattle.vhdl_names.proofs.Generating.{concurrents_by}

@@ -5,8 +5,8 @@ use Rattle.vhdl_names_rules.specs.Expressions.{static}
 use Rattle.vhdl_names_rules.specs.Rules.{if_any}
 use Rattle.vhdl_names_rules.specs.views.Integers.{static_view}
 use Rattle.vhdl_names_types.specs.Views.{sight_view}
-use Rattle.vhdl_names_labels.specs.Lists.{in_turn, one_more}
-use Rattle.vhdl_names_labels.proofs.Lists.{each_in_turn}
+use Rattle.vhdl_names_units.specs.Lists.{in_turn, one_more}
+use Rattle.vhdl_names_units.proofs.Lists.{each_in_turn}
 use Rattle.vhdl_names_instances.specs.Views.{actual_view, statics_view}
 use Rattle.vhdl_names_instances.proofs.actuals.generic_actuals.Goals as goal
 

@@ -1,6 +1,6 @@
 use Rattle.std.proofs.Common.{◌≡◌, map, take}
 use Rattle.vhdl_tree.specs.View.{association_view}
-use Rattle.vhdl_names_labels.specs.Once.{names_view}
+use Rattle.vhdl_names_units.specs.Once.{names_view}
 use Rattle.vhdl_names_instances.specs.Views.{actuals_view}
 use Rattle.vhdl_names_instances.specs.steps.Associations as steps
 use Rattle.vhdl_names_instances.proofs.associations.actuals.Given as goal

@@ -1,8 +1,8 @@
 use Rattle.std.proofs.Common.{not, refl, ap, sym, ◌∙◌, subst}
 use Rattle.vhdl_names_rules.specs.declared.fault.NameProblem.TheVariants.{Twice}
 use Rattle.vhdl_names_rules.specs.Visibility.{is_among}
-use Rattle.vhdl_names_labels.specs.Once.{one_name, names_view}
-use Rattle.vhdl_names_labels.proofs.Once.{inserted, refused as stands_already}
+use Rattle.vhdl_names_units.specs.Once.{one_name, names_view}
+use Rattle.vhdl_names_units.proofs.Once.{inserted, refused as stands_already}
 use Rattle.vhdl_names_rules.specs.problems.Broken.{Tells, refused}
 use Rattle.vhdl_names_instances.proofs.Taking.{stands, unchanged}
 use Rattle.vhdl_names_rules.proofs.Telling.{told_unless}

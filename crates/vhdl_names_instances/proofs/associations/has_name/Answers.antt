@@ -1,5 +1,5 @@
 use Rattle.std.proofs.Common.{◌∙◌}
-use Rattle.vhdl_names_labels.proofs.Once.{contained}
+use Rattle.vhdl_names_units.proofs.Once.{contained}
 use Rattle.vhdl_names_instances.proofs.associations.has_name.Goals as goal
 
 pub returns : goal.returns

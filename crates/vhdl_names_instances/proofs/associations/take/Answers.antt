@@ -4,7 +4,7 @@ use Rattle.vhdl_tree.specs.View.{association_view}
 use Rattle.vhdl_names_rules.specs.declared.fault.NameProblem.TheVariants.{Undeclared, Twice, WrongKind}
 use Rattle.vhdl_names_rules.specs.Visibility.{is_among}
 use Rattle.vhdl_names_rules.specs.Instances.{is_named}
-use Rattle.vhdl_names_labels.specs.Once.{names_view}
+use Rattle.vhdl_names_units.specs.Once.{names_view}
 use Rattle.vhdl_names_rules.specs.problems.Broken.{Tells, refused, unless}
 use Rattle.vhdl_names_rules.specs.problems.Places.{association_place}
 use Rattle.vhdl_names_rules.proofs.Telling.{told_on}

@@ -2,7 +2,7 @@ use Rattle.std.proofs.Common.{rules, arith, ◌≡◌, ◌≢◌, None, false, m
 use Rattle.std.proofs.lemmas.Grind.{common_steps}
 use Rattle.vhdl_tree.specs.View.{association_view}
 use Rattle.vhdl_names_rules.specs.declared.fault.NameFault.TheVariants.{NoMemory}
-use Rattle.vhdl_names_labels.specs.Once.{names_view}
+use Rattle.vhdl_names_units.specs.Once.{names_view}
 use Rattle.vhdl_names_instances.specs.steps.Associations.{taking}
 use Rattle.vhdl_names_instances.proofs.Taking.{refused_taking, taking_here}
 use Rattle.vhdl_names_instances.proofs.associations.take_all.Goals as goal

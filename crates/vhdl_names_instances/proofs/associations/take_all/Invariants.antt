@@ -1,6 +1,6 @@
 use Rattle.std.proofs.Common.{◌≡◌, false, map, drop}
 use Rattle.vhdl_tree.specs.View.{association_view}
-use Rattle.vhdl_names_labels.specs.Once.{names_view}
+use Rattle.vhdl_names_units.specs.Once.{names_view}
 use Rattle.vhdl_names_instances.specs.steps.Associations.{taking}
 use Rattle.vhdl_names_instances.proofs.associations.take_all.Given as goal
 

@@ -4,7 +4,7 @@ use Rattle.std.specs.Prelude.{option_map, bytes_eq, codes}
 use Rattle.std.specs.List.{position_from}
 use Rattle.vhdl_tree.specs.View as tree
 use Rattle.vhdl_names_rules.specs.declared.fault.NameProblem.TheVariants.{Undeclared}
-use Rattle.vhdl_names_labels.specs.Once.{names_view}
+use Rattle.vhdl_names_units.specs.Once.{names_view}
 use Rattle.vhdl_names_rules.specs.problems.Broken.{◌▸◌, Tells, refused, unless, lacking, where_given}
 use Rattle.vhdl_names_rules.proofs.Telling.{unless_kept, lacking_kept, told_left, told_right, told_given, told_on, told_unless, told_lacking}
 use Rattle.vhdl_names_instances.specs.Table.{seens_view}

@@ -8,7 +8,7 @@ use Rattle.vhdl_tree.specs.View as tree
 use Rattle.vhdl_names_types.specs.Views.{sight_view}
 use Rattle.vhdl_names_types.proofs.Along.{gives_along}
 use Rattle.vhdl_names_units.specs.views.Concurrent.{instance_view}
-use Rattle.vhdl_names_labels.specs.Once.{names_view}
+use Rattle.vhdl_names_units.specs.Once.{names_view}
 use Rattle.vhdl_names_instances.specs.Table.{seen_view, seens_view}
 use Rattle.vhdl_names_instances.proofs.Instancing.{instance_seen}
 use Rattle.vhdl_names_instances.proofs.instances.instance_in_turn.Goals as goal

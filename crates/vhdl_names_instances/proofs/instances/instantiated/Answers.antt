@@ -14,7 +14,7 @@ use Rattle.vhdl_names_instances.proofs.Instanced.{entity_of_told}
 use Rattle.vhdl_tree.specs.View as tree
 use Rattle.vhdl_names_types.specs.Views.{sight_view, meaning_view}
 use Rattle.vhdl_names_types.proofs.Along.{gives_along}
-use Rattle.vhdl_names_labels.specs.Once.{names_view}
+use Rattle.vhdl_names_units.specs.Once.{names_view}
 use Rattle.vhdl_names_instances.specs.Table.{seens_view}
 use Rattle.vhdl_names_instances.specs.steps.Instances as steps
 use Rattle.vhdl_names_instances.proofs.instances.instantiated.Goals as goal

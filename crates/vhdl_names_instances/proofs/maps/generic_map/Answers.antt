@@ -2,7 +2,7 @@ use Rattle.std.proofs.Common.{arith, ◌<◌, ◌≤◌, length, false, map, ap,
 use Rattle.vhdl_tree.specs.Tree.{Expr}
 use Rattle.vhdl_tree.specs.View.{association_view}
 use Rattle.vhdl_names_rules.specs.Visibility.{Name}
-use Rattle.vhdl_names_labels.specs.Once.{names_view}
+use Rattle.vhdl_names_units.specs.Once.{names_view}
 use Rattle.vhdl_names_rules.specs.problems.Broken.{Broken}
 use Rattle.vhdl_names_rules.specs.problems.Expressions.{static}
 use Rattle.vhdl_names_rules.specs.problems.Instances.{associations, generic_map}

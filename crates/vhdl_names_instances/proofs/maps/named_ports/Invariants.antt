@@ -1,7 +1,7 @@
 use Rattle.std.proofs.Common.{◌≡◌, List, map, drop}
 use Rattle.vhdl_tree.specs.View.{view}
 use Rattle.vhdl_names_rules.specs.Instances.{Formal}
-use Rattle.vhdl_names_labels.specs.Once.{names_view}
+use Rattle.vhdl_names_units.specs.Once.{names_view}
 use Rattle.vhdl_names_types.specs.Views.{sight_view}
 use Rattle.vhdl_names_instances.specs.Table.{type_of}
 use Rattle.vhdl_names_instances.proofs.Porting.{of_ports, all_fit}

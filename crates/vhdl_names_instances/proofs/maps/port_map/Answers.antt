@@ -3,7 +3,7 @@ use Rattle.vhdl_tree.specs.Tree.{Expr}
 use Rattle.vhdl_tree.specs.View.{association_view}
 use Rattle.vhdl_names_rules.specs.Visibility.{Name}
 use Rattle.vhdl_names_rules.specs.Instances.{Formal}
-use Rattle.vhdl_names_labels.specs.Once.{names_view}
+use Rattle.vhdl_names_units.specs.Once.{names_view}
 use Rattle.vhdl_names_rules.specs.problems.Broken.{Broken, any_of}
 use Rattle.vhdl_names_rules.specs.problems.Instances.{associations, port_actual, ports_named, port_map}
 use Rattle.vhdl_names_types.specs.Views.{sight_view}

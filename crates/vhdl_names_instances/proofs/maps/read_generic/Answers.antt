@@ -4,7 +4,7 @@ use Rattle.vhdl_tree.specs.View.{association_view}
 use Rattle.vhdl_names_rules.specs.Visibility.{Name}
 use Rattle.vhdl_names_rules.specs.Expressions as rules
 use Rattle.vhdl_names_rules.specs.Rules.{if_any}
-use Rattle.vhdl_names_labels.specs.Once.{names_view}
+use Rattle.vhdl_names_units.specs.Once.{names_view}
 use Rattle.vhdl_names_rules.specs.problems.Broken.{Broken, of_any}
 use Rattle.vhdl_names_rules.specs.problems.Expressions.{static}
 use Rattle.vhdl_names_rules.specs.problems.Instances.{association}

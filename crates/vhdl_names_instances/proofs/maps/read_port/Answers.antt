@@ -4,7 +4,7 @@ use Rattle.vhdl_tree.specs.View.{association_view, view}
 use Rattle.vhdl_names_rules.specs.Visibility.{Name}
 use Rattle.vhdl_names_rules.specs.Instances.{Formal, expression_of}
 use Rattle.vhdl_names_rules.proofs.laws.Rules.{some_is}
-use Rattle.vhdl_names_labels.specs.Once.{names_view}
+use Rattle.vhdl_names_units.specs.Once.{names_view}
 use Rattle.vhdl_names_rules.specs.problems.Broken.{Broken, any_of, of_any}
 use Rattle.vhdl_names_rules.specs.problems.Instances.{association, port_actual, ports_named}
 use Rattle.vhdl_names_rules.proofs.Telling.{told_on}

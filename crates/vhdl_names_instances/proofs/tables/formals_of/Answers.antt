@@ -3,7 +3,7 @@ use Rattle.std.specs.Prelude.{option_map}
 use Rattle.std.proofs.lemmas.Grind.{common_steps}
 use Rattle.vhdl_names_rules.specs.declared.fault.NameFault.TheVariants.{NoMemory}
 use Rattle.vhdl_names_types.specs.Views.{region_view}
-use Rattle.vhdl_names_labels.specs.Lists.{in_turn}
+use Rattle.vhdl_names_units.specs.Lists.{in_turn}
 use Rattle.vhdl_names_instances.specs.Table.{seen_view}
 use Rattle.vhdl_names_instances.specs.steps.Tables as steps
 use Rattle.vhdl_names_instances.proofs.Tabling.{declared_fails, declared_goes}

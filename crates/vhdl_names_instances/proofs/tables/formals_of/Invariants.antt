@@ -1,7 +1,7 @@
 use Rattle.std.proofs.Common.{◌≡◌, drop}
 use Rattle.std.specs.Prelude.{option_map}
 use Rattle.vhdl_names_types.specs.Views.{region_view}
-use Rattle.vhdl_names_labels.specs.Lists.{in_turn}
+use Rattle.vhdl_names_units.specs.Lists.{in_turn}
 use Rattle.vhdl_names_instances.specs.Table.{seen_view}
 use Rattle.vhdl_names_instances.specs.steps.Tables as steps
 use Rattle.vhdl_names_instances.proofs.tables.formals_of.Given as goal

@@ -5,7 +5,7 @@ use Rattle.vhdl_names_types.specs.Views.{sight_view}
 use Rattle.vhdl_names_units.specs.views.Sequential as views
 use Rattle.vhdl_names_rules.specs.problems.Broken.{any_of}
 use Rattle.vhdl_names_rules.specs.problems.Concurrent as broken
-use Rattle.vhdl_names_labels.specs.Lists.{in_turn, one_more}
+use Rattle.vhdl_names_units.specs.Lists.{in_turn, one_more}
 use Rattle.vhdl_names_statements.specs.steps.Concurrent as steps
 use Rattle.vhdl_names_statements.proofs.assignments.waveforms.Given as goal
 

@@ -1,6 +1,6 @@
 use Rattle.std.proofs.Common.{ap, sym, ◌∙◌}
-use Rattle.vhdl_names_labels.specs.Once.{one_name, names_view}
-use Rattle.vhdl_names_labels.proofs.Once.{inserted, refused}
+use Rattle.vhdl_names_units.specs.Once.{one_name, names_view}
+use Rattle.vhdl_names_units.proofs.Once.{inserted, refused}
 use Rattle.vhdl_names_statements.proofs.choices.add_choice.Goals as goal
 
 pub returns-then-branch-clause-given : goal.returns-then-branch-clause-given

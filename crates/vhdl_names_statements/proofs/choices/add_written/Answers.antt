@@ -7,7 +7,7 @@ use Rattle.vhdl_names_units.specs.views.Answers.{choice_view}
 use Rattle.vhdl_names_rules.specs.declared.fault.NameProblem.TheVariants.{ChoiceTwice}
 use Rattle.vhdl_names_rules.specs.problems.Broken.{Tells, refused}
 use Rattle.vhdl_names_rules.specs.problems.Places.{choice_place}
-use Rattle.vhdl_names_labels.specs.Once.{names_view}
+use Rattle.vhdl_names_units.specs.Once.{names_view}
 use Rattle.vhdl_names_statements.specs.steps.Told as told
 use Rattle.vhdl_names_statements.proofs.steps.Choosing.{once_refused, answer_told, answer_kept, answer_added}
 use Rattle.vhdl_names_statements.proofs.choices.add_written.Goals as goal

@@ -5,7 +5,7 @@ use Rattle.vhdl_names_types.specs.Views.{sight_view}
 use Rattle.vhdl_names_rules.specs.problems.Broken.{Tells, nothing}
 use Rattle.vhdl_names_rules.specs.problems.Covered as broken
 use Rattle.vhdl_names_units.specs.views.Sequential as views
-use Rattle.vhdl_names_labels.specs.Once.{names_view}
+use Rattle.vhdl_names_units.specs.Once.{names_view}
 use Rattle.vhdl_names_statements.specs.steps.Cases as steps
 use Rattle.vhdl_names_statements.specs.steps.Told as told
 use Rattle.vhdl_names_statements.proofs.steps.Completing.{of_err, of_ok, gives_ok, refused_given, incomplete_given, covered_given, told_among, told_other, told_incomplete}

@@ -1,7 +1,7 @@
 use Rattle.std.proofs.Common.{ap, ◌∙◌, [], ◌∷◌}
 use Rattle.std.specs.Prelude.{bytes_eq}
 use Rattle.std.specs.List.{list_any}
-use Rattle.vhdl_names_labels.proofs.Once.{contained}
+use Rattle.vhdl_names_units.proofs.Once.{contained}
 use Rattle.vhdl_names_statements.proofs.choices.has_position.Goals as goal
 
 pub returns : goal.returns

@@ -19,7 +19,7 @@ use Rattle.vhdl_names_rules.specs.problems.Statements as broken
 use Rattle.vhdl_names_rules.proofs.Telling.{told_same, told_left, told_right, told_on}
 use Rattle.vhdl_names_rules.proofs.kept.Expressions.{condition_kept}
 use Rattle.vhdl_names_rules.proofs.kept.Choices.{choices_kept}
-use Rattle.vhdl_names_labels.proofs.Behind.{next_told, next_left}
+use Rattle.vhdl_names_units.proofs.Behind.{next_told, next_left}
 use Rattle.vhdl_names_statements.specs.steps.Cases as cases
 use Rattle.vhdl_names_statements.specs.steps.Sequential as steps
 use Rattle.vhdl_names_statements.specs.steps.Told as told

@@ -4,7 +4,7 @@ use Rattle.vhdl_tree.specs.View as tree
 use Rattle.vhdl_names_types.specs.Views.{sight_view}
 use Rattle.vhdl_names_units.specs.views.Sequential as views
 use Rattle.vhdl_names_rules.specs.problems.Broken.{any_of}
-use Rattle.vhdl_names_labels.specs.Lists.{in_turn, one_more}
+use Rattle.vhdl_names_units.specs.Lists.{in_turn, one_more}
 use Rattle.vhdl_names_statements.specs.steps.Cases as cases
 use Rattle.vhdl_names_statements.specs.steps.Sequential as steps
 use Rattle.vhdl_names_statements.specs.steps.Told as told

@@ -2,7 +2,7 @@ use Rattle.std.proofs.Common.{map}
 use Rattle.vhdl_tree.specs.View as tree
 use Rattle.vhdl_names_types.specs.Views.{sight_view}
 use Rattle.vhdl_names_units.specs.views.Sequential.{statements_of, statements_view}
-use Rattle.vhdl_names_labels.proofs.Lists.{gives_more}
+use Rattle.vhdl_names_units.proofs.Lists.{gives_more}
 use Rattle.vhdl_names_statements.proofs.steps.Sequential.{statements_each}
 use Rattle.vhdl_names_statements.proofs.statements.analysed.Goals as goal
 

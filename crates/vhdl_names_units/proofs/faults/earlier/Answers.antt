@@ -1,7 +1,7 @@
 use Rattle.std.proofs.Common.{◌≡◌, rules}
-use Rattle.vhdl_names_labels.specs.Faults.{earlier}
-use Rattle.vhdl_names_labels.proofs.Told.{told_as}
-use Rattle.vhdl_names_labels.proofs.faults.earlier.Goals as goal
+use Rattle.vhdl_names_units.specs.Faults.{earlier}
+use Rattle.vhdl_names_units.proofs.Told.{told_as}
+use Rattle.vhdl_names_units.proofs.faults.earlier.Goals as goal
 
 pub returns-then-place-at-clause-told : goal.returns-then-place-at-clause-told
 returns-then-place-at-clause-told c = λ a b h k.

@@ -1,7 +1,7 @@
 //! Which of several faults is told: the first in order of the text.
 
 ghost use Rattle.std.specs.Prelude.{◌≡◌, ◌≢◌, IfErr, IfOk};
-ghost use Rattle.vhdl_names_labels.specs.Faults as rules;
+ghost use Rattle.vhdl_names_units.specs.Faults as rules;
 ghost use Rattle.vhdl_names_rules.specs.problems.Broken as broken;
 ghost use Rattle.vhdl_names_rules.specs.problems.Broken.{Broken, Tells, nothing};
 ghost use Rattle.vhdl_names_rules.specs.declared.fault.NameFault.TheVariants.{NoMemory};

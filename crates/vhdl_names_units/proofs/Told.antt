@@ -4,7 +4,7 @@ use Rattle.vhdl_names_rules.specs.declared.fault.NameFault.{NameFault}
 use Rattle.vhdl_names_rules.specs.declared.fault.NameFault.TheVariants.{At, NoMemory}
 use Rattle.vhdl_names_rules.specs.problems.Broken as broken
 use Rattle.vhdl_names_rules.specs.problems.Broken.{Broken, Tells, nothing}
-use Rattle.vhdl_names_labels.specs.Faults.{earlier}
+use Rattle.vhdl_names_units.specs.Faults.{earlier}
 
 pub told_earlier : (a b : Broken) (f g : NameFault) → Tells a f → Tells b g → Tells (broken.earlier a b) (earlier f g)
 unfolding broken.earlier

@@ -12,8 +12,8 @@ use Rattle.vhdl_names_rules.specs.Rules.{◌>>=◌, then_some}
 use Rattle.vhdl_names_rules.specs.Visibility.{Name, is_among, are_distinct}
 use Rattle.vhdl_names_rules.specs.Choices.{same_choice, are_distinct_choices}
 use Rattle.indexmap.specs.IndexSet.{insert_key}
-use Rattle.vhdl_names_labels.specs.Lists.{in_turn}
-use Rattle.vhdl_names_labels.specs.Once.{one_name, key_of}
+use Rattle.vhdl_names_units.specs.Lists.{in_turn}
+use Rattle.vhdl_names_units.specs.Once.{one_name, key_of}
 
 eq-sym : (a b : Name) → bytes_eq a b ≡ bytes_eq b a
 eq-sym a b = go (bytes_eq a b) refl (bytes_eq b a) refl

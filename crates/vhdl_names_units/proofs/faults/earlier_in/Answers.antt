@@ -1,9 +1,9 @@
 use Rattle.std.proofs.Common.{sym, subst}
 use Rattle.vhdl_names_rules.specs.problems.Broken as broken
 use Rattle.vhdl_names_rules.specs.problems.Broken.{Tells}
-use Rattle.vhdl_names_labels.proofs.Told.{answer_taken, answer_refused}
-use Rattle.vhdl_names_labels.proofs.faults.earlier_in.Goals as goal
-use Rattle.vhdl_names_labels.proofs.faults.earlier_in.Goals.{in-Ok, in-Err}
+use Rattle.vhdl_names_units.proofs.Told.{answer_taken, answer_refused}
+use Rattle.vhdl_names_units.proofs.faults.earlier_in.Goals as goal
+use Rattle.vhdl_names_units.proofs.faults.earlier_in.Goals.{in-Ok, in-Err}
 
 pub returns-clause-told : goal.returns-clause-told
 returns-clause-told g c = λ a b h e o.

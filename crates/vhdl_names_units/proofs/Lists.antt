@@ -6,7 +6,7 @@ use Rattle.std.specs.Prelude.{Result, Ok, Err}
 use Rattle.vhdl_names_rules.specs.declared.fault.NameFault.{NameFault}
 use Rattle.vhdl_names_rules.specs.Gives.{Gives}
 use Rattle.vhdl_names_rules.specs.Rules.{◌>>=◌, each}
-use Rattle.vhdl_names_labels.specs.Lists.{in_turn, one_more}
+use Rattle.vhdl_names_units.specs.Lists.{in_turn, one_more}
 
 -- what follows the same way, and what is bound within
 pub bound : {A B : Type 0} (m : Option A) (f g : A → Option B) → ((x : A) → f x ≡ g x) → (m >>= f) ≡ (m >>= g)

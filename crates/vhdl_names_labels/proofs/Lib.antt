@@ -1,4 +1,0 @@
-pub mod Told
-pub mod Lists
-pub mod Once
-pub mod Behind
