@@ -12,3 +12,5 @@ pub mod SimulationMistakes
 pub mod Variables
 pub mod Nets
 pub mod Listing
+pub mod rules
+pub mod designs

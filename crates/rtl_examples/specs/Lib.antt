@@ -9,3 +9,6 @@ pub mod SimulationMistakes
 pub mod Variables
 pub mod Nets
 pub mod Listing
+-- Small trees and designs on which the definitions are tried. In order of reading:
+pub mod rules
+pub mod designs

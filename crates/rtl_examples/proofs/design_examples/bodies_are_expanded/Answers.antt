@@ -1,0 +1,11 @@
+use Rattle.rtl_examples.proofs.designs.Bodies.{tests, numbers, defaults}
+use Rattle.rtl_examples.proofs.design_examples.bodies_are_expanded.Goals as goal
+
+pub returns-clause-tests : goal.returns-clause-tests
+returns-clause-tests c = tests
+
+pub returns-clause-numbers : goal.returns-clause-numbers
+returns-clause-numbers c = numbers
+
+pub returns-clause-defaults : goal.returns-clause-defaults
+returns-clause-defaults c = defaults

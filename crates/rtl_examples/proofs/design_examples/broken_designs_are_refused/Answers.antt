@@ -1,0 +1,17 @@
+use Rattle.rtl_examples.proofs.designs.Refusals.{integers, tops, lengths, turns_within, sources}
+use Rattle.rtl_examples.proofs.design_examples.broken_designs_are_refused.Goals as goal
+
+pub returns-clause-integers : goal.returns-clause-integers
+returns-clause-integers c = integers
+
+pub returns-clause-tops : goal.returns-clause-tops
+returns-clause-tops c = tops
+
+pub returns-clause-lengths : goal.returns-clause-lengths
+returns-clause-lengths c = lengths
+
+pub returns-clause-turns : goal.returns-clause-turns
+returns-clause-turns c = turns_within
+
+pub returns-clause-sources : goal.returns-clause-sources
+returns-clause-sources c = sources
