@@ -1,12 +1,7 @@
 //! Where printed text goes, and where an input comes from: a sink takes bytes in order, and a reader gives
-//! them, until it fails.
+//! them, until it fails. What looks on while a netlist is simulated: a watch is told what the nets settle to, moment by moment.
 //!
-//! `specs/Written.antt` and `specs/Read.antt` have the words in which contracts say what was written and read.
-//!
-//! What looks on while a netlist is simulated: it is told what the nets settle to, moment by
-//! moment.
-//!
-//! `specs/Stands.antt` says what it is told.
+//! `specs/Written.antt`, `specs/Read.antt` and `specs/Stands.antt` have the words in which contracts say what was written, read and told.
 #![tactic(auto)]
 
 mod reader;

@@ -1,4 +1,4 @@
--- What `run`, `run --levels` and `eval` do on a netlist: the calls of rtl_machine and rtl_machine, with their faults as those of a
+-- What `run`, `run --levels` and `eval` do on a netlist: the calls of rtl_machine, with their faults as those of a
 -- command.
 use Rattle.std.specs.Prelude.{◌≡◌, ℕ, List, Result, Ok, Err}
 use Rattle.rtlsim_faults.specs.Faults.{of_machine}

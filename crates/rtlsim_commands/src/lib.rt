@@ -1,15 +1,12 @@
-//! The commands on a source: each opens it and does its work on the netlist; and what is told of its answer.
+//! The commands on a netlist: each does its work and writes to a sink, while a watch looks on. The commands on a source: each opens it
+//! and does its work on the netlist; and what is told of its answer.
 //!
 //! Each call that opens a source has a type for its first parameter that does so, by the contract of `Front`.
 //!
-//! `specs/Opened.antt` says what a command answers that opens a source, `specs/Served.antt` and `specs/Told.antt` what it leaves on both
-//! outputs, and `specs/Unsettled.antt` what is told of nets that still change. What commands do on a netlist is rtlsim_commands's.
-//!
-//! The commands on a netlist: each does its work and writes to a sink, while a watch looks on; and what is told of its answer.
-//!
 //! `specs/Listed.antt` says what `net` and `check` write, `specs/Machine.antt` what `run`, `run --levels` and `eval` do,
 //! `specs/Simulated.antt` what `run --event` does, `specs/Watched.antt` what is seen of a run, and `specs/Expected.antt` what is compared with
-//! what is expected of it.
+//! what is expected of it. `specs/Opened.antt` says what a command answers that opens a source, `specs/Served.antt` and `specs/Told.antt`
+//! what it leaves on both outputs, and `specs/Unsettled.antt` what is told of nets that still change.
 #![tactic(auto)]
 
 mod both;

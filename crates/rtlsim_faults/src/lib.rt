@@ -1,11 +1,9 @@
-//! The faults of the commands, and how they are told: their lines, what stands below them, and the status with which the program ends.
+//! The faults of the commands, and how they are told: their lines, what stands below them, and the status with which the program ends;
+//! and what is told of the faults of names and types of a source behind its first.
 //!
 //! `specs/Faults.antt` says what a layer's fault is to a caller, `specs/Lines.antt` and `specs/Explanations.antt` what is told of it, and
-//! `specs/Told.antt` how that goes out; `specs/Changing.antt` how the nets are told that still change.
-//!
-//! What is told of the faults of names and types of a source behind its first.
-//!
-//! `specs/Further.antt` says which faults follow, and what is told of them.
+//! `specs/Told.antt` how that goes out; `specs/Changing.antt` how the nets are told that still change; `specs/Further.antt` which faults
+//! of names follow, and what is told of them.
 #![tactic(auto)]
 
 mod changing;

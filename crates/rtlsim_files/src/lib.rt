@@ -1,14 +1,8 @@
-//! A source of several files: their texts joined, and in which of them a byte stands.
+//! A source of several files: their texts joined, in which of them a byte stands, and the entities that a source shows an architecture
+//! of, told to whom names one that isn't there.
 //!
-//! `specs/Files.antt` says what the joined text is, and where a byte of it stands.
-//!
-//! A byte that is told by its own file is the byte of the source, and stands where that says.
-//!
-//! `specs/Laws.antt` says so of each byte of the joined texts of rtlsim_files.
-//!
-//! The entities that a source shows an architecture of, told to whom names one that isn't there.
-//!
-//! `specs/Entities.antt` says which they are, and how they are told.
+//! `specs/Files.antt` says what the joined text is, and where a byte of it stands; `specs/Laws.antt` that a byte that is told by its own
+//! file is the byte of the source; `specs/Entities.antt` which entities are told, and how.
 #![tactic(auto)]
 
 mod file;

@@ -1,10 +1,8 @@
-//! The checker's verdict on a netlist as an object of JSON, for programs.
+//! What `check` tells of a netlist beside the lines of its verdict: the verdict as an object of JSON, for programs, and the lines of
+//! remarks, as `check --explain` prints them.
 //!
-//! `specs/Json.antt` says what is written, and `specs/Values.antt` how strings and arrays are.
-//!
-//! The lines of remarks on a netlist, as `check --explain` prints them.
-//!
-//! `specs/RemarkText.antt` says what is written; which remarks there are is defined by rtl_remarks.
+//! `specs/Json.antt` says what is written of the verdict, and `specs/Values.antt` how strings and arrays are; `specs/RemarkText.antt`
+//! what is written of remarks. Which remarks there are is defined by rtl_remarks.
 #![tactic(auto)]
 
 mod lines;

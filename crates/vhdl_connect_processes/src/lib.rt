@@ -1,7 +1,5 @@
-//! Processes of the flat netlist of a design, and what an instance drives and reads of its elements' nets (IEEE 1076-2008, 14.2,
-//! 14.7.2, 14.7.3).
-//!
-//! Bodies of processes in place: nets and drivers in place of elements (IEEE 1076-2008, 14.7.2).
+//! Processes of the flat netlist of a design, their bodies with nets and drivers in place of elements, and what an instance drives and
+//! reads of its elements' nets (IEEE 1076-2008, 14.2, 14.7.2, 14.7.3).
 #![tactic(auto)]
 
 mod body_laws;

@@ -1,11 +1,6 @@
-//! The tree of a design's instances: the concurrent statements of architectures, their generates and their instances, from the
-//! top on (IEEE 1076-2008, clause 11, 14.2 to 14.5).
-//!
-//! Processes of the tree: what a body would cost unrolled, counted before it is, and a process with its variables, its drivers,
-//! what resumes it and its body (IEEE 1076-2008, 10.10, 11.3).
-//!
-//! What an instance declares: the values of its generics and constants, its ports and signals with what they start with, and
-//! what its ports are associated with (IEEE 1076-2008, 6.4.2, 6.5.6, 6.5.7, 14.2 to 14.4).
+//! The tree of a design's instances: what an instance declares, its processes, the concurrent statements of architectures, their
+//! generates and their instances, from the top on (IEEE 1076-2008, clause 11, 6.4.2, 6.5.6, 6.5.7, 10.10, 14.2 to 14.5). What a body
+//! would cost unrolled is counted before it is.
 #![tactic(auto)]
 
 mod actuals;

@@ -1,8 +1,5 @@
-//! The analysis of a file (IEEE 1076-2008, clauses 3 and 13), by the rules of `vhdl_names_rules`: its entities and architectures in order
-//! of the text, and the units that they are.
-//!
-//! How concurrent statements are analysed (IEEE 1076-2008, clause 11, and 10.1 for the labels inside a process), by the rules
-//! of `vhdl_names_rules`: each is what the rules give, or is refused where they give nothing.
+//! The analysis of a file (IEEE 1076-2008, clauses 3, 11 and 13, and 10.1 for the labels inside a process), by the rules of
+//! `vhdl_names_rules`: its entities and architectures in order of the text, their concurrent statements, and the units that they are.
 #![tactic(auto)]
 
 mod architectures;

@@ -1,8 +1,5 @@
-//! The declarations of an architecture (IEEE 1076-2008, 3.3), with components (6.8), by the rules of `vhdl_names_rules`: a component is
-//! the text of the entity of its name.
-//!
-//! Interfaces of entities and components, the entities of a file by name, and what is in sight where an architecture begins (IEEE
-//! 1076-2008, 3.2, 3.3, 6.5.6, 6.8, 12.4 and 13.1), by the rules of `vhdl_names_rules`.
+//! Interfaces of entities and components, the entities of a file by name, and the declarations of an architecture (IEEE 1076-2008, 3.2,
+//! 3.3, 6.5.6, 6.8, 12.4 and 13.1), by the rules of `vhdl_names_rules`: a component is the text of the entity of its name.
 #![tactic(auto)]
 
 mod architecture;

@@ -1,9 +1,8 @@
-//! Names and types of a file (IEEE 1076-2008, clauses 6 and 8 to 13). The definitions stand in `specs`: what an analysed
-//! file is (`units`), which file is well typed, one rule a line, and what follows of both.
+//! Names and types of a file (IEEE 1076-2008, clauses 3 to 13). The definitions stand in `specs`: what an analysed file is (`units`),
+//! which file is well typed, one rule a line, and what follows of both.
 //!
-//! Which rule of names and types a file breaks first in order of its text, by the problem that the rule bears, and at which
-//! byte (IEEE 1076-2008, clauses 3 to 13): what a fault of names tells. The definitions stand in `specs`; `vhdl_names_rules`
-//! says what a file is where no rule is broken.
+//! `specs/problems` says which rule a file breaks first in order of its text, by the problem that the rule bears, and at which byte:
+//! what a fault of names tells.
 #![tactic(auto)]
 
 mod fault;

@@ -1,8 +1,6 @@
 //! The units of a file as they are analysed (IEEE 1076-2008, clauses 3, 6, 10, 11 and 13): declarations, statements, entities and
-//! architectures. `specs/views` says what contracts see of them: the units of vhdl_names_rules.
-//!
-//! Labels and end names, names that stand once, and which of several faults is told first (IEEE 1076-2008, clauses 10.1, 11.1 and 12.3):
-//! what statements, instances and files share of the rules of `vhdl_names_rules`.
+//! architectures. `specs/views` says what contracts see of them: the units of vhdl_names_rules. Beside them stands what statements,
+//! instances and files share of these rules: labels and end names, names that stand once, and which of several faults is told first.
 #![tactic(auto)]
 
 mod answers;

@@ -1,6 +1,4 @@
-//! From tokens to the syntax tree of a file.
-//!
-//! From tokens to context clauses, generics and ports, declarations and instances.
+//! From tokens to the syntax tree of a file: context clauses, generics and ports, declarations, concurrent statements and units.
 #![tactic(auto)]
 
 mod concurrent;
