@@ -3,7 +3,7 @@ use Rattle.std.proofs.Common.{◌≡◌, ℕ, zero, suc, ◌+◌, ◌<◌, Bool,
 use Rattle.std.specs.Prelude.{flat_map}
 use Rattle.std.specs.List.{list_any, range_with_len}
 use Rattle.std.proofs.lemmas.Grind.{flat_map-append}
-use Rattle.std.proofs.lemmas.List.{take_more, length-take}
+use Rattle.std.proofs.lemmas.List.{take_more, length-take, map-append}
 use Rattle.rtl_net.specs.declared.process.Process.{Process}
 use Rattle.rtl_remarks.specs.declared.remark.Remark.{Remark}
 use Rattle.rtl_remarks.specs.Remarks.{of_nets, of_processes}
@@ -42,6 +42,14 @@ next_process f ps i p old mid new l at before q =
     ap (of_processes f 0) (take_more ps i p l ∙ ap (λ x. take i ps ++ x ∷ []) (sym at)) ∙ of_processes_more f 0 (take i ps) p
     ∙ ap (λ k. of_processes f 0 (take i ps) ++ f k p) many in
     q ∙ ap (λ xs. xs ++ f i p) before ∙ append_assoc old (of_processes f 0 (take i ps)) (f i p) ∙ ap (λ xs. old ++ xs) (sym grown)
+
+-- the remark on one number more of a list
+pub next_number : (f : ℕ → Remark) (xs : List ℕ) (i : ℕ) (old mid new : List Remark) → i < length xs → mid ≡ old ++ map f (take i xs) → new ≡ mid ++ f (get_or xs i 0) ∷ []
+    → new ≡ old ++ map f (take (i + 1) xs)
+next_number f xs i old mid new l before q =
+    let x = get_or xs i 0 in
+    q ∙ ap (λ ys. ys ++ f x ∷ []) before ∙ append_assoc old (map f (take i xs)) (f x ∷ [])
+    ∙ ap (λ ys. old ++ ys) (sym (ap (map f) (take_more xs i 0 l) ∙ map-append f (take i xs) (x ∷ [])))
 
 -- ---- searches
 

@@ -4,30 +4,23 @@ ghost use Rattle.std.specs.Prelude.{◌≡◌};
 ghost use Rattle.rtl_stim_lines.specs.declared.faults.StimFault.TheVariants.{NoMemory};
 
 use std::alloc::{AllocError, AllocFailed};
-use thiserror::Error;
 
 /// What is wrong with a line of a stimulus.
-#[derive(Clone, Copy, Debug, Error)]
+#[derive(Clone, Copy)]
 pub enum StimProblem {
     /// An unknown word, a wrong count of words, no number where one has to stand, a half period of 0, or a
     /// second stop.
-    #[error("the line is not understood")]
     BadLine,
     /// A name that is no input port of the top.
-    #[error("no input has this name")]
     NotAnInput,
     /// A value of another length than the port's, or with another character than the nine; a clock on a
     /// vector.
-    #[error("the value does not fit the input")]
     BadValue,
     /// An input that is set twice at one time, or has two clocks.
-    #[error("the input is set twice")]
     SetTwice,
     /// An input that is both a clock and set.
-    #[error("the input is a clock and is set too")]
     ClockAndSet,
     /// A time above 10^15 ns.
-    #[error("the time is too large")]
     TimeTooLarge,
 }
 
@@ -74,26 +67,22 @@ impl StimProblem {
 }
 
 /// Why a stimulus is refused. `line` counts from 1.
-#[derive(Clone, Copy, Debug, Error)]
+#[derive(Clone, Copy)]
 pub enum StimFault {
     /// This is wrong with a line.
-    #[error("{problem}, in line {line}")]
     InLine {
         problem: StimProblem,
         line: usize,
     },
     /// No line says when to stop.
-    #[error("no line says when to stop")]
     NoStop,
     /// A data input changes at an active clock edge; both are given by their net, the time in ns.
-    #[error("input {input} changes at an edge of clock {clock}, at {time} ns")]
     Race {
         time: u64,
         input: usize,
         clock: usize,
     },
     /// Memory was refused.
-    #[error("out of memory")]
     NoMemory,
 }
 
