@@ -1,5 +1,6 @@
 -- The value of a chain of operators on static integers.
 use Rattle.std.proofs.Common.{◌≡◌, List, [], ◌∷◌, Result, Ok, Err, Box, Vec, Global, refl, sym, ap, ◌∙◌, subst, ℤ}
+use Rattle.std.specs.Prelude.{IsErrAnd}
 use Rattle.vhdl_names_rules.specs.declared.operator.Arithmetic.{Arithmetic}
 use Rattle.vhdl_names_rules.specs.declared.integer.Static.TheVariants as s
 use Rattle.vhdl_names_rules.specs.declared.integer.Static.{Static}
@@ -10,12 +11,18 @@ use Rattle.vhdl_names_rules.specs.units.Expressions as u
 use Rattle.vhdl_names_rules.proofs.rows.Integers.{view_chain}
 use Rattle.vhdl_expand_rules.specs.declared.fault.ElabFault.{ElabFault}
 use Rattle.vhdl_expand_rules.specs.declared.fault.ElabProblem.{ElabProblem}
-use Rattle.vhdl_expand_rules.specs.Elab.{Elab, ◌>>=◌}
+use Rattle.vhdl_expand_rules.specs.Elab.{Elab, ◌>>=◌, problem_told}
 use Rattle.vhdl_expand_rules.specs.Integers.{Integers, integer, integer_operation}
 use Rattle.vhdl_expand_rules.specs.views.Integers.{Computes, all_operated}
 
 pub computes_along : (given given' : Elab ℤ) (r : Result ℤ ElabFault) → given ≡ given' → Computes given' r → Computes given r
 computes_along given given' r e h = subst (λ (x : Elab ℤ). Computes x r) (sym e) h
+
+-- a fault that is passed on
+pub computes_err : {A : Type 0} (given : Elab A) (fault : ElabFault) (P : ElabFault → Type 0) (r : Result A ElabFault) → IsErrAnd r P → ((e : ElabFault) → P e → e ≡ fault)
+    → given ≡ Err (problem_told fault) → Computes given r
+computes_err given fault P (Ok x) h same f = absurd h
+computes_err given fault P (Err e) h same f = subst (λ (x : ElabFault). given ≡ Err (problem_told x)) (sym (same e h)) f
 
 pub bind-assoc : {A B C : Type 0} (r : Elab A) (f : A → Elab B) (g : B → Elab C) → ((r >>= f) >>= g) ≡ (r >>= λ x. f x >>= g)
 bind-assoc (Ok x) f g = refl

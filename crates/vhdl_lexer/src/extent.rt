@@ -7,7 +7,7 @@ use crate::kind::{is_boundary, is_end, is_left, is_right, is_semicolon, may_go, 
 use crate::token::{Token, TokenKind};
 
 /// Bytes of a source, from `start` up to `end`, both counted from the source's first byte.
-#[derive(Clone, Copy, Debug, PartialEq, Eq)]
+#[derive(Clone, Copy)]
 pub struct Extent {
     pub start: u32,
     pub end: u32,

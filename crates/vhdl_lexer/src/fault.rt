@@ -5,34 +5,27 @@ ghost use Rattle.vhdl_lexer.specs.Fault.{fault_number, fault_byte};
 ghost use Rattle.vhdl_lexer.specs.declared.fault.LexFault.TheVariants.{NoMemory};
 
 use std::alloc::AllocFailed;
-use thiserror::Error;
+use std::fmt;
 
 /// Why a source has no tokens. `at` is a byte of the source, counted from 0, and never above the
 /// source's length: of the first five faults the first byte of the token that starts first and
 /// is none.
-#[derive(Clone, Copy, Debug, Error)]
+#[derive(Clone, Copy)]
 pub enum LexFault {
     /// A byte that begins no token, or one outside 32 to 126 in a string.
-    #[error("no token has the byte that stands here, at byte {at}")]
     BadByte { at: usize },
     /// A delimited comment with no `*/` (15.9).
-    #[error("the comment that begins here has no end, at byte {at}")]
     OpenComment { at: usize },
     /// A string or bit string that isn't closed on its line (15.7, 15.8).
-    #[error("the string that begins here isn't closed on its line, at byte {at}")]
     OpenString { at: usize },
     /// A word with an underscore at its beginning, at its end or beside another (15.4.2).
-    #[error("the word that begins here is no identifier, at byte {at}")]
     BadIdentifier { at: usize },
     /// A number or bit string with a digit, an underscore or a form that isn't read, or an integer
     /// above 2,147,483,647 (15.5, 15.8).
-    #[error("the number that begins here isn't read, at byte {at}")]
     BadNumber { at: usize },
     /// A source above 4,194,304 bytes; `at` is the first byte above them.
-    #[error("the source is too long, at byte {at}")]
     TooLong { at: usize },
     /// The list of tokens could not grow.
-    #[error("out of memory")]
     NoMemory,
 }
 
@@ -64,6 +57,29 @@ impl LexFault {
             | LexFault::BadNumber { at }
             | LexFault::TooLong { at } => Some(at),
             LexFault::NoMemory => None,
+        }
+    }
+
+    /// What is wrong, in words.
+    fn text(self) -> &'static str {
+        match self {
+            LexFault::BadByte { .. } => "no token has the byte that stands here",
+            LexFault::OpenComment { .. } => "the comment that begins here has no end",
+            LexFault::OpenString { .. } => "the string that begins here isn't closed on its line",
+            LexFault::BadIdentifier { .. } => "the word that begins here is no identifier",
+            LexFault::BadNumber { .. } => "the number that begins here isn't read",
+            LexFault::TooLong { .. } => "the source is too long",
+            LexFault::NoMemory => "out of memory",
+        }
+    }
+}
+
+impl fmt::Display for LexFault {
+    fn fmt<W: fmt::Write>(&self, f: &mut fmt::Formatter<W>) -> fmt::Result {
+        f.write_str(self.text())?;
+        match self.byte() {
+            Some(at) => write!(f, ", at byte {at}"),
+            None => Ok(()),
         }
     }
 }

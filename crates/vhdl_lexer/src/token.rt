@@ -4,7 +4,7 @@
 ///
 /// Only a basic identifier that is no reserved word is an `Identifier`. A kind without a comment is
 /// the reserved word of its name (15.10).
-#[derive(Clone, Copy, Debug, PartialEq, Eq)]
+#[derive(Clone, Copy, PartialEq, Eq)]
 pub enum TokenKind {
     /// A basic identifier (15.4.2).
     Identifier,
@@ -160,7 +160,7 @@ pub enum TokenKind {
 
 /// A token, by its kind and the bytes of the source that it takes: from `start` up to `end`,
 /// both counted from the source's first byte. A source has 4,194,304 bytes at most, so 32 bits do.
-#[derive(Clone, Copy, Debug)]
+#[derive(Clone, Copy)]
 pub struct Token {
     pub kind: TokenKind,
     pub start: u32,

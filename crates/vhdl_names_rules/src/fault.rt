@@ -4,55 +4,42 @@ ghost use Rattle.std.specs.Prelude.{◌≡◌};
 ghost use Rattle.vhdl_names_rules.specs.declared.fault.NameFault.TheVariants.{NoMemory};
 
 use std::alloc::{AllocError, AllocFailed};
-use thiserror::Error;
+use std::fmt;
 
 /// What is wrong with a name or a type. The clauses are those of IEEE 1076-2008. They are numbered
 /// from 1 in this order.
-#[derive(Clone, Copy, Debug, Error)]
+#[derive(Clone, Copy)]
 pub enum NameProblem {
     /// A name that no declaration in sight has (12.3).
-    #[error("the name is not declared")]
     Undeclared,
     /// A name that is declared twice in one region (12.1), or a formal that is associated twice.
-    #[error("the name is declared twice")]
     Twice,
     /// A name of something else than what has to stand here.
-    #[error("the name is of another kind")]
     WrongKind,
     /// An expression of another type than the one that is wanted (9.1).
-    #[error("the types do not match")]
     TypeMismatch,
     /// A name or operator of a package that no use clause makes visible (12.4).
-    #[error("no use clause makes the name visible")]
     NotVisible,
     /// An in port as a target, or as the actual of an out port (6.5.2).
-    #[error("an in port is assigned")]
     WriteOfIn,
     /// A case without `others` where a value is missing (10.9).
-    #[error("a case lacks `others`")]
     NoOthers,
     /// A choice of a value that an earlier one has (10.9).
-    #[error("a choice stands twice")]
     ChoiceTwice,
     /// A second architecture of one entity.
-    #[error("a second architecture of one entity")]
     SecondArchitecture,
     /// A process without a sensitivity list.
-    #[error("a process without a sensitivity list")]
     NoSensitivity,
     /// A form that parses and is no part of the language.
-    #[error("a form that is left out")]
     LeftOut,
 }
 
 /// Why a file is not well typed. `at` is a byte of the source, counted from 0.
-#[derive(Clone, Copy, Debug, Error)]
+#[derive(Clone, Copy)]
 pub enum NameFault {
     /// This is wrong with what stands here.
-    #[error("{problem}, at byte {at}")]
     At { problem: NameProblem, at: usize },
     /// Memory was refused.
-    #[error("out of memory")]
     NoMemory,
 }
 
@@ -62,6 +49,38 @@ impl NameProblem {
         ensures { result ≡ NameFault.At self at }
     {
         NameFault::At { problem: self, at }
+    }
+
+    /// What is wrong, in words.
+    fn text(self) -> &'static str {
+        match self {
+            NameProblem::Undeclared => "the name is not declared",
+            NameProblem::Twice => "the name is declared twice",
+            NameProblem::WrongKind => "the name is of another kind",
+            NameProblem::TypeMismatch => "the types do not match",
+            NameProblem::NotVisible => "no use clause makes the name visible",
+            NameProblem::WriteOfIn => "an in port is assigned",
+            NameProblem::NoOthers => "a case lacks `others`",
+            NameProblem::ChoiceTwice => "a choice stands twice",
+            NameProblem::SecondArchitecture => "a second architecture of one entity",
+            NameProblem::NoSensitivity => "a process without a sensitivity list",
+            NameProblem::LeftOut => "a form that is left out",
+        }
+    }
+}
+
+impl fmt::Display for NameProblem {
+    fn fmt<W: fmt::Write>(&self, f: &mut fmt::Formatter<W>) -> fmt::Result {
+        f.write_str(self.text())
+    }
+}
+
+impl fmt::Display for NameFault {
+    fn fmt<W: fmt::Write>(&self, f: &mut fmt::Formatter<W>) -> fmt::Result {
+        match *self {
+            NameFault::At { problem, at } => write!(f, "{problem}, at byte {at}"),
+            NameFault::NoMemory => f.write_str("out of memory"),
+        }
     }
 }
 

@@ -5,6 +5,7 @@ use Rattle.vhdl_expand_rules.specs.Elab.{problem_told}
 use Rattle.vhdl_expand_rules.specs.Integers as definition
 use Rattle.vhdl_expand_rules.specs.views.Integers.{integers_view}
 use Rattle.vhdl_expand_rules.specs.views.Decisions.{all_decided}
+use Rattle.vhdl_expand_rules.proofs.Chains.{computes_err}
 use Rattle.vhdl_expand_rules.proofs.Decided.{computes_along, chain-value, chain-err}
 use Rattle.vhdl_expand_rules.proofs.integer.Integers.+decision.Goals as goal
 
@@ -12,7 +13,7 @@ pub decision-returns-in_err-first-in-Chain : goal.decision-returns-in_err-first-
 decision-returns-in_err-first-in-Chain t c =
     let refused : definition.decision (integers_view c.args.self.now) (static_test_view c.args.test.now) ≡ Err (problem_told c.in_err-first-in-Chain.field-0.0) =
     chain-err (integers_view c.args.self.now) c.args.test.now c.in-Chain.start c.in-Chain.links _ _ c.in-Chain.is c.deref-in-Chain.ensures c.in_err-first-in-Chain.ensures in
-    first_of (search rules, grind (arith, common_steps))
+    computes_err _ c.in_err-first-in-Chain.field-0.0 _ c.from_residual-in_err-first-in-Chain.result c.from_residual-in_err-first-in-Chain.ensures.1 (λ e p. p) refused
 
 pub decision-returns-in_ok-first-in-Chain : goal.decision-returns-in_ok-first-in-Chain
 decision-returns-in_ok-first-in-Chain t c =

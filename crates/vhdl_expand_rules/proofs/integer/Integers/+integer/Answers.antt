@@ -4,14 +4,14 @@ use Rattle.vhdl_names_rules.specs.views.Integers.{static_view}
 use Rattle.vhdl_expand_rules.specs.Elab.{problem_told}
 use Rattle.vhdl_expand_rules.specs.Integers as definition
 use Rattle.vhdl_expand_rules.specs.views.Integers.{integers_view, all_operated}
-use Rattle.vhdl_expand_rules.proofs.Chains.{computes_along, chain-value, chain-err}
+use Rattle.vhdl_expand_rules.proofs.Chains.{computes_along, computes_err, chain-value, chain-err}
 use Rattle.vhdl_expand_rules.proofs.integer.Integers.+integer.Goals as goal
 
 pub integer-returns-in_err-first-in-Chain : goal.integer-returns-in_err-first-in-Chain
 integer-returns-in_err-first-in-Chain t c =
     let refused : definition.integer (integers_view c.args.self.now) (static_view c.args.value.now) ≡ Err (problem_told c.in_err-first-in-Chain.field-0.0) =
     chain-err (integers_view c.args.self.now) c.args.value.now c.in-Chain.start c.in-Chain.links _ _ c.in-Chain.is c.deref-in-Chain.ensures c.in_err-first-in-Chain.ensures in
-    first_of (search rules, grind (arith, common_steps))
+    computes_err _ c.in_err-first-in-Chain.field-0.0 _ c.from_residual-in_err-first-in-Chain.result c.from_residual-in_err-first-in-Chain.ensures.1 (λ e p. p) refused
 
 pub integer-returns-in_ok-first-in-Chain : goal.integer-returns-in_ok-first-in-Chain
 integer-returns-in_ok-first-in-Chain t c =
