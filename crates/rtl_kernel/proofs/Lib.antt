@@ -1,6 +1,8 @@
 pub mod Lanes
 pub mod Marks
 pub mod Runs
+pub mod Replaced
+pub mod Ends
 pub mod Pieces
 pub mod Events
 pub mod Cycles
@@ -12,6 +14,7 @@ pub mod Places
 pub mod Picking
 pub mod Updating
 pub mod Brought
+pub mod Wholes
 pub mod Active
 pub mod Steps
 pub mod Resolved

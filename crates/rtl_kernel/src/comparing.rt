@@ -6,7 +6,54 @@ ghost use Rattle.std.specs.Str.{bytes_eq};
 use std::simd::prelude::*;
 
 /// Whether these values differ.
+#[inline(always)]
 pub fn are_other(old: &[u8], new: &[u8]) -> bool
+    requires { length old.now ≡ length new.now }
+    ensures { result ≡ not (bytes_eq old.now new.now) }
+{
+    let many = old.len();
+    if many > 32 {
+        return are_any_other(old, new);
+    }
+    if many >= 16 {
+        return are_ends_other::<16>(old, new);
+    }
+    if many == 1 {
+        return are_ends_other::<1>(old, new);
+    }
+    if many >= 8 {
+        return are_ends_other::<8>(old, new);
+    }
+    if many >= 4 {
+        return are_ends_other::<4>(old, new);
+    }
+    if many >= 2 {
+        return are_ends_other::<2>(old, new);
+    }
+    are_any_other(old, new)
+}
+
+/// Whether so many values differ, or at most twice as many: the first so many and the last, which may overlap.
+#[inline(always)]
+fn are_ends_other<const LANES: usize>(old: &[u8], new: &[u8]) -> bool
+    requires most { LANES ≤ 64 }
+    requires as_many { length old.now ≡ length new.now }
+    requires least { LANES ≤ length old.now }
+    requires covers { length old.now ≤ LANES + LANES }
+    ensures { result ≡ not (bytes_eq old.now new.now) }
+{
+    let last = old.len() - LANES;
+    let front = Simd::<u8, LANES>::from_slice(old);
+    let back = Simd::<u8, LANES>::from_slice(&old[last..]);
+    let new_front = Simd::<u8, LANES>::from_slice(new);
+    let new_back = Simd::<u8, LANES>::from_slice(&new[last..]);
+    let differ = are_different::<LANES>(front, new_front);
+    differ | are_different::<LANES>(back, new_back)
+}
+
+/// Whether any number of values differ.
+#[inline(never)]
+fn are_any_other(old: &[u8], new: &[u8]) -> bool
     requires { length old.now ≡ length new.now }
     ensures { result ≡ not (bytes_eq old.now new.now) }
 {
@@ -44,7 +91,7 @@ fn alike_lanes<const LANES: usize>(old: &[u8], new: &[u8]) -> Option<usize>
 }
 
 /// Whether a lane of one is another than that of the other.
-fn are_different<const LANES: usize>(before: Simd<u8, LANES>, after: Simd<u8, LANES>) -> bool
+pub fn are_different<const LANES: usize>(before: Simd<u8, LANES>, after: Simd<u8, LANES>) -> bool
     requires most { LANES ≤ 64 }
     requires before { length before ≡ LANES }
     requires after { length after ≡ LANES }

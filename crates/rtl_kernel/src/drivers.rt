@@ -1,7 +1,7 @@
 //! Drivers and their transactions.
 
 ghost use Rattle.std.specs.Prelude.{◌≡◌, ◌+◌, ◌<◌, ◌≤◌, ℕ, [], All, length, map, not, slice_index_or, Contains, IfOk, IsSome, None};
-ghost use Rattle.std.specs.List.{list_any};
+ghost use Rattle.std.specs.List.{list_any, range_with_len};
 ghost use Rattle.std.specs.Option.{is_some};
 ghost use Rattle.rtl_model.specs.bodies.Types.{KeepsTypes};
 ghost use Rattle.rtl_model.specs.nets.CoreNetlist.{part_effect};
@@ -18,7 +18,7 @@ ghost use Rattle.rtl_kernel.specs.drivers.Updates.{TakesEntries, IsTaken};
 ghost use Rattle.rtl_kernel.specs.values.TwoValues.{group_of};
 ghost use Rattle.rtl_net_layout.specs.Cuts.{AreCuts, AreCutsOf};
 
-use crate::slices::{differ, write};
+use crate::slices::{differ, replace, write};
 use crate::starts::{start_values, variable_starts};
 use crate::values::Values;
 use crate::worklist::Worklist;
@@ -172,20 +172,79 @@ fn update_rows(
     ensures outcomes { outcomes.new.items ≡ map without_entries outcomes.old.items }
     ensures brings { BringsAll (flat wiring.now) wiring.now.processes (rows drivers.old.items) (rows drivers.new.items) nets.old noted.old nets.new noted.new }
 {
-    let processes = wiring.processes();
     for process in active {
-        let row = Row {
-            drives: &processes[*process].drives,
-            cuts: cuts.of(*process),
-            numbers: cuts.numbers(*process),
-        };
         let outcome = &mut outcomes[*process];
-        update_row(row, wiring, outcome, &mut drivers[*process], nets, noted);
+        let values = &mut drivers[*process];
+        update_process(*process, cuts, wiring, outcome, values, nets, noted);
         outcome.clear();
     }
 }
 
-/// Takes over the transactions of one process.
+/// Takes over the transactions of one process. If its drivers are one cut, nothing is looked up for a place.
+fn update_process(
+    process: usize,
+    cuts: &Cuts,
+    wiring: &Net,
+    outcome: &Drives,
+    values: &mut Vec<u8>,
+    nets: &mut Values,
+    noted: &mut Worklist,
+)
+    requires process { process < length wiring.now.processes }
+    requires as_many { length values.old.items ≡ length outcome.now.entries }
+    requires each_driver { length (targets_of wiring.now.processes process) ≡ length outcome.now.entries }
+    requires cuts { AreCutsOf nets.old.groups.of_net (all_targets wiring.now.processes) cuts.now }
+    requires there { All (λ (p : Process). All (λ n. n < length wiring.now.types) (nets_of p.drives.items)) wiring.now.processes }
+    requires each_net { length nets.old.current ≡ length wiring.now.types }
+    requires grouped { length nets.old.groups.of_net ≡ length wiring.now.types }
+    requires alike { AreAloneAlike (flat wiring.now) nets.old.groups.of_net }
+    requires bound { noted.old.bound ≡ length nets.old.groups.listed }
+    ensures values { values.new.items ≡ driver_values outcome.now.entries values.old.items }
+    ensures brings { Brings (flat wiring.now) (targets_of wiring.now.processes process) values.old.items values.new.items nets.old noted.old nets.new noted.new }
+{
+    let own = cuts.of(process);
+    if own.len() == 1 {
+        update_whole(own[0].net, wiring, outcome, values, nets, noted);
+    } else {
+        let row = Row {
+            drives: &wiring.processes()[process].drives,
+            cuts: own,
+            numbers: cuts.numbers(process),
+        };
+        update_row(row, wiring, outcome, values, nets, noted);
+    }
+}
+
+/// Takes over the transactions of a process whose drivers' nets stand one behind the other from this one on, in one group.
+fn update_whole(
+    first: usize,
+    wiring: &Net,
+    outcome: &Drives,
+    values: &mut [u8],
+    nets: &mut Values,
+    noted: &mut Worklist,
+)
+    requires as_many { length values.old ≡ length outcome.now.entries }
+    requires there { first + length outcome.now.entries ≤ length wiring.now.types }
+    requires together { (k : ℕ) → k < length outcome.now.entries → group_of nets.old (first + k) ≡ group_of nets.old first }
+    requires each_net { length nets.old.current ≡ length wiring.now.types }
+    requires grouped { length nets.old.groups.of_net ≡ length wiring.now.types }
+    requires alike { AreAloneAlike (flat wiring.now) nets.old.groups.of_net }
+    requires bound { noted.old.bound ≡ length nets.old.groups.listed }
+    ensures values { values.new ≡ driver_values outcome.now.entries values.old }
+    ensures brings { Brings (flat wiring.now) (range_with_len first (length outcome.now.entries)) values.old values.new nets.old noted.old nets.new noted.new }
+{
+    let _nets = wiring.nets();
+    for span in outcome.assigned() {
+        let assigned = outcome.values(*span);
+        if replace(values, span.first, assigned) {
+            bring(wiring, first + span.first, assigned, nets, noted);
+        }
+    }
+}
+
+/// Takes over the transactions of one process, whose drivers are cut so.
+#[inline(never)]
 fn update_row(
     row: Row,
     wiring: &Net,
@@ -253,6 +312,7 @@ fn update_span(
 
 /// Gives the nets from one on, all in one group, new values of their drivers, if those are their one source each, and else
 /// notes their group.
+#[inline(always)]
 fn bring(wiring: &Net, first: usize, values: &[u8], nets: &mut Values, noted: &mut Worklist)
     requires some { 0 < length values.now }
     requires there { first + length values.now ≤ length wiring.now.types }

@@ -150,6 +150,7 @@ impl Values {
     }
 
     /// Gives the nets from one on, all in one group, these values now.
+    #[inline(always)]
     pub fn set_run(&mut self, first: usize, values: &[u8])
         requires some { 0 < length values.now }
         requires there { first + length values.now ≤ length self.old.current }

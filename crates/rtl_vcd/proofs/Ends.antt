@@ -37,15 +37,11 @@ within nets k s r shown is =
     let below = All-get_or (λ n. n < nets) s.nets (r.count - 1) 0 last shown.there in
     record { some = omega (arith, long, shown.width.0); there = omega (arith, at, below, long, shown.width.0) }
 
-pub some_within : (nets k : ℕ) (s : SignalView) (r : Option Run) → IsShown nets s → IfSome r (IsRun k s) → IfSome r (LiesAmong nets)
-some_within nets k s None shown is = is
-some_within nets k s (Some r) shown is = within nets k s r shown is
-
 -- where it prints the same for its elements, it prints the same
 pub run_prints : (k : ℕ) (s : SignalView) (r : Run) (old new : List ℕ) → IsRun k s r → r.first + r.count ≤ length old → r.first + r.count ≤ length new
     → elements r old ≡ elements r new → printed k s old ≡ printed k s new
 run_prints k s r old new is before after e =
-    is.line old before ∙ ap (λ cs. beginning r.form ++ cs ++ take r.end.len r.end.bytes) e ∙ sym (is.line new after)
+    is.prints old before ∙ ap (λ cs. beginning r.form ++ cs ++ take r.end.len r.end.bytes) e ∙ sym (is.prints new after)
 
 -- what it prints for its elements tells whether it prints otherwise
 pub run_tells : (k : ℕ) (s : SignalView) (r : Run) (old new : List ℕ) → IsRun k s r → r.first + r.count ≤ length old → r.first + r.count ≤ length new
@@ -53,8 +49,8 @@ pub run_tells : (k : ℕ) (s : SignalView) (r : Run) (old new : List ℕ) → Is
 run_tells k s r old new is before after =
     let xs = elements r old in
     let ys = elements r new in
-    let one = is.line old before in
-    let other = is.line new after in
+    let one = is.prints old before in
+    let other = is.prints new after in
     same_test xs ys (printed k s old) (printed k s new)
     (run_prints k s r old new is before after)
     (λ e. append_cancel_left (beginning r.form) xs ys (append_cancel_right (beginning r.form ++ xs) (beginning r.form ++ ys) (take r.end.len r.end.bytes) (sym one ∙ e ∙ other)))
@@ -122,19 +118,6 @@ ready_at first names runs i s r lt is at are =
     subst (λ x. IfSome x (IsRun (first + i) (signal_view s))) (sym at)
     (subst (λ t. IfSome (slice_index_or runs i r) (IsRun (first + i) t)) name (are.each i (signal_view s) r there))
 
--- the run at hand has its nets among so many
-pub lies_at : (nets first : ℕ) (names : List SignalView) (runs : List (Option Run)) (i : ℕ) (r : Option Run) → i < length runs → r ≡ get_or runs i r
-    → AreReady first names runs → All (IsShown nets) names → IfSome r (LiesAmong nets)
-lies_at nets first names runs i r lt is are shown =
-    let none : SignalView = record { scope = 0; name = []; port = false; kind = One; nets = [] } in
-    let there : i < length names = omega (arith, are.as_many, lt) in
-    subst (λ x. IfSome x (LiesAmong nets)) (sym is)
-    (some_within nets (first + i) (get_or names i none) (get_or runs i r) (All-get_or (IsShown nets) names i none there shown) (are.each i none r there))
-
 -- the name of a run
 pub name_there : (first : ℕ) (names : List Signal) (runs : List (Option Run)) (i : ℕ) → i < length runs → AreReady first (map signal_view names) runs → i < length names
 name_there first names runs i lt are = omega (arith, lt, are.as_many, length-map names signal_view)
-
-pub with_name : {P : Type 0} (names : List Signal) (i : ℕ) → i < length names → ((s : Signal) → s ≡ get_or names i s → P) → P
-with_name [] i lt k = absurd (omega (arith, lt))
-with_name (s ∷ ss) i lt k = k (get_or (s ∷ ss) i s) (get_or_default (s ∷ ss) i s (get_or (s ∷ ss) i s) lt)

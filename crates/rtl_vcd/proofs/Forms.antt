@@ -1,6 +1,7 @@
 -- What names print by their forms.
-use Rattle.std.proofs.Common.{◌≡◌, ℕ, ◌+◌, ◌-◌, ◌<◌, ◌≤◌, List, [], ◌∷◌, ◌++◌, length, map, take, drop, get_or, slice_index, refl, sym, ap, ◌∙◌, arith, drop-cons}
+use Rattle.std.proofs.Common.{◌≡◌, ℕ, ◌+◌, ◌-◌, ◌<◌, ◌≤◌, Bool, not, List, [], ◌∷◌, ◌++◌, length, map, take, drop, get_or, slice_index, refl, sym, ap, ap₂, ◌∙◌, arith, drop-cons}
 use Rattle.std.specs.Prelude.{codes}
+use Rattle.std.specs.Str.{bytes_eq}
 use Rattle.std.specs.List.{range_with_len}
 use Rattle.std.proofs.lemmas.List.{length-map, length-take, get_or-take, get_or-drop}
 use Rattle.std.proofs.lemmas.Simd.{pick_l-range_with_len}
@@ -12,7 +13,7 @@ use Rattle.rtl_vcd.specs.declared.ready.Form.TheVariants.{Single, Several, Posit
 use Rattle.rtl_vcd.specs.declared.ready.Run.{Run}
 use Rattle.rtl_vcd.specs.Values.{code, character, binary, binary_digits, value_change}
 use Rattle.rtl_vcd.specs.Trace.{printed}
-use Rattle.rtl_vcd.specs.Ready.{form_of, beginning, behind, elements_as, elements}
+use Rattle.rtl_vcd.specs.Ready.{form_of, beginning, behind, elements_as, elements, line}
 use Rattle.rtl_vcd.proofs.Runs.{behind_page}
 use Rattle.rtl_vcd.proofs.Binaries.{length-binary}
 
@@ -61,3 +62,30 @@ pub alone_alike : (form : Form) (first count : ℕ) (old new : List ℕ) → (fo
 alone_alike Single first count old new other e = ap (λ v. character v ∷ []) e
 alone_alike Several first count old new other e = absurd (other refl)
 alone_alike (Position digits) first count old new other e = ap (binary digits) e
+
+-- ---- a run by its form
+
+pub single_is : (r : Run) (values : List ℕ) → r.form ≡ Single → elements r values ≡ character (slice_index values r.first) ∷ []
+single_is r values e = ap (λ f. elements_as f r.first r.count values) e
+
+pub several_is : (r : Run) (values : List ℕ) → r.form ≡ Several → map character (take (r.first + r.count - r.first) (drop r.first values)) ≡ elements r values
+several_is r values e =
+    let n : r.first + r.count - r.first ≡ r.count = omega arith in
+    ap (λ n. map character (take n (drop r.first values))) n ∙ sym (ap (λ f. elements_as f r.first r.count values) e)
+
+pub position_is : (r : Run) (values : List ℕ) (digits : ℕ) → r.form ≡ Position digits → elements r values ≡ binary digits (slice_index values r.first)
+position_is r values digits e = ap (λ f. elements_as f r.first r.count values) e
+
+-- a line, part by part, behind a page
+pub line_by : (r : Run) (values first chars : List ℕ) → beginning r.form ≡ first → elements r values ≡ chars → line r values ≡ first ++ chars ++ take r.end.len r.end.bytes
+line_by r values first chars e f = ap (λ t. t ++ elements r values ++ take r.end.len r.end.bytes) e ∙ ap (λ t. first ++ t ++ take r.end.len r.end.bytes) f
+
+pub line_behind : (r : Run) (values page mid put first chars : List ℕ) → beginning r.form ≡ first → elements r values ≡ chars → mid ≡ page ++ first ++ chars
+    → put ≡ mid ++ take r.end.len r.end.bytes → put ≡ page ++ line r values
+line_behind r values page mid put first chars e f pushed ended =
+    let end = take r.end.len r.end.bytes in
+    ended ∙ ap (λ t. t ++ end) pushed ∙ behind_page page first chars end ∙ ap (λ t. page ++ t) (sym (line_by r values first chars e f))
+
+pub other_by : (r : Run) (old new : List ℕ) (before now : List ℕ) (is_other : Bool) → elements r old ≡ before → elements r new ≡ now
+    → is_other ≡ not (bytes_eq before now) → is_other ≡ not (bytes_eq (elements r old) (elements r new))
+other_by r old new before now is_other e f tells = tells ∙ ap₂ (λ xs ys. not (bytes_eq xs ys)) (sym e) (sym f)

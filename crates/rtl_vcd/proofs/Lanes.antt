@@ -1,11 +1,11 @@
 -- Values as characters, lane by lane.
-use Rattle.std.proofs.Common.{◌≡◌, ℕ, Bool, true, not, cond, eqb, List, [], ◌∷◌, length, map, get_or, Fits, w8, refl, ap, ◌∙◌, ◌≤◌, ◌%◌, ◌^◌, sym, arith, ⊎_elim}
+use Rattle.std.proofs.Common.{◌≡◌, ℕ, Bool, true, not, cond, eqb, List, [], ◌∷◌, length, map, get_or, take, Fits, w8, refl, ap, ◌∙◌, ◌≤◌, ◌%◌, ◌^◌, sym, arith, ⊎_elim}
 use Rattle.std.specs.Prelude.{◌==◌}
 use Rattle.std.proofs.lemmas.Bool.{agree_below, agree_below_at, eqb-true, eqb-false, cases_Bool, false_from_ne_true, both_ways}
 use Rattle.std.proofs.lemmas.Simd.{map-map, chunk-fits, length-zip2, tops_compared, mask_l-mod}
 use Rattle.std.proofs.lemmas.Slice.Eq.{bytes_eq-Decides}
 use Rattle.std.specs.Str.{bytes_eq}
-use lib.Lanes.{Each1, chunk, sel_l, top, zip2, mask_l}
+use lib.Lanes.{Each1, sel_l, top, zip2, mask_l}
 use Rattle.rtl_vcd.specs.Values.{character}
 
 chosen_maps : (m : ℕ → Bool) (g h : ℕ → ℕ) (vs : List ℕ) → sel_l (map m vs) (map g vs) (map h vs) ≡ map (λ v. cond (m v) (g v) (h v)) vs
@@ -21,16 +21,16 @@ chosen m g h vs p q r = rw (p, q, r) (chosen_maps m g h vs)
 pub tops : (f : ℕ → ℕ) (vs : List ℕ) {xs : List ℕ} → xs ≡ map f vs → map (top 7) xs ≡ map (λ v. top 7 (f v)) vs
 tops f vs e = ap (map (top 7)) e ∙ map-map (top 7) f vs
 
-as_characters : (f : ℕ → ℕ) → agree_below (λ v. f v == character v) (λ _. true) 256 ≡ true → (vs : List ℕ) → Each1 (Fits w8) vs → map f vs ≡ map character vs
-as_characters f all [] fit = refl
-as_characters f all (v ∷ vs) (fits, rest) =
-    let same = eqb-true (f v) (character v) (agree_below_at (λ v. f v == character v) (λ _. true) 256 v all fits.fits) in
-    ap (λ x. x ∷ map f vs) same ∙ ap (λ xs. character v ∷ xs) (as_characters f all vs rest)
+as_said : (f g : ℕ → ℕ) → agree_below (λ v. f v == g v) (λ _. true) 256 ≡ true → (vs : List ℕ) → Each1 (Fits w8) vs → map f vs ≡ map g vs
+as_said f g all [] fit = refl
+as_said f g all (v ∷ vs) (fits, rest) =
+    let same = eqb-true (f v) (g v) (agree_below_at (λ v. f v == g v) (λ _. true) 256 v all fits.fits) in
+    ap (λ x. x ∷ map f vs) same ∙ ap (λ xs. g v ∷ xs) (as_said f g all vs rest)
 
--- lanes that are computed as characters are
-pub printed_lanes : (n : ℕ) (f : ℕ → ℕ) (values : List ℕ) (at : ℕ) → ((k : ℕ) → Fits w8 (get_or values k 0)) → {xs : List ℕ} → xs ≡ map f (chunk at n values)
-    → agree_below (λ v. f v == character v) (λ _. true) 256 ≡ true → xs ≡ map character (chunk at n values)
-printed_lanes n f values at fits e all = e ∙ as_characters f all (chunk at n values) (chunk-fits w8 at n values fits)
+-- lanes that are computed as is said
+pub lanes_said : (n : ℕ) (f g : ℕ → ℕ) (values : List ℕ) → ((k : ℕ) → Fits w8 (get_or values k 0)) → {xs : List ℕ} → xs ≡ map f (take n values)
+    → agree_below (λ v. f v == g v) (λ _. true) 256 ≡ true → xs ≡ map g (take n values)
+lanes_said n f g values fits e all = e ∙ as_said f g all (take n values) (chunk-fits w8 0 n values fits)
 
 -- the mask of the lanes that differ
 abbrev pub differ_at : ℕ → ℕ → Bool

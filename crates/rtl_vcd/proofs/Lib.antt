@@ -7,6 +7,8 @@ pub mod Hulls
 pub mod Lanes
 pub mod Names
 pub mod Pages
+pub mod Plain
+pub mod Puts
 pub mod Binaries
 pub mod Printing
 pub mod Runs

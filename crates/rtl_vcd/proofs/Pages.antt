@@ -1,10 +1,14 @@
 -- Text by way of a page.
-use Rattle.std.proofs.Common.{◌≡◌, ℕ, ◌+◌, ◌-◌, ◌≤◌, List, [], ◌++◌, length, take, refl, sym, ap, ◌∙◌, subst, arith, append_assoc, append-nil, length-take-le, take-add, take-take, take_at, drop_at}
+use Rattle.std.proofs.Common.{◌≡◌, ℕ, ◌+◌, ◌-◌, ◌<◌, ◌≤◌, List, [], ◌++◌, length, take, drop, set, refl, sym, ap, ◌∙◌, subst, arith, append_assoc, append-nil, length-take-le, take-add, take-take, take_at, drop_at}
+use Rattle.std.specs.Prelude.{codes}
 use Rattle.std.proofs.lemmas.Slice.{take-put_mid}
+use Rattle.std.proofs.lemmas.List.{take_all, take-append-le, take-set, take_more_set, length-set}
 use borrow.Rule.Slice.PartMut.{put_mid}
 use Rattle.rtl_sink.specs.Written.{SinkState, Goes}
 use Rattle.rtl_sink.proofs.Writing.{Goes-nil, Goes-append}
 use Rattle.rtl_vcd.specs.Pages.{Passes}
+use Rattle.rtl_vcd.proofs.Names.{take_further}
+use Rattle.rtl_vcd.proofs.Runs.{behind_page}
 
 -- no text
 pub Passes-nil : (a : SinkState) (held : List ℕ) → Passes a a held held []
@@ -14,8 +18,9 @@ Passes-nil a held = record { gone = []; goes = Goes-nil a; kept = append-nil hel
 pub Passes-held : (a : SinkState) (held text : List ℕ) → Passes a a held (held ++ text) text
 Passes-held a held text = record { gone = []; goes = Goes-nil a; kept = refl }
 
-pub Passes-by : (a b c : SinkState) (held text : List ℕ) → Goes a b held → Goes b c text → Passes a c held [] text
-Passes-by a b c held text first goes = record { gone = held ++ text; goes = Goes-append a b c held text first goes; kept = sym (append-nil (held ++ text)) }
+-- all that the page holds goes to the sink
+pub Passes-all : (a b : SinkState) (text : List ℕ) → Goes a b text → Passes a b [] [] text
+Passes-all a b text goes = record { gone = text; goes = goes; kept = sym (append-nil text) }
 
 -- one text, and then another
 pub Passes-append : (a b c : SinkState) (h i j x y : List ℕ) → Passes a b h i x → Passes b c i j y → Passes a c h j (x ++ y)
@@ -31,12 +36,40 @@ Passes-append a b c h i j x y p q = record {
 pub Passes-whole : (a b c : SinkState) (holds text : List ℕ) → Passes a b [] holds text → Goes b c holds → Goes a c text
 Passes-whole a b c holds text p q = subst (Goes a c) (sym p.kept) (Goes-append a b c p.gone holds p.goes q)
 
--- a part of a page's room is written, and the first bytes of it count
-pub text_more : (bytes text : List ℕ) (len many : ℕ) → len + length text ≤ length bytes → many ≤ length text
-    → take (len + many) (put_mid len (len + length text - len) bytes text) ≡ take len bytes ++ take many text
-text_more bytes text len many within few =
-    let front = length-take-le len bytes (omega arith) in
-    let all = take-put_mid len (len + length text - len) bytes text (len + length text) refl (omega arith) in
-    sym (take-take (len + many) (len + length text) (put_mid len (len + length text - len) bytes text) (omega arith)) ∙ ap (take (len + many)) all
-    ∙ take-add len many (take len bytes ++ text)
-    ∙ (λ k. take_at (take len bytes) text len front k ++ take many (drop_at (take len bytes) text len front k))
+-- ---- the first bytes of a page's room
+
+-- a text behind them
+pub text_more : (bytes text : List ℕ) (len : ℕ) → len + length text ≤ length bytes
+    → take (len + length text) (put_mid len (len + length text - len) bytes text) ≡ take len bytes ++ text
+text_more bytes text len within = take-put_mid len (len + length text - len) bytes text (len + length text) refl (omega arith)
+
+-- the end of a line, in two copies
+pub end_put : (room mid put bytes : List ℕ) (from len : ℕ) → from ≤ length room → length bytes ≡ 12 → len ≤ 12
+    → take (from + 8) mid ≡ take from room ++ take 8 bytes → take (from + 8 + 4) put ≡ take (from + 8) mid ++ take 4 (drop 8 bytes)
+    → take (from + len) put ≡ take from room ++ take len bytes
+end_put room mid put bytes from len within twelve few first last =
+    let whole : take 8 bytes ++ take 4 (drop 8 bytes) ≡ bytes = sym (take_further 8 4 bytes) ∙ take_all 12 bytes (omega (arith, twelve)) in
+    let all : take (from + 8 + 4) put ≡ take from room ++ bytes =
+    last ∙ ap (λ t. t ++ take 4 (drop 8 bytes)) first ∙ append_assoc (take from room) (take 8 bytes) (take 4 (drop 8 bytes)) ∙ ap (λ t. take from room ++ t) whole in
+    let front = length-take-le from room within in
+    sym (take-take (from + len) (from + 8 + 4) put (omega (arith, few))) ∙ ap (take (from + len)) all
+    ∙ take-add from len (take from room ++ bytes)
+    ∙ (λ k. take_at (take from room) bytes from front k ++ take len (drop_at (take from room) bytes from front k))
+
+-- a vector whose characters were put behind a `b`, behind these bytes
+module _ (bytes put : List ℕ) (len m : ℕ) (text : List ℕ) (within : len < length bytes) (is : take (len + 1 + m) put ≡ take (len + 1) (set bytes len 98) ++ text) where
+  -- before these characters nothing has changed
+  pub vector_kept : take len put ≡ take len bytes
+  vector_kept =
+      let long : len ≤ length (take (len + 1) (set bytes len 98)) = omega (arith, length-take-le (len + 1) (set bytes len 98) (omega (arith, within, length-set bytes len 98))) in
+      sym (take-take len (len + 1 + m) put (omega arith)) ∙ ap (take len) is
+      ∙ take-append-le len (take (len + 1) (set bytes len 98)) text long
+      ∙ take-take len (len + 1) (set bytes len 98) (omega arith)
+      ∙ take-set bytes len 98
+
+  -- with the end of the line they are the line
+  pub vector_line : (more end : List ℕ) (many : ℕ) → take (len + 1 + m + many) more ≡ take (len + 1 + m) put ++ end
+      → take (len + 1 + m + many) more ≡ take len bytes ++ (codes "b" ++ text ++ end)
+  vector_line more end many e =
+      e ∙ ap (λ t. t ++ end) (is ∙ ap (λ t. t ++ text) (take_more_set bytes len 98 within))
+      ∙ behind_page (take len bytes) (codes "b") text end

@@ -60,27 +60,6 @@ continued_one true time p some = refl
 continued_one false time [] some = absurd (false≢true some)
 continued_one false time (x ∷ xs) some = refl
 
-module _ (first : ℕ) (names : List Signal) (i : ℕ) (s : Signal) (lt : i < length names) (is : s ≡ get_or names i s) (old new : List ℕ) (otherwise : Bool)
-    (tells : otherwise ≡ not (bytes_eq (printed (first + i) (signal_view s) old) (printed (first + i) (signal_view s) new))) where
-  changes_more : changes_from first (map signal_view (take (i + 1) names)) old new
-      ≡ changes_from first (map signal_view (take i names)) old new ++ (if otherwise then printed (first + i) (signal_view s) new else [])
-  changes_more =
-      numbered_more_from (λ k (t : SignalView). change k t old new) first names i s lt is
-      ∙ ap (λ t. changes_from first (map signal_view (take i names)) old new ++ t) (change_is (first + i) (signal_view s) old new otherwise tells)
-
-  -- a name that prints as before
-  pub changes_same : otherwise ≡ false
-      → changes_from first (map signal_view (take (i + 1) names)) old new ≡ changes_from first (map signal_view (take i names)) old new
-  changes_same e =
-      changes_more ∙ ap (λ b. changes_from first (map signal_view (take i names)) old new ++ (if b then printed (first + i) (signal_view s) new else [])) e
-      ∙ append-nil (changes_from first (map signal_view (take i names)) old new)
-
-  -- one that prints otherwise
-  pub changes_new : otherwise ≡ true
-      → changes_from first (map signal_view (take (i + 1) names)) old new
-      ≡ changes_from first (map signal_view (take i names)) old new ++ printed (first + i) (signal_view s) new
-  changes_new e = changes_more ∙ ap (λ b. changes_from first (map signal_view (take i names)) old new ++ (if b then printed (first + i) (signal_view s) new else [])) e
-
 -- the changes of more names
 pub changes_further : (n m : ℕ) (names : List SignalView) (old new : List ℕ) → n ≤ length names
     → changes_from 0 (take (n + m) names) old new ≡ changes_from 0 (take n names) old new ++ changes_from n (take m (drop n names)) old new

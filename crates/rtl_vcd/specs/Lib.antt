@@ -5,5 +5,6 @@ pub mod Trace
 pub mod Shown
 pub mod Blocks
 pub mod Ready
+pub mod Puts
 pub mod Pages
 pub mod Laws

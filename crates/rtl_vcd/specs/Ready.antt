@@ -36,6 +36,10 @@ elements_as (Position digits) first count valuation = binary digits (slice_index
 abbrev pub elements : Run → (valuation : List ℕ) → List ℕ
 elements r valuation = elements_as r.form r.first r.count valuation
 
+-- what it prints in a valuation
+abbrev pub line : Run → (valuation : List ℕ) → List ℕ
+line r valuation = beginning r.form ++ elements r valuation ++ take r.end.len r.end.bytes
+
 -- it has nets, and they are among so many
 pub record LiesAmong (nets : ℕ) (r : Run) : Type 0 where
   pub some : 0 < r.count
@@ -46,8 +50,7 @@ pub record LiesAmong (nets : ℕ) (r : Run) : Type 0 where
 pub record IsRun (k : ℕ) (s : SignalView) (r : Run) : Type 0 where
   pub nets : s.nets ≡ range_with_len r.first r.count
   pub short : (valuation : List ℕ) → length (elements r valuation) ≤ 64
-  pub line : (valuation : List ℕ) → r.first + r.count ≤ length valuation
-      → printed k s valuation ≡ beginning r.form ++ elements r valuation ++ take r.end.len r.end.bytes
+  pub prints : (valuation : List ℕ) → r.first + r.count ≤ length valuation → printed k s valuation ≡ line r valuation
 
 -- each of these names, the first of them being number k, is the run at its place, if there is one
 pub record AreReady (k : ℕ) (names : List SignalView) (runs : List (Option Run)) : Type 0 where

@@ -1,6 +1,8 @@
 //! The end of a line.
 
-ghost use Rattle.std.specs.Prelude.{◌≡◌, ◌≤◌, length, take};
+ghost use Rattle.std.specs.Prelude.{◌≡◌, ◌+◌, ◌≤◌, ◌++◌, length, take};
+
+use std::simd::prelude::*;
 
 /// The end of a line: so many of these bytes.
 #[derive(Clone, Copy)]
@@ -22,5 +24,17 @@ impl End {
             bytes,
             len: text.len() as u8,
         }
+    }
+    /// Puts it behind the first bytes of the room, in two copies of so many bytes that they need no call. What stands behind it is
+    /// anything.
+    pub(crate) fn put(&self, room: &mut [u8], from: usize)
+        requires room { from + 12 ≤ length room.old }
+        ensures text { take (from + self.now.len) room.new ≡ take from room.old ++ take self.now.len self.now.bytes }
+        ensures long { length room.new ≡ length room.old }
+    {
+        let first = Simd::<u8, 8>::from_slice(&self.bytes);
+        let last = Simd::<u8, 4>::from_slice(&self.bytes[8..]);
+        first.copy_to_slice(&mut room[from..]);
+        last.copy_to_slice(&mut room[from + 8..]);
     }
 }

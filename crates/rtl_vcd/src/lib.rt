@@ -16,6 +16,7 @@ mod moment;
 mod named;
 mod page;
 mod positions;
+mod put;
 mod ready;
 mod trace;
 

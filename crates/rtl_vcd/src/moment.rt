@@ -7,13 +7,13 @@ ghost use Rattle.rtl_vcd.specs.Trace.{changes, time_line, are_some, moment_text}
 ghost use Rattle.rtl_vcd.specs.Blocks.{AreBlocks, changes_from, continued};
 ghost use Rattle.rtl_vcd.specs.Ready.{AreReady};
 ghost use Rattle.rtl_vcd.specs.Shown.{IsShown};
-ghost use Rattle.rtl_vcd.specs.Pages.{Passes};
+ghost use Rattle.rtl_vcd.specs.Pages.{Passes, IsOpen};
 
 use crate::blocks::{Block, blocks_of};
 use crate::fault::VcdFault;
 use crate::named::{Step, push_change};
 use crate::page::Page;
-use crate::ready::{Run, keeps, runs_of};
+use crate::ready::{Run, runs_of};
 use crate::trace::{push_time, written};
 use rtl_net::{Net, Signal};
 use rtl_sink::{Sink, push_text};
@@ -158,6 +158,8 @@ fn push_changes<W: Sink>(
     requires after { All (IsShown (length step.now.new.now)) (map signal_view names.now) }
     requires runs { AreReady first (map signal_view names.now) runs.now }
     requires room { first + length names.now < 18446744073709551616 }
+    requires opened { IsOpen is_printed page.old }
+    ensures opened { IsOpen result page.new }
     ensures text { Passes (W.state out.old) (W.state out.new) page.old page.new
         (continued is_printed step.now.time (changes_from first (map signal_view names.now) step.now.old.now step.now.new.now)) }
     ensures printed { result ≡ (is_printed || are_some (changes_from first (map signal_view names.now) step.now.old.now step.now.new.now)) }
@@ -165,9 +167,6 @@ fn push_changes<W: Sink>(
     let here = *step;
     let mut printed = is_printed;
     for (place, run) in runs.iter().enumerate() {
-        if keeps(run, here.old, here.new) {
-            continue;
-        }
         printed = push_change(first + place, &names[place], run, &here, printed, page, out);
     }
     printed

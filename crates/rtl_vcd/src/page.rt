@@ -1,7 +1,11 @@
 //! What was printed and hasn't gone to the sink yet.
 
-ghost use Rattle.std.specs.Prelude.{◌≡◌, ◌+◌, ◌<◌, ◌≤◌, ◌++◌, ◌∷◌, ℕ, List, [], length, take};
+ghost use Rattle.std.specs.Prelude.{◌≡◌, ◌+◌, ◌<◌, ◌≤◌, ◌++◌, ◌∷◌, ℕ, List, [], not, if◌then◌else◌, codes, length, map, take};
+ghost use Rattle.std.specs.Str.{bytes_eq};
+ghost use Rattle.rtl_vcd.specs.Values.{character};
 
+use crate::ending::End;
+use crate::put::put_run;
 use std::marker::Model;
 
 /// How many bytes a page has room for.
@@ -68,22 +72,44 @@ impl Page {
         self.len += 1;
     }
 
-    /// Appends the first of these bytes, so many. It copies them all, so that where their number is known the copy needs no call.
-    pub(crate) fn push_first(&mut self, bytes: &[u8], many: usize)
-        requires many { many ≤ length bytes.now }
-        requires room { length self.old + length bytes.now ≤ PAGE }
-        ensures { self.new ≡ self.old ++ take many bytes.now }
-    {
-        self.bytes[self.len..self.len + bytes.len()].copy_from_slice(bytes);
-        self.len += many;
-    }
-
     /// Appends these bytes.
     pub(crate) fn push_all(&mut self, bytes: &[u8])
         requires room { length self.old + length bytes.now ≤ PAGE }
         ensures bytes { self.new ≡ self.old ++ bytes.now }
         ensures len { length self.new ≡ length self.old + length bytes.now }
     {
-        self.push_first(bytes, bytes.len());
+        let beyond = self.len + bytes.len();
+        self.bytes[self.len..beyond].copy_from_slice(bytes);
+        self.len = beyond;
+    }
+
+    /// Appends the end of a line.
+    pub(crate) fn push_end(&mut self, end: &End)
+        requires room { length self.old + 12 ≤ PAGE }
+        ensures { self.new ≡ self.old ++ take end.now.len end.now.bytes }
+    {
+        end.put(&mut self.bytes, self.len);
+        self.len += end.len as usize;
+    }
+
+    /// Appends the line of a vector that has this end, if its values print otherwise in `new` than in `old`. Answers whether they do.
+    ///
+    /// The line is put behind what stands on the page while its values are looked at. It counts only where they print otherwise.
+    pub(crate) fn push_vector(&mut self, old: &[u8], new: &[u8], end: &End) -> bool
+        requires as_many { length old.now ≡ length new.now }
+        requires short { length new.now ≤ 64 }
+        requires room { length self.old + 77 ≤ PAGE }
+        ensures line { self.new ≡ self.old ++ (if result then (codes "b" ++ map character new.now ++ take end.now.len end.now.bytes) else []) }
+        ensures other { result ≡ not (bytes_eq (map character old.now) (map character new.now)) }
+    {
+        let first = self.len + 1;
+        self.bytes[self.len] = b'b';
+        if !put_run(&mut self.bytes, first, old, new) {
+            return false;
+        }
+        let beyond = first + new.len();
+        end.put(&mut self.bytes, beyond);
+        self.len = beyond + end.len as usize;
+        true
     }
 }

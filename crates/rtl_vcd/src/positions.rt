@@ -20,7 +20,8 @@ pub(crate) fn is_other_position(digits: u8, before: u8, now: u8) -> bool
 }
 
 /// Appends so many binary digits of the number, the lowest last.
-pub(crate) fn push_digits(page: &mut Page, digits: u32, number: u32)
+pub(crate) fn push_digits(page: &mut Page, digits: u32, number: u64)
+    requires few { digits ≤ 64 }
     requires room { length page.old + digits ≤ PAGE }
     ensures digits { page.new ≡ page.old ++ spec.binary digits number }
     ensures len { length page.new ≡ length page.old + digits }
@@ -28,6 +29,7 @@ pub(crate) fn push_digits(page: &mut Page, digits: u32, number: u32)
     if digits == 0 {
         return;
     }
-    push_digits(page, digits - 1, number / 2);
-    page.push(b'0' + (number % 2) as u8);
+    let highest = (number >> (digits - 1)) % 2;
+    page.push(b'0' + highest as u8);
+    push_digits(page, digits - 1, number);
 }

@@ -1,19 +1,18 @@
 //! Names that are ready to print: those whose nets stand one behind the other, with the end of their lines.
 
-ghost use Rattle.std.specs.Prelude.{◌≡◌, ℕ, ◌+◌, ◌<◌, ◌≤◌, ◌++◌, not, length, map, take, drop, codes, true, slice_index, IfSome, IfOk};
+ghost use Rattle.std.specs.Prelude.{◌≡◌, ℕ, ◌+◌, ◌<◌, ◌≤◌, ◌++◌, [], not, if◌then◌else◌, length, take, codes, true, slice_index, IfSome, IfOk};
 ghost use Rattle.std.specs.Str.{bytes_eq};
 ghost use Rattle.std.specs.List.{range_with_len};
 ghost use Rattle.rtl_net.specs.Nets.{SignalView, signal_view};
 ghost use Rattle.rtl_net.specs.declared.signal.SignalKind.TheVariants as k;
 ghost use Rattle.arrayvec.specs.ArrayVec.{array_vec_len};
 ghost use Rattle.rtl_vcd.specs.Values.{code};
-ghost use Rattle.rtl_vcd.specs.Trace.{printed};
 ghost use Rattle.rtl_vcd.specs.declared.ready.Form.TheVariants as f;
 ghost use Rattle.rtl_vcd.specs.Ready as spec;
 ghost use Rattle.rtl_vcd.specs.Ready.{LiesAmong, IsRun, AreReady};
 
 use crate::change::is_other_character;
-use crate::characters::{are_same_few, is_other_run, push_run};
+use crate::characters::are_same_few;
 use crate::ending::End;
 use crate::line::{binary_digits, character, push_code};
 use crate::page::{PAGE, Page};
@@ -64,36 +63,23 @@ impl Run {
         }
     }
 
-    /// Appends the line that the name prints where the nets have these values.
-    pub(crate) fn push(&self, page: &mut Page, values: &[u8])
-        requires there { LiesAmong (length values.now) self.now }
-        requires short { length (spec.elements self.now values.now) ≤ 64 }
+    /// Appends the line that the name prints where the nets have the values `new`, if it is another than where they have `old`.
+    /// Answers whether it is.
+    pub(crate) fn push_other(&self, page: &mut Page, old: &[u8], new: &[u8]) -> bool
+        requires before { LiesAmong (length old.now) self.now }
+        requires after { LiesAmong (length new.now) self.now }
+        requires short { length (spec.elements self.now new.now) ≤ 64 }
         requires room { length page.old + 77 ≤ PAGE }
-        ensures { page.new ≡ page.old ++ spec.beginning self.now.form ++ spec.elements self.now values.now ++ take self.now.end.len self.now.end.bytes }
+        ensures line { page.new ≡ page.old ++ (if result then (spec.line self.now new.now) else []) }
+        ensures other { result ≡ not (bytes_eq (spec.elements self.now old.now) (spec.elements self.now new.now)) }
     {
-        self.push_elements(page, values);
-        page.push_first(&self.end.bytes, self.end.len as usize);
-    }
-
-    /// Appends what stands before the end of its line.
-    fn push_elements(&self, page: &mut Page, values: &[u8])
-        requires there { LiesAmong (length values.now) self.now }
-        requires short { length (spec.elements self.now values.now) ≤ 64 }
-        requires room { length page.old + 65 ≤ PAGE }
-        ensures elements { page.new ≡ page.old ++ spec.beginning self.now.form ++ spec.elements self.now values.now }
-        ensures len { length page.new ≤ length page.old + 65 }
-    {
-        let first = self.first as usize;
+        if self.keeps(old, new) {
+            return false;
+        }
         match self.form {
-            Form::Single => page.push(character(values[first])),
-            Form::Several => {
-                page.push(b'b');
-                push_run(page, &values[first..first + self.count as usize]);
-            }
-            Form::Position { digits } => {
-                page.push(b'b');
-                push_digits(page, digits as u32, values[first] as u32);
-            }
+            Form::Single => self.push_single(page, old, new),
+            Form::Several => self.push_several(page, old, new),
+            Form::Position { digits } => self.push_position(digits, page, old, new),
         }
     }
 
@@ -113,21 +99,57 @@ impl Run {
         }
     }
 
-    /// Whether its elements print otherwise where the nets have the values `new` than where they have `old`.
-    pub(crate) fn is_other(&self, old: &[u8], new: &[u8]) -> bool
+    /// Appends the line of one element in the same way.
+    fn push_single(&self, page: &mut Page, old: &[u8], new: &[u8]) -> bool
+        requires form { self.now.form ≡ f.Single }
         requires before { LiesAmong (length old.now) self.now }
         requires after { LiesAmong (length new.now) self.now }
-        ensures { result ≡ not (bytes_eq (spec.elements self.now old.now) (spec.elements self.now new.now)) }
+        requires room { length page.old + 77 ≤ PAGE }
+        ensures line { page.new ≡ page.old ++ (if result then (spec.line self.now new.now) else []) }
+        ensures other { result ≡ not (bytes_eq (spec.elements self.now old.now) (spec.elements self.now new.now)) }
+    {
+        let now = new[self.first as usize];
+        if !is_other_character(old[self.first as usize], now) {
+            return false;
+        }
+        page.push(character(now));
+        page.push_end(&self.end);
+        true
+    }
+
+    /// Appends the line of a vector in the same way.
+    fn push_several(&self, page: &mut Page, old: &[u8], new: &[u8]) -> bool
+        requires form { self.now.form ≡ f.Several }
+        requires before { LiesAmong (length old.now) self.now }
+        requires after { LiesAmong (length new.now) self.now }
+        requires short { length (spec.elements self.now new.now) ≤ 64 }
+        requires room { length page.old + 77 ≤ PAGE }
+        ensures line { page.new ≡ page.old ++ (if result then (spec.line self.now new.now) else []) }
+        ensures other { result ≡ not (bytes_eq (spec.elements self.now old.now) (spec.elements self.now new.now)) }
     {
         let first = self.first as usize;
-        match self.form {
-            Form::Single => is_other_character(old[first], new[first]),
-            Form::Several => {
-                let beyond = first + self.count as usize;
-                is_other_run(&old[first..beyond], &new[first..beyond])
-            }
-            Form::Position { digits } => is_other_position(digits, old[first], new[first]),
+        let beyond = first + self.count as usize;
+        page.push_vector(&old[first..beyond], &new[first..beyond], &self.end)
+    }
+
+    /// Appends the line of a position, in so many binary digits, in the same way.
+    fn push_position(&self, digits: u8, page: &mut Page, old: &[u8], new: &[u8]) -> bool
+        requires form { self.now.form ≡ f.Position digits }
+        requires before { LiesAmong (length old.now) self.now }
+        requires after { LiesAmong (length new.now) self.now }
+        requires short { digits ≤ 64 }
+        requires room { length page.old + 77 ≤ PAGE }
+        ensures line { page.new ≡ page.old ++ (if result then (spec.line self.now new.now) else []) }
+        ensures other { result ≡ not (bytes_eq (spec.elements self.now old.now) (spec.elements self.now new.now)) }
+    {
+        let now = new[self.first as usize];
+        if !is_other_position(digits, old[self.first as usize], now) {
+            return false;
         }
+        page.push(b'b');
+        push_digits(page, digits as u32, now as u64);
+        page.push_end(&self.end);
+        true
     }
 }
 
@@ -233,17 +255,5 @@ fn push_behind(ending: &mut Ending, form: Form)
     match form {
         Form::Single => {}
         _ => ending.push(b' '),
-    }
-}
-
-/// Whether a name is ready, and its elements are few and have the same values in both, so that it prints the same.
-pub(crate) fn keeps(run: &Option<Run>, old: &[u8], new: &[u8]) -> bool
-    requires before { IfSome run.now (LiesAmong (length old.now)) }
-    requires after { IfSome run.now (LiesAmong (length new.now)) }
-    ensures { result ≡ true → (k : ℕ) (name : SignalView) → IfSome run.now (IsRun k name) → printed k name old.now ≡ printed k name new.now }
-{
-    match run {
-        Some(run) => run.keeps(old, new),
-        None => false,
     }
 }

@@ -21,3 +21,4 @@ pub mod Nested
 pub mod Weights
 pub mod Heavier
 pub mod Told
+pub mod Passing

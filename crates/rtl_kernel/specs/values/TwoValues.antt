@@ -24,6 +24,19 @@ pub record IsWritten (first : ℕ) (values old new : List ℕ) : Type 0 where
   pub below : (q : ℕ) → q < first → slice_index new q ≡ slice_index old q
   pub behind : (q : ℕ) → first + length values ≤ q → slice_index new q ≡ slice_index old q
 
+-- from the place `first` on, old has another value than one of these
+pub record IsOther (first : ℕ) (values old : List ℕ) : Type 0 where
+  pub place : ℕ
+  pub there : place < length values
+  pub differ : slice_index old (first + place) ≡ slice_index values place → ⊥
+
+-- as many values differ at this place or behind it
+pub record IsOtherFrom (from : ℕ) (values old : List ℕ) : Type 0 where
+  pub place : ℕ
+  pub behind : from ≤ place
+  pub there : place < length values
+  pub differ : slice_index old place ≡ slice_index values place → ⊥
+
 -- new has these values now from this net on
 pub record HasWritten (first : ℕ) (values : List ℕ) (old new : TwoValues) : Type 0 where
   pub groups_stay : new.groups ≡ old.groups

@@ -1,38 +1,13 @@
-use Rattle.std.proofs.Common.{◌≡◌, ◌+◌, ◌||◌, false, refl, length, map, take, ◌∙◌, subst, sym, ap}
+use Rattle.std.proofs.Common.{◌+◌, ◌||◌, length, map, take, ◌∙◌, subst, sym, ap}
 use Rattle.rtl_vcd.specs.Pages.{Passes}
 use Rattle.rtl_vcd.proofs.Pages.{Passes-append}
 use Rattle.rtl_net.specs.Nets.{SignalView, signal_view}
 use Rattle.rtl_vcd.specs.Trace.{change, are_some}
 use Rattle.rtl_vcd.specs.Blocks.{changes_from, continued}
 use Rattle.rtl_vcd.proofs.Names.{shown_at, numbered_more_from}
-use Rattle.rtl_vcd.proofs.Ends.{ready_at, lies_at, name_there, with_name}
-use Rattle.rtl_vcd.proofs.Runs.{are_same}
-use Rattle.rtl_vcd.proofs.Stamps.{changes_same, continued_more, or_append}
+use Rattle.rtl_vcd.proofs.Ends.{ready_at, name_there}
+use Rattle.rtl_vcd.proofs.Stamps.{continued_more, or_append}
 use Rattle.rtl_vcd.proofs.moment.push_changes.Goals as goal
-
-pub keeps-requires-clause-before : goal.keeps-requires-clause-before
-keeps-requires-clause-before g c =
-    lies_at (length c.args.step.now.old.now) c.args.first (map signal_view c.args.names.now) c.args.runs.now c.loop-place.place c.index-runs-place.result c.loop-place-test.true
-    c.index-runs-place.is c.requires.runs c.requires.before
-
-pub keeps-requires-clause-after : goal.keeps-requires-clause-after
-keeps-requires-clause-after g c =
-    lies_at (length c.args.step.now.new.now) c.args.first (map signal_view c.args.names.now) c.args.runs.now c.loop-place.place c.index-runs-place.result c.loop-place-test.true
-    c.index-runs-place.is c.requires.runs c.requires.after
-
-pub loop-place-preserved-then-keeps : goal.loop-place-preserved-then-keeps
-loop-place-preserved-then-keeps g c =
-    let first = c.args.first in
-    let names = c.args.names.now in
-    let place = c.loop-place.place in
-    let there = name_there first names c.args.runs.now place c.loop-place-test.true c.requires.runs in
-    with_name names place there (λ s is.
-    let ready = ready_at first names c.args.runs.now place s c.index-runs-place.result there is c.index-runs-place.is c.requires.runs in
-    let same = changes_same first names place s there is c.args.step.now.old.now c.args.step.now.new.now false
-    (are_same (c.keeps.ensures c.if-keeps.true (first + place) (signal_view s) ready)) refl in
-    subst (λ xs. Passes (g.W.Sink.state c.args.out.now) (g.W.Sink.state c.loop-place.out) c.args.page.now c.loop-place.page (continued c.args.is_printed c.args.step.now.time xs)
-    × (c.loop-place.printed ≡ (c.args.is_printed || are_some xs)))
-    (sym same) c.loop-place.invariant)
 
 pub bounds-names-place : goal.bounds-names-place
 bounds-names-place g c = name_there c.args.first c.args.names.now c.args.runs.now c.loop-place.place c.loop-place-test.true c.requires.runs
@@ -77,4 +52,5 @@ loop-place-preserved g c =
           (Passes-append _ _ _ _ _ _ _ _ c.loop-place.invariant.0 pushed)),
       c.push_change-printed.ensures.printed ∙ ap (λ b. b || are_some one) c.loop-place.invariant.1 ∙ sym (or_append c.args.is_printed earlier one)
           ∙ ap (λ xs. c.args.is_printed || are_some xs) (sym more),
+      c.push_change-printed.ensures.opened,
     )

@@ -1,5 +1,5 @@
 use Rattle.std.specs.Prelude.{◌≡◌, ◌||◌, map, take}
-use Rattle.rtl_vcd.specs.Pages.{Passes}
+use Rattle.rtl_vcd.specs.Pages.{Passes, IsOpen}
 use Rattle.rtl_net.specs.Nets.{signal_view}
 use Rattle.rtl_vcd.specs.Trace.{are_some}
 use Rattle.rtl_vcd.specs.Blocks.{changes_from, continued}
@@ -11,3 +11,4 @@ invariant-loop-place g l =
     Passes (g.W.Sink.state l.initial.out) (g.W.Sink.state l.out) l.initial.page l.page
     (continued l.is_printed l.step.time (changes_from l.first (map signal_view (take l.place l.names)) l.step.old.now l.step.new.now))
     × (l.printed ≡ (l.is_printed || are_some (changes_from l.first (map signal_view (take l.place l.names)) l.step.old.now l.step.new.now)))
+    × IsOpen l.printed l.page

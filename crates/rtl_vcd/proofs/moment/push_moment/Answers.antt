@@ -38,6 +38,7 @@ loop-block-init g c =
       refl,
       omega arith,
       c.requires.blocks,
+      record { room = omega (arith, ap length c.new-page.ensures); empty = λ _. c.new-page.ensures },
     )
 
 pub loop-block-preserved : goal.loop-block-preserved
@@ -71,6 +72,7 @@ loop-block-preserved g c =
             is ∙ ap (λ b. b || are_some part) I.1 ∙ sym (are_some_append earlier part) ∙ ap are_some (sym more),
             here.1,
             here.2,
+            w.push_changes-is_printed.ensures.opened,
           )
       | else-not-is_quiet w ↦
           let same = none_further next block.names names old new I.2
@@ -80,6 +82,7 @@ loop-block-preserved g c =
             I.1 ∙ ap are_some (sym same),
             here.1,
             here.2,
+            I.4,
           )
     ]
 

@@ -1,5 +1,5 @@
 use Rattle.std.specs.Prelude.{◌≡◌, ◌≤◌, [], length, take, drop}
-use Rattle.rtl_vcd.specs.Pages.{Passes}
+use Rattle.rtl_vcd.specs.Pages.{Passes, IsOpen}
 use Rattle.rtl_vcd.specs.Trace.{stamped, are_some}
 use Rattle.rtl_vcd.specs.Blocks.{AreBlocks, changes_from}
 use Rattle.rtl_vcd.proofs.moment.push_moment.Given as goal
@@ -11,3 +11,4 @@ invariant-loop-block g l =
     × (l.is_printed ≡ are_some (changes_from 0 (take l.next l.net.signals) l.step.old.now l.step.new.now))
     × (l.next ≤ length l.net.signals)
     × AreBlocks (length l.net.types) (drop l.block-index l.blocks) (drop l.next l.net.signals)
+    × IsOpen l.is_printed l.page

@@ -1,28 +1,36 @@
-use Rattle.std.proofs.Common.{length, subst}
-use Rattle.std.specs.Prelude.{IfSome}
-use Rattle.rtl_net.specs.Nets.{signal_view}
-use Rattle.rtl_vcd.specs.Ready.{IsRun}
-use Rattle.rtl_vcd.proofs.Ends.{within}
+use Rattle.std.proofs.Common.{true, false, sym, ◌∙◌}
+use Rattle.std.proofs.lemmas.Bool.{false≢true}
+use Rattle.rtl_vcd.proofs.Changes.{text_of_none, open_of_none, printed_of_none, text_of_some, printed_of_some}
 use Rattle.rtl_vcd.proofs.named.push_change.Goals as goal
 
-pub push_ready-requires-clause-before : goal.push_ready-requires-clause-before
-push_ready-requires-clause-before g c =
-    let name = signal_view c.args.signal.now in
-    let is = subst (λ r. IfSome r (IsRun c.args.number name)) c.in-Some.is c.requires.ready in
-    within (length c.args.step.now.old.now) c.args.number name c.in-Some.run' c.requires.before is
+pub returns-then-not-append_change-clause-opened : goal.returns-then-not-append_change-clause-opened
+returns-then-not-append_change-clause-opened g c =
+    open_of_none c.args.is_printed c.args.step.now.time c.args.page.now c.append_change.new.page _ c.requires.opened c.append_change.ensures.text
+    (sym c.if-not-append_change.true ∙ c.append_change.ensures.some)
 
-pub push_ready-requires-clause-after : goal.push_ready-requires-clause-after
-push_ready-requires-clause-after g c =
-    let name = signal_view c.args.signal.now in
-    let is = subst (λ r. IfSome r (IsRun c.args.number name)) c.in-Some.is c.requires.ready in
-    within (length c.args.step.now.new.now) c.args.number name c.in-Some.run' c.requires.after is
+pub returns-then-not-append_change-clause-text : goal.returns-then-not-append_change-clause-text
+returns-then-not-append_change-clause-text g c =
+    text_of_none c.args.is_printed c.args.step.now.time c.args.page.now c.append_change.new.page _ c.requires.opened c.append_change.ensures.text
+    (g.W.Sink.state c.args.out.now) (sym c.if-not-append_change.true ∙ c.append_change.ensures.some)
 
-pub returns-in-Some-clause-text : goal.returns-in-Some-clause-text
-returns-in-Some-clause-text g c =
-    let name = signal_view c.args.signal.now in
-    c.push_ready.ensures.text c.args.number name (subst (λ r. IfSome r (IsRun c.args.number name)) c.in-Some.is c.requires.ready)
+pub returns-then-not-append_change-clause-printed : goal.returns-then-not-append_change-clause-printed
+returns-then-not-append_change-clause-printed g c =
+    printed_of_none c.args.is_printed c.args.step.now.time c.args.page.now c.append_change.new.page _ c.requires.opened c.append_change.ensures.text
+    (sym c.if-not-append_change.true ∙ c.append_change.ensures.some)
 
-pub returns-in-Some-clause-printed : goal.returns-in-Some-clause-printed
-returns-in-Some-clause-printed g c =
-    let name = signal_view c.args.signal.now in
-    c.push_ready.ensures.printed c.args.number name (subst (λ r. IfSome r (IsRun c.args.number name)) c.in-Some.is c.requires.ready)
+pub returns-clause-opened : goal.returns-clause-opened
+returns-clause-opened g c = record { room = c.turn.ensures.room; empty = λ e. absurd (false≢true (sym e)) }
+
+pub returns-clause-text : goal.returns-clause-text
+returns-clause-text g c =
+    text_of_some c.args.is_printed c.args.step.now.time c.args.page.now c.append_change.new.page _ c.requires.opened c.append_change.ensures.text
+    (g.W.Sink.state c.args.out.now) (g.W.Sink.state c.put_time.new.out) (g.W.Sink.state c.turn.new.out) c.turn.new.page
+    (sym c.if-not-append_change.false ∙ c.append_change.ensures.some) c.put_time.ensures c.turn.ensures.text
+
+pub returns-clause-printed : goal.returns-clause-printed
+returns-clause-printed g c =
+    printed_of_some c.args.is_printed c.args.step.now.time c.args.page.now c.append_change.new.page _ c.requires.opened c.append_change.ensures.text
+    (sym c.if-not-append_change.false ∙ c.append_change.ensures.some)
+
+pub append_change-requires-clause-room : goal.append_change-requires-clause-room
+append_change-requires-clause-room g c = c.requires.opened.room

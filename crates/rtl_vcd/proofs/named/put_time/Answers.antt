@@ -1,5 +1,8 @@
-use Rattle.rtl_vcd.proofs.Pages.{Passes-by}
+use Rattle.rtl_sink.proofs.Writing.{Goes-nil}
 use Rattle.rtl_vcd.proofs.named.put_time.Goals as goal
 
-pub returns-clause-text : goal.returns-clause-text
-returns-clause-text g c = Passes-by _ _ _ _ _ c.put_page.ensures.text c.push_time.ensures
+pub returns-then-is_printed : goal.returns-then-is_printed
+returns-then-is_printed g c = rw c.if-is_printed.true (Goes-nil (g.W.Sink.state c.args.out.now))
+
+pub returns : goal.returns
+returns g c = rw c.if-is_printed.false c.push_time.ensures

@@ -20,6 +20,6 @@ returns c =
     record {
       nets = nets;
       short = λ values. elements_short r.form r.first r.count values (λ digits e. c.form_of.ensures.few digits (sym c.of.ensures.form ∙ e)) (omega (arith, count, c.requires.most));
-      line = run_line c.args.number name r (omega (arith, count, c.requires.some)) nets form
+      prints = run_line c.args.number name r (omega (arith, count, c.requires.some)) nets form
           (λ e. omega (arith, count, c.is_as_wide.ensures c.if-not-is_as_wide.false e, c.len.ensures.value)) end;
     }

@@ -1,6 +1,5 @@
 use Rattle.std.proofs.Common.{◌≡◌, Err, ◌<◌, ◌≤◌, length, map, rules, arith, refl, sym, ap, ◌∙◌}
 use Rattle.std.specs.Prelude.{◌≢◌}
-use Rattle.std.proofs.lemmas.Grind.{common_steps}
 use Rattle.std.proofs.lemmas.List.{length-set}
 use Rattle.vhdl_tree.specs.declared.expression.Identifier.{Identifier}
 use Rattle.vhdl_names_rules.specs.views.Vectors.{place_view}
@@ -13,6 +12,7 @@ use Rattle.vhdl_expand.proofs.Associating.{nameless, next_given, next_refused, a
 use Rattle.vhdl_expand.proofs.Names.{actual_seen}
 use Rattle.vhdl_expand.proofs.Walks.{same_goes, same_stops}
 use Rattle.vhdl_expand_rules.specs.Elab.{problem_told}
+use Rattle.vhdl_expand_bodies.proofs.Passing.{passed_on}
 use Rattle.vhdl_expand.proofs.actuals.associate_all.Goals as goal
 
 pub loop-name-init : goal.loop-name-init
@@ -60,4 +60,4 @@ returns-in_err-associate-clause-given c =
     → (stepwise (next_associated above actuals) (associated_to c.args.before c.args.ports.now.items) (ports_view c.args.declaration.now)) ≡ Err (problem_told c.in_err-associate.field-0.0) =
     λ m. same_stops (next_associated above actuals) p _ (associated_to n os) c.as_slice-names.result.now c.loop-name._name-index c.loop-name-test.true c.loop-name.invariant.rest
     (next_refused above actuals os n c.index_mut.result.now p _ below c.index_mut.ensures.value actual (c.in_err-associate.ensures m)) in
-    first_of (search rules, grind (arith, common_steps))
+    passed_on _ _ c.in_err-associate.field-0.0 _ c.from_residual.result c.from_residual.ensures.1 (λ e p. p) stopped

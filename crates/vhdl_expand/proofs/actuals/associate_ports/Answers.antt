@@ -1,6 +1,5 @@
 use Rattle.std.proofs.Common.{◌≡◌, Err, ◌<◌, length, map, rules, arith, sym, ap, ◌∙◌, subst}
 use Rattle.std.specs.Prelude.{◌≢◌, flat_map}
-use Rattle.std.proofs.lemmas.Grind.{common_steps}
 use Rattle.vhdl_names_units.specs.views.Declarations.{ports_view}
 use Rattle.vhdl_expand_tree.specs.Views.{object_view}
 use Rattle.vhdl_expand_rules.specs.Declarations as definition
@@ -12,6 +11,7 @@ use Rattle.vhdl_expand_bodies.specs.Sites.{site_view}
 use Rattle.vhdl_expand.specs.Associations.{Associated, associated_to, next_associated, places_view}
 use Rattle.vhdl_expand.proofs.Associating.{associations_walk}
 use Rattle.vhdl_expand.proofs.Walks.{all_go, all_stop, all_end}
+use Rattle.vhdl_expand_bodies.proofs.Passing.{passed_on}
 use Rattle.vhdl_expand.proofs.actuals.associate_ports.Goals as goal
 
 pub loop-declaration-preserved : goal.loop-declaration-preserved
@@ -42,4 +42,4 @@ returns-in_err-count c =
     (err_first _ (λ (s : Associated). given s.done)
     (all_stop (next_associated above actuals) ports_view _ (associated_to c.loop-declaration.count c.loop-declaration.ports.items) c.args.declarations.now c.loop-declaration.declaration-index c.declaration-item.result
     below c.declaration-item.is c.loop-declaration.invariant.rest (c.in_err-count.ensures.given n))) in
-    first_of (search rules, grind (arith, common_steps))
+    passed_on _ _ c.in_err-count.field-0.0 _ c.from_residual.result c.from_residual.ensures.1 (λ e p. p) stopped

@@ -3,7 +3,6 @@ use mir.Val.{SFits, to_z, of_z}
 use Rattle.std.proofs.lemmas.Int.{ints}
 use Rattle.std.proofs.Common.{◌≡◌, ◌<◌, length, map, ap, ◌∙◌, arith, rules}
 use Rattle.std.specs.Prelude.{◌≢◌}
-use Rattle.std.proofs.lemmas.Grind.{common_steps}
 use Rattle.vhdl_names_rules.specs.units.Statements as units
 use Rattle.vhdl_names_rules.specs.views.Integers.{range_view}
 use Rattle.vhdl_names_units.specs.declared.sequential.Case.{out-Case}
@@ -20,6 +19,7 @@ use Rattle.vhdl_expand.proofs.Paying.{charges_alike, list_go, list_stop, turns_g
 use Rattle.vhdl_expand.proofs.Sums.{statements_together, if_costs, case_costs, loop_view_costs, same_list, same_branches, same_alternatives, same_turn}
 use Rattle.vhdl_expand.proofs.Sums.{choose_stops, branches_stop, no_else, some_else, select_stops, alternatives_stop, alternatives_go, range_stops, count_stops, turns_begin}
 use Rattle.vhdl_expand_rules.specs.Elab.{problem_told, MayTell}
+use Rattle.vhdl_expand.proofs.Passing.{passed_told}
 use Rattle.vhdl_expand.proofs.costs.+costs.Goals as goal
 
 pub of_statements-loop-statement-init : goal.of_statements-loop-statement-init
@@ -41,7 +41,7 @@ of_statements-returns-in_err-of_statement t c =
     let stopped : c.in_err-of_statement.field-0.0 ≢ NoMemory
     → MayTell (paid (budget_view c.args.budget.now) (statements_costs at (analysed.statements_of (map analysed.statement_view c.args.list.now)))) (problem_told c.in_err-of_statement.field-0.0) =
     λ n. list_stop (statement_costs at) analysed.statement_view _ _ c.args.list.now i c.statement-item.result below c.statement-item.is c.loop-statement.invariant (c.in_err-of_statement.ensures n) in
-    first_of (search rules, grind (arith, common_steps))
+    passed_told _ _ c.in_err-of_statement.field-0.0 _ c.from_residual.result c.from_residual.ensures.1 (λ e p. p) stopped
 
 pub of_statement-returns-in-If : goal.of_statement-returns-in-If
 of_statement-returns-in-If t c =
@@ -77,7 +77,7 @@ of_branches-returns-in_err-of_statements t c =
     let stopped : c.in_err-of_statements.field-0.0 ≢ NoMemory → MayTell (paid (budget_view c.args.budget.now) (together (guarded_costs at) (map analysed.branch_view c.args.list.now))) (problem_told c.in_err-of_statements.field-0.0) =
     λ n. list_stop (guarded_costs at) analysed.branch_view _ _ c.args.list.now i c.branch-item.result below c.branch-item.is c.loop-branch.invariant
     (tells_same (same_list at _ _ _ c.deref.ensures.value) (c.in_err-of_statements.ensures n)) in
-    first_of (search rules, grind (arith, common_steps))
+    passed_told _ _ c.in_err-of_statements.field-0.0 _ c.from_residual.result c.from_residual.ensures.1 (λ e p. p) stopped
 
 pub of_alternatives-loop-alternative-preserved : goal.of_alternatives-loop-alternative-preserved
 of_alternatives-loop-alternative-preserved t c =
@@ -95,7 +95,7 @@ of_alternatives-returns-in_err-of_statements t c =
     let stopped : c.in_err-of_statements.field-0.0 ≢ NoMemory → MayTell (paid (budget_view c.args.budget.now) (together (chosen_costs at) (map analysed.alternative_view c.args.list.now))) (problem_told c.in_err-of_statements.field-0.0) =
     λ n. list_stop (chosen_costs at) analysed.alternative_view _ _ c.args.list.now i c.alternative-item.result below c.alternative-item.is c.loop-alternative.invariant
     (tells_same (same_list at _ _ _ c.deref.ensures.value) (c.in_err-of_statements.ensures n)) in
-    first_of (search rules, grind (arith, common_steps))
+    passed_told _ _ c.in_err-of_statements.field-0.0 _ c.from_residual.result c.from_residual.ensures.1 (λ e p. p) stopped
 
 -- ---- if
 
@@ -107,7 +107,7 @@ of_conditional-returns-in_err-charge_statement t c =
     let last = analysed.last_of (analysed.option_statements_view x.otherwise) in
     let stopped : MayTell (paid (budget_view c.args.budget.now) (statement_costs at (units.if_of (analysed.branches_of gs last)))) (problem_told c.in_err-charge_statement.field-0.0) =
     choose_stops at (budget_view c.args.budget.now) gs last (tells c.in_err-charge_statement.ensures.spent) in
-    first_of (search rules, grind (arith, common_steps))
+    passed_told _ _ c.in_err-charge_statement.field-0.0 _ c.from_residual.result c.from_residual.ensures.1 (λ e p. p) (λ _. stopped)
 
 pub of_conditional-returns-in_err-of_branches : goal.of_conditional-returns-in_err-of_branches
 of_conditional-returns-in_err-of_branches t c =
@@ -118,7 +118,7 @@ of_conditional-returns-in_err-of_branches t c =
     let stopped : c.in_err-of_branches.field-0.0 ≢ NoMemory → MayTell (paid (budget_view c.args.budget.now) (statement_costs at (units.if_of (analysed.branches_of gs last)))) (problem_told c.in_err-of_branches.field-0.0) =
     λ n. branches_stop at (budget_view c.args.budget.now) gs last _ c.in_ok-charge_statement.ensures.spent
     (tells_same (same_branches at _ _ _ c.deref.ensures.value) (c.in_err-of_branches.ensures n)) in
-    first_of (search rules, grind (arith, common_steps))
+    passed_told _ _ c.in_err-of_branches.field-0.0 _ c.from_residual-in_err-of_branches.result c.from_residual-in_err-of_branches.ensures.1 (λ e p. p) stopped
 
 pub of_conditional-returns-in-None : goal.of_conditional-returns-in-None
 of_conditional-returns-in-None t c =
@@ -146,7 +146,7 @@ of_selection-returns-in_err-charge_statement t c =
     let last = analysed.statements_of (analysed.statements_view x.others) in
     let stopped : MayTell (paid (budget_view c.args.budget.now) (both (given a_statement) (alternatives_costs at (analysed.alternatives_of gs last)))) (problem_told c.in_err-charge_statement.field-0.0) =
     select_stops at (budget_view c.args.budget.now) gs last (tells c.in_err-charge_statement.ensures.spent) in
-    first_of (search rules, grind (arith, common_steps))
+    passed_told _ _ c.in_err-charge_statement.field-0.0 _ c.from_residual.result c.from_residual.ensures.1 (λ e p. p) (λ _. stopped)
 
 pub of_selection-returns-in_err-of_alternatives : goal.of_selection-returns-in_err-of_alternatives
 of_selection-returns-in_err-of_alternatives t c =
@@ -157,7 +157,7 @@ of_selection-returns-in_err-of_alternatives t c =
     let stopped : c.in_err-of_alternatives.field-0.0 ≢ NoMemory → MayTell (paid (budget_view c.args.budget.now) (both (given a_statement) (alternatives_costs at (analysed.alternatives_of gs last)))) (problem_told c.in_err-of_alternatives.field-0.0) =
     λ n. alternatives_stop at (budget_view c.args.budget.now) gs last _ c.in_ok-charge_statement.ensures.spent
     (tells_same (same_alternatives at _ _ _ c.deref.ensures.value) (c.in_err-of_alternatives.ensures n)) in
-    first_of (search rules, grind (arith, common_steps))
+    passed_told _ _ c.in_err-of_alternatives.field-0.0 _ c.from_residual-in_err-of_alternatives.result c.from_residual-in_err-of_alternatives.ensures.1 (λ e p. p) stopped
 
 pub of_selection-returns : goal.of_selection-returns
 of_selection-returns t c =
@@ -178,7 +178,7 @@ of_loop-returns-in_err-turns t c =
     let body = analysed.statements_of (analysed.statements_view c.args.repeated.now.statements) in
     let stopped : MayTell (paid (budget_view c.args.budget.now) (statement_costs at (units.for_of (range_view c.args.repeated.now.range) body))) (problem_told c.in_err-turns.field-0.0) =
     range_stops at (budget_view c.args.budget.now) (range_view c.args.repeated.now.range) body c.in_err-turns.ensures in
-    first_of (search rules, grind (arith, common_steps))
+    passed_told _ _ c.in_err-turns.field-0.0 _ c.from_residual.result c.from_residual.ensures.1 (λ e p. p) (λ _. stopped)
 
 pub of_loop-returns-in_err-charge_turns : goal.of_loop-returns-in_err-charge_turns
 of_loop-returns-in_err-charge_turns t c =
@@ -187,7 +187,7 @@ of_loop-returns-in_err-charge_turns t c =
     let stopped : MayTell (paid (budget_view c.args.budget.now) (statement_costs at (units.for_of (range_view c.args.repeated.now.range) body))) (problem_told c.in_err-charge_turns.field-0.0) =
     count_stops at (budget_view c.args.budget.now) (range_view c.args.repeated.now.range) body c.in_ok-turns.turns.direction c.in_ok-turns.turns.first c.in_ok-turns.turns.count
     c.in_ok-turns.ensures (tells c.in_err-charge_turns.ensures.spent) in
-    first_of (search rules, grind (arith, common_steps))
+    passed_told _ _ c.in_err-charge_turns.field-0.0 _ c.from_residual-in_err-charge_turns.result c.from_residual-in_err-charge_turns.ensures.1 (λ e p. p) (λ _. stopped)
 
 pub of_loop-loop-turn-init : goal.of_loop-loop-turn-init
 of_loop-loop-turn-init t c =
@@ -217,7 +217,7 @@ of_loop-returns-in_err-of_turn t c =
     → MayTell (paid (budget_view c.args.budget.now) (statement_costs at (units.for_of (range_view c.args.repeated.now.range) body))) (problem_told c.in_err-of_turn.field-0.0) =
     λ n. turns_stop (λ i. statements_costs (in_turn at i) body) c.in_ok-turns.turns.direction c.in_ok-turns.turns.first c.in_ok-turns.turns.count _ _ c.loop-turn.turn c.parameter-value.result
     c.loop-turn-test.true same c.loop-turn.invariant (tells_same (same_turn at _ body _ _ fixed) (c.in_err-of_turn.ensures n)) in
-    first_of (search rules, grind (arith, common_steps))
+    passed_told _ _ c.in_err-of_turn.field-0.0 _ c.from_residual-in_err-of_turn.result c.from_residual-in_err-of_turn.ensures.1 (λ e p. p) stopped
 
 pub of_loop-returns : goal.of_loop-returns
 of_loop-returns t c =

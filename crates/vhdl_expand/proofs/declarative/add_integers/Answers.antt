@@ -18,6 +18,7 @@ use Rattle.vhdl_expand.proofs.Growing.{integer_of_grows}
 use Rattle.vhdl_expand.proofs.ObjectSteps.{declarations_walk}
 use Rattle.vhdl_expand.proofs.Walks.{same_goes, same_stops, same_ends}
 use Rattle.vhdl_expand_rules.specs.Elab.{problem_told}
+use Rattle.vhdl_expand_bodies.proofs.Passing.{passed_on}
 use Rattle.vhdl_expand.proofs.declarative.add_integers.Goals as goal
 
 pub returns-in_default : goal.returns-in_default
@@ -35,7 +36,7 @@ returns-in_err-number c =
     let stopped : (definition.declarations d (map (λ (n : Identifier). x) c.args.names.now)) ≡ Err (problem_told c.in_err-number.field-0.0) =
     subst (λ r. r ≡ Err (problem_told c.in_err-number.field-0.0)) (sym (declarations_walk d (map (λ (n : Identifier). x) c.args.names.now)))
     (same_stops definition.declaration x _ d c.args.names.now 0 some refl (integer_refused d c.args.integer_type (static_view c.args.value.now) c.in_err-number.ensures)) in
-    first_of (search rules, grind (arith, common_steps))
+    passed_on _ _ c.in_err-number.field-0.0 _ c.from_residual.result c.from_residual.ensures.1 (λ e p. p) (λ _. stopped)
 
 pub loop-name-init : goal.loop-name-init
 loop-name-init c =

@@ -1,6 +1,5 @@
 use Rattle.std.proofs.Common.{◌≡◌, Err, ◌<◌, length, rules, arith, sym, ◌∙◌, subst}
 use Rattle.std.specs.Prelude.{◌≢◌, flat_map}
-use Rattle.std.proofs.lemmas.Grind.{common_steps}
 use Rattle.vhdl_names_units.specs.views.Declarations.{declaration_view}
 use Rattle.vhdl_expand_rules.specs.Declarations as definition
 use Rattle.vhdl_expand_rules.specs.declared.fault.ElabFault.TheVariants.{NoMemory}
@@ -8,6 +7,7 @@ use Rattle.vhdl_expand.specs.Views.{declared_view}
 use Rattle.vhdl_expand.proofs.ObjectSteps.{declarations_walk}
 use Rattle.vhdl_expand.proofs.Walks.{all_go, all_stop, all_end}
 use Rattle.vhdl_expand_rules.specs.Elab.{problem_told}
+use Rattle.vhdl_expand_bodies.proofs.Passing.{passed_on}
 use Rattle.vhdl_expand.proofs.declarative.declarations.Goals as goal
 
 pub loop-declaration-preserved : goal.loop-declaration-preserved
@@ -32,4 +32,4 @@ returns-in_err-declare c =
     λ n. subst (λ r. r ≡ Err (problem_told c.in_err-declare.field-0.0)) (sym (declarations_walk (declared_view c.args.declared.now) (flat_map declaration_view c.args.list.now)))
     (all_stop definition.declaration declaration_view _ d c.args.list.now c.loop-declaration.declaration-index item below c.declaration-item.is c.loop-declaration.invariant
     (subst (λ r. r ≡ Err (problem_told c.in_err-declare.field-0.0)) (declarations_walk d (declaration_view item)) (c.in_err-declare.ensures n))) in
-    first_of (search rules, grind (arith, common_steps))
+    passed_on _ _ c.in_err-declare.field-0.0 _ c.from_residual.result c.from_residual.ensures.1 (λ e p. p) stopped

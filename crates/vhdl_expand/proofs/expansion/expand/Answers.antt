@@ -16,6 +16,7 @@ use Rattle.vhdl_expand.proofs.Told.{told_at, same_at, has_interface}
 use Rattle.vhdl_expand.proofs.Heavier.{found_among}
 use Rattle.vhdl_expand_rules.specs.Elab.{problem_told, MayTell}
 use Rattle.vhdl_expand_tree.proofs.Alike.{tells, tells_same}
+use Rattle.vhdl_expand.proofs.Passing.{passed_told, passed_err}
 use Rattle.vhdl_expand.proofs.expansion.expand.Goals as goal
 
 pub returns-in_default-clause-given : goal.returns-in_default-clause-given
@@ -33,7 +34,7 @@ returns-in_err-declared-clause-given c =
     ∙ ap (λ es. find (λ (e : Entity). bytes_eq e.name c.deref-2.result.now) (map entity_view es)) (sym c.deref.ensures.value) ∙ c.in-Some.ensures in
     let stopped : c.in_err-declared.field-0.0 ≢ NoMemory → MayTell (within_limits (expanded_design us c.args.top.now)) (problem_told c.in_err-declared.field-0.0) =
     λ n. tells (no_top_interface us c.args.top.now (entity_view c.in-Some.unit.now) named (c.in_err-declared.ensures n)) in
-    first_of (search rules, grind (arith, common_steps))
+    passed_told _ _ c.in_err-declared.field-0.0 _ c.from_residual-in_err-declared.result c.from_residual-in_err-declared.ensures.1 (λ e p. p) stopped
 
 pub instance-requires : goal.instance-requires
 instance-requires c =
@@ -51,7 +52,7 @@ returns-in_err-top-clause-given c =
     ∙ ap (λ es. charged (budget_view c.whole-left.result) instance_costs (instance_of (map entity_view es) 32 e d)) (sym c.deref-3.ensures.value) in
     let stopped : c.in_err-top.field-0.0 ≢ NoMemory → MayTell (within_limits (expanded_design us c.args.top.now)) (problem_told c.in_err-top.field-0.0) =
     λ n. no_instance us c.args.top.now e d named c.in_ok-declared.ensures (tells_same same (c.in_err-top.ensures n)) in
-    first_of (search rules, grind (arith, common_steps))
+    passed_told _ _ c.in_err-top.field-0.0 _ c.from_residual-in_err-top.result c.from_residual-in_err-top.ensures.1 (λ e p. p) stopped
 
 pub returns-clause-given : goal.returns-clause-given
 returns-clause-given c =
@@ -81,7 +82,7 @@ returns-in_err-declared-clause-begun c =
     ∙ ap (λ es. find (λ (e : Entity). bytes_eq e.name c.deref-2.result.now) (map entity_view es)) (sym c.deref.ensures.value) ∙ c.in-Some.ensures in
     let stopped : c.in_err-declared.field-0.0 ≢ NoMemory → (within_limits (expanded_design us c.args.top.now) ≡ Err (problem_told c.in_err-declared.field-0.0)) ⊎ HasInterface us c.args.top.now =
     λ n. inl (no_top_interface us c.args.top.now (entity_view c.in-Some.unit.now) named (c.in_err-declared.ensures n)) in
-    first_of (search rules, grind (arith, common_steps))
+    passed_err _ c.in_err-declared.field-0.0 _ c.from_residual-in_err-declared.result c.from_residual-in_err-declared.ensures.1 (λ e p. p) stopped
 
 pub returns-in_err-top-clause-begun : goal.returns-in_err-top-clause-begun
 returns-in_err-top-clause-begun c =
@@ -90,4 +91,4 @@ returns-in_err-top-clause-begun c =
     ∙ ap (λ es. find (λ (e : Entity). bytes_eq e.name c.deref-2.result.now) (map entity_view es)) (sym c.deref.ensures.value) ∙ c.in-Some.ensures in
     let stopped : c.in_err-top.field-0.0 ≢ NoMemory → (within_limits (expanded_design us c.args.top.now) ≡ Err (problem_told c.in_err-top.field-0.0)) ⊎ HasInterface us c.args.top.now =
     λ n. inr (has_interface us c.args.top.now (entity_view c.in-Some.unit.now) (declared_view c.in_ok-declared.declared) named c.in_ok-declared.ensures) in
-    first_of (search rules, grind (arith, common_steps))
+    passed_err _ c.in_err-top.field-0.0 _ c.from_residual-in_err-top.result c.from_residual-in_err-top.ensures.1 (λ e p. p) stopped

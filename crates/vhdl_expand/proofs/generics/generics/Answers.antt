@@ -1,6 +1,5 @@
 use Rattle.std.proofs.Common.{◌≡◌, Err, ◌<◌, [], length, rules, arith}
 use Rattle.std.specs.Prelude.{◌≢◌, flat_map}
-use Rattle.std.proofs.lemmas.Grind.{common_steps}
 use Rattle.vhdl_names_units.specs.views.Declarations.{generics_view}
 use Rattle.vhdl_expand_rules.specs.declared.fault.ElabFault.TheVariants.{NoMemory}
 use Rattle.vhdl_expand_rules.specs.Declarations as definition
@@ -10,6 +9,7 @@ use Rattle.vhdl_expand.specs.Generics.{actuals_view}
 use Rattle.vhdl_expand.proofs.Walks.{all_go, all_stop, all_end}
 use Rattle.vhdl_expand.proofs.Given.{step, all_stepped, all_stopped, steps_of, stop_of}
 use Rattle.vhdl_expand_rules.specs.Elab.{problem_told}
+use Rattle.vhdl_expand_bodies.proofs.Passing.{passed_on}
 use Rattle.vhdl_expand.proofs.generics.generics.Goals as goal
 
 pub loop-declaration-preserved : goal.loop-declaration-preserved
@@ -38,4 +38,4 @@ returns-in_err-add_generics c =
     (all_stop (step above actuals) generics_view _ c.loop-declaration.values.items c.args.declarations.now c.loop-declaration.declaration-index c.declaration-item.result
     below c.declaration-item.is c.loop-declaration.invariant
     (stop_of above actuals c.loop-declaration.values.items _ (c.in_err-add_generics.ensures n))) in
-    first_of (search rules, grind (arith, common_steps))
+    passed_on _ _ c.in_err-add_generics.field-0.0 _ c.from_residual.result c.from_residual.ensures.1 (λ e p. p) stopped

@@ -15,6 +15,7 @@ use Rattle.vhdl_expand.proofs.Names.{named, no_names}
 use Rattle.vhdl_expand.proofs.ObjectSteps.{object_given, shape_stays, first_refused}
 use Rattle.vhdl_expand.proofs.Walks.{one_goes, one_ends}
 use Rattle.vhdl_expand_rules.specs.Elab.{problem_told}
+use Rattle.vhdl_expand_bodies.proofs.Passing.{passed_on}
 use Rattle.vhdl_expand.proofs.objects.add_objects.Goals as goal
 
 pub returns-in_default : goal.returns-in_default
@@ -33,7 +34,7 @@ returns-in_err-shape c =
     let stopped : c.in_err-shape.field-0.0 ≢ NoMemory → (stepwise (next_object (role_view c.args.role)) (declared_view c.args.declared.now) (units.object_view objects)) ≡ Err (problem_told c.in_err-shape.field-0.0) =
     λ n. subst (λ (os : _). (stepwise (next_object (role_view c.args.role)) (declared_view c.args.declared.now) os) ≡ Err (problem_told c.in_err-shape.field-0.0)) (sym walk)
     (first_refused (role_view c.args.role) (declared_view c.args.declared.now) v c.as_slice-names.result.now c.in-Some.first.now there (c.in_err-shape.ensures n)) in
-    first_of (search rules, grind (arith, common_steps))
+    passed_on _ _ c.in_err-shape.field-0.0 _ c.from_residual.result c.from_residual.ensures.1 (λ e p. p) stopped
 
 pub loop-name-init : goal.loop-name-init
 loop-name-init c =

@@ -1,6 +1,5 @@
 use Rattle.std.proofs.Common.{◌≡◌, Err, ◌<◌, length, rules, arith, sym, ap, ◌∙◌, subst}
 use Rattle.std.specs.Prelude.{◌≢◌, flat_map}
-use Rattle.std.proofs.lemmas.Grind.{common_steps}
 use Rattle.vhdl_names_units.specs.views.Declarations as units
 use Rattle.vhdl_expand_rules.specs.Declarations as definition
 use Rattle.vhdl_expand_rules.specs.declared.fault.ElabFault.TheVariants.{NoMemory}
@@ -10,6 +9,7 @@ use Rattle.vhdl_expand.specs.Stepwise.{stepwise}
 use Rattle.vhdl_expand.proofs.ObjectSteps.{next_port, ports_walk, port_objects}
 use Rattle.vhdl_expand.proofs.Walks.{all_go, all_stop, all_end}
 use Rattle.vhdl_expand_rules.specs.Elab.{problem_told}
+use Rattle.vhdl_expand_bodies.proofs.Passing.{passed_on}
 use Rattle.vhdl_expand.proofs.objects.add_ports.Goals as goal
 
 pub loop-declaration-preserved : goal.loop-declaration-preserved
@@ -36,4 +36,4 @@ returns-in_err-add_objects c =
     λ n. subst (λ r. r ≡ Err (problem_told c.in_err-add_objects.field-0.0)) (sym (ports_walk (declared_view c.args.declared.now) (flat_map units.ports_view c.args.declarations.now)))
     (all_stop next_port units.ports_view _ d c.args.declarations.now c.loop-declaration.declaration-index item below c.declaration-item.is c.loop-declaration.invariant
     (subst (λ r. r ≡ Err (problem_told c.in_err-add_objects.field-0.0)) (sym same) (c.in_err-add_objects.ensures n))) in
-    first_of (search rules, grind (arith, common_steps))
+    passed_on _ _ c.in_err-add_objects.field-0.0 _ c.from_residual.result c.from_residual.ensures.1 (λ e p. p) stopped

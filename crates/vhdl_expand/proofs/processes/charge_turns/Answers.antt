@@ -1,6 +1,5 @@
-use Rattle.std.proofs.Common.{map, arith, rules}
+use Rattle.std.proofs.Common.{map}
 use Rattle.std.specs.Prelude.{◌≢◌}
-use Rattle.std.proofs.lemmas.Grind.{common_steps}
 use Rattle.vhdl_names_units.specs.views.Sequential as analysed
 use Rattle.vhdl_expand_rules.specs.declared.fault.ElabFault.TheVariants.{NoMemory}
 use Rattle.vhdl_expand_rules.specs.views.Integers.{integers_view}
@@ -9,6 +8,7 @@ use Rattle.vhdl_expand_tree.specs.Views.{budget_view}
 use Rattle.vhdl_expand.specs.Processes.{turns_paid}
 use Rattle.vhdl_expand.specs.Unrolled.{statements_costs}
 use Rattle.vhdl_expand.proofs.Made.{not_paid}
+use Rattle.vhdl_expand.proofs.Passing.{passed_told}
 use Rattle.vhdl_expand.proofs.processes.charge_turns.Goals as goal
 
 pub returns-in_err-charge_body : goal.returns-in_err-charge_body
@@ -16,4 +16,4 @@ returns-in_err-charge_body c =
     let costs = statements_costs (integers_view c.args.integers.now) (analysed.statements_of (map analysed.statement_view c.args.list.now)) in
     let stopped : c.in_err-charge_body.field-0.0 ≢ NoMemory → MayTell (turns_paid (budget_view c.args.budget.now) costs) (problem_told c.in_err-charge_body.field-0.0) =
     λ n. not_paid (budget_view c.args.budget.now) costs (c.in_err-charge_body.ensures n) in
-    first_of (search rules, grind (arith, common_steps))
+    passed_told _ _ c.in_err-charge_body.field-0.0 _ c.from_residual.result c.from_residual.ensures.1 (λ e p. p) stopped

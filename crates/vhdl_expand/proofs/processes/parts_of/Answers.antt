@@ -1,6 +1,5 @@
 use Rattle.std.proofs.Common.{◌≤◌, List, map, flat_map, ap, ◌∙◌, sym, subst, All, Fits, w32, arith, rules}
 use Rattle.std.specs.Prelude.{◌≢◌}
-use Rattle.std.proofs.lemmas.Grind.{common_steps}
 use Rattle.vhdl_names_units.specs.views.Concurrent as analysed
 use Rattle.vhdl_names_units.specs.views.Declarations.{object_view}
 use Rattle.vhdl_names_units.specs.views.Sequential as bodies
@@ -22,6 +21,7 @@ use Rattle.vhdl_expand.specs.Variables.{variable_kind, HasWidth}
 use Rattle.vhdl_expand.proofs.Declaring.{all_wide}
 use Rattle.vhdl_expand.proofs.Room.{held_few}
 use Rattle.vhdl_expand.proofs.Made.{not_started, not_declared, not_held, not_driven, not_resumed, not_counted, not_expanded}
+use Rattle.vhdl_expand.proofs.Passing.{passed_told}
 use Rattle.vhdl_expand.proofs.processes.parts_of.Goals as goal
 
 pub body-requires-clause-wide : goal.body-requires-clause-wide
@@ -42,7 +42,7 @@ pub returns-in_err-charge_process : goal.returns-in_err-charge_process
 returns-in_err-charge_process c =
     let stopped : MayTell (process_steps (budget_view c.args.budget.now) (record { site = site_view c.args.site.now; prefix = c.args.prefix.now }) (analysed.process_view c.args.process.now)) (problem_told c.in_err-charge_process.field-0.0) =
     not_started _ _ _ _ (tells c.in_err-charge_process.ensures.spent) in
-    first_of (search rules, grind (arith, common_steps))
+    passed_told _ _ c.in_err-charge_process.field-0.0 _ c.from_residual.result c.from_residual.ensures.1 (λ e p. p) (λ _. stopped)
 
 pub returns-in_err-variables : goal.returns-in_err-variables
 returns-in_err-variables c =
@@ -51,7 +51,7 @@ returns-in_err-variables c =
     let stopped : c.in_err-variables.field-0.0 ≢ NoMemory
     → MayTell (process_steps (budget_view c.args.budget.now) (record { site = at; prefix = c.args.prefix.now }) (analysed.process_view c.args.process.now)) (problem_told c.in_err-variables.field-0.0) =
     λ n. not_declared _ _ _ _ _ c.in_ok-charge_process.ensures.spent (tells (named ∙ c.in_err-variables.ensures n)) in
-    first_of (search rules, grind (arith, common_steps))
+    passed_told _ _ c.in_err-variables.field-0.0 _ c.from_residual-in_err-variables.result c.from_residual-in_err-variables.ensures.1 (λ e p. p) stopped
 
 pub returns-in_err-charge_variables : goal.returns-in_err-charge_variables
 returns-in_err-charge_variables c =
@@ -61,7 +61,7 @@ returns-in_err-charge_variables c =
     let stopped : c.in_err-charge_variables.field-0.0 ≢ NoMemory
     → MayTell (process_steps (budget_view c.args.budget.now) (record { site = at; prefix = c.args.prefix.now }) (analysed.process_view c.args.process.now)) (problem_told c.in_err-charge_variables.field-0.0) =
     λ n. not_held _ _ _ _ _ c.in_ok-charge_process.ensures.spent _ declared (tells_same taken (c.in_err-charge_variables.ensures n)) in
-    first_of (search rules, grind (arith, common_steps))
+    passed_told _ _ c.in_err-charge_variables.field-0.0 _ c.from_residual-in_err-charge_variables.result c.from_residual-in_err-charge_variables.ensures.1 (λ e p. p) stopped
 
 pub returns-in_err-drives : goal.returns-in_err-drives
 returns-in_err-drives c =
@@ -72,7 +72,7 @@ returns-in_err-drives c =
     let stopped : c.in_err-drives.field-0.0 ≢ NoMemory
     → MayTell (process_steps (budget_view c.args.budget.now) (record { site = at; prefix = c.args.prefix.now }) (analysed.process_view c.args.process.now)) (problem_told c.in_err-drives.field-0.0) =
     λ n. not_driven _ _ _ _ _ c.in_ok-charge_process.ensures.spent _ declared _ held (tells (driving ∙ c.in_err-drives.ensures.given n)) in
-    first_of (search rules, grind (arith, common_steps))
+    passed_told _ _ c.in_err-drives.field-0.0 _ c.from_residual-in_err-drives.result c.from_residual-in_err-drives.ensures.1 (λ e p. p) stopped
 
 pub returns-in_err-sensitivity : goal.returns-in_err-sensitivity
 returns-in_err-sensitivity c =
@@ -83,7 +83,7 @@ returns-in_err-sensitivity c =
     let stopped : c.in_err-sensitivity.field-0.0 ≢ NoMemory
     → MayTell (process_steps (budget_view c.args.budget.now) (record { site = at; prefix = c.args.prefix.now }) (analysed.process_view c.args.process.now)) (problem_told c.in_err-sensitivity.field-0.0) =
     λ n. not_resumed _ _ _ _ _ c.in_ok-charge_process.ensures.spent _ declared _ held _ driven (tells (c.in_err-sensitivity.ensures n)) in
-    first_of (search rules, grind (arith, common_steps))
+    passed_told _ _ c.in_err-sensitivity.field-0.0 _ c.from_residual-in_err-sensitivity.result c.from_residual-in_err-sensitivity.ensures.1 (λ e p. p) stopped
 
 pub returns-in_err-turns : goal.returns-in_err-turns
 returns-in_err-turns c =
@@ -95,7 +95,7 @@ returns-in_err-turns c =
     let stopped : c.in_err-turns.field-0.0 ≢ NoMemory
     → MayTell (process_steps (budget_view c.args.budget.now) (record { site = at; prefix = c.args.prefix.now }) (analysed.process_view c.args.process.now)) (problem_told c.in_err-turns.field-0.0) =
     λ n. not_counted _ _ _ _ _ c.in_ok-charge_process.ensures.spent _ declared _ held _ driven _ c.in_ok-sensitivity.ensures (tells_same paying (c.in_err-turns.ensures n)) in
-    first_of (search rules, grind (arith, common_steps))
+    passed_told _ _ c.in_err-turns.field-0.0 _ c.from_residual-in_err-turns.result c.from_residual-in_err-turns.ensures.1 (λ e p. p) stopped
 
 pub returns-in_err-body : goal.returns-in_err-body
 returns-in_err-body c =
@@ -109,4 +109,4 @@ returns-in_err-body c =
     let stopped : c.in_err-body.field-0.0 ≢ NoMemory
     → MayTell (process_steps (budget_view c.args.budget.now) (record { site = at; prefix = c.args.prefix.now }) (analysed.process_view c.args.process.now)) (problem_told c.in_err-body.field-0.0) =
     λ n. not_expanded _ _ _ _ _ c.in_ok-charge_process.ensures.spent _ declared _ held _ driven _ c.in_ok-sensitivity.ensures _ counted (tells (among ∙ c.in_err-body.ensures n)) in
-    first_of (search rules, grind (arith, common_steps))
+    passed_told _ _ c.in_err-body.field-0.0 _ c.from_residual-in_err-body.result c.from_residual-in_err-body.ensures.1 (λ e p. p) stopped

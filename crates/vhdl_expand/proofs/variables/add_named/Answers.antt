@@ -1,6 +1,5 @@
 use Rattle.std.proofs.Common.{◌≡◌, Err, ◌<◌, length, map, arith, rules}
 use Rattle.std.specs.Prelude.{◌≢◌}
-use Rattle.std.proofs.lemmas.Grind.{common_steps}
 use Rattle.vhdl_tree.specs.declared.expression.Identifier.{Identifier}
 use Rattle.vhdl_expand_rules.specs.declared.fault.ElabFault.TheVariants.{NoMemory}
 use Rattle.vhdl_expand_rules.specs.Declarations.{variable}
@@ -11,6 +10,7 @@ use Rattle.vhdl_expand_tree.specs.Views.{variable_view}
 use Rattle.vhdl_expand.specs.Processes.{named_object}
 use Rattle.vhdl_expand.proofs.Declaring.{seen_push}
 use Rattle.vhdl_expand.proofs.Paying.{none_left}
+use Rattle.vhdl_expand_bodies.proofs.Passing.{passed_on}
 use Rattle.vhdl_expand.proofs.variables.add_named.Goals as goal
 
 pub loop-name-preserved : goal.loop-name-preserved
@@ -31,4 +31,4 @@ returns-in_err-next c =
     → (behind (map variable_view c.args.variables.now.items) (each (variable (site_view c.args.site.now)) (map (λ i. named_object c.args.objects.now i.text.items) c.args.names.now))) ≡ Err (problem_told c.in_err-next.field-0.0) =
     λ n. each_stops (variable (site_view c.args.site.now)) (λ (i : Identifier). named_object c.args.objects.now i.text.items) _ _ c.args.names.now c.loop-name.name-index c.name-item.result below c.name-item.is
     c.loop-name.invariant (c.in_err-next.ensures n) in
-    first_of (search rules, grind (arith, common_steps))
+    passed_on _ _ c.in_err-next.field-0.0 _ c.from_residual.result c.from_residual.ensures.1 (λ e p. p) stopped

@@ -7,6 +7,7 @@ use Rattle.vhdl_expand.specs.Unrolled.{paid}
 use Rattle.vhdl_expand.proofs.Declaring.{elements_costs, variables_together}
 use Rattle.vhdl_expand.proofs.Paying.{list_go, list_stop, list_end, none_left}
 use Rattle.vhdl_expand_rules.specs.Elab.{problem_told, MayTell}
+use Rattle.vhdl_expand.proofs.Passing.{passed_told}
 use Rattle.vhdl_expand.proofs.variables.charge_variables.Goals as goal
 
 pub loop-variable-init : goal.loop-variable-init
@@ -29,4 +30,4 @@ returns-in_err-charge_variables c =
     let stopped : MayTell (spent (budget_view c.args.budget.now) (variables_costs (map variable_view c.args.variables.now))) (problem_told c.in_err-charge_variables.field-0.0) =
     list_stop elements_costs variable_view _ _ c.args.variables.now c.loop-variable.variable-index c.variable-item.result below c.variable-item.is
     c.loop-variable.invariant (tells (ap (λ n. spent (budget_view c.loop-variable.budget) (variable_elements n)) same ∙ c.in_err-charge_variables.ensures.spent)) in
-    first_of (search rules, grind (arith, common_steps))
+    passed_told _ _ c.in_err-charge_variables.field-0.0 _ c.from_residual.result c.from_residual.ensures.1 (λ e p. p) (λ _. stopped)

@@ -38,6 +38,7 @@ use Rattle.vhdl_expand.proofs.Statements.{listed, list_goes, list_stops, list_en
 use Rattle.vhdl_expand.proofs.Generates.{for_each, if_holding, turned, turns_begin, turns_refused, no_turns, turns_go, turns_stop, turns_end, turn_spot, branch_spot, branch_taken, branch_left, no_branch}
 use Rattle.vhdl_expand.proofs.Told.{told_at}
 use Rattle.vhdl_expand.proofs.Heavier.{lighter, generate_weight, level_lighter}
+use Rattle.vhdl_expand.proofs.Passing.{passed_told}
 use Rattle.vhdl_expand.proofs.walk.Walk.+concurrent.Goals as goal
 
 -- ---- statements one after another
@@ -66,7 +67,7 @@ concurrents-returns-in_err-concurrent t c =
     let below : i < length c.args.list.now = first_of (search rules, omega arith) in
     let stopped : c.in_err-concurrent.field-0.0 ≢ NoMemory → MayTell (adding (progress_view c.args.so_far.now) (listed (units_of c.args.self.now) c.args.self.now.levels at c.args.list.now)) (problem_told c.in_err-concurrent.field-0.0) =
     λ n. list_stops (units_of c.args.self.now) c.args.self.now.levels at _ (progress_view c.loop-item.so_far) c.args.list.now i c.item-item.result below c.item-item.is c.loop-item.invariant.leads (c.in_err-concurrent.ensures n) in
-    first_of (search rules, grind (arith, common_steps))
+    passed_told _ _ c.in_err-concurrent.field-0.0 _ c.from_residual.result c.from_residual.ensures.1 (λ e p. p) stopped
 
 pub concurrents-concurrent-requires : goal.concurrents-concurrent-requires
 concurrents-concurrent-requires t c = (
@@ -121,7 +122,7 @@ turns-returns-in_err-turns t c =
     let w = c.args.written.now in
     let stopped : c.in_err-turns.field-0.0 ≢ NoMemory → MayTell (adding (progress_view c.args.so_far.now) (for_each (units_of c.args.self.now) c.args.self.now.levels (spot_view c.args.spot.now) w.label.text.items (units.concurrents_of (units.concurrents_view w.statements)) (range_view c.args.range.now))) (problem_told c.in_err-turns.field-0.0) =
     λ n. tells (no_turns (units_of c.args.self.now) c.args.self.now.levels (spot_view c.args.spot.now) w.label.text.items (units.concurrents_of (units.concurrents_view w.statements)) (range_view c.args.range.now) (progress_view c.args.so_far.now) c.in_err-turns.ensures) in
-    first_of (search rules, grind (arith, common_steps))
+    passed_told _ _ c.in_err-turns.field-0.0 _ c.from_residual.result c.from_residual.ensures.1 (λ e p. p) stopped
 
 pub turns-returns-in_err-add_turns : goal.turns-returns-in_err-add_turns
 turns-returns-in_err-add_turns t c =
@@ -129,7 +130,7 @@ turns-returns-in_err-add_turns t c =
     let r = c.in_ok-turns.turns in
     let stopped : c.in_err-add_turns.field-0.0 ≢ NoMemory → MayTell (adding (progress_view c.args.so_far.now) (for_each (units_of c.args.self.now) c.args.self.now.levels (spot_view c.args.spot.now) w.label.text.items (units.concurrents_of (units.concurrents_view w.statements)) (range_view c.args.range.now))) (problem_told c.in_err-add_turns.field-0.0) =
     λ n. turns_refused (units_of c.args.self.now) c.args.self.now.levels (spot_view c.args.spot.now) w.label.text.items (units.concurrents_of (units.concurrents_view w.statements)) (range_view c.args.range.now) r.direction r.first r.count (progress_view c.args.so_far.now) c.in_ok-turns.ensures (tells (c.in_err-add_turns.ensures n)) in
-    first_of (search rules, grind (arith, common_steps))
+    passed_told _ _ c.in_err-add_turns.field-0.0 _ c.from_residual-in_err-add_turns.result c.from_residual-in_err-add_turns.ensures.1 (λ e p. p) stopped
 
 pub turns-loop-turn-init : goal.turns-loop-turn-init
 turns-loop-turn-init t c =
@@ -172,7 +173,7 @@ turns-returns-in_err-turn t c =
     let stopped : c.in_err-turn.field-0.0 ≢ NoMemory → MayTell (adding (progress_view c.args.so_far.now) (for_each (units_of c.args.self.now) c.args.self.now.levels (spot_view c.args.spot.now) w.label.text.items (units.concurrents_of (units.concurrents_view w.statements)) (range_view c.args.range.now))) (problem_told c.in_err-turn.field-0.0) =
     λ n. turns_stop (units_of c.args.self.now) c.args.self.now.levels at w.label.text.items body _ now r.direction r.first c.parameter-value.result r.count c.loop-turn.turn c.loop-turn-test.true same c.loop-turn.invariant.leads
     (subst (λ j. MayTell (adding now (turned (units_of c.args.self.now) c.args.self.now.levels at w.label.text.items body j)) (problem_told c.in_err-turn.field-0.0)) fixed (c.in_err-turn.ensures n)) in
-    first_of (search rules, grind (arith, common_steps))
+    passed_told _ _ c.in_err-turn.field-0.0 _ c.from_residual-in_err-turn.result c.from_residual-in_err-turn.ensures.1 (λ e p. p) stopped
 
 pub turns-returns : goal.turns-returns
 turns-returns t c =
@@ -206,7 +207,7 @@ branch-returns-in_err-decision t c =
     let w = c.args.written.now in
     let stopped : c.in_err-decision.field-0.0 ≢ NoMemory → MayTell (adding (progress_view c.args.so_far.now) (if_holding (units_of c.args.self.now) c.args.self.now.levels (spot_view c.args.spot.now) w.label.text.items (units.concurrents_of (units.concurrents_view w.statements)) (static_test_view c.args.test.now))) (problem_told c.in_err-decision.field-0.0) =
     λ n. tells (no_branch (units_of c.args.self.now) c.args.self.now.levels (spot_view c.args.spot.now) w.label.text.items (units.concurrents_of (units.concurrents_view w.statements)) (static_test_view c.args.test.now) (progress_view c.args.so_far.now) c.in_err-decision.ensures) in
-    first_of (search rules, grind (arith, common_steps))
+    passed_told _ _ c.in_err-decision.field-0.0 _ c.from_residual.result c.from_residual.ensures.1 (λ e p. p) stopped
 
 pub branch-returns-then-not-branch : goal.branch-returns-then-not-branch
 branch-returns-then-not-branch t c =
@@ -262,7 +263,7 @@ instance-returns-in_err-charge_instance t c =
     let stopped : MayTell (charged (budget_view c.args.left.now) instance_costs (instance_of (units_of c.args.self.now) c.args.self.now.levels (entity_view c.args.unit.now) (declared_view c.args.declared))) (problem_told c.in_err-charge_instance.field-0.0) =
     subst (λ m. MayTell (charged (budget_view c.args.left.now) instance_costs (instance_of (units_of c.args.self.now) m (entity_view c.args.unit.now) (declared_view c.args.declared))) (problem_told c.in_err-charge_instance.field-0.0)) (sym level)
     (no_instance_left (units_of c.args.self.now) n (entity_view c.args.unit.now) (declared_view c.args.declared) (budget_view c.args.left.now) c.in_err-charge_instance.ensures.spent) in
-    first_of (search rules, grind (arith, common_steps))
+    passed_told _ _ c.in_err-charge_instance.field-0.0 _ c.from_residual.result c.from_residual.ensures.1 (λ e p. p) (λ _. stopped)
 
 pub instance-returns-in_err-declarations : goal.instance-returns-in_err-declarations
 instance-returns-in_err-declarations t c =
@@ -273,7 +274,7 @@ instance-returns-in_err-declarations t c =
     λ k. subst (λ m. MayTell (charged (budget_view c.args.left.now) instance_costs (instance_of (units_of c.args.self.now) m (entity_view c.args.unit.now) (declared_view c.args.declared))) (problem_told c.in_err-declarations.field-0.0)) (sym level)
     (tells (no_declarations (units_of c.args.self.now) n (entity_view c.args.unit.now) (declared_view c.args.declared) (budget_view c.args.left.now) a (ap (option_map architecture_view) c.in-Some.is)
     (ap (λ xs. declarations (declared_view c.args.declared) (flat_map declaration_view xs)) (sym c.deref.ensures.value) ∙ c.in_err-declarations.ensures k))) in
-    first_of (search rules, grind (arith, common_steps))
+    passed_told _ _ c.in_err-declarations.field-0.0 _ c.from_residual-in_err-declarations.result c.from_residual-in_err-declarations.ensures.1 (λ e p. p) stopped
 
 pub instance-returns-in_err-charge_own_nets : goal.instance-returns-in_err-charge_own_nets
 instance-returns-in_err-charge_own_nets t c =
@@ -286,7 +287,7 @@ instance-returns-in_err-charge_own_nets t c =
     subst (λ m. MayTell (charged (budget_view c.args.left.now) instance_costs (instance_of (units_of c.args.self.now) m (entity_view c.args.unit.now) (declared_view c.args.declared))) (problem_told c.in_err-charge_own_nets.field-0.0)) (sym level)
     (no_nets_left (units_of c.args.self.now) n (entity_view c.args.unit.now) (declared_view c.args.declared) (budget_view c.args.left.now) a e (ap (option_map architecture_view) c.in-Some.is) known (budget_view c.charge_instance.new.self)
     c.in_ok-charge_instance.ensures.spent (tells (ap (λ xs. spent (budget_view c.charge_instance.new.self) (nets (own_sizes (map object_view xs)))) (sym c.deref-2.ensures.value) ∙ c.in_err-charge_own_nets.ensures))) in
-    first_of (search rules, grind (arith, common_steps))
+    passed_told _ _ c.in_err-charge_own_nets.field-0.0 _ c.from_residual-in_err-charge_own_nets.result c.from_residual-in_err-charge_own_nets.ensures.1 (λ e p. p) (λ _. stopped)
 
 pub instance-body-requires : goal.instance-body-requires
 instance-body-requires t c =
@@ -308,7 +309,7 @@ instance-returns-in_err-made t c =
     (not_inside (units_of c.args.self.now) n (entity_view c.args.unit.now) (declared_view c.args.declared) (budget_view c.args.left.now) a e (ap (option_map architecture_view) c.in-Some.is) known (budget_view c.charge_instance.new.self) (budget_view c.charge_own_nets.new.budget)
     c.in_ok-charge_instance.ensures.spent (ap (λ xs. spent (budget_view c.charge_instance.new.self) (nets (own_sizes (map object_view xs)))) (sym c.deref-2.ensures.value) ∙ c.in_ok-charge_own_nets.ensures)
     (tells_same (ap (λ xs. adding (nothing_yet (budget_view c.charge_own_nets.new.budget)) (made.concurrents (units_of c.args.self.now) n (outermost e) (units.concurrents_of (map units.concurrent_view xs)))) (sym c.deref-3.ensures.value)) (c.in_err-made.ensures j))) in
-    first_of (search rules, grind (arith, common_steps))
+    passed_told _ _ c.in_err-made.field-0.0 _ c.from_residual-in_err-made.result c.from_residual-in_err-made.ensures.1 (λ e p. p) stopped
 
 pub instance-returns : goal.instance-returns
 instance-returns t c =
@@ -342,7 +343,7 @@ add_instance-returns-in_err-declared t c =
     let stopped : c.in_err-declared.field-0.0 ≢ NoMemory → MayTell (adding (progress_view c.args.so_far.now) (made.instance (units_of c.args.self.now) c.args.self.now.levels at x)) (problem_told c.in_err-declared.field-0.0) =
     λ n. tells (not_expanded (at.prefix ++ x.label) (progress_view c.args.so_far.now) _
     (no_interface (units_of c.args.self.now) c.args.self.now.levels at x e found (ap (λ xs. interface at.site.integers (map (option_map static_view) xs) e) (sym c.deref.ensures.value) ∙ c.in_err-declared.ensures n))) in
-    first_of (search rules, grind (arith, common_steps))
+    passed_told _ _ c.in_err-declared.field-0.0 _ c.from_residual.result c.from_residual.ensures.1 (λ e p. p) stopped
 
 pub add_instance-returns-in_err-associations : goal.add_instance-returns-in_err-associations
 add_instance-returns-in_err-associations t c =
@@ -356,7 +357,7 @@ add_instance-returns-in_err-associations t c =
     λ n. tells (not_expanded (at.prefix ++ x.label) (progress_view c.args.so_far.now) _
     (no_associations (units_of c.args.self.now) c.args.self.now.levels at x e (declared_view c.in_ok-declared.declared) found known
     (ap (λ xs. associated at.site e.ports (map (option_map place_view) xs) (declared_view c.in_ok-declared.declared)) (sym c.deref-2.ensures.value) ∙ c.in_err-associations.ensures n))) in
-    first_of (search rules, grind (arith, common_steps))
+    passed_told _ _ c.in_err-associations.field-0.0 _ c.from_residual-in_err-associations.result c.from_residual-in_err-associations.ensures.1 (λ e p. p) stopped
 
 pub add_instance-instance-requires : goal.add_instance-instance-requires
 add_instance-instance-requires t c =
@@ -378,7 +379,7 @@ add_instance-returns-in_err-instance t c =
     let stopped : c.in_err-instance.field-0.0 ≢ NoMemory → MayTell (adding (progress_view c.args.so_far.now) (made.instance (units_of c.args.self.now) c.args.self.now.levels at x)) (problem_told c.in_err-instance.field-0.0) =
     λ n. instance_refused (at.prefix ++ x.label) (progress_view c.args.so_far.now) _
     (tells_same (ap (λ r. charged (budget_view c.args.so_far.now.left) instance_costs r) here) (c.in_err-instance.ensures n)) in
-    first_of (search rules, grind (arith, common_steps))
+    passed_told _ _ c.in_err-instance.field-0.0 _ c.from_residual-in_err-instance.result c.from_residual-in_err-instance.ensures.1 (λ e p. p) stopped
 
 pub add_instance-returns : goal.add_instance-returns
 add_instance-returns t c =

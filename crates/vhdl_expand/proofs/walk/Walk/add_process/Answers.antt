@@ -1,6 +1,4 @@
-use Rattle.std.proofs.Common.{rules, arith}
 use Rattle.std.specs.Prelude.{◌≢◌}
-use Rattle.std.proofs.lemmas.Grind.{common_steps}
 use Rattle.vhdl_expand_rules.specs.declared.fault.ElabFault.TheVariants.{NoMemory}
 use Rattle.vhdl_names_units.specs.views.Concurrent as units
 use Rattle.vhdl_expand_rules.specs.Expansion as definition
@@ -11,6 +9,7 @@ use Rattle.vhdl_expand.specs.Spots.{spot_view}
 use Rattle.vhdl_expand.specs.Walks.{units_of}
 use Rattle.vhdl_expand.proofs.Nested.{process_behind, process_refused}
 use Rattle.vhdl_expand_rules.specs.Elab.{problem_told, MayTell}
+use Rattle.vhdl_expand.proofs.Passing.{passed_told}
 use Rattle.vhdl_expand.proofs.walk.Walk.add_process.Goals as goal
 
 pub returns : goal.returns
@@ -22,4 +21,4 @@ pub returns-in_err-made : goal.returns-in_err-made
 returns-in_err-made c =
     let stopped : c.in_err-made.field-0.0 ≢ NoMemory → MayTell (adding (progress_view c.args.so_far.now) (made.process (units_of c.args.self.now) c.args.self.now.levels (spot_view c.args.spot.now) (units.process_view c.args.written.now))) (problem_told c.in_err-made.field-0.0) =
     λ n. process_refused (progress_view c.args.so_far.now) (definition.process (spot_view c.args.spot.now) (units.process_view c.args.written.now)) (c.in_err-made.ensures n) in
-    first_of (search rules, grind (arith, common_steps))
+    passed_told _ _ c.in_err-made.field-0.0 _ c.from_residual.result c.from_residual.ensures.1 (λ e p. p) stopped
