@@ -1,7 +1,7 @@
 use Rattle.std.proofs.Common.{subst, sym}
 use Rattle.rtl_vcd.specs.Puts.{IsPut}
 use Rattle.rtl_vcd.proofs.Puts.{put_all, put_parts}
-use Rattle.rtl_vcd.proofs.put.put_below_8.Goals as goal
+use Rattle.rtl_vcd.proofs.put.put_run.Goals as goal
 
 pub returns-then-done-new : goal.returns-then-done-new
 returns-then-done-new c =
