@@ -13,7 +13,7 @@ returns-then-are_digits g c =
     let new = c.args.new.now in
     put_many c.args.room.now c.put_digits.new.room c.args.from g.row.LANES old new c.are_different-differ.result c.requires.after
     c.put_digits.ensures.text c.put_digits.ensures.long
-    (c.are_different-differ.ensures ∙ ap₂ (λ xs ys. not (bytes_eq xs ys)) c.plain_lanes.ensures c.plain_lanes-2.ensures
+    (c.are_different-differ.ensures ∙ ap₂ (λ xs ys. not (bytes_eq xs ys)) c.plain_lanes.ensures c.plain_lanes-then-are_digits.ensures
     ∙ ap not (plain_tells g.row.LANES old new c.type_inv.old c.type_inv.new (c.are_digits.ensures c.if-are_digits.true)))
 
 pub returns : goal.returns
