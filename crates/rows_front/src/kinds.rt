@@ -1,7 +1,6 @@
 //! The names of the kinds of tokens.
 
-use crate::token::TokenKind;
-use std::fmt;
+use vhdl_lexer::TokenKind;
 
 /// The names of the kinds, in the order of `TokenKind`.
 const KIND_NAMES: [&str; 124] = [
@@ -131,11 +130,10 @@ const KIND_NAMES: [&str; 124] = [
     "Xor",
 ];
 
-impl fmt::Debug for TokenKind {
-    fn fmt<W: fmt::Write>(&self, f: &mut fmt::Formatter<W>) -> fmt::Result {
-        match KIND_NAMES.get(*self as usize) {
-            Some(name) => f.write_str(name),
-            None => Ok(()),
-        }
+/// The name of a kind.
+pub fn kind_name(kind: TokenKind) -> &'static str {
+    match KIND_NAMES.get(kind as usize) {
+        Some(name) => *name,
+        None => "",
     }
 }

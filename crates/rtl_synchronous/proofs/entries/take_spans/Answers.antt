@@ -7,7 +7,7 @@ use Rattle.rtl_kernel.proofs.Updating.{left_all, left_one, none_left}
 use Rattle.rtl_synchronous.specs.Running.{at_targets}
 use Rattle.rtl_synchronous.proofs.Marking.{marks_none, marks_then}
 use Rattle.rtl_synchronous.proofs.Taking.{part_none, part_then, part_all}
-use Rattle.rtl_synchronous.proofs.running.take_over.Goals as goal
+use Rattle.rtl_synchronous.proofs.entries.take_spans.Goals as goal
 
 abbrev no_span : Span
 no_span = record { first = 0; len = 0 }
@@ -15,7 +15,7 @@ no_span = record { first = 0; len = 0 }
 pub loop-span-init : goal.loop-span-init
 loop-span-init c = record {
   part = part_none _ _ _;
-  left = left_all c.args.outcome.now.entries (at_targets (nets_of c.args.row.drives.now) c.args.values.now.items) c.assigned-span-items.result.now c.assigned-span-items.ensures.places;
+  left = left_all c.args.outcome.now.entries (at_targets (nets_of c.args.drives.now) c.args.values.now.items) c.assigned-span-items.result.now c.assigned-span-items.ensures.places;
   marks = marks_none _ _ _ _;
 }
 
@@ -36,7 +36,7 @@ take_span-requires-clause-below c = λ n k f. rw (c.loop-span.invariant.marks.as
 
 pub loop-span-preserved : goal.loop-span-preserved
 loop-span-preserved c =
-    let targets = nets_of c.args.row.drives.now in
+    let targets = nets_of c.args.drives.now in
     let entries = c.args.outcome.now.entries in
     let spans = c.assigned-span-items.result.now in
     let first = c.args.values.now.items in
@@ -47,7 +47,7 @@ loop-span-preserved c =
     record {
       part = part_then targets entries first old new I.part E.taking;
       left = left_one entries (at_targets targets old) (at_targets targets new) spans c.loop-span.span-index no_span c.loop-span-test.true E.taking.stay E.taken I.left;
-      marks = marks_then (wakers_of c.args.groups.now) _ first old new c.args.marks.now.items c.loop-span.marks.items c.take_span.new.marks.items I.marks E.marks;
+      marks = marks_then (wakers_of c.args.schedule.now.readers) _ first old new c.args.marks.now.items c.loop-span.marks.items c.take_span.new.marks.items I.marks E.marks;
     }
 
 pub returns-clause-taken : goal.returns-clause-taken
