@@ -8,6 +8,7 @@ mod answers;
 mod asked;
 mod beginnings;
 mod fault;
+mod kinds;
 mod operands;
 mod source;
 mod table;

@@ -1,6 +1,7 @@
 //! What the lexer makes of a text, in words.
 
 use crate::fault::told_fault;
+use crate::kinds::kind_name;
 use crate::source::source_of;
 use std::alloc::{AllocError, Global};
 use vhdl_lexer::{Token, integer_value, lex};
@@ -24,8 +25,10 @@ fn listed(alloc: Global, tokens: &[Token]) -> Result<String, AllocError> {
         let comma = if index == 0 { "" } else { ", " };
         write!(
             told,
-            "{comma}{:?} {}..{}",
-            token.kind, token.start, token.end
+            "{comma}{} {}..{}",
+            kind_name(token.kind),
+            token.start,
+            token.end
         )?;
     }
     Ok(told)

@@ -3,7 +3,7 @@ use Rattle.std.proofs.Common.{◌≡◌, ℕ, zero, suc, ◌+◌, ◌<◌, ◌�
 use Rattle.std.specs.Prelude.{option_map, IfSome}
 use Rattle.std.proofs.lemmas.Bool.{cases_Bool, cases_lt, cases_eq}
 use Rattle.std.proofs.lemmas.List.{get_or-set_same, get_or-set_other, get_or_past, length-append, length-map, length-set}
-use Rattle.rtl_model.specs.simulation.Netlist.{Netlist, Edge, process, target, Clocked, HasPlace, IsClockedBy}
+use Rattle.rtl_model.specs.simulation.Netlist.{Netlist, Edge, process, target, Clocked, HasPlace, IsClockedBy, IsCombinational}
 use Rattle.rtl_model.specs.simulation.Elaborated.{IsElaborated}
 use Rattle.rtl_model.specs.simulation.Machine.{entry_or}
 use Rattle.rtl_model.specs.basics.Valuations.{clocked_entry}
@@ -19,7 +19,8 @@ use Rattle.rtl_net.specs.Nets.{NetlistView, body_of, process_view}
 use Rattle.rtl_net.specs.declared.process.Process.{Process}
 use Rattle.rtl_net_facts.specs.Timing.{kind_view, part_net}
 use Rattle.rtl_synchronous.specs.declared.awaited.ClockEdge.{ClockEdge}
-use Rattle.rtl_synchronous.specs.Scheduled.{AreEdges, IsAsleep, edge_alone, unless_reset}
+use Rattle.rtl_synchronous.specs.Marks.{AreUnmarked}
+use Rattle.rtl_synchronous.specs.Scheduled.{AreEdges, IsAsleep, IsNext, edge_alone, unless_reset}
 use Rattle.rtl_synchronous.specs.Steps.{AllTakeOver, HaveRun, IsDrivenByMarked}
 use Rattle.rtl_synchronous.proofs.Settling.{one_process}
 
@@ -30,6 +31,22 @@ pub record AreRunning (net : Netlist) (before v : List ℕ) (marked : List Bool)
   pub fewer : (p : ℕ) → get_or still p false ≡ true → get_or marked p false ≡ true
   pub ran : (p : ℕ) → p < i → get_or still p false ≡ true → entries p ≡ (process net p).effect before v
   pub asleep : (p place : ℕ) → p < i → get_or marked p false ≡ true → get_or still p false ≡ false → get_or ((process net p).effect before v) place None ≡ None
+
+-- between a process and the next one that isn't combinational none is marked, where no combinational one is
+pub none_between : (net : Netlist) (marked : List Bool) → ((p : ℕ) → get_or marked p false ≡ true → IsCombinational net p → ⊥) → (from next : ℕ) → IsNext net from next → AreUnmarked marked from next
+none_between net marked clocked from next N k low high = by (cases_Bool (get_or marked k false))
+  where
+    by : (get_or marked k false ≡ true) ⊎ (get_or marked k false ≡ false) → get_or marked k false ≡ false
+    by (inl h) = absurd (clocked k h (N.between k low high))
+    by (inr f) = f
+
+-- one more place that isn't marked
+pub unmarked_more : (marks : List Bool) (i j : ℕ) → get_or marks i false ≡ false → AreUnmarked marks (i + 1) j → AreUnmarked marks i j
+unmarked_more marks i j none more k low high = by (cases_eq k i)
+  where
+    by : (k ≡ i) ⊎ (k ≡ i → ⊥) → get_or marks k false ≡ false
+    by (inl e) = ap (λ (m : ℕ). get_or marks m false) e ∙ none
+    by (inr ne) = more k (omega (arith, low, ne)) high
 
 module _ (net : Netlist) (before v : List ℕ) (marked : List Bool) where
   pub none_running : (entries : ℕ → List (Option ℕ)) → AreRunning net before v marked entries 0 marked
@@ -42,22 +59,27 @@ module _ (net : Netlist) (before v : List ℕ) (marked : List Bool) where
   }
 
   module _ (entries : ℕ → List (Option ℕ)) (i : ℕ) (still : List Bool) (R : AreRunning net before v marked entries i still) where
-    pub one_unmarked : get_or still i false ≡ false → AreRunning net before v marked entries (i + 1) still
-    one_unmarked none = record {
+    -- none of the next ones is marked
+    pub some_unmarked : (j : ℕ) → i ≤ j → AreUnmarked still i j → AreRunning net before v marked entries j still
+    some_unmarked j later none = record {
       as_many = R.as_many;
-      rest = λ p l. R.rest p (omega (arith, l));
+      rest = λ p l. R.rest p (omega (arith, l, later));
       fewer = R.fewer;
       ran = λ p l h. ran p h (cases_lt p i) l;
       asleep = λ p place l h f. asleep p place h f (cases_lt p i) l;
     }
       where
-        ran : (p : ℕ) → get_or still p false ≡ true → (p < i) ⊎ (i ≤ p) → p < i + 1 → entries p ≡ (process net p).effect before v
+        ran : (p : ℕ) → get_or still p false ≡ true → (p < i) ⊎ (i ≤ p) → p < j → entries p ≡ (process net p).effect before v
         ran p h (inl less) l = R.ran p less h
-        ran p h (inr le) l = let e : p ≡ i = omega (arith, le, l) in let f = rw e at h in cc
+        ran p h (inr le) l = let f = none p le l in cc
 
-        asleep : (p place : ℕ) → get_or marked p false ≡ true → get_or still p false ≡ false → (p < i) ⊎ (i ≤ p) → p < i + 1 → get_or ((process net p).effect before v) place None ≡ None
+        asleep : (p place : ℕ) → get_or marked p false ≡ true → get_or still p false ≡ false → (p < i) ⊎ (i ≤ p) → p < j → get_or ((process net p).effect before v) place None ≡ None
         asleep p place h f (inl less) l = R.asleep p place less h f
-        asleep p place h f (inr le) l = let e : p ≡ i = omega (arith, le, l) in let was = R.rest p le in cc
+        asleep p place h f (inr le) l = let was = R.rest p le in let none_there = none p le l in cc
+
+    -- on to the next one that isn't combinational
+    pub next_running : ((p : ℕ) → get_or marked p false ≡ true → IsCombinational net p → ⊥) → (next : ℕ) → IsNext net i next → AreRunning net before v marked entries next still
+    next_running clocked next N = some_unmarked next N.later (none_between net still (λ p h. clocked p (R.fewer p h)) i next N)
 
     -- the i-th has run, and the others' entries stay
     pub one_ran : (entries' : ℕ → List (Option ℕ)) → entries' i ≡ (process net i).effect before v → ((p : ℕ) → (p ≡ i → ⊥) → entries' p ≡ entries p) → get_or still i false ≡ true

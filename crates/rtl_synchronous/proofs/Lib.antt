@@ -5,6 +5,7 @@ pub mod Edges
 pub mod Alike
 pub mod Marking
 pub mod Taking
+pub mod Whole
 pub mod Sweeping
 pub mod Together
 pub mod Replaced

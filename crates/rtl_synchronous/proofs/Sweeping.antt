@@ -9,7 +9,7 @@ use Rattle.rtl_model.specs.simulation.Elaborated.{IsElaborated}
 use Rattle.rtl_model.specs.simulation.Accepted.{IsAccepted, Feeds}
 use Rattle.rtl_model.proofs.simulation.Faultless.{faultless}
 use Rattle.rtl_synchronous.specs.Running.{IsSettled, IsWritten}
-use Rattle.rtl_synchronous.specs.Marks.{Marks, Follows, AreBelow, HasNoMark}
+use Rattle.rtl_synchronous.specs.Marks.{Marks, Follows, AreBelow, AreUnmarked, HasNoMark}
 use Rattle.rtl_synchronous.specs.Scheduled.{IsSchedule, wakes_by_rank}
 use Rattle.rtl_synchronous.specs.Steps.{IsSwept, IsCombinationallyDriven}
 use Rattle.rtl_synchronous.proofs.Settling.{each_run_settles}
@@ -60,12 +60,13 @@ module _ (net : Netlist) (order : List ℕ) (readers clocked : List (List ℕ)) 
         by (inr differs) = let h = M.followed n k differs (follows n k l ((faultless net A).reads_wake (at k) n (at_rank k l) reads)) in cc
 
     module _ (from : ℕ) (v w : List ℕ) (dirty : List Bool) (I : IsSweeping net order from v w dirty) where
-      pub sweeping_skip : get_or dirty from false ≡ false → IsSweeping net order (from + 1) v w dirty
-      sweeping_skip none = record { each_net = I.each_net; each_rank = I.each_rank; clean = I.clean; ahead = λ k h. ahead k h (cases_eq k from); on_others = I.on_others }
+      -- none of the next ranks is marked
+      pub sweeping_skip : (next : ℕ) → AreUnmarked dirty from next → IsSweeping net order next v w dirty
+      sweeping_skip next none = record { each_net = I.each_net; each_rank = I.each_rank; clean = I.clean; ahead = λ k h. ahead k h (cases_lt k next); on_others = I.on_others }
         where
-          ahead : (k : ℕ) → get_or dirty k false ≡ true → (k ≡ from) ⊎ (k ≡ from → ⊥) → from + 1 ≤ k
-          ahead k h (inl e) = let f = rw e at h in cc
-          ahead k h (inr ne) = let l = I.ahead k h in omega arith
+          ahead : (k : ℕ) → get_or dirty k false ≡ true → (k < next) ⊎ (next ≤ k) → next ≤ k
+          ahead k h (inl less) = let f = none k (I.ahead k h) less in cc
+          ahead k h (inr le) = le
 
       pub sweeping_run : (w' : List ℕ) (dirty' : List Bool) → from < length order → IsWritten net (at from) w w'
           → Marks readers (λ n. Contains (process net (at from)).drives n) w w' (set dirty from false) dirty' → IsSweeping net order (from + 1) v w' dirty'

@@ -1,5 +1,5 @@
 -- Entries of several processes that are taken over, process by process.
-use Rattle.std.proofs.Common.{◌≡◌, ℕ, ◌+◌, ◌<◌, ◌≤◌, Bool, true, false, List, length, get_or, Option, Some, None, sym, ap, subst, ◌∙◌, arith, ◌⊎◌, inl, inr, ◌==◌}
+use Rattle.std.proofs.Common.{◌≡◌, ℕ, ◌+◌, ◌<◌, ◌≤◌, Bool, true, false, List, length, get_or, Option, Some, None, refl, sym, ap, subst, ◌∙◌, arith, ◌⊎◌, inl, inr, ◌==◌}
 use Rattle.std.specs.List.{list_any}
 use Rattle.std.proofs.lemmas.Bool.{cases_lt, cases_Bool}
 use Rattle.std.proofs.lemmas.List.{get_or_past, get_or_default}
@@ -9,6 +9,7 @@ use Rattle.rtl_model.specs.simulation.Machine.{entry_or}
 use Rattle.rtl_model.specs.simulation.Range.{IsValuation, limit}
 use Rattle.rtl_model.proofs.simulation.Leveled.{Leveled}
 use Rattle.rtl_model.proofs.simulation.Range.{entry_or_below}
+use Rattle.rtl_synchronous.specs.Marks.{AreUnmarked}
 use Rattle.rtl_synchronous.specs.Running.{TakesOver}
 use Rattle.rtl_synchronous.specs.Steps.{AllTakeOver}
 use Rattle.rtl_synchronous.proofs.Settling.{one_process}
@@ -20,19 +21,31 @@ pub record AreTaking (net : Netlist) (marked : List Bool) (entries : ℕ → Lis
       → get_or w (target net p place) 0 ≡ entry_or (get_or (entries p) place None) (get_or v (target net p place) 0)
   pub others : (n : ℕ) → ((p place : ℕ) → p < i → get_or marked p false ≡ true → HasPlace net p place → target net p place ≡ n → ⊥) → get_or w n 0 ≡ get_or v n 0
 
+pub none_taken : (net : Netlist) (marked : List Bool) (entries : ℕ → List (Option ℕ)) (v : List ℕ) → AreTaking net marked entries 0 v v
+none_taken net marked entries v = record { each_net = refl; taken = λ p place l. absurd (omega (arith, l)); others = λ n free. refl }
+
+-- what isn't marked up to one place and on to the next isn't up to that
+pub off_to : (marked : List Bool) (i j : ℕ) → ((k : ℕ) → k < i → get_or marked k false ≡ false) → AreUnmarked marked i j → (k : ℕ) → k < j → get_or marked k false ≡ false
+off_to marked i j off none k l = by (cases_lt k i)
+  where
+    by : (k < i) ⊎ (i ≤ k) → get_or marked k false ≡ false
+    by (inl less) = off k less
+    by (inr le) = none k le l
+
 module _ (net : Netlist) (L : Leveled net) (marked : List Bool) (entries : ℕ → List (Option ℕ)) where
   module _ (i : ℕ) (v w : List ℕ) (T : AreTaking net marked entries i v w) where
-    pub one_skipped : get_or marked i false ≡ false → AreTaking net marked entries (i + 1) v w
-    one_skipped none = record {
+    -- none of the next ones is marked
+    pub some_skipped : (j : ℕ) → i ≤ j → AreUnmarked marked i j → AreTaking net marked entries j v w
+    some_skipped j later none = record {
       each_net = T.each_net;
       taken = λ p place l m h. taken p place l m h (cases_lt p i);
-      others = λ n free. T.others n (λ p place l. free p place (omega arith));
+      others = λ n free. T.others n (λ p place l. free p place (omega (arith, l, later)));
     }
       where
-        taken : (p place : ℕ) → p < i + 1 → get_or marked p false ≡ true → HasPlace net p place → (p < i) ⊎ (i ≤ p)
+        taken : (p place : ℕ) → p < j → get_or marked p false ≡ true → HasPlace net p place → (p < i) ⊎ (i ≤ p)
             → get_or w (target net p place) 0 ≡ entry_or (get_or (entries p) place None) (get_or v (target net p place) 0)
         taken p place l m h (inl less) = T.taken p place less m h
-        taken p place l m h (inr le) = let e : p ≡ i = omega arith in let f = rw e at m in cc
+        taken p place l m h (inr le) = let f = none p le l in cc
 
     pub one_taken : (w' : List ℕ) → get_or marked i false ≡ true → TakesOver (process net i).drives (entries i) w w' → AreTaking net marked entries (i + 1) v w'
     one_taken w' mark O = record {

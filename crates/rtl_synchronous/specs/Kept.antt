@@ -1,5 +1,5 @@
 -- What holds of every machine.
-use Rattle.std.specs.Prelude.{◌≡◌, ℕ, Bool, List, length, slice_index}
+use Rattle.std.specs.Prelude.{◌≡◌, ℕ, Bool, List, length, map, slice_index}
 use Rattle.rtl_model.specs.bodies.Types.{ElementType}
 use Rattle.rtl_model.specs.nets.FlatNetlist.{FlatProcess, IsInRange}
 use Rattle.rtl_model.specs.nets.Wiring.{IsConnected}
@@ -16,7 +16,7 @@ use Rattle.rtl_net.specs.Nets.{NetlistView, flat}
 use Rattle.rtl_synchronous.specs.declared.schedule.Schedule.{Schedule}
 use Rattle.rtl_synchronous.specs.Running.{KeepsResets}
 use Rattle.rtl_synchronous.specs.Marks.{HasNoMark}
-use Rattle.rtl_synchronous.specs.Scheduled.{IsSchedule}
+use Rattle.rtl_synchronous.specs.Scheduled.{IsSchedule, is_whole}
 
 -- Each process of an accepted netlist may be run: the k-th body is that of the k-th process, and the k-th run has its room.
 pub record MayRun {E : Type 0} (process : E → FlatProcess) (types : E → List ElementType) (most : E → ℕ)
@@ -28,8 +28,9 @@ pub record MayRun {E : Type 0} (process : E → FlatProcess) (types : E → List
   pub room : HaveRoom most (flat net) bodies runs
 
 -- each process's drivers are cut over the nets that the same combinational processes are sensitive to
-abbrev pub HasCuts : NetlistView → Schedule → Type 0
-HasCuts net schedule = AreCutsOf schedule.readers.of_net (all_targets net.processes) schedule.cuts
+pub record HasCuts (net : NetlistView) (schedule : Schedule) : Type 0 where
+  pub cuts : AreCutsOf schedule.readers.of_net (all_targets net.processes) schedule.cuts
+  pub wholes : schedule.wholes.items ≡ map is_whole schedule.cuts.cuts
 
 -- the values have settled, for some inputs and registers
 pub record IsAtRest (net : Netlist) (before values : List ℕ) : Type 0 where

@@ -1,5 +1,5 @@
 -- Marks of those that are to run, because a net that they are sensitive to has changed (IEEE 1076-2008, 14.7.5.3).
-use Rattle.std.specs.Prelude.{◌≡◌, ℕ, ◌+◌, ◌<◌, ◌⊎◌, Bool, false, List, [], length, slice_index, slice_index_or, IsTrue, Contains}
+use Rattle.std.specs.Prelude.{◌≡◌, ℕ, ◌+◌, ◌<◌, ◌≤◌, ◌⊎◌, Bool, false, List, [], length, slice_index, slice_index_or, IsTrue, Contains}
 
 -- Of an index: for each net the numbers of those that are sensitive to it.
 module _ (index : List (List ℕ)) where
@@ -28,3 +28,14 @@ pub record IsOfRun (first len net : ℕ) : Type 0 where
 -- none is marked
 abbrev pub HasNoMark : List Bool → Type 0
 HasNoMark marks = (k : ℕ) → slice_index_or marks k false ≡ false
+
+-- none of the places from this one on and before an end is marked
+abbrev pub AreUnmarked : List Bool → (from end : ℕ) → Type 0
+AreUnmarked marks from end = (k : ℕ) → from ≤ k → k < end → slice_index_or marks k false ≡ false
+
+-- the first marked place from this one on and before an end, or the end
+pub record IsNextMark (marks : List Bool) (from end next : ℕ) : Type 0 where
+  pub later : from ≤ next
+  pub within : next ≤ end
+  pub unmarked : AreUnmarked marks from next
+  pub marked : next < end → IsTrue (slice_index_or marks next false)

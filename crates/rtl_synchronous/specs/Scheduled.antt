@@ -1,12 +1,13 @@
 -- The order in which a moment's processes are run, and who is sensitive to which net (IEEE 1076-2008, 14.7.5.3).
 use Rattle.std.specs.Option.{is_some}
-use Rattle.std.specs.Prelude.{◌≡◌, ℕ, ◌<◌, ◌≤◌, Bool, false, not, All, List, [], length, map, slice_index, slice_index_or, Contains, Option, Some, None, IsSome, if◌then◌else◌}
+use Rattle.std.specs.Prelude.{◌≡◌, ℕ, ◌+◌, ◌<◌, ◌≤◌, ◌==◌, Bool, false, not, All, List, [], length, map, slice_index, slice_index_or, Contains, Option, Some, None, IsSome, if◌then◌else◌}
 use Rattle.vhdl_values.specs.Edges.{has_edge}
 use Rattle.vhdl_values.specs.Scalar.{value_of_code}
 use Rattle.rtl_model.specs.simulation.Netlist.{Netlist, Process, process, IsCombinational, Clocked}
 use Rattle.rtl_model.specs.simulation.Accepted.{Feeds}
 use Rattle.rtl_model.specs.simulation.Levels.{is_clocked}
 use Rattle.rtl_kernel.specs.wakes.Woken.{IsIndex}
+use Rattle.rtl_net_layout.specs.declared.cuts.Cut.{Cut}
 use Rattle.rtl_net_facts.specs.declared.kinds.ProcessKind.{ProcessKind}
 use Rattle.rtl_net_facts.specs.declared.kinds.ProcessKind.TheVariants as k
 use Rattle.rtl_synchronous.specs.declared.awaited.ClockEdge.{ClockEdge}
@@ -32,6 +33,11 @@ pub record IsSchedule (net : Netlist) (order : List ℕ) (readers clocked : List
   pub readers_are : IsIndex (wakes_by_rank net order) readers
   pub clocked_are : IsIndex (map clocked_wakes net.processes) clocked
 
+-- ---- by cuts
+
+abbrev pub is_whole : List Cut → Bool
+is_whole cuts = length cuts == 1
+
 -- ---- by edges
 
 abbrev pub unless_reset : Option ℕ → ClockEdge → Option ClockEdge
@@ -52,6 +58,18 @@ pub record AreEdges (net : Netlist) (edges : List (Option ClockEdge)) : Type 0 w
 abbrev pub IsAsleep : Option ClockEdge → (before now : List ℕ) → Type 0
 IsAsleep None before now = ⊥
 IsAsleep (Some e) before now = has_edge e.edge (value_of_code (slice_index before e.clock)) (value_of_code (slice_index now e.clock)) ≡ false
+
+-- ---- by number
+
+-- the next process from this one on that isn't combinational, or the end
+pub record IsNext (net : Netlist) (from next : ℕ) : Type 0 where
+  pub later : from ≤ next
+  pub within : next ≤ length net.processes
+  pub between : (p : ℕ) → from ≤ p → p < next → IsCombinational net p
+
+pub record AreNexts (net : Netlist) (nexts : List ℕ) : Type 0 where
+  pub each_process : length nexts ≡ length net.processes + 1
+  pub each : (p : ℕ) → p ≤ length net.processes → IsNext net p (slice_index nexts p)
 
 -- ---- by levels
 

@@ -4,7 +4,7 @@ ghost use Rattle.std.specs.Prelude.{◌≡◌, ℕ, ◌<◌, ⊤, false, length,
 ghost use Rattle.rtl_model.specs.nets.FlatNetlist.{process_at};
 ghost use Rattle.rtl_model.specs.simulation.Accepted.{IsAccepted};
 ghost use Rattle.rtl_model.specs.simulation.Elaborated.{IsElaborated};
-ghost use Rattle.rtl_model.specs.simulation.Netlist.{process, target, HasPlace};
+ghost use Rattle.rtl_model.specs.simulation.Netlist.{process, target, HasPlace, IsCombinational};
 ghost use Rattle.rtl_model.specs.simulation.Range.{IsValuation, limit};
 ghost use Rattle.rtl_eval.specs.Runs.{IsOf};
 ghost use Rattle.rtl_kernel.specs.drivers.Transactions.{no_outcome};
@@ -13,11 +13,12 @@ ghost use Rattle.rtl_net.specs.Nets.{flat};
 ghost use Rattle.rtl_net.specs.Core.{core};
 ghost use Rattle.rtl_synchronous.specs.Kept.{HasCuts, MayRun};
 ghost use Rattle.rtl_synchronous.specs.Marks.{AreBelow, HasNoMark, Marks};
-ghost use Rattle.rtl_synchronous.specs.Scheduled.{AreEdges};
+ghost use Rattle.rtl_synchronous.specs.Scheduled.{AreEdges, AreNexts};
 ghost use Rattle.rtl_synchronous.specs.Steps.{AllTakeOver, HaveRun};
 
 use crate::awaited::{ClockEdge, is_asleep};
-use crate::running::{Row, run, take_over};
+use crate::entries::take_over;
+use crate::running::run;
 use crate::schedule::Schedule;
 use rtl_eval::{Drives, Exec};
 use rtl_net::Net;
@@ -28,6 +29,7 @@ pub fn run_marked<E: Exec>(
     net: &Net,
     bodies: &[E],
     edges: &[Option<ClockEdge>],
+    nexts: &[usize],
     marked: &mut Vec<bool>,
     before: &[u8],
     values: &[u8],
@@ -35,6 +37,8 @@ pub fn run_marked<E: Exec>(
 )
     requires may { MayRun E.process E.types E.most net.now bodies.now runs.old.items }
     requires edges { AreEdges (core net.now) edges.now }
+    requires nexts { AreNexts (core net.now) nexts.now }
+    requires clocked { (p : ℕ) → IsTrue (slice_index_or marked.old.items p false) → IsCombinational (core net.now) p → ⊥ }
     requires before { IsValuation (core net.now) before.now }
     requires values { IsValuation (core net.now) values.now }
     requires each_process { length marked.old.items ≡ length net.now.processes }
@@ -42,7 +46,8 @@ pub fn run_marked<E: Exec>(
     ensures each_process { length marked.new.items ≡ length marked.old.items }
     ensures ran { HaveRun (core net.now) before.now values.now marked.old.items marked.new.items (λ p. (slice_index_or runs.new.items p no_outcome).entries) }
 {
-    for process in 0..marked.len() {
+    let mut process = nexts[0];
+    while process < marked.len() {
         if marked[process] {
             if is_asleep(edges[process], before, values) {
                 marked[process] = false;
@@ -50,6 +55,7 @@ pub fn run_marked<E: Exec>(
                 run(net, bodies, process, before, values, runs);
             }
         }
+        process = nexts[process + 1];
     }
 }
 
@@ -71,6 +77,8 @@ pub fn take_marked(
         → slice_index_or (slice_index_or runs.now p no_outcome).entries place None ≡ Some x → x < limit (core net.now) (target (core net.now) p place) }
     requires in_range { IsValuation (core net.now) values.old.items }
     requires cuts { HasCuts net.now schedule.now }
+    requires nexts { AreNexts (core net.now) schedule.now.nexts.items }
+    requires clocked { (p : ℕ) → IsTrue (slice_index_or marked.old.items p false) → IsCombinational (core net.now) p → ⊥ }
     requires each_net { length (wakers_of schedule.now.readers) ≡ length values.old.items }
     requires below { AreBelow (wakers_of schedule.now.readers) (length dirty.old.items) }
     ensures taken { AllTakeOver (core net.now) marked.old.items (λ p. (slice_index_or runs.now p no_outcome).entries) values.old.items values.new.items }
@@ -79,16 +87,13 @@ pub fn take_marked(
     ensures each_process { length marked.new.items ≡ length marked.old.items }
     ensures none_marked { HasNoMark marked.new.items }
 {
-    let processes = net.processes();
-    for process in 0..marked.len() {
+    let nexts = schedule.nexts.as_slice();
+    let mut process = nexts[0];
+    while process < marked.len() {
         if marked[process] {
             marked[process] = false;
-            let row = Row {
-                drives: &processes[process].drives,
-                cuts: schedule.cuts.of(process),
-                numbers: schedule.cuts.numbers(process),
-            };
-            take_over(row, &runs[process], &schedule.readers, values, dirty);
+            take_over(net, schedule, process, &runs[process], values, dirty);
         }
+        process = nexts[process + 1];
     }
 }

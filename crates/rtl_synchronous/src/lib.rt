@@ -8,17 +8,21 @@
 
 mod awaited;
 mod clocked;
+mod entries;
 mod initial;
 mod inputs;
 pub mod laws;
 mod machine;
 mod marks;
+mod nexts;
 mod order;
 mod outcomes;
 mod running;
 mod schedule;
+mod search;
 mod slices;
 mod sweep;
 mod targets;
+mod wholes;
 
 pub use machine::Machine;

@@ -12,6 +12,7 @@ ghost use Rattle.rtl_synchronous.specs.Steps.{IsSwept};
 
 use crate::running::settle;
 use crate::schedule::Schedule;
+use crate::search::next_marked;
 use rtl_eval::{Drives, Exec};
 use rtl_net::Net;
 
@@ -38,11 +39,15 @@ pub fn sweep<E: Exec>(
     ensures each_rank { length dirty.new.items ≡ length dirty.old.items }
     ensures none_dirty { HasNoMark dirty.new.items }
 {
-    for rank in 0..schedule.order.len() {
+    let mut rank = 0;
+    while rank < dirty.len() {
         if dirty[rank] {
             dirty[rank] = false;
             let process = schedule.order[rank];
             settle(net, bodies, schedule, process, runs, values, dirty);
+            rank += 1;
+        } else {
+            rank = next_marked(dirty, rank + 1);
         }
     }
 }

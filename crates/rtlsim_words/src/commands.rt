@@ -8,52 +8,174 @@ static ORDERS: [&str; 2] = ["forward", "reverse"];
 
 /// What is told of a command.
 struct Told {
-    kind: CommandKind,
     name: &'static str,
     about: &'static str,
     usage: &'static str,
     example: &'static str,
+    /// What it takes beside the design.
+    takes: &'static [Part],
 }
 
-/// A command.
-#[derive(Clone, Copy)]
-enum CommandKind {
-    Eval,
-    Net,
-    Check,
-    Run,
+/// What a command takes: an operand, or an option.
+struct Part {
+    form: Form,
+    action: ArgAction,
+    name: &'static str,
+    help: &'static str,
+    /// The options that may not be given beside it.
+    without: &'static [&'static str],
 }
+
+/// How a part is given.
+#[derive(Clone, Copy)]
+enum Form {
+    /// An operand that has to be there.
+    Operand,
+    /// Any number of operands.
+    Operands,
+    /// An option that is given or not.
+    Flag,
+    /// An option that names a file.
+    File,
+    /// An option that names an order.
+    Order,
+}
+
+/// What each command takes first.
+static OF_DESIGN: [Part; 4] = [
+    Part {
+        form: Form::Operand,
+        action: ArgAction::Set,
+        name: "FILE",
+        help: "The source, or @ for the standard input",
+        without: &[],
+    },
+    Part {
+        form: Form::Operand,
+        action: ArgAction::Set,
+        name: "TOP",
+        help: "The entity at the top",
+        without: &[],
+    },
+    Part {
+        form: Form::File,
+        action: ArgAction::Append,
+        name: "with",
+        help: "A file whose text stands before the source's; any number",
+        without: &[],
+    },
+    Part {
+        form: Form::Flag,
+        action: ArgAction::SetTrue,
+        name: "explain",
+        help: "Explains each fault: its place, the line, and what to do",
+        without: &[],
+    },
+];
+
+/// What `eval` takes beside the design.
+const OF_EVAL: &[Part] = &[Part {
+    form: Form::Operands,
+    action: ArgAction::Append,
+    name: "NAME=VALUE",
+    help: "An input's value, of the characters U X 0 1 Z W L H -",
+    without: &[],
+}];
+
+/// What `check` takes beside the design.
+const OF_CHECK: &[Part] = &[
+    Part {
+        form: Form::Flag,
+        action: ArgAction::SetTrue,
+        name: "dot",
+        help: "Draws the levels of one that is, as a graph of Graphviz",
+        without: &[],
+    },
+    Part {
+        form: Form::Flag,
+        action: ArgAction::SetTrue,
+        name: "json",
+        help: "Prints the verdict as an object of JSON, for tools",
+        without: &["dot"],
+    },
+];
+
+/// What `run` takes beside the design.
+const OF_RUN: &[Part] = &[
+    Part {
+        form: Form::Operand,
+        action: ArgAction::Set,
+        name: "STIM",
+        help: "The stimulus, or @ for the standard input",
+        without: &[],
+    },
+    Part {
+        form: Form::Flag,
+        action: ArgAction::SetTrue,
+        name: "event",
+        help: "Simulates by events alone, without the checker",
+        without: &[],
+    },
+    Part {
+        form: Form::Order,
+        action: ArgAction::Set,
+        name: "order",
+        help: "The order in which resumed processes run",
+        without: &[],
+    },
+    Part {
+        form: Form::Flag,
+        action: ArgAction::SetTrue,
+        name: "levels",
+        help: "Runs each process once a moment, in order of level",
+        without: &["event", "order"],
+    },
+    Part {
+        form: Form::File,
+        action: ArgAction::Set,
+        name: "expect",
+        help: "Compares with the values that FILE expects",
+        without: &[],
+    },
+    Part {
+        form: Form::Flag,
+        action: ArgAction::SetTrue,
+        name: "progress",
+        help: "Shows how far the run is",
+        without: &[],
+    },
+];
 
 /// The commands, in the order of the help.
 static COMMANDS: [Told; 4] = [
     Told {
-        kind: CommandKind::Eval,
         name: "eval",
         about: "Prints the outputs under these inputs",
         usage: "rtlsim eval [--with <FILE>]... [--explain] <FILE> <TOP> [NAME=VALUE]...",
         example: "Example: rtlsim eval and2.vhd and2 a=L b=H",
+        takes: OF_EVAL,
     },
     Told {
-        kind: CommandKind::Net,
         name: "net",
         about: "Prints the nets and what drives each",
         usage: "rtlsim net [--with <FILE>]... [--explain] <FILE> <TOP>",
         example: "Example: rtlsim net counter.vhd counter",
+        takes: &[],
     },
     Told {
-        kind: CommandKind::Check,
         name: "check",
         about: "Says whether the design is sure to settle",
         usage: "rtlsim check [--dot | --json] [--with <FILE>]... [--explain] <FILE> <TOP>",
         example: "Example: rtlsim check counter.vhd counter",
+        takes: OF_CHECK,
     },
     Told {
-        kind: CommandKind::Run,
         name: "run",
         about: "Prints the trace under a stimulus",
         usage: "rtlsim run [--event] [--order <ORDER>] [--expect <FILE>] [--progress] [--with <FILE>]... [--explain] <FILE> <TOP> <STIM>
        rtlsim run --levels [--expect <FILE>] [--progress] [--with <FILE>]... [--explain] <FILE> <TOP> <STIM>",
         example: "Example: rtlsim run counter.vhd counter counter.stim",
+        takes: OF_RUN,
     },
 ];
 
@@ -96,7 +218,8 @@ fn add_commands(alloc: Global, commands: &mut Vec<Command<'_>>) -> Result<(), Al
 /// A command.
 fn told_command<'a>(alloc: Global, told: &Told) -> Result<Command<'a>, AllocError> {
     let mut args = Vec::new(alloc);
-    add_args(alloc, told.kind, &mut args)?;
+    add_parts(alloc, &OF_DESIGN, &mut args)?;
+    add_parts(alloc, told.takes, &mut args)?;
     Command::new(alloc, told.name)
         .about(told.about)
         .override_usage(told.usage)
@@ -104,124 +227,38 @@ fn told_command<'a>(alloc: Global, told: &Told) -> Result<Command<'a>, AllocErro
         .args(args)
 }
 
-/// Adds what a command takes: first the design, which each has.
-fn add_args(alloc: Global, kind: CommandKind, args: &mut Vec<Arg<'_>>) -> Result<(), AllocError> {
-    add_of_design(alloc, args)?;
-    match kind {
-        CommandKind::Eval => add(args, sets(alloc)),
-        CommandKind::Net => Ok(()),
-        CommandKind::Check => add_of_check(alloc, args),
-        CommandKind::Run => add_of_run(alloc, args),
+/// Adds these parts.
+fn add_parts(alloc: Global, parts: &[Part], args: &mut Vec<Arg<'_>>) -> Result<(), AllocError> {
+    for part in parts {
+        add(args, told_part(alloc, part)?)?;
     }
+    Ok(())
 }
 
-/// Adds what each command takes.
-fn add_of_design(alloc: Global, args: &mut Vec<Arg<'_>>) -> Result<(), AllocError> {
-    add(
-        args,
-        operand(alloc, "FILE", "The source, or @ for the standard input"),
-    )?;
-    add(args, operand(alloc, "TOP", "The entity at the top"))?;
-    add(args, with_files(alloc))?;
-    let help = "Explains each fault: its place, the line, and what to do";
-    add(args, flag(alloc, "explain", help))
+/// A part.
+fn told_part<'a>(alloc: Global, part: &Part) -> Result<Arg<'a>, AllocError> {
+    let arg = Arg::new(alloc, part.name)
+        .help(part.help)
+        .action(part.action);
+    let mut arg = formed(arg, part);
+    for other in part.without {
+        arg = arg.conflicts_with(other)?;
+    }
+    Ok(arg)
 }
 
-/// Adds what a check takes beside the design.
-fn add_of_check(alloc: Global, args: &mut Vec<Arg<'_>>) -> Result<(), AllocError> {
-    let help = "Draws the levels of one that is, as a graph of Graphviz";
-    add(args, flag(alloc, "dot", help))?;
-    add(args, json(alloc)?)
-}
-
-/// Adds what a run takes beside the design.
-fn add_of_run(alloc: Global, args: &mut Vec<Arg<'_>>) -> Result<(), AllocError> {
-    add(
-        args,
-        operand(alloc, "STIM", "The stimulus, or @ for the standard input"),
-    )?;
-    add(
-        args,
-        flag(
-            alloc,
-            "event",
-            "Simulates by events alone, without the checker",
-        ),
-    )?;
-    add(args, order(alloc))?;
-    add(args, levels(alloc)?)?;
-    add(
-        args,
-        file(
-            alloc,
-            "expect",
-            "Compares with the values that FILE expects",
-        ),
-    )?;
-    add(args, flag(alloc, "progress", "Shows how far the run is"))
+/// The same as it is given.
+fn formed<'a>(arg: Arg<'a>, part: &Part) -> Arg<'a> {
+    match part.form {
+        Form::Operand => arg.required(true),
+        Form::Operands => arg.num_args(0..),
+        Form::Flag => arg.long(part.name),
+        Form::File => arg.long(part.name).value_name("FILE"),
+        Form::Order => arg.long(part.name).value_parser(ORDERS.as_slice()),
+    }
 }
 
 /// Adds one more.
 fn add<T: Drop>(list: &mut Vec<T>, item: T) -> Result<(), AllocError> {
     Ok(list.push(item)?)
-}
-
-/// An operand that has to be there.
-fn operand<'a>(alloc: Global, name: &'a str, help: &'a str) -> Arg<'a> {
-    Arg::new(alloc, name)
-        .help(help)
-        .required(true)
-        .action(ArgAction::Set)
-}
-
-/// An option that is given or not.
-fn flag<'a>(alloc: Global, name: &'a str, help: &'a str) -> Arg<'a> {
-    Arg::new(alloc, name)
-        .long(name)
-        .help(help)
-        .action(ArgAction::SetTrue)
-}
-
-/// An option that names a file.
-fn file<'a>(alloc: Global, name: &'a str, help: &'a str) -> Arg<'a> {
-    Arg::new(alloc, name)
-        .long(name)
-        .value_name("FILE")
-        .help(help)
-}
-
-/// The files beside the source.
-fn with_files<'a>(alloc: Global) -> Arg<'a> {
-    let help = "A file whose text stands before the source's; any number";
-    file(alloc, "with", help).action(ArgAction::Append)
-}
-
-/// The values of inputs.
-fn sets<'a>(alloc: Global) -> Arg<'a> {
-    Arg::new(alloc, "NAME=VALUE")
-        .help("An input's value, of the characters U X 0 1 Z W L H -")
-        .num_args(0..)
-        .action(ArgAction::Append)
-}
-
-/// The verdict for tools.
-fn json<'a>(alloc: Global) -> Result<Arg<'a>, AllocError> {
-    let help = "Prints the verdict as an object of JSON, for tools";
-    flag(alloc, "json", help).conflicts_with("dot")
-}
-
-/// The order of a run.
-fn order<'a>(alloc: Global) -> Arg<'a> {
-    Arg::new(alloc, "order")
-        .long("order")
-        .help("The order in which resumed processes run")
-        .value_parser(ORDERS.as_slice())
-}
-
-/// The run by levels.
-fn levels<'a>(alloc: Global) -> Result<Arg<'a>, AllocError> {
-    let help = "Runs each process once a moment, in order of level";
-    flag(alloc, "levels", help)
-        .conflicts_with("event")?
-        .conflicts_with("order")
 }

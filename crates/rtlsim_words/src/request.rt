@@ -4,7 +4,6 @@ ghost use Rattle.std.specs.Prelude.{◌≡◌};
 ghost use Rattle.rtlsim_words.specs.declared.request.Refused.TheVariants.{NoMemory};
 
 use std::alloc::{AllocError, AllocFailed};
-use thiserror::Error;
 
 /// In which order the resumed processes of a simulation cycle run.
 #[derive(Clone, Copy)]
@@ -61,13 +60,11 @@ pub enum Request<'a> {
 }
 
 /// Why the words are refused.
-#[derive(Debug, Drop, Error)]
+#[derive(Drop)]
 pub enum Refused {
     /// They are no command; the text says why, or is the help that was asked for.
-    #[error("{0}")]
     Words(String),
     /// Memory was refused.
-    #[error("out of memory")]
     NoMemory,
 }
 

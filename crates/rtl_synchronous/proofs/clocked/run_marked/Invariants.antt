@@ -1,4 +1,4 @@
-use Rattle.std.proofs.Common.{get_or}
+use Rattle.std.proofs.Common.{◌-◌, ◌≤◌, get_or, length}
 use Rattle.rtl_kernel.specs.drivers.Transactions.{no_outcome}
 use Rattle.rtl_net.specs.Core.{core}
 use Rattle.rtl_synchronous.specs.Kept.{MayRun}
@@ -9,4 +9,8 @@ abbrev pub invariant-loop-process : goal.invariant-loop-process
 invariant-loop-process g l = record {
   may : MayRun g.E.Exec.process g.E.Exec.types g.E.Exec.most l.net l.bodies l.runs.items;
   running : AreRunning (core l.net) l.before l.values l.initial.marked.items (λ p. (get_or l.runs.items p no_outcome).entries) l.process l.marked.items;
+  within : l.process ≤ length l.marked.items;
 }
+
+abbrev pub decreases-loop-process : goal.decreases-loop-process
+decreases-loop-process g l = length l.nexts - l.process

@@ -1,4 +1,4 @@
-use Rattle.std.proofs.Common.{◌≡◌, ℕ, ◌<◌, ◌≤◌, false, get_or, length}
+use Rattle.std.proofs.Common.{◌≡◌, ℕ, ◌-◌, ◌<◌, ◌≤◌, false, get_or, length}
 use Rattle.std.specs.Prelude.{⊤}
 use Rattle.rtl_model.specs.simulation.Range.{IsValuation}
 use Rattle.rtl_kernel.specs.drivers.Transactions.{no_outcome}
@@ -16,4 +16,8 @@ invariant-loop-process l = record {
   each_process : length l.marked.items ≡ length l.initial.marked.items;
   off : (k : ℕ) → k < l.process → get_or l.marked.items k false ≡ false;
   rest : (k : ℕ) → l.process ≤ k → get_or l.marked.items k false ≡ get_or l.initial.marked.items k false;
+  within : l.process ≤ length l.marked.items;
 }
+
+abbrev pub decreases-loop-process : goal.decreases-loop-process
+decreases-loop-process l = length l.nexts - l.process

@@ -1,21 +1,29 @@
-use Rattle.std.proofs.Common.{◌≡◌, ◌<◌, ◌≤◌, ℕ, false, Contains, length, get_or, set, sym, subst, ◌∙◌, arith}
+use Rattle.std.proofs.Common.{◌≡◌, ◌<◌, ◌≤◌, ℕ, false, Contains, length, get_or, set, refl, sym, subst, ◌∙◌, arith}
 use Rattle.std.proofs.lemmas.List.{get_or_default, length-set}
 use Rattle.rtl_model.specs.simulation.Netlist.{process}
 use Rattle.rtl_kernel.specs.wakes.Woken.{wakers_of}
 use Rattle.rtl_net.specs.Core.{core}
 use Rattle.rtl_synchronous.specs.Marks.{Marks}
 use Rattle.rtl_synchronous.specs.Running.{IsWritten}
-use Rattle.rtl_synchronous.proofs.Sweeping.{all_settled, readers_below, sweeping_run, sweeping_skip}
+use Rattle.rtl_synchronous.proofs.Awake.{unmarked_more}
+use Rattle.rtl_synchronous.proofs.Sweeping.{all_settled, none_left, readers_below, sweeping_run, sweeping_skip}
 use Rattle.rtl_synchronous.proofs.Wired.{elaborated}
 use Rattle.rtl_synchronous.proofs.sweep.sweep.Goals as goal
-use Rattle.rtl_synchronous.proofs.sweep.sweep.Goals.{then-index, else-index}
+
+pub loop-rank-init : goal.loop-rank-init
+loop-rank-init g c = record {
+  may = c.requires.may;
+  in_range = c.requires.in_range;
+  sweeping = record { each_net = refl; each_rank = c.requires.each_rank; clean = c.requires.clean; ahead = λ k h. omega arith; on_others = λ n free. refl };
+  within = omega arith;
+}
 
 pub settle-requires-clause-below : goal.settle-requires-clause-below
 settle-requires-clause-below g c =
     readers_below _ _ _ _ c.requires.schedule _ (length-set c.loop-rank.dirty.items c.loop-rank.rank false ∙ c.loop-rank.invariant.sweeping.each_rank)
 
-pub loop-rank-preserved : goal.loop-rank-preserved
-loop-rank-preserved g c =
+pub loop-rank-preserved-then-index : goal.loop-rank-preserved-then-index
+loop-rank-preserved-then-index g c =
     let net = core c.args.net.now in
     let order = c.args.schedule.now.order.items in
     let readers = wakers_of c.args.schedule.now.readers in
@@ -28,30 +36,50 @@ loop-rank-preserved g c =
     let S = c.requires.schedule in
     let E = elaborated _ _ _ _ _ _ c.requires.may in
     let A = c.requires.may.accepted in
-    let within : rank < length order = omega (arith, c.loop-rank-test.true, c.len-rank-end.ensures, c.args.schedule.now.order.ok.0) in
-    let there : rank < length dirty = omega (arith, within, I.sweeping.each_rank) in
-    elim c.if-index.branch [
-      | then-index w ↦ rw (w.runs-is, w.values-is, w.dirty-is)
-          (let w' = w.settle.new.values.items in
-          let dirty' = w.settle.new.marks.items in
-          let is : w.index-process.result.now ≡ get_or order rank 0 = w.index-process.ensures ∙ get_or_default order rank w.index-process.result.now 0 within in
-          record {
-            may = w.settle.ensures.may;
-            in_range = w.settle.ensures.in_range;
-            sweeping = sweeping_run net order readers clocked S E A rank v u dirty I.sweeping w' dirty' within
-                (subst (λ (p : ℕ). IsWritten net p u w') is w.settle.ensures.written)
-                (subst (λ (p : ℕ). Marks readers (Contains (process net p).drives) u w' (set dirty rank false) dirty') is w.settle.ensures.marks);
-          })
-      | else-index w ↦ rw (w.runs-is, w.values-is, w.dirty-is) (record {
-        may = I.may;
-        in_range = I.in_range;
-        sweeping = sweeping_skip net order readers clocked S E A rank v u dirty I.sweeping (get_or_default dirty rank false c.index.result.now there ∙ sym c.index.ensures ∙ w.if-index.false);
-      })
-    ]
+    let there : rank < length dirty = omega (arith, c.loop-rank-test.true, c.len.ensures, c.loop-rank.dirty.ok.0) in
+    let within : rank < length order = omega (arith, there, I.sweeping.each_rank) in
+    let w' = c.settle.new.values.items in
+    let dirty' = c.settle.new.marks.items in
+    let is : c.index-process.result.now ≡ get_or order rank 0 = c.index-process.ensures ∙ get_or_default order rank c.index-process.result.now 0 within in
+    let M = c.settle.ensures.marks in
+    let many = M.as_many in
+    record {
+      may = c.settle.ensures.may;
+      in_range = c.settle.ensures.in_range;
+      sweeping = sweeping_run net order readers clocked S E A rank v u dirty I.sweeping w' dirty' within
+          (subst (λ (p : ℕ). IsWritten net p u w') is c.settle.ensures.written)
+          (subst (λ (p : ℕ). Marks readers (Contains (process net p).drives) u w' (set dirty rank false) dirty') is M);
+      within = omega (arith, there, many, length-set dirty rank false);
+    }
+
+pub loop-rank-preserved : goal.loop-rank-preserved
+loop-rank-preserved g c =
+    let net = core c.args.net.now in
+    let order = c.args.schedule.now.order.items in
+    let rank = c.loop-rank.rank in
+    let dirty = c.loop-rank.dirty.items in
+    let I = c.loop-rank.invariant in
+    let there : rank < length dirty = omega (arith, c.loop-rank-test.true, c.len.ensures, c.loop-rank.dirty.ok.0) in
+    let N = rw (c.deref.ensures.value) at c.next_marked-rank.ensures in
+    let none = get_or_default dirty rank false c.index.result.now there ∙ sym c.index.ensures ∙ c.if-index.false in
+    record {
+      may = I.may;
+      in_range = I.in_range;
+      sweeping = sweeping_skip net order (wakers_of c.args.schedule.now.readers) (wakers_of c.args.schedule.now.clocked) c.requires.schedule (elaborated _ _ _ _ _ _ c.requires.may) c.requires.may.accepted
+          rank c.args.values.now.items c.loop-rank.values.items dirty I.sweeping c.next_marked-rank.result (unmarked_more dirty rank c.next_marked-rank.result none N.unmarked);
+      within = N.within;
+    }
 
 pub returns-clause-swept : goal.returns-clause-swept
 returns-clause-swept g c =
-    let order = c.args.schedule.now.order in
-    let done : length order.items ≤ c.loop-rank.rank = omega (arith, c.loop-rank-test.false, c.len-rank-end.ensures, order.ok.0) in
-    all_settled (core c.args.net.now) order.items (wakers_of c.args.schedule.now.readers) (wakers_of c.args.schedule.now.clocked) c.requires.schedule
-    (elaborated _ _ _ _ _ _ c.requires.may) c.requires.may.accepted c.loop-rank.rank c.args.values.now.items c.loop-rank.values.items c.loop-rank.dirty.items c.loop-rank.invariant.sweeping done
+    let I = c.loop-rank.invariant in
+    let done : length c.args.schedule.now.order.items ≤ c.loop-rank.rank = omega (arith, c.loop-rank-test.false, c.len.ensures, c.loop-rank.dirty.ok.0, I.sweeping.each_rank) in
+    all_settled (core c.args.net.now) c.args.schedule.now.order.items (wakers_of c.args.schedule.now.readers) (wakers_of c.args.schedule.now.clocked) c.requires.schedule
+    (elaborated _ _ _ _ _ _ c.requires.may) c.requires.may.accepted c.loop-rank.rank c.args.values.now.items c.loop-rank.values.items c.loop-rank.dirty.items I.sweeping done
+
+pub returns-clause-none_dirty : goal.returns-clause-none_dirty
+returns-clause-none_dirty g c =
+    let I = c.loop-rank.invariant in
+    let done : length c.args.schedule.now.order.items ≤ c.loop-rank.rank = omega (arith, c.loop-rank-test.false, c.len.ensures, c.loop-rank.dirty.ok.0, I.sweeping.each_rank) in
+    none_left (core c.args.net.now) c.args.schedule.now.order.items (wakers_of c.args.schedule.now.readers) (wakers_of c.args.schedule.now.clocked) c.requires.schedule
+    (elaborated _ _ _ _ _ _ c.requires.may) c.requires.may.accepted c.loop-rank.rank c.args.values.now.items c.loop-rank.values.items c.loop-rank.dirty.items I.sweeping done

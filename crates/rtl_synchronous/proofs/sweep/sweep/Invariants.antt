@@ -1,3 +1,4 @@
+use Rattle.std.proofs.Common.{◌-◌, ◌≤◌, length}
 use Rattle.rtl_model.specs.simulation.Range.{IsValuation}
 use Rattle.rtl_net.specs.Core.{core}
 use Rattle.rtl_synchronous.specs.Kept.{MayRun}
@@ -9,4 +10,8 @@ invariant-loop-rank g l = record {
   may : MayRun g.E.Exec.process g.E.Exec.types g.E.Exec.most l.net l.bodies l.runs.items;
   in_range : IsValuation (core l.net) l.values.items;
   sweeping : IsSweeping (core l.net) l.schedule.order.items l.rank l.initial.values.items l.values.items l.dirty.items;
+  within : l.rank ≤ length l.dirty.items;
 }
+
+abbrev pub decreases-loop-rank : goal.decreases-loop-rank
+decreases-loop-rank g l = length l.dirty.items - l.rank

@@ -92,6 +92,7 @@ invariant_of-result g c =
           c.come_to_rest.ensures.none_dirty c.come_to_rest.ensures.none_woken),
       c.in_ok-schedule.ensures.cuts,
       c.in_ok-schedule.ensures.edges,
+      c.in_ok-schedule.ensures.nexts,
     )
 
 pub new-requires-clause-accepted : goal.new-requires-clause-accepted
@@ -108,6 +109,9 @@ come_to_rest-requires-clause-cuts g c = c.in_ok-schedule.ensures.cuts
 
 pub come_to_rest-requires-clause-edges : goal.come_to_rest-requires-clause-edges
 come_to_rest-requires-clause-edges g c = c.in_ok-schedule.ensures.edges
+
+pub come_to_rest-requires-clause-nexts : goal.come_to_rest-requires-clause-nexts
+come_to_rest-requires-clause-nexts g c = c.in_ok-schedule.ensures.nexts
 
 pub come_to_rest-requires-clause-each_rank : goal.come_to_rest-requires-clause-each_rank
 come_to_rest-requires-clause-each_rank g c = omega (arith, c.in_ok-dirty.ensures.len, c.len.ensures, c.in_ok-dirty.dirty.ok.0, c.in_ok-schedule.schedule.order.ok.0)

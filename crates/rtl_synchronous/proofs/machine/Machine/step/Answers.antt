@@ -35,6 +35,9 @@ come_to_rest-requires-clause-cuts g c = c.self.invariant.1
 pub come_to_rest-requires-clause-edges : goal.come_to_rest-requires-clause-edges
 come_to_rest-requires-clause-edges g c = c.self.invariant.2
 
+pub come_to_rest-requires-clause-nexts : goal.come_to_rest-requires-clause-nexts
+come_to_rest-requires-clause-nexts g c = c.self.invariant.3
+
 pub set_inputs-requires : goal.set_inputs-requires
 set_inputs-requires g c =
     let K = c.self.invariant.0 in
@@ -54,6 +57,7 @@ invariant_of-self g c =
           c.come_to_rest.ensures.none_dirty c.come_to_rest.ensures.none_woken,
       c.self.invariant.1,
       c.self.invariant.2,
+      c.self.invariant.3,
     )
 
 pub returns-clause-step : goal.returns-clause-step

@@ -39,11 +39,17 @@ new-requires-3 c =
     let each = c.in_ok-readers.ensures.each_net ∙ many in
     rw (c.in_ok-targets.ensures, c.of_net.ensures.value, each, c.processes.ensures) (all_targets_there net R)
 
+pub wholes_of-requires : goal.wholes_of-requires
+wholes_of-requires c = c.count.ensures ∙ sym c.in_ok-cuts.ensures.each_process
+
 pub returns-clause-cuts : goal.returns-clause-cuts
 returns-clause-cuts c =
     let net = c.args.net.now in
-    subst (λ (ns : List ℕ). AreCutsOf ns (all_targets net.processes) c.in_ok-cuts.cuts) c.of_net.ensures.value
-    (subst (λ (ts : List (List ℕ)). AreCutsOf c.of_net.result.now ts c.in_ok-cuts.cuts) (c.in_ok-targets.ensures ∙ ap all_targets c.processes.ensures) c.in_ok-cuts.ensures)
+    record {
+      cuts = subst (λ (ns : List ℕ). AreCutsOf ns (all_targets net.processes) c.in_ok-cuts.cuts) c.of_net.ensures.value
+          (subst (λ (ts : List (List ℕ)). AreCutsOf c.of_net.result.now ts c.in_ok-cuts.cuts) (c.in_ok-targets.ensures ∙ ap all_targets c.processes.ensures) c.in_ok-cuts.ensures);
+      wholes = c.in_ok-wholes.ensures;
+    }
 
 pub returns-clause-schedule : goal.returns-clause-schedule
 returns-clause-schedule c =
@@ -74,3 +80,12 @@ returns-clause-each_reader c = length-map c.in_ok-readers.readers.of_net _ ∙ c
 
 pub returns-clause-each_clocked : goal.returns-clause-each_clocked
 returns-clause-each_clocked c = length-map c.in_ok-clocked.clocked.of_net _ ∙ c.in_ok-clocked.ensures.each_net ∙ c.deref-3.ensures.len ∙ c.in_ok-together.ensures.len ∙ c.nets.ensures.count
+
+pub nexts_of-requires-clause-accepted : goal.nexts_of-requires-clause-accepted
+nexts_of-requires-clause-accepted c = c.requires.accepted
+
+pub nexts_of-requires-clause-levels : goal.nexts_of-requires-clause-levels
+nexts_of-requires-clause-levels c = c.requires.levels
+
+pub returns-clause-nexts : goal.returns-clause-nexts
+returns-clause-nexts c = c.in_ok-nexts.ensures

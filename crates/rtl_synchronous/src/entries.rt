@@ -1,0 +1,135 @@
+//! Entries that are taken over.
+
+ghost use Rattle.std.specs.Prelude.{◌≡◌, ℕ, ◌+◌, ◌<◌, ◌≤◌, length, slice_index_or, All, Contains, None, IsSome};
+ghost use Rattle.rtl_model.specs.nets.FlatNetlist.{process_at};
+ghost use Rattle.rtl_model.specs.simulation.Accepted.{IsAccepted};
+ghost use Rattle.rtl_model.specs.simulation.Elaborated.{IsElaborated};
+ghost use Rattle.rtl_model.specs.simulation.Netlist.{process};
+ghost use Rattle.rtl_eval.specs.Runs.{IsOf};
+ghost use Rattle.rtl_kernel.specs.drivers.Transactions.{nets_of};
+ghost use Rattle.rtl_kernel.specs.drivers.Updates.{IsTaken};
+ghost use Rattle.rtl_kernel.specs.wakes.Woken.{AreDifferent, wakers_of};
+ghost use Rattle.rtl_net.specs.Core.{core};
+ghost use Rattle.rtl_net.specs.Nets.{flat};
+ghost use Rattle.rtl_synchronous.specs.Kept.{HasCuts};
+ghost use Rattle.rtl_synchronous.specs.Marks.{AreBelow, Marks};
+ghost use Rattle.rtl_synchronous.specs.Pieces.{AreCutFor, IsPiece};
+ghost use Rattle.rtl_synchronous.specs.Running.{TakesOver, TakesPart, at_targets};
+
+use crate::marks::set_run;
+use crate::schedule::Schedule;
+use rtl_eval::{Drives, Span};
+use rtl_net::{Driver, Net};
+
+/// Gives the nets of a process's drivers the entries that a run has left, and marks what is sensitive to those that change.
+pub fn take_over(
+    net: &Net,
+    schedule: &Schedule,
+    number: usize,
+    outcome: &Drives,
+    values: &mut Vec<u8>,
+    marks: &mut Vec<bool>,
+)
+    requires elaborated { IsElaborated (core net.now) }
+    requires accepted { IsAccepted (core net.now) }
+    requires there { number < length net.now.processes }
+    requires own { IsOf (process_at (flat net.now) number) outcome.now }
+    requires each_value { length values.old.items ≡ length (core net.now).start }
+    requires cuts { HasCuts net.now schedule.now }
+    requires each_net { length (wakers_of schedule.now.readers) ≡ length values.old.items }
+    requires below { AreBelow (wakers_of schedule.now.readers) (length marks.old.items) }
+    ensures taken { TakesOver (process (core net.now) number).drives outcome.now.entries values.old.items values.new.items }
+    ensures marks { Marks (wakers_of schedule.now.readers) (Contains (process (core net.now) number).drives) values.old.items values.new.items marks.old.items marks.new.items }
+{
+    let processes = net.processes();
+    let drives = processes[number].drives.as_slice();
+    take_spans(drives, schedule, number, outcome, values, marks);
+}
+
+/// The same where these are the drivers.
+fn take_spans(
+    drives: &[Driver],
+    schedule: &Schedule,
+    number: usize,
+    outcome: &Drives,
+    values: &mut Vec<u8>,
+    marks: &mut Vec<bool>,
+)
+    requires each_driver { length drives.now ≡ length outcome.now.entries }
+    requires there { All (λ n. n < length values.old.items) (nets_of drives.now) }
+    requires once { AreDifferent (nets_of drives.now) }
+    requires cuts { AreCutFor schedule.now (nets_of drives.now) number }
+    requires each_net { length (wakers_of schedule.now.readers) ≡ length values.old.items }
+    requires below { AreBelow (wakers_of schedule.now.readers) (length marks.old.items) }
+    ensures taken { TakesOver (nets_of drives.now) outcome.now.entries values.old.items values.new.items }
+    ensures marks { Marks (wakers_of schedule.now.readers) (Contains (nets_of drives.now)) values.old.items values.new.items marks.old.items marks.new.items }
+{
+    for span in outcome.assigned() {
+        take_span(drives, schedule, number, outcome, *span, values, marks);
+    }
+}
+
+/// The same at the places of a span, each of which has an entry, piece by piece.
+fn take_span(
+    drives: &[Driver],
+    schedule: &Schedule,
+    number: usize,
+    outcome: &Drives,
+    span: Span,
+    values: &mut Vec<u8>,
+    marks: &mut Vec<bool>,
+)
+    requires each_driver { length drives.now ≡ length outcome.now.entries }
+    requires within { span.first + span.len ≤ length outcome.now.entries }
+    requires all { (k : ℕ) → k < span.len → IsSome (slice_index_or outcome.now.entries (span.first + k) None) }
+    requires there { All (λ n. n < length values.old.items) (nets_of drives.now) }
+    requires once { AreDifferent (nets_of drives.now) }
+    requires cuts { AreCutFor schedule.now (nets_of drives.now) number }
+    requires each_net { length (wakers_of schedule.now.readers) ≡ length values.old.items }
+    requires below { AreBelow (wakers_of schedule.now.readers) (length marks.old.items) }
+    ensures taking { TakesPart (nets_of drives.now) outcome.now.entries values.old.items values.new.items }
+    ensures taken { (k : ℕ) → k < span.len → IsTaken outcome.now.entries (at_targets (nets_of drives.now) values.new.items) (span.first + k) }
+    ensures marks { Marks (wakers_of schedule.now.readers) (Contains (nets_of drives.now)) values.old.items values.new.items marks.old.items marks.new.items }
+{
+    let end = span.first + span.len;
+    let mut first = span.first;
+    while first < end {
+        let beyond = piece_end(drives, schedule, number, first, end);
+        let piece = Span {
+            first,
+            len: beyond - first,
+        };
+        let assigned = outcome.values(piece);
+        set_run(
+            &schedule.readers,
+            drives[first].net,
+            assigned,
+            values,
+            marks,
+        );
+        first = beyond;
+    }
+}
+
+/// Where the piece of the cut that has this place ends, or the end if it comes first.
+fn piece_end(
+    drives: &[Driver],
+    schedule: &Schedule,
+    number: usize,
+    first: usize,
+    end: usize,
+) -> usize
+    requires cuts { AreCutFor schedule.now (nets_of drives.now) number }
+    requires some { first < end }
+    requires within { end ≤ length drives.now }
+    ensures { IsPiece schedule.now.readers.of_net (nets_of drives.now) first end result }
+{
+    let _drivers = drives.len();
+    if schedule.wholes[number] {
+        return end;
+    }
+    let cuts = schedule.cuts.of(number);
+    let numbers = schedule.cuts.numbers(number);
+    let cut = cuts[numbers[first]];
+    end.min(cut.place + cut.len)
+}
