@@ -105,6 +105,12 @@ part_copied {X = X} first xs new ys within is =
     ∙ ap (λ (n : ℕ). put_mid first n xs ys) back
     ∙ part_is_set first (length ys) xs ys refl within
 
+pub part_made : {X : Type 0} (first len : ℕ) (xs new ys : List X) → length ys ≡ len → first + len ≤ length xs → new ≡ ys
+    → put_mid first (first + len - first) xs new ≡ sets xs first ys
+part_made {X = X} first len xs new ys many within is =
+    let back : first + len - first ≡ len = omega arith in
+    ap (put_mid first (first + len - first) xs) is ∙ ap (λ (n : ℕ). put_mid first n xs ys) back ∙ part_is_set first len xs ys many within
+
 -- the places from `first` on are marked, and have new values
 pub set_all : (first : ℕ) (marks : List Bool) (values new : List ℕ) → first + length new ≤ length values
     → entries_of (sets marks first (replicate (length new) true)) (sets values first new) ≡ written first new (entries_of marks values)

@@ -2,6 +2,7 @@ pub mod Counting
 pub mod Listing
 pub mod Assigned
 pub mod Marking
+pub mod Lanes
 pub mod Places
 pub mod Reading
 pub mod Chains
@@ -9,6 +10,7 @@ pub mod Values
 pub mod Weights
 pub mod OneByOne
 pub mod Codes
+pub mod Edged
 pub mod Doing
 pub mod StatementWeights
 pub mod Taking

@@ -3,6 +3,7 @@ pub mod Runs
 pub mod Spans
 pub mod Marked
 pub mod Tracked
+pub mod Combined
 pub mod Evaluations
 pub mod Running
 pub mod Seeing

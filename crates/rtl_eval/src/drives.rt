@@ -6,6 +6,7 @@ ghost use Rattle.rtl_eval.specs.Tracked.{entry, AreAssigned, LieWithin};
 
 mod stacks;
 
+use crate::making::{Copied, Maker};
 use crate::marks::Marks;
 use crate::spans::Span;
 use std::alloc::{AllocError, Global};
@@ -160,43 +161,45 @@ impl Drives {
             return;
         }
         let _drivers = self.drivers();
-        if self.are_free(first, values.len()) {
-            self.set_free(first, values);
+        let span = Span {
+            first,
+            len: values.len(),
+        };
+        if self.are_free(span) {
+            self.set_free(span, &Copied { codes: values });
         } else {
             self.set_each(first, values);
         }
     }
 
-    /// Whether no driver at these places has an entry.
+    /// Whether no driver at the places of a span has an entry.
     #[tactic(auto, using(crate::proofs::Assigned::as_many_entries))]
-    fn are_free(&mut self, first: usize, len: usize) -> bool
-        requires { first + len ≤ length self.old.entries }
+    pub(crate) fn are_free(&mut self, span: Span) -> bool
+        requires { span.first + span.len ≤ length self.old.entries }
         ensures stay { self.new ≡ self.old }
-        ensures free { result ≡ true → (k : ℕ) → k < len → entry self.old.entries (first + k) ≡ None }
+        ensures free { result ≡ true → (k : ℕ) → k < span.len → entry self.old.entries (span.first + k) ≡ None }
     {
         if self.assigned.is_empty() {
             return true;
         }
-        self.marks.are_free(first, len)
+        self.marks.are_free(span.first, span.len)
     }
 
-    /// Gives the drivers at the places from `first` on, none of which has an entry, these.
+    /// Gives the drivers at the places of a span, none of which has an entry, the codes that are made.
     #[tactic(auto, using(crate::proofs::Assigned::as_many_entries))]
-    fn set_free(&mut self, first: usize, values: &[u8])
-        requires some { 0 < length values.now }
-        requires there { (k : ℕ) → k < length values.now → first + k < length self.old.entries }
-        requires free { (k : ℕ) → k < length values.now → entry self.old.entries (first + k) ≡ None }
-        ensures { self.new ≡ record (self.old) { entries = written first values.now self.old.entries } }
+    pub(crate) fn set_free<M: Maker>(&mut self, span: Span, maker: &M)
+        requires some { 0 < span.len }
+        requires many { length (M.made maker.now) ≡ span.len }
+        requires there { span.first + span.len ≤ length self.old.entries }
+        requires free { (k : ℕ) → k < span.len → entry self.old.entries (span.first + k) ≡ None }
+        ensures { self.new ≡ record (self.old) { entries = written span.first (M.made maker.now) self.old.entries } }
     {
         let _drivers = self.drivers();
-        let end = first + values.len();
+        let end = span.first + span.len;
         let are_first = self.assigned.is_empty();
-        self.marks.fill(first, values.len(), are_first);
-        self.values[first..end].copy_from_slice(values);
-        self.assigned.push_reserved(Span {
-            first,
-            len: values.len(),
-        });
+        self.marks.fill(span.first, span.len, are_first);
+        maker.make(&mut self.values[span.first..end]);
+        self.assigned.push_reserved(span);
     }
 
     /// Gives the drivers at the places from `first` on these entries, one by one.

@@ -1,6 +1,7 @@
 //! Tests.
 
 ghost use Rattle.std.specs.Prelude.{◌≡◌};
+ghost use Rattle.vhdl_values.specs.Edges.{has_edge};
 ghost use Rattle.vhdl_values.specs.Scalar.{value_of_code};
 ghost use Rattle.rtl_model.specs.bodies.Body as bodies;
 ghost use Rattle.rtl_model.specs.bodies.Values.{value_of};
@@ -14,7 +15,7 @@ use crate::evaluated::{are_same, evaluate};
 use crate::expressions::value;
 use crate::seen::SeenValues;
 use rtl_net::{Test, TestLink, Value};
-use vhdl_values::{Edge, Logic, Nine, edge};
+use vhdl_values::{Edge, Logic, Nine};
 
 /// Whether a test is met.
 #[cycle(condition)]
@@ -72,11 +73,24 @@ fn has_edge(kind: Edge, net: u32, seen: SeenValues<'_>) -> bool
     requires { Within (seen_of seen) (λ scope. HasType scope.nets nine_valued net) }
     ensures { result ≡ spec.edge_at (seen_of seen.entry) kind net }
 {
-    edge(
+    is_edge(
         kind,
-        nine(seen.previous[net as usize]),
-        nine(seen.current[net as usize]),
+        seen.previous[net as usize],
+        seen.current[net as usize],
     )
+}
+
+/// Whether a change from the value of one code to that of another is an edge: the codes of 0 and L differ in one bit alone, and
+/// so do those of 1 and H.
+pub fn is_edge(kind: Edge, before: u8, now: u8) -> bool
+    ensures { result ≡ has_edge kind (value_of_code before) (value_of_code now) }
+{
+    match kind {
+        Edge::Rising => (before & 0xFB == 2) & (now & 0xFB == 3),
+        Edge::Falling => (before & 0xFB == 3) & (now & 0xFB == 2),
+        Edge::To1 => (before != 3) & (now == 3),
+        Edge::To0 => (before != 2) & (now == 2),
+    }
 }
 
 /// The value of a code.

@@ -1,5 +1,4 @@
 pub mod Leading
-pub mod Lanes
 pub mod Copied
 pub mod Places
 pub mod Lengths

@@ -1,5 +1,5 @@
 pub mod Instructions
-pub mod Combined
+pub mod Operated
 pub mod Ends
 pub mod Bodies
 pub mod Written

@@ -5,7 +5,6 @@
 #![tactic(auto)]
 
 mod code;
-mod combining;
 mod compiling;
 mod giving;
 mod instruction;

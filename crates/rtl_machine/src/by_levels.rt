@@ -62,15 +62,15 @@ pub fn run_levels_watched<V: Watch, W: Sink>(
     net.is_elaborated();
     let admitted = admit(alloc, net, text)?;
     let bodies = codes(alloc, net)?;
+    let Ok(mut agenda) = Wheel::new(alloc, SLOTS) else {
+        return Err(MachineFault::Memory);
+    };
     let stepping = Stepping {
         net,
         bodies: &bodies,
         levels: &admitted.levels,
         stimulus: &admitted.stimulus,
         bound: admitted.bound,
-    };
-    let Ok(mut agenda) = Wheel::new(alloc, SLOTS) else {
-        return Err(MachineFault::Memory);
     };
     stepping.trace(alloc, &mut agenda, watch, out)
 }

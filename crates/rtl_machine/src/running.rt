@@ -75,14 +75,14 @@ pub fn run_watched<P: Pick, V: Watch, W: Sink>(
     net.is_elaborated();
     let admitted = admit(alloc, net, text)?;
     let bodies = codes(alloc, net)?;
+    let Ok(mut agenda) = Wheel::new(alloc, SLOTS) else {
+        return Err(MachineFault::Memory);
+    };
     let simulation = Simulation {
         net,
         bodies: &bodies,
         stimulus: &admitted.stimulus,
         limit: admitted.bound,
-    };
-    let Ok(mut agenda) = Wheel::new(alloc, SLOTS) else {
-        return Err(MachineFault::Memory);
     };
     trace_watched(alloc, &simulation, &mut agenda, pick, watch, out)
 }

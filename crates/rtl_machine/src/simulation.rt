@@ -29,7 +29,7 @@ use std::alloc::Global;
 
 /// What is simulated: a netlist, whose k-th process the k-th body runs, under a stimulus, with so many delta cycles at most in
 /// each moment.
-#[derive_where(Clone, Copy)]
+#[derive(Drop)]
 pub struct Simulation<'a, E: Exec> {
     pub net: &'a Net,
     pub bodies: &'a [E],

@@ -28,7 +28,7 @@ use std::alloc::Global;
 
 /// What is simulated: an accepted netlist, whose k-th process the k-th body runs and the k-th level is of, under a stimulus without a race,
 /// with the bound of its report.
-#[derive_where(Clone, Copy)]
+#[derive(Drop)]
 pub struct Stepping<'a, E: Exec> {
     pub net: &'a Net,
     pub bodies: &'a [E],

@@ -5,7 +5,6 @@ ghost use Rattle.rtl_machine.specs.declared.summary.RunFault.TheVariants.{Memory
 
 use rtl_vcd::VcdFault;
 use std::alloc::AllocError;
-use thiserror::Error;
 
 /// What a simulation came to.
 #[derive(Clone, Copy)]
@@ -17,16 +16,13 @@ pub struct Summary {
 }
 
 /// Why a simulation did not come to its end.
-#[derive(Clone, Copy, Debug, Error)]
+#[derive(Clone, Copy)]
 pub enum RunFault {
     /// A driver is still active after as many delta cycles as are allowed, at this time in ns.
-    #[error("no settling at {time} ns")]
     NoSettling { time: u64 },
     /// Memory was refused.
-    #[error("out of memory")]
     Memory,
     /// The output took less than the whole text.
-    #[error("the output failed")]
     Output,
 }
 

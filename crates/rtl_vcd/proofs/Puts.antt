@@ -3,7 +3,7 @@ use Rattle.std.proofs.Common.{◌≡◌, ℕ, ◌+◌, ◌-◌, ◌<◌, ◌≤�
 use Rattle.std.specs.Prelude.{◌==◌}
 use Rattle.std.specs.Str.{bytes_eq}
 use Rattle.std.proofs.lemmas.Bool.{cases_Bool, eqb-true, eqb-false}
-use Rattle.std.proofs.lemmas.List.{append_cancel_left, length-append, length-map, length-take-le, map-append, take-append-drop, take-take, take-append-le, take_at, take_all, take_more, take_more_set, take-set, length-set}
+use Rattle.std.proofs.lemmas.List.{append_cancel_left, length-append, length-map, length-take-le, map-append, take-append-drop, take_at, take_all, take_more, take_more_set, length-set}
 use Rattle.std.proofs.lemmas.Simd.{take_more_put_chunk}
 use lib.Lanes.{put_chunk}
 use Rattle.rtl_vcd.specs.Values.{character}
@@ -68,11 +68,6 @@ pub put_all : (room put : List ℕ) (from n : ℕ) (old new : List ℕ) (p : Boo
 put_all room put from n old new p long e is =
     subst (λ xs. IsPut room put from xs new p) (take_all n old (omega (arith, long, e)))
     (subst (λ ys. IsPut room put from (take n old) ys p) (take_all n new (omega (arith, e))) is)
-
--- as many as there are
-pub put_whole : (room put : List ℕ) (from n : ℕ) (old new : List ℕ) (p : Bool) → length old ≡ length new → length new ≡ n
-    → IsPut room put from (take n old) (take n new) p → IsPut room put from old new p
-put_whole room put from n old new p long e is = put_all room put from n old new p long (sym e) is
 
 -- lanes that are stored behind the first bytes
 pub stored : {lanes chars : List ℕ} (room : List ℕ) (from n : ℕ) → lanes ≡ chars → length chars ≡ n → from + n ≤ length room

@@ -1,6 +1,6 @@
 //! Values as characters, so many at a time.
 
-ghost use Rattle.std.specs.Prelude.{◌≡◌, ◌+◌, ◌≤◌, ◌++◌, not, true, length, map, take, drop};
+ghost use Rattle.std.specs.Prelude.{◌≡◌, ◌+◌, ◌≤◌, ◌++◌, not, true, length, map, take};
 ghost use Rattle.std.specs.Str.{bytes_eq};
 ghost use lib.Lanes.{Each1};
 ghost use Rattle.rtl_vcd.specs.Values.{character};
@@ -23,12 +23,13 @@ pub(crate) fn put_lanes<const LANES: usize>(
     ensures { IsPut room.old room.new from (take LANES old.now) (take LANES new.now) result }
 {
     if are_digits::<LANES>(new) {
-        let is_other = are_other_digits::<LANES>(old, new);
+        let differ = are_different::<LANES>(plain_lanes::<LANES>(old), plain_lanes::<LANES>(new));
         put_digits::<LANES>(room, from, new);
-        return is_other;
+        return differ;
     }
-    let is_other = are_other_lanes::<LANES>(old, new);
-    put_characters::<LANES>(room, from, new);
+    let text = characters::<LANES>(new);
+    let is_other = are_different::<LANES>(characters::<LANES>(old), text);
+    text.copy_to_slice(&mut room[from..]);
     is_other
 }
 
@@ -48,17 +49,6 @@ fn plain_lanes<const LANES: usize>(values: &[u8]) -> Simd<u8, LANES>
     ensures { result ≡ map plain (take LANES values.now) }
 {
     Simd::<u8, LANES>::from_slice(values) & Simd::splat(0xFB)
-}
-
-/// Whether the first so many values print otherwise in `new`, where they print as digits, than in `old`.
-fn are_other_digits<const LANES: usize>(old: &[u8], new: &[u8]) -> bool
-    requires most { LANES ≤ 64 }
-    requires before { LANES ≤ length old.now }
-    requires after { LANES ≤ length new.now }
-    requires digits { Each1 PrintsDigit (take LANES new.now) }
-    ensures { result ≡ not (bytes_eq (map character (take LANES old.now)) (map character (take LANES new.now))) }
-{
-    are_different::<LANES>(plain_lanes::<LANES>(old), plain_lanes::<LANES>(new))
 }
 
 /// Puts the digits that the first so many values print as behind the first bytes of the room.
@@ -84,26 +74,6 @@ fn characters<const LANES: usize>(values: &[u8]) -> Simd<u8, LANES>
     let are_open = lanes.simd_eq(Simd::splat(4));
     let others = are_open.select(Simd::splat(b'z'), Simd::splat(b'x'));
     are_digits.select(digits, others)
-}
-
-/// Puts what the first so many values print as behind the first bytes of the room.
-fn put_characters<const LANES: usize>(room: &mut [u8], from: usize, values: &[u8])
-    requires there { LANES ≤ length values.now }
-    requires room { from + LANES ≤ length room.old }
-    ensures text { take (from + LANES) room.new ≡ take from room.old ++ map character (take LANES values.now) }
-    ensures long { length room.new ≡ length room.old }
-{
-    characters::<LANES>(values).copy_to_slice(&mut room[from..]);
-}
-
-/// Whether the first so many values print otherwise in `new` than in `old`.
-fn are_other_lanes<const LANES: usize>(old: &[u8], new: &[u8]) -> bool
-    requires most { LANES ≤ 64 }
-    requires before { LANES ≤ length old.now }
-    requires after { LANES ≤ length new.now }
-    ensures { result ≡ not (bytes_eq (map character (take LANES old.now)) (map character (take LANES new.now))) }
-{
-    are_different::<LANES>(characters::<LANES>(old), characters::<LANES>(new))
 }
 
 /// Whether a lane of one is another than that of the other.

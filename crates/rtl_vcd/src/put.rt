@@ -21,99 +21,7 @@ pub(crate) fn put_run(room: &mut [u8], from: usize, old: &[u8], new: &[u8]) -> b
     requires room { from + length new.now ≤ length room.old }
     ensures { IsPut room.old room.new from old.now new.now result }
 {
-    if new.len() == 8 {
-        return put_exactly::<8>(room, from, old, new);
-    }
-    if new.len() == 32 {
-        return put_exactly::<32>(room, from, old, new);
-    }
-    if new.len() == 4 {
-        return put_exactly::<4>(room, from, old, new);
-    }
-    if new.len() == 16 {
-        return put_exactly::<16>(room, from, old, new);
-    }
-    put_mixed(room, from, old, new)
-}
-
-/// The same of exactly so many values.
-fn put_exactly<const LANES: usize>(room: &mut [u8], from: usize, old: &[u8], new: &[u8]) -> bool
-    requires most { LANES ≤ 64 }
-    requires as_many { length old.now ≡ length new.now }
-    requires many { length new.now ≡ LANES }
-    requires room { from + LANES ≤ length room.old }
-    ensures { IsPut room.old room.new from old.now new.now result }
-{
-    put_lanes::<LANES>(room, from, old, new)
-}
-
-/// The same, part by part.
-fn put_mixed(room: &mut [u8], from: usize, old: &[u8], new: &[u8]) -> bool
-    requires as_many { length old.now ≡ length new.now }
-    requires room { from + length new.now ≤ length room.old }
-    ensures { IsPut room.old room.new from old.now new.now result }
-{
-    let front = put_front::<32>(room, from, old, new);
-    let done = front.many;
-    if done == new.len() {
-        return front.is_other;
-    }
-    let is_more = put_behind_32(room, from + done, &old[done..], &new[done..]);
-    either(front.is_other, is_more)
-}
-
-/// The same, 32 at a time, or fewer.
-fn put_behind_32(room: &mut [u8], from: usize, old: &[u8], new: &[u8]) -> bool
-    requires as_many { length old.now ≡ length new.now }
-    requires room { from + length new.now ≤ length room.old }
-    ensures { IsPut room.old room.new from old.now new.now result }
-{
-    let front = put_front::<32>(room, from, old, new);
-    let done = front.many;
-    if done == new.len() {
-        return front.is_other;
-    }
-    let is_more = put_below_32(room, from + done, &old[done..], &new[done..]);
-    either(front.is_other, is_more)
-}
-
-/// The same, 16 at a time, or fewer.
-fn put_below_32(room: &mut [u8], from: usize, old: &[u8], new: &[u8]) -> bool
-    requires as_many { length old.now ≡ length new.now }
-    requires room { from + length new.now ≤ length room.old }
-    ensures { IsPut room.old room.new from old.now new.now result }
-{
-    let front = put_front::<16>(room, from, old, new);
-    let done = front.many;
-    if done == new.len() {
-        return front.is_other;
-    }
-    let is_more = put_below_16(room, from + done, &old[done..], &new[done..]);
-    either(front.is_other, is_more)
-}
-
-/// The same, eight at a time, or fewer.
-fn put_below_16(room: &mut [u8], from: usize, old: &[u8], new: &[u8]) -> bool
-    requires as_many { length old.now ≡ length new.now }
-    requires room { from + length new.now ≤ length room.old }
-    ensures { IsPut room.old room.new from old.now new.now result }
-{
-    let front = put_front::<8>(room, from, old, new);
-    let done = front.many;
-    if done == new.len() {
-        return front.is_other;
-    }
-    let is_more = put_below_8(room, from + done, &old[done..], &new[done..]);
-    either(front.is_other, is_more)
-}
-
-/// The same, four at a time, or fewer.
-fn put_below_8(room: &mut [u8], from: usize, old: &[u8], new: &[u8]) -> bool
-    requires as_many { length old.now ≡ length new.now }
-    requires room { from + length new.now ≤ length room.old }
-    ensures { IsPut room.old room.new from old.now new.now result }
-{
-    let front = put_front::<4>(room, from, old, new);
+    let front = put_front(room, from, old, new);
     let done = front.many;
     if done == new.len() {
         return front.is_other;
@@ -122,23 +30,46 @@ fn put_below_8(room: &mut [u8], from: usize, old: &[u8], new: &[u8]) -> bool
     either(front.is_other, is_more)
 }
 
-/// The same of the first so many values, if there are so many.
-fn put_front<const LANES: usize>(room: &mut [u8], from: usize, old: &[u8], new: &[u8]) -> Front
-    requires most { LANES ≤ 64 }
+/// The same of the first values, as many as are put at once: 64, 32, 16, eight or four, or none where they are fewer.
+fn put_front(room: &mut [u8], from: usize, old: &[u8], new: &[u8]) -> Front
     requires as_many { length old.now ≡ length new.now }
     requires room { from + length new.now ≤ length room.old }
     ensures within { result.many ≤ length new.now }
     ensures front { IsPut room.old room.new from (take result.many old.now) (take result.many new.now) result.is_other }
 {
-    if new.len() < LANES {
+    if new.len() >= 64 {
         return Front {
-            many: 0,
-            is_other: false,
+            many: 64,
+            is_other: put_lanes::<64>(room, from, old, new),
+        };
+    }
+    if new.len() >= 32 {
+        return Front {
+            many: 32,
+            is_other: put_lanes::<32>(room, from, old, new),
+        };
+    }
+    if new.len() >= 16 {
+        return Front {
+            many: 16,
+            is_other: put_lanes::<16>(room, from, old, new),
+        };
+    }
+    if new.len() >= 8 {
+        return Front {
+            many: 8,
+            is_other: put_lanes::<8>(room, from, old, new),
+        };
+    }
+    if new.len() >= 4 {
+        return Front {
+            many: 4,
+            is_other: put_lanes::<4>(room, from, old, new),
         };
     }
     Front {
-        many: LANES,
-        is_other: put_lanes::<LANES>(room, from, old, new),
+        many: 0,
+        is_other: false,
     }
 }
 

@@ -78,7 +78,11 @@ impl Run {
         }
         match self.form {
             Form::Single => self.push_single(page, old, new),
-            Form::Several => self.push_several(page, old, new),
+            Form::Several => {
+                let first = self.first as usize;
+                let beyond = first + self.count as usize;
+                page.push_vector(&old[first..beyond], &new[first..beyond], &self.end)
+            }
             Form::Position { digits } => self.push_position(digits, page, old, new),
         }
     }
@@ -115,21 +119,6 @@ impl Run {
         page.push(character(now));
         page.push_end(&self.end);
         true
-    }
-
-    /// Appends the line of a vector in the same way.
-    fn push_several(&self, page: &mut Page, old: &[u8], new: &[u8]) -> bool
-        requires form { self.now.form ≡ f.Several }
-        requires before { LiesAmong (length old.now) self.now }
-        requires after { LiesAmong (length new.now) self.now }
-        requires short { length (spec.elements self.now new.now) ≤ 64 }
-        requires room { length page.old + 77 ≤ PAGE }
-        ensures line { page.new ≡ page.old ++ (if result then (spec.line self.now new.now) else []) }
-        ensures other { result ≡ not (bytes_eq (spec.elements self.now old.now) (spec.elements self.now new.now)) }
-    {
-        let first = self.first as usize;
-        let beyond = first + self.count as usize;
-        page.push_vector(&old[first..beyond], &new[first..beyond], &self.end)
     }
 
     /// Appends the line of a position, in so many binary digits, in the same way.

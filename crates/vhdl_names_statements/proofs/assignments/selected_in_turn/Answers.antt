@@ -1,5 +1,3 @@
-use Rattle.std.proofs.Common.{rules, arith}
-use Rattle.std.proofs.lemmas.Grind.{common_steps}
 use Rattle.std.proofs.Common.{sym}
 use Rattle.vhdl_tree.specs.View as tree
 use Rattle.vhdl_names_types.specs.Views.{sight_view}
@@ -8,6 +6,7 @@ use Rattle.vhdl_names_rules.specs.problems.Choices.{selected_by}
 use Rattle.vhdl_names_rules.specs.problems.Concurrent.{selected, waveforms}
 use Rattle.vhdl_names_rules.proofs.Telling.{told_same, told_left}
 use Rattle.vhdl_names_statements.proofs.steps.Told.{selector_given}
+use Rattle.vhdl_names_statements.proofs.steps.Passing.{told_by}
 use Rattle.vhdl_names_statements.proofs.assignments.selected_in_turn.Goals as goal
 
 pub returns-in_err-by-clause-told : goal.returns-in_err-by-clause-told
@@ -15,7 +14,7 @@ returns-in_err-by-clause-told c =
     let s = sight_view c.args.sight.now in
     let a = tree.selected_assignment_view c.args.assignment.now in
     let h : Tells (selected s a) c.in_err-by.field-0.0 = told_left (selected_by s a.selector) _ c.in_err-by.field-0.0 c.in_err-by.ensures.told in
-    first_of (search rules, grind (arith, common_steps))
+    told_by _ c.in_err-by.field-0.0 _ c.from_residual.result c.from_residual.ensures.1 (λ e p. p) h
 
 pub returns-in_err-alternatives-clause-told : goal.returns-in_err-alternatives-clause-told
 returns-in_err-alternatives-clause-told c =
@@ -23,4 +22,4 @@ returns-in_err-alternatives-clause-told c =
     let a = tree.selected_assignment_view c.args.assignment.now in
     let h : Tells (selected s a) c.in_err-alternatives.field-0.0 =
     told_same _ (selected s a) c.in_err-alternatives.field-0.0 (sym (selector_given s a.selector (λ k. waveforms s k a) _ c.in_ok-by.ensures.given)) c.in_err-alternatives.ensures.told in
-    first_of (search rules, grind (arith, common_steps))
+    told_by _ c.in_err-alternatives.field-0.0 _ c.from_residual-in_err-alternatives.result c.from_residual-in_err-alternatives.ensures.1 (λ e p. p) h

@@ -1,5 +1,4 @@
-use Rattle.std.proofs.Common.{rules, arith, ◌≡◌, ◌≢◌, map, None, Some, IfOk, IfErr, ap, sym, ◌∙◌}
-use Rattle.std.proofs.lemmas.Grind.{common_steps}
+use Rattle.std.proofs.Common.{◌≡◌, ◌≢◌, map, None, Some, IfOk, IfErr, ap, sym, ◌∙◌}
 use Rattle.vhdl_tree.specs.View as tree
 use Rattle.vhdl_names_rules.specs.declared.fault.NameFault.TheVariants.{NoMemory}
 use Rattle.vhdl_names_rules.specs.Rules.{each}
@@ -19,6 +18,7 @@ use Rattle.vhdl_names_statements.specs.steps.Told as told
 use Rattle.vhdl_names_statements.proofs.steps.Told.{on_along}
 use Rattle.vhdl_names_statements.proofs.steps.Assigning.{waveforms_kept}
 use Rattle.vhdl_names_statements.proofs.steps.Covering.{on_given, waveforms_there, selected_by, selected_cover, selected_none}
+use Rattle.vhdl_names_statements.proofs.steps.Passing.{passed_on, told_by}
 use Rattle.vhdl_names_statements.proofs.assignments.selected_parts.Goals as goal
 
 pub returns-in_err-target-clause-told : goal.returns-in_err-target-clause-told
@@ -26,7 +26,7 @@ returns-in_err-target-clause-told c =
     let s = sight_view c.args.sight.now in
     let a = tree.selected_assignment_view c.args.assignment.now in
     let h : Tells (problems.waveforms s c.args.by a) c.in_err-target.field-0.0 = told_left (broken.target s a.target) _ c.in_err-target.field-0.0 c.in_err-target.ensures.told in
-    first_of (search rules, grind (arith, common_steps))
+    told_by _ c.in_err-target.field-0.0 _ c.from_residual.result c.from_residual.ensures.1 (λ e p. p) h
 
 pub returns-in_err-all-clause-given : goal.returns-in_err-all-clause-given
 returns-in_err-all-clause-given c =
@@ -44,7 +44,7 @@ returns-in_err-all-clause-given c =
     (λ x e. ap (each (are.choices s k)) lists ∙ waveforms_there s k a _ c.in_ok-target.ensures.given (views.alternatives_view x) e) in
     let none : c.in_err-all.field-0.0 ≢ NoMemory → steps.parts s k a ≡ None =
     λ n. selected_by s k a _ c.in_ok-target.ensures.given None (ap (λ l. cases.covering k l found) (sym lists) ∙ c.in_err-all.ensures.given found given has n) in
-    first_of (search rules, grind (arith, common_steps))
+    passed_on _ _ c.in_err-all.field-0.0 _ c.from_residual-in_err-all.result c.from_residual-in_err-all.ensures.1 (λ e p. p) none
 
 pub returns-in_err-all-clause-told : goal.returns-in_err-all-clause-told
 returns-in_err-all-clause-told c =
@@ -67,7 +67,7 @@ returns-in_err-all-clause-told c =
     let h : Tells (problems.waveforms s k a) c.in_err-all.field-0.0 =
     selected_cover s k a _ c.in_ok-target.ensures.given c.in_err-all.field-0.0
     (told_same _ _ c.in_err-all.field-0.0 (ap (λ l. covered s k a.at l b) lists) (c.in_err-all.ensures.told b wrong fine has)) in
-    first_of (search rules, grind (arith, common_steps))
+    told_by _ c.in_err-all.field-0.0 _ c.from_residual-in_err-all.result c.from_residual-in_err-all.ensures.1 (λ e p. p) h
 
 pub returns-clause-given : goal.returns-clause-given
 returns-clause-given c =

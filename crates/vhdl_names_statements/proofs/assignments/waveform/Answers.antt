@@ -1,5 +1,3 @@
-use Rattle.std.proofs.Common.{rules, arith}
-use Rattle.std.proofs.lemmas.Grind.{common_steps}
 use Rattle.vhdl_tree.specs.View as tree
 use Rattle.vhdl_names_types.specs.Views.{sight_view}
 use Rattle.vhdl_names_rules.specs.problems.Broken.{Tells}
@@ -8,6 +6,7 @@ use Rattle.vhdl_names_rules.specs.problems.Statements.{assigned}
 use Rattle.vhdl_names_rules.specs.problems.Concurrent.{branch}
 use Rattle.vhdl_names_rules.proofs.Telling.{told_left, told_right}
 use Rattle.vhdl_names_statements.proofs.steps.Assigning.{alone_kept}
+use Rattle.vhdl_names_statements.proofs.steps.Passing.{told_by}
 use Rattle.vhdl_names_statements.proofs.assignments.waveform.Goals as goal
 
 pub returns-in_err-statements-clause-told : goal.returns-in_err-statements-clause-told
@@ -17,7 +16,7 @@ returns-in_err-statements-clause-told c =
     let b = tree.branch_view c.args.item.now in
     let h : Tells (branch s n b) c.in_err-statements.field-0.0 =
     told_left (assigned s n b.value) (condition s b.condition) c.in_err-statements.field-0.0 c.in_err-statements.ensures.told in
-    first_of (search rules, grind (arith, common_steps))
+    told_by _ c.in_err-statements.field-0.0 _ c.from_residual.result c.from_residual.ensures.1 (λ e p. p) h
 
 pub returns-in_err-condition-clause-told : goal.returns-in_err-condition-clause-told
 returns-in_err-condition-clause-told c =
@@ -26,4 +25,4 @@ returns-in_err-condition-clause-told c =
     let b = tree.branch_view c.args.item.now in
     let h : Tells (branch s n b) c.in_err-condition.field-0.0 =
     told_right (assigned s n b.value) (condition s b.condition) c.in_err-condition.field-0.0 (alone_kept s n b.value _ c.in_ok-statements.ensures.given) c.in_err-condition.ensures.told in
-    first_of (search rules, grind (arith, common_steps))
+    told_by _ c.in_err-condition.field-0.0 _ c.from_residual-in_err-condition.result c.from_residual-in_err-condition.ensures.1 (λ e p. p) h

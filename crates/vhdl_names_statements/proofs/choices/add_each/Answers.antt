@@ -1,11 +1,11 @@
-use Rattle.std.proofs.Common.{rules, arith, ◌<◌, length, map}
-use Rattle.std.proofs.lemmas.Grind.{common_steps}
+use Rattle.std.proofs.Common.{arith, ◌<◌, length, map}
 use Rattle.vhdl_tree.specs.View as tree
 use Rattle.vhdl_names_types.specs.Views.{sight_view}
 use Rattle.vhdl_names_rules.specs.problems.Broken.{Tells}
 use Rattle.vhdl_names_units.specs.Once.{names_view}
 use Rattle.vhdl_names_statements.specs.steps.Told as told
 use Rattle.vhdl_names_statements.proofs.steps.Choosing.{next_told, next_left, next_added}
+use Rattle.vhdl_names_statements.proofs.steps.Passing.{told_by}
 use Rattle.vhdl_names_statements.proofs.choices.add_each.Goals as goal
 
 pub returns-in_err-add_written-clause-told : goal.returns-in_err-add_written-clause-told
@@ -17,7 +17,7 @@ returns-in_err-add_written-clause-told c =
     let h : Tells (told.each_once s c.args.selected (names_view c.args.keys.now) (map tree.choice_view xs)) c.in_err-add_written.field-0.0 =
     next_told s c.args.selected xs i c.written-item.result lt c.written-item.is (names_view c.args.keys.now) (names_view c.loop-written.keys) c.in_err-add_written.field-0.0
     c.loop-written.invariant.1 c.in_err-add_written.ensures.told in
-    first_of (search rules, grind (arith, common_steps))
+    told_by _ c.in_err-add_written.field-0.0 _ c.from_residual.result c.from_residual.ensures.1 (λ e p. p) h
 
 pub loop-written-preserved : goal.loop-written-preserved
 loop-written-preserved c =

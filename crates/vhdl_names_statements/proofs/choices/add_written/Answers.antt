@@ -1,5 +1,4 @@
-use Rattle.std.proofs.Common.{rules, arith, sym}
-use Rattle.std.proofs.lemmas.Grind.{common_steps}
+use Rattle.std.proofs.Common.{sym}
 use Rattle.std.specs.Prelude.{IfErr}
 use Rattle.vhdl_tree.specs.View as tree
 use Rattle.vhdl_names_types.specs.Views.{sight_view}
@@ -10,6 +9,7 @@ use Rattle.vhdl_names_rules.specs.problems.Places.{choice_place}
 use Rattle.vhdl_names_units.specs.Once.{names_view}
 use Rattle.vhdl_names_statements.specs.steps.Told as told
 use Rattle.vhdl_names_statements.proofs.steps.Choosing.{once_refused, answer_told, answer_kept, answer_added}
+use Rattle.vhdl_names_statements.proofs.steps.Passing.{told_by}
 use Rattle.vhdl_names_statements.proofs.choices.add_written.Goals as goal
 
 pub returns-in_err-analysed-clause-told : goal.returns-in_err-analysed-clause-told
@@ -18,7 +18,7 @@ returns-in_err-analysed-clause-told c =
     let w = tree.choice_view c.args.written.now in
     let h : Tells (told.once s c.args.selected (names_view c.args.keys.now) w) c.in_err-analysed.field-0.0 =
     once_refused s c.args.selected (names_view c.args.keys.now) w c.in_err-analysed.field-0.0 c.in_err-analysed.ensures.told in
-    first_of (search rules, grind (arith, common_steps))
+    told_by _ c.in_err-analysed.field-0.0 _ c.from_residual.result c.from_residual.ensures.1 (λ e p. p) h
 
 pub returns-clause-added : goal.returns-clause-added
 returns-clause-added c =

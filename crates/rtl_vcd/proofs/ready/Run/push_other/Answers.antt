@@ -1,6 +1,10 @@
-use Rattle.std.proofs.Common.{◌≤◌, length, subst, arith, slice_index}
-use Rattle.rtl_vcd.specs.Ready.{elements_as}
+use Rattle.std.proofs.Common.{◌≤◌, ◌+◌, ◌-◌, ◌++◌, [], length, take, drop, ap, ◌∙◌, sym, subst, arith, slice_index}
+use Rattle.std.proofs.lemmas.List.{length-map}
+use Rattle.std.specs.Prelude.{codes, if◌then◌else◌}
+use Rattle.rtl_vcd.specs.Values.{character}
+use Rattle.rtl_vcd.specs.Ready.{beginning, elements_as}
 use Rattle.rtl_vcd.proofs.Binaries.{length-binary}
+use Rattle.rtl_vcd.proofs.Forms.{several_is, line_by, other_by}
 use Rattle.rtl_vcd.proofs.Runs.{are_same}
 use Rattle.rtl_vcd.proofs.ready.Run.push_other.Goals as goal
 
@@ -14,3 +18,25 @@ push_position-requires-clause-short c =
 
 pub returns-then-keeps-clause-other : goal.returns-then-keeps-clause-other
 returns-then-keeps-clause-other c = are_same (c.keeps.ensures c.if-keeps.true)
+
+pub push_vector-requires-clause-short : goal.push_vector-requires-clause-short
+push_vector-requires-clause-short c =
+    let run = c.args.self.now in
+    let new = c.args.new.now in
+    let slice = take (run.first + run.count - run.first) (drop run.first new) in
+    omega (arith, length-map slice character, ap length (several_is run new c.in-Several.is), c.requires.short)
+
+pub returns-in-Several-clause-line : goal.returns-in-Several-clause-line
+returns-in-Several-clause-line c =
+    let run = c.args.self.now in
+    let new = c.args.new.now in
+    c.push_vector.ensures.line
+    ∙ ap (λ t. c.args.page.now ++ (if c.push_vector.result then t else []))
+    (sym (line_by run new (codes "b") _ (ap beginning c.in-Several.is) (sym (several_is run new c.in-Several.is))))
+
+pub returns-in-Several-clause-other : goal.returns-in-Several-clause-other
+returns-in-Several-clause-other c =
+    let run = c.args.self.now in
+    let old = c.args.old.now in
+    let new = c.args.new.now in
+    other_by run old new _ _ c.push_vector.result (sym (several_is run old c.in-Several.is)) (sym (several_is run new c.in-Several.is)) c.push_vector.ensures.other
