@@ -1,6 +1,6 @@
 -- Runs: their nets, values and lines.
 use Rattle.std.proofs.Common.{◌≡◌, ℕ, zero, suc, false, All, ◌+◌, ◌-◌, ◌<◌, ◌≤◌, List, [], ◌∷◌, ◌++◌, length, map, take, drop, get_or, sym, ap, subst, ◌∙◌, arith, ⊎_elim}
-use Rattle.std.specs.Prelude.{Option, Some, None, IfSome, slice_index_or}
+use Rattle.std.specs.Prelude.{slice_index_or}
 use Rattle.std.specs.Str.{bytes_eq}
 use Rattle.std.specs.List.{range_with_len}
 use Rattle.std.proofs.lemmas.List.{append_cancel_left, append_cancel_right, get_or-take, get_or-drop, get_or-map, get_or_default, get_or_append_left, length-take, length-take-le, length-drop, length-map, length-append, take_more, map-append}
@@ -14,7 +14,7 @@ use Rattle.rtl_net.specs.Nets.{SignalView, signal_view}
 use Rattle.rtl_vcd.specs.declared.ready.Run.{Run}
 use Rattle.rtl_vcd.specs.Trace.{printed}
 use Rattle.rtl_vcd.specs.Shown.{IsShown}
-use Rattle.rtl_vcd.specs.Ready.{LiesAmong, IsRun, AreReady, beginning, elements}
+use Rattle.rtl_vcd.specs.Ready.{LiesAmong, IsRun, IsReady, AreReady, beginning, elements}
 use Rattle.rtl_vcd.proofs.Names.{part_of_names}
 use Rattle.rtl_vcd.proofs.Printing.{same_test}
 
@@ -56,26 +56,26 @@ run_tells k s r old new is before after =
     (λ e. append_cancel_left (beginning r.form) xs ys (append_cancel_right (beginning r.form ++ xs) (beginning r.form ++ ys) (take r.end.len r.end.bytes) (sym one ∙ e ∙ other)))
 
 -- one name more
-ready_more : (names : List SignalView) (runs : List (Option Run)) (s : SignalView) (r : Option Run) → AreReady 0 names runs → IfSome r (IsRun (length names) s)
+ready_more : (names : List SignalView) (runs : List Run) (s : SignalView) (r : Run) → AreReady 0 names runs → IsReady (length names) s r
     → AreReady 0 (names ++ s ∷ []) (runs ++ r ∷ [])
 ready_more names runs s r are this = record {
   as_many = omega (arith, length-append names (s ∷ []), length-append runs (r ∷ []), are.as_many);
   each = λ i t d lt.
       ⊎_elim (λ below.
-      subst (λ x. IfSome x (IsRun (0 + i) (get_or (names ++ s ∷ []) i t))) (sym (get_or_append_left runs (r ∷ []) d i (omega (arith, below, are.as_many))))
-      (subst (λ n. IfSome (get_or runs i d) (IsRun (0 + i) n)) (sym (get_or_append_left names (s ∷ []) t i below)) (are.each i t d below)))
+      subst (IsReady (0 + i) (get_or (names ++ s ∷ []) i t)) (sym (get_or_append_left runs (r ∷ []) d i (omega (arith, below, are.as_many))))
+      (subst (λ n. IsReady (0 + i) n (get_or runs i d)) (sym (get_or_append_left names (s ∷ []) t i below)) (are.each i t d below)))
       (λ past.
       let last : i ≡ length names = omega (arith, past, lt, length-append names (s ∷ [])) in
       let run : get_or (runs ++ r ∷ []) i d ≡ r = ap (λ n. get_or (runs ++ r ∷ []) n d) (last ∙ sym are.as_many) ∙ get_or-append_seam runs r [] d in
       let name : get_or (names ++ s ∷ []) i t ≡ s = ap (λ n. get_or (names ++ s ∷ []) n t) last ∙ get_or-append_seam names s [] t in
       let number : length names ≡ 0 + i = omega (arith, last) in
-      subst (λ x. IfSome x (IsRun (0 + i) (get_or (names ++ s ∷ []) i t))) (sym run)
-      (subst (λ n. IfSome r (IsRun (0 + i) n)) (sym name) (subst (λ m. IfSome r (IsRun m s)) number this)))
+      subst (IsReady (0 + i) (get_or (names ++ s ∷ []) i t)) (sym run)
+      (subst (λ n. IsReady (0 + i) n r) (sym name) (subst (λ m. IsReady m s r) number this)))
       (cases_lt i (length names));
 }
 
-pub run_more : (signals : List Signal) (runs : List (Option Run)) (n : ℕ) (s : Signal) (r : Option Run) → n < length signals → s ≡ get_or signals n s
-    → AreReady 0 (map signal_view (take n signals)) runs → IfSome r (IsRun n (signal_view s)) → AreReady 0 (map signal_view (take (n + 1) signals)) (runs ++ r ∷ [])
+pub run_more : (signals : List Signal) (runs : List Run) (n : ℕ) (s : Signal) (r : Run) → n < length signals → s ≡ get_or signals n s
+    → AreReady 0 (map signal_view (take n signals)) runs → IsReady n (signal_view s) r → AreReady 0 (map signal_view (take (n + 1) signals)) (runs ++ r ∷ [])
 run_more signals runs n s r lt is are this =
     let names = map signal_view (take n signals) in
     let count : length names ≡ n = length-map (take n signals) signal_view ∙ length-take-le n signals (omega (arith, lt)) in
@@ -83,10 +83,10 @@ run_more signals runs n s r lt is are this =
     ap (map signal_view) (take_more signals n s lt) ∙ map-append signal_view (take n signals) (get_or signals n s ∷ [])
     ∙ ap (λ x. names ++ signal_view x ∷ []) (sym is) in
     subst (λ ss. AreReady 0 ss (runs ++ r ∷ [])) (sym listed)
-    (ready_more names runs (signal_view s) r are (subst (λ m. IfSome r (IsRun m (signal_view s))) (sym count) this))
+    (ready_more names runs (signal_view s) r are (subst (λ m. IsReady m (signal_view s) r) (sym count) this))
 
 -- those of a part of the names
-part_ready : (names : List SignalView) (runs : List (Option Run)) (next n : ℕ) → AreReady 0 names runs
+part_ready : (names : List SignalView) (runs : List Run) (next n : ℕ) → AreReady 0 names runs
     → AreReady next (take n (drop next names)) (take n (drop next runs))
 part_ready names runs next n are = record {
   as_many = omega (arith, length-take n (drop next names), length-take n (drop next runs), length-drop next names, length-drop next runs, are.as_many);
@@ -96,12 +96,12 @@ part_ready names runs next n are = record {
       let run = get_or-take n (drop next runs) i r small ∙ get_or-drop next runs i r in
       let name = get_or-take n (drop next names) i s small ∙ get_or-drop next names i s in
       let number : 0 + (next + i) ≡ next + i = omega arith in
-      subst (λ x. IfSome x (IsRun (next + i) (slice_index_or (take n (drop next names)) i s))) (sym run)
-      (subst (λ t. IfSome (slice_index_or runs (next + i) r) (IsRun (next + i) t)) (sym name)
-      (subst (λ m. IfSome (slice_index_or runs (next + i) r) (IsRun m (slice_index_or names (next + i) s))) number (are.each (next + i) s r here)));
+      subst (IsReady (next + i) (slice_index_or (take n (drop next names)) i s)) (sym run)
+      (subst (λ t. IsReady (next + i) t (slice_index_or runs (next + i) r)) (sym name)
+      (subst (λ m. IsReady m (slice_index_or names (next + i) s) (slice_index_or runs (next + i) r)) number (are.each (next + i) s r here)));
 }
 
-pub part_of_runs : (signals : List Signal) (runs : List (Option Run)) (next n : ℕ) (names : List SignalView) → map signal_view signals ≡ names → AreReady 0 names runs
+pub part_of_runs : (signals : List Signal) (runs : List Run) (next n : ℕ) (names : List SignalView) → map signal_view signals ≡ names → AreReady 0 names runs
     → AreReady next (map signal_view (take (next + n - next) (drop next signals))) (take (next + n - next) (drop next runs))
 part_of_runs signals runs next n names e are =
     let m : next + n - next ≡ n = omega arith in
@@ -109,15 +109,23 @@ part_of_runs signals runs next n names e are =
     subst (λ ss. AreReady next ss (take (next + n - next) (drop next runs))) (sym listed)
     (subst (λ k. AreReady next (take n (drop next names)) (take k (drop next runs))) (sym m) (part_ready names runs next n are))
 
--- the run at hand
-pub ready_at : (first : ℕ) (names : List Signal) (runs : List (Option Run)) (i : ℕ) (s : Signal) (r : Option Run) → i < length names → s ≡ get_or names i s
-    → r ≡ get_or runs i r → AreReady first (map signal_view names) runs → IfSome r (IsRun (first + i) (signal_view s))
-ready_at first names runs i s r lt is at are =
-    let there : i < length (map signal_view names) = omega (arith, lt, length-map names signal_view) in
-    let name = get_or-map signal_view names i s (signal_view s) lt ∙ ap signal_view (sym is) in
-    subst (λ x. IfSome x (IsRun (first + i) (signal_view s))) (sym at)
-    (subst (λ t. IfSome (slice_index_or runs i r) (IsRun (first + i) t)) name (are.each i (signal_view s) r there))
+-- the names from one on
+pub rest_ready : (first : ℕ) (names : List SignalView) (runs : List Run) (next : ℕ) → AreReady first names runs → AreReady (first + next) (drop next names) (drop next runs)
+rest_ready first names runs next are = record {
+  as_many = omega (arith, length-drop next names, length-drop next runs, are.as_many);
+  each = λ i s r lt.
+      let here : next + i < length names = omega (arith, lt, length-drop next names) in
+      let number : first + (next + i) ≡ first + next + i = omega arith in
+      subst (IsReady (first + next + i) (slice_index_or (drop next names) i s)) (sym (get_or-drop next runs i r))
+      (subst (λ t. IsReady (first + next + i) t (slice_index_or runs (next + i) r)) (sym (get_or-drop next names i s))
+      (subst (λ m. IsReady m (slice_index_or names (next + i) s) (slice_index_or runs (next + i) r)) number (are.each (next + i) s r here)));
+}
 
--- the name of a run
-pub name_there : (first : ℕ) (names : List Signal) (runs : List (Option Run)) (i : ℕ) → i < length runs → AreReady first (map signal_view names) runs → i < length names
-name_there first names runs i lt are = omega (arith, lt, are.as_many, length-map names signal_view)
+-- no name
+abbrev pub no_name : SignalView
+no_name = record { scope = 0; name = []; port = false; kind = One; nets = [] }
+
+-- the run at hand
+pub ready_at : (first : ℕ) (names : List SignalView) (runs : List Run) (i : ℕ) (s : SignalView) (r : Run) → i < length runs → r ≡ get_or runs i r
+    → AreReady first names runs → IsReady (first + i) (get_or names i s) r
+ready_at first names runs i s r lt at are = subst (IsReady (first + i) (get_or names i s)) (sym at) (are.each i s r (omega (arith, lt, are.as_many)))

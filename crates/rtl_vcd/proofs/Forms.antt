@@ -1,5 +1,5 @@
 -- What names print by their forms.
-use Rattle.std.proofs.Common.{◌≡◌, ℕ, ◌+◌, ◌-◌, ◌<◌, ◌≤◌, Bool, not, List, [], ◌∷◌, ◌++◌, length, map, take, drop, get_or, slice_index, refl, sym, ap, ap₂, ◌∙◌, arith, drop-cons}
+use Rattle.std.proofs.Common.{◌≡◌, ℕ, ◌+◌, ◌-◌, ◌<◌, ◌≤◌, Bool, not, List, [], ◌∷◌, ◌++◌, length, map, take, drop, get_or, slice_index, refl, sym, ap, ap₂, subst, ◌∙◌, arith, drop-cons}
 use Rattle.std.specs.Prelude.{codes}
 use Rattle.std.specs.Str.{bytes_eq}
 use Rattle.std.specs.List.{range_with_len}
@@ -14,7 +14,7 @@ use Rattle.rtl_vcd.specs.declared.ready.Run.{Run}
 use Rattle.rtl_vcd.specs.Values.{code, character, binary, binary_digits, value_change}
 use Rattle.rtl_vcd.specs.Trace.{printed}
 use Rattle.rtl_vcd.specs.Ready.{form_of, beginning, behind, elements_as, elements, line}
-use Rattle.rtl_vcd.proofs.Runs.{behind_page}
+use Rattle.rtl_vcd.proofs.Runs.{behind_page, rest_is}
 use Rattle.rtl_vcd.proofs.Binaries.{length-binary}
 
 -- nothing prints more characters than a vector
@@ -56,12 +56,14 @@ run_line k s r some nets form one end values there =
     ∙ ap (λ f. beginning f ++ elements_as f r.first r.count values ++ (behind f ++ code k ++ codes "\n")) (sym form)
     ∙ ap (λ t. beginning r.form ++ elements r values ++ t) (sym end)
 
--- what is printed of one net alone
-pub alone_alike : (form : Form) (first count : ℕ) (old new : List ℕ) → (form ≡ Several → ⊥) → slice_index old first ≡ slice_index new first
+-- what is printed of nets that keep their values
+alike_as : (form : Form) (first count : ℕ) (old new : List ℕ) → 0 < count → take count (drop first old) ≡ take count (drop first new)
     → elements_as form first count old ≡ elements_as form first count new
-alone_alike Single first count old new other e = ap (λ v. character v ∷ []) e
-alone_alike Several first count old new other e = absurd (other refl)
-alone_alike (Position digits) first count old new other e = ap (binary digits) e
+alike_as Single first count old new some e =
+    ap (λ v. character v ∷ []) (sym (first_taken first count old some) ∙ ap (λ vs. slice_index vs 0) e ∙ first_taken first count new some)
+alike_as Several first count old new some e = ap (map character) e
+alike_as (Position digits) first count old new some e =
+    ap (binary digits) (sym (first_taken first count old some) ∙ ap (λ vs. slice_index vs 0) e ∙ first_taken first count new some)
 
 -- ---- a run by its form
 
@@ -75,6 +77,29 @@ several_is r values e =
 
 pub position_is : (r : Run) (values : List ℕ) (digits : ℕ) → r.form ≡ Position digits → elements r values ≡ binary digits (slice_index values r.first)
 position_is r values digits e = ap (λ f. elements_as f r.first r.count values) e
+
+-- a run whose nets keep their values, as they are compared: of one net, of so many, or of a slice
+pub alike : (r : Run) (old new : List ℕ) → 0 < r.count → take r.count (drop r.first old) ≡ take r.count (drop r.first new) → elements r old ≡ elements r new
+alike r old new some e = alike_as r.form r.first r.count old new some e
+
+pub alike_one : (r : Run) (old new : List ℕ) → r.count ≡ 1 → r.first < length old → r.first < length new → slice_index old r.first ≡ slice_index new r.first
+    → elements r old ≡ elements r new
+alike_one r old new one before after e =
+    let same = one_taken r.first old before ∙ ap (λ v. v ∷ []) e ∙ sym (one_taken r.first new after) in
+    alike r old new (omega (arith, one)) (subst (λ n. take n (drop r.first old) ≡ take n (drop r.first new)) (sym one) same)
+
+pub alike_rest : (r : Run) (old new : List ℕ) (n : ℕ) → r.count ≡ n → 0 < n
+    → take n (take (length old - r.first) (drop r.first old)) ≡ take n (take (length new - r.first) (drop r.first new))
+    → elements r old ≡ elements r new
+alike_rest r old new n count some e =
+    let same = ap (take n) (sym (rest_is r.first old)) ∙ e ∙ ap (take n) (rest_is r.first new) in
+    alike r old new (omega (arith, count, some)) (subst (λ m. take m (drop r.first old) ≡ take m (drop r.first new)) (sym count) same)
+
+pub alike_slice : (r : Run) (old new : List ℕ) → 0 < r.count
+    → take (r.first + r.count - r.first) (drop r.first old) ≡ take (r.first + r.count - r.first) (drop r.first new) → elements r old ≡ elements r new
+alike_slice r old new some e =
+    let n : r.first + r.count - r.first ≡ r.count = omega arith in
+    alike r old new some (subst (λ m. take m (drop r.first old) ≡ take m (drop r.first new)) n e)
 
 -- a line, part by part, behind a page
 pub line_by : (r : Run) (values first chars : List ℕ) → beginning r.form ≡ first → elements r values ≡ chars → line r values ≡ first ++ chars ++ take r.end.len r.end.bytes

@@ -1,6 +1,6 @@
 -- The texts of names one after another, and what every name of a netlist is shown to be.
 use Rattle.std.proofs.Common.{◌≡◌, ℕ, suc, ◌+◌, ◌-◌, ◌<◌, ◌≤◌, List, [], ◌∷◌, ◌++◌, length, map, take, drop, get_or, sym, ap, subst, ◌∙◌, arith, append_assoc, append-nil, All}
-use Rattle.std.proofs.lemmas.List.{take_more, map-append, length-map, length-take-le, get_or-map, take-take, drop-take, take-append-drop, length-drop, get_or-drop, take-map, drop-map}
+use Rattle.std.proofs.lemmas.List.{take_more, take_all, map-append, length-map, length-take-le, get_or-map, take-take, drop-take, take-append-drop, length-drop, get_or-drop, take-map, drop-map}
 use Rattle.std.proofs.lemmas.List.Elements.{All-get_or, All-weaker, All-take, All-drop}
 use Rattle.std.proofs.lemmas.Option.{slice_get_within}
 use Rattle.rtl_net.specs.declared.signal.Signal.{Signal}
@@ -18,24 +18,24 @@ numbered-append f k (x ∷ xs) ys =
     ∙ sym (append_assoc (f k x) (numbered f (suc k) xs) (numbered f (k + suc (length xs)) ys))
 
 -- one name more
-pub numbered_more_from : (f : ℕ → SignalView → List ℕ) (k : ℕ) (signals : List Signal) (i : ℕ) (s : Signal) → i < length signals → s ≡ get_or signals i s
-    → numbered f k (map signal_view (take (i + 1) signals)) ≡ numbered f k (map signal_view (take i signals)) ++ f (k + i) (signal_view s)
-numbered_more_from f k signals i s lt is =
-    let before : List SignalView = map signal_view (take i signals) in
-    let last : SignalView = signal_view (get_or signals i s) in
-    let count : length before ≡ i = length-map (take i signals) signal_view ∙ length-take-le i signals (omega arith) in
-    let one : f (k + length before) last ++ [] ≡ f (k + i) (signal_view s) =
-    append-nil (f (k + length before) last) ∙ ap (λ n. f (k + n) last) count ∙ ap (λ t. f (k + i) (signal_view t)) (sym is) in
-    ap (λ t. numbered f k (map signal_view t)) (take_more signals i s lt)
-    ∙ ap (numbered f k) (map-append signal_view (take i signals) (get_or signals i s ∷ []))
-    ∙ numbered-append f k before (signal_view (get_or signals i s) ∷ [])
-    ∙ ap (λ t. numbered f k before ++ t) one
+pub numbered_next : (f : ℕ → SignalView → List ℕ) (k : ℕ) (names : List SignalView) (i : ℕ) (s : SignalView) → i < length names
+    → numbered f k (take (i + 1) names) ≡ numbered f k (take i names) ++ f (k + i) (get_or names i s)
+numbered_next f k names i s lt =
+    let one = get_or names i s in
+    let count : length (take i names) ≡ i = length-take-le i names (omega (arith, lt)) in
+    ap (numbered f k) (take_more names i s lt) ∙ numbered-append f k (take i names) (one ∷ [])
+    ∙ ap (λ t. numbered f k (take i names) ++ t) (append-nil (f (k + length (take i names)) one) ∙ ap (λ n. f (k + n) one) count)
 
 pub numbered_more : (f : ℕ → SignalView → List ℕ) (signals : List Signal) (i : ℕ) (s : Signal) → i < length signals → s ≡ get_or signals i s
     → numbered f 0 (map signal_view (take (i + 1) signals)) ≡ numbered f 0 (map signal_view (take i signals)) ++ f i (signal_view s)
 numbered_more f signals i s lt is =
     let e : 0 + i ≡ i = omega arith in
-    numbered_more_from f 0 signals i s lt is ∙ ap (λ n. numbered f 0 (map signal_view (take i signals)) ++ f n (signal_view s)) e
+    let views = map signal_view signals in
+    let name = get_or-map signal_view signals i s (signal_view s) lt ∙ ap signal_view (sym is) in
+    ap (numbered f 0) (sym (take-map signal_view (i + 1) signals)) ∙ numbered_next f 0 views i (signal_view s) (omega (arith, lt, length-map signals signal_view))
+    ∙ ap (λ t. numbered f 0 t ++ f (0 + i) (get_or views i (signal_view s))) (take-map signal_view i signals)
+    ∙ ap (λ x. numbered f 0 (map signal_view (take i signals)) ++ f (0 + i) x) name
+    ∙ ap (λ n. numbered f 0 (map signal_view (take i signals)) ++ f n (signal_view s)) e
 
 pub take_further : {X : Type 0} (n m : ℕ) (xs : List X) → take (n + m) xs ≡ take n xs ++ take m (drop n xs)
 take_further n m xs =
@@ -43,13 +43,23 @@ take_further n m xs =
     sym (take-append-drop n (take (n + m) xs)) ∙ ap (λ t. t ++ drop n (take (n + m) xs)) shorter ∙ ap (λ t. take n xs ++ t) (drop-take n m xs)
 
 -- the first names, and some behind them
-pub numbered_further : (f : ℕ → SignalView → List ℕ) (n m : ℕ) (names : List SignalView) → n ≤ length names
-    → numbered f 0 (take (n + m) names) ≡ numbered f 0 (take n names) ++ numbered f n (take m (drop n names))
-numbered_further f n m names le =
-    let count : 0 + length (take n names) ≡ n = omega (arith, length-take-le n names le) in
-    ap (numbered f 0) (take_further n m names)
-    ∙ numbered-append f 0 (take n names) (take m (drop n names))
-    ∙ ap (λ k. numbered f 0 (take n names) ++ numbered f k (take m (drop n names))) count
+pub numbered_further : (f : ℕ → SignalView → List ℕ) (k n m : ℕ) (names : List SignalView) → n ≤ length names
+    → numbered f k (take (n + m) names) ≡ numbered f k (take n names) ++ numbered f (k + n) (take m (drop n names))
+numbered_further f k n m names le =
+    let count : k + length (take n names) ≡ k + n = omega (arith, length-take-le n names le) in
+    ap (numbered f k) (take_further n m names)
+    ∙ numbered-append f k (take n names) (take m (drop n names))
+    ∙ ap (λ i. numbered f k (take n names) ++ numbered f i (take m (drop n names))) count
+
+-- what is left behind so many
+pub rest_of : {X : Type 0} (n : ℕ) (xs : List X) → take (length xs - n) (drop n xs) ≡ drop n xs
+rest_of n xs = take_all (length xs - n) (drop n xs) (omega (arith, length-drop n xs))
+
+pub length-rest : {X : Type 0} (n : ℕ) (xs : List X) → length (take (length xs - n) (drop n xs)) ≡ length xs - n
+length-rest n xs = ap length (rest_of n xs) ∙ length-drop n xs
+
+pub rest_of_names : (signals : List Signal) (n : ℕ) → map signal_view (take (length signals - n) (drop n signals)) ≡ drop n (map signal_view signals)
+rest_of_names signals n = ap (map signal_view) (rest_of n signals) ∙ sym (drop-map signal_view n signals)
 
 -- each of these names is shown
 pub shown_at : (nets : ℕ) (signals : List Signal) (i : ℕ) (s : Signal) → i < length signals → s ≡ get_or signals i s

@@ -1,9 +1,9 @@
 -- Texts of values, part by part.
-use Rattle.std.proofs.Common.{◌≡◌, ℕ, ◌+◌, ◌-◌, ◌<◌, true, false, not, List, ◌++◌, length, map, take, drop, get_or, slice_index, sym, ap, ap₂, ◌∙◌, arith, append_assoc}
+use Rattle.std.proofs.Common.{◌≡◌, ℕ, ◌+◌, ◌-◌, ◌<◌, ◌≤◌, true, false, not, List, ◌++◌, length, map, take, drop, get_or, slice_index, sym, ap, ap₂, ◌∙◌, arith, append_assoc}
 use Rattle.std.specs.Str.{bytes_eq}
 use Rattle.std.proofs.lemmas.Bool.{not-true, not-false, false_from_ne_true, both_ways}
 use Rattle.std.proofs.lemmas.Slice.Eq.{bytes_eq-Decides}
-use Rattle.std.proofs.lemmas.List.{take-map, drop-map, map-append, take-append-drop, get_or-map, take_all, length-drop}
+use Rattle.std.proofs.lemmas.List.{take-map, drop-map, map-append, take-append-drop, get_or-map, take_all, length-drop, drop-drop}
 use Rattle.rtl_vcd.specs.Values.{character}
 use Rattle.rtl_vcd.proofs.Names.{take_further}
 use Rattle.rtl_vcd.proofs.Printing.{same_test}
@@ -22,6 +22,21 @@ others_from a b e same = both_ways (bytes_eq a b) (not-true (bytes_eq a b) (sym 
 
 pub rest_is : (n : ℕ) (values : List ℕ) → take (length values - n) (drop n values) ≡ drop n values
 rest_is n values = take_all (length values - n) (drop n values) (omega (arith, length-drop n values))
+
+-- values of which the first so many are the same, and the last so many, which reach back to these
+rest_of_last : (n m : ℕ) (xs : List ℕ) → m + n ≡ length xs → m ≤ n → drop n xs ≡ drop (n - m) (take n (drop m xs))
+rest_of_last n m xs all reach =
+    let at : m + (n - m) ≡ n = omega (arith, reach) in
+    ap (λ k. drop k xs) (sym at) ∙ sym (drop-drop (n - m) m xs)
+    ∙ ap (drop (n - m)) (sym (take_all n (drop m xs) (omega (arith, all, length-drop m xs))))
+
+pub both_ends : (n m : ℕ) (xs ys : List ℕ) → m + n ≡ length xs → m ≤ n → length xs ≡ length ys → take n xs ≡ take n ys
+    → take n (take (length xs - m) (drop m xs)) ≡ take n (take (length ys - m) (drop m ys)) → xs ≡ ys
+both_ends n m xs ys all reach as_many first rests =
+    let last = ap (take n) (sym (rest_is m xs)) ∙ rests ∙ ap (take n) (rest_is m ys) in
+    sym (take-append-drop n xs) ∙ ap (λ t. t ++ drop n xs) first
+    ∙ ap (λ t. take n ys ++ t) (rest_of_last n m xs all reach ∙ ap (drop (n - m)) last ∙ sym (rest_of_last n m ys (all ∙ as_many) reach))
+    ∙ take-append-drop n ys
 
 -- what is printed behind a page, part by part
 pub behind_page : (page first next last : List ℕ) → page ++ first ++ next ++ last ≡ page ++ (first ++ next ++ last)

@@ -1,5 +1,5 @@
 -- Changes behind their time.
-use Rattle.std.proofs.Common.{◌≡◌, ℕ, ◌+◌, Bool, true, false, not, ◌||◌, List, [], ◌∷◌, ◌++◌, map, refl, sym, ap, ◌∙◌, append_assoc, append-nil, slice_index, ◌<◌, ◌≤◌, length, take, drop, get_or}
+use Rattle.std.proofs.Common.{◌≡◌, ℕ, ◌+◌, Bool, true, false, not, ◌||◌, List, [], ◌∷◌, ◌++◌, map, refl, sym, ap, ◌∙◌, append_assoc, append-nil, slice_index, ◌<◌, ◌≤◌, length, take, drop, get_or, arith}
 use Rattle.std.specs.Prelude.{if◌then◌else◌, codes}
 use Rattle.std.specs.Str.{bytes_eq}
 use Rattle.std.proofs.lemmas.Bool.{false≢true}
@@ -8,7 +8,7 @@ use Rattle.rtl_net.specs.declared.signal.SignalKind.{SignalKind}
 use Rattle.rtl_net.specs.declared.signal.Signal.{Signal}
 use Rattle.rtl_net.specs.Nets.{SignalView, signal_view}
 use Rattle.rtl_vcd.specs.Values.{character, code, value_change}
-use Rattle.rtl_vcd.proofs.Names.{numbered_more_from, numbered_further}
+use Rattle.rtl_vcd.proofs.Names.{numbered_further}
 use Rattle.rtl_vcd.specs.Trace.{printed, change, are_some, time_line}
 use Rattle.rtl_vcd.specs.Blocks.{changes_from, continued}
 
@@ -61,9 +61,15 @@ continued_one false time [] some = absurd (false≢true some)
 continued_one false time (x ∷ xs) some = refl
 
 -- the changes of more names
+pub changes_behind : (k n m : ℕ) (names : List SignalView) (old new : List ℕ) → n ≤ length names
+    → changes_from k (take (n + m) names) old new ≡ changes_from k (take n names) old new ++ changes_from (k + n) (take m (drop n names)) old new
+changes_behind k n m names old new le = numbered_further (λ i s. change i s old new) k n m names le
+
 pub changes_further : (n m : ℕ) (names : List SignalView) (old new : List ℕ) → n ≤ length names
     → changes_from 0 (take (n + m) names) old new ≡ changes_from 0 (take n names) old new ++ changes_from n (take m (drop n names)) old new
-changes_further n m names old new le = numbered_further (λ k s. change k s old new) n m names le
+changes_further n m names old new le =
+    let e : 0 + n ≡ n = omega arith in
+    changes_behind 0 n m names old new le ∙ ap (λ k. changes_from 0 (take n names) old new ++ changes_from k (take m (drop n names)) old new) e
 
 -- where these are none
 pub none_further : (n m : ℕ) (names : List SignalView) (old new : List ℕ) → n ≤ length names → changes_from n (take m (drop n names)) old new ≡ []

@@ -1,5 +1,5 @@
 -- Names that are ready to print.
-use Rattle.std.specs.Prelude.{◌≡◌, ℕ, ◌+◌, ◌-◌, ◌<◌, ◌≤◌, List, [], ◌∷◌, ◌++◌, length, map, codes, Option, IfSome, slice_index, slice_index_or, take, drop}
+use Rattle.std.specs.Prelude.{◌≡◌, ℕ, ◌+◌, ◌-◌, ◌<◌, ◌≤◌, List, [], ◌∷◌, ◌++◌, length, map, codes, slice_index, slice_index_or, take, drop}
 use Rattle.std.specs.List.{range_with_len}
 use Rattle.rtl_net.specs.declared.signal.SignalKind.{SignalKind}
 use Rattle.rtl_net.specs.declared.signal.SignalKind.TheVariants.{One, Vector, Enumeration}
@@ -52,7 +52,11 @@ pub record IsRun (k : ℕ) (s : SignalView) (r : Run) : Type 0 where
   pub short : (valuation : List ℕ) → length (elements r valuation) ≤ 64
   pub prints : (valuation : List ℕ) → r.first + r.count ≤ length valuation → printed k s valuation ≡ line r valuation
 
--- each of these names, the first of them being number k, is the run at its place, if there is one
-pub record AreReady (k : ℕ) (names : List SignalView) (runs : List (Option Run)) : Type 0 where
+-- the same, where it has nets
+abbrev pub IsReady : (k : ℕ) → SignalView → Run → Type 0
+IsReady k s r = 0 < r.count → IsRun k s r
+
+-- each of these names, the first of them being number k, is the run at its place, if that has nets
+pub record AreReady (k : ℕ) (names : List SignalView) (runs : List Run) : Type 0 where
   pub as_many : length runs ≡ length names
-  pub each : (i : ℕ) (s : SignalView) (r : Option Run) → i < length names → IfSome (slice_index_or runs i r) (IsRun (k + i) (slice_index_or names i s))
+  pub each : (i : ℕ) (s : SignalView) (r : Run) → i < length names → IsReady (k + i) (slice_index_or names i s) (slice_index_or runs i r)

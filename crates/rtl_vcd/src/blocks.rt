@@ -5,6 +5,7 @@ ghost use Rattle.rtl_net.specs.Nets.{SignalView, signal_view};
 ghost use Rattle.rtl_vcd.specs.Blocks.{IsBlockOf, AreBlocks};
 ghost use Rattle.rtl_vcd.specs.Shown.{IsShown};
 
+use crate::characters::are_same;
 use rtl_net::{Net, Signal};
 use std::alloc::{AllocError, Global};
 
@@ -85,7 +86,7 @@ impl Block {
         ensures { result ≡ true → (n : ℕ) → self.now.least ≤ n → n ≤ self.now.greatest → slice_index old.now n ≡ slice_index new.now n }
     {
         let beyond = self.greatest + 1;
-        self.is_compared && old[self.least..beyond] == new[self.least..beyond]
+        self.is_compared && are_same(&old[self.least..beyond], &new[self.least..beyond])
     }
 }
 

@@ -72,5 +72,5 @@ fn has_other_characters(nets: &[usize], old: &[u8], new: &[u8]) -> bool
 pub(crate) fn is_other_character(before: u8, now: u8) -> bool
     ensures { result ≡ not (character before == character now) }
 {
-    before != now && line::character(before) != line::character(now)
+    line::character(before) != line::character(now)
 }

@@ -86,26 +86,48 @@ fn are_different<const LANES: usize>(before: Simd<u8, LANES>, after: Simd<u8, LA
     before.simd_ne(after).to_bitmask() != 0
 }
 
-/// Whether these values are few, and the same in both.
-pub(crate) fn are_same_few(old: &[u8], new: &[u8]) -> bool
+/// Whether these values are the same in both.
+pub(crate) fn are_same(old: &[u8], new: &[u8]) -> bool
     requires { length old.now ≡ length new.now }
     ensures { result ≡ true → old.now ≡ new.now }
 {
-    if old.len() == 8 {
-        return are_same_lanes::<8>(old, new);
+    let many = old.len();
+    if many > 64 {
+        return old == new;
     }
-    if old.len() == 4 {
-        return are_same_lanes::<4>(old, new);
+    if many >= 32 {
+        return are_same_ends::<32>(old, new);
     }
-    old.len() < 8 && are_same_each(old, new)
+    if many >= 16 {
+        return are_same_ends::<16>(old, new);
+    }
+    if many >= 8 {
+        return are_same_ends::<8>(old, new);
+    }
+    if many >= 4 {
+        return are_same_ends::<4>(old, new);
+    }
+    are_same_each(old, new)
 }
 
-/// Whether so many values are the same in both.
-fn are_same_lanes<const LANES: usize>(old: &[u8], new: &[u8]) -> bool
+/// Whether the first so many values and the last so many, which together are all, are the same in both.
+fn are_same_ends<const LANES: usize>(old: &[u8], new: &[u8]) -> bool
     requires most { LANES ≤ 64 }
-    requires before { length old.now ≡ LANES }
-    requires after { length new.now ≡ LANES }
+    requires as_many { length old.now ≡ length new.now }
+    requires some { LANES ≤ length old.now }
+    requires all { length old.now ≤ LANES + LANES }
     ensures { result ≡ true → old.now ≡ new.now }
+{
+    let last = old.len() - LANES;
+    are_same_lanes::<LANES>(old, new) && are_same_lanes::<LANES>(&old[last..], &new[last..])
+}
+
+/// Whether the first so many values are the same in both.
+pub(crate) fn are_same_lanes<const LANES: usize>(old: &[u8], new: &[u8]) -> bool
+    requires most { LANES ≤ 64 }
+    requires before { LANES ≤ length old.now }
+    requires after { LANES ≤ length new.now }
+    ensures { result ≡ true → take LANES old.now ≡ take LANES new.now }
 {
     let before = Simd::<u8, LANES>::from_slice(old);
     let after = Simd::<u8, LANES>::from_slice(new);

@@ -11,7 +11,7 @@ ghost use Rattle.rtl_vcd.specs.Pages.{Passes, IsOpen};
 
 use crate::blocks::{Block, blocks_of};
 use crate::fault::VcdFault;
-use crate::named::{Step, push_change};
+use crate::named::{Step, push_part};
 use crate::page::Page;
 use crate::ready::{Run, runs_of};
 use crate::trace::{push_time, written};
@@ -24,7 +24,7 @@ use std::marker::Model;
 pub struct Blocks<'a> {
     net: &'a Net,
     blocks: Vec<Block>,
-    runs: Vec<Option<Run>>,
+    runs: Vec<Run>,
 }
 
 impl Drop for Blocks<'_> {
@@ -104,13 +104,7 @@ impl<'a> Blocks<'a> {
 }
 
 /// The changes of the netlist's names, which stand in these blocks, behind their time. Answers whether there are any.
-fn push_moment<W: Sink>(
-    net: &Net,
-    blocks: &[Block],
-    runs: &[Option<Run>],
-    step: &Step,
-    out: &mut W,
-) -> bool
+fn push_moment<W: Sink>(net: &Net, blocks: &[Block], runs: &[Run], step: &Step, out: &mut W) -> bool
     requires blocks { AreBlocks (length net.now.types) blocks.now net.now.signals }
     requires runs { AreReady 0 net.now.signals runs.now }
     requires before { length step.now.old.now ≡ length net.now.types }
@@ -147,7 +141,7 @@ fn push_moment<W: Sink>(
 #[inline(never)]
 fn push_changes<W: Sink>(
     names: &[Signal],
-    runs: &[Option<Run>],
+    runs: &[Run],
     first: usize,
     step: &Step,
     is_printed: bool,
@@ -166,8 +160,19 @@ fn push_changes<W: Sink>(
 {
     let here = *step;
     let mut printed = is_printed;
-    for (place, run) in runs.iter().enumerate() {
-        printed = push_change(first + place, &names[place], run, &here, printed, page, out);
+    let mut next = 0;
+    while next < names.len() {
+        let part = push_part(
+            first + next,
+            &names[next..],
+            &runs[next..],
+            &here,
+            printed,
+            page,
+            out,
+        );
+        printed = part.is_printed;
+        next += part.many;
     }
     printed
 }

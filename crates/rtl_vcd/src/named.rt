@@ -1,11 +1,11 @@
-//! The change of one name.
+//! The changes of names, by way of a page.
 
-ghost use Rattle.std.specs.Prelude.{◌≡◌, ◌+◌, ◌≤◌, ◌++◌, ◌||◌, [], if◌then◌else◌, length, IfSome};
+ghost use Rattle.std.specs.Prelude.{◌≡◌, ◌+◌, ◌<◌, ◌≤◌, ◌++◌, ◌||◌, [], if◌then◌else◌, All, length, map, take};
 ghost use Rattle.rtl_sink.specs.Written.{Goes};
 ghost use Rattle.rtl_net.specs.Nets.{signal_view};
 ghost use Rattle.rtl_vcd.specs.Trace.{change, time_line, are_some};
-ghost use Rattle.rtl_vcd.specs.Blocks.{continued};
-ghost use Rattle.rtl_vcd.specs.Ready.{IsRun};
+ghost use Rattle.rtl_vcd.specs.Blocks.{changes_from, continued};
+ghost use Rattle.rtl_vcd.specs.Ready.{AreReady};
 ghost use Rattle.rtl_vcd.specs.Shown.{IsShown};
 ghost use Rattle.rtl_vcd.specs.Pages.{Passes, IsOpen};
 
@@ -25,55 +25,100 @@ pub(crate) struct Step<'a> {
     pub(crate) new: &'a [u8],
 }
 
-/// The change of the name with this number, behind its time where that isn't printed yet. Answers whether it is printed then.
-pub(crate) fn push_change<W: Sink>(
-    number: usize,
-    signal: &Signal,
-    run: &Option<Run>,
+/// How many names were gone over, and whether something is printed behind them.
+#[derive(Clone, Copy)]
+pub(crate) struct Part {
+    pub(crate) many: usize,
+    pub(crate) is_printed: bool,
+}
+
+/// The changes of the first of these names, behind their time where that isn't printed yet: up to one that leaves no room for
+/// another line in the page, or up to one that isn't ready. The first of all is number `first`.
+pub(crate) fn push_part<W: Sink>(
+    first: usize,
+    names: &[Signal],
+    runs: &[Run],
     step: &Step,
     is_printed: bool,
     page: &mut Page,
     out: &mut W,
-) -> bool
-    requires before { IsShown (length step.now.old.now) (signal_view signal.now) }
-    requires after { IsShown (length step.now.new.now) (signal_view signal.now) }
-    requires ready { IfSome run.now (IsRun number (signal_view signal.now)) }
+) -> Part
+    requires some { 0 < length names.now }
+    requires before { All (IsShown (length step.now.old.now)) (map signal_view names.now) }
+    requires after { All (IsShown (length step.now.new.now)) (map signal_view names.now) }
+    requires ready { AreReady first (map signal_view names.now) runs.now }
     requires opened { IsOpen is_printed page.old }
-    ensures opened { IsOpen result page.new }
+    ensures some { 0 < result.many }
+    ensures within { result.many ≤ length names.now }
+    ensures opened { IsOpen result.is_printed page.new }
     ensures text { Passes (W.state out.old) (W.state out.new) page.old page.new
-        (continued is_printed step.now.time (change number (signal_view signal.now) step.now.old.now step.now.new.now)) }
-    ensures printed { result ≡ (is_printed || are_some (change number (signal_view signal.now) step.now.old.now step.now.new.now)) }
+        (continued is_printed step.now.time (changes_from first (take result.many (map signal_view names.now)) step.now.old.now step.now.new.now)) }
+    ensures printed { result.is_printed
+        ≡ (is_printed || are_some (changes_from first (take result.many (map signal_view names.now)) step.now.old.now step.now.new.now)) }
 {
-    if !append_change(number, signal, run, step, page) {
-        return is_printed;
+    let many = append_changes(first, names, runs, step, page);
+    if page.is_empty() {
+        return Part { many, is_printed };
     }
     put_time(step.time, is_printed, out);
     turn(page, out);
-    true
-}
-
-/// Appends the change of the name with this number to the page. Answers whether it has one.
-fn append_change(
-    number: usize,
-    signal: &Signal,
-    run: &Option<Run>,
-    step: &Step,
-    page: &mut Page,
-) -> bool
-    requires before { IsShown (length step.now.old.now) (signal_view signal.now) }
-    requires after { IsShown (length step.now.new.now) (signal_view signal.now) }
-    requires ready { IfSome run.now (IsRun number (signal_view signal.now)) }
-    requires room { length page.old + 77 ≤ PAGE }
-    ensures text { page.new ≡ page.old ++ change number (signal_view signal.now) step.now.old.now step.now.new.now }
-    ensures some { result ≡ are_some (change number (signal_view signal.now) step.now.old.now step.now.new.now) }
-{
-    match run {
-        Some(run) => run.push_other(page, step.old, step.new),
-        None => push_unready(number, signal, step, page),
+    Part {
+        many,
+        is_printed: true,
     }
 }
 
-/// The same, of a name that isn't ready.
+/// Appends the changes of the first of these names to the page.
+fn append_changes(
+    first: usize,
+    names: &[Signal],
+    runs: &[Run],
+    step: &Step,
+    page: &mut Page,
+) -> usize
+    requires some { 0 < length names.now }
+    requires before { All (IsShown (length step.now.old.now)) (map signal_view names.now) }
+    requires after { All (IsShown (length step.now.new.now)) (map signal_view names.now) }
+    requires ready { AreReady first (map signal_view names.now) runs.now }
+    requires room { length page.old + 77 ≤ PAGE }
+    ensures some { 0 < result }
+    ensures within { result ≤ length names.now }
+    ensures text { page.new ≡ page.old ++ changes_from first (take result (map signal_view names.now)) step.now.old.now step.now.new.now }
+{
+    let many = append_ready(first, names, runs, step, page);
+    if many > 0 {
+        return many;
+    }
+    push_unready(first, &names[0], step, page);
+    1
+}
+
+/// The same, of those before one that isn't ready.
+fn append_ready(first: usize, names: &[Signal], runs: &[Run], step: &Step, page: &mut Page) -> usize
+    requires before { All (IsShown (length step.now.old.now)) (map signal_view names.now) }
+    requires after { All (IsShown (length step.now.new.now)) (map signal_view names.now) }
+    requires ready { AreReady first (map signal_view names.now) runs.now }
+    requires room { length page.old + 77 ≤ PAGE }
+    ensures within { result ≤ length names.now }
+    ensures text { page.new ≡ page.old ++ changes_from first (take result (map signal_view names.now)) step.now.old.now step.now.new.now }
+{
+    let old = step.old;
+    let new = step.new;
+    for (place, run) in runs.iter().enumerate() {
+        if !run.keeps(old, new) {
+            if run.count == 0 {
+                return place;
+            }
+            run.push_other(page, old, new);
+            if page.room() < LINE {
+                return place + 1;
+            }
+        }
+    }
+    runs.len()
+}
+
+/// Appends the change of the name with this number to the page. Answers whether it has one.
 #[inline(never)]
 fn push_unready(number: usize, signal: &Signal, step: &Step, page: &mut Page) -> bool
     requires before { IsShown (length step.now.old.now) (signal_view signal.now) }

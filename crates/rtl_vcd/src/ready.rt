@@ -1,6 +1,6 @@
 //! Names that are ready to print: those whose nets stand one behind the other, with the end of their lines.
 
-ghost use Rattle.std.specs.Prelude.{◌≡◌, ℕ, ◌+◌, ◌<◌, ◌≤◌, ◌++◌, [], not, if◌then◌else◌, length, take, codes, true, slice_index, IfSome, IfOk};
+ghost use Rattle.std.specs.Prelude.{◌≡◌, ℕ, ◌+◌, ◌<◌, ◌≤◌, ◌++◌, [], not, if◌then◌else◌, length, take, codes, true, slice_index, IfOk};
 ghost use Rattle.std.specs.Str.{bytes_eq};
 ghost use Rattle.std.specs.List.{range_with_len};
 ghost use Rattle.rtl_net.specs.Nets.{SignalView, signal_view};
@@ -9,10 +9,10 @@ ghost use Rattle.arrayvec.specs.ArrayVec.{array_vec_len};
 ghost use Rattle.rtl_vcd.specs.Values.{code};
 ghost use Rattle.rtl_vcd.specs.declared.ready.Form.TheVariants as f;
 ghost use Rattle.rtl_vcd.specs.Ready as spec;
-ghost use Rattle.rtl_vcd.specs.Ready.{LiesAmong, IsRun, AreReady};
+ghost use Rattle.rtl_vcd.specs.Ready.{LiesAmong, IsReady, AreReady};
 
 use crate::change::is_other_character;
-use crate::characters::are_same_few;
+use crate::characters::{are_same, are_same_lanes};
 use crate::ending::End;
 use crate::line::{binary_digits, character, push_code};
 use crate::page::{PAGE, Page};
@@ -35,16 +35,29 @@ pub(crate) enum Form {
     Position { digits: u8 },
 }
 
-/// A name whose nets stand one behind the other, so many from the first on, how it prints them, and the end of its line.
+/// A name whose nets stand one behind the other, so many from the first on, how it prints them, and the end of its line. It has no
+/// nets where it isn't ready.
 #[derive(Clone, Copy)]
 pub(crate) struct Run {
     pub(crate) first: u32,
-    count: u8,
+    pub(crate) count: u8,
     pub(crate) form: Form,
     pub(crate) end: End,
 }
 
 impl Run {
+    /// A name that isn't ready.
+    fn unready() -> Run
+        ensures { result.count ≡ 0 }
+    {
+        Run {
+            first: 0,
+            count: 0,
+            form: Form::Single,
+            end: End::of(b""),
+        }
+    }
+
     /// The run of these nets, of the name with this number.
     fn of(number: usize, nets: &[usize], form: Form) -> Run
         requires some { 0 < length nets.now }
@@ -73,9 +86,6 @@ impl Run {
         ensures line { page.new ≡ page.old ++ (if result then (spec.line self.now new.now) else []) }
         ensures other { result ≡ not (bytes_eq (spec.elements self.now old.now) (spec.elements self.now new.now)) }
     {
-        if self.keeps(old, new) {
-            return false;
-        }
         match self.form {
             Form::Single => self.push_single(page, old, new),
             Form::Several => {
@@ -87,20 +97,25 @@ impl Run {
         }
     }
 
-    /// Whether its elements are few and have the same values in both.
-    fn keeps(&self, old: &[u8], new: &[u8]) -> bool
-        requires before { LiesAmong (length old.now) self.now }
-        requires after { LiesAmong (length new.now) self.now }
-        ensures { result ≡ true → spec.elements self.now old.now ≡ spec.elements self.now new.now }
+    /// Whether it has nets, and each has the same value in both.
+    pub(crate) fn keeps(&self, old: &[u8], new: &[u8]) -> bool
+        requires before { 0 < self.now.count → LiesAmong (length old.now) self.now }
+        requires after { 0 < self.now.count → LiesAmong (length new.now) self.now }
+        ensures some { result ≡ true → 0 < self.now.count }
+        ensures alike { result ≡ true → spec.elements self.now old.now ≡ spec.elements self.now new.now }
     {
         let first = self.first as usize;
-        match self.form {
-            Form::Several => {
-                let beyond = first + self.count as usize;
-                are_same_few(&old[first..beyond], &new[first..beyond])
-            }
-            _ => old[first] == new[first],
+        if self.count == 1 {
+            return old[first] == new[first];
         }
+        if self.count == 8 {
+            return are_same_lanes::<8>(&old[first..], &new[first..]);
+        }
+        if self.count == 0 {
+            return false;
+        }
+        let beyond = first + self.count as usize;
+        are_same(&old[first..beyond], &new[first..beyond])
     }
 
     /// Appends the line of one element in the same way.
@@ -143,7 +158,7 @@ impl Run {
 }
 
 /// The names of a netlist, as far as they are runs.
-pub(crate) fn runs_of(alloc: Global, net: &Net) -> Result<Vec<Option<Run>>, AllocError>
+pub(crate) fn runs_of(alloc: Global, net: &Net) -> Result<Vec<Run>, AllocError>
     ensures { IfOk result (λ rs. AreReady 0 net.now.signals rs.items) }
 {
     net.is_elaborated();
@@ -156,18 +171,18 @@ pub(crate) fn runs_of(alloc: Global, net: &Net) -> Result<Vec<Option<Run>>, Allo
 }
 
 /// The name with this number as a run, if it is one.
-fn run_of(number: usize, signal: &Signal) -> Option<Run>
+fn run_of(number: usize, signal: &Signal) -> Run
     requires some { 0 < length signal.now.nets.items }
     requires most { length signal.now.nets.items ≤ 64 }
-    ensures { IfSome result (IsRun number (signal_view signal.now)) }
+    ensures { IsReady number (signal_view signal.now) result }
 {
     if !is_short(&signal.nets) || !are_neighbours(&signal.nets) {
-        return None;
+        return Run::unready();
     }
     if !is_as_wide(signal.kind, signal.nets.len()) {
-        return None;
+        return Run::unready();
     }
-    Some(Run::of(number, &signal.nets, form_of(signal.kind)))
+    Run::of(number, &signal.nets, form_of(signal.kind))
 }
 
 /// How a name of this kind prints its elements.

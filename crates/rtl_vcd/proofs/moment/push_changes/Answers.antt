@@ -1,56 +1,63 @@
-use Rattle.std.proofs.Common.{◌+◌, ◌||◌, length, map, take, ◌∙◌, subst, sym, ap}
+use Rattle.std.proofs.Common.{◌≡◌, ◌+◌, ◌-◌, ◌||◌, All, length, map, take, drop, ◌∙◌, subst, sym, ap, arith}
+use Rattle.std.proofs.lemmas.List.{length-map}
+use Rattle.std.proofs.lemmas.List.Elements.{All-drop}
+use Rattle.rtl_vcd.specs.Shown.{IsShown}
 use Rattle.rtl_vcd.specs.Pages.{Passes}
+use Rattle.rtl_vcd.specs.Ready.{AreReady}
 use Rattle.rtl_vcd.proofs.Pages.{Passes-append}
-use Rattle.rtl_net.specs.Nets.{SignalView, signal_view}
-use Rattle.rtl_vcd.specs.Trace.{change, are_some}
+use Rattle.rtl_net.specs.Nets.{signal_view}
+use Rattle.rtl_vcd.specs.Trace.{are_some}
 use Rattle.rtl_vcd.specs.Blocks.{changes_from, continued}
-use Rattle.rtl_vcd.proofs.Names.{shown_at, numbered_more_from}
-use Rattle.rtl_vcd.proofs.Ends.{ready_at, name_there}
-use Rattle.rtl_vcd.proofs.Stamps.{continued_more, or_append}
+use Rattle.rtl_vcd.proofs.Names.{rest_of, rest_of_names, length-rest}
+use Rattle.rtl_vcd.proofs.Ends.{rest_ready}
+use Rattle.rtl_vcd.proofs.Stamps.{changes_behind, continued_more, or_append}
 use Rattle.rtl_vcd.proofs.moment.push_changes.Goals as goal
 
-pub bounds-names-place : goal.bounds-names-place
-bounds-names-place g c = name_there c.args.first c.args.names.now c.args.runs.now c.loop-place.place c.loop-place-test.true c.requires.runs
+pub push_part-part-requires-clause-before : goal.push_part-part-requires-clause-before
+push_part-part-requires-clause-before g c =
+    let nets = length c.args.step.now.old.now in
+    subst (All (IsShown nets)) (sym (rest_of_names c.args.names.now c.loop-next.next)) (All-drop (IsShown nets) c.loop-next.next (map signal_view c.args.names.now) c.requires.before)
 
-pub push_change-printed-requires-clause-before : goal.push_change-printed-requires-clause-before
-push_change-printed-requires-clause-before g c =
-    shown_at (length c.args.step.now.old.now) c.args.names.now c.loop-place.place c.index-names-place.result
-    (name_there c.args.first c.args.names.now c.args.runs.now c.loop-place.place c.loop-place-test.true c.requires.runs) c.index-names-place.is c.requires.before
+pub push_part-part-requires-clause-after : goal.push_part-part-requires-clause-after
+push_part-part-requires-clause-after g c =
+    let nets = length c.args.step.now.new.now in
+    subst (All (IsShown nets)) (sym (rest_of_names c.args.names.now c.loop-next.next)) (All-drop (IsShown nets) c.loop-next.next (map signal_view c.args.names.now) c.requires.after)
 
-pub push_change-printed-requires-clause-after : goal.push_change-printed-requires-clause-after
-push_change-printed-requires-clause-after g c =
-    shown_at (length c.args.step.now.new.now) c.args.names.now c.loop-place.place c.index-names-place.result
-    (name_there c.args.first c.args.names.now c.args.runs.now c.loop-place.place c.loop-place-test.true c.requires.runs) c.index-names-place.is c.requires.after
-
-pub push_change-printed-requires-clause-ready : goal.push_change-printed-requires-clause-ready
-push_change-printed-requires-clause-ready g c =
-    ready_at c.args.first c.args.names.now c.args.runs.now c.loop-place.place c.index-names-place.result c.index-runs-place.result
-    (name_there c.args.first c.args.names.now c.args.runs.now c.loop-place.place c.loop-place-test.true c.requires.runs)
-    c.index-names-place.is c.index-runs-place.is c.requires.runs
-
-pub loop-place-preserved : goal.loop-place-preserved
-loop-place-preserved g c =
+pub push_part-part-requires-clause-ready : goal.push_part-part-requires-clause-ready
+push_part-part-requires-clause-ready g c =
+    let next = c.loop-next.next in
     let names = c.args.names.now in
-    let place = c.loop-place.place in
-    let name = signal_view c.index-names-place.result in
+    let runs = c.args.runs.now in
+    subst (λ ss. AreReady (c.args.first + next) ss (take (length runs - next) (drop next runs))) (sym (rest_of_names names next))
+    (subst (AreReady (c.args.first + next) (drop next (map signal_view names))) (sym (rest_of next runs)) (rest_ready c.args.first (map signal_view names) runs next c.requires.runs))
+
+pub loop-next-preserved : goal.loop-next-preserved
+loop-next-preserved g c =
+    let names = c.args.names.now in
+    let views = map signal_view names in
+    let next = c.loop-next.next in
+    let part = c.push_part-part.result in
     let old = c.args.step.now.old.now in
     let new = c.args.step.now.new.now in
     let time = c.args.step.now.time in
     let first = g.W.Sink.state c.args.out.now in
-    let before = g.W.Sink.state c.loop-place.out in
-    let after = g.W.Sink.state c.push_change-printed.new.out in
+    let before = g.W.Sink.state c.loop-next.out in
+    let after = g.W.Sink.state c.push_part-part.new.out in
     let start = c.args.page.now in
-    let held = c.loop-place.page in
-    let holds = c.push_change-printed.new.page in
-    let earlier = changes_from c.args.first (map signal_view (take place names)) old new in
-    let one = change (c.args.first + place) name old new in
-    let there = name_there c.args.first names c.args.runs.now place c.loop-place-test.true c.requires.runs in
-    let more = numbered_more_from (λ k (s : SignalView). change k s old new) c.args.first names place c.index-names-place.result there c.index-names-place.is in
-    let pushed = subst (λ b. Passes before after held holds (continued b time one)) c.loop-place.invariant.1 c.push_change-printed.ensures.text in (
+    let held = c.loop-next.page in
+    let holds = c.push_part-part.new.page in
+    let I = c.loop-next.invariant in
+    let earlier = changes_from c.args.first (take next views) old new in
+    let these = changes_from (c.args.first + next) (take part.many (drop next views)) old new in
+    let more = changes_behind c.args.first next part.many views old new (omega (arith, I.3, length-map names signal_view)) in
+    let listed = rest_of_names names next in
+    let text = subst (λ ss. Passes before after held holds (continued c.loop-next.printed time (changes_from (c.args.first + next) (take part.many ss) old new))) listed c.push_part-part.ensures.text in
+    let pushed = subst (λ b. Passes before after held holds (continued b time these)) I.1 text in
+    let is = subst (λ ss. part.is_printed ≡ (c.loop-next.printed || are_some (changes_from (c.args.first + next) (take part.many ss) old new))) listed c.push_part-part.ensures.printed in (
       subst (λ xs. Passes first after start holds (continued c.args.is_printed time xs)) (sym more)
-          (subst (Passes first after start holds) (sym (continued_more c.args.is_printed time earlier one))
-          (Passes-append _ _ _ _ _ _ _ _ c.loop-place.invariant.0 pushed)),
-      c.push_change-printed.ensures.printed ∙ ap (λ b. b || are_some one) c.loop-place.invariant.1 ∙ sym (or_append c.args.is_printed earlier one)
-          ∙ ap (λ xs. c.args.is_printed || are_some xs) (sym more),
-      c.push_change-printed.ensures.opened,
+          (subst (Passes first after start holds) (sym (continued_more c.args.is_printed time earlier these))
+          (Passes-append _ _ _ _ _ _ _ _ I.0 pushed)),
+      is ∙ ap (λ b. b || are_some these) I.1 ∙ sym (or_append c.args.is_printed earlier these) ∙ ap (λ xs. c.args.is_printed || are_some xs) (sym more),
+      c.push_part-part.ensures.opened,
+      omega (arith, c.push_part-part.ensures.within, length-rest next names, I.3),
     )

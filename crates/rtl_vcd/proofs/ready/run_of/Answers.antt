@@ -17,7 +17,7 @@ returns c =
     let nets = near ∙ ap₂ range_with_len (sym first) (sym count) in
     let form = c.of.ensures.form ∙ c.form_of.ensures.form in
     let end = subst (λ f. take r.end.len r.end.bytes ≡ behind f ++ code c.args.number ++ codes "\n") (sym c.of.ensures.form) c.of.ensures.end in
-    record {
+    λ some. record {
       nets = nets;
       short = λ values. elements_short r.form r.first r.count values (λ digits e. c.form_of.ensures.few digits (sym c.of.ensures.form ∙ e)) (omega (arith, count, c.requires.most));
       prints = run_line c.args.number name r (omega (arith, count, c.requires.some)) nets form
