@@ -95,6 +95,9 @@ pub(crate) fn are_same(old: &[u8], new: &[u8]) -> bool
     if many > 64 {
         return old == new;
     }
+    if many < 4 {
+        return old == new;
+    }
     if many >= 32 {
         return are_same_ends::<32>(old, new);
     }
@@ -104,10 +107,7 @@ pub(crate) fn are_same(old: &[u8], new: &[u8]) -> bool
     if many >= 8 {
         return are_same_ends::<8>(old, new);
     }
-    if many >= 4 {
-        return are_same_ends::<4>(old, new);
-    }
-    are_same_each(old, new)
+    are_same_ends::<4>(old, new)
 }
 
 /// Whether the first so many values and the last so many, which together are all, are the same in both.
@@ -132,17 +132,4 @@ pub(crate) fn are_same_lanes<const LANES: usize>(old: &[u8], new: &[u8]) -> bool
     let before = Simd::<u8, LANES>::from_slice(old);
     let after = Simd::<u8, LANES>::from_slice(new);
     !are_different::<LANES>(before, after)
-}
-
-/// The same, one value at a time.
-fn are_same_each(old: &[u8], new: &[u8]) -> bool
-    requires { length old.now ≡ length new.now }
-    ensures { result ≡ true → old.now ≡ new.now }
-{
-    for at in 0..old.len() {
-        if old[at] != new[at] {
-            return false;
-        }
-    }
-    true
 }
