@@ -171,8 +171,8 @@ fn push_changes<W: Sink>(
             page,
             out,
         );
-        printed = part.is_printed;
-        next += part.many;
+        printed = part.1;
+        next += part.0;
     }
     printed
 }

@@ -25,15 +25,9 @@ pub(crate) struct Step<'a> {
     pub(crate) new: &'a [u8],
 }
 
-/// How many names were gone over, and whether something is printed behind them.
-#[derive(Clone, Copy)]
-pub(crate) struct Part {
-    pub(crate) many: usize,
-    pub(crate) is_printed: bool,
-}
-
 /// The changes of the first of these names, behind their time where that isn't printed yet: up to one that leaves no room for
-/// another line in the page, or up to one that isn't ready. The first of all is number `first`.
+/// another line in the page, or up to one that isn't ready. The first of all is number
+/// `first`. Answers how many names these are, and whether the time is printed then.
 pub(crate) fn push_part<W: Sink>(
     first: usize,
     names: &[Signal],
@@ -42,30 +36,27 @@ pub(crate) fn push_part<W: Sink>(
     is_printed: bool,
     page: &mut Page,
     out: &mut W,
-) -> Part
+) -> (usize, bool)
     requires some { 0 < length names.now }
     requires before { All (IsShown (length step.now.old.now)) (map signal_view names.now) }
     requires after { All (IsShown (length step.now.new.now)) (map signal_view names.now) }
     requires ready { AreReady first (map signal_view names.now) runs.now }
     requires opened { IsOpen is_printed page.old }
-    ensures some { 0 < result.many }
-    ensures within { result.many ≤ length names.now }
-    ensures opened { IsOpen result.is_printed page.new }
+    ensures some { 0 < result.0 }
+    ensures within { result.0 ≤ length names.now }
+    ensures opened { IsOpen result.1 page.new }
     ensures text { Passes (W.state out.old) (W.state out.new) page.old page.new
-        (continued is_printed step.now.time (changes_from first (take result.many (map signal_view names.now)) step.now.old.now step.now.new.now)) }
-    ensures printed { result.is_printed
-        ≡ (is_printed || are_some (changes_from first (take result.many (map signal_view names.now)) step.now.old.now step.now.new.now)) }
+        (continued is_printed step.now.time (changes_from first (take result.0 (map signal_view names.now)) step.now.old.now step.now.new.now)) }
+    ensures printed { result.1
+        ≡ (is_printed || are_some (changes_from first (take result.0 (map signal_view names.now)) step.now.old.now step.now.new.now)) }
 {
     let many = append_changes(first, names, runs, step, page);
-    if page.is_empty() {
-        return Part { many, is_printed };
+    if page.text().is_empty() {
+        return (many, is_printed);
     }
     put_time(step.time, is_printed, out);
     turn(page, out);
-    Part {
-        many,
-        is_printed: true,
-    }
+    (many, true)
 }
 
 /// Appends the changes of the first of these names to the page.

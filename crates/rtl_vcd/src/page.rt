@@ -1,6 +1,6 @@
 //! What was printed and hasn't gone to the sink yet.
 
-ghost use Rattle.std.specs.Prelude.{◌≡◌, ◌+◌, ◌<◌, ◌≤◌, ◌++◌, ◌∷◌, ◌==◌, ℕ, List, [], not, if◌then◌else◌, codes, length, map, take};
+ghost use Rattle.std.specs.Prelude.{◌≡◌, ◌+◌, ◌<◌, ◌≤◌, ◌++◌, ◌∷◌, ℕ, List, [], not, if◌then◌else◌, codes, length, map, take};
 ghost use Rattle.std.specs.Str.{bytes_eq};
 ghost use Rattle.rtl_vcd.specs.Values.{character};
 
@@ -47,13 +47,6 @@ impl Page {
         ensures { result.now ≡ self.now }
     {
         &self.bytes[..self.len]
-    }
-
-    /// Whether nothing stands on it.
-    pub(crate) fn is_empty(&self) -> bool
-        ensures { result ≡ (length self.now == 0) }
-    {
-        self.len == 0
     }
 
     /// How many bytes it still has room for.

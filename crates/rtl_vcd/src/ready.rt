@@ -115,6 +115,9 @@ impl Run {
             return false;
         }
         let beyond = first + self.count as usize;
+        if self.count > 8 && !are_same_lanes::<8>(&old[beyond - 8..], &new[beyond - 8..]) {
+            return false;
+        }
         are_same(&old[first..beyond], &new[first..beyond])
     }
 

@@ -48,12 +48,12 @@ loop-next-preserved g c =
     let holds = c.push_part-part.new.page in
     let I = c.loop-next.invariant in
     let earlier = changes_from c.args.first (take next views) old new in
-    let these = changes_from (c.args.first + next) (take part.many (drop next views)) old new in
-    let more = changes_behind c.args.first next part.many views old new (omega (arith, I.3, length-map names signal_view)) in
+    let these = changes_from (c.args.first + next) (take part.0 (drop next views)) old new in
+    let more = changes_behind c.args.first next part.0 views old new (omega (arith, I.3, length-map names signal_view)) in
     let listed = rest_of_names names next in
-    let text = subst (λ ss. Passes before after held holds (continued c.loop-next.printed time (changes_from (c.args.first + next) (take part.many ss) old new))) listed c.push_part-part.ensures.text in
+    let text = subst (λ ss. Passes before after held holds (continued c.loop-next.printed time (changes_from (c.args.first + next) (take part.0 ss) old new))) listed c.push_part-part.ensures.text in
     let pushed = subst (λ b. Passes before after held holds (continued b time these)) I.1 text in
-    let is = subst (λ ss. part.is_printed ≡ (c.loop-next.printed || are_some (changes_from (c.args.first + next) (take part.many ss) old new))) listed c.push_part-part.ensures.printed in (
+    let is = subst (λ ss. part.1 ≡ (c.loop-next.printed || are_some (changes_from (c.args.first + next) (take part.0 ss) old new))) listed c.push_part-part.ensures.printed in (
       subst (λ xs. Passes first after start holds (continued c.args.is_printed time xs)) (sym more)
           (subst (Passes first after start holds) (sym (continued_more c.args.is_printed time earlier these))
           (Passes-append _ _ _ _ _ _ _ _ I.0 pushed)),
