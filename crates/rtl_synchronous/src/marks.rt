@@ -33,6 +33,7 @@ pub fn mark_followers(groups: &Groups, values: &[u8], net: usize, value: u8, mar
 
 /// Gives nets that stand one behind the other in one group these values, and marks what is sensitive to them, if one gets another
 /// value than it has.
+#[inline(always)]
 pub fn set_run(
     groups: &Groups,
     first: usize,
@@ -40,7 +41,6 @@ pub fn set_run(
     values: &mut Vec<u8>,
     marks: &mut Vec<bool>,
 )
-    requires some { 0 < length given.now }
     requires there { first + length given.now ≤ length values.old.items }
     requires together { (k : ℕ) → k < length given.now → slice_index groups.now.of_net (first + k) ≡ slice_index groups.now.of_net first }
     requires each_net { length (wakers_of groups.now) ≡ length values.old.items }

@@ -19,15 +19,15 @@ use std::alloc::{AllocError, Global};
 
 /// The combinational processes in the order in which they are run, the ranks of those that are sensitive to each net, and the
 /// clocked processes that are; the cuts of each process's drivers over nets that the same combinational ones are sensitive to, and
-/// whether there is one alone; of each process the edge without which it assigns nothing, if it is clocked and has no reset; and
-/// from each process on the next one that is clocked.
+/// where there is one alone its first net; of each process the edge without which it assigns nothing, if it is clocked and has no
+/// reset; and from each process on the next one that is clocked.
 #[derive(Drop)]
 pub struct Schedule {
     pub order: Vec<usize>,
     pub readers: Groups,
     pub clocked: Groups,
     pub cuts: Cuts,
-    pub wholes: Vec<bool>,
+    pub wholes: Vec<Option<usize>>,
     pub edges: Vec<Option<ClockEdge>>,
     pub nexts: Vec<usize>,
 }

@@ -16,7 +16,7 @@ pub mark-requires : goal.mark-requires
 mark-requires c =
     let groups = c.args.groups.now in
     let first = c.args.first in
-    let within : first < length groups.of_net = omega (arith, c.requires.some, c.requires.there, c.requires.each_net, length-map groups.of_net (λ (g : ℕ). get_or groups.listed g [])) in
+    let within : first < length groups.of_net = omega (arith, (c.replace.ensures.some c.if-replace.true), c.requires.there, c.requires.each_net, length-map groups.of_net (λ (g : ℕ). get_or groups.listed g [])) in
     let row : c.listed.result.now ≡ get_or (wakers_of groups) first [] =
     c.listed.ensures ∙ ap (λ (ns : List ℕ). get_or groups.listed (get_or ns first 0) []) c.of_net.ensures.value ∙ sym (wakers_at groups first within) in
     record { there = λ k d l. c.requires.below first (get_or c.listed.result.now k d) (subst (λ (xs : List ℕ). Contains xs (get_or c.listed.result.now k d)) row (Contains-get_or c.listed.result.now k d l)) }
@@ -28,7 +28,7 @@ returns-then-replace-clause-marks c =
     let given = c.args.given.now in
     let of = λ (g : ℕ). get_or groups.listed g [] in
     let many = length-map groups.of_net (λ (g : ℕ). get_or groups.listed g []) in
-    let within : first < length groups.of_net = omega (arith, c.requires.some, c.requires.there, c.requires.each_net, many) in
+    let within : first < length groups.of_net = omega (arith, (c.replace.ensures.some c.if-replace.true), c.requires.there, c.requires.each_net, many) in
     let row : c.listed.result.now ≡ get_or (wakers_of groups) first [] =
     c.listed.ensures ∙ ap (λ (ns : List ℕ). get_or groups.listed (get_or ns first 0) []) c.of_net.ensures.value ∙ sym (wakers_at groups first within) in
     let together : (k : ℕ) → k < length given → get_or (wakers_of groups) (first + k) [] ≡ get_or (wakers_of groups) first [] =
@@ -38,7 +38,7 @@ returns-then-replace-clause-marks c =
     let done = rw c.deref_mut.ensures.value at c.replace.ensures.written in
     let many : length new ≡ old.len = omega (arith, done.as_many, old.ok.0) in
     let written = subst (λ (vs : List ℕ). IsWritten first given old.items vs) (sym (with_items_is old new many)) done in
-    marks_run (wakers_of groups) c.args.values.now.items _ first given c.args.marks.now.items c.mark.new.marks.items c.requires.some together written c.mark.ensures.as_many
+    marks_run (wakers_of groups) c.args.values.now.items _ first given c.args.marks.now.items c.mark.new.marks.items (c.replace.ensures.some c.if-replace.true) together written c.mark.ensures.as_many
     (subst (λ (xs : List ℕ). AddsPlaces xs c.args.marks.now.items c.mark.new.marks.items) row c.mark.ensures.marks)
 
 pub returns-else-replace-clause-marks : goal.returns-else-replace-clause-marks
