@@ -56,6 +56,12 @@ pub record AreEdges (net : Netlist) (edges : List (Option ClockEdge)) : Type 0 w
   pub each_process : length edges ≡ length net.processes
   pub each : (p : ℕ) (e : ClockEdge) → slice_index_or edges p None ≡ Some e → (process net p).kind ≡ Clocked e.clock e.edge None
 
+-- for each process one with the same edge
+pub record AreLeaders (edges : List (Option ClockEdge)) (leaders : List ℕ) : Type 0 where
+  pub each_process : length leaders ≡ length edges
+  pub there : (p : ℕ) → p < length edges → slice_index leaders p < length edges
+  pub alike : (p : ℕ) → p < length edges → slice_index_or edges (slice_index leaders p) None ≡ slice_index_or edges p None
+
 -- there is an edge that is awaited, and it isn't there
 abbrev pub IsAsleep : Option ClockEdge → (before now : List ℕ) → Type 0
 IsAsleep None before now = ⊥

@@ -17,7 +17,7 @@ ghost use Rattle.rtl_synchronous.specs.Marks.{AreBelow, Marks};
 ghost use Rattle.rtl_synchronous.specs.Pieces.{AreCutFor, IsPiece};
 ghost use Rattle.rtl_synchronous.specs.Running.{TakesOver, TakesPart, at_targets};
 
-use crate::marks::set_run;
+use crate::marks::{set_run, set_short};
 use crate::schedule::Schedule;
 use rtl_eval::{Drives, Span};
 use rtl_net::{Driver, Net};
@@ -58,6 +58,32 @@ pub fn take_over(
 /// The same where the drivers' nets stand one behind the other from this one on, in one group.
 #[inline(never)]
 fn take_whole(
+    readers: &Groups,
+    first: usize,
+    outcome: &Drives,
+    values: &mut Vec<u8>,
+    marks: &mut Vec<bool>,
+)
+    requires there { first + length outcome.now.entries ≤ length values.old.items }
+    requires together { (k : ℕ) → k < length outcome.now.entries → slice_index readers.now.of_net (first + k) ≡ slice_index readers.now.of_net first }
+    requires each_net { length (wakers_of readers.now) ≡ length values.old.items }
+    requires below { AreBelow (wakers_of readers.now) (length marks.old.items) }
+    ensures taken { TakesOver (range_with_len first (length outcome.now.entries)) outcome.now.entries values.old.items values.new.items }
+    ensures marks { Marks (wakers_of readers.now) (Contains (range_with_len first (length outcome.now.entries))) values.old.items values.new.items marks.old.items marks.new.items }
+{
+    let spans = outcome.assigned();
+    if spans.len() == 1 {
+        let span = spans[0];
+        let assigned = outcome.values(span);
+        set_short(readers, first + span.first, assigned, values, marks);
+    } else {
+        take_each(readers, first, outcome, values, marks);
+    }
+}
+
+/// The same, however many spans are assigned.
+#[inline(never)]
+fn take_each(
     readers: &Groups,
     first: usize,
     outcome: &Drives,

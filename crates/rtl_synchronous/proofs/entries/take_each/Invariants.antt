@@ -5,7 +5,7 @@ use Rattle.rtl_kernel.specs.drivers.Updates.{IsTaken}
 use Rattle.rtl_kernel.specs.wakes.Woken.{wakers_of}
 use Rattle.rtl_synchronous.specs.Marks.{Marks}
 use Rattle.rtl_synchronous.specs.Running.{TakesPart, at_targets}
-use Rattle.rtl_synchronous.proofs.entries.take_whole.Given as goal
+use Rattle.rtl_synchronous.proofs.entries.take_each.Given as goal
 
 abbrev pub invariant-loop-span : goal.invariant-loop-span
 invariant-loop-span l = record {
