@@ -25,17 +25,47 @@ impl Maker for Combination<'_> {
     ghost made = { λ c. combined c.logic c.left.now c.right.now };
 
     fn make(&self, out: &mut [u8]) {
-        combine(self.logic, self.left, self.right, out);
+        if self.left.len() < 16 {
+            return combine_from(self, 0, out);
+        }
+        let many = combine_digits(self.logic, self.left, self.right, out);
+        if many < self.left.len() {
+            combine_from(self, many, out);
+        }
     }
 }
 
-/// The codes of an operator's values on these codes, from the left.
-fn combine(logic: Logic, left: &[u8], right: &[u8], out: &mut [u8])
+/// The codes of an operator's values on these codes, sixteen at a time and as far as all of them stand for digits. Answers
+/// where it ends.
+fn combine_digits(logic: Logic, left: &[u8], right: &[u8], out: &mut [u8]) -> usize
     requires as_many { length right.now ≡ length left.now }
     requires room { length out.old ≡ length left.now }
-    ensures { out.new ≡ combined logic left.now right.now }
+    ensures within { result ≤ length left.now }
+    ensures room { length out.new ≡ length left.now }
+    ensures before { take result out.new ≡ take result (combined logic left.now right.now) }
 {
-    let many = combine_lanes::<16>(logic, left, right, 0, out);
+    let mut at = 0;
+    while left.len() - at >= 16 {
+        if !are_digits::<16>(left, at) || !are_digits::<16>(right, at) {
+            return at;
+        }
+        of_digits::<16>(logic, left, right, at).copy_to_slice(&mut out[at..]);
+        at += 16;
+    }
+    at
+}
+
+/// The same from a place on, whatever they stand for.
+fn combine_from(combination: &Combination<'_>, from: usize, out: &mut [u8])
+    requires room { length out.old ≡ length combination.now.left.now }
+    requires from { from ≤ length combination.now.left.now }
+    requires before { take from out.old ≡ take from (combined combination.now.logic combination.now.left.now combination.now.right.now) }
+    ensures { out.new ≡ combined combination.now.logic combination.now.left.now combination.now.right.now }
+{
+    let logic = combination.logic;
+    let left = combination.left;
+    let right = combination.right;
+    let many = combine_lanes::<16>(logic, left, right, from, out);
     let more = combine_lanes::<8>(logic, left, right, many, out);
     let _all = combine_lanes::<1>(logic, left, right, more, out);
 }

@@ -4,22 +4,17 @@ ghost use Rattle.std.specs.Prelude.{◌≡◌};
 ghost use Rattle.rtl_expect.specs.declared.faults.ExpectFault.TheVariants.{NoMemory};
 
 use std::alloc::{AllocError, AllocFailed};
-use thiserror::Error;
 
 /// What is wrong with a line of a file of expected values.
-#[derive(Clone, Copy, Debug, Error)]
+#[derive(Clone, Copy)]
 pub enum ExpectProblem {
     /// No `at`, a wrong count of words, or no number where one has to stand.
-    #[error("the line is not understood")]
     BadLine,
     /// A name that is no port's and no signal's full name.
-    #[error("no signal has this name")]
     NotASignal,
     /// A value of another length than the signal's, or with another character than the nine; no position of the enumeration.
-    #[error("the value does not fit the signal")]
     BadValue,
     /// A time above 10^15 ns.
-    #[error("the time is too large")]
     TimeTooLarge,
 }
 
@@ -62,13 +57,11 @@ impl ExpectProblem {
 }
 
 /// Why a file of expected values is refused. `line` counts from 1.
-#[derive(Clone, Copy, Debug, Error)]
+#[derive(Clone, Copy)]
 pub enum ExpectFault {
     /// This is wrong with a line.
-    #[error("{problem}, in line {line}")]
     InLine { problem: ExpectProblem, line: usize },
     /// Memory was refused.
-    #[error("out of memory")]
     NoMemory,
 }
 

@@ -1,14 +1,20 @@
 -- Nets' new values and notes, as an update of drivers goes on.
-use Rattle.std.proofs.Common.{◌≡◌, ℕ, ◌+◌, ◌-◌, ◌<◌, ◌≤◌, List, [], length, get_or, set, refl, sym, ap, subst, ◌∙◌, arith, ◌⊎◌, inl, inr, Contains}
+use Rattle.std.proofs.Common.{◌≡◌, ℕ, ◌+◌, ◌-◌, ◌<◌, ◌≤◌, Bool, true, false, List, [], length, get_or, set, refl, sym, ap, subst, ◌∙◌, arith, ◌⊎◌, inl, inr, Contains}
 use Rattle.std.proofs.lemmas.Bool.{cases_eq, cases_lt}
 use Rattle.std.proofs.lemmas.List.{get_or-set_same, get_or-set_other}
 use Rattle.rtl_net_layout.specs.Groups.{Grouping}
 use Rattle.rtl_model.specs.nets.FlatNetlist.{FlatNetlist}
 use Rattle.rtl_net.specs.declared.process.Process.{Process}
-use Rattle.rtl_kernel.specs.drivers.Brought.{AreAloneAlike, BringsRun, at_once, later, IsDriver, IsBrought, is_noted, has_kept, has_value, IsBroughtByAll, all_noted, all_kept, all_value, Brings, BringsAll}
+use Rattle.rtl_kernel.specs.drivers.Brought.{IsAlone, MarkAlone, BringsRun, at_once, later, no_new_value, IsDriver, IsBrought, is_noted, has_kept, has_value, IsBroughtByAll, all_noted, all_kept, all_value, Brings, BringsAll}
 use Rattle.rtl_kernel.specs.drivers.Transactions.{driver_at, targets_of}
 use Rattle.rtl_kernel.specs.values.TwoValues.{TwoValues, IsWritten, group_of}
 use Rattle.rtl_kernel.specs.worklists.Numbers.{Numbers}
+use Rattle.rtl_kernel.proofs.Replaced.{same_values}
+
+-- the nets of a marked group have one source each
+pub alone_marked : (wiring : FlatNetlist) (groups : Grouping) (marks : List Bool) (group : ℕ) → MarkAlone wiring groups marks → get_or marks group false ≡ true
+    → (n : ℕ) → n < length groups.of_net → get_or groups.of_net n 0 ≡ group → IsAlone wiring n
+alone_marked wiring groups marks group M told n l is = M.alone n l (ap (λ (g : ℕ). get_or marks g false) is ∙ told)
 
 module _ (wiring : FlatNetlist) where
   module _ (targets : List ℕ) where
@@ -23,9 +29,9 @@ module _ (wiring : FlatNetlist) where
     }
 
     -- new values of the drivers from a place on, whose nets are those from `first` on, in one group
-    module _ (row row' : List ℕ) (place first : ℕ) (values : List ℕ) (nets : TwoValues) (noted : Numbers) (alike : AreAloneAlike wiring nets.groups.of_net)
-        (some : 0 < length values) (there : place + length values ≤ length targets) (is : (k : ℕ) → k < length values → get_or targets (place + k) 0 ≡ first + k)
-        (together : (k : ℕ) → k < length values → group_of nets (first + k) ≡ group_of nets first) (in_nets : first + length values ≤ length nets.groups.of_net)
+    module _ (row row' : List ℕ) (is_alone : Bool) (place first group : ℕ) (values : List ℕ) (nets : TwoValues) (noted : Numbers)
+        (alone : is_alone ≡ true → (k : ℕ) → k < length values → IsAlone wiring (first + k)) (there : place + length values ≤ length targets) (is : (k : ℕ) → k < length values → get_or targets (place + k) 0 ≡ first + k)
+        (together : (k : ℕ) → k < length values → group_of nets (first + k) ≡ group)
         (Wrote : IsWritten place values row row') where
       -- the driver of a net among these
       driver : (k : ℕ) → k < length values → IsDriver targets (place + k) (first + k)
@@ -54,8 +60,8 @@ module _ (wiring : FlatNetlist) where
           by (inr from) (inr high) = inr (λ k l e. omega (arith, high, l, e))
           by (inr from) (inl l) = inl (m - first, omega (arith, from, l), omega (arith, from))
 
-      pub brings_run : (nets' : TwoValues) (noted' : Numbers) → BringsRun wiring first values nets noted nets' noted' → Brings wiring targets row row' nets noted nets' noted'
-      brings_run nets' noted' (at_once alone H same) = record {
+      pub brings_run : (nets' : TwoValues) (noted' : Numbers) → BringsRun is_alone place first group values row nets noted nets' noted' → Brings wiring targets row row' nets noted nets' noted'
+      brings_run nets' noted' (at_once told H same) = record {
         bound_stays = ap (λ (w : Numbers). w.bound) same;
         noted_stay = λ m h. rw same h;
         groups_stay = H.groups_stay;
@@ -76,7 +82,7 @@ module _ (wiring : FlatNetlist) where
               → IsBrought wiring nets.groups.of_net targets row row' nets.current nets'.current noted'.members m
           by m (inl (k, l, e)) =
               subst (λ (n : ℕ). IsBrought wiring nets.groups.of_net targets row row' nets.current nets'.current noted'.members n) e
-              (has_value (place + k) (driver k l) (alike first (first + k) (omega (arith, some, in_nets)) (omega (arith, l, in_nets)) (sym (together k l)) alone)
+              (has_value (place + k) (driver k l) (alone told k l)
               (H.current.written k l ∙ sym (Wrote.written k l)))
           by m (inr out) = has_kept (kept m out) (λ q D. other m q out D)
       brings_run nets' noted' (later same W) = record {
@@ -94,6 +100,9 @@ module _ (wiring : FlatNetlist) where
               subst (λ (n : ℕ). IsBrought wiring nets.groups.of_net targets row row' nets.current nets'.current noted'.members n) e
               (is_noted (place + k) (driver k l) (subst (Contains noted'.members) (sym (together k l)) W.added))
           by m (inr out) = has_kept (ap (λ (t : TwoValues). get_or t.current m 0) same) (λ q D. other m q out D)
+      brings_run nets' noted' (no_new_value same noted_same were) =
+          subst (λ (r : List ℕ). Brings wiring targets row r nets noted nets' noted') (same_values place values row row' Wrote were)
+          (rw (same, noted_same) (brings_none row nets noted))
 
     -- one after the other
     module _ (row row' row'' : List ℕ) (nets nets' nets'' : TwoValues) (noted noted' noted'' : Numbers) (A : Brings wiring targets row row' nets noted nets' noted')

@@ -8,8 +8,9 @@ use Rattle.std.proofs.lemmas.List.Edits.{get_or-between, length-between}
 use Rattle.std.proofs.lemmas.List.Elements.{All-contains, Contains-get_or}
 use Rattle.rtl_net_layout.specs.Groups.{Grouping, AreNetsOf}
 use Rattle.rtl_model.specs.basics.Valuations.{has_event}
+use Rattle.rtl_model.proofs.simulation.Rows.{differs_event}
 use Rattle.rtl_kernel.specs.worklists.Numbers.{Numbers, IsWith}
-use Rattle.rtl_kernel.specs.values.TwoValues.{TwoValues, CoverEvents, IsWritten, group_of}
+use Rattle.rtl_kernel.specs.values.TwoValues.{TwoValues, CoverEvents, HasEventIn, IsOther, IsWritten, group_of}
 
 -- a group that is put in is one more
 covers_set-there : (P : ℕ → Type 0) (old new : Numbers) (group : ℕ) → All P old.members → P group → IsWith group old new → All P new.members
@@ -20,11 +21,11 @@ covers_set-there P old new group held holds W k d l = by (W.no_other (get_or new
     by (inr e) = subst P (sym e) holds
 
 -- values are written to nets of one group
-pub covers_written : (v : TwoValues) (old new : Numbers) (first : ℕ) (values current : List ℕ) → group_of v first < length v.groups.listed
-    → ((k : ℕ) → k < length values → group_of v (first + k) ≡ group_of v first) → IsWritten first values v.current current → CoverEvents v old.members
-    → IsWith (group_of v first) old new → CoverEvents (record v { current = current }) new.members
-covers_written v old new first values current below together W C A = record {
-  there = covers_set-there (λ g. g < length v.groups.listed) old new (group_of v first) C.there below A;
+pub covers_written : (v : TwoValues) (old new : Numbers) (first group : ℕ) (values current : List ℕ) → group < length v.groups.listed
+    → ((k : ℕ) → k < length values → group_of v (first + k) ≡ group) → IsWritten first values v.current current → CoverEvents v old.members
+    → IsWith group old new → CoverEvents (record v { current = current }) new.members
+covers_written v old new first group values current below together W C A = record {
+  there = covers_set-there (λ g. g < length v.groups.listed) old new group C.there below A;
   events = λ n h. by n h (cases_lt n first) (cases_lt n (first + length values));
 }
   where
@@ -36,7 +37,7 @@ covers_written v old new first values current below together W C A = record {
     by n h (inr from) (inr high) = kept n (W.behind n high) h
     by n h (inr from) (inl l) =
         let at : first + (n - first) ≡ n = omega (arith, from) in
-        let own : group_of v first ≡ group_of v n = sym (together (n - first) (omega (arith, l, from))) ∙ ap (group_of v) at in
+        let own : group ≡ group_of v n = sym (together (n - first) (omega (arith, l, from))) ∙ ap (group_of v) at in
         subst (Contains new.members) own A.added
 
 pub covers_set : (v : TwoValues) (old new : Numbers) (net value : ℕ) → group_of v net < length v.groups.listed → CoverEvents v old.members → IsWith (group_of v net) old new
@@ -49,6 +50,35 @@ covers_set v old new net value below C A = record {
     by : (n : ℕ) → has_event v.before (set v.current net value) n ≡ true → (n ≡ net) ⊎ (n ≡ net → ⊥) → Contains new.members (group_of v n)
     by n h (inl e) = rw e A.added
     by n h (inr other) = A.kept (group_of v n) (C.events n (rw (get_or-set_other v.current net n value 0 other) at h))
+
+-- values other than those that were there are written to nets of a group that had no event: each group has one that had one, and so has this
+pub sure_written : (v : TwoValues) (old new : Numbers) (first group : ℕ) (values current : List ℕ) → ((k : ℕ) → k < length values → group_of v (first + k) ≡ group)
+    → first + length values ≤ length v.groups.of_net → IsWritten first values v.current current → IsOther first values v.current → CoverEvents v old.members
+    → (Contains old.members group → ⊥) → IsWith group old new → All (HasEventIn v) old.members → All (HasEventIn (record v { current = current })) new.members
+sure_written v old new first group values current together there W O C none A sure k d l =
+    by (A.no_other (get_or new.members k d) (Contains-get_or new.members k d l))
+  where
+    -- the nets of other groups are as they were
+    kept : (n : ℕ) → (group_of v n ≡ group → ⊥) → get_or current n 0 ≡ get_or v.current n 0
+    kept n other = at (cases_lt n first) (cases_lt n (first + length values))
+      where
+        at : (n < first) ⊎ (first ≤ n) → (n < first + length values) ⊎ (first + length values ≤ n) → get_or current n 0 ≡ get_or v.current n 0
+        at (inl low) _ = W.below n low
+        at (inr from) (inr high) = W.behind n high
+        at (inr from) (inl less) =
+            let is : first + (n - first) ≡ n = omega (arith, from) in
+            absurd (other (ap (group_of v) (sym is) ∙ together (n - first) (omega (arith, less, from))))
+
+    event : has_event v.before current (first + O.place) ≡ true
+    event = differs_event v.before current (first + O.place) (λ same. none (subst (Contains old.members) (together O.place O.there)
+        (C.events (first + O.place) (differs_event v.before v.current (first + O.place) (λ was. O.differ (sym was ∙ same ∙ W.written O.place O.there))))))
+
+    by : Contains old.members (get_or new.members k d) ⊎ (get_or new.members k d ≡ group) → HasEventIn (record v { current = current }) (get_or new.members k d)
+    by (inl h) =
+        let (n, own, within, had) = All-contains (HasEventIn v) old.members (get_or new.members k d) sure h in
+        let same = kept n (λ e. none (subst (Contains old.members) (sym own ∙ e) h)) in
+        (n, own, within, rw same had)
+    by (inr e) = (first + O.place, together O.place O.there ∙ sym e, omega (arith, O.there, there), event)
 
 -- ---- values before that are brought up, group by group
 

@@ -1,14 +1,14 @@
 -- The processes that wake on a net, by its group.
-use Rattle.std.proofs.Common.{◌≡◌, ◌↔◌, ℕ, ◌+◌, ◌<◌, ◌≤◌, ◌%◌, ◌==◌, Bool, true, List, [], length, map, get_or, set, arith, sym, ap, subst, ◌∙◌, ◌⊎◌, inl, inr, Contains, All}
+use Rattle.std.proofs.Common.{◌≡◌, ◌↔◌, ℕ, ◌+◌, ◌-◌, ◌<◌, ◌≤◌, ◌%◌, ◌==◌, Bool, true, false, List, [], ◌∷◌, ◌++◌, length, map, get_or, set, arith, sym, ap, subst, ◌∙◌, ◌⊎◌, inl, inr, Contains, All}
 use Rattle.std.proofs.lemmas.Bool.{cases_eq, cases_lt, eq-eqb, eqb-true}
-use Rattle.std.proofs.lemmas.List.{get_or-map, get_or-set_same, get_or-set_other, get_or_past, length-map}
+use Rattle.std.proofs.lemmas.List.{get_or_append_left, get_or-append_right, get_or-map, get_or-set_same, get_or-set_other, get_or_past, length-map}
 use Rattle.std.proofs.lemmas.List.Elements.{All-contains}
-use Rattle.rtl_net_layout.specs.Groups.{Grouping, AreGroups}
+use Rattle.rtl_net_layout.specs.Groups.{Grouping, AreGroups, AreRuns}
 use Rattle.rtl_model.specs.nets.FlatNetlist.{FlatNetlist, flat_sources}
 use Rattle.rtl_net.specs.Nets.{source_view}
 use Rattle.rtl_net.specs.declared.net.Source as r
 use Rattle.rtl_model.proofs.basics.Lists.{Contains-none}
-use Rattle.rtl_kernel.specs.drivers.Brought.{AreAloneAlike, AreToldApart, IsAlone}
+use Rattle.rtl_kernel.specs.drivers.Brought.{AreAloneAlike, AreToldApart, IsAlone, MarkAlone}
 use Rattle.rtl_kernel.specs.wakes.Woken.{IsIndex, wakers_of}
 
 module _ (groups : Grouping) where
@@ -58,3 +58,35 @@ told_more wiring numbers each x sources b there are test odd before n l = by (ca
     by : (n ≡ each) ⊎ (n ≡ each → ⊥) → IsAlone wiring n ↔ (get_or (set numbers each x) n 0 % 2 ≡ 1)
     by (inl e) = rw e here
     by (inr other) = rw (get_or-set_other numbers each n x 0 other) (before n (omega (arith, l, other)))
+
+-- one group more of which it is told whether its nets are alone
+pub alone_more : (wiring : FlatNetlist) (first : List ℕ) (marks : List Bool) (group count : ℕ) (sources : List r.Source) → length marks ≡ group
+    → map source_view sources ≡ flat_sources wiring (get_or first group 0) → count ≡ length sources
+    → ((g : ℕ) → g < group → get_or marks g false ≡ true → IsAlone wiring (get_or first g 0))
+    → (g : ℕ) → g < group + 1 → get_or (marks ++ (count == 1) ∷ []) g false ≡ true → IsAlone wiring (get_or first g 0)
+alone_more wiring first marks group count sources many are is before g l told = by (cases_lt g group)
+  where
+    by : (g < group) ⊎ (group ≤ g) → IsAlone wiring (get_or first g 0)
+    by (inl less) = before g less (sym (get_or_append_left marks ((count == 1) ∷ []) false g (omega (arith, less, many))) ∙ told)
+    by (inr from) =
+        let same : g ≡ group = omega arith in
+        let none : group - group ≡ 0 = omega arith in
+        let last : get_or (marks ++ (count == 1) ∷ []) group false ≡ (count == 1) =
+        get_or-append_right marks ((count == 1) ∷ []) group group false many (omega arith) ∙ ap (λ (m : ℕ). get_or ((count == 1) ∷ []) m false) none in
+        let one = eqb-true count 1 (sym last ∙ ap (λ (n : ℕ). get_or (marks ++ (count == 1) ∷ []) n false) (sym same) ∙ told) in
+        let long : length (flat_sources wiring (get_or first group 0)) ≡ 1 = ap length (sym are) ∙ length-map sources source_view ∙ sym is ∙ one in
+        rw same long
+
+-- where all groups are told, each net is told by its group
+pub marks_alone : (wiring : FlatNetlist) (groups : Grouping) (marks : List Bool) → AreRuns groups.of_net groups.first → length groups.listed ≡ length groups.first
+    → AreAloneAlike wiring groups.of_net → length marks ≡ length groups.listed
+    → ((g : ℕ) → g < length groups.listed → get_or marks g false ≡ true → IsAlone wiring (get_or groups.first g 0)) → MarkAlone wiring groups marks
+marks_alone wiring groups marks R each_group alike many each = record {
+  each_group = many;
+  there = λ n l. rw each_group (R.there n l);
+  alone = λ n l told.
+      (let group = get_or groups.of_net n 0 in
+      let within = R.there n l in
+      let B = R.begins group within in
+      alike (get_or groups.first group 0) n B.0 l B.1 (each group (rw each_group within) told));
+}

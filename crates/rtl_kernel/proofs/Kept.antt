@@ -16,7 +16,7 @@ use Rattle.rtl_net.specs.Nets.{NetlistView, flat}
 use Rattle.rtl_net.specs.declared.process.Process.{Process}
 use Rattle.rtl_kernel.specs.drivers.Resolved.{AreResolved}
 use Rattle.rtl_kernel.specs.drivers.Rows.{IsSourceThere}
-use Rattle.rtl_kernel.specs.drivers.Brought.{AreAloneAlike, IsBroughtByAll}
+use Rattle.rtl_kernel.specs.drivers.Brought.{MarkAlone, IsBroughtByAll}
 use Rattle.rtl_kernel.specs.drivers.Transactions.{Transactions, IsActive, HasRunOf, all_targets, pending_of, without_entries, no_outcome}
 use Rattle.rtl_kernel.specs.kernel.Kept.{IsKernel, IsSound, state_of}
 use Rattle.rtl_kernel.specs.kernel.Simulation.{changes_of}
@@ -31,8 +31,8 @@ use Rattle.rtl_kernel.proofs.Running.{effect_length, room_ran, room_taken, state
 use Rattle.rtl_kernel.proofs.Steps.{keeps_types, sound_given, sound_ran, sound_updated, sources_there, wired}
 use Rattle.rtl_kernel.proofs.Wiring.{targets_are, wakes_are}
 
-module _ {E : Type 0} (process : E → FlatProcess) (types : E → List ElementType) (most : E → ℕ) (net : NetlistView) (bodies : List E) (cuts : Cutting)
-    (v : TwoValues) (t : Transactions) (r : ToRun) (noted : Numbers) (K : IsKernel process types most net bodies cuts v t r noted) where
+module _ {E : Type 0} (process : E → FlatProcess) (types : E → List ElementType) (most : E → ℕ) (net : NetlistView) (bodies : List E) (cuts : Cutting) (alone : List Bool)
+    (v : TwoValues) (t : Transactions) (r : ToRun) (noted : Numbers) (K : IsKernel process types most net bodies cuts alone v t r noted) where
   abbrev pub before_step : State
   before_step = state_of v t r
 
@@ -81,7 +81,7 @@ module _ {E : Type 0} (process : E → FlatProcess) (types : E → List ElementT
         pub is_ran : state_of v t' r' ≡ after_run (core_netlist (flat net)) p before_step
         is_ran = state_ran (flat net) v t r t' r' p (process e) process_is in_outcomes own fresh drivers R waiting
 
-        pub kept_ran : IsKernel process types most net bodies cuts v t' r' noted
+        pub kept_ran : IsKernel process types most net bodies cuts alone v t' r' noted
         kept_ran = record {
           in_range = K.in_range;
           connected = K.connected;
@@ -91,7 +91,7 @@ module _ {E : Type 0} (process : E → FlatProcess) (types : E → List ElementT
           sound = subst (IsSound (flat net)) (sym is_ran) (sound_ran (flat net) K.in_range K.connected before_step p K.sound);
           is_index = K.is_index;
           each_net = K.each_net;
-          alike = K.alike;
+          marked = K.marked;
           are_cuts = K.are_cuts;
           idle = K.idle;
         }
@@ -133,7 +133,7 @@ module _ {E : Type 0} (process : E → FlatProcess) (types : E → List ElementT
         (subst (λ (rows : List (List ℕ)). AreResolved (core_netlist (flat net)) rows (λ n. Contains nets.members (get_or v.groups.of_net n 0)) mid.current v'.current) drivers R))
         drivers outcomes (wakes_same v'.groups v'.before v'.current r'.waiting groups as_many W)
 
-    pub kept_updated : (noted' : Numbers) → noted' ≡ record { bound = length v.groups.listed; members = [] } → IsKernel process types most net bodies cuts v' t' r' noted'
+    pub kept_updated : (noted' : Numbers) → noted' ≡ record { bound = length v.groups.listed; members = [] } → IsKernel process types most net bodies cuts alone v' t' r' noted'
     kept_updated noted' idle = record {
       in_range = K.in_range;
       connected = K.connected;
@@ -142,7 +142,7 @@ module _ {E : Type 0} (process : E → FlatProcess) (types : E → List ElementT
       sound = subst (IsSound (flat net)) (sym is_updated) sound_update;
       is_index = subst (λ (g : Grouping). IsIndex (map (λ (p : Process). p.wakes.items) net.processes) (wakers_of g)) (sym groups) K.is_index;
       each_net = ap (λ (g : Grouping). length g.of_net) groups ∙ K.each_net;
-      alike = subst (λ (g : Grouping). AreAloneAlike (flat net) g.of_net) (sym groups) K.alike;
+      marked = subst (λ (g : Grouping). MarkAlone (flat net) g alone) (sym groups) K.marked;
       are_cuts = subst (λ (g : Grouping). AreCutsOf g.of_net (all_targets net.processes) cuts) (sym groups) K.are_cuts;
       idle = idle ∙ ap (λ (g : Grouping). record { bound = length g.listed; members = [] }) (sym groups);
     }
@@ -157,7 +157,7 @@ module _ {E : Type 0} (process : E → FlatProcess) (types : E → List ElementT
         (given_values (core_netlist (flat net)) (changes_of cs) v.current v'.current K.sound.in_range.now.each_net C (named (flat net) K.in_range cs inputs))
         (wakes_same v'.groups v'.before v'.current r'.waiting groups as_many W)
 
-    pub kept_given : is_quiet before_step ≡ true → IsKernel process types most net bodies cuts v' t r' noted
+    pub kept_given : is_quiet before_step ≡ true → IsKernel process types most net bodies cuts alone v' t r' noted
     kept_given quiet = record {
       in_range = K.in_range;
       connected = K.connected;
@@ -167,7 +167,7 @@ module _ {E : Type 0} (process : E → FlatProcess) (types : E → List ElementT
           (sound_given (flat net) K.in_range K.connected (with_changes (changes_of cs) v.current) before_step (are_inputs (flat net) K.in_range cs v.current K.sound.in_range.now) quiet K.sound);
       is_index = subst (λ (g : Grouping). IsIndex (map (λ (p : Process). p.wakes.items) net.processes) (wakers_of g)) (sym groups) K.is_index;
       each_net = ap (λ (g : Grouping). length g.of_net) groups ∙ K.each_net;
-      alike = subst (λ (g : Grouping). AreAloneAlike (flat net) g.of_net) (sym groups) K.alike;
+      marked = subst (λ (g : Grouping). MarkAlone (flat net) g alone) (sym groups) K.marked;
       are_cuts = subst (λ (g : Grouping). AreCutsOf g.of_net (all_targets net.processes) cuts) (sym groups) K.are_cuts;
       idle = K.idle ∙ ap (λ (g : Grouping). record { bound = length g.listed; members = [] }) (sym groups);
     }

@@ -1,8 +1,10 @@
 -- Runs of values that are written.
-use Rattle.std.proofs.Common.{◌≡◌, ℕ, zero, suc, ◌+◌, ◌-◌, ◌<◌, ◌≤◌, Bool, true, false, not, Decides, List, [], ◌∷◌, length, get_or, set, refl, sym, ap, ◌∙◌, arith, ◌⊎◌, inl, inr}
+use Rattle.std.proofs.Common.{◌≡◌, ℕ, zero, suc, ◌+◌, ◌-◌, ◌<◌, ◌≤◌, Bool, true, false, not, Decides, List, [], ◌∷◌, length, get_or, set, Vec, refl, sym, ap, subst, ◌∙◌, arith, ◌⊎◌, inl, inr}
+use Rattle.std.specs.Global.{Global}
 use Rattle.std.specs.List.{between}
+use Rattle.std.specs.Vec.{with_items}
 use Rattle.std.proofs.lemmas.Bool.{cases_eq}
-use Rattle.std.proofs.lemmas.List.{get_or-set_same, get_or-set_other, length-set}
+use Rattle.std.proofs.lemmas.List.{get_or-set_same, get_or-set_other, length-set, with_items_is}
 use Rattle.std.proofs.lemmas.List.Edits.{sets, get_or-between, length-between}
 use Rattle.rtl_eval.proofs.Assigned.{length_sets}
 use Rattle.rtl_kernel.specs.values.TwoValues.{IsWritten}
@@ -32,6 +34,11 @@ is_written xs first ys within = record {
   below = λ q l. sets_below ys xs first q l;
   behind = λ q l. sets_behind ys xs first q l;
 }
+
+pub written_items : (old : Vec ℕ Global) (new : List ℕ) (first : ℕ) (values : List ℕ) → IsWritten first values old.items new → IsWritten first values old.items (with_items old new).items
+written_items old new first values W =
+    let many : length new ≡ old.len = omega (arith, W.as_many, old.ok.0) in
+    subst (IsWritten first values old.items) (sym (with_items_is old new many)) W
 
 -- what a test for a difference says
 pub differing : {P : Type 0} (b r : Bool) → Decides b P → r ≡ not b → r ≡ true → P → ⊥

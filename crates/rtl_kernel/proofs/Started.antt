@@ -22,7 +22,7 @@ use Rattle.rtl_net.specs.Nets.{NetlistView, flat, driver_view, process_view}
 use Rattle.rtl_net.specs.declared.process.Driver as r
 use Rattle.rtl_net.specs.declared.process.Process as q
 use Rattle.rtl_kernel.specs.drivers.Starts.{AreFresh, elements_of, no_entries, start_row, starts_of}
-use Rattle.rtl_kernel.specs.drivers.Brought.{AreAloneAlike}
+use Rattle.rtl_kernel.specs.drivers.Brought.{MarkAlone}
 use Rattle.rtl_kernel.specs.drivers.Transactions.{Transactions, all_targets, no_outcome}
 use Rattle.rtl_kernel.specs.kernel.Kept.{HaveRoom, IsKernel, IsSound, RunBodies, state_of}
 use Rattle.rtl_kernel.specs.kernel.Simulation.{each_given, initial_inputs}
@@ -158,10 +158,10 @@ module _ {E : Type 0} (process : E → FlatProcess) (types : E → List ElementT
     fresh = λ p waits a. none_fresh net.processes p (subst (λ (rows : List (List (Option ℕ))). (place : ℕ) × IsSome (get_or (get_or rows p []) place None)) F.entries a);
   }
 
-  pub kept_started : (cuts : Cutting) (noted : Numbers) → IsIndex (map (λ (p : q.Process). p.wakes.items) net.processes) (wakers_of v.groups) → length v.groups.of_net ≡ length net.types
-      → AreAloneAlike (flat net) v.groups.of_net → AreCutsOf v.groups.of_net (all_targets net.processes) cuts → noted ≡ record { bound = length v.groups.listed; members = [] }
-      → IsKernel process types most net bodies cuts v t r noted
-  kept_started cuts noted I each_net alike are_cuts idle = record {
+  pub kept_started : (cuts : Cutting) (alone : List Bool) (noted : Numbers) → IsIndex (map (λ (p : q.Process). p.wakes.items) net.processes) (wakers_of v.groups) → length v.groups.of_net ≡ length net.types
+      → MarkAlone (flat net) v.groups alone → AreCutsOf v.groups.of_net (all_targets net.processes) cuts → noted ≡ record { bound = length v.groups.listed; members = [] }
+      → IsKernel process types most net bodies cuts alone v t r noted
+  kept_started cuts alone noted I each_net marks are_cuts idle = record {
     in_range = R;
     connected = C;
     run_bodies = B;
@@ -169,7 +169,7 @@ module _ {E : Type 0} (process : E → FlatProcess) (types : E → List ElementT
     sound = sound;
     is_index = I;
     each_net = each_net;
-    alike = alike;
+    marked = marks;
     are_cuts = are_cuts;
     idle = idle;
   }

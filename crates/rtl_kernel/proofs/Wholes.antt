@@ -1,5 +1,5 @@
 -- Processes whose drivers are one cut.
-use Rattle.std.proofs.Common.{◌≡◌, ℕ, zero, suc, ◌+◌, ◌-◌, ◌<◌, ◌≤◌, All, List, [], ◌∷◌, length, get_or, drop, Option, Some, None, refl, sym, ap, subst, ◌∙◌, arith, append-nil, ◌⊎◌, IsSome, Contains}
+use Rattle.std.proofs.Common.{◌≡◌, ℕ, zero, suc, ◌+◌, ◌-◌, ◌<◌, ◌≤◌, Bool, true, All, List, [], ◌∷◌, length, get_or, drop, Option, Some, None, refl, sym, ap, subst, ◌∙◌, arith, append-nil, ◌⊎◌, IsSome, Contains}
 use Rattle.std.specs.List.{range_with_len, flat_map}
 use Rattle.std.proofs.lemmas.List.{ext_get_or, length-map}
 use Rattle.std.proofs.lemmas.List.FromFn.{length-range_with_len, get_or-range_with_len}
@@ -13,11 +13,10 @@ use Rattle.rtl_net_layout.specs.Cuts as cutting
 use Rattle.rtl_net.specs.declared.process.Process.{Process}
 use Rattle.rtl_kernel.specs.values.TwoValues.{TwoValues, IsWritten, group_of}
 use Rattle.rtl_kernel.specs.worklists.Numbers.{Numbers}
-use Rattle.rtl_kernel.specs.drivers.Brought.{AreAloneAlike, BringsRun, Brings}
+use Rattle.rtl_kernel.specs.drivers.Brought.{IsAlone, BringsRun, Brings}
 use Rattle.rtl_kernel.specs.drivers.Transactions.{all_targets, nets_of, targets_of}
 use Rattle.rtl_kernel.specs.drivers.Updates.{TakesEntries, IsTaken}
-use Rattle.rtl_kernel.proofs.Brought.{brings_none, brings_run}
-use Rattle.rtl_kernel.proofs.Replaced.{same_values}
+use Rattle.rtl_kernel.proofs.Brought.{brings_run}
 use Rattle.rtl_kernel.proofs.Updating.{takes_run, takes_then, taken_here, left_one}
 
 -- the nets of a process's drivers are there where those of all are
@@ -74,12 +73,17 @@ module _ (of_net targets : List ℕ) (cuts : List Cut) (numbers : List ℕ) (A :
       ext_get_or 0 targets (range_with_len cut.net (length targets)) (sym (length-range_with_len cut.net (length targets)))
       (λ k l. net_is k l ∙ sym (get_or-range_with_len cut.net (length targets) k 0 l))
 
+  pub whole_some : 0 < length targets
+  whole_some = (let some = is_cut.some in let long = len_is in omega (arith, some, long))
+
   -- in one group
-  pub whole_group : (k : ℕ) → k < length targets → get_or of_net (cut.net + k) 0 ≡ get_or of_net cut.net 0
-  whole_group k l =
-      let long = len_is in
+  pub whole_in_group : (k : ℕ) → k < length targets → get_or of_net (cut.net + k) 0 ≡ cut.group
+  whole_in_group k l = let long = len_is in is_cut.in_group k (omega (arith, l, long))
+
+  pub whole_first : get_or of_net cut.net 0 ≡ cut.group
+  whole_first =
       let first : cut.net ≡ cut.net + 0 = omega arith in
-      is_cut.in_group k (omega (arith, l, long)) ∙ sym (ap (λ (n : ℕ). get_or of_net n 0) first ∙ is_cut.in_group 0 is_cut.some)
+      ap (λ (n : ℕ). get_or of_net n 0) first ∙ is_cut.in_group 0 is_cut.some
 
   -- and all are there
   pub whole_within : (limit : ℕ) → All (λ (n : ℕ). n < limit) targets → cut.net + length targets ≤ limit
@@ -122,19 +126,13 @@ module _ (wiring : FlatNetlist) (entries : List (Option ℕ)) (first : ℕ) wher
           left_one entries values values' spans i d l taken_run.stay
           (λ k m. let n : k < length assigned = omega (arith, m, as_many) in taken_here entries values' (place + k) (get_or assigned k 0) (are k n) (W.written k n)) left
 
-    -- where they were there, the nets stay
-    pub span_same : ((k : ℕ) → k < length assigned → get_or values (place + k) 0 ≡ get_or assigned k 0) → (nets : TwoValues) (noted : Numbers)
-        → Brings wiring own values values' nets noted nets noted
-    span_same same nets noted =
-        subst (λ (vs : List ℕ). Brings wiring own values vs nets noted nets noted) (same_values place assigned values values' W same) (brings_none wiring own values nets noted)
-
-    -- else they are brought to the nets
-    pub span_brings : (nets : TwoValues) (noted : Numbers) → AreAloneAlike wiring nets.groups.of_net → 0 < length assigned
-        → ((k : ℕ) → k < length assigned → group_of nets (first + place + k) ≡ group_of nets (first + place)) → first + place + length assigned ≤ length nets.groups.of_net
-        → (nets' : TwoValues) (noted' : Numbers) → BringsRun wiring (first + place) assigned nets noted nets' noted' → Brings wiring own values values' nets noted nets' noted'
-    span_brings nets noted alike some together in_nets nets' noted' R =
+    -- they are brought to the nets
+    pub span_brings : (is_alone : Bool) (group : ℕ) (nets : TwoValues) (noted : Numbers) → (is_alone ≡ true → (k : ℕ) → k < length assigned → IsAlone wiring (first + place + k))
+        → ((k : ℕ) → k < length assigned → group_of nets (first + place + k) ≡ group)
+        → (nets' : TwoValues) (noted' : Numbers) → BringsRun is_alone place (first + place) group assigned values nets noted nets' noted' → Brings wiring own values values' nets noted nets' noted'
+    span_brings is_alone group nets noted alone together nets' noted' R =
         let end = within i d l in
         let long = length-range_with_len first (length entries) in
-        brings_run wiring own values values' place (first + place) assigned nets noted alike some (omega (arith, end, long, as_many))
+        brings_run wiring own values values' is_alone place (first + place) group assigned nets noted alone (omega (arith, end, long, as_many))
         (λ k m. let e : first + (place + k) ≡ first + place + k = omega arith in get_or-range_with_len first (length entries) (place + k) 0 (omega (arith, m, end, as_many)) ∙ e)
-        together in_nets W nets' noted' R
+        together W nets' noted' R

@@ -13,12 +13,12 @@ ghost use Rattle.rtl_net.specs.Nets.{flat};
 ghost use Rattle.rtl_kernel.specs.drivers.Rows.{rows};
 ghost use Rattle.rtl_kernel.specs.drivers.Starts.{AreFresh, start_row};
 ghost use Rattle.rtl_kernel.specs.drivers.Transactions.{IsActive, HasRunOf, all_targets, nets_of, targets_of, pending_of, without_entries, no_outcome};
-ghost use Rattle.rtl_kernel.specs.drivers.Brought.{AreAloneAlike, BringsRun, Brings, BringsAll};
+ghost use Rattle.rtl_kernel.specs.drivers.Brought.{MarkAlone, BringsRun, Brings, BringsAll};
 ghost use Rattle.rtl_kernel.specs.drivers.Updates.{TakesEntries, IsTaken};
-ghost use Rattle.rtl_kernel.specs.values.TwoValues.{group_of};
+ghost use Rattle.rtl_kernel.specs.values.TwoValues.{IsWritten, group_of};
 ghost use Rattle.rtl_net_layout.specs.Cuts.{AreCuts, AreCutsOf};
 
-use crate::slices::{differ, replace, write};
+use crate::slices::{replace, write};
 use crate::starts::{start_values, variable_starts};
 use crate::values::Values;
 use crate::worklist::Worklist;
@@ -93,14 +93,21 @@ impl Drivers {
 
     /// Every transaction becomes its driver's value. Nets with one source get the new values of their drivers at once, and the
     /// groups of the other nets of drivers whose values change come to those in `noted`. `cuts` has the drivers' nets in cuts.
-    pub fn update(&mut self, cuts: &Cuts, wiring: &Net, nets: &mut Values, noted: &mut Worklist)
+    pub fn update(
+        &mut self,
+        cuts: &Cuts,
+        alone: &[bool],
+        wiring: &Net,
+        nets: &mut Values,
+        noted: &mut Worklist,
+    )
         requires as_many { length wiring.now.processes ≡ length self.old.outcomes }
         requires each_driver { (p : ℕ) → length (targets_of wiring.now.processes p) ≡ length (slice_index_or (pending_of self.old.outcomes) p []) }
         requires cuts { AreCutsOf nets.old.groups.of_net (all_targets wiring.now.processes) cuts.now }
         requires there { All (λ (p : Process). All (λ n. n < length wiring.now.types) (nets_of p.drives.items)) wiring.now.processes }
         requires each_net { length nets.old.current ≡ length wiring.now.types }
         requires grouped { length nets.old.groups.of_net ≡ length wiring.now.types }
-        requires alike { AreAloneAlike (flat wiring.now) nets.old.groups.of_net }
+        requires alone { MarkAlone (flat wiring.now) nets.old.groups alone.now }
         requires bound { noted.old.bound ≡ length nets.old.groups.listed }
         ensures drivers { self.new.drivers ≡ all_driver_values (pending_of self.old.outcomes) self.old.drivers }
         ensures outcomes { self.new.outcomes ≡ map without_entries self.old.outcomes }
@@ -109,6 +116,7 @@ impl Drivers {
         update_rows(
             self.active.members(),
             cuts,
+            alone,
             wiring,
             &mut self.outcomes,
             &mut self.drivers,
@@ -150,6 +158,7 @@ struct Row<'a> {
 fn update_rows(
     active: &[usize],
     cuts: &Cuts,
+    alone: &[bool],
     wiring: &Net,
     outcomes: &mut Vec<Drives>,
     drivers: &mut Vec<Vec<u8>>,
@@ -166,7 +175,7 @@ fn update_rows(
     requires there { All (λ (p : Process). All (λ n. n < length wiring.now.types) (nets_of p.drives.items)) wiring.now.processes }
     requires each_net { length nets.old.current ≡ length wiring.now.types }
     requires grouped { length nets.old.groups.of_net ≡ length wiring.now.types }
-    requires alike { AreAloneAlike (flat wiring.now) nets.old.groups.of_net }
+    requires alone { MarkAlone (flat wiring.now) nets.old.groups alone.now }
     requires bound { noted.old.bound ≡ length nets.old.groups.listed }
     ensures drivers { rows drivers.new.items ≡ all_driver_values (pending_of outcomes.old.items) (rows drivers.old.items) }
     ensures outcomes { outcomes.new.items ≡ map without_entries outcomes.old.items }
@@ -175,7 +184,7 @@ fn update_rows(
     for process in active {
         let outcome = &mut outcomes[*process];
         let values = &mut drivers[*process];
-        update_process(*process, cuts, wiring, outcome, values, nets, noted);
+        update_process(*process, cuts, alone, wiring, outcome, values, nets, noted);
         outcome.clear();
     }
 }
@@ -184,6 +193,7 @@ fn update_rows(
 fn update_process(
     process: usize,
     cuts: &Cuts,
+    alone: &[bool],
     wiring: &Net,
     outcome: &Drives,
     values: &mut Vec<u8>,
@@ -197,27 +207,28 @@ fn update_process(
     requires there { All (λ (p : Process). All (λ n. n < length wiring.now.types) (nets_of p.drives.items)) wiring.now.processes }
     requires each_net { length nets.old.current ≡ length wiring.now.types }
     requires grouped { length nets.old.groups.of_net ≡ length wiring.now.types }
-    requires alike { AreAloneAlike (flat wiring.now) nets.old.groups.of_net }
+    requires alone { MarkAlone (flat wiring.now) nets.old.groups alone.now }
     requires bound { noted.old.bound ≡ length nets.old.groups.listed }
     ensures values { values.new.items ≡ driver_values outcome.now.entries values.old.items }
     ensures brings { Brings (flat wiring.now) (targets_of wiring.now.processes process) values.old.items values.new.items nets.old noted.old nets.new noted.new }
 {
     let own = cuts.of(process);
     if own.len() == 1 {
-        update_whole(own[0].net, wiring, outcome, values, nets, noted);
+        update_whole(own[0], alone, wiring, outcome, values, nets, noted);
     } else {
         let row = Row {
             drives: &wiring.processes()[process].drives,
             cuts: own,
             numbers: cuts.numbers(process),
         };
-        update_row(row, wiring, outcome, values, nets, noted);
+        update_row(row, alone, wiring, outcome, values, nets, noted);
     }
 }
 
-/// Takes over the transactions of a process whose drivers' nets stand one behind the other from this one on, in one group.
+/// Takes over the transactions of a process whose drivers are this cut.
 fn update_whole(
-    first: usize,
+    cut: Cut,
+    alone: &[bool],
     wiring: &Net,
     outcome: &Drives,
     values: &mut [u8],
@@ -225,21 +236,27 @@ fn update_whole(
     noted: &mut Worklist,
 )
     requires as_many { length values.old ≡ length outcome.now.entries }
-    requires there { first + length outcome.now.entries ≤ length wiring.now.types }
-    requires together { (k : ℕ) → k < length outcome.now.entries → group_of nets.old (first + k) ≡ group_of nets.old first }
+    requires group { cut.group < length alone.now }
+    requires there { cut.net + length outcome.now.entries ≤ length wiring.now.types }
+    requires together { (k : ℕ) → k < length outcome.now.entries → group_of nets.old (cut.net + k) ≡ cut.group }
     requires each_net { length nets.old.current ≡ length wiring.now.types }
     requires grouped { length nets.old.groups.of_net ≡ length wiring.now.types }
-    requires alike { AreAloneAlike (flat wiring.now) nets.old.groups.of_net }
+    requires alone { MarkAlone (flat wiring.now) nets.old.groups alone.now }
     requires bound { noted.old.bound ≡ length nets.old.groups.listed }
     ensures values { values.new ≡ driver_values outcome.now.entries values.old }
-    ensures brings { Brings (flat wiring.now) (range_with_len first (length outcome.now.entries)) values.old values.new nets.old noted.old nets.new noted.new }
+    ensures brings { Brings (flat wiring.now) (range_with_len cut.net (length outcome.now.entries)) values.old values.new nets.old noted.old nets.new noted.new }
 {
     let _nets = wiring.nets();
+    let is_alone = alone[cut.group];
     for span in outcome.assigned() {
         let assigned = outcome.values(*span);
-        if replace(values, span.first, assigned) {
-            bring(wiring, first + span.first, assigned, nets, noted);
-        }
+        let run = Run {
+            place: span.first,
+            net: cut.net + span.first,
+            group: cut.group,
+            is_alone,
+        };
+        take(run, assigned, values, nets, noted);
     }
 }
 
@@ -247,6 +264,7 @@ fn update_whole(
 #[inline(never)]
 fn update_row(
     row: Row,
+    alone: &[bool],
     wiring: &Net,
     outcome: &Drives,
     values: &mut Vec<u8>,
@@ -259,19 +277,20 @@ fn update_row(
     requires there { All (λ n. n < length wiring.now.types) (nets_of row.drives.now) }
     requires each_net { length nets.old.current ≡ length wiring.now.types }
     requires grouped { length nets.old.groups.of_net ≡ length wiring.now.types }
-    requires alike { AreAloneAlike (flat wiring.now) nets.old.groups.of_net }
+    requires alone { MarkAlone (flat wiring.now) nets.old.groups alone.now }
     requires bound { noted.old.bound ≡ length nets.old.groups.listed }
     ensures values { values.new.items ≡ driver_values outcome.now.entries values.old.items }
     ensures brings { Brings (flat wiring.now) (nets_of row.entry.drives.now) values.old.items values.new.items nets.old noted.old nets.new noted.new }
 {
     for span in outcome.assigned() {
-        update_span(row, wiring, outcome, *span, values, nets, noted);
+        update_span(row, alone, wiring, outcome, *span, values, nets, noted);
     }
 }
 
 /// Takes over the transactions of one process at the places of a span, each of which has one, cut by cut.
 fn update_span(
     row: Row,
+    alone: &[bool],
     wiring: &Net,
     outcome: &Drives,
     span: Span,
@@ -287,7 +306,7 @@ fn update_span(
     requires there { All (λ n. n < length wiring.now.types) (nets_of row.drives.now) }
     requires each_net { length nets.old.current ≡ length wiring.now.types }
     requires grouped { length nets.old.groups.of_net ≡ length wiring.now.types }
-    requires alike { AreAloneAlike (flat wiring.now) nets.old.groups.of_net }
+    requires alone { MarkAlone (flat wiring.now) nets.old.groups alone.now }
     requires bound { noted.old.bound ≡ length nets.old.groups.listed }
     ensures takes { TakesEntries (flat wiring.now) (nets_of row.entry.drives.now) outcome.now.entries values.old nets.old noted.old values.new nets.new noted.new }
     ensures taken { (k : ℕ) → k < span.len → IsTaken outcome.now.entries values.new (span.first + k) }
@@ -297,33 +316,47 @@ fn update_span(
     while first < end {
         let cut = row.cuts[row.numbers[first]];
         let beyond = end.min(cut.place + cut.len);
-        let run = Span {
+        let assigned = outcome.values(Span {
             first,
             len: beyond - first,
+        });
+        let run = Run {
+            place: first,
+            net: row.drives[first].net,
+            group: cut.group,
+            is_alone: alone[cut.group],
         };
-        let assigned = outcome.values(run);
-        if differ(values, first, assigned) {
-            write(values, first, assigned);
-            bring(wiring, row.drives[first].net, assigned, nets, noted);
-        }
+        take(run, assigned, values, nets, noted);
         first = beyond;
     }
 }
 
-/// Gives the nets from one on, all in one group, new values of their drivers, if those are their one source each, and else
-/// notes their group.
+/// Drivers from a place on, whose nets are those from one on, all in one group.
+#[derive(Clone, Copy)]
+struct Run {
+    place: usize,
+    net: usize,
+    group: usize,
+    /// Whether the nets of the group have one source each.
+    is_alone: bool,
+}
+
+/// Gives drivers these values. If they are their nets' one source each, so are the nets; else the nets' group is noted
+/// where the values are new.
 #[inline(always)]
-fn bring(wiring: &Net, first: usize, values: &[u8], nets: &mut Values, noted: &mut Worklist)
-    requires some { 0 < length values.now }
-    requires there { first + length values.now ≤ length wiring.now.types }
-    requires together { (k : ℕ) → k < length values.now → group_of nets.old (first + k) ≡ group_of nets.old first }
-    requires each_net { length nets.old.current ≡ length wiring.now.types }
+fn take(run: Run, assigned: &[u8], values: &mut [u8], nets: &mut Values, noted: &mut Worklist)
+    requires drivers { run.place + length assigned.now ≤ length values.old }
+    requires there { run.net + length assigned.now ≤ length nets.old.current }
+    requires together { (k : ℕ) → k < length assigned.now → group_of nets.old (run.net + k) ≡ run.group }
+    requires group { run.group < length nets.old.groups.listed }
     requires bound { noted.old.bound ≡ length nets.old.groups.listed }
-    ensures { BringsRun (flat wiring.now) first values.now nets.old noted.old nets.new noted.new }
+    ensures written { IsWritten run.place assigned.now values.old values.new }
+    ensures brings { BringsRun run.is_alone run.place run.net run.group assigned.now values.old nets.old noted.old nets.new noted.new }
 {
-    if wiring.sources(first).len() == 1 {
-        nets.set_run(first, values);
-    } else {
-        noted.insert(nets.groups().of_net()[first]);
+    if run.is_alone {
+        write(values, run.place, assigned);
+        nets.set_run(run.group, run.net, assigned);
+    } else if replace(values, run.place, assigned) {
+        noted.insert(run.group);
     }
 }

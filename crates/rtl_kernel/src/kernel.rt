@@ -18,6 +18,7 @@ use crate::resumed::Resumed;
 use crate::starts::first_values;
 use crate::update::resolve_groups;
 use crate::values::Values;
+use crate::wakes::alone_groups;
 use crate::worklist::Worklist;
 use rtl_eval::Exec;
 use rtl_net::Net;
@@ -33,6 +34,7 @@ pub struct Kernel<'a, E: Exec> {
     net: &'a Net,
     bodies: &'a [E],
     cuts: Cuts,
+    alone: Vec<bool>,
     values: Values,
     drivers: Drivers,
     resumed: Resumed,
@@ -56,7 +58,7 @@ impl<'a, E: Exec> Model for Kernel<'a, E> {
 
     ghost view = { λ k. record { net = k.net.now; state = state_of k.values k.drivers k.resumed } };
 
-    ghost invariant = { λ k. IsKernel E.process E.types E.most k.net.now k.bodies.now k.cuts k.values k.drivers k.resumed k.noted };
+    ghost invariant = { λ k. IsKernel E.process E.types E.most k.net.now k.bodies.now k.cuts k.alone.items k.values k.drivers k.resumed k.noted };
 }
 
 impl<'a, E: Exec> Kernel<'a, E> {
@@ -80,8 +82,10 @@ impl<'a, E: Exec> Kernel<'a, E> {
         net.is_elaborated();
         let processes = net.processes();
         let values = first_values(alloc, net, initial)?;
-        let cuts = driver_cuts(alloc, values.groups().of_net(), processes);
-        let noted = Worklist::new(alloc, values.groups().count());
+        let groups = values.groups();
+        let alone = alone_groups(alloc, net, groups)?;
+        let cuts = driver_cuts(alloc, groups.of_net(), processes);
+        let noted = Worklist::new(alloc, groups.count());
         let drivers = Drivers::new(alloc, processes, bodies);
         let resumed = Resumed::all(alloc, processes.len());
         let updates = both(cuts, noted);
@@ -91,6 +95,7 @@ impl<'a, E: Exec> Kernel<'a, E> {
             net,
             bodies,
             cuts,
+            alone,
             values,
             drivers,
             resumed,
@@ -235,8 +240,13 @@ impl<'a, E: Exec> Kernel<'a, E> {
     {
         let net = self.net;
         self.values.begin();
-        self.drivers
-            .update(&self.cuts, net, &mut self.values, &mut self.noted);
+        self.drivers.update(
+            &self.cuts,
+            &self.alone,
+            net,
+            &mut self.values,
+            &mut self.noted,
+        );
         resolve_groups(
             self.noted.members(),
             net,

@@ -3,7 +3,7 @@
 ghost use Rattle.std.specs.Prelude.{◌≡◌, ◌+◌, ◌<◌, ◌≤◌, ◌⊎◌, ℕ, true, false, length, slice_index, take};
 ghost use Rattle.rtl_kernel.specs.values.TwoValues.{IsOther, IsOtherFrom, IsWritten};
 
-use crate::comparing::{are_different, are_other};
+use crate::comparing::are_different;
 use std::simd::prelude::*;
 
 /// Writes these values over those from a place on.
@@ -13,15 +13,6 @@ pub fn write(over: &mut [u8], first: usize, values: &[u8])
     ensures { IsWritten first values.now over.old over.new }
 {
     let _differ = replace(over, first, values);
-}
-
-/// Whether these values differ from those from a place on.
-pub fn differ(from: &[u8], first: usize, values: &[u8]) -> bool
-    requires { first + length values.now ≤ length from.now }
-    ensures { result ≡ false → (k : ℕ) → k < length values.now → slice_index from.now (first + k) ≡ slice_index values.now k }
-{
-    let end = first + values.len();
-    are_other(&from[first..end], values)
 }
 
 /// Writes these values over those from a place on. Answers whether they differ.

@@ -4,10 +4,10 @@ ghost use Rattle.std.specs.Prelude.{◌≡◌, ◌+◌, ◌<◌, ◌≤◌, ℕ,
 ghost use Rattle.rtl_net_layout.specs.Groups.{AreRuns};
 ghost use Rattle.rtl_model.specs.basics.Valuations.{has_event};
 ghost use Rattle.rtl_kernel.specs.kernel.Simulation.{changes_of, each_given};
-ghost use Rattle.rtl_kernel.specs.values.TwoValues.{AreChanged, CoverEvents, HasWritten, group_of};
+ghost use Rattle.rtl_kernel.specs.values.TwoValues.{AreChanged, CoverEvents, HasEventIn, HasWritten, group_of};
 
 use crate::comparing::are_other;
-use crate::slices::write;
+use crate::slices::{replace, write};
 use crate::worklist::Worklist;
 use rtl_net_layout::Groups;
 use std::alloc::{AllocError, Global};
@@ -22,6 +22,16 @@ pub struct Values {
     before: Vec<u8>,
     current: Vec<u8>,
     changed: Worklist,
+    /// Whether each of the groups has been given values once, so that one of its nets has an event.
+    once: bool,
+}
+
+/// Groups among whose nets are all that have an event.
+#[derive(Clone, Copy)]
+pub struct Changed<'a> {
+    pub groups: &'a [usize],
+    /// Whether each of the groups has a net with an event for sure.
+    pub are_sure: bool,
 }
 
 impl Model for Values {
@@ -52,6 +62,7 @@ impl Values {
             before,
             current,
             changed,
+            once: true,
         })
     }
 
@@ -81,20 +92,27 @@ impl Values {
     }
 
     /// Groups among whose nets are all that have an event.
-    pub fn changed(&self) -> &[usize]
-        ensures { CoverEvents self.now result.now }
+    pub fn changed(&self) -> Changed
+        ensures covers { CoverEvents self.now result.groups.now }
+        ensures sure { result.are_sure ≡ true → All (HasEventIn self.now) result.groups.now }
     {
-        self.changed.members()
+        Changed {
+            groups: self.changed.members(),
+            are_sure: self.once,
+        }
     }
 
-    /// Whether a net of a group has an event.
-    pub fn has_event(&self, group: usize) -> bool
-        requires { group < length self.now.groups.listed }
-        ensures yes { result ≡ true → (n : ℕ) × (group_of self.now n ≡ group) × (n < length self.now.groups.of_net)
-            × (has_event self.now.before self.now.current n ≡ true) }
+    /// Whether a net of a group has an event, which may be known for sure.
+    pub fn has_event(&self, group: usize, is_sure: bool) -> bool
+        requires group { group < length self.now.groups.listed }
+        requires sure { is_sure ≡ true → HasEventIn self.now group }
+        ensures yes { result ≡ true → HasEventIn self.now group }
         ensures no { result ≡ false → (n : ℕ) → n < length self.now.groups.of_net → group_of self.now n ≡ group
             → has_event self.now.before self.now.current n ≡ true → ⊥ }
     {
+        if is_sure {
+            return true;
+        }
         let first = self.groups.first(group);
         let end = self.groups.end(group);
         are_other(&self.before[first..end], &self.current[first..end])
@@ -111,6 +129,7 @@ impl Values {
             self.changed.members(),
         );
         self.changed.clear();
+        self.once = true;
     }
 
     /// Gives each of these nets the value of the same number.
@@ -146,19 +165,23 @@ impl Values {
         if self.current[net] != value {
             self.current[net] = value;
             self.changed.insert(self.groups.of_net()[net]);
+            self.once = false;
         }
     }
 
-    /// Gives the nets from one on, all in one group, these values now.
+    /// Gives the nets from one on, all in this group, these values now.
     #[inline(always)]
-    pub fn set_run(&mut self, first: usize, values: &[u8])
-        requires some { 0 < length values.now }
+    pub fn set_run(&mut self, group: usize, first: usize, values: &[u8])
+        requires group { group < length self.old.groups.listed }
         requires there { first + length values.now ≤ length self.old.current }
-        requires together { (k : ℕ) → k < length values.now → group_of self.old (first + k) ≡ group_of self.old first }
+        requires together { (k : ℕ) → k < length values.now → group_of self.old (first + k) ≡ group }
         ensures { HasWritten first values.now self.old self.new }
     {
-        write(&mut self.current, first, values);
-        self.changed.insert(self.groups.of_net()[first]);
+        if replace(&mut self.current, first, values) {
+            if !self.changed.insert(group) {
+                self.once = false;
+            }
+        }
     }
 }
 

@@ -1,7 +1,7 @@
 //! Which processes wake on each net.
 
 ghost use Rattle.std.specs.Prelude.{◌≡◌, ◌↔◌, ◌%◌, true, length, map, IfOk};
-ghost use Rattle.rtl_kernel.specs.drivers.Brought.{AreAloneAlike, AreToldApart};
+ghost use Rattle.rtl_kernel.specs.drivers.Brought.{AreAloneAlike, AreToldApart, MarkAlone};
 ghost use Rattle.rtl_kernel.specs.wakes.Woken.{IsIndex, wakers_of};
 ghost use Rattle.rtl_net_layout.specs.Groups.{AreRuns};
 ghost use Rattle.rtl_net.specs.Nets.{flat};
@@ -79,4 +79,22 @@ fn told_apart(number: usize, is_odd: bool) -> usize
 {
     let even = number.min(usize::MAX / 2) * 2;
     if is_odd { even + 1 } else { even }
+}
+
+/// For each of these groups whether its nets have one source each.
+pub fn alone_groups(alloc: Global, net: &Net, groups: &Groups) -> Result<Vec<bool>, AllocError>
+    requires runs { AreRuns groups.now.of_net groups.now.first }
+    requires each_group { length groups.now.listed ≡ length groups.now.first }
+    requires each_net { length groups.now.of_net ≡ length net.now.types }
+    requires alike { AreAloneAlike (flat net.now) groups.now.of_net }
+    ensures { IfOk result (λ alone. MarkAlone (flat net.now) groups.now alone.items) }
+{
+    let count = groups.count();
+    let mut alone = Vec::with_capacity(alloc, count)?;
+    for group in 0..count {
+        let first = groups.first(group);
+        let sources = net.sources(first);
+        alone.push(sources.len() == 1)?;
+    }
+    Ok(alone)
 }

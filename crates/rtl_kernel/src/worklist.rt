@@ -1,6 +1,6 @@
 //! Sets of numbers that are worked off: each call costs no more than what it touches.
 
-ghost use Rattle.std.specs.Prelude.{◌≡◌, ◌<◌, false, [], length, replicate, All, IfOk};
+ghost use Rattle.std.specs.Prelude.{◌≡◌, ◌<◌, false, [], length, replicate, true, All, Contains, IfOk};
 ghost use Rattle.rtl_kernel.specs.worklists.Marked.{AreMarked};
 ghost use Rattle.rtl_kernel.specs.worklists.Numbers.{IsWith};
 
@@ -45,15 +45,18 @@ impl Worklist {
         self.members.as_slice()
     }
 
-    /// Puts a number in, unless it is there.
-    pub fn insert(&mut self, number: usize)
+    /// Puts a number in, unless it is there. Answers whether it wasn't.
+    pub fn insert(&mut self, number: usize) -> bool
         requires { number < self.old.bound }
-        ensures { IsWith number self.old self.new }
+        ensures with { IsWith number self.old self.new }
+        ensures first { result ≡ true → Contains self.old.members number → ⊥ }
     {
-        if !self.marks[number] {
-            self.marks[number] = true;
-            self.members.push_reserved(number);
+        if self.marks[number] {
+            return false;
         }
+        self.marks[number] = true;
+        self.members.push_reserved(number);
+        true
     }
 
     /// Takes all numbers out. It looks at those that are there and at no others.

@@ -3,7 +3,7 @@ use Rattle.std.proofs.Common.{◌≡◌, ℕ, zero, suc, ◌+◌, ◌<◌, ◌�
 use Rattle.std.specs.Prelude.{option_map, IfSome}
 use Rattle.std.proofs.lemmas.Bool.{cases_Bool, cases_lt, cases_eq}
 use Rattle.std.proofs.lemmas.List.{get_or-set_same, get_or-set_other, get_or_past, length-append, length-map, length-set}
-use Rattle.rtl_model.specs.simulation.Netlist.{Netlist, Edge, process, target, Clocked, HasPlace, IsClockedBy, IsCombinational}
+use Rattle.rtl_model.specs.simulation.Netlist.{Netlist, Edge, process, target, Clocked, HasPlace, IsCombinational}
 use Rattle.rtl_model.specs.simulation.Elaborated.{IsElaborated}
 use Rattle.rtl_model.specs.simulation.Machine.{entry_or}
 use Rattle.rtl_model.specs.basics.Valuations.{clocked_entry}
@@ -194,11 +194,11 @@ kind_alone net p x l is e one =
     ∙ ap (core_process net.inputs) (get_or-map_within process_view net.processes p x (process_view x) l ∙ ap process_view (sym is)))
     ∙ alone (process_view x) (k.clocking net.inputs (body_of x)) (events (body_of x)) e one
 
-get_or-push : {X : Type 0} (xs : List X) (x d : X) → get_or (xs ++ x ∷ []) (length xs) d ≡ x
+pub get_or-push : {X : Type 0} (xs : List X) (x d : X) → get_or (xs ++ x ∷ []) (length xs) d ≡ x
 get_or-push [] x d = refl
 get_or-push (y ∷ ys) x d = get_or-push ys x d
 
-get_or-push_below : {X : Type 0} (xs : List X) (x : X) (p : ℕ) (d : X) → p < length xs → get_or (xs ++ x ∷ []) p d ≡ get_or xs p d
+pub get_or-push_below : {X : Type 0} (xs : List X) (x : X) (p : ℕ) (d : X) → p < length xs → get_or (xs ++ x ∷ []) p d ≡ get_or xs p d
 get_or-push_below [] x p d l = absurd (omega arith)
 get_or-push_below (y ∷ ys) x zero d l = refl
 get_or-push_below (y ∷ ys) x (suc p) d l = get_or-push_below ys x p d (omega arith)

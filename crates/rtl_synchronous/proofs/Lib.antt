@@ -4,12 +4,15 @@ pub mod Starts
 pub mod Edges
 pub mod Alike
 pub mod Marking
+pub mod Setting
 pub mod Taking
 pub mod Whole
+pub mod Spanned
 pub mod Sweeping
 pub mod Together
 pub mod Replaced
 pub mod Awake
+pub mod Leading
 pub mod Resting
 pub mod Changed
 pub mod Stepping

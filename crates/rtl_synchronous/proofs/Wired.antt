@@ -63,6 +63,19 @@ module _ (net : NetlistView) where
   pub processes_many : length (core net).processes ≡ length net.processes
   processes_many = length-map (flat net).processes (core_process net.inputs) ∙ length-map net.processes process_view
 
+  -- as many as a process drives have entries
+  pub driven_many : (p : ℕ) (o : Outcome) → IsOf (process_at (flat net) p) o → length (process (core net) p).drives ≡ length o.entries
+  driven_many p o own = ap (λ (x : m.Process). length x.drives) (process-core_net (flat net) p) ∙ length-map (process_at (flat net) p).drivers _ ∙ sym own.each_driver
+
+  pub own_cuts_are : (of_net : List ℕ) (cutting : Cutting) → AreCutsOf of_net (all_targets net.processes) cutting → (p : ℕ) → p < length net.processes
+      → AreCuts of_net (process (core net) p).drives (get_or cutting.cuts p []) (get_or cutting.numbers p [])
+  own_cuts_are of_net cutting C p there =
+      subst (λ (ns : List ℕ). AreCuts of_net ns (get_or cutting.cuts p []) (get_or cutting.numbers p [])) (targets_are net p)
+      (C.each p (rw (length-map net.processes (λ (x : Process). nets_of x.drives.items)) there))
+
+  pub own_targets_there : Leveled (core net) → (p : ℕ) (limit : ℕ) → limit ≡ length (core net).start → All (λ (n : ℕ). n < limit) (process (core net) p).drives
+  own_targets_there L p limit many = λ k d l. rw many (subst (λ (n : ℕ). n < length (core net).start) (get_or_default (process (core net) p).drives k 0 d l) (L.elaborated.wiring.targets_are_nets p k l))
+
   module _ (p : ℕ) (q : Process) (there : p < length net.processes) (is : q ≡ get_or net.processes p q) where
     pub drives_are : nets_of q.drives.items ≡ (process (core net) p).drives
     drives_are =
@@ -160,5 +173,4 @@ module _ (net : NetlistView) (L : Leveled (core net)) (p : ℕ) (q : Process) (t
 
   pub targets_there : (values : List ℕ) → length values ≡ length (core net).start → All (λ n. n < length values) (nets_of q.drives.items)
   targets_there values many =
-      subst (λ (ns : List ℕ). All (λ n. n < length values) ns) (sym (drives_are net p q there is))
-      (λ k d l. rw many (subst (λ (n : ℕ). n < length (core net).start) (get_or_default (process (core net) p).drives k 0 d l) (L.elaborated.wiring.targets_are_nets p k l)))
+      subst (λ (ns : List ℕ). All (λ n. n < length values) ns) (sym (drives_are net p q there is)) (own_targets_there net L p (length values) many)

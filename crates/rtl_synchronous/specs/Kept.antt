@@ -16,7 +16,7 @@ use Rattle.rtl_net.specs.Nets.{NetlistView, flat}
 use Rattle.rtl_synchronous.specs.declared.schedule.Schedule.{Schedule}
 use Rattle.rtl_synchronous.specs.Running.{KeepsResets}
 use Rattle.rtl_synchronous.specs.Marks.{HasNoMark}
-use Rattle.rtl_synchronous.specs.Scheduled.{IsSchedule, is_whole}
+use Rattle.rtl_synchronous.specs.Scheduled.{IsSchedule, whole_first}
 
 -- Each process of an accepted netlist may be run: the k-th body is that of the k-th process, and the k-th run has its room.
 pub record MayRun {E : Type 0} (process : E → FlatProcess) (types : E → List ElementType) (most : E → ℕ)
@@ -30,7 +30,7 @@ pub record MayRun {E : Type 0} (process : E → FlatProcess) (types : E → List
 -- each process's drivers are cut over the nets that the same combinational processes are sensitive to
 pub record HasCuts (net : NetlistView) (schedule : Schedule) : Type 0 where
   pub cuts : AreCutsOf schedule.readers.of_net (all_targets net.processes) schedule.cuts
-  pub wholes : schedule.wholes.items ≡ map is_whole schedule.cuts.cuts
+  pub wholes : schedule.wholes.items ≡ map whole_first schedule.cuts.cuts
 
 -- the values have settled, for some inputs and registers
 pub record IsAtRest (net : Netlist) (before values : List ℕ) : Type 0 where

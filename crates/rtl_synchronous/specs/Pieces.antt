@@ -1,14 +1,12 @@
 -- Pieces of cuts.
-use Rattle.std.specs.Prelude.{◌≡◌, ℕ, ◌+◌, ◌-◌, ◌<◌, ◌≤◌, List, [], length, map, slice_index, slice_index_or}
+use Rattle.std.specs.Prelude.{◌≡◌, ℕ, ◌+◌, ◌-◌, ◌<◌, ◌≤◌, List, [], length, slice_index, slice_index_or}
 use Rattle.rtl_net_layout.specs.Cuts.{AreCuts}
 use Rattle.rtl_synchronous.specs.declared.schedule.Schedule.{Schedule}
-use Rattle.rtl_synchronous.specs.Scheduled.{is_whole}
 
 -- the schedule has the cuts of this process, whose drivers have these nets
 pub record AreCutFor (schedule : Schedule) (targets : List ℕ) (number : ℕ) : Type 0 where
   pub there : number < length schedule.cuts.cuts
   pub cuts : AreCuts schedule.readers.of_net targets (slice_index_or schedule.cuts.cuts number []) (slice_index_or schedule.cuts.numbers number [])
-  pub wholes : schedule.wholes.items ≡ map is_whole schedule.cuts.cuts
 
 -- the nets of the places from `first` on and before `beyond` stand one behind the other, in one group
 pub record IsPiece (of_net targets : List ℕ) (first end beyond : ℕ) : Type 0 where

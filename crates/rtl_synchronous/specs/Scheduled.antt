@@ -1,6 +1,6 @@
 -- The order in which a moment's processes are run, and who is sensitive to which net (IEEE 1076-2008, 14.7.5.3).
 use Rattle.std.specs.Option.{is_some}
-use Rattle.std.specs.Prelude.{◌≡◌, ℕ, ◌+◌, ◌<◌, ◌≤◌, ◌==◌, Bool, false, not, All, List, [], length, map, slice_index, slice_index_or, Contains, Option, Some, None, IsSome, if◌then◌else◌}
+use Rattle.std.specs.Prelude.{◌≡◌, ℕ, ◌+◌, ◌<◌, ◌≤◌, Bool, false, not, All, List, [], ◌∷◌, length, map, slice_index, slice_index_or, Contains, Option, Some, None, IsSome, if◌then◌else◌}
 use Rattle.vhdl_values.specs.Edges.{has_edge}
 use Rattle.vhdl_values.specs.Scalar.{value_of_code}
 use Rattle.rtl_model.specs.simulation.Netlist.{Netlist, Process, process, IsCombinational, Clocked}
@@ -35,8 +35,10 @@ pub record IsSchedule (net : Netlist) (order : List ℕ) (readers clocked : List
 
 -- ---- by cuts
 
-abbrev pub is_whole : List Cut → Bool
-is_whole cuts = length cuts == 1
+-- the first net of drivers that are one cut
+abbrev pub whole_first : List Cut → Option ℕ
+whole_first (cut ∷ []) = Some cut.net
+whole_first _ = None
 
 -- ---- by edges
 
@@ -53,6 +55,12 @@ edge_alone _ = None
 pub record AreEdges (net : Netlist) (edges : List (Option ClockEdge)) : Type 0 where
   pub each_process : length edges ≡ length net.processes
   pub each : (p : ℕ) (e : ClockEdge) → slice_index_or edges p None ≡ Some e → (process net p).kind ≡ Clocked e.clock e.edge None
+
+-- for each process one with the same edge
+pub record AreLeaders (edges : List (Option ClockEdge)) (leaders : List ℕ) : Type 0 where
+  pub each_process : length leaders ≡ length edges
+  pub there : (p : ℕ) → p < length edges → slice_index leaders p < length edges
+  pub alike : (p : ℕ) → p < length edges → slice_index_or edges (slice_index leaders p) None ≡ slice_index_or edges p None
 
 -- there is an edge that is awaited, and it isn't there
 abbrev pub IsAsleep : Option ClockEdge → (before now : List ℕ) → Type 0

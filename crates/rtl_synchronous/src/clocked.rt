@@ -13,10 +13,10 @@ ghost use Rattle.rtl_net.specs.Nets.{flat};
 ghost use Rattle.rtl_net.specs.Core.{core};
 ghost use Rattle.rtl_synchronous.specs.Kept.{HasCuts, MayRun};
 ghost use Rattle.rtl_synchronous.specs.Marks.{AreBelow, HasNoMark, Marks};
-ghost use Rattle.rtl_synchronous.specs.Scheduled.{AreEdges, AreNexts};
+ghost use Rattle.rtl_synchronous.specs.Scheduled.{AreEdges, AreLeaders, AreNexts};
 ghost use Rattle.rtl_synchronous.specs.Steps.{AllTakeOver, HaveRun};
 
-use crate::awaited::{ClockEdge, is_asleep};
+use crate::awaited::{ClockEdge, Look, look_at};
 use crate::entries::take_over;
 use crate::running::run;
 use crate::schedule::Schedule;
@@ -29,6 +29,7 @@ pub fn run_marked<E: Exec>(
     net: &Net,
     bodies: &[E],
     edges: &[Option<ClockEdge>],
+    leaders: &[usize],
     nexts: &[usize],
     marked: &mut Vec<bool>,
     before: &[u8],
@@ -37,6 +38,7 @@ pub fn run_marked<E: Exec>(
 )
     requires may { MayRun E.process E.types E.most net.now bodies.now runs.old.items }
     requires edges { AreEdges (core net.now) edges.now }
+    requires leaders { AreLeaders edges.now leaders.now }
     requires nexts { AreNexts (core net.now) nexts.now }
     requires clocked { (p : ℕ) → IsTrue (slice_index_or marked.old.items p false) → IsCombinational (core net.now) p → ⊥ }
     requires before { IsValuation (core net.now) before.now }
@@ -46,10 +48,15 @@ pub fn run_marked<E: Exec>(
     ensures each_process { length marked.new.items ≡ length marked.old.items }
     ensures ran { HaveRun (core net.now) before.now values.now marked.old.items marked.new.items (λ p. (slice_index_or runs.new.items p no_outcome).entries) }
 {
+    let mut seen = Look {
+        leader: edges.len(),
+        asleep: false,
+    };
     let mut process = nexts[0];
     while process < marked.len() {
         if marked[process] {
-            if is_asleep(edges[process], before, values) {
+            seen = look_at(seen, edges, leaders[process], before, values);
+            if seen.asleep {
                 marked[process] = false;
             } else {
                 run(net, bodies, process, before, values, runs);

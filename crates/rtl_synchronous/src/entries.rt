@@ -1,6 +1,7 @@
 //! Entries that are taken over.
 
-ghost use Rattle.std.specs.Prelude.{◌≡◌, ℕ, ◌+◌, ◌<◌, ◌≤◌, length, slice_index_or, All, Contains, None, IsSome};
+ghost use Rattle.std.specs.Prelude.{◌≡◌, ℕ, ◌+◌, ◌<◌, ◌≤◌, length, slice_index, slice_index_or, All, Contains, None, IsSome};
+ghost use Rattle.std.specs.List.{range_with_len};
 ghost use Rattle.rtl_model.specs.nets.FlatNetlist.{process_at};
 ghost use Rattle.rtl_model.specs.simulation.Accepted.{IsAccepted};
 ghost use Rattle.rtl_model.specs.simulation.Elaborated.{IsElaborated};
@@ -16,12 +17,15 @@ ghost use Rattle.rtl_synchronous.specs.Marks.{AreBelow, Marks};
 ghost use Rattle.rtl_synchronous.specs.Pieces.{AreCutFor, IsPiece};
 ghost use Rattle.rtl_synchronous.specs.Running.{TakesOver, TakesPart, at_targets};
 
-use crate::marks::set_run;
+use crate::marks::{set_run, set_short};
 use crate::schedule::Schedule;
 use rtl_eval::{Drives, Span};
 use rtl_net::{Driver, Net};
+use rtl_net_layout::Groups;
 
-/// Gives the nets of a process's drivers the entries that a run has left, and marks what is sensitive to those that change.
+/// Gives the nets of a process's drivers the entries that a run has left, and marks what is sensitive to those that change. If its
+/// drivers are one cut, nothing is looked up for a place.
+#[inline(always)]
 pub fn take_over(
     net: &Net,
     schedule: &Schedule,
@@ -41,12 +45,66 @@ pub fn take_over(
     ensures taken { TakesOver (process (core net.now) number).drives outcome.now.entries values.old.items values.new.items }
     ensures marks { Marks (wakers_of schedule.now.readers) (Contains (process (core net.now) number).drives) values.old.items values.new.items marks.old.items marks.new.items }
 {
-    let processes = net.processes();
-    let drives = processes[number].drives.as_slice();
-    take_spans(drives, schedule, number, outcome, values, marks);
+    match schedule.wholes[number] {
+        Some(first) => take_whole(&schedule.readers, first, outcome, values, marks),
+        None => {
+            let processes = net.processes();
+            let drives = processes[number].drives.as_slice();
+            take_spans(drives, schedule, number, outcome, values, marks);
+        }
+    }
+}
+
+/// The same where the drivers' nets stand one behind the other from this one on, in one group.
+#[inline(never)]
+fn take_whole(
+    readers: &Groups,
+    first: usize,
+    outcome: &Drives,
+    values: &mut Vec<u8>,
+    marks: &mut Vec<bool>,
+)
+    requires there { first + length outcome.now.entries ≤ length values.old.items }
+    requires together { (k : ℕ) → k < length outcome.now.entries → slice_index readers.now.of_net (first + k) ≡ slice_index readers.now.of_net first }
+    requires each_net { length (wakers_of readers.now) ≡ length values.old.items }
+    requires below { AreBelow (wakers_of readers.now) (length marks.old.items) }
+    ensures taken { TakesOver (range_with_len first (length outcome.now.entries)) outcome.now.entries values.old.items values.new.items }
+    ensures marks { Marks (wakers_of readers.now) (Contains (range_with_len first (length outcome.now.entries))) values.old.items values.new.items marks.old.items marks.new.items }
+{
+    let spans = outcome.assigned();
+    if spans.len() == 1 {
+        let span = spans[0];
+        let assigned = outcome.values(span);
+        set_short(readers, first + span.first, assigned, values, marks);
+    } else {
+        take_each(readers, first, outcome, values, marks);
+    }
+}
+
+/// The same, however many spans are assigned.
+#[inline(never)]
+fn take_each(
+    readers: &Groups,
+    first: usize,
+    outcome: &Drives,
+    values: &mut Vec<u8>,
+    marks: &mut Vec<bool>,
+)
+    requires there { first + length outcome.now.entries ≤ length values.old.items }
+    requires together { (k : ℕ) → k < length outcome.now.entries → slice_index readers.now.of_net (first + k) ≡ slice_index readers.now.of_net first }
+    requires each_net { length (wakers_of readers.now) ≡ length values.old.items }
+    requires below { AreBelow (wakers_of readers.now) (length marks.old.items) }
+    ensures taken { TakesOver (range_with_len first (length outcome.now.entries)) outcome.now.entries values.old.items values.new.items }
+    ensures marks { Marks (wakers_of readers.now) (Contains (range_with_len first (length outcome.now.entries))) values.old.items values.new.items marks.old.items marks.new.items }
+{
+    for span in outcome.assigned() {
+        let assigned = outcome.values(*span);
+        set_run(readers, first + span.first, assigned, values, marks);
+    }
 }
 
 /// The same where these are the drivers.
+#[inline(never)]
 fn take_spans(
     drives: &[Driver],
     schedule: &Schedule,
@@ -125,9 +183,6 @@ fn piece_end(
     ensures { IsPiece schedule.now.readers.of_net (nets_of drives.now) first end result }
 {
     let _drivers = drives.len();
-    if schedule.wholes[number] {
-        return end;
-    }
     let cuts = schedule.cuts.of(number);
     let numbers = schedule.cuts.numbers(number);
     let cut = cuts[numbers[first]];

@@ -16,7 +16,7 @@ ghost use Rattle.rtl_net.specs.Core.{core};
 ghost use Rattle.rtl_synchronous.specs.Kept.{HasCuts, MayRun};
 ghost use Rattle.rtl_synchronous.specs.Marks.{HasNoMark};
 ghost use Rattle.rtl_synchronous.specs.Running.{IsSettled};
-ghost use Rattle.rtl_synchronous.specs.Scheduled.{AreEdges, AreNexts, IsSchedule, without_level};
+ghost use Rattle.rtl_synchronous.specs.Scheduled.{AreEdges, AreLeaders, AreNexts, IsSchedule, without_level};
 ghost use Rattle.rtl_synchronous.specs.Steps.{ComesToRest};
 
 use crate::clocked::{run_marked, take_marked};
@@ -59,13 +59,13 @@ impl<'a, E: Exec> Model for Machine<'a, E> {
     ghost coded = { Prim.hlevel (codes, process_contract.the_row.coded) };
 
     ghost use Rattle.rtl_synchronous.specs.Kept.{HasCuts, IsMachine};
-    ghost use Rattle.rtl_synchronous.specs.Scheduled.{AreEdges, AreNexts};
+    ghost use Rattle.rtl_synchronous.specs.Scheduled.{AreEdges, AreLeaders, AreNexts};
     ghost use Rattle.rtl_net.specs.Core.{core};
     ghost use Rattle.rtl_kernel.specs.wakes.Woken.{wakers_of};
 
     ghost view = { λ m. record { net = m.net.now; values = m.values.items } };
 
-    ghost invariant = { λ m. IsMachine E.process E.types E.most m.net.now m.bodies.now m.schedule.order.items (wakers_of m.schedule.readers) (wakers_of m.schedule.clocked) m.before.items m.values.items m.runs.items m.dirty.items m.woken.items × HasCuts m.net.now m.schedule × AreEdges (core m.net.now) m.schedule.edges.items × AreNexts (core m.net.now) m.schedule.nexts.items };
+    ghost invariant = { λ m. IsMachine E.process E.types E.most m.net.now m.bodies.now m.schedule.order.items (wakers_of m.schedule.readers) (wakers_of m.schedule.clocked) m.before.items m.values.items m.runs.items m.dirty.items m.woken.items × HasCuts m.net.now m.schedule × AreEdges (core m.net.now) m.schedule.edges.items × AreNexts (core m.net.now) m.schedule.nexts.items × AreLeaders m.schedule.edges.items m.schedule.leaders.items };
 }
 
 impl<'a, E: Exec> Machine<'a, E> {
@@ -178,6 +178,7 @@ fn come_to_rest<E: Exec>(
     requires schedule { IsSchedule (core net.now) schedule.now.order.items (wakers_of schedule.now.readers) (wakers_of schedule.now.clocked) }
     requires cuts { HasCuts net.now schedule.now }
     requires edges { AreEdges (core net.now) schedule.now.edges.items }
+    requires leaders { AreLeaders schedule.now.edges.items schedule.now.leaders.items }
     requires nexts { AreNexts (core net.now) schedule.now.nexts.items }
     requires each_reader { length (wakers_of schedule.now.readers) ≡ length values.old.items }
     requires before { IsValuation (core net.now) before.now }
@@ -199,6 +200,7 @@ fn come_to_rest<E: Exec>(
         net,
         bodies,
         &schedule.edges,
+        &schedule.leaders,
         &schedule.nexts,
         woken,
         before,

@@ -8,8 +8,23 @@ ghost use Rattle.rtl_synchronous.specs.Marks.{AreBelow, IsOfRun, Marks};
 use crate::slices::replace;
 use rtl_net_layout::Groups;
 
-/// Marks these numbers.
+/// Marks these numbers, of which mostly there is one.
+#[inline(always)]
 fn mark(marks: &mut Vec<bool>, numbers: &[usize])
+    requires there { All (λ k. k < length marks.old.items) numbers.now }
+    ensures as_many { length marks.new.items ≡ length marks.old.items }
+    ensures marks { AddsPlaces numbers.now marks.old.items marks.new.items }
+{
+    if numbers.len() == 1 {
+        marks[numbers[0]] = true;
+    } else {
+        mark_each(marks, numbers);
+    }
+}
+
+/// Marks these numbers, however many there are.
+#[inline(never)]
+fn mark_each(marks: &mut Vec<bool>, numbers: &[usize])
     requires there { All (λ k. k < length marks.old.items) numbers.now }
     ensures as_many { length marks.new.items ≡ length marks.old.items }
     ensures marks { AddsPlaces numbers.now marks.old.items marks.new.items }
@@ -33,6 +48,7 @@ pub fn mark_followers(groups: &Groups, values: &[u8], net: usize, value: u8, mar
 
 /// Gives nets that stand one behind the other in one group these values, and marks what is sensitive to them, if one gets another
 /// value than it has.
+#[inline(never)]
 pub fn set_run(
     groups: &Groups,
     first: usize,
@@ -40,7 +56,6 @@ pub fn set_run(
     values: &mut Vec<u8>,
     marks: &mut Vec<bool>,
 )
-    requires some { 0 < length given.now }
     requires there { first + length given.now ≤ length values.old.items }
     requires together { (k : ℕ) → k < length given.now → slice_index groups.now.of_net (first + k) ≡ slice_index groups.now.of_net first }
     requires each_net { length (wakers_of groups.now) ≡ length values.old.items }
@@ -49,6 +64,29 @@ pub fn set_run(
     ensures marks { Marks (wakers_of groups.now) (IsOfRun first (length given.now)) values.old.items values.new.items marks.old.items marks.new.items }
 {
     if replace(values, first, given) {
+        mark(marks, groups.listed(groups.of_net()[first]));
+    }
+}
+
+/// The same, without a call where there are at most 32.
+#[inline(always)]
+pub fn set_short(
+    groups: &Groups,
+    first: usize,
+    given: &[u8],
+    values: &mut Vec<u8>,
+    marks: &mut Vec<bool>,
+)
+    requires there { first + length given.now ≤ length values.old.items }
+    requires together { (k : ℕ) → k < length given.now → slice_index groups.now.of_net (first + k) ≡ slice_index groups.now.of_net first }
+    requires each_net { length (wakers_of groups.now) ≡ length values.old.items }
+    requires below { AreBelow (wakers_of groups.now) (length marks.old.items) }
+    ensures written { HasRun first given.now values.old.items values.new.items }
+    ensures marks { Marks (wakers_of groups.now) (IsOfRun first (length given.now)) values.old.items values.new.items marks.old.items marks.new.items }
+{
+    if given.len() > 32 {
+        set_run(groups, first, given, values, marks);
+    } else if replace(values, first, given) {
         mark(marks, groups.listed(groups.of_net()[first]));
     }
 }

@@ -6,9 +6,9 @@ ghost use Rattle.rtl_model.specs.simulation.Levels.{AreLevels};
 ghost use Rattle.rtl_kernel.specs.wakes.Woken.{wakers_of};
 ghost use Rattle.rtl_net.specs.Core.{core};
 ghost use Rattle.rtl_synchronous.specs.Kept.{HasCuts};
-ghost use Rattle.rtl_synchronous.specs.Scheduled.{AreEdges, AreNexts, IsSchedule, clocked_wakes, wakes_by_rank};
+ghost use Rattle.rtl_synchronous.specs.Scheduled.{AreEdges, AreLeaders, AreNexts, IsSchedule, clocked_wakes, wakes_by_rank};
 
-use crate::awaited::{ClockEdge, edges_of};
+use crate::awaited::{ClockEdge, edges_of, leaders_of};
 use crate::nexts::nexts_of;
 use crate::order::order_of;
 use crate::targets::target_lists;
@@ -19,16 +19,17 @@ use std::alloc::{AllocError, Global};
 
 /// The combinational processes in the order in which they are run, the ranks of those that are sensitive to each net, and the
 /// clocked processes that are; the cuts of each process's drivers over nets that the same combinational ones are sensitive to, and
-/// whether there is one alone; of each process the edge without which it assigns nothing, if it is clocked and has no reset; and
-/// from each process on the next one that is clocked.
+/// where there is one alone its first net; of each process the edge without which it assigns nothing, if it is clocked and has no
+/// reset, and a process that awaits the same; and from each process on the next one that is clocked.
 #[derive(Drop)]
 pub struct Schedule {
     pub order: Vec<usize>,
     pub readers: Groups,
     pub clocked: Groups,
     pub cuts: Cuts,
-    pub wholes: Vec<bool>,
+    pub wholes: Vec<Option<usize>>,
     pub edges: Vec<Option<ClockEdge>>,
+    pub leaders: Vec<usize>,
     pub nexts: Vec<usize>,
 }
 
@@ -41,6 +42,7 @@ impl Schedule {
         ensures each_reader { IfOk result (λ s. length (wakers_of s.readers) ≡ length net.now.types) }
         ensures cuts { IfOk result (HasCuts net.now) }
         ensures edges { IfOk result (λ s. AreEdges (core net.now) s.edges.items) }
+        ensures leaders { IfOk result (λ s. AreLeaders s.edges.items s.leaders.items) }
         ensures nexts { IfOk result (λ s. AreNexts (core net.now) s.nexts.items) }
         ensures each_clocked { IfOk result (λ s. length (wakers_of s.clocked) ≡ length net.now.types) }
     {
@@ -54,6 +56,7 @@ impl Schedule {
         let cuts = Cuts::new(alloc, readers.of_net(), &targets)?;
         let wholes = wholes_of(alloc, &cuts, targets.count())?;
         let edges = edges_of(alloc, net)?;
+        let leaders = leaders_of(alloc, &edges)?;
         let nexts = nexts_of(alloc, net, levels)?;
         Ok(Schedule {
             order,
@@ -62,6 +65,7 @@ impl Schedule {
             cuts,
             wholes,
             edges,
+            leaders,
             nexts,
         })
     }

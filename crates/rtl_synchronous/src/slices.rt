@@ -1,23 +1,77 @@
 //! Runs of values.
 
-ghost use Rattle.std.specs.Prelude.{◌≡◌, ◌+◌, ◌<◌, ◌≤◌, ℕ, false, not, length, slice_index, take};
+ghost use Rattle.std.specs.Prelude.{◌≡◌, ◌+◌, ◌<◌, ◌≤◌, ℕ, true, false, not, length, slice_index, take};
 ghost use Rattle.std.specs.Str.{bytes_eq};
 ghost use Rattle.rtl_kernel.specs.values.TwoValues.{IsWritten};
 
 use std::simd::prelude::*;
 
 /// Writes these values over those from a place on. Answers whether they differ.
+#[inline(always)]
 pub fn replace(over: &mut [u8], first: usize, values: &[u8]) -> bool
     requires { first + length values.now ≤ length over.old }
     ensures written { IsWritten first values.now over.old over.new }
     ensures alike { result ≡ false → (k : ℕ) → k < length values.now → slice_index over.old (first + k) ≡ slice_index values.now k }
+    ensures some { result ≡ true → 0 < length values.now }
 {
     let end = first + values.len();
     replace_all(&mut over[first..end], values)
 }
 
 /// Writes these values over as many others. Answers whether they differ.
+#[inline(always)]
 fn replace_all(over: &mut [u8], values: &[u8]) -> bool
+    requires { length over.old ≡ length values.now }
+    ensures written { over.new ≡ values.now }
+    ensures alike { result ≡ false → over.old ≡ values.now }
+    ensures some { result ≡ true → 0 < length values.now }
+{
+    let many = values.len();
+    if many > 32 {
+        return replace_long(over, values);
+    }
+    if many >= 16 {
+        return replace_ends::<16>(over, values);
+    }
+    if many == 1 {
+        return replace_ends::<1>(over, values);
+    }
+    if many >= 8 {
+        return replace_ends::<8>(over, values);
+    }
+    if many >= 4 {
+        return replace_ends::<4>(over, values);
+    }
+    if many >= 2 {
+        return replace_ends::<2>(over, values);
+    }
+    false
+}
+
+/// The same of so many values, or of at most twice as many: of the first so many and of the last, which may overlap.
+#[inline(always)]
+fn replace_ends<const LANES: usize>(over: &mut [u8], values: &[u8]) -> bool
+    requires most { LANES ≤ 64 }
+    requires as_many { length over.old ≡ length values.now }
+    requires least { LANES ≤ length values.now }
+    requires covers { length values.now ≤ LANES + LANES }
+    ensures written { over.new ≡ values.now }
+    ensures alike { result ≡ false → over.old ≡ values.now }
+{
+    let last = values.len() - LANES;
+    let old_front = Simd::<u8, LANES>::from_slice(over);
+    let old_back = Simd::<u8, LANES>::from_slice(&over[last..]);
+    let front = Simd::<u8, LANES>::from_slice(values);
+    let back = Simd::<u8, LANES>::from_slice(&values[last..]);
+    front.copy_to_slice(over);
+    back.copy_to_slice(&mut over[last..]);
+    let differ = are_different::<LANES>(old_front, front);
+    differ | are_different::<LANES>(old_back, back)
+}
+
+/// The same of any number of values.
+#[inline(never)]
+fn replace_long(over: &mut [u8], values: &[u8]) -> bool
     requires { length over.old ≡ length values.now }
     ensures written { over.new ≡ values.now }
     ensures alike { result ≡ false → over.old ≡ values.now }

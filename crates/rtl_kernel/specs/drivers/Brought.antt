@@ -1,10 +1,11 @@
 -- What an update of drivers does to their nets (IEEE 1076-2008, 14.7.3): nets with one source get their drivers' new values
 -- at once, and the group of nets with several is noted, so that they are resolved when all drivers have theirs.
-use Rattle.std.specs.Prelude.{◌≡◌, ◌↔◌, ◌%◌, ℕ, ◌<◌, List, length, slice_index, Contains}
+use Rattle.std.specs.Prelude.{◌≡◌, ◌↔◌, ◌+◌, ◌%◌, ℕ, ◌<◌, Bool, true, false, List, length, slice_index, slice_index_or, Contains}
+use Rattle.rtl_net_layout.specs.Groups.{Grouping}
 use Rattle.rtl_model.specs.nets.FlatNetlist.{FlatNetlist, flat_sources}
 use Rattle.rtl_net.specs.declared.process.Process.{Process}
 use Rattle.rtl_kernel.specs.drivers.Transactions.{driver_at, targets_of}
-use Rattle.rtl_kernel.specs.values.TwoValues.{TwoValues, HasWritten, group_of}
+use Rattle.rtl_kernel.specs.values.TwoValues.{TwoValues, HasWritten}
 use Rattle.rtl_kernel.specs.worklists.Numbers.{Numbers, IsWith}
 
 abbrev pub IsAlone : FlatNetlist → (net : ℕ) → Type 0
@@ -19,12 +20,21 @@ AreAloneAlike wiring of_net = (m n : ℕ) → m < length of_net → n < length o
 abbrev pub AreToldApart : FlatNetlist → (numbers : List ℕ) → Type 0
 AreToldApart wiring numbers = (n : ℕ) → n < length numbers → IsAlone wiring n ↔ (slice_index numbers n % 2 ≡ 1)
 
--- ---- new values of drivers of the nets from this one on, all in one group
+-- a mark for each group: the nets of a marked one have one source each
+pub record MarkAlone (wiring : FlatNetlist) (groups : Grouping) (marks : List Bool) : Type 0 where
+  pub each_group : length marks ≡ length groups.listed
+  pub there : (n : ℕ) → n < length groups.of_net → slice_index groups.of_net n < length groups.listed
+  pub alone : (n : ℕ) → n < length groups.of_net → slice_index_or marks (slice_index groups.of_net n) false ≡ true → IsAlone wiring n
 
-pub data BringsRun (wiring : FlatNetlist) (first : ℕ) (values : List ℕ) (old : TwoValues) (old_noted : Numbers)
+-- ---- values that drivers from a place on are given, whose nets are those from `first` on, all in one group
+
+pub data BringsRun (is_alone : Bool) (place first group : ℕ) (values row : List ℕ) (old : TwoValues) (old_noted : Numbers)
     (new : TwoValues) (new_noted : Numbers) : Type 0 where
-  at_once : IsAlone wiring first → HasWritten first values old new → new_noted ≡ old_noted → BringsRun wiring first values old old_noted new new_noted
-  later : new ≡ old → IsWith (group_of old first) old_noted new_noted → BringsRun wiring first values old old_noted new new_noted
+  at_once : is_alone ≡ true → HasWritten first values old new → new_noted ≡ old_noted
+      → BringsRun is_alone place first group values row old old_noted new new_noted
+  later : new ≡ old → IsWith group old_noted new_noted → BringsRun is_alone place first group values row old old_noted new new_noted
+  no_new_value : new ≡ old → new_noted ≡ old_noted → ((k : ℕ) → k < length values → slice_index row (place + k) ≡ slice_index values k)
+      → BringsRun is_alone place first group values row old old_noted new new_noted
 
 -- ---- new values of the drivers of one process, which have these nets
 

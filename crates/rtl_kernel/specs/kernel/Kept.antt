@@ -1,5 +1,5 @@
 -- What holds of every kernel.
-use Rattle.std.specs.Prelude.{◌≡◌, ℕ, ◌<◌, ◌≤◌, List, [], length, map, slice_index_or}
+use Rattle.std.specs.Prelude.{◌≡◌, ℕ, ◌<◌, ◌≤◌, Bool, List, [], length, map, slice_index_or}
 use Rattle.rtl_net_layout.specs.Cuts.{Cutting, AreCutsOf}
 use Rattle.rtl_model.specs.bodies.Types.{ElementType}
 use Rattle.rtl_model.specs.nets.FlatNetlist.{FlatNetlist, FlatProcess, IsInRange, process_at}
@@ -9,7 +9,7 @@ use Rattle.rtl_model.specs.simulation.Cycle.{State, IsToRun}
 use Rattle.rtl_model.specs.simulation.Laws.{IsConsistent}
 use Rattle.rtl_model.specs.simulation.Range.{StateInRange}
 use Rattle.rtl_eval.specs.Runs.{Outcome, IsOf}
-use Rattle.rtl_kernel.specs.drivers.Brought.{AreAloneAlike}
+use Rattle.rtl_kernel.specs.drivers.Brought.{MarkAlone}
 use Rattle.rtl_kernel.specs.drivers.Transactions.{Transactions, IsActive, all_targets, no_outcome, pending_of}
 use Rattle.rtl_kernel.specs.values.TwoValues.{TwoValues}
 use Rattle.rtl_net.specs.Nets.{NetlistView, flat}
@@ -49,7 +49,7 @@ pub record IsSound (net : FlatNetlist) (s : State) : Type 0 where
 
 -- what a kernel keeps is of its netlist, and fits together
 pub record IsKernel {E : Type 0} (process : E → FlatProcess) (types : E → List ElementType) (most : E → ℕ)
-    (net : NetlistView) (bodies : List E) (cuts : Cutting) (values : TwoValues) (drivers : Transactions) (resumed : ToRun) (noted : Numbers) : Type 0 where
+    (net : NetlistView) (bodies : List E) (cuts : Cutting) (alone : List Bool) (values : TwoValues) (drivers : Transactions) (resumed : ToRun) (noted : Numbers) : Type 0 where
   pub in_range : IsInRange (flat net)
   pub connected : IsConnected (flat net)
   pub run_bodies : RunBodies process types (flat net) bodies
@@ -57,7 +57,7 @@ pub record IsKernel {E : Type 0} (process : E → FlatProcess) (types : E → Li
   pub sound : IsSound (flat net) (state_of values drivers resumed)
   pub is_index : IsIndex (map (λ (p : Process). p.wakes.items) net.processes) (wakers_of values.groups)
   pub each_net : length values.groups.of_net ≡ length net.types
-  pub alike : AreAloneAlike (flat net) values.groups.of_net
+  pub marked : MarkAlone (flat net) values.groups alone
   pub are_cuts : AreCutsOf values.groups.of_net (all_targets net.processes) cuts
   -- no group is left over from an update
   pub idle : noted ≡ record { bound = length values.groups.listed; members = [] }

@@ -1,7 +1,7 @@
 -- Two valuations with the list of the groups whose nets may differ.
-use Rattle.std.specs.Prelude.{◌≡◌, length}
+use Rattle.std.specs.Prelude.{◌≡◌, true, All, length}
 use Rattle.rtl_net_layout.specs.Groups.{AreRuns}
-use Rattle.rtl_kernel.specs.values.TwoValues.{TwoValues, CoverEvents}
+use Rattle.rtl_kernel.specs.values.TwoValues.{TwoValues, CoverEvents, HasEventIn}
 use Rattle.rtl_kernel.specs.declared.values.Values.TheInside.{Inside}
 
 abbrev pub two_of : Inside → TwoValues
@@ -14,3 +14,4 @@ pub record IsCovered (v : Inside) : Type 0 where
   pub as_many : length v.before.items ≡ length v.current.items
   pub bound : v.changed.bound ≡ length v.groups.listed
   pub covers : CoverEvents (two_of v) v.changed.members
+  pub sure : v.once ≡ true → All (HasEventIn (two_of v)) v.changed.members

@@ -10,6 +10,7 @@ use Rattle.rtl_net_facts.proofs.Anys.{or_none}
 use Rattle.rtl_check.specs.Feeders.{feeds_by}
 use Rattle.rtl_check.proofs.Processes.{many_processes}
 use Rattle.rtl_check.proofs.Rows.{row_some, nets_of_wakes}
+use Rattle.std.proofs.lemmas.Result.{IfOk-from_err}
 use Rattle.rtl_check.proofs.graph.row_of.Goals as goal
 
 within : {a k m n : ℕ} → a < k → k ≡ m → m ≡ n → a < n
@@ -53,3 +54,10 @@ loop-wake-preserved c = λ p.
     ∙ (ap (λ (b : Bool). b || f x) (l.invariant p)
     ∙ sym (ap (list_any f) (take_more wakes l.wake-index 0 c.loop-wake-test.true)
     ∙ (list_any-append f (take l.wake-index wakes) (x ∷ []) ∙ ap (λ (b : Bool). list_any f (take l.wake-index wakes) || b) (sym (or_none (f x))))))
+
+pub returns-in_err-push_feeders : goal.returns-in_err-push_feeders
+returns-in_err-push_feeders c = IfOk-from_err c.from_residual.result _ c.from_residual.ensures.0
+
+pub bounds-processes-process : goal.bounds-processes-process
+bounds-processes-process c =
+    subst (λ (ps : List Process). c.args.process < length ps) (sym c.processes-processes.ensures) (within c.requires.there c.requires.kinds.each_process (many_processes c.args.net.now))

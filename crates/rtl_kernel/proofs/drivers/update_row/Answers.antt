@@ -6,7 +6,7 @@ use Rattle.rtl_eval.proofs.Places.{place_assigned}
 use Rattle.rtl_net_layout.specs.Cuts.{AreCuts}
 use Rattle.rtl_net_layout.specs.Groups.{Grouping}
 use Rattle.rtl_net.specs.Nets.{flat}
-use Rattle.rtl_kernel.specs.drivers.Brought.{AreAloneAlike}
+use Rattle.rtl_kernel.specs.drivers.Brought.{MarkAlone}
 use Rattle.rtl_kernel.specs.drivers.Transactions.{nets_of}
 use Rattle.rtl_kernel.specs.drivers.Updates.{TakesEntries, IsTaken}
 use Rattle.rtl_kernel.proofs.Updating.{takes_none, takes_then, taken_values, left_all, left_one, none_left}
@@ -37,9 +37,9 @@ update_span-requires-clause-cuts c =
 pub update_span-requires-clause-grouped : goal.update_span-requires-clause-grouped
 update_span-requires-clause-grouped c = ap (λ (g : Grouping). length g.of_net) c.loop-span.invariant.takes.brings.groups_stay ∙ c.requires.grouped
 
-pub update_span-requires-clause-alike : goal.update_span-requires-clause-alike
-update_span-requires-clause-alike c =
-    subst (λ (g : Grouping). AreAloneAlike (flat c.args.wiring.now) g.of_net) (sym c.loop-span.invariant.takes.brings.groups_stay) c.requires.alike
+pub update_span-requires-clause-alone : goal.update_span-requires-clause-alone
+update_span-requires-clause-alone c =
+    subst (λ (g : Grouping). MarkAlone (flat c.args.wiring.now) g c.args.alone.now) (sym c.loop-span.invariant.takes.brings.groups_stay) c.requires.alone
 
 pub update_span-requires-clause-bound : goal.update_span-requires-clause-bound
 update_span-requires-clause-bound c =

@@ -8,7 +8,7 @@ use Rattle.rtl_net.specs.Nets.{flat}
 use Rattle.rtl_kernel.specs.drivers.Rows.{rows}
 use Rattle.rtl_net_layout.specs.Cuts.{AreCutsOf}
 use Rattle.rtl_net_layout.specs.Groups.{Grouping}
-use Rattle.rtl_kernel.specs.drivers.Brought.{AreAloneAlike, Brings}
+use Rattle.rtl_kernel.specs.drivers.Brought.{MarkAlone, Brings}
 use Rattle.rtl_kernel.specs.drivers.Transactions.{all_targets, targets_of}
 use Rattle.rtl_kernel.proofs.Updating.{updating_none_yet, updating_one, updated_drivers, updated_outcomes}
 use Rattle.rtl_kernel.proofs.drivers.update_rows.Goals as goal
@@ -57,9 +57,9 @@ update_process-requires-clause-each_net c = c.loop-process.invariant.brings.as_m
 pub update_process-requires-clause-grouped : goal.update_process-requires-clause-grouped
 update_process-requires-clause-grouped c = ap (λ (g : Grouping). length g.of_net) c.loop-process.invariant.brings.groups_stay ∙ c.requires.grouped
 
-pub update_process-requires-clause-alike : goal.update_process-requires-clause-alike
-update_process-requires-clause-alike c =
-    subst (λ (g : Grouping). AreAloneAlike (flat c.args.wiring.now) g.of_net) (sym c.loop-process.invariant.brings.groups_stay) c.requires.alike
+pub update_process-requires-clause-alone : goal.update_process-requires-clause-alone
+update_process-requires-clause-alone c =
+    subst (λ (g : Grouping). MarkAlone (flat c.args.wiring.now) g c.args.alone.now) (sym c.loop-process.invariant.brings.groups_stay) c.requires.alone
 
 pub update_process-requires-clause-bound : goal.update_process-requires-clause-bound
 update_process-requires-clause-bound c =

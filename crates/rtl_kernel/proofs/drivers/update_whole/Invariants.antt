@@ -7,6 +7,6 @@ use Rattle.rtl_kernel.proofs.drivers.update_whole.Given as goal
 
 abbrev pub invariant-loop-span : goal.invariant-loop-span
 invariant-loop-span l = record {
-  takes : TakesEntries (flat l.wiring) (range_with_len l.first (length l.outcome.entries)) l.outcome.entries l.initial.values l.initial.nets l.initial.noted l.values l.nets l.noted;
+  takes : TakesEntries (flat l.wiring) (range_with_len l.cut.net (length l.outcome.entries)) l.outcome.entries l.initial.values l.initial.nets l.initial.noted l.values l.nets l.noted;
   left : (q : ℕ) → IsTaken l.outcome.entries l.values q ⊎ Contains (places_of (drop l.span-index l.span-items)) q;
 }

@@ -1,12 +1,15 @@
-use Rattle.std.proofs.Common.{◌+◌, ◌<◌, ◌≤◌, ℕ, false, List, Option, get_or, length, set, sym, ap, ◌∙◌, arith}
+use Rattle.std.proofs.Common.{◌≡◌, ◌+◌, ◌<◌, ◌≤◌, ℕ, true, false, List, Option, None, get_or, length, set, sym, ap, subst, ◌∙◌, arith}
 use Rattle.std.proofs.lemmas.List.{get_or_default, get_or-set_other, length-set}
 use Rattle.rtl_eval.specs.Runs.{Outcome}
 use Rattle.rtl_kernel.specs.drivers.Transactions.{no_outcome}
 use Rattle.rtl_net.specs.Core.{core}
+use Rattle.rtl_synchronous.specs.declared.awaited.Look.{Look}
+use Rattle.rtl_synchronous.specs.Scheduled.{IsAsleep}
+use Rattle.rtl_synchronous.proofs.Leading.{as_leader}
 use Rattle.rtl_synchronous.proofs.Awake.{all_run, clock_there, next_running, none_between, none_running, nothing_left, one_asleep, one_ran, some_unmarked, unmarked_more}
 use Rattle.rtl_synchronous.proofs.Wired.{elaborated, is_leveled, processes_many, ran_entries, runs_many}
 use Rattle.rtl_synchronous.proofs.clocked.run_marked.Goals as goal
-use Rattle.rtl_synchronous.proofs.clocked.run_marked.Goals.{then-index+then-is_asleep, then-index+else-is_asleep, else-index}
+use Rattle.rtl_synchronous.proofs.clocked.run_marked.Goals.{then-index+then-seen, then-index+else-seen, else-index}
 
 pub loop-process-init : goal.loop-process-init
 loop-process-init g c =
@@ -19,15 +22,28 @@ loop-process-init g c =
       may = c.requires.may;
       running = next_running net c.args.before.now c.args.values.now marked entries 0 marked (none_running net c.args.before.now c.args.values.now marked entries) c.requires.clocked (get_or c.args.nexts.now 0 0) N;
       within = let within = N.within in omega (arith, within, many, c.requires.each_process);
+      seen = λ e. let f : false ≡ true = e in cc;
     }
 
-pub is_asleep-requires-clause-before : goal.is_asleep-requires-clause-before
-is_asleep-requires-clause-before g c =
-    clock_there (core c.args.net.now) (is_leveled _ _ _ _ _ _ c.requires.may) c.args.edges.now c.requires.edges c.args.before.now c.requires.before.each_net c.loop-process.process
+pub bounds-leaders-process : goal.bounds-leaders-process
+bounds-leaders-process g c =
+    omega (arith, c.loop-process-test.true, c.len.ensures, c.loop-process.marked.ok.0, c.loop-process.invariant.running.as_many, c.requires.each_process, c.requires.edges.each_process, c.requires.leaders.each_process, processes_many c.args.net.now)
 
-pub is_asleep-requires-clause-values : goal.is_asleep-requires-clause-values
-is_asleep-requires-clause-values g c =
-    clock_there (core c.args.net.now) (is_leveled _ _ _ _ _ _ c.requires.may) c.args.edges.now c.requires.edges c.args.values.now c.requires.values.each_net c.loop-process.process
+pub look_at-seen-requires-clause-was : goal.look_at-seen-requires-clause-was
+look_at-seen-requires-clause-was g c = c.loop-process.invariant.seen
+
+pub look_at-seen-requires-clause-there : goal.look_at-seen-requires-clause-there
+look_at-seen-requires-clause-there g c =
+    c.requires.leaders.there c.loop-process.process
+    (omega (arith, c.loop-process-test.true, c.len.ensures, c.loop-process.marked.ok.0, c.loop-process.invariant.running.as_many, c.requires.each_process, c.requires.edges.each_process, processes_many c.args.net.now))
+
+pub look_at-seen-requires-clause-before : goal.look_at-seen-requires-clause-before
+look_at-seen-requires-clause-before g c =
+    clock_there (core c.args.net.now) (is_leveled _ _ _ _ _ _ c.requires.may) c.args.edges.now c.requires.edges c.args.before.now c.requires.before.each_net (get_or c.args.leaders.now c.loop-process.process 0)
+
+pub look_at-seen-requires-clause-values : goal.look_at-seen-requires-clause-values
+look_at-seen-requires-clause-values g c =
+    clock_there (core c.args.net.now) (is_leveled _ _ _ _ _ _ c.requires.may) c.args.edges.now c.requires.edges c.args.values.now c.requires.values.each_net (get_or c.args.leaders.now c.loop-process.process 0)
 
 pub loop-process-preserved : goal.loop-process-preserved
 loop-process-preserved g c =
@@ -48,16 +64,22 @@ loop-process-preserved g c =
     let next = get_or c.args.nexts.now (p + 1) 0 in
     let N = c.requires.nexts.each (p + 1) (omega (arith, within, many, c.requires.each_process)) in
     let to = N.within in
+    let in_edges : p < length c.args.edges.now = omega (arith, within, c.requires.each_process, c.requires.edges.each_process, many) in
+    let seen_here : (seen : Look) → seen.leader ≡ get_or c.args.leaders.now p 0 → (seen.asleep ≡ true → IsAsleep (get_or c.args.edges.now (get_or c.args.leaders.now p 0) None) before v)
+    → seen.asleep ≡ true → IsAsleep (get_or c.args.edges.now seen.leader None) before v =
+    λ seen leader asleep e. subst (λ (k : ℕ). IsAsleep (get_or c.args.edges.now k None) before v) (sym leader) (asleep e) in
     elim c.if-index.branch [
-      | then-index+then-is_asleep w ↦ rw (w.marked-is, w.runs-is)
+      | then-index+then-seen w ↦ rw (w.marked-is, w.runs-is, w.seen-is)
           (let R = one_asleep net before v first entries p marked I.running in_marked
-          (nothing_left view (elaborated _ _ _ _ _ _ c.requires.may) c.args.edges.now c.requires.edges before v p (w.is_asleep.ensures w.if-is_asleep.true)) in
+          (nothing_left view (elaborated _ _ _ _ _ _ c.requires.may) c.args.edges.now c.requires.edges before v p
+          (as_leader c.args.edges.now c.args.leaders.now c.requires.leaders before v p in_edges (w.look_at-seen.ensures.asleep w.if-seen.true))) in
           record {
             may = I.may;
             running = next_running net before v first entries (p + 1) (set marked p false) R c.requires.clocked next N;
             within = omega (arith, to, many, within, I.running.as_many, c.requires.each_process, length-set marked p false);
+            seen = seen_here w.look_at-seen.result w.look_at-seen.ensures.leader w.look_at-seen.ensures.asleep;
           })
-      | then-index+else-is_asleep w ↦ rw (w.marked-is, w.runs-is)
+      | then-index+else-seen w ↦ rw (w.marked-is, w.runs-is, w.seen-is)
           (let R = w.run.ensures.ran in
           let there : p < length runs = omega (arith, within, c.requires.each_process, runs_many _ _ _ view c.args.bodies.now runs I.may) in
           let after : ℕ → List (Option ℕ) = λ q. (get_or w.run.new.runs.items q no_outcome).entries in
@@ -68,13 +90,15 @@ loop-process-preserved g c =
             may = w.run.ensures.may;
             running = next_running net before v first after (p + 1) marked one c.requires.clocked next N;
             within = omega (arith, to, many, I.running.as_many, c.requires.each_process);
+            seen = seen_here w.look_at-seen.result w.look_at-seen.ensures.leader w.look_at-seen.ensures.asleep;
           })
-      | else-index w ↦ rw (w.marked-is, w.runs-is)
+      | else-index w ↦ rw (w.marked-is, w.runs-is, w.seen-is)
           (record {
             may = I.may;
             running = some_unmarked net before v first entries p marked I.running next (let later = N.later in omega (arith, later))
                 (unmarked_more marked p next (read ∙ w.if-index.false) (none_between net marked (λ q h. c.requires.clocked q (I.running.fewer q h)) (p + 1) next N));
             within = omega (arith, to, many, I.running.as_many, c.requires.each_process);
+            seen = I.seen;
           })
     ]
 

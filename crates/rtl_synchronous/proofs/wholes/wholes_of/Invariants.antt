@@ -1,6 +1,6 @@
 use Rattle.std.proofs.Common.{◌≡◌, map, take}
-use Rattle.rtl_synchronous.specs.Scheduled.{is_whole}
+use Rattle.rtl_synchronous.specs.Scheduled.{whole_first}
 use Rattle.rtl_synchronous.proofs.wholes.wholes_of.Given as goal
 
 abbrev pub invariant-loop-process : goal.invariant-loop-process
-invariant-loop-process l = l.wholes.items ≡ map is_whole (take l.process l.cuts.cuts)
+invariant-loop-process l = l.wholes.items ≡ map whole_first (take l.process l.cuts.cuts)

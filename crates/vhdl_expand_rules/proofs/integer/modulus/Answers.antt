@@ -1,8 +1,14 @@
 use mir.Syntax.{w32}
 use mir.Val.{SFits, to_z, of_z}
-use Rattle.std.proofs.Common.{◌≡◌, rules, arith}
+use Rattle.std.proofs.Common.{◌≡◌, ℤ, Ok, Err, rules, arith, ap, sym, subst, ◌∙◌}
+use Rattle.std.specs.Prelude.{int_rem}
 use Rattle.std.proofs.lemmas.Int.{ints}
-use Rattle.vhdl_expand_rules.proofs.Modulus.{modulus_returns}
+use Rattle.std.proofs.lemmas.Result.{err_from_is_err_and}
+use Rattle.vhdl_names_rules.specs.declared.operator.Arithmetic.TheVariants.{Modulo}
+use Rattle.vhdl_expand_rules.specs.declared.fault.ElabProblem.{ElabProblem}
+use Rattle.vhdl_expand_rules.specs.Integers.{checked_integer, division_with, modulus, integer_operation}
+use Rattle.vhdl_expand_rules.specs.views.Integers.{Computes, with_sign}
+use Rattle.vhdl_expand_rules.proofs.Modulus.{modulus_is, modulus_returns}
 use Rattle.vhdl_expand_rules.proofs.integer.modulus.Goals as goal
 
 pub returns : goal.returns
@@ -20,3 +26,25 @@ returns c =
     let er : to_z w32 (of_z w32 r) ≡ r = omega (arith, ints) in
     let em : to_z w32 (of_z w32 m) ≡ m = omega (arith, ints) in
     modulus_returns x _ y _ _ r _ m _ ex ey ey er em c.in_ok-remainder.ensures c.in_ok-modulus.ensures
+
+-- with the sign of the divisor it may be refused
+modulus_refused : (x x' y y' y'' r r' : ℤ) (problem : ElabProblem) → x' ≡ x → y' ≡ y → y'' ≡ y → r' ≡ r
+    → division_with int_rem x' y' ≡ Ok r → checked_integer (with_sign y'' r') ≡ Err problem → division_with modulus x y ≡ Err problem
+modulus_refused x x' y y' y'' r r' problem ex ey ey' er h k =
+    ap (λ q. division_with modulus q y) (sym ex) ∙ ap (λ q. division_with modulus x' q) (sym ey) ∙ modulus_is x' y' r h
+    ∙ ap (λ q. checked_integer (with_sign q r)) (ey ∙ sym ey') ∙ ap (λ q. checked_integer (with_sign y'' q)) (sym er) ∙ k
+
+pub returns-in_err-modulus : goal.returns-in_err-modulus
+returns-in_err-modulus c =
+    let x = c.args.left in
+    let y = c.args.right in
+    let r = c.in_ok-remainder.remainder in
+    let fx : SFits w32 x = search rules in
+    let fy : SFits w32 y = search rules in
+    let fr : SFits w32 r = search rules in
+    let ex : to_z w32 (of_z w32 x) ≡ x = omega (arith, ints) in
+    let ey : to_z w32 (of_z w32 y) ≡ y = omega (arith, ints) in
+    let er : to_z w32 (of_z w32 r) ≡ r = omega (arith, ints) in
+    let w = err_from_is_err_and c.from_residual-in_err-modulus.result c.from_residual-in_err-modulus.ensures.1 in
+    subst (λ q. Computes (integer_operation Modulo x y) q) (sym (w.1 ∙ ap (λ e. Err e) w.2))
+    (modulus_refused x _ y _ _ r _ _ ex ey ey er c.in_ok-remainder.ensures c.in_err-modulus.ensures)

@@ -1,5 +1,4 @@
-use Rattle.std.proofs.Common.{rules, arith, sym, ◌∙◌}
-use Rattle.std.proofs.lemmas.Grind.{common_steps}
+use Rattle.std.proofs.Common.{sym, ◌∙◌}
 use Rattle.vhdl_tree.specs.Tree as t
 use Rattle.vhdl_tree.specs.View.{ident_view, suffix_view, option_ident_view}
 use Rattle.vhdl_names_rules.specs.declared.fault.NameFault.TheVariants.{At}
@@ -10,6 +9,7 @@ use Rattle.vhdl_names_rules.specs.problems.Broken.{Tells}
 use Rattle.vhdl_names_rules.specs.problems.Choices as broken
 use Rattle.vhdl_names_expressions.proofs.Breaking.{told_fault}
 use Rattle.vhdl_names_expressions.proofs.BreakingChoices.{chosen_meaning, chosen_behind, chosen_bare}
+use Rattle.vhdl_names_expressions.proofs.Typing.{told_on as told_by}
 use Rattle.vhdl_names_expressions.proofs.alternatives.chosen_name.Goals as goal
 
 pub returns-in_err-meaning-clause-told : goal.returns-in_err-meaning-clause-told
@@ -18,7 +18,7 @@ returns-in_err-meaning-clause-told c =
     let n = c.args.name.now in
     let f : Tells (broken.chosen s c.args.object_type (t.named (ident_view n.identifier) (suffix_view n.suffix) (option_ident_view n.attribute))) c.in_err-meaning.field-0.0 =
     chosen_meaning s c.args.object_type (ident_view n.identifier) (suffix_view n.suffix) (option_ident_view n.attribute) c.in_err-meaning.field-0.0 c.in_err-meaning.ensures.told in
-    first_of (search rules, grind (arith, common_steps))
+    told_by _ c.in_err-meaning.field-0.0 _ c.from_residual.result c.from_residual.ensures.1 (λ e p. p) f
 
 pub returns-then-not-is_bare_name-clause-told : goal.returns-then-not-is_bare_name-clause-told
 returns-then-not-is_bare_name-clause-told c =

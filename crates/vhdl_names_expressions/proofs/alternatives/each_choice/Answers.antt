@@ -1,5 +1,4 @@
-use Rattle.std.proofs.Common.{rules, arith, ◌≡◌, ◌≢◌, suc, ◌+◌, ◌<◌, ◌∷◌, [], map, length, drop, None, ap, sym, ◌∙◌}
-use Rattle.std.proofs.lemmas.Grind.{common_steps}
+use Rattle.std.proofs.Common.{arith, ◌≡◌, ◌≢◌, suc, ◌+◌, ◌<◌, ◌∷◌, [], map, length, drop, None, ap, sym, ◌∙◌}
 use Rattle.std.proofs.lemmas.List.{map-append}
 use Rattle.vhdl_names_rules.specs.declared.fault.NameFault.TheVariants.{NoMemory}
 use Rattle.vhdl_names_rules.specs.Choices.{choice}
@@ -13,6 +12,7 @@ use Rattle.vhdl_names_rules.specs.problems.Choices as broken
 use Rattle.vhdl_names_rules.proofs.Telling.{told_same}
 use Rattle.vhdl_names_rules.proofs.kept.Choices.{choice_kept}
 use Rattle.vhdl_names_expressions.proofs.BreakingChoices.{next_told, any_left}
+use Rattle.vhdl_names_expressions.proofs.Typing.{passed_on, told_on as told_by}
 use Rattle.vhdl_names_expressions.proofs.alternatives.each_choice.Goals as goal
 
 pub returns-in_err-next-clause-given : goal.returns-in_err-next-clause-given
@@ -22,7 +22,7 @@ returns-in_err-next-clause-given c =
     let n : c.in_err-next.field-0.0 ≢ NoMemory → each f (map tree_choice_view c.args.all.now) ≡ None =
     λ n. each_fails f tree_choice_view _ (choices_view c.loop-one.done) c.args.all.now c.loop-one.one-index c.one-item.result c.loop-one.invariant.0 lt c.one-item.is
     (c.in_err-next.ensures.given n) in
-    first_of (search rules, grind (arith, common_steps))
+    passed_on _ _ c.in_err-next.field-0.0 _ c.from_residual.result c.from_residual.ensures.1 (λ e p. p) n
 
 pub loop-one-preserved : goal.loop-one-preserved
 loop-one-preserved c =
@@ -51,4 +51,4 @@ returns-in_err-next-clause-told c =
     let f : Tells (any_of b (map tree_choice_view c.args.all.now)) c.in_err-next.field-0.0 =
     told_same _ _ c.in_err-next.field-0.0 (sym c.loop-one.invariant.1)
     (next_told b tree_choice_view c.args.all.now c.loop-one.one-index c.one-item.result c.in_err-next.field-0.0 lt c.one-item.is c.in_err-next.ensures.told) in
-    first_of (search rules, grind (arith, common_steps))
+    told_by _ c.in_err-next.field-0.0 _ c.from_residual.result c.from_residual.ensures.1 (λ e p. p) f

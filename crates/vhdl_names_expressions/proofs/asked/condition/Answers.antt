@@ -1,5 +1,3 @@
-use Rattle.std.proofs.Common.{rules, arith}
-use Rattle.std.proofs.lemmas.Grind.{common_steps}
 use Rattle.vhdl_tree.specs.View.{view}
 use Rattle.vhdl_names_rules.specs.declared.fault.NameProblem.TheVariants.{TypeMismatch}
 use Rattle.vhdl_names_rules.specs.Expressions as are
@@ -13,6 +11,7 @@ use Rattle.vhdl_names_rules.specs.problems.Expressions as broken
 use Rattle.vhdl_names_rules.proofs.Telling.{told_left}
 use Rattle.vhdl_names_rules.proofs.kept.Expressions.{typed_kept}
 use Rattle.vhdl_names_expressions.proofs.Breaking.{wanted_told}
+use Rattle.vhdl_names_expressions.proofs.Typing.{told_on as told_by}
 use Rattle.vhdl_names_expressions.proofs.asked.condition.Goals as goal
 
 pub returns-in_err-value-clause-told : goal.returns-in_err-value-clause-told
@@ -21,7 +20,7 @@ returns-in_err-value-clause-told c =
     let e = view c.args.e.now in
     let f : Tells (broken.condition s e) c.in_err-value.field-0.0 =
     told_left (typed s e) (where_given (are.typed s e) (λ x. lacking TypeMismatch (start e) (wanted x))) c.in_err-value.field-0.0 c.in_err-value.ensures.told in
-    first_of (search rules, grind (arith, common_steps))
+    told_by _ c.in_err-value.field-0.0 _ c.from_residual.result c.from_residual.ensures.1 (λ e p. p) f
 
 pub returns-clause-told : goal.returns-clause-told
 returns-clause-told c =

@@ -1,5 +1,4 @@
-use Rattle.std.proofs.Common.{rules, arith, sym, ap}
-use Rattle.std.proofs.lemmas.Grind.{common_steps}
+use Rattle.std.proofs.Common.{sym, ap}
 use Rattle.vhdl_tree.specs.View.{view, value_view}
 use Rattle.vhdl_names_rules.specs.declared.fault.NameProblem.TheVariants.{TypeMismatch}
 use Rattle.vhdl_names_rules.specs.Expressions as are
@@ -13,6 +12,7 @@ use Rattle.vhdl_names_rules.specs.problems.Expressions.{is_vector_type}
 use Rattle.vhdl_names_rules.proofs.Telling.{told_same, told_left}
 use Rattle.vhdl_names_rules.proofs.kept.Expressions.{typed_kept}
 use Rattle.vhdl_names_expressions.proofs.Breaking.{told_as, asked_told, wanted_told}
+use Rattle.vhdl_names_expressions.proofs.Typing.{told_on as told_by}
 use Rattle.vhdl_names_expressions.proofs.asked.given.Goals as goal
 
 pub returns-in_err-operand-in-Expr-clause-told : goal.returns-in_err-operand-in-Expr-clause-told
@@ -23,7 +23,7 @@ returns-in_err-operand-in-Expr-clause-told c =
     told_same _ _ c.in_err-operand-in-Expr.field-0.0 (sym (ap (λ v. broken.value_given s c.args.object_type (value_view v)) c.in-Expr.is))
     (told_left (broken.typed s e) (where_given (are.typed s e) (λ x. lacking TypeMismatch (start e) (as_value c.args.object_type x))) c.in_err-operand-in-Expr.field-0.0
     c.in_err-operand-in-Expr.ensures.told) in
-    first_of (search rules, grind (arith, common_steps))
+    told_by _ c.in_err-operand-in-Expr.field-0.0 _ c.from_residual.result c.from_residual.ensures.1 (λ e p. p) f
 
 pub returns-in_ok-operand-in-Expr-clause-told : goal.returns-in_ok-operand-in-Expr-clause-told
 returns-in_ok-operand-in-Expr-clause-told c =
@@ -43,7 +43,7 @@ returns-in_err-operand-in-Others-clause-told c =
     (told_left (broken.typed s e)
     (where_given (are.typed s e) (λ x. unless TypeMismatch c.in-Others.at (is_vector_type c.args.object_type) ▸ lacking TypeMismatch (start e) (as_filled c.args.object_type x)))
     c.in_err-operand-in-Others.field-0.0 c.in_err-operand-in-Others.ensures.told) in
-    first_of (search rules, grind (arith, common_steps))
+    told_by _ c.in_err-operand-in-Others.field-0.0 _ c.from_residual-in_err-operand-in-Others.result c.from_residual-in_err-operand-in-Others.ensures.1 (λ e p. p) f
 
 pub returns-in_ok-operand-in-Others-clause-told : goal.returns-in_ok-operand-in-Others-clause-told
 returns-in_ok-operand-in-Others-clause-told c =

@@ -12,6 +12,7 @@ use Rattle.vhdl_names_rules.specs.problems.Subtypes.{suffixed_problem, value_of}
 use Rattle.vhdl_names_expressions.specs.Fixing.{suffixed_value}
 use Rattle.vhdl_names_expressions.proofs.Breaking.{told_fault, told_as, refused_told}
 use Rattle.vhdl_names_expressions.proofs.BreakingValues.{name_meaning, name_suffix, name_attribute, name_more, value_is}
+use Rattle.vhdl_names_expressions.proofs.Typing.{told_on as told_by}
 use Rattle.vhdl_names_expressions.proofs.fixed.fixed_name.Goals as goal
 
 pub returns-in_err-meaning-clause-told : goal.returns-in_err-meaning-clause-told
@@ -21,7 +22,7 @@ returns-in_err-meaning-clause-told c =
     let f : Tells (broken.fixed s c.args.object_type (t.named (ident_view n.identifier) (suffix_view n.suffix) (option_ident_view n.attribute))) c.in_err-meaning.field-0.0 =
     name_meaning s (ident_view n.identifier) (suffix_view n.suffix) (option_ident_view n.attribute) (λ d x. lacking (suffixed_problem c.args.object_type d x) n.identifier.at (value_of c.args.object_type d x)) c.in_err-meaning.field-0.0
     c.in_err-meaning.ensures.told in
-    first_of (search rules, grind (arith, common_steps))
+    told_by _ c.in_err-meaning.field-0.0 _ c.from_residual.result c.from_residual.ensures.1 (λ e p. p) f
 
 pub returns-in_err-suffix-clause-told : goal.returns-in_err-suffix-clause-told
 returns-in_err-suffix-clause-told c =
@@ -30,7 +31,7 @@ returns-in_err-suffix-clause-told c =
     let f : Tells (broken.fixed s c.args.object_type (t.named (ident_view n.identifier) (suffix_view n.suffix) (option_ident_view n.attribute))) c.in_err-suffix.field-0.0 =
     name_suffix s (ident_view n.identifier) (suffix_view n.suffix) (option_ident_view n.attribute) (λ d x. lacking (suffixed_problem c.args.object_type d x) n.identifier.at (value_of c.args.object_type d x)) (meaning_view c.in_ok-meaning.meaning.now) c.in_err-suffix.field-0.0
     c.in_ok-meaning.ensures.meant c.in_err-suffix.ensures.told in
-    first_of (search rules, grind (arith, common_steps))
+    told_by _ c.in_err-suffix.field-0.0 _ c.from_residual-in_err-suffix.result c.from_residual-in_err-suffix.ensures.1 (λ e p. p) f
 
 pub returns-in-Some-clause-told : goal.returns-in-Some-clause-told
 returns-in-Some-clause-told c =

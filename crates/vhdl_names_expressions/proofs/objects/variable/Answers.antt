@@ -12,6 +12,7 @@ use Rattle.vhdl_names_rules.specs.problems.Statements as broken
 use Rattle.vhdl_names_rules.proofs.Telling.{told_on}
 use Rattle.vhdl_names_expressions.proofs.Breaking.{told_fault, refused_told}
 use Rattle.vhdl_names_expressions.proofs.BreakingValues.{object_told, name_meaning, name_suffix, name_attribute, name_more}
+use Rattle.vhdl_names_expressions.proofs.Typing.{told_on as told_by}
 use Rattle.vhdl_names_expressions.proofs.objects.variable.Goals as goal
 
 pub returns-in_err-meaning-clause-told : goal.returns-in_err-meaning-clause-told
@@ -21,7 +22,7 @@ returns-in_err-meaning-clause-told c =
     let f : Tells (broken.variable s n) c.in_err-meaning.field-0.0 =
     object_told s n (λ d x. lacking (variable_problem d) n.identifier.at (as_variable d x)) c.in_err-meaning.field-0.0
     (name_meaning s n.identifier n.suffix n.attribute (λ d x. lacking (variable_problem d) n.identifier.at (as_variable d x)) c.in_err-meaning.field-0.0 c.in_err-meaning.ensures.told) in
-    first_of (search rules, grind (arith, common_steps))
+    told_by _ c.in_err-meaning.field-0.0 _ c.from_residual.result c.from_residual.ensures.1 (λ e p. p) f
 
 pub returns-in_err-suffix-clause-told : goal.returns-in_err-suffix-clause-told
 returns-in_err-suffix-clause-told c =
@@ -31,7 +32,7 @@ returns-in_err-suffix-clause-told c =
     object_told s n (λ d x. lacking (variable_problem d) n.identifier.at (as_variable d x)) c.in_err-suffix.field-0.0
     (name_suffix s n.identifier n.suffix n.attribute (λ d x. lacking (variable_problem d) n.identifier.at (as_variable d x)) (meaning_view c.in_ok-meaning.meaning.now) c.in_err-suffix.field-0.0 c.in_ok-meaning.ensures.meant
     c.in_err-suffix.ensures.told) in
-    first_of (search rules, grind (arith, common_steps))
+    told_by _ c.in_err-suffix.field-0.0 _ c.from_residual-in_err-suffix.result c.from_residual-in_err-suffix.ensures.1 (λ e p. p) f
 
 pub returns-in-Some-clause-told : goal.returns-in-Some-clause-told
 returns-in-Some-clause-told c =

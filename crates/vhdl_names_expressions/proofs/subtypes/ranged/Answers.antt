@@ -1,5 +1,4 @@
-use Rattle.std.proofs.Common.{rules, arith, Some, ap}
-use Rattle.std.proofs.lemmas.Grind.{common_steps}
+use Rattle.std.proofs.Common.{Some, ap}
 use Rattle.vhdl_tree.specs.View.{range_view}
 use Rattle.vhdl_names_types.specs.Views.{sight_view, meaning_view}
 use Rattle.vhdl_names_rules.specs.problems.Broken.{Tells, ◌▸◌, unless}
@@ -8,6 +7,7 @@ use Rattle.vhdl_names_rules.specs.problems.Subtypes.{mark_problem, is_marked}
 use Rattle.vhdl_names_rules.proofs.Telling.{told_left, told_right}
 use Rattle.vhdl_names_expressions.proofs.Marks.{no_range}
 use Rattle.vhdl_names_expressions.proofs.BreakingValues.{unmarked, marked_range, misfit}
+use Rattle.vhdl_names_expressions.proofs.Typing.{told_on as told_by}
 use Rattle.vhdl_names_expressions.proofs.subtypes.ranged.Goals as goal
 
 pub returns-in_err-range-in-VectorType-clause-told : goal.returns-in_err-range-in-VectorType-clause-told
@@ -18,7 +18,7 @@ returns-in_err-range-in-VectorType-clause-told c =
     let f : Tells (unless (mark_problem d) c.args.at (is_marked d (Some r)) ▸ static_range s r) c.in_err-range-in-VectorType.field-0.0 =
     told_right (unless (mark_problem d) c.args.at (is_marked d (Some r))) (static_range s r) c.in_err-range-in-VectorType.field-0.0
     (ap (unless (mark_problem d) c.args.at) (marked_range c.args.meaning.now _ _ c.in-VectorType.is r)) c.in_err-range-in-VectorType.ensures.told in
-    first_of (search rules, grind (arith, common_steps))
+    told_by _ c.in_err-range-in-VectorType.field-0.0 _ c.from_residual.result c.from_residual.ensures.1 (λ e p. p) f
 
 pub returns-in_default-clause-given : goal.returns-in_default-clause-given
 returns-in_default-clause-given c = λ n. no_range c.args.meaning.now c.in_default.not-VectorType _

@@ -1,10 +1,10 @@
-use Rattle.std.proofs.Common.{rules, arith, option_map, ap}
-use Rattle.std.proofs.lemmas.Grind.{common_steps}
+use Rattle.std.proofs.Common.{option_map, ap}
 use Rattle.vhdl_tree.specs.View.{subtype_view, range_view}
 use Rattle.vhdl_names_types.specs.Views.{sight_view, meaning_view}
 use Rattle.vhdl_names_rules.specs.problems.Broken.{Tells}
 use Rattle.vhdl_names_rules.specs.problems.Subtypes as broken
 use Rattle.vhdl_names_expressions.proofs.BreakingValues.{subtype_meaning, subtype_alone, subtype_ranged}
+use Rattle.vhdl_names_expressions.proofs.Typing.{told_on as told_by}
 use Rattle.vhdl_names_expressions.proofs.subtypes.subtype.Goals as goal
 
 pub returns-in_err-meaning-clause-told : goal.returns-in_err-meaning-clause-told
@@ -12,7 +12,7 @@ returns-in_err-meaning-clause-told c =
     let s = sight_view c.args.sight.now in
     let i = subtype_view c.args.indication.now in
     let f : Tells (broken.subtype s i) c.in_err-meaning.field-0.0 = subtype_meaning s i c.in_err-meaning.field-0.0 c.in_err-meaning.ensures.told in
-    first_of (search rules, grind (arith, common_steps))
+    told_by _ c.in_err-meaning.field-0.0 _ c.from_residual.result c.from_residual.ensures.1 (λ e p. p) f
 
 pub returns-in-None-clause-told : goal.returns-in-None-clause-told
 returns-in-None-clause-told c =

@@ -29,10 +29,10 @@ invariant_of-self g c =
     let some : 0 < length places = omega (arith, differ, c.assigned.ensures.few) in
     record {
       as_many = I.as_many ∙ sym (length-set outcomes p o);
-      bound = c.insert.ensures.bound_stays ∙ I.bound ∙ sym (length-set outcomes p o);
+      bound = c.insert.ensures.with.bound_stays ∙ I.bound ∙ sym (length-set outcomes p o);
       each_driver = each_driver_ran outcomes p o there _ as_many I.each_driver;
-      all_active = one_more outcomes p o there places A c.self.inside.active.members I.all_active I.no_other quiet c.self.inside.active c.insert.new.self refl some c.insert.ensures;
-      no_other = all_are_active outcomes p o there places A c.self.inside.active.members I.all_active I.no_other quiet c.self.inside.active c.insert.new.self refl some c.insert.ensures;
+      all_active = one_more outcomes p o there places A c.self.inside.active.members I.all_active I.no_other quiet c.self.inside.active c.insert.new.self refl some c.insert.ensures.with;
+      no_other = all_are_active outcomes p o there places A c.self.inside.active.members I.all_active I.no_other quiet c.self.inside.active c.insert.new.self refl some c.insert.ensures.with;
     }
 
 pub invariant_of-self-else-not-is_empty : goal.invariant_of-self-else-not-is_empty

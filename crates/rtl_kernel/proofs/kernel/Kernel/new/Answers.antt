@@ -7,9 +7,15 @@ use Rattle.rtl_kernel.proofs.Started.{is_started, kept_started}
 use Rattle.rtl_kernel.proofs.Wiring.{nets_there}
 use Rattle.rtl_kernel.proofs.kernel.Kernel.new.Goals as goal
 
+pub alone_groups-requires-clause-each_net : goal.alone_groups-requires-clause-each_net
+alone_groups-requires-clause-each_net g c = rw (c.groups-groups.ensures.value) c.in_ok-values.ensures.each_net
+
+pub alone_groups-requires-clause-alike : goal.alone_groups-requires-clause-alike
+alone_groups-requires-clause-alike g c = rw (c.groups-groups.ensures.value) c.in_ok-values.ensures.alike
+
 pub driver_cuts-cuts-requires : goal.driver_cuts-cuts-requires
 driver_cuts-cuts-requires g c =
-    rw (c.processes-processes.ensures, c.of_net.ensures.value, c.groups.ensures.value, c.in_ok-values.ensures.each_net)
+    rw (c.processes-processes.ensures, c.of_net.ensures.value, c.groups-groups.ensures.value, c.in_ok-values.ensures.each_net)
     (nets_there c.args.net.now c.is_elaborated.ensures.in_range)
 
 pub invariant_of-result : goal.invariant_of-result
@@ -29,9 +35,9 @@ invariant_of-result g c =
     (drivers ∙ ap (map start_row) c.processes-processes.ensures)
     (rw (c.processes-processes.ensures) at outcomes)
     (ap (λ (r : ToRun). r.waiting) resumed ∙ ap (λ (ps : List Process). replicate (length ps) true) c.processes-processes.ensures)
-    _ _ V.index V.each_net V.alike
-    (rw (c.processes-processes.ensures, c.of_net.ensures.value, c.groups.ensures.value) at cuts)
-    (noted ∙ ap (λ (n : ℕ). record { bound = n; members = [] }) (c.count.ensures ∙ ap (λ (h : Grouping). length h.listed) c.groups-2.ensures.value))
+    _ _ _ V.index V.each_net (rw (c.groups-groups.ensures.value) at c.in_ok-alone.ensures)
+    (rw (c.processes-processes.ensures, c.of_net.ensures.value, c.groups-groups.ensures.value) at cuts)
+    (noted ∙ ap (λ (n : ℕ). record { bound = n; members = [] }) (c.count.ensures ∙ ap (λ (h : Grouping). length h.listed) c.groups-groups.ensures.value))
 
 pub returns : goal.returns
 returns g c =

@@ -93,6 +93,7 @@ invariant_of-result g c =
       c.in_ok-schedule.ensures.cuts,
       c.in_ok-schedule.ensures.edges,
       c.in_ok-schedule.ensures.nexts,
+      c.in_ok-schedule.ensures.leaders,
     )
 
 pub new-requires-clause-accepted : goal.new-requires-clause-accepted
@@ -109,6 +110,9 @@ come_to_rest-requires-clause-cuts g c = c.in_ok-schedule.ensures.cuts
 
 pub come_to_rest-requires-clause-edges : goal.come_to_rest-requires-clause-edges
 come_to_rest-requires-clause-edges g c = c.in_ok-schedule.ensures.edges
+
+pub come_to_rest-requires-clause-leaders : goal.come_to_rest-requires-clause-leaders
+come_to_rest-requires-clause-leaders g c = c.in_ok-schedule.ensures.leaders
 
 pub come_to_rest-requires-clause-nexts : goal.come_to_rest-requires-clause-nexts
 come_to_rest-requires-clause-nexts g c = c.in_ok-schedule.ensures.nexts

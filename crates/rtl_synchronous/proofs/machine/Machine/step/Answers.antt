@@ -38,6 +38,9 @@ come_to_rest-requires-clause-edges g c = c.self.invariant.2
 pub come_to_rest-requires-clause-nexts : goal.come_to_rest-requires-clause-nexts
 come_to_rest-requires-clause-nexts g c = c.self.invariant.3
 
+pub come_to_rest-requires-clause-leaders : goal.come_to_rest-requires-clause-leaders
+come_to_rest-requires-clause-leaders g c = c.self.invariant.4
+
 pub set_inputs-requires : goal.set_inputs-requires
 set_inputs-requires g c =
     let K = c.self.invariant.0 in
@@ -58,6 +61,7 @@ invariant_of-self g c =
       c.self.invariant.1,
       c.self.invariant.2,
       c.self.invariant.3,
+      c.self.invariant.4,
     )
 
 pub returns-clause-step : goal.returns-clause-step

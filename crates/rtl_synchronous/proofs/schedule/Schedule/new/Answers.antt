@@ -1,10 +1,11 @@
-use Rattle.std.proofs.Common.{◌≡◌, ◌<◌, ℕ, List, All, length, ap, sym, subst, ◌∙◌}
+use Rattle.std.proofs.Common.{◌≡◌, ◌<◌, ℕ, List, Option, All, length, ap, sym, subst, ◌∙◌}
 use Rattle.std.proofs.lemmas.List.{length-map}
 use Rattle.rtl_kernel.specs.drivers.Transactions.{all_targets}
 use Rattle.rtl_kernel.proofs.Grouped.{groups_index}
 use Rattle.rtl_net_layout.specs.Cuts.{AreCutsOf}
 use Rattle.rtl_net.specs.Core.{core}
-use Rattle.rtl_synchronous.specs.Scheduled.{wakes_by_rank}
+use Rattle.rtl_synchronous.specs.declared.awaited.ClockEdge.{ClockEdge}
+use Rattle.rtl_synchronous.specs.Scheduled.{AreLeaders, wakes_by_rank}
 use Rattle.rtl_synchronous.proofs.Ordering.{is_order}
 use Rattle.rtl_synchronous.proofs.Wired.{all_targets_there, clocked_there, processes_many, rows_there}
 use Rattle.rtl_synchronous.proofs.schedule.Schedule.new.Goals as goal
@@ -74,6 +75,9 @@ wakes_of_clocked-requires-clause-levels c = c.requires.levels
 
 pub returns-clause-edges : goal.returns-clause-edges
 returns-clause-edges c = c.in_ok-edges.ensures
+
+pub returns-clause-leaders : goal.returns-clause-leaders
+returns-clause-leaders c = subst (λ (es : List (Option ClockEdge)). AreLeaders es c.in_ok-leaders.leaders.items) c.deref-4.ensures.value c.in_ok-leaders.ensures
 
 pub returns-clause-each_reader : goal.returns-clause-each_reader
 returns-clause-each_reader c = length-map c.in_ok-readers.readers.of_net _ ∙ c.in_ok-readers.ensures.each_net ∙ c.deref-2.ensures.len ∙ c.in_ok-together.ensures.len ∙ c.nets.ensures.count

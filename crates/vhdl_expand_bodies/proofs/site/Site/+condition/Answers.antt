@@ -2,10 +2,14 @@ use Rattle.std.proofs.Common.{◌≡◌, Err, ◌<◌, length, refl, sym, ap, �
 use Rattle.std.specs.Prelude.{◌≢◌}
 use Rattle.rtl_net.specs.Bodies as net
 use Rattle.rtl_model.specs.bodies.Body as bodies
+use Rattle.vhdl_values.specs.declared.scalar.Nine.{Nine}
+use Rattle.vhdl_names_rules.specs.units.Expressions as u
+use Rattle.vhdl_names_rules.specs.units.Expressions.{SignalPart, Vector, Value}
 use Rattle.vhdl_names_rules.specs.views.Tests.{test_view}
-use Rattle.vhdl_names_rules.specs.views.Vectors.{vector_view}
+use Rattle.vhdl_names_rules.specs.views.Vectors.{vector_view, value_view}
 use Rattle.vhdl_expand_rules.specs.declared.fault.ElabFault.TheVariants.{NoMemory}
 use Rattle.vhdl_expand_bodies.specs.Characters.{chain_view}
+use Rattle.vhdl_expand_rules.specs.Site.{Site}
 use Rattle.vhdl_expand_rules.specs.Expressions as definition
 use Rattle.vhdl_expand_rules.proofs.Steps.{given}
 use Rattle.vhdl_expand_bodies.specs.Sites.{site_view}
@@ -86,6 +90,89 @@ expanded_test-returns-in_err-holds-in-Fixed t c =
     passed_on _ _ c.in_err-holds-in-Fixed.field-0.0 _ c.from_residual-in_err-holds-in-Fixed.result c.from_residual-in_err-holds-in-Fixed.ensures.1 (λ e p. p)
     (λ n. ap (λ x. definition.test (site_view c.args.self.now) (test_view x)) c.in-Fixed.is
     ∙ on (λ e. given (bodies.decided e)) _ _ c.in_err-holds-in-Fixed.ensures)
+
+-- equality of two values, as the code comes to it, is equality as it is defined
+module _ (here : Site) where
+  -- a name and any value
+  of_name : (p : SignalPart) (w : Value) → steps.alike here (u.Value.elements (u.of_signal p)) w ≡ definition.alike here (u.Value.elements (u.of_signal p)) w
+  of_name p (u.Value.elements (u.of_signal q)) = refl
+  of_name p (u.Value.elements (u.of_variable k r)) = refl
+  of_name p (u.Value.elements (u.of_constant k r)) = refl
+  of_name p (u.Value.elements (u.character y)) = refl
+  of_name p (u.Value.elements (u.enclosed_character y)) = refl
+  of_name p (u.Value.elements (u.Vector.literal ys)) = refl
+  of_name p (u.Value.elements (u.Vector.inverse y)) = refl
+  of_name p (u.Value.elements (u.Vector.binary op y z)) = refl
+  of_name p (u.Value.elements (u.with_integer op y s)) = refl
+  of_name p (u.Value.elements (u.integer_with op s y)) = refl
+  of_name p (u.Value.elements (u.Vector.encoded s t)) = refl
+  of_name p (u.Value.elements (u.counted op y s)) = refl
+  of_name p (u.Value.position n) = refl
+  of_name p (u.state_of s) = refl
+  of_name p (u.state_of_variable k) = refl
+
+  -- a character literal and any value
+  of_character : (x : Nine) (w : Value) → steps.alike here (u.Value.elements (u.character x)) w ≡ definition.alike here (u.Value.elements (u.character x)) w
+  of_character x (u.Value.elements (u.of_signal q)) = refl
+  of_character x (u.Value.elements (u.of_variable k r)) = refl
+  of_character x (u.Value.elements (u.of_constant k r)) = refl
+  of_character x (u.Value.elements (u.character y)) = refl
+  of_character x (u.Value.elements (u.enclosed_character y)) = refl
+  of_character x (u.Value.elements (u.Vector.literal ys)) = refl
+  of_character x (u.Value.elements (u.Vector.inverse y)) = refl
+  of_character x (u.Value.elements (u.Vector.binary op y z)) = refl
+  of_character x (u.Value.elements (u.with_integer op y s)) = refl
+  of_character x (u.Value.elements (u.integer_with op s y)) = refl
+  of_character x (u.Value.elements (u.Vector.encoded s t)) = refl
+  of_character x (u.Value.elements (u.counted op y s)) = refl
+  of_character x (u.Value.position n) = refl
+  of_character x (u.state_of s) = refl
+  of_character x (u.state_of_variable k) = refl
+
+  -- an enclosed one and any value
+  of_enclosed : (x : Nine) (w : Value) → steps.alike here (u.Value.elements (u.enclosed_character x)) w ≡ definition.alike here (u.Value.elements (u.enclosed_character x)) w
+  of_enclosed x (u.Value.elements (u.of_signal q)) = refl
+  of_enclosed x (u.Value.elements (u.of_variable k r)) = refl
+  of_enclosed x (u.Value.elements (u.of_constant k r)) = refl
+  of_enclosed x (u.Value.elements (u.character y)) = refl
+  of_enclosed x (u.Value.elements (u.enclosed_character y)) = refl
+  of_enclosed x (u.Value.elements (u.Vector.literal ys)) = refl
+  of_enclosed x (u.Value.elements (u.Vector.inverse y)) = refl
+  of_enclosed x (u.Value.elements (u.Vector.binary op y z)) = refl
+  of_enclosed x (u.Value.elements (u.with_integer op y s)) = refl
+  of_enclosed x (u.Value.elements (u.integer_with op s y)) = refl
+  of_enclosed x (u.Value.elements (u.Vector.encoded s t)) = refl
+  of_enclosed x (u.Value.elements (u.counted op y s)) = refl
+  of_enclosed x (u.Value.position n) = refl
+  of_enclosed x (u.state_of s) = refl
+  of_enclosed x (u.state_of_variable k) = refl
+
+  of_vector : (x : Vector) (w : Value) → steps.alike here (u.Value.elements x) w ≡ definition.alike here (u.Value.elements x) w
+  of_vector (u.of_signal q) w = of_name q w
+  of_vector (u.of_variable k r) w = refl
+  of_vector (u.of_constant k r) w = refl
+  of_vector (u.character y) w = of_character y w
+  of_vector (u.enclosed_character y) w = of_enclosed y w
+  of_vector (u.Vector.literal ys) w = refl
+  of_vector (u.Vector.inverse y) w = refl
+  of_vector (u.Vector.binary op y z) w = refl
+  of_vector (u.with_integer op y s) w = refl
+  of_vector (u.integer_with op s y) w = refl
+  of_vector (u.Vector.encoded s t) w = refl
+  of_vector (u.counted op y s) w = refl
+
+  same_alike : (v w : Value) → steps.alike here v w ≡ definition.alike here v w
+  same_alike (u.Value.elements x) w = of_vector x w
+  same_alike (u.Value.position n) w = refl
+  same_alike (u.state_of s) w = refl
+  same_alike (u.state_of_variable k) w = refl
+
+pub expanded_test-returns-in-Alike : goal.expanded_test-returns-in-Alike
+unfolding definition.test
+expanded_test-returns-in-Alike t c =
+    expands_along net.test_view _ _ _ (ap (λ x. definition.test (site_view c.args.self.now) (test_view x)) c.in-Alike.is
+    ∙ sym (same_alike (site_view c.args.self.now) (value_view c.in-Alike.left.value) (value_view c.in-Alike.right.value)))
+    (rw (c.deref.ensures, c.deref-in-Alike.ensures) at c.alike.ensures)
 
 pub expanded_test-returns-in-Unlike : goal.expanded_test-returns-in-Unlike
 unfolding definition.test

@@ -1,6 +1,6 @@
 use Rattle.std.proofs.Common.{◌≡◌, length, take}
 use Rattle.rtl_kernel.specs.wakes.Woken.{AddsPlaces}
-use Rattle.rtl_synchronous.proofs.marks.mark.Given as goal
+use Rattle.rtl_synchronous.proofs.marks.mark_each.Given as goal
 
 abbrev pub invariant-loop-number : goal.invariant-loop-number
 invariant-loop-number l = record {

@@ -1,7 +1,7 @@
 use Rattle.std.proofs.Common.{◌<◌, ◌∙◌, refl, get_or, length}
 use Rattle.std.proofs.lemmas.List.{length-set}
 use Rattle.rtl_kernel.proofs.Waking.{adds_more, adds_set}
-use Rattle.rtl_synchronous.proofs.marks.mark.Goals as goal
+use Rattle.rtl_synchronous.proofs.marks.mark_each.Goals as goal
 
 pub loop-number-preserved : goal.loop-number-preserved
 loop-number-preserved c =

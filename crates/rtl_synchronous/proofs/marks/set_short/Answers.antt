@@ -1,0 +1,42 @@
+use Rattle.std.proofs.Common.{◌≡◌, ◌+◌, ℕ, List, get_or, length, ap, sym, subst, ◌∙◌, arith}
+use Rattle.std.proofs.lemmas.List.{with_items_is}
+use Rattle.rtl_kernel.specs.values.TwoValues.{IsWritten}
+use Rattle.rtl_kernel.specs.wakes.Woken.{wakers_of}
+use Rattle.rtl_synchronous.specs.Marks.{IsOfRun}
+use Rattle.rtl_synchronous.proofs.Marking.{marks_same}
+use Rattle.rtl_synchronous.proofs.Replaced.{same_values}
+use Rattle.rtl_synchronous.proofs.Setting.{listed_below, set_marks}
+use Rattle.rtl_synchronous.proofs.marks.set_short.Goals as goal
+
+pub replace-requires : goal.replace-requires
+replace-requires c = rw (ap length c.deref_mut.ensures.value) c.requires.there
+
+pub mark-requires : goal.mark-requires
+mark-requires c = record {
+  there = listed_below c.args.groups.now (length c.args.values.now.items) c.requires.each_net c.args.first
+      (omega (arith, c.requires.there, c.replace.ensures.some c.if-replace.true)) c.listed.result.now c.of_net.result.now c.listed.ensures c.of_net.ensures.value _ c.requires.below;
+}
+
+pub returns-then-replace-clause-marks : goal.returns-then-replace-clause-marks
+returns-then-replace-clause-marks c =
+    let first = c.args.first in
+    let given = c.args.given.now in
+    let old = c.args.values.now in
+    let new = c.replace.new.over in
+    let done = rw c.deref_mut.ensures.value at c.replace.ensures.written in
+    let many : length new ≡ old.len = omega (arith, done.as_many, old.ok.0) in
+    let written = subst (λ (vs : List ℕ). IsWritten first given old.items vs) (sym (with_items_is old new many)) done in
+    set_marks c.args.groups.now (length old.items) c.requires.each_net first old.items _ given c.args.marks.now.items c.mark.new.marks.items (λ i. length old.items) c.requires.there (c.replace.ensures.some c.if-replace.true)
+    c.requires.together c.listed.result.now c.of_net.result.now c.listed.ensures c.of_net.ensures.value written c.mark.ensures.as_many c.mark.ensures.marks
+
+pub returns-else-replace-clause-marks : goal.returns-else-replace-clause-marks
+returns-else-replace-clause-marks c =
+    let first = c.args.first in
+    let given = c.args.given.now in
+    let old = c.args.values.now in
+    let new = c.replace.new.over in
+    let done = rw c.deref_mut.ensures.value at c.replace.ensures.written in
+    let many : length new ≡ old.len = omega (arith, done.as_many, old.ok.0) in
+    let written = subst (λ (vs : List ℕ). IsWritten first given old.items vs) (sym (with_items_is old new many)) done in
+    marks_same (wakers_of c.args.groups.now) (IsOfRun first (length given)) old.items _ c.args.marks.now.items
+    (same_values first given old.items _ written (λ k l. ap (λ (vs : List ℕ). get_or vs (first + k) 0) (sym c.deref_mut.ensures.value) ∙ c.replace.ensures.alike c.if-replace.false k l))
