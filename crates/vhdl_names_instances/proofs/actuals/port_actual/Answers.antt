@@ -1,5 +1,4 @@
-use Rattle.std.proofs.Common.{rules, arith, ◌≡◌, true, false, ap, refl, sym, ◌∙◌, subst}
-use Rattle.std.proofs.lemmas.Grind.{common_steps}
+use Rattle.std.proofs.Common.{true, false, ap, refl, sym, ◌∙◌, subst}
 use Rattle.vhdl_tree.specs.View.{view, name_view}
 use Rattle.vhdl_names_rules.specs.declared.fault.NameProblem.TheVariants.{TypeMismatch, WriteOfIn, LeftOut}
 use Rattle.vhdl_names_rules.specs.problems.Broken.{Tells, refused}
@@ -9,6 +8,7 @@ use Rattle.vhdl_names_types.specs.Views.{sight_view}
 use Rattle.vhdl_names_units.specs.views.Answers.{signal_name_view}
 use Rattle.vhdl_names_instances.specs.steps.Actuals.{formal}
 use Rattle.vhdl_names_instances.proofs.Actual.{no_name_told, no_signal_told, other_kind_told, not_joined_told}
+use Rattle.vhdl_names_instances.proofs.Told.{passed_told}
 use Rattle.vhdl_names_instances.proofs.actuals.port_actual.Goals as goal
 
 pub returns-in-None-clause-told : goal.returns-in-None-clause-told
@@ -21,19 +21,19 @@ returns-in_err-actual-in-Some-clause-told c =
     let f : Tells (port_actual (sight_view c.args.sight.now) (formal c.args.port) (view c.args.e.now)) c.in_err-actual-in-Some.field-0.0 =
     no_signal_told (sight_view c.args.sight.now) (formal c.args.port) (view c.args.e.now) c.in_err-actual-in-Some.field-0.0 (name_view c.in-Some.name.now) (sym c.in-Some.ensures)
     c.in_err-actual-in-Some.ensures.told in
-    first_of (search rules, grind (arith, common_steps))
+    passed_told _ c.in_err-actual-in-Some.field-0.0 _ c.from_residual.result c.from_residual.ensures.1 (λ e p. p) f
 
 pub returns-then-not-is_kind-clause-told : goal.returns-then-not-is_kind-clause-told
 returns-then-not-is_kind-clause-told c =
-    let q : c.is_kind.result ≡ false = first_of (search rules, grind (arith, common_steps)) in
+    let q = c.if-not-is_kind.true in
     other_kind_told (sight_view c.args.sight.now) (formal c.args.port) (view c.args.e.now) c.at-then-not-is_kind.result (name_view c.in-Some.name.now) (sym c.in-Some.ensures)
     (signal_name_view c.in_ok-actual-in-Some.actual) c.in_ok-actual-in-Some.ensures.given (sym c.is_kind.ensures ∙ q)
     (subst (Tells (refused TypeMismatch c.in-Some.name.now.identifier.at)) (sym c.at-then-not-is_kind.ensures) refl)
 
 pub returns-then-not-may_join-clause-told : goal.returns-then-not-may_join-clause-told
 returns-then-not-may_join-clause-told c =
-    let k : c.is_kind.result ≡ true = first_of (search rules, grind (arith, common_steps)) in
-    let q : c.may_join.result ≡ false = first_of (search rules, grind (arith, common_steps)) in
+    let k = c.if-not-is_kind.false in
+    let q = c.if-not-may_join.true in
     not_joined_told (sight_view c.args.sight.now) (formal c.args.port) (view c.args.e.now) c.at-then-not-may_join.result (name_view c.in-Some.name.now) (sym c.in-Some.ensures)
     (signal_name_view c.in_ok-actual-in-Some.actual) c.in_ok-actual-in-Some.ensures.given (sym c.is_kind.ensures ∙ k) (sym c.may_join.ensures ∙ q)
     (subst (Tells (refused WriteOfIn c.in-Some.name.now.identifier.at)) (sym c.at-then-not-may_join.ensures) refl)

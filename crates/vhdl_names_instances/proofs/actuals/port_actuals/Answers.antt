@@ -1,6 +1,5 @@
-use Rattle.std.proofs.Common.{rules, arith, ◌≡◌, ◌≢◌, suc, ◌+◌, None, Some, [], ◌∷◌, ◌++◌, map, drop, ap, sym, ◌∙◌}
+use Rattle.std.proofs.Common.{arith, ◌≡◌, ◌≢◌, suc, ◌+◌, None, Some, [], ◌∷◌, ◌++◌, map, drop, ap, sym, ◌∙◌}
 use Rattle.std.specs.Prelude.{option_map}
-use Rattle.std.proofs.lemmas.Grind.{common_steps}
 use Rattle.std.proofs.lemmas.List.{map-append}
 use Rattle.vhdl_names_rules.specs.declared.fault.NameFault.TheVariants.{NoMemory}
 use Rattle.vhdl_names_rules.specs.views.Vectors.{place_view}
@@ -9,6 +8,7 @@ use Rattle.vhdl_names_expressions.proofs.Each.{behind}
 use Rattle.vhdl_names_instances.specs.Views.{actual_view}
 use Rattle.vhdl_names_instances.specs.steps.Actuals as steps
 use Rattle.vhdl_names_instances.proofs.Actual.{port_fails, port_goes, actuals_end}
+use Rattle.vhdl_names_expressions.proofs.Typing.{passed_on}
 use Rattle.vhdl_names_instances.proofs.actuals.port_actuals.Goals as goal
 
 pub returns-in_err-entry : goal.returns-in_err-entry
@@ -17,7 +17,7 @@ returns-in_err-entry c =
     let es = map actual_view c.args.actuals.now in
     let f : c.in_err-entry.field-0.0 ≢ NoMemory → steps.port_actuals s c.args.ports.now es ≡ None =
     λ n. port_fails s _ _ c.args.ports.now es c.loop-index.index c.loop-index.invariant (c.in_err-entry.ensures n) in
-    first_of (search rules, grind (arith, common_steps))
+    passed_on _ _ c.in_err-entry.field-0.0 _ c.from_residual.result c.from_residual.ensures.1 (λ e p. p) f
 
 pub returns-in-None : goal.returns-in-None
 returns-in-None c =

@@ -1,10 +1,10 @@
-use Rattle.std.proofs.Common.{rules, arith, ◌≡◌, ◌≢◌, None, false, map, length, ◌<◌}
-use Rattle.std.proofs.lemmas.Grind.{common_steps}
+use Rattle.std.proofs.Common.{arith, ◌≡◌, ◌≢◌, None, false, map, length, ◌<◌}
 use Rattle.vhdl_tree.specs.View.{association_view}
 use Rattle.vhdl_names_rules.specs.declared.fault.NameFault.TheVariants.{NoMemory}
 use Rattle.vhdl_names_units.specs.Once.{names_view}
 use Rattle.vhdl_names_instances.specs.steps.Associations.{taking}
 use Rattle.vhdl_names_instances.proofs.Taking.{refused_taking, taking_here}
+use Rattle.vhdl_names_expressions.proofs.Typing.{passed_on}
 use Rattle.vhdl_names_instances.proofs.associations.take_all.Goals as goal
 
 pub returns-in_err-take : goal.returns-in_err-take
@@ -14,7 +14,7 @@ returns-in_err-take c =
     let f : c.in_err-take.field-0.0 ≢ NoMemory → taking fs 0 false (names_view c.args.taken.now) (map association_view c.args.list.now) ≡ None =
     λ n. refused_taking fs c.args.list.now c.loop-index.index c.index-list-index.result lt c.index-list-index.is c.loop-index.is_behind_named (names_view c.loop-index.taken)
     _ c.loop-index.invariant (c.in_err-take.ensures.given n) in
-    first_of (search rules, grind (arith, common_steps))
+    passed_on _ _ c.in_err-take.field-0.0 _ c.from_residual.result c.from_residual.ensures.1 (λ e p. p) f
 
 pub loop-index-preserved : goal.loop-index-preserved
 loop-index-preserved c =
