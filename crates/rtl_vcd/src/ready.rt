@@ -46,18 +46,6 @@ pub(crate) struct Run {
 }
 
 impl Run {
-    /// A name that isn't ready.
-    fn unready() -> Run
-        ensures { result.count ≡ 0 }
-    {
-        Run {
-            first: 0,
-            count: 0,
-            form: Form::Single,
-            end: End::of(b""),
-        }
-    }
-
     /// The run of these nets, of the name with this number.
     fn of(number: usize, nets: &[usize], form: Form) -> Run
         requires some { 0 < length nets.now }
@@ -179,13 +167,18 @@ fn run_of(number: usize, signal: &Signal) -> Run
     requires most { length signal.now.nets.items ≤ 64 }
     ensures { IsReady number (signal_view signal.now) result }
 {
-    if !is_short(&signal.nets) || !are_neighbours(&signal.nets) {
-        return Run::unready();
+    if is_short(&signal.nets)
+        && are_neighbours(&signal.nets)
+        && is_as_wide(signal.kind, signal.nets.len())
+    {
+        return Run::of(number, &signal.nets, form_of(signal.kind));
     }
-    if !is_as_wide(signal.kind, signal.nets.len()) {
-        return Run::unready();
+    Run {
+        first: 0,
+        count: 0,
+        form: Form::Single,
+        end: End::of(b""),
     }
-    Run::of(number, &signal.nets, form_of(signal.kind))
 }
 
 /// How a name of this kind prints its elements.
