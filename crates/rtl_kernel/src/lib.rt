@@ -18,3 +18,4 @@ mod worklist;
 
 pub use kernel::{Kernel, NoSettling};
 pub use pick::{Forward, Pick, Reverse};
+pub use slices::replace;

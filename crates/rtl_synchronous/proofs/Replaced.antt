@@ -1,23 +1,7 @@
--- Values that are written over others, so many at a time.
-use Rattle.std.proofs.Common.{◌≡◌, ℕ, ◌+◌, ◌-◌, ◌≤◌, ◌<◌, Bool, true, false, ◌||◌, List, ◌++◌, length, get_or, take, drop, refl, sym, ap, ◌∙◌, arith, ◌⊎◌, inl, inr}
+-- Values that are written over others.
+use Rattle.std.proofs.Common.{◌≡◌, ℕ, ◌+◌, ◌-◌, ◌≤◌, ◌<◌, List, length, get_or, sym, ap, ◌∙◌, arith, ◌⊎◌, inl, inr}
 use Rattle.std.proofs.lemmas.Bool.{cases_lt}
-use Rattle.std.proofs.lemmas.List.{take-append-drop}
-use Rattle.std.proofs.lemmas.Simd.{length-chunk, put_chunk_is}
-use lib.Lanes.{chunk, put_chunk}
 use Rattle.rtl_kernel.specs.values.TwoValues.{IsWritten}
-
--- a part that is written over itself changes nothing
-pub put_same : (i n : ℕ) (xs : List ℕ) → i + n ≤ length xs → xs ≡ put_chunk i xs (chunk i n xs)
-put_same i n xs l =
-    let long : length (chunk i n xs) ≡ n = length-chunk i n xs l in
-    sym (put_chunk_is i xs (chunk i n xs) (omega (arith, long, l))
-    ∙ ap (λ (k : ℕ). take i xs ++ (take n (drop i xs) ++ drop k (drop i xs))) long
-    ∙ ap (λ (ys : List ℕ). take i xs ++ ys) (take-append-drop n (drop i xs))
-    ∙ take-append-drop i xs)
-
-pub neither : (a b : Bool) → (a || b) ≡ false → (a ≡ false) × (b ≡ false)
-neither true b e = let f : true ≡ false = e in cc
-neither false b e = (refl, e)
 
 -- what is written that was there leaves all values as they were
 pub same_values : (first : ℕ) (values old new : List ℕ) → IsWritten first values old new → ((k : ℕ) → k < length values → get_or old (first + k) 0 ≡ get_or values k 0)

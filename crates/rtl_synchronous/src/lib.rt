@@ -20,7 +20,6 @@ mod outcomes;
 mod running;
 mod schedule;
 mod search;
-mod slices;
 mod sweep;
 mod targets;
 mod wholes;

@@ -5,7 +5,7 @@ ghost use Rattle.rtl_kernel.specs.values.TwoValues.{IsWritten as HasRun};
 ghost use Rattle.rtl_kernel.specs.wakes.Woken.{AddsPlaces, wakers_of};
 ghost use Rattle.rtl_synchronous.specs.Marks.{AreBelow, IsOfRun, Marks};
 
-use crate::slices::replace;
+use rtl_kernel::replace;
 use rtl_net_layout::Groups;
 
 /// Marks these numbers, of which mostly there is one.

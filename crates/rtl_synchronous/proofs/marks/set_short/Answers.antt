@@ -14,7 +14,7 @@ replace-requires c = rw (ap length c.deref_mut.ensures.value) c.requires.there
 pub mark-requires : goal.mark-requires
 mark-requires c = record {
   there = listed_below c.args.groups.now (length c.args.values.now.items) c.requires.each_net c.args.first
-      (omega (arith, c.requires.there, c.replace.ensures.some c.if-replace.true)) c.listed.result.now c.of_net.result.now c.listed.ensures c.of_net.ensures.value _ c.requires.below;
+      (omega (arith, c.requires.there, (c.replace.ensures.other c.if-replace.true).there)) c.listed.result.now c.of_net.result.now c.listed.ensures c.of_net.ensures.value _ c.requires.below;
 }
 
 pub returns-then-replace-clause-marks : goal.returns-then-replace-clause-marks
@@ -26,7 +26,7 @@ returns-then-replace-clause-marks c =
     let done = rw c.deref_mut.ensures.value at c.replace.ensures.written in
     let many : length new ≡ old.len = omega (arith, done.as_many, old.ok.0) in
     let written = subst (λ (vs : List ℕ). IsWritten first given old.items vs) (sym (with_items_is old new many)) done in
-    set_marks c.args.groups.now (length old.items) c.requires.each_net first old.items _ given c.args.marks.now.items c.mark.new.marks.items (λ i. length old.items) c.requires.there (c.replace.ensures.some c.if-replace.true)
+    set_marks c.args.groups.now (length old.items) c.requires.each_net first old.items _ given c.args.marks.now.items c.mark.new.marks.items (λ i. length old.items) c.requires.there (omega (arith, (c.replace.ensures.other c.if-replace.true).there))
     c.requires.together c.listed.result.now c.of_net.result.now c.listed.ensures c.of_net.ensures.value written c.mark.ensures.as_many c.mark.ensures.marks
 
 pub returns-else-replace-clause-marks : goal.returns-else-replace-clause-marks
