@@ -50,6 +50,7 @@ impl Worklist {
         requires { number < self.old.bound }
         ensures with { IsWith number self.old self.new }
         ensures first { result ≡ true → Contains self.old.members number → ⊥ }
+        ensures there { result ≡ false → Contains self.old.members number }
     {
         if self.marks[number] {
             return false;
