@@ -48,8 +48,8 @@ pub fn mark_followers(groups: &Groups, values: &[u8], net: usize, value: u8, mar
 
 /// Gives nets that stand one behind the other in one group these values, and marks what is sensitive to them, if one gets another
 /// value than it has.
-#[inline(never)]
-pub fn set_run(
+#[inline(always)]
+fn set_here(
     groups: &Groups,
     first: usize,
     given: &[u8],
@@ -66,6 +66,25 @@ pub fn set_run(
     if replace(values, first, given) {
         mark(marks, groups.listed(groups.of_net()[first]));
     }
+}
+
+/// The same by a call.
+#[inline(never)]
+pub fn set_run(
+    groups: &Groups,
+    first: usize,
+    given: &[u8],
+    values: &mut Vec<u8>,
+    marks: &mut Vec<bool>,
+)
+    requires there { first + length given.now ≤ length values.old.items }
+    requires together { (k : ℕ) → k < length given.now → slice_index groups.now.of_net (first + k) ≡ slice_index groups.now.of_net first }
+    requires each_net { length (wakers_of groups.now) ≡ length values.old.items }
+    requires below { AreBelow (wakers_of groups.now) (length marks.old.items) }
+    ensures written { HasRun first given.now values.old.items values.new.items }
+    ensures marks { Marks (wakers_of groups.now) (IsOfRun first (length given.now)) values.old.items values.new.items marks.old.items marks.new.items }
+{
+    set_here(groups, first, given, values, marks);
 }
 
 /// The same, without a call where there are at most 32.
@@ -86,7 +105,7 @@ pub fn set_short(
 {
     if given.len() > 32 {
         set_run(groups, first, given, values, marks);
-    } else if replace(values, first, given) {
-        mark(marks, groups.listed(groups.of_net()[first]));
+    } else {
+        set_here(groups, first, given, values, marks);
     }
 }

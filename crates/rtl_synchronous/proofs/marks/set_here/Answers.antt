@@ -6,7 +6,7 @@ use Rattle.rtl_synchronous.specs.Marks.{IsOfRun}
 use Rattle.rtl_synchronous.proofs.Marking.{marks_same}
 use Rattle.rtl_synchronous.proofs.Replaced.{same_values}
 use Rattle.rtl_synchronous.proofs.Setting.{listed_below, set_marks}
-use Rattle.rtl_synchronous.proofs.marks.set_run.Goals as goal
+use Rattle.rtl_synchronous.proofs.marks.set_here.Goals as goal
 
 pub replace-requires : goal.replace-requires
 replace-requires c = rw (ap length c.deref_mut.ensures.value) c.requires.there
