@@ -1,23 +1,26 @@
 -- Declarations: what is read is spelled so, and what is spelled is read.
-use Rattle.std.proofs.Common.{◌≡◌, ℕ, ◌≤◌, true, false, List, [], ◌∷◌, ◌++◌, length, Option, Some, None, refl, arith}
+use Rattle.std.proofs.Common.{◌≡◌, ℕ, ◌≤◌, Bool, true, false, List, [], ◌∷◌, ◌++◌, length, Option, Some, None, refl, sym, ap, append-nil, arith}
 use Rattle.vhdl_lexer.specs.declared.token.TokenKind.{TokenKind}
 use Rattle.vhdl_lexer.specs.declared.token.TokenKind.TheVariants as k
 use Rattle.vhdl_tree.specs.Lexeme.{same_kind}
-use Rattle.vhdl_tree.specs.Tree.{Value, Generic, Port, Signals, Constants, Enumeration, Component, Declaration, signals, constants, enumeration, component}
-use Rattle.vhdl_tree.specs.Pieces.{Piece, some, word_at, spell_ident, spell_option, spell_each, IsEach}
+use Rattle.vhdl_tree.specs.Tree.{Ident, Value, Generic, Port, Signals, Constants, Enumeration, Component, Declaration, signals, constants, enumeration, component}
+use Rattle.vhdl_tree.specs.Pieces.{Piece, some, word_at, spell_ident, spell_word, spell_option, spell_each, IsEach}
 use Rattle.vhdl_tree.specs.grammar.Expressions.{spell_value, IsValue}
 use Rattle.vhdl_tree.specs.grammar.Declarations.{spell_generics, spell_ports, spell_signals, spell_constants, spell_enumeration, spell_component, spell_declaration, IsSignals, IsConstants, IsEnumeration, IsComponent, IsDeclaration}
+use Rattle.vhdl_tree.specs.grammar.Sequential.{spell_end}
 use Rattle.vhdl_parser_expressions.specs.reader.Input.{is_kind}
 use Rattle.vhdl_parser.specs.reader.Declarations.{signals_of, constant_value, constants_of, enumeration_of, component_of, declaration_by, declaration, begins_declaration, declarations}
 use Rattle.vhdl_parser_expressions.proofs.Halts.{Example}
 use Rattle.vhdl_parser_expressions.proofs.Walks.{Rule, afresh, w_pure, w_then, w_last}
-use Rattle.vhdl_parser_expressions.proofs.Rules.{w_some, w_end, w_ident, w_left, w_right, w_below, below_met, w_choose, w_refuse, w_option_ident, under, word_rule}
+use Rattle.vhdl_parser_expressions.proofs.Rules.{w_some, w_ident, w_left, w_right, w_below, below_met, w_choose, w_refuse, under, word_rule}
 use Rattle.vhdl_parser_expressions.proofs.Repeats.{each_rule}
 use Rattle.vhdl_parser_expressions.proofs.Gives.{Gives, Whatever, front, g_pure, g_then, g_map, g_some, g_ident, g_choose, g_below, eat_gives, more_gives}
 use Rattle.vhdl_parser_expressions.proofs.WalkValues.{value_rule}
 use Rattle.vhdl_parser_expressions.proofs.GiveValues.{value_gives}
 use Rattle.vhdl_parser_statements.proofs.Plain.{an_ident}
-use Rattle.vhdl_parser_statements.proofs.Subtypes.{idents_rule, idents_gives, last_gives, subtype_rule, subtype_gives, objects_rule, objects_gives}
+use Rattle.vhdl_parser_statements.proofs.GiveSequential.{end_gives}
+use Rattle.vhdl_parser_statements.proofs.WalkSequential.{w_end_neutral}
+use Rattle.vhdl_parser_statements.proofs.Subtypes.{idents_rule, idents_gives, subtype_rule, subtype_gives, objects_rule, objects_gives}
 use Rattle.vhdl_parser.proofs.Ports.{optional_generics_rule, optional_generics_gives, optional_ports_rule, optional_ports_gives}
 
 -- ---- what is read is spelled so
@@ -56,6 +59,12 @@ enumeration_rule n =
     w_some k.Semicolon refl (λ _.
     w_pure (omega arith) refl several))))))))
 
+component_spelled : (name : Ident) (word : Bool) (gs : Option (List Generic)) (ps : Option (List Port)) (last : Option Ident) →
+    spell_component (record { name = name; is_word = word; generics = gs; ports = ps; end_name = last })
+    ≡ some k.Component ∷ (spell_ident name ++ (spell_word k.Is word ++ (spell_option spell_generics gs ++ (spell_option spell_ports ps ++ (spell_end k.Component last ++ [])))))
+component_spelled name word gs ps last =
+    ap (λ r. some k.Component ∷ (spell_ident name ++ (spell_word k.Is word ++ (spell_option spell_generics gs ++ (spell_option spell_ports ps ++ r))))) (sym (append-nil (spell_end k.Component last)))
+
 component_rule : (n : ℕ) → Rule n 0 (component_of n) spell_component IsComponent
 unfolding component_of
 component_rule n =
@@ -64,11 +73,7 @@ component_rule n =
     w_then (word_rule k.Is refl (omega arith)) (λ word _ _.
     w_then (optional_generics_rule n) (λ gs fine _.
     w_then (optional_ports_rule n) (λ ps good _.
-    w_end (λ _.
-    w_some k.Component refl (λ _.
-    w_option_ident (λ last e.
-    w_some k.Semicolon refl (λ _.
-    w_pure (omega arith) refl (fine, good))))))))))
+    w_end_neutral k.Component refl (λ last. w_pure (omega arith) (component_spelled name word gs ps last) (fine, good)))))))
 
 -- type id is ( id ) ;
 plain_declaration : Example afresh spell_declaration IsDeclaration
@@ -129,7 +134,7 @@ component_gives n c good =
     g_then _ (eat_gives k.Is c.is_word refl)
     (g_then _ (optional_generics_gives n c.generics good.0)
     (g_then _ (optional_ports_gives n c.ports good.1)
-    (g_some (λ _. g_some (λ _. g_then _ (last_gives c.end_name) (g_some (λ _. g_pure)) (λ next g. (refl, tt)))))
+    (g_map (λ l. record { name = c.name; is_word = c.is_word; generics = c.generics; ports = c.ports; end_name = l }) (end_gives k.Component c.end_name))
     (λ next g. (refl, tt)))
     (λ next g. no_generic c.ports next))
     (λ next g. no_is c.generics c.ports next)))

@@ -10,7 +10,7 @@ use crate::instances::instance;
 use vhdl_lexer::TokenKind;
 use vhdl_parser_expressions::{Parser, Stop, below};
 use vhdl_parser_statements::{
-    conditional_waveforms, end_of, optional_label, process, selected_assignment,
+    conditional_waveforms, end_of, followed, optional_label, process, selected_assignment,
 };
 use vhdl_tree::{Assignment, Concurrent, Identifier, Scheme};
 
@@ -34,9 +34,9 @@ fn assignment(
     ensures { Reads assignment_view (read.assign levels (option_ident_view label) parser.old) result parser.new }
 {
     let target = parser.name(levels)?;
-    parser.expect(TokenKind::LessEqual)?;
-    let (branches, otherwise) = conditional_waveforms(parser, levels)?;
-    parser.expect(TokenKind::Semicolon)?;
+    let target = followed(parser, target, TokenKind::LessEqual)?;
+    let waveforms = conditional_waveforms(parser, levels)?;
+    let (branches, otherwise) = followed(parser, waveforms, TokenKind::Semicolon)?;
     Ok(Assignment {
         label,
         target,
@@ -166,7 +166,7 @@ fn for_scheme(parser: &mut Parser<'_>, levels: usize) -> Result<Scheme, Stop>
     ensures { Reads scheme_view (read.for_scheme levels parser.old) result parser.new }
 {
     let parameter = parser.identifier()?;
-    parser.expect(TokenKind::In)?;
+    let parameter = followed(parser, parameter, TokenKind::In)?;
     let range = parser.range(levels)?;
     Ok(Scheme::For { parameter, range })
 }

@@ -8,7 +8,7 @@ ghost use Rattle.vhdl_parser.specs.reader.Context as read;
 
 use vhdl_lexer::TokenKind;
 use vhdl_parser_expressions::{Parser, Stop, many, separated};
-use vhdl_parser_statements::identifiers;
+use vhdl_parser_statements::{followed, identifiers};
 use vhdl_tree::{ContextItem, Selected};
 
 #[tactic(auto, unfolding(crate::specs::reader::Context::selected))]
@@ -16,7 +16,7 @@ fn selected(parser: &mut Parser<'_>) -> Result<Selected, Stop>
     ensures { Reads selected_view (read.selected parser.old) result parser.new }
 {
     let library = parser.identifier()?;
-    parser.expect(TokenKind::Dot)?;
+    let library = followed(parser, library, TokenKind::Dot)?;
     let name = parser.identifier()?;
     parser.expect(TokenKind::Dot)?;
     parser.expect(TokenKind::All)?;
@@ -35,7 +35,7 @@ fn library_clause(parser: &mut Parser<'_>) -> Result<ContextItem, Stop>
 {
     parser.expect(TokenKind::Library)?;
     let names = identifiers(parser)?;
-    parser.expect(TokenKind::Semicolon)?;
+    let names = followed(parser, names, TokenKind::Semicolon)?;
     Ok(ContextItem::Library(names))
 }
 
@@ -45,7 +45,7 @@ fn use_clause(parser: &mut Parser<'_>) -> Result<ContextItem, Stop>
 {
     parser.expect(TokenKind::Use)?;
     let all = selecteds(parser)?;
-    parser.expect(TokenKind::Semicolon)?;
+    let all = followed(parser, all, TokenKind::Semicolon)?;
     Ok(ContextItem::Use(all))
 }
 

@@ -9,7 +9,7 @@ ghost use Rattle.vhdl_parser_expressions.specs.reader.Input.{Reads};
 use crate::interface::{optional_generics, optional_ports};
 use vhdl_lexer::TokenKind;
 use vhdl_parser_expressions::{Parser, Stop, below, many};
-use vhdl_parser_statements::{identifiers, object_declaration, subtype};
+use vhdl_parser_statements::{end_of, followed, identifiers, object_declaration, subtype};
 use vhdl_tree::{Component, Constants, Declaration, Enumeration, Signals, Value};
 
 #[tactic(auto, unfolding(crate::specs::reader::Declarations::signals_of))]
@@ -31,8 +31,7 @@ fn constant_value(parser: &mut Parser<'_>, levels: usize) -> Result<Value, Stop>
 {
     parser.expect(TokenKind::Assign)?;
     let value = parser.value(levels)?;
-    parser.expect(TokenKind::Semicolon)?;
-    Ok(value)
+    followed(parser, value, TokenKind::Semicolon)
 }
 
 #[tactic(auto, unfolding(crate::specs::reader::Declarations::constants_of))]
@@ -41,7 +40,7 @@ fn constants(parser: &mut Parser<'_>, levels: usize) -> Result<Constants, Stop>
 {
     parser.expect(TokenKind::Constant)?;
     let names = identifiers(parser)?;
-    parser.expect(TokenKind::Colon)?;
+    let names = followed(parser, names, TokenKind::Colon)?;
     let subtype = subtype(parser, levels)?;
     let value = constant_value(parser, levels)?;
     Ok(Constants {
@@ -57,12 +56,12 @@ fn enumeration(parser: &mut Parser<'_>, levels: usize) -> Result<Enumeration, St
 {
     parser.expect(TokenKind::Type)?;
     let name = parser.identifier()?;
-    parser.expect(TokenKind::Is)?;
-    parser.expect(TokenKind::LeftParen)?;
+    let name = followed(parser, name, TokenKind::Is)?;
+    let name = followed(parser, name, TokenKind::LeftParen)?;
     below(levels)?;
     let literals = identifiers(parser)?;
-    parser.expect(TokenKind::RightParen)?;
-    parser.expect(TokenKind::Semicolon)?;
+    let literals = followed(parser, literals, TokenKind::RightParen)?;
+    let literals = followed(parser, literals, TokenKind::Semicolon)?;
     Ok(Enumeration { name, literals })
 }
 
@@ -75,10 +74,7 @@ fn component(parser: &mut Parser<'_>, levels: usize) -> Result<Component, Stop>
     let is_word = parser.eat(TokenKind::Is)?;
     let generics = optional_generics(parser, levels)?;
     let ports = optional_ports(parser, levels)?;
-    parser.expect(TokenKind::End)?;
-    parser.expect(TokenKind::Component)?;
-    let end_name = parser.optional_identifier()?;
-    parser.expect(TokenKind::Semicolon)?;
+    let end_name = end_of(parser, TokenKind::Component)?;
     Ok(Component {
         name,
         is_word,

@@ -3,24 +3,20 @@
 ghost use Rattle.std.specs.Prelude.{◌≡◌, Option};
 ghost use Rattle.vhdl_parser.specs.Fault.{fault_number, fault_byte};
 
-use thiserror::Error;
+use std::fmt;
 
 /// Why tokens are no file. `at` is a byte of the source, counted from 0, and never above the
 /// source's length: where the token starts at which the reading stopped, or the source's length
 /// where it stopped behind the last token.
-#[derive(Clone, Copy, Debug, Error)]
+#[derive(Clone, Copy)]
 pub enum SyntaxFault {
     /// No file goes on with this token.
-    #[error("nothing that the grammar allows begins here, at byte {at}")]
     Unexpected { at: usize },
     /// The tokens end where a file goes on.
-    #[error("the file ends where something more must stand, at byte {at}")]
     EndOfFile { at: usize },
     /// More than 64 levels are open.
-    #[error("more than 64 levels are open, at byte {at}")]
     TooDeep { at: usize },
     /// A part of the tree could not grow.
-    #[error("out of memory")]
     NoMemory,
 }
 
@@ -46,6 +42,26 @@ impl SyntaxFault {
             | SyntaxFault::EndOfFile { at }
             | SyntaxFault::TooDeep { at } => Some(at),
             SyntaxFault::NoMemory => None,
+        }
+    }
+
+    /// What is wrong, in words.
+    fn text(self) -> &'static str {
+        match self {
+            SyntaxFault::Unexpected { .. } => "nothing that the grammar allows begins here",
+            SyntaxFault::EndOfFile { .. } => "the file ends where something more must stand",
+            SyntaxFault::TooDeep { .. } => "more than 64 levels are open",
+            SyntaxFault::NoMemory => "out of memory",
+        }
+    }
+}
+
+impl fmt::Display for SyntaxFault {
+    fn fmt<W: fmt::Write>(&self, f: &mut fmt::Formatter<W>) -> fmt::Result {
+        f.write_str(self.text())?;
+        match self.byte() {
+            Some(at) => write!(f, ", at byte {at}"),
+            None => Ok(()),
         }
     }
 }

@@ -9,6 +9,7 @@ ghost use Rattle.vhdl_parser.specs.reader.Instance as read;
 
 use vhdl_lexer::TokenKind;
 use vhdl_parser_expressions::{Parser, Stop, below};
+use vhdl_parser_statements::followed;
 use vhdl_tree::{Association, Identifier, Instance, Instantiated};
 
 #[tactic(auto, unfolding(crate::specs::reader::Instance::chosen))]
@@ -18,8 +19,7 @@ fn chosen_architecture(parser: &mut Parser<'_>, levels: usize) -> Result<Identif
     parser.expect(TokenKind::LeftParen)?;
     let _inner = below(levels)?;
     let name = parser.identifier()?;
-    parser.expect(TokenKind::RightParen)?;
-    Ok(name)
+    followed(parser, name, TokenKind::RightParen)
 }
 
 #[tactic(auto, unfolding(vhdl_parser_expressions::specs::reader::Input::optional))]
@@ -39,7 +39,7 @@ fn instantiated_entity(parser: &mut Parser<'_>, levels: usize) -> Result<Instant
 {
     parser.expect(TokenKind::Entity)?;
     let library = parser.identifier()?;
-    parser.expect(TokenKind::Dot)?;
+    let library = followed(parser, library, TokenKind::Dot)?;
     let name = parser.identifier()?;
     let architecture = optional_architecture(parser, levels)?;
     Ok(Instantiated::Entity {
@@ -73,8 +73,7 @@ fn map_of(parser: &mut Parser<'_>, levels: usize, word: TokenKind) -> Result<Vec
     parser.expect(TokenKind::LeftParen)?;
     let inner = below(levels)?;
     let all = parser.associations(inner)?;
-    parser.expect(TokenKind::RightParen)?;
-    Ok(all)
+    followed(parser, all, TokenKind::RightParen)
 }
 
 #[tactic(auto, unfolding(vhdl_parser_expressions::specs::reader::Input::optional))]

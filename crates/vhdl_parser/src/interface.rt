@@ -7,7 +7,7 @@ ghost use Rattle.vhdl_parser_expressions.specs.reader.Input.{Reads};
 
 use vhdl_lexer::TokenKind;
 use vhdl_parser_expressions::{Parser, Stop, below, separated};
-use vhdl_parser_statements::{identifiers, optional_default, subtype};
+use vhdl_parser_statements::{followed, identifiers, optional_default, subtype};
 use vhdl_tree::{Expr, Generic, Mode, Port};
 
 #[tactic(auto, unfolding(crate::specs::reader::Declarations::generic_default))]
@@ -35,7 +35,7 @@ fn generic(parser: &mut Parser<'_>, levels: usize) -> Result<Generic, Stop>
 {
     let constant_word = parser.eat(TokenKind::Constant)?;
     let names = identifiers(parser)?;
-    parser.expect(TokenKind::Colon)?;
+    let names = followed(parser, names, TokenKind::Colon)?;
     let in_word = parser.eat(TokenKind::In)?;
     let mark = parser.identifier()?;
     let default = optional_generic_default(parser, levels)?;
@@ -66,9 +66,8 @@ fn generics(parser: &mut Parser<'_>, levels: usize) -> Result<Vec<Generic>, Stop
     parser.expect(TokenKind::LeftParen)?;
     let inner = below(levels)?;
     let found = generic_list(parser, inner)?;
-    parser.expect(TokenKind::RightParen)?;
-    parser.expect(TokenKind::Semicolon)?;
-    Ok(found)
+    let found = followed(parser, found, TokenKind::RightParen)?;
+    followed(parser, found, TokenKind::Semicolon)
 }
 
 /// A generic clause, if one comes next, in which so many levels may be opened.
@@ -109,7 +108,7 @@ fn port(parser: &mut Parser<'_>, levels: usize) -> Result<Port, Stop>
 {
     let signal_word = parser.eat(TokenKind::Signal)?;
     let names = identifiers(parser)?;
-    parser.expect(TokenKind::Colon)?;
+    let names = followed(parser, names, TokenKind::Colon)?;
     let mode = mode(parser)?;
     let subtype = subtype(parser, levels)?;
     let default = optional_default(parser, levels)?;
@@ -136,9 +135,8 @@ fn ports(parser: &mut Parser<'_>, levels: usize) -> Result<Vec<Port>, Stop>
     parser.expect(TokenKind::LeftParen)?;
     let inner = below(levels)?;
     let found = port_list(parser, inner)?;
-    parser.expect(TokenKind::RightParen)?;
-    parser.expect(TokenKind::Semicolon)?;
-    Ok(found)
+    let found = followed(parser, found, TokenKind::RightParen)?;
+    followed(parser, found, TokenKind::Semicolon)
 }
 
 /// A port clause, if one comes next, in which so many levels may be opened.

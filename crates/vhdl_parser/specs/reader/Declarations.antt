@@ -7,6 +7,7 @@ use Rattle.vhdl_tree.specs.declared.declaration.Mode.TheVariants.{In, Out}
 use Rattle.vhdl_tree.specs.Tree.{Expr, Value, Generic, Port, Signals, Constants, Enumeration, Component, Declaration, signals, constants, enumeration, component}
 use Rattle.vhdl_parser_expressions.specs.reader.Input.{Parser, ◌>>=◌, ◌>>◌, ◌<$>◌, pure, refuse, is_kind, choose, expect, eat, identifier, optional, many, separated, below}
 use Rattle.vhdl_parser_expressions.specs.reader.Expressions.{expr, value}
+use Rattle.vhdl_parser_statements.specs.reader.Sequential.{end_of}
 use Rattle.vhdl_parser_statements.specs.reader.Subtypes.{idents, subtype, optional_default, objects}
 
 -- ---- generics and ports
@@ -117,10 +118,7 @@ component_of n = do
   word ← eat k.Is
   gs ← optional_generics n
   ps ← optional_ports n
-  expect k.End
-  expect k.Component
-  last ← optional (is_kind k.Identifier) identifier
-  expect k.Semicolon
+  last ← end_of k.Component
   pure (record { name = name; is_word = word; generics = gs; ports = ps; end_name = last })
 
 module _ (n : ℕ) where
