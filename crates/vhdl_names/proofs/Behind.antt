@@ -74,6 +74,5 @@ module _ (all : List EntityView) (e : EntityView) (items : List ContextItem) (a 
   abbrev behind : Option Sight → Option u.Architecture
   behind o = o >>= λ s. (entering (in_order with_declared (declaration all)) s a.declarations >>= λ w. steps.body all w.0 w.1 a)
 
-  pub then_body : (s w : Sight) (ds : List u.Declaration) → sight_behind e items ≡ Some s
-      → entering (in_order with_declared (declaration all)) s a.declarations ≡ Some (w, ds) → architecture all e items a ≡ steps.body all w ds a
-  then_body s w ds h k = in_parts ∙ ap behind h ∙ ap (λ o. o >>= λ w. steps.body all w.0 w.1 a) k
+  pub then_within : (s : Sight) → sight_behind e items ≡ Some s → architecture all e items a ≡ steps.within all s a
+  then_within s h = in_parts ∙ ap behind h

@@ -34,11 +34,11 @@ pub tells_at : (p : NameProblem) (at : ℕ) (f : NameFault) → f ≡ At p at �
 tells_at p at f h = let P : NameFault → Type 0 = λ f. Tells (refused p at) f in subst P (sym h) refl
 
 -- an answer that is passed on where only memory may be wanting
+pub some_none : {Y : Type 0} (y : Y) → Some y ≡ None → ⊥
+some_none y e = cc
+
 pub only_memory : {Y : Type 0} (b : Broken) (y : Y) (f : NameFault) → (f ≢ NoMemory → Some y ≡ None) → Tells b f
 only_memory b y (At p at) h = absurd (some_none y (h (at_is_told p at)))
-  where
-    some_none : {Y : Type 0} (y : Y) → Some y ≡ None → ⊥
-    some_none y e = cc
 only_memory b y NoMemory h = tt
 
 -- ---- what is given
@@ -106,3 +106,25 @@ pub passed_err : {X : Type 0} (b : Broken) (fault : NameFault) (P : NameFault �
     ((e : NameFault) → P e → e ≡ fault) → Tells b fault → IfErr r (Tells b)
 passed_err b fault P (Ok x) h same w = tt
 passed_err b fault P (Err e) h same w = let Q : NameFault → Type 0 = λ f. Tells b f in subst Q (sym (same e h)) w
+
+-- ---- a thing beside an answer
+
+module _ {A B : Type 0} (a : A) (q : Result B NameFault) (r : Result (A × B) NameFault) (refused : IfErr r (λ f. q ≡ Err f)) where
+  pub beside_gives : {Y : Type 0} (view : A × B → Y) (o : Option Y) → IfOk r (λ p. (p.0 ≡ a) × (q ≡ Ok p.1)) → ((b : B) → q ≡ Ok b → o ≡ Some (view (a, b)))
+      → ((f : NameFault) → q ≡ Err f → f ≢ NoMemory → o ≡ None) → Gives view o r
+  beside_gives view o both ok err = go r refused both
+    where
+      go : (r : Result (A × B) NameFault) → IfErr r (λ f. q ≡ Err f) → IfOk r (λ p. (p.0 ≡ a) × (q ≡ Ok p.1)) → Gives view o r
+      go (Ok p) k h = ok p.1 h.1 ∙ ap (λ x. Some (view (x, p.1))) (sym h.0)
+      go (Err f) k h = err f k
+
+  pub beside_told : (b : Broken) → ((f : NameFault) → q ≡ Err f → Tells b f) → IfErr r (Tells b)
+  beside_told b err = go r refused
+    where
+      go : (r : Result (A × B) NameFault) → IfErr r (λ f. q ≡ Err f) → IfErr r (Tells b)
+      go (Ok p) k = tt
+      go (Err f) k = err f k
+
+pub err_memory : {X : Type 0} (r : Result X NameFault) (f : NameFault) → r ≡ Err f → f ≢ NoMemory → HasMemory r
+err_memory (Ok x) f e n = tt
+err_memory (Err g) f e n = let same : g ≡ f = cc in λ m. n (sym same ∙ m)

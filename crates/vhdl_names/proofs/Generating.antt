@@ -10,6 +10,7 @@ use Rattle.vhdl_tree.proofs.RowsConcurrents.{view_generate}
 use Rattle.vhdl_names_rules.specs.units.Units as u
 use Rattle.vhdl_names_rules.specs.Rules.{◌>>=◌, ◌>>◌, met}
 use Rattle.vhdl_names_rules.specs.Visibility.{Sight, are_distinct, ends}
+use Rattle.vhdl_names_rules.proofs.laws.Rules.{some_is}
 use Rattle.vhdl_names_rules.specs.Interfaces.{EntityView}
 use Rattle.vhdl_names_rules.specs.Instances.{instance}
 use Rattle.vhdl_names_rules.specs.Concurrent as rules
@@ -76,6 +77,20 @@ module _ (f : Sight → Ident → t.Instance → Option u.Instance) where
       go true false None = refl
       go true false (Some xs) = refl
       go false e o = refl
+
+  -- where the statements in it are refused, and where its end is
+  module _ (sight : Sight) (label : Ident) (k : t.Scheme) (cs : List t.Concurrent) (end : Option Ident) where
+    pub no_body : (within : Sight) → Some (sight_within sight k) ≡ Some within → steps.labelled f within cs ≡ None → steps.generate f sight label k cs end ≡ None
+    no_body within e h =
+        ap (λ (o : Option (List u.Concurrent)). o >>= λ xs. met (ends label.text end) >> generated sight label.text k (concurrents_of xs))
+        (ap (λ s. steps.labelled f s cs) (some_is (sight_within sight k) within e) ∙ h)
+
+    pub no_end : met (ends label.text end) ≡ None → steps.generate f sight label k cs end ≡ None
+    no_end h = go (steps.labelled f (sight_within sight k) cs)
+      where
+        go : (o : Option (List u.Concurrent)) → (o >>= λ xs. met (ends label.text end) >> generated sight label.text k (concurrents_of xs)) ≡ None
+        go None = refl
+        go (Some xs) = ap (λ o. o >> generated sight label.text k (concurrents_of xs)) h
 
   module _ (es : List EntityView) (h : (sight : Sight) (label : Ident) (i : t.Instance) → instance es sight label i ≡ f sight label i) where
     mutual

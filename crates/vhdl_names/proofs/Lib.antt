@@ -4,6 +4,7 @@ pub mod Resuming
 pub mod Running
 pub mod StandingTwice
 pub mod Told
+pub mod Turns
 pub mod Behind
 pub mod Described
 pub mod Describing

@@ -1,5 +1,5 @@
 -- The table of what instances see, entity by entity.
-use Rattle.std.proofs.Common.{◌≡◌, ℕ, Bool, true, false, cond, not, List, [], ◌∷◌, ◌++◌, map, Option, Some, Vec, Global, refl, ap, sym, ◌∙◌, append_assoc, append-nil}
+use Rattle.std.proofs.Common.{◌≡◌, ℕ, Bool, true, false, cond, not, List, [], ◌∷◌, ◌++◌, map, Option, Some, None, Vec, Global, refl, ap, sym, ◌∙◌, append_assoc, append-nil}
 use Rattle.std.specs.Prelude.{◌&&◌, ◌||◌, bytes_eq, is_some}
 use Rattle.std.specs.List.{IsDistinct, AllByRecursion}
 use Rattle.std.specs.Map.{keys_of, lookup}
@@ -36,6 +36,10 @@ turned t (e ∷ es) = new (λ s. turned s es) (is_among e.name t.names)
 
 pub all_tabled : (es : List EntityView) → are_distinct (names_in es) ≡ true → in_turn with_seen no_table es ≡ Some (table_of es)
 all_tabled es h = turned no_table es ∙ ap (λ o. whole no_table o es) (once (names_in es) ∙ ap (λ b. then_some b (names_in es)) h)
+
+-- of a name that stands there nothing is added
+pub no_name : (t : TableView) (e : EntityView) → one_name t.names e.name ≡ None → with_seen t e ≡ None
+no_name t e h = ap (λ (o : Option (List Name)). o >>= λ ns. let p : Option TableView = Some (record { names = ns; formals = t.formals ++ seen e ∷ [] }) in p) h
 
 -- a table's names are distinct
 abbrev Entry : Type 0

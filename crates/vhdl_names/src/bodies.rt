@@ -5,7 +5,7 @@ ghost use Rattle.vhdl_names.specs.Finding.{Finds, HasMemory};
 ghost use Rattle.vhdl_names.specs.steps.Architectures as steps;
 ghost use Rattle.vhdl_names_declarations.specs.Entered.{more};
 ghost use Rattle.vhdl_names_instances.specs.Table.{AreEntities};
-ghost use Rattle.vhdl_names_components.specs.Views.{entities_view, entity_view};
+ghost use Rattle.vhdl_names_components.specs.Views.{entities_view, entity_view, sight_behind};
 ghost use Rattle.vhdl_names_rules.specs.problems.Broken.{Tells, ◌▸◌};
 ghost use Rattle.vhdl_names_rules.specs.problems.Declarations.{standing_twice, end_name};
 ghost use Rattle.vhdl_names_rules.specs.problems.Files as broken;
@@ -81,6 +81,24 @@ fn body(
     })
 }
 
+/// An architecture in this sight: its declarations, and what follows them.
+fn within(
+    alloc: Global,
+    given: &Given<'_, '_>,
+    sight: &mut Sight,
+    tree: &syntax::Architecture,
+) -> Result<Architecture, NameFault>
+    requires table { AreEntities given.now.formals.now (entities_view given.now.entities.now) }
+    requires outside { (sight_view sight.old).variables ≡ [] }
+    requires outermost { region_view sight.old.enclosing ≡ [] }
+    ensures given { IfOk result (λ a. steps.within (entities_view given.now.entities.now) (sight_view sight.old) (view.architecture_view tree.now) ≡ Some (architecture_view a)) }
+    ensures told { (e : EntityView) → (items : List t.ContextItem) → sight_behind e items ≡ Some (sight_view sight.old)
+        → IfErr result (Tells (broken.architecture (entities_view given.now.entities.now) e items (view.architecture_view tree.now))) }
+{
+    let declarations = declarations(alloc, given.entities, sight, &tree.declarations)?;
+    body(alloc, given.formals, sight, declarations, tree)
+}
+
 /// An architecture of an entity, behind its context items.
 pub fn architecture(
     alloc: Global,
@@ -96,6 +114,5 @@ pub fn architecture(
         (map view.context_view items.now) (view.architecture_view tree.now)) result }
 {
     let mut sight = architecture_sight(alloc, entity, items)?;
-    let declarations = declarations(alloc, given.entities, &mut sight, &tree.declarations)?;
-    body(alloc, given.formals, &mut sight, declarations, tree)
+    within(alloc, given, &mut sight, tree)
 }

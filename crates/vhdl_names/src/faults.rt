@@ -1,6 +1,6 @@
 //! Which of two answers is told.
 
-ghost use Rattle.std.specs.Prelude.{◌≡◌, IfOk, Ok};
+ghost use Rattle.std.specs.Prelude.{◌≡◌, IfOk, IfErr, Ok, Err};
 ghost use Rattle.vhdl_names.specs.Finding as steps;
 ghost use Rattle.vhdl_names.specs.Finding.{Finds, HasMemory};
 ghost use Rattle.vhdl_names_rules.specs.problems.Broken.{Broken, earlier};
@@ -33,5 +33,16 @@ pub fn earlier_of<T: Drop>(
     match told {
         Ok(()) => next,
         Err(fault) => Err(earlier_in(fault, next)),
+    }
+}
+
+/// A thing beside an answer; where that is refused the thing is let go.
+pub fn beside<T: Drop, U>(thing: T, answer: Result<U, NameFault>) -> Result<(T, U), NameFault>
+    ensures both { IfOk result (λ p. (p.0 ≡ thing) × (answer ≡ Ok p.1)) }
+    ensures told { IfErr result (λ f. answer ≡ Err f) }
+{
+    match answer {
+        Ok(found) => Ok((thing, found)),
+        Err(fault) => Err(fault),
     }
 }

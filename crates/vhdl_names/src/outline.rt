@@ -33,10 +33,18 @@ pub struct Described<'a> {
 pub type Architectures<'a> = IndexMap<Vec<u8>, Described<'a>>;
 
 /// The names of a file's entities, and its architectures.
-#[derive(Drop)]
 pub struct Outline<'a> {
     pub entities: Names,
     pub architectures: Architectures<'a>,
+}
+
+impl Drop for Outline<'_> {
+    fn drop(self) {
+        let Outline {
+            entities: _,
+            architectures: _,
+        } = self;
+    }
 }
 
 /// One more architecture, of an entity that none before it is of; else it is a SecondArchitecture.

@@ -39,8 +39,8 @@ fn enter_parameter(
     ensures given { Gives (λ _. sight_view sight.new) (Some (visibility.within_generate (sight_view sight.old) (tree.ident_view parameter.now))) result }
     ensures told { IfErr result (Tells (nothing)) }
 {
-    let meaning = Meaning::GenerateParameter(sight.generates.len());
     let name = parameter.text.to_vec(alloc)?;
+    let meaning = Meaning::GenerateParameter(sight.generates.len());
     sight.generates.push(Declared { name, meaning })?;
     Ok(())
 }

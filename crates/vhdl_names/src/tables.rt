@@ -40,8 +40,8 @@ fn add_seen(
 ) -> Result<(), NameFault>
     ensures { Gives (λ _. table_view table.new) (steps.with_seen (table_view table.old) (named_view name.now entity.now)) result }
 {
-    let formals = seen_of(alloc, entity)?;
     add_name(alloc, &mut table.names, name, 0)?;
+    let formals = seen_of(alloc, entity)?;
     table.formals.push(formals)?;
     Ok(())
 }

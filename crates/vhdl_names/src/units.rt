@@ -18,7 +18,7 @@ ghost use Rattle.vhdl_names_units.specs.views.Units as views;
 
 use crate::architectures::architectures_of;
 use crate::entities::entities_of;
-use crate::faults::earlier_of;
+use crate::faults::{beside, earlier_of};
 use crate::outline::{Outline, outline_of};
 use crate::tables::{Given, table};
 use std::alloc::{AllocError, Global};
@@ -49,10 +49,11 @@ fn with_architecture(
     ensures { views.entity_view result ≡ steps.with_architecture (named_view name.items entity.entry) (option_map views.architecture_view architecture) }
 {
     let at = entity.tree.name.at;
+    let (generics, ports) = entity.into_parts();
     Entity {
         name: Identifier { at, text: name },
-        generics: entity.generics,
-        ports: entity.ports,
+        generics,
+        ports,
         architecture,
     }
 }
@@ -103,8 +104,8 @@ fn read(alloc: Global, file: &File) -> Result<(Entities<'_>, Vec<Option<Architec
     let (outline, names) = outline_of(alloc, file);
     let (entities, interfaces) = entities_of(alloc, file, &outline);
     let architectures = described(alloc, file, &outline, &entities);
-    let architectures = earlier_of(names, earlier_of(interfaces, architectures))?;
-    Ok((entities, architectures))
+    let told = earlier_of(names, earlier_of(interfaces, architectures));
+    beside(entities, told)
 }
 
 /// The units of a file: its entities in order of the text, each with its architecture if it has one.

@@ -10,16 +10,17 @@ use Rattle.vhdl_names_rules.specs.units.Units as u
 use Rattle.vhdl_names_rules.specs.Rules.{◌>>=◌, met, all_of}
 use Rattle.vhdl_names_rules.specs.Visibility.{Declared, Sight, Declares, are_distinct, with_declared}
 use Rattle.vhdl_names_rules.specs.Declarations.{in_order, generic, port}
-use Rattle.vhdl_names_rules.specs.Visibility.{Name, ends}
+use Rattle.vhdl_names_rules.specs.Visibility.{Name}
 use Rattle.vhdl_names_rules.specs.Packages.{Context, no_context, context, sight_of}
-use Rattle.vhdl_names_rules.specs.Interfaces.{Interface, EntityView, declared_names, interface, entity}
+use Rattle.vhdl_names_rules.specs.Interfaces.{Interface, declared_names, interface, entity}
+use Rattle.vhdl_names_components.specs.Views.{behind_interface}
 use Rattle.vhdl_names_rules.proofs.laws.Rules.{some_is, comes, kept}
 use Rattle.vhdl_names_rules.specs.problems.Broken.{Broken, Tells, nothing, ◌▸◌, where_given}
 use Rattle.vhdl_names_rules.specs.problems.Declarations as broken
 use Rattle.vhdl_names_rules.specs.problems.Interfaces as interfaces_broken
-use Rattle.vhdl_names_rules.proofs.Telling.{told_left, told_right, told_given, given_kept}
+use Rattle.vhdl_names_rules.proofs.Telling.{told_left, told_right, told_same, told_given}
 use Rattle.vhdl_names_rules.proofs.kept.Declarations.{context_kept}
-use Rattle.vhdl_names_rules.proofs.kept.Interfaces.{generics_kept, interface_kept}
+use Rattle.vhdl_names_rules.proofs.kept.Interfaces.{generics_kept}
 use Rattle.vhdl_names_declarations.specs.Entered.{entering, entered}
 use Rattle.vhdl_names_declarations.proofs.Orders.{first_is}
 use Rattle.vhdl_names_declarations.proofs.Regions.{names-append, still_twice}
@@ -107,24 +108,17 @@ of_interface items e = where_given (context no_context items) (λ c. interfaces_
 abbrev ends_so : t.Entity → Broken
 ends_so e = broken.end_name e.name e.end_name
 
-module _ (items : List t.ContextItem) (e : t.Entity) (f : NameFault) where
-  pub context_told : Tells (broken.context no_context items) f → Tells (interfaces_broken.entity items e) f
-  context_told = told_left (broken.context no_context items) (of_interface items e ▸ ends_so e) f
+pub context_told : (items : List t.ContextItem) (e : t.Entity) (f : NameFault) → Tells (broken.context no_context items) f → Tells (interfaces_broken.entity items e) f
+context_told items e f = told_left (broken.context no_context items) (of_interface items e ▸ ends_so e) f
 
-  module _ (c : Context) (s : Sight) (h : context no_context items ≡ Some c) (k : Some (sight_of c []) ≡ Some s) where
-    pub interface_told : Tells (interfaces_broken.interface s e.generics e.ports) f → Tells (interfaces_broken.entity items e) f
-    interface_told told =
-        told_right (broken.context no_context items) (of_interface items e ▸ ends_so e) f (context_kept items no_context c h)
-        (told_left (of_interface items e) (ends_so e) f
-        (told_given (λ c. interfaces_broken.interface (sight_of c []) e.generics e.ports) (context no_context items) c f h
-        (subst (λ s. Tells (interfaces_broken.interface s e.generics e.ports) f) (sym (some_is (sight_of c []) s k)) told)))
-
-    pub end_told : (i : Interface) → interface s e.generics e.ports ≡ Some i → Tells (ends_so e) f → Tells (interfaces_broken.entity items e) f
-    end_told i given told =
-        let g : interface (sight_of c []) e.generics e.ports ≡ Some i = ap (λ s. interface s e.generics e.ports) (some_is (sight_of c []) s k) ∙ given in
-        told_right (broken.context no_context items) (of_interface items e ▸ ends_so e) f (context_kept items no_context c h)
-        (told_right (of_interface items e) (ends_so e) f
-        (given_kept (λ c. interfaces_broken.interface (sight_of c []) e.generics e.ports) (context no_context items) c h (interface_kept (sight_of c []) e.generics e.ports i refl g)) told)
+-- behind its context clauses
+pub behind_told : (items : List t.ContextItem) (e : t.Entity) (c : Context) (s : Sight) → context no_context items ≡ Some c → Some (sight_of c []) ≡ Some s →
+    (f : NameFault) → Tells (interfaces_broken.interface s e.generics e.ports ▸ ends_so e) f → Tells (interfaces_broken.entity items e) f
+behind_told items e c s h k f told =
+    told_right (broken.context no_context items) (of_interface items e ▸ ends_so e) f (context_kept items no_context c h)
+    (told_same (interfaces_broken.interface s e.generics e.ports ▸ ends_so e) (of_interface items e ▸ ends_so e) f
+    (sym (ap (λ o. where_given o (λ c. interfaces_broken.interface (sight_of c []) e.generics e.ports) ▸ ends_so e) h
+    ∙ ap (λ s. interfaces_broken.interface s e.generics e.ports ▸ ends_so e) (some_is (sight_of c []) s k))) told)
 
 -- of nothing that is broken nothing is told
 pub told_nothing : (b : Broken) (f : NameFault) → Tells nothing f → Tells b f
@@ -132,12 +126,6 @@ told_nothing b (At p at) h = absurd cc
 told_nothing b NoMemory h = tt
 
 -- ---- entities
-
-abbrev pub entity_of : Context → Interface → t.Entity → Option Name → EntityView
-entity_of c i e a = record { name = e.name.text; context = c; interface = i; generic_text = e.generics; port_text = e.ports; architecture = a }
-
-abbrev pub behind_interface : Context → t.Entity → Option Name → Option Interface → Option EntityView
-behind_interface c e a o = o >>= λ i. (met (ends e.name.text e.end_name) >>= λ _. Some (entity_of c i e a))
 
 pub no_entity : (items : List t.ContextItem) (e : t.Entity) (a : Option Name) → context no_context items ≡ None → entity items e a ≡ None
 unfolding entity

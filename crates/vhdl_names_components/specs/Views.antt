@@ -3,12 +3,12 @@ use Rattle.std.specs.Prelude.{ℕ, List, [], ◌∷◌, ◌++◌, map, not, Opti
 use Rattle.indexmap.specs.IndexMap.{IndexMap}
 use Rattle.std.specs.Global.{Global}
 use Rattle.vhdl_tree.specs.View as tree
-use Rattle.vhdl_names_rules.specs.declared.fault.NameProblem.TheVariants.{Twice}
+use Rattle.vhdl_names_rules.specs.declared.fault.NameProblem.TheVariants.{Twice, WrongKind}
 use Rattle.vhdl_names_rules.specs.Rules.{◌>>=◌, rule}
-use Rattle.vhdl_tree.specs.Tree.{ContextItem}
-use Rattle.vhdl_names_rules.specs.Packages.{context, sight_of}
-use Rattle.vhdl_names_rules.specs.Visibility.{Name, Declared, Sight, is_among}
-use Rattle.vhdl_names_rules.specs.Interfaces.{Interface, EntityView}
+use Rattle.vhdl_tree.specs.Tree.{ContextItem, Entity}
+use Rattle.vhdl_names_rules.specs.Packages.{Context, context, sight_of}
+use Rattle.vhdl_names_rules.specs.Visibility.{Name, Declared, Sight, ends, is_among}
+use Rattle.vhdl_names_rules.specs.Interfaces.{Interface, EntityView, interface}
 use Rattle.vhdl_names_types.specs.Views.{region_view}
 use Rattle.vhdl_names_units.specs.declared.declaration.Generics.{Generics}
 use Rattle.vhdl_names_units.specs.declared.declaration.Ports.{Ports}
@@ -41,6 +41,18 @@ entities_view t = map (λ e. named_view e.0.items e.1) t.entries
 -- one more, whose name none before it has
 abbrev pub one_more : List EntityView → EntityView → Option (List EntityView)
 one_more es e = rule Twice (not (is_among e.name (map (λ d. d.name) es))) >>= λ _. Some (es ++ e ∷ [])
+
+-- an entity of this interface
+abbrev pub entity_of : Context → Interface → Entity → Option Name → EntityView
+entity_of c i e a = record { name = e.name.text; context = c; interface = i; generic_text = e.generics; port_text = e.ports; architecture = a }
+
+-- where its interface is given
+abbrev pub behind_interface : Context → Entity → Option Name → Option Interface → Option EntityView
+behind_interface c e a o = o >>= λ i. (rule WrongKind (ends e.name.text e.end_name) >>= λ _. Some (entity_of c i e a))
+
+-- an entity whose context clauses bring this in sight
+abbrev pub entity_in : Context → Sight → Entity → Option Name → Option EntityView
+entity_in c sight e a = behind_interface c e a (interface sight e.generics e.ports)
 
 -- what is in sight where the architecture of an entity begins
 abbrev pub sight_behind : EntityView → List ContextItem → Option Sight

@@ -3,7 +3,7 @@
 ghost use Rattle.std.specs.Prelude.{◌≡◌, [], map, option_map, OnOk, IfOk, IfErr};
 ghost use Rattle.vhdl_names_declarations.specs.Contexts.{context_view};
 ghost use Rattle.vhdl_names_declarations.specs.Entered.{entering};
-ghost use Rattle.vhdl_names_components.specs.Views.{interface_in, entity_view};
+ghost use Rattle.vhdl_names_components.specs.Views.{interface_in, entity_view, entity_in};
 ghost use Rattle.vhdl_names_rules.specs.Declarations.{in_order, generic, port};
 ghost use Rattle.vhdl_names_rules.specs.Gives.{Gives};
 ghost use Rattle.vhdl_names_rules.specs.Interfaces as rules;
@@ -12,11 +12,13 @@ ghost use Rattle.vhdl_names_rules.specs.Visibility.{with_declared};
 ghost use Rattle.vhdl_tree.specs.View as view;
 ghost use Rattle.vhdl_names_types.specs.Views.{sight_view, region_view};
 ghost use Rattle.vhdl_names_units.specs.views.Declarations.{all_generics_view, all_ports_view};
-ghost use Rattle.vhdl_names_rules.specs.problems.Broken.{Tells};
+ghost use Rattle.vhdl_names_rules.specs.problems.Broken.{Tells, ◌▸◌};
+ghost use Rattle.vhdl_names_rules.specs.problems.Declarations.{end_name};
 ghost use Rattle.vhdl_names_rules.specs.problems.Interfaces as broken;
 
 use indexmap::IndexMap;
 use std::alloc::Global;
+use std::mem;
 use vhdl_names_declarations::generics::generics;
 use vhdl_names_declarations::ports::ports;
 use vhdl_names_declarations::{Context, context_after, ends, sight_of};
@@ -26,7 +28,6 @@ use vhdl_names_units::{Generics, Ports};
 use vhdl_tree::{ContextItem, Entity, Generic, Identifier, Port};
 
 /// An entity as its architecture and its instances see it.
-#[derive(Drop)]
 pub struct EntityInterface<'a> {
     /// Its name, and its generics and ports as they stand.
     pub tree: &'a Entity,
@@ -38,6 +39,37 @@ pub struct EntityInterface<'a> {
     pub ports: Vec<Ports>,
     /// The name of its architecture, if the file has one.
     pub architecture: Option<&'a Identifier>,
+}
+
+impl Drop for EntityInterface<'_> {
+    fn drop(self) {
+        let EntityInterface {
+            tree: _,
+            context: _,
+            region: _,
+            generics: _,
+            ports: _,
+            architecture: _,
+        } = self;
+    }
+}
+
+impl EntityInterface<'_> {
+    /// Its generics and ports alone.
+    pub fn into_parts(self) -> (Vec<Generics>, Vec<Ports>)
+        ensures generics { result.0 ≡ self.entry.generics }
+        ensures ports { result.1 ≡ self.entry.ports }
+    {
+        let EntityInterface {
+            tree: _,
+            context: _,
+            region: _,
+            generics,
+            ports,
+            architecture: _,
+        } = self;
+        (generics, ports)
+    }
 }
 
 /// Generics, if any stand there.
@@ -94,6 +126,32 @@ pub fn interface_of(
     Ok((generics, ports))
 }
 
+/// An entity whose context clauses bring this in sight, with the name of its architecture; nothing
+/// stands in its region yet.
+fn entity_in<'a>(
+    alloc: Global,
+    context: Context,
+    sight: &mut Sight,
+    tree: &'a Entity,
+    architecture: Option<&'a Identifier>,
+) -> Result<EntityInterface<'a>, NameFault>
+    requires { (sight_view sight.old).region ≡ [] }
+    ensures given { Gives entity_view (entity_in (context_view context) (sight_view sight.old) (view.entity_view tree.now) (option_map (λ i. i.now.text.items) architecture.entry)) result }
+    ensures told { IfErr result (Tells (broken.interface (sight_view sight.old) (view.entity_view tree.now).generics (view.entity_view tree.now).ports
+        ▸ end_name (view.entity_view tree.now).name (view.entity_view tree.now).end_name)) }
+{
+    let (generics, ports) = interface_of(alloc, sight, &tree.generics, &tree.ports)?;
+    ends(&tree.name, &tree.end_name)?;
+    Ok(EntityInterface {
+        tree,
+        context,
+        region: mem::replace(&mut sight.region, IndexMap::new(alloc)),
+        generics,
+        ports,
+        architecture,
+    })
+}
+
 /// An entity behind these context items, with the name of its architecture. It takes memory for what
 /// is declared and analysed.
 pub fn entity<'a>(
@@ -108,14 +166,5 @@ pub fn entity<'a>(
 {
     let context = context_after(Context::NONE, items)?;
     let mut sight = sight_of(alloc, context, IndexMap::new(alloc))?;
-    let (generics, ports) = interface_of(alloc, &mut sight, &tree.generics, &tree.ports)?;
-    ends(&tree.name, &tree.end_name)?;
-    Ok(EntityInterface {
-        tree,
-        context,
-        region: sight.region,
-        generics,
-        ports,
-        architecture,
-    })
+    entity_in(alloc, context, &mut sight, tree, architecture)
 }

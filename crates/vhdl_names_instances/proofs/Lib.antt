@@ -8,3 +8,4 @@ pub mod Reading
 pub mod Tabling
 pub mod Taking
 pub mod Told
+pub mod Turns

@@ -72,8 +72,8 @@ fn enter_loop(alloc: Global, sight: &mut Sight, parameter: &Identifier) -> Resul
     ensures refused { OnErr result (sight_view sight.new ≡ sight_view sight.old) }
     ensures told { IfErr result (Tells (nothing)) }
 {
-    let meaning = Meaning::LoopParameter(sight.loops.len());
     let name = parameter.text.to_vec(alloc)?;
+    let meaning = Meaning::LoopParameter(sight.loops.len());
     sight.loops.push(Declared { name, meaning })?;
     Ok(())
 }

@@ -31,11 +31,16 @@ body all sight ds a = do
   rule WrongKind (ends a.name.text a.end_name)
   Some (record { declarations = ds; statements = statements })
 
+-- the declarations, and what follows them
+abbrev pub within : List EntityView → Sight → t.Architecture → Option u.Architecture
+within all sight a = do
+  w ← entering (in_order with_declared (declaration all)) sight a.declarations
+  body all w.0 w.1 a
+
 abbrev pub architecture : List EntityView → EntityView → List ContextItem → t.Architecture → Option u.Architecture
 architecture all e items a = do
   sight ← sight_behind e items
-  w ← entering (in_order with_declared (declaration all)) sight a.declarations
-  body all w.0 w.1 a
+  within all sight a
 
 -- an entity's own architecture
 abbrev pub own : List EntityView → List Keyed → EntityView → Option (Option u.Architecture)

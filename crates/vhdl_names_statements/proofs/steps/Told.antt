@@ -66,6 +66,12 @@ module _ {A B : Type 0} (view : A → B) (xs : List A) (i : ℕ) (x : A) (lt : i
       ∙ ap (λ (o : Option C). (o >>= λ y. Some (done ++ y ∷ [])) >>= λ z. in_turn (one_more g) z (map view (drop (i + 1) xs))) h
       ∙ ap (λ z. in_turn (one_more g) z (map view (drop (i + 1) xs))) (sym e)
 
+  -- where it is refused, the whole is
+  pub none_more : {C : Type 0} (g : B → Option C) (done : List C) (all : Option (List C)) → all ≡ in_turn (one_more g) done (map view (drop i xs)) → g (view x) ≡ None → all ≡ None
+  none_more {C} g done all inv h =
+      inv ∙ ap (λ l. in_turn (one_more g) done (map view l)) (next xs i x lt is)
+      ∙ ap (λ (o : Option C). (o >>= λ y. Some (done ++ y ∷ [])) >>= λ z. in_turn (one_more g) z (map view (drop (i + 1) xs))) h
+
 -- ---- lists of statements, branches and alternatives
 
 pub statements_any : (sight : Sight) (qs : List t.Sequential) → any_of (told.labelled sight) qs ≡ broken.statements sight (t.statements_of qs)

@@ -1,27 +1,18 @@
-use Rattle.std.proofs.Common.{map, ap, sym, ◌∙◌}
+use Rattle.std.proofs.Common.{map}
 use Rattle.vhdl_tree.specs.View as view
-use Rattle.vhdl_names_rules.specs.Visibility.{with_declared}
-use Rattle.vhdl_names_rules.specs.Declarations.{in_order}
 use Rattle.vhdl_names_rules.specs.Files as rules
 use Rattle.vhdl_names_types.specs.Views.{sight_view}
-use Rattle.vhdl_names_units.specs.views.Declarations.{declarations_view}
 use Rattle.vhdl_names_units.specs.views.Units.{architecture_view}
-use Rattle.vhdl_names_declarations.specs.Entered.{entering}
 use Rattle.vhdl_names_components.specs.Views.{entities_view, entity_view}
-use Rattle.vhdl_names_rules.specs.problems.Broken.{◌▸◌}
-use Rattle.vhdl_names_rules.specs.problems.Declarations.{in_order as in_turn, end_name}
 use Rattle.vhdl_names_rules.specs.problems.Files as broken
-use Rattle.vhdl_names_rules.proofs.Telling.{told_same, told_on}
 use Rattle.vhdl_names_rules.proofs.kept.Architectures.{architecture_kept}
-use Rattle.vhdl_tree.specs.Tree as t
-use Rattle.vhdl_names.specs.steps.Architectures as steps
-use Rattle.vhdl_names.proofs.Behind.{then_body}
-use Rattle.vhdl_names.proofs.Parts.{context_told, declarations_told, at_body}
+use Rattle.vhdl_names.proofs.Behind.{then_within}
+use Rattle.vhdl_names.proofs.Parts.{context_told}
 use Rattle.vhdl_names.proofs.Finding.{passed_told, ok_along, ok_finds}
 use Rattle.vhdl_names.proofs.bodies.architecture.Goals as goal
 
-pub declarations-requires : goal.declarations-requires
-declarations-requires c = c.in_ok-sight.ensures.outermost
+pub within-requires-clause-outermost : goal.within-requires-clause-outermost
+within-requires-clause-outermost c = c.in_ok-sight.ensures.outermost
 
 pub returns-in_err-sight-clause-told : goal.returns-in_err-sight-clause-told
 returns-in_err-sight-clause-told c =
@@ -32,28 +23,12 @@ returns-in_err-sight-clause-told c =
     passed_told (broken.architecture es e items a) c.in_err-sight.field-0.0 _ c.from_residual.result c.from_residual.ensures.1 (λ e p. p)
     (context_told es e items a c.in_err-sight.field-0.0 c.in_err-sight.ensures.told)
 
-pub returns-in_err-declarations-clause-told : goal.returns-in_err-declarations-clause-told
-returns-in_err-declarations-clause-told c =
-    let es = entities_view c.args.given.now.entities.now in
-    let e = entity_view c.args.entity.now in
-    let items = map view.context_view c.args.items.now in
-    let a = view.architecture_view c.args.tree.now in
-    let s = sight_view c.in_ok-sight.sight in
-    let f = c.in_err-declarations.field-0.0 in
-    passed_told (broken.architecture es e items a) f _ c.from_residual-in_err-declarations.result c.from_residual-in_err-declarations.ensures.1 (λ e p. p)
-    (declarations_told es e items a f s c.in_ok-sight.ensures.given
-    (told_same _ (in_turn with_declared (rules.declaration es) (broken.declaration es) s a.declarations) f
-    (ap (λ l. in_turn with_declared (rules.declaration es) (broken.declaration es) s (map view.declaration_view l)) c.deref.ensures.value) c.in_err-declarations.ensures.told))
-
 pub returns-clause-given : goal.returns-clause-given
 returns-clause-given c =
     let es = entities_view c.args.given.now.entities.now in
-    let s = sight_view c.in_ok-sight.sight in
-    ok_along architecture_view _ _ c.body.result
-    (then_body es (entity_view c.args.entity.now) (map view.context_view c.args.items.now) (view.architecture_view c.args.tree.now) s
-    (sight_view c.declarations.new.sight) (declarations_view c.in_ok-declarations.declarations) c.in_ok-sight.ensures.given
-    (ap (λ l. entering (in_order with_declared (rules.declaration es)) s (map view.declaration_view l)) (sym c.deref.ensures.value) ∙ c.in_ok-declarations.ensures.given))
-    (c.body.ensures.given es c.requires.table)
+    ok_along architecture_view _ _ c.within.result
+    (then_within es (entity_view c.args.entity.now) (map view.context_view c.args.items.now) (view.architecture_view c.args.tree.now) (sight_view c.in_ok-sight.sight) c.in_ok-sight.ensures.given)
+    c.within.ensures.given
 
 pub returns-clause-told : goal.returns-clause-told
 returns-clause-told c =
@@ -61,14 +36,6 @@ returns-clause-told c =
     let e = entity_view c.args.entity.now in
     let items = map view.context_view c.args.items.now in
     let a = view.architecture_view c.args.tree.now in
-    let s = sight_view c.in_ok-sight.sight in
-    let w = sight_view c.declarations.new.sight in
-    let ds = declarations_view c.in_ok-declarations.declarations in
-    let entered = ap (λ l. entering (in_order with_declared (rules.declaration es)) s (map view.declaration_view l)) (sym c.deref.ensures.value) ∙ c.in_ok-declarations.ensures.given in
-    let whole = broken.body es w (t.concurrents_of a.statements) ▸ end_name a.name a.end_name in
-    ok_finds architecture_view (rules.architecture es e items a) (broken.architecture es e items a) c.body.result (architecture_kept es e items a)
-    (ok_along architecture_view (rules.architecture es e items a) (steps.body es w ds a) c.body.result (then_body es e items a s w ds c.in_ok-sight.ensures.given entered)
-    (c.body.ensures.given es c.requires.table))
-    (told_on whole (broken.architecture es e items a) c.body.result
-    (λ f t. told_same whole (broken.architecture es e items a) f (sym (at_body es e items a s w ds c.in_ok-sight.ensures.given entered)) t)
-    (c.body.ensures.told es c.requires.table))
+    ok_finds architecture_view (rules.architecture es e items a) (broken.architecture es e items a) c.within.result (architecture_kept es e items a)
+    (ok_along architecture_view _ _ c.within.result (then_within es e items a (sight_view c.in_ok-sight.sight) c.in_ok-sight.ensures.given) c.within.ensures.given)
+    (c.within.ensures.told e items c.in_ok-sight.ensures.given)

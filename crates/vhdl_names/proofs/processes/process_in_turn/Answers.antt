@@ -1,5 +1,4 @@
-use Rattle.std.proofs.Common.{rules, arith, map, ap, sym, ◌∙◌}
-use Rattle.std.proofs.lemmas.Grind.{common_steps}
+use Rattle.std.proofs.Common.{map, ap, sym, ◌∙◌}
 use Rattle.vhdl_tree.specs.Tree as t
 use Rattle.vhdl_tree.specs.View as tree
 use Rattle.vhdl_names_types.specs.Views.{sight_view}
@@ -12,6 +11,7 @@ use Rattle.vhdl_names_rules.proofs.Telling.{told_same}
 use Rattle.vhdl_names.specs.steps.Processes as steps
 use Rattle.vhdl_names.proofs.Running.{left_process}
 use Rattle.vhdl_names.proofs.Told.{process_resumed, process_variables, process_body, process_ends}
+use Rattle.vhdl_names.proofs.Finding.{passed_err}
 use Rattle.vhdl_names.proofs.processes.process_in_turn.Goals as goal
 
 pub returns-clause-kept : goal.returns-clause-kept
@@ -25,7 +25,7 @@ returns-in_err-sensitivity-clause-told c =
     let l = tree.option_ident_view c.args.label.now in
     let p = tree.process_view c.args.process.now in
     let h : Tells (broken.process s l p) c.in_err-sensitivity.field-0.0 = process_resumed s l p c.in_err-sensitivity.field-0.0 c.in_err-sensitivity.ensures.told in
-    first_of (search rules, grind (arith, common_steps))
+    passed_err _ c.in_err-sensitivity.field-0.0 _ c.from_residual.result c.from_residual.ensures.1 (λ e p. p) h
 
 pub returns-in_err-variables-clause-told : goal.returns-in_err-variables-clause-told
 returns-in_err-variables-clause-told c =
@@ -36,7 +36,7 @@ returns-in_err-variables-clause-told c =
     let h : Tells (broken.process s l p) c.in_err-variables.field-0.0 =
     process_variables s l p f _ c.in_ok-sensitivity.ensures.given
     (told_same _ _ f (ap (λ xs. in_order with_variables declarations.variables variables s (map tree.variables_view xs)) c.deref.ensures.value) c.in_err-variables.ensures.told) in
-    first_of (search rules, grind (arith, common_steps))
+    passed_err _ c.in_err-variables.field-0.0 _ c.from_residual-in_err-variables.result c.from_residual-in_err-variables.ensures.1 (λ e p. p) h
 
 pub returns-in_err-statements-clause-told : goal.returns-in_err-statements-clause-told
 returns-in_err-statements-clause-told c =
@@ -49,7 +49,7 @@ returns-in_err-statements-clause-told c =
     (ap (λ xs. steps.variables_in s (map tree.variables_view xs)) (sym c.deref.ensures.value) ∙ c.in_ok-variables.ensures.given)
     (told_same _ _ f (ap (λ xs. broken.body (sight_view c.variables.new.sight) (t.statements_of (map tree.sequential_view xs))) c.deref-2.ensures.value)
     c.in_err-statements.ensures.told) in
-    first_of (search rules, grind (arith, common_steps))
+    passed_err _ c.in_err-statements.field-0.0 _ c.from_residual-in_err-statements.result c.from_residual-in_err-statements.ensures.1 (λ e p. p) h
 
 pub returns-in_err-label_ends-clause-told : goal.returns-in_err-label_ends-clause-told
 returns-in_err-label_ends-clause-told c =
@@ -62,4 +62,4 @@ returns-in_err-label_ends-clause-told c =
     (ap (λ xs. steps.variables_in s (map tree.variables_view xs)) (sym c.deref.ensures.value) ∙ c.in_ok-variables.ensures.given) _
     (ap (λ xs. steps.body (sight_view c.variables.new.sight) (map tree.sequential_view xs)) (sym c.deref-2.ensures.value) ∙ c.in_ok-statements.ensures.given)
     c.in_err-label_ends.ensures.told in
-    first_of (search rules, grind (arith, common_steps))
+    passed_err _ c.in_err-label_ends.field-0.0 _ c.from_residual-in_err-label_ends.result c.from_residual-in_err-label_ends.ensures.1 (λ e p. p) h

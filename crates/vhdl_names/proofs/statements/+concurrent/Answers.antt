@@ -1,5 +1,6 @@
-use Rattle.std.proofs.Common.{rules, arith, ◌≡◌, ◌≢◌, ◌<◌, ◌+◌, length, map, drop, List, [], None, ap, sym, ◌∙◌}
-use Rattle.std.proofs.lemmas.Grind.{common_steps}
+use Rattle.std.proofs.Common.{arith, ◌≡◌, ◌≢◌, ◌<◌, ◌∷◌, length, map, [], None, refl, ap, sym, ◌∙◌}
+use Rattle.std.specs.Prelude.{option_map}
+use Rattle.std.proofs.lemmas.List.{map-append}
 use Rattle.vhdl_tree.specs.Tree as t
 use Rattle.vhdl_tree.specs.View as tree
 use Rattle.vhdl_names_rules.specs.declared.fault.NameFault.TheVariants.{NoMemory}
@@ -8,8 +9,12 @@ use Rattle.vhdl_names_rules.specs.Visibility.{are_distinct}
 use Rattle.vhdl_names_rules.specs.Concurrent.{concurrent_labels}
 use Rattle.vhdl_names_types.specs.Views.{sight_view}
 use Rattle.vhdl_names_types.proofs.Along.{gives_along}
+use Rattle.vhdl_names_types.proofs.Memory.{memory_gives, memory_told}
+use Rattle.vhdl_names_statements.proofs.steps.Told.{more_done}
+use Rattle.vhdl_names_statements.proofs.steps.Turns.{none_done, all_done}
+use Rattle.vhdl_names_components.proofs.Interfacing.{told_nothing}
 use Rattle.vhdl_names_units.specs.views.Concurrent as views
-use Rattle.vhdl_names_rules.specs.problems.Broken.{Tells, any_of}
+use Rattle.vhdl_names_rules.specs.problems.Broken.{Tells}
 use Rattle.vhdl_names_rules.specs.problems.Twice.{twice}
 use Rattle.vhdl_names_rules.specs.problems.Labels.{labels_of}
 use Rattle.vhdl_names_rules.specs.problems.Concurrent as broken
@@ -18,14 +23,15 @@ use Rattle.vhdl_names_rules.proofs.kept.Keeping.{among_second}
 use Rattle.vhdl_names_rules.proofs.kept.Concurrent.{labels_kept}
 use Rattle.vhdl_names_units.specs.Once.{names_view}
 use Rattle.vhdl_names_units.proofs.Behind.{next_told, next_left}
-use Rattle.vhdl_names_rules.specs.Interfaces.{EntityView}
-use Rattle.vhdl_names_instances.specs.Table.{AreEntities, seens_view}
+use Rattle.vhdl_names_instances.specs.Table.{seens_view}
 use Rattle.vhdl_names_instances.specs.steps.Instances.{instance}
 use Rattle.vhdl_names_instances.proofs.Instancing.{instance_gives}
 use Rattle.vhdl_names.specs.steps.Concurrents as steps
 use Rattle.vhdl_names.specs.steps.Told as told
-use Rattle.vhdl_names.proofs.Generating.{generate_gives, no_scheme}
+use Rattle.vhdl_names.proofs.Generating.{generate_gives, no_scheme, no_body, no_end}
 use Rattle.vhdl_names.proofs.Told as by
+use Rattle.vhdl_names.proofs.Finding.{passed_err, passed_on, some_none}
+use Rattle.vhdl_names.proofs.Turns.{none_more}
 use Rattle.vhdl_names.proofs.statements.+concurrent.Goals as goal
 
 pub generate-returns-in_err-by-clause-given : goal.generate-returns-in_err-by-clause-given
@@ -38,7 +44,7 @@ generate-returns-in_err-by-clause-given m c =
     let end = tree.option_ident_view c.args.written.now.end_label in
     let none : c.in_err-by.field-0.0 ≢ NoMemory → steps.generate f s label k cs end ≡ None =
     λ n. no_scheme f s label k cs end (λ b. c.in_err-by.ensures.given label.text b n) in
-    first_of (search rules, grind (arith, common_steps))
+    passed_on _ _ c.in_err-by.field-0.0 _ c.from_residual.result c.from_residual.ensures.1 (λ e p. p) none
 
 pub statement-returns-in-Generate-clause-given : goal.statement-returns-in-Generate-clause-given
 statement-returns-in-Generate-clause-given m c =
@@ -46,6 +52,80 @@ statement-returns-in-Generate-clause-given m c =
     let s = sight_view c.args.sight.now in
     gives_along views.concurrent_view _ _ _
     (ap (λ x. steps.concurrent f s (tree.concurrent_view x)) c.in-Generate.is ∙ generate_gives f s c.in-Generate.written) c.generate.ensures.given
+
+pub generate-returns-in_err-body-clause-given : goal.generate-returns-in_err-body-clause-given
+generate-returns-in_err-body-clause-given m c =
+    let e = c.args.entities.now in
+    let g = instance (names_view e.names) (seens_view e.formals) in
+    let s = sight_view c.args.sight.now in
+    let label = tree.ident_view c.args.written.now.label in
+    let k = tree.scheme_view c.args.written.now.scheme in
+    let cs = tree.concurrents_view c.args.written.now.statements in
+    let end = tree.option_ident_view c.args.written.now.end_label in
+    let within = sight_view c.enter_generate.new.sight in
+    passed_on _ _ c.in_err-body.field-0.0 _ c.from_residual-in_err-body.result c.from_residual-in_err-body.ensures.1 (λ e p. p)
+    (λ n. no_body g s label k cs end within c.in_ok-enter_generate.ensures.given
+    (ap (λ xs. steps.labelled g within (map tree.concurrent_view xs)) (sym c.deref.ensures.value) ∙ c.in_err-body.ensures.given n))
+
+pub generate-returns-in_err-ends-clause-given : goal.generate-returns-in_err-ends-clause-given
+generate-returns-in_err-ends-clause-given m c =
+    let e = c.args.entities.now in
+    let g = instance (names_view e.names) (seens_view e.formals) in
+    let s = sight_view c.args.sight.now in
+    let label = tree.ident_view c.args.written.now.label in
+    let k = tree.scheme_view c.args.written.now.scheme in
+    let cs = tree.concurrents_view c.args.written.now.statements in
+    let end = tree.option_ident_view c.args.written.now.end_label in
+    passed_on _ _ c.in_err-ends.field-0.0 _ c.from_residual-in_err-ends.result c.from_residual-in_err-ends.ensures.1 (λ e p. p)
+    (λ n. no_end g s label k cs end (c.in_err-ends.ensures.given n))
+
+pub generate-returns-in_err-enter_generate-clause-given : goal.generate-returns-in_err-enter_generate-clause-given
+generate-returns-in_err-enter_generate-clause-given m c =
+    passed_on _ _ c.in_err-enter_generate.field-0.0 _ c.from_residual-in_err-enter_generate.result c.from_residual-in_err-enter_generate.ensures.1 (λ e p. p)
+    (λ n. absurd (some_none _ (c.in_err-enter_generate.ensures.given n)))
+
+pub generate-returns-in_err-enter_generate-clause-told : goal.generate-returns-in_err-enter_generate-clause-told
+generate-returns-in_err-enter_generate-clause-told m c = λ es are.
+    passed_err _ c.in_err-enter_generate.field-0.0 _ c.from_residual-in_err-enter_generate.result c.from_residual-in_err-enter_generate.ensures.1 (λ e p. p)
+    (told_nothing _ c.in_err-enter_generate.field-0.0 c.in_err-enter_generate.ensures.told)
+
+pub generate-returns-in_err-label-clause-given : goal.generate-returns-in_err-label-clause-given
+generate-returns-in_err-label-clause-given m c = memory_gives _ _ _ c.from_residual-in_err-label.result c.from_residual-in_err-label.ensures.1 (λ e p. p)
+
+pub generate-returns-in_err-label-clause-told : goal.generate-returns-in_err-label-clause-told
+generate-returns-in_err-label-clause-told m c = λ es are. memory_told _ _ c.from_residual-in_err-label.result c.from_residual-in_err-label.ensures.1 (λ e p. p)
+
+pub statement-returns-in_err-assignment-in-Assignment-clause-given : goal.statement-returns-in_err-assignment-in-Assignment-clause-given
+statement-returns-in_err-assignment-in-Assignment-clause-given m c =
+    let e = c.args.entities.now in
+    let g = instance (names_view e.names) (seens_view e.formals) in
+    let s = sight_view c.args.sight.now in
+    passed_on _ _ c.in_err-assignment-in-Assignment.field-0.0 _ c.from_residual.result c.from_residual.ensures.1 (λ e p. p)
+    (λ n. ap (λ x. steps.concurrent g s (tree.concurrent_view x)) c.in-Assignment.is ∙ c.in_err-assignment-in-Assignment.ensures.given n)
+
+pub statement-returns-in_err-selected-in-Selected-clause-given : goal.statement-returns-in_err-selected-in-Selected-clause-given
+statement-returns-in_err-selected-in-Selected-clause-given m c =
+    let e = c.args.entities.now in
+    let g = instance (names_view e.names) (seens_view e.formals) in
+    let s = sight_view c.args.sight.now in
+    passed_on _ _ c.in_err-selected-in-Selected.field-0.0 _ c.from_residual-in_err-selected-in-Selected.result c.from_residual-in_err-selected-in-Selected.ensures.1 (λ e p. p)
+    (λ n. ap (λ x. steps.concurrent g s (tree.concurrent_view x)) c.in-Selected.is ∙ c.in_err-selected-in-Selected.ensures.given n)
+
+pub statement-returns-in_err-process-in-Process-clause-given : goal.statement-returns-in_err-process-in-Process-clause-given
+statement-returns-in_err-process-in-Process-clause-given m c =
+    let e = c.args.entities.now in
+    let g = instance (names_view e.names) (seens_view e.formals) in
+    let s = sight_view c.args.sight.now in
+    passed_on _ _ c.in_err-process-in-Process.field-0.0 _ c.from_residual-in_err-process-in-Process.result c.from_residual-in_err-process-in-Process.ensures.1 (λ e p. p)
+    (λ n. ap (λ x. steps.concurrent g s (tree.concurrent_view x)) c.in-Process.is ∙ ap (option_map u.process) (c.in_err-process-in-Process.ensures.given n))
+
+pub statement-returns-in_err-instance_in_turn-in-Instance-clause-given : goal.statement-returns-in_err-instance_in_turn-in-Instance-clause-given
+statement-returns-in_err-instance_in_turn-in-Instance-clause-given m c =
+    let e = c.args.entities.now in
+    let g = instance (names_view e.names) (seens_view e.formals) in
+    let s = sight_view c.args.sight.now in
+    passed_on _ _ c.in_err-instance_in_turn-in-Instance.field-0.0 _ c.from_residual-in_err-instance_in_turn-in-Instance.result c.from_residual-in_err-instance_in_turn-in-Instance.ensures.1 (λ e p. p)
+    (λ n. ap (λ x. steps.concurrent g s (tree.concurrent_view x)) c.in-Instance.is ∙ ap (option_map u.instance) (c.in_err-instance_in_turn-in-Instance.ensures.given n))
 
 -- ---- what is told
 
@@ -62,7 +142,37 @@ statements-returns-in_err-next-clause-told m c = λ es are.
     told_same _ _ f (by.concurrents_any es s (map tree.concurrent_view xs))
     (next_told tree.concurrent_view xs i x lt c.item-item.is b f (c.loop-item.invariant.1.1 es are)
     (told_same _ _ f (ap (λ s. broken.concurrent es s (tree.concurrent_view x)) c.loop-item.invariant.0) (c.in_err-next.ensures.told es are))) in
-    first_of (search rules, grind (arith, common_steps))
+    passed_err _ c.in_err-next.field-0.0 _ c.from_residual.result c.from_residual.ensures.1 (λ e p. p) h
+
+pub statements-returns-in_err-next-clause-given : goal.statements-returns-in_err-next-clause-given
+statements-returns-in_err-next-clause-given m c =
+    let s = sight_view c.args.sight.now in
+    let e = c.args.entities.now in
+    let g = instance (names_view e.names) (seens_view e.formals) in
+    let xs = c.args.list.now in
+    let x = c.item-item.result in
+    let lt : c.loop-item.item-index < length c.args.list.now = omega arith in
+    passed_on _ _ c.in_err-next.field-0.0 _ c.from_residual.result c.from_residual.ensures.1 (λ e p. p)
+    (λ n. none_more tree.concurrent_view xs c.loop-item.item-index x lt c.item-item.is (steps.concurrent g s) (views.concurrents_view c.loop-item.all) _ c.loop-item.invariant.1.0
+    (ap (λ s. steps.concurrent g s (tree.concurrent_view x)) (sym c.loop-item.invariant.0) ∙ c.in_err-next.ensures.given n))
+
+pub statements-returns-in_err-push-clause-given : goal.statements-returns-in_err-push-clause-given
+statements-returns-in_err-push-clause-given m c = memory_gives _ _ _ c.from_residual-in_err-push.result c.from_residual-in_err-push.ensures.1 (λ e p. p)
+
+pub statements-returns-in_err-push-clause-told : goal.statements-returns-in_err-push-clause-told
+statements-returns-in_err-push-clause-told m c = λ es are. memory_told _ _ c.from_residual-in_err-push.result c.from_residual-in_err-push.ensures.1 (λ e p. p)
+
+pub statements-loop-item-init : goal.statements-loop-item-init
+statements-loop-item-init m c =
+    let e = c.args.entities.now in
+    let g = instance (names_view e.names) (seens_view e.formals) in
+    (refl, (none_done tree.concurrent_view c.args.list.now (steps.concurrent g (sight_view c.args.sight.now)) _ (ap (map views.concurrent_view) c.new-all.ensures.items), λ es are. refl))
+
+pub statements-returns-clause-given : goal.statements-returns-clause-given
+statements-returns-clause-given m c =
+    let e = c.args.entities.now in
+    let g = instance (names_view e.names) (seens_view e.formals) in
+    all_done tree.concurrent_view c.args.list.now (steps.concurrent g (sight_view c.args.sight.now)) _ c.loop-item.item-index c.loop-item-test.false c.loop-item.invariant.1.0
 
 pub statements-loop-item-preserved : goal.statements-loop-item-preserved
 statements-loop-item-preserved m c =
@@ -73,12 +183,16 @@ statements-loop-item-preserved m c =
     let i = c.loop-item.item-index in
     let x = c.item-item.result in
     let lt : c.loop-item.item-index < length c.args.list.now = omega arith in
-    let given = sym (ap (λ s. steps.concurrent g s (tree.concurrent_view x)) c.loop-item.invariant.0) ∙ c.in_ok-next.ensures.given in
-    let left : (es : List EntityView) → AreEntities c.args.entities.now es → any_of (broken.concurrent es (sight_view c.args.sight.now)) (map tree.concurrent_view c.args.list.now)
-    ≡ any_of (broken.concurrent es (sight_view c.args.sight.now)) (map tree.concurrent_view (drop (c.loop-item.item-index + 1) c.args.list.now)) =
-    λ es are. next_left tree.concurrent_view xs i x lt c.item-item.is (broken.concurrent es s) (c.loop-item.invariant.1.1 es are)
-    (by.statement_kept es s g (instance_gives e es are) c.requires.outside (tree.concurrent_view x) _ given) in
-    first_of (search rules, grind (arith, common_steps))
+    let given = sym (ap (λ s. steps.concurrent g s (tree.concurrent_view x)) c.loop-item.invariant.0) ∙ c.in_ok-next.ensures.given in (
+      c.in_ok-next.ensures.kept ∙ c.loop-item.invariant.0,
+      (
+        more_done tree.concurrent_view xs i x lt c.item-item.is (steps.concurrent g s) (views.concurrents_view c.loop-item.all) _ (views.concurrent_view c.in_ok-next.next) _ c.loop-item.invariant.1.0 given
+            (ap (map views.concurrent_view) c.in_ok-push.ensures.items ∙ map-append views.concurrent_view c.loop-item.all.items (c.in_ok-next.next ∷ [])),
+        λ es are.
+            next_left tree.concurrent_view xs i x lt c.item-item.is (broken.concurrent es s) (c.loop-item.invariant.1.1 es are)
+            (by.statement_kept es s g (instance_gives e es are) c.requires.outside (tree.concurrent_view x) _ given),
+      ),
+    )
 
 pub statement-returns-in-Generate-clause-told : goal.statement-returns-in-Generate-clause-told
 statement-returns-in-Generate-clause-told m c = λ es are.
@@ -115,7 +229,7 @@ generate-returns-in_err-by-clause-told m c = λ es are.
     let end = tree.option_ident_view c.args.written.now.end_label in
     let f = c.in_err-by.field-0.0 in
     let h : Tells (told.generate es s label k cs end) c.in_err-by.field-0.0 = by.generate_by es s label k cs end f c.in_err-by.ensures.told in
-    first_of (search rules, grind (arith, common_steps))
+    passed_err _ c.in_err-by.field-0.0 _ c.from_residual.result c.from_residual.ensures.1 (λ e p. p) h
 
 pub generate-returns-in_err-body-clause-told : goal.generate-returns-in_err-body-clause-told
 generate-returns-in_err-body-clause-told m c = λ es are.
@@ -128,7 +242,7 @@ generate-returns-in_err-body-clause-told m c = λ es are.
     let h : Tells (told.generate es s label k cs end) c.in_err-body.field-0.0 =
     by.generate_inside es s label k cs end f _ (c.in_ok-by.ensures.given [] u.no_concurrents) (sight_view c.enter_generate.new.sight) c.in_ok-enter_generate.ensures.given
     (told_same _ _ f (ap (λ xs. told.labelled es (sight_view c.enter_generate.new.sight) (map tree.concurrent_view xs)) c.deref.ensures.value) (c.in_err-body.ensures.told es are)) in
-    first_of (search rules, grind (arith, common_steps))
+    passed_err _ c.in_err-body.field-0.0 _ c.from_residual-in_err-body.result c.from_residual-in_err-body.ensures.1 (λ e p. p) h
 
 pub generate-returns-in_err-ends-clause-told : goal.generate-returns-in_err-ends-clause-told
 generate-returns-in_err-ends-clause-told m c = λ es are.
@@ -146,7 +260,7 @@ generate-returns-in_err-ends-clause-told m c = λ es are.
     (by.labelled_kept es within g (instance_gives e es are) (by.within_is s within k c.requires.outside c.in_ok-enter_generate.ensures.given) cs _
     (ap (λ xs. steps.labelled g within (map tree.concurrent_view xs)) (sym c.deref.ensures.value) ∙ c.in_ok-body.ensures.given))
     c.in_err-ends.ensures.told in
-    first_of (search rules, grind (arith, common_steps))
+    passed_err _ c.in_err-ends.field-0.0 _ c.from_residual-in_err-ends.result c.from_residual-in_err-ends.ensures.1 (λ e p. p) h
 
 pub statement-returns-in_err-selected-in-Selected-clause-told : goal.statement-returns-in_err-selected-in-Selected-clause-told
 statement-returns-in_err-selected-in-Selected-clause-told m c = λ es are.
@@ -157,7 +271,7 @@ statement-returns-in_err-selected-in-Selected-clause-told m c = λ es are.
     (sym (ap (λ x. broken.concurrent es s (tree.concurrent_view x)) c.in-Selected.is
     ∙ by.selected_is es s (tree.option_ident_view c.in-Selected.label) (tree.selected_assignment_view c.in-Selected.written)))
     c.in_err-selected-in-Selected.ensures.told in
-    first_of (search rules, grind (arith, common_steps))
+    passed_err _ c.in_err-selected-in-Selected.field-0.0 _ c.from_residual-in_err-selected-in-Selected.result c.from_residual-in_err-selected-in-Selected.ensures.1 (λ e p. p) h
 
 pub statement-returns-in_err-process-in-Process-clause-told : goal.statement-returns-in_err-process-in-Process-clause-told
 statement-returns-in_err-process-in-Process-clause-told m c = λ es are.
@@ -168,4 +282,4 @@ statement-returns-in_err-process-in-Process-clause-told m c = λ es are.
     (sym (ap (λ x. broken.concurrent es s (tree.concurrent_view x)) c.in-Process.is
     ∙ by.process_is es s (tree.option_ident_view c.in-Process.label) (tree.process_view c.in-Process.written)))
     c.in_err-process-in-Process.ensures.told in
-    first_of (search rules, grind (arith, common_steps))
+    passed_err _ c.in_err-process-in-Process.field-0.0 _ c.from_residual-in_err-process-in-Process.result c.from_residual-in_err-process-in-Process.ensures.1 (λ e p. p) h

@@ -1,5 +1,4 @@
-use Rattle.std.proofs.Common.{rules, arith, ◌≡◌, ◌≢◌, ◌<◌, map, flat_map, length, None, ap, sym, ◌∙◌}
-use Rattle.std.proofs.lemmas.Grind.{common_steps}
+use Rattle.std.proofs.Common.{arith, ◌≡◌, ◌≢◌, ◌<◌, map, flat_map, length, None, ap, sym, ◌∙◌}
 use Rattle.std.proofs.lemmas.List.{length-map}
 use Rattle.vhdl_names_rules.specs.declared.fault.NameFault.TheVariants.{NoMemory}
 use Rattle.vhdl_names_rules.specs.Declarations.{in_order}
@@ -18,6 +17,8 @@ use Rattle.vhdl_names_declarations.proofs.Breaking.{told_at, told_behind}
 use Rattle.vhdl_names_rules.proofs.kept.Architectures.{declaration_kept}
 use Rattle.vhdl_names_declarations.proofs.Listed.{in_region, left, begins, fails, goes, ends, counts_before, place_within}
 use Rattle.vhdl_names_declarations.proofs.Regions.{names_apart}
+use Rattle.vhdl_names_declarations.proofs.Breaking as tells
+use Rattle.vhdl_names_components.proofs.Interfacing.{passed_on}
 use Rattle.vhdl_names_components.proofs.architecture.declarations.Goals as goal
 
 pub loop-one-init : goal.loop-one-init
@@ -35,7 +36,7 @@ returns-in_err-next-clause-given c =
     let f : c.in_err-next.field-0.0 ≢ NoMemory → entering (in_order with_declared (declaration (entities_view c.args.entities.now))) (sight_view c.args.sight.now) (map tree.declaration_view c.args.all.now) ≡ None =
     λ n. c.loop-one.invariant.0
     ∙ fails (declaration (entities_view c.args.entities.now)) tree.declaration_view (sight_view c.loop-one.sight) (declarations_view c.loop-one.done) c.args.all.now c.loop-one.one-index c.one-item.result lt c.one-item.is (c.in_err-next.ensures.given n) in
-    first_of (search rules, grind (arith, common_steps))
+    passed_on _ _ c.in_err-next.field-0.0 _ c.from_residual.result c.from_residual.ensures.1 (λ e p. p) f
 
 pub of-counts-requires-in-loop-one-clause-place : goal.of-counts-requires-in-loop-one-clause-place
 of-counts-requires-in-loop-one-clause-place c =
@@ -74,4 +75,4 @@ returns-in_err-next-clause-told c =
     let lt : c.loop-one.one-index < length c.args.all.now = omega arith in
     let f : Tells (declarations_broken.in_order with_declared (declaration (entities_view c.args.entities.now)) (broken.declaration (entities_view c.args.entities.now)) (sight_view c.args.sight.now) (map tree.declaration_view c.args.all.now)) c.in_err-next.field-0.0 =
     c.loop-one.invariant.3 c.in_err-next.field-0.0 (told_at in_region with_declared (declaration (entities_view c.args.entities.now)) (broken.declaration (entities_view c.args.entities.now)) (declaration_kept (entities_view c.args.entities.now)) tree.declaration_view (sight_view c.loop-one.sight) c.args.all.now c.loop-one.one-index c.one-item.result c.in_err-next.field-0.0 lt c.one-item.is c.in_err-next.ensures.told) in
-    first_of (search rules, grind (arith, common_steps))
+    tells.passed_on _ c.in_err-next.field-0.0 _ c.from_residual.result c.from_residual.ensures.1 (λ e p. p) f

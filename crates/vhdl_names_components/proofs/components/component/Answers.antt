@@ -1,5 +1,6 @@
-use Rattle.std.proofs.Common.{rules, arith, subst}
-use Rattle.std.proofs.lemmas.Grind.{common_steps}
+use Rattle.std.proofs.Common.{ℕ, ap, ◌∙◌, subst}
+use Rattle.vhdl_names_rules.specs.Rules.{◌>>=◌}
+use Rattle.vhdl_names_rules.specs.Interfaces.{EntityView, entity_named}
 use Rattle.vhdl_names_rules.specs.Visibility.{Sight}
 use Rattle.vhdl_tree.specs.View.{component_view}
 use Rattle.vhdl_names_types.specs.Views.{sight_view}
@@ -7,8 +8,70 @@ use Rattle.vhdl_names_rules.specs.problems.Broken.{Tells}
 use Rattle.vhdl_names_rules.specs.problems.Interfaces as broken
 use Rattle.vhdl_names_rules.proofs.Telling.{told_left, told_on}
 use Rattle.vhdl_names_components.specs.Views.{entities_view, named_view}
+use Rattle.vhdl_names_components.specs.Components.{has_interface}
+use Rattle.vhdl_names_components.proofs.Interfacing.{passed_on}
+use Rattle.vhdl_names_components.proofs.Standing.{component_in_turn, of_entity, closed, named}
 use Rattle.vhdl_names_components.proofs.Telling.{named_twice, behind, no_entity, other_entity, own_region, other_end, named_last}
+use Rattle.vhdl_names_declarations.proofs.Breaking as tells
 use Rattle.vhdl_names_components.proofs.components.component.Goals as goal
+
+pub returns-in_err-is_new-clause-given : goal.returns-in_err-is_new-clause-given
+returns-in_err-is_new-clause-given c =
+    let es = entities_view c.args.entities.now in
+    let s = sight_view c.args.sight.now in
+    let d = component_view c.args.component.now in
+    passed_on _ _ c.in_err-is_new.field-0.0 _ c.from_residual.result c.from_residual.ensures.1 (λ e p. p)
+    (λ n. component_in_turn es s d
+    ∙ ap (λ o. o >>= λ _. (entity_named es d.name.text >>= of_entity s d)) (c.in_err-is_new.ensures.given n))
+
+pub returns-in_err-number-clause-given : goal.returns-in_err-number-clause-given
+returns-in_err-number-clause-given c =
+    let es = entities_view c.args.entities.now in
+    let s = sight_view c.args.sight.now in
+    let d = component_view c.args.component.now in
+    passed_on _ _ c.in_err-number.field-0.0 _ c.from_residual-in_err-number.result c.from_residual-in_err-number.ensures.1 (λ e p. p)
+    (λ n. component_in_turn es s d
+    ∙ ap (λ o. o >>= λ _. (entity_named es d.name.text >>= of_entity s d)) c.in_ok-is_new.ensures.given
+    ∙ ap (λ o. o >>= of_entity s d) (c.in_err-number.ensures.given n))
+
+pub returns-in_err-is_entity-clause-given : goal.returns-in_err-is_entity-clause-given
+returns-in_err-is_entity-clause-given c =
+    let es = entities_view c.args.entities.now in
+    let s = sight_view c.args.sight.now in
+    let d = component_view c.args.component.now in
+    let e : ℕ × EntityView = (c.in_ok-number.number, named_view d.name.text c.in_ok-number.entity.now) in
+    passed_on _ _ c.in_err-is_entity.field-0.0 _ c.from_residual-in_err-is_entity.result c.from_residual-in_err-is_entity.ensures.1 (λ e p. p)
+    (λ n. component_in_turn es s d
+    ∙ ap (λ o. o >>= λ _. (entity_named es d.name.text >>= of_entity s d)) c.in_ok-is_new.ensures.given
+    ∙ ap (λ o. o >>= of_entity s d) c.in_ok-number.ensures.given
+    ∙ ap (λ o. o >>= λ _. (has_interface s d >>= λ _. closed s d e)) (c.in_err-is_entity.ensures.given n))
+
+pub returns-in_err-own_region-clause-given : goal.returns-in_err-own_region-clause-given
+returns-in_err-own_region-clause-given c =
+    let es = entities_view c.args.entities.now in
+    let s = sight_view c.args.sight.now in
+    let d = component_view c.args.component.now in
+    let e : ℕ × EntityView = (c.in_ok-number.number, named_view d.name.text c.in_ok-number.entity.now) in
+    passed_on _ _ c.in_err-own_region.field-0.0 _ c.from_residual-in_err-own_region.result c.from_residual-in_err-own_region.ensures.1 (λ e p. p)
+    (λ n. component_in_turn es s d
+    ∙ ap (λ o. o >>= λ _. (entity_named es d.name.text >>= of_entity s d)) c.in_ok-is_new.ensures.given
+    ∙ ap (λ o. o >>= of_entity s d) c.in_ok-number.ensures.given
+    ∙ ap (λ o. o >>= λ _. (has_interface s d >>= λ _. closed s d e)) c.in_ok-is_entity.ensures.given
+    ∙ ap (λ o. o >>= λ _. closed s d e) (c.in_err-own_region.ensures.given n))
+
+pub returns-in_err-ends-clause-given : goal.returns-in_err-ends-clause-given
+returns-in_err-ends-clause-given c =
+    let es = entities_view c.args.entities.now in
+    let s = sight_view c.args.sight.now in
+    let d = component_view c.args.component.now in
+    let e : ℕ × EntityView = (c.in_ok-number.number, named_view d.name.text c.in_ok-number.entity.now) in
+    passed_on _ _ c.in_err-ends.field-0.0 _ c.from_residual-in_err-ends.result c.from_residual-in_err-ends.ensures.1 (λ e p. p)
+    (λ n. component_in_turn es s d
+    ∙ ap (λ o. o >>= λ _. (entity_named es d.name.text >>= of_entity s d)) c.in_ok-is_new.ensures.given
+    ∙ ap (λ o. o >>= of_entity s d) c.in_ok-number.ensures.given
+    ∙ ap (λ o. o >>= λ _. (has_interface s d >>= λ _. closed s d e)) c.in_ok-is_entity.ensures.given
+    ∙ ap (λ o. o >>= λ _. closed s d e) c.in_ok-own_region.ensures.given
+    ∙ ap (λ o. o >>= λ _. named s d e) (c.in_err-ends.ensures.given n))
 
 pub returns-in_err-is_new-clause-told : goal.returns-in_err-is_new-clause-told
 returns-in_err-is_new-clause-told c =
@@ -17,7 +80,7 @@ returns-in_err-is_new-clause-told c =
     let d = component_view c.args.component.now in
     let f : Tells (broken.component (entities_view c.args.entities.now) (sight_view c.args.sight.now) (component_view c.args.component.now)) c.in_err-is_new.field-0.0 =
     told_left (named_twice s d) (behind es s d) c.in_err-is_new.field-0.0 c.in_err-is_new.ensures.told in
-    first_of (search rules, grind (arith, common_steps))
+    tells.passed_on _ c.in_err-is_new.field-0.0 _ c.from_residual.result c.from_residual.ensures.1 (λ e p. p) f
 
 pub returns-in_err-number-clause-told : goal.returns-in_err-number-clause-told
 returns-in_err-number-clause-told c =
@@ -26,7 +89,7 @@ returns-in_err-number-clause-told c =
     let d = component_view c.args.component.now in
     let f : Tells (broken.component (entities_view c.args.entities.now) (sight_view c.args.sight.now) (component_view c.args.component.now)) c.in_err-number.field-0.0 =
     no_entity es s d c.in_ok-is_new.ensures.given c.in_err-number.field-0.0 c.in_err-number.ensures.given c.in_err-number.ensures.told in
-    first_of (search rules, grind (arith, common_steps))
+    tells.passed_on _ c.in_err-number.field-0.0 _ c.from_residual-in_err-number.result c.from_residual-in_err-number.ensures.1 (λ e p. p) f
 
 pub returns-in_err-is_entity-clause-told : goal.returns-in_err-is_entity-clause-told
 returns-in_err-is_entity-clause-told c =
@@ -35,7 +98,7 @@ returns-in_err-is_entity-clause-told c =
     let d = component_view c.args.component.now in
     let f : Tells (broken.component (entities_view c.args.entities.now) (sight_view c.args.sight.now) (component_view c.args.component.now)) c.in_err-is_entity.field-0.0 =
     other_entity es s d c.in_ok-is_new.ensures.given (c.in_ok-number.number, named_view d.name.text c.in_ok-number.entity.now) c.in_ok-number.ensures.given c.in_err-is_entity.field-0.0 c.in_err-is_entity.ensures.told in
-    first_of (search rules, grind (arith, common_steps))
+    tells.passed_on _ c.in_err-is_entity.field-0.0 _ c.from_residual-in_err-is_entity.result c.from_residual-in_err-is_entity.ensures.1 (λ e p. p) f
 
 pub returns-in_err-own_region-clause-told : goal.returns-in_err-own_region-clause-told
 returns-in_err-own_region-clause-told c =
@@ -45,7 +108,7 @@ returns-in_err-own_region-clause-told c =
     let f : Tells (broken.component (entities_view c.args.entities.now) (sight_view c.args.sight.now) (component_view c.args.component.now)) c.in_err-own_region.field-0.0 =
     own_region es s d c.in_ok-is_new.ensures.given (c.in_ok-number.number, named_view d.name.text c.in_ok-number.entity.now) c.in_ok-number.ensures.given
     c.in_ok-is_entity.ensures.given c.in_err-own_region.field-0.0 c.in_err-own_region.ensures.told in
-    first_of (search rules, grind (arith, common_steps))
+    tells.passed_on _ c.in_err-own_region.field-0.0 _ c.from_residual-in_err-own_region.result c.from_residual-in_err-own_region.ensures.1 (λ e p. p) f
 
 pub returns-in_err-ends-clause-told : goal.returns-in_err-ends-clause-told
 returns-in_err-ends-clause-told c =
@@ -55,7 +118,7 @@ returns-in_err-ends-clause-told c =
     let f : Tells (broken.component (entities_view c.args.entities.now) (sight_view c.args.sight.now) (component_view c.args.component.now)) c.in_err-ends.field-0.0 =
     other_end es s d c.in_ok-is_new.ensures.given (c.in_ok-number.number, named_view d.name.text c.in_ok-number.entity.now) c.in_ok-number.ensures.given
     c.in_ok-is_entity.ensures.given c.in_ok-own_region.ensures.given c.in_err-ends.field-0.0 c.in_err-ends.ensures.told in
-    first_of (search rules, grind (arith, common_steps))
+    tells.passed_on _ c.in_err-ends.field-0.0 _ c.from_residual-in_err-ends.result c.from_residual-in_err-ends.ensures.1 (λ e p. p) f
 
 pub returns-clause-told : goal.returns-clause-told
 returns-clause-told c =

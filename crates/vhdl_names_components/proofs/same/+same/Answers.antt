@@ -1,8 +1,9 @@
-use Rattle.std.proofs.Common.{map, sym, ap, ◌∙◌}
+use Rattle.std.proofs.Common.{arith, ◌<◌, ◌≤◌, length, map, refl, sym, ap, ◌∙◌}
 use Rattle.vhdl_tree.specs.declared.expression.Chain.{Chain}
-use Rattle.vhdl_tree.specs.View.{view, chain_view}
+use Rattle.vhdl_tree.specs.View.{view, chain_view, pair_view}
 use Rattle.vhdl_names_rules.specs.SameText.{same_expr, same_each}
-use Rattle.vhdl_names_components.specs.Parts.{as_chain, if_some}
+use Rattle.vhdl_names_components.specs.Parts.{as_chain, if_some, same_pair}
+use Rattle.vhdl_names_components.proofs.Alike.{goes, stops, ends}
 use Rattle.vhdl_names_components.proofs.Forms.{chain_begins}
 use Rattle.vhdl_names_components.proofs.Chained.{arguments_same}
 use Rattle.vhdl_names_components.proofs.same.+same.Goals as goal
@@ -22,3 +23,53 @@ same_suffix-returns-in-Arguments-Arguments t c =
     ∙ ap (λ es. same_each same_expr (map view es) (map view c.deref-in-Arguments-Arguments.result.now)) c.deref.ensures.value
     ∙ ap (λ es. same_each same_expr (map view v.items) (map view es)) c.deref-in-Arguments-Arguments.ensures.value
     ∙ sym (arguments_same c.args.a.now c.args.b.now v w c.in-Arguments-Arguments.is-0 c.in-Arguments-Arguments.is-1)
+
+pub same_links-loop-place-init : goal.same_links-loop-place-init
+same_links-loop-place-init t c = refl
+
+pub same_links-loop-place-preserved : goal.same_links-loop-place-preserved
+same_links-loop-place-preserved t c =
+    let lt : c.loop-place.place < length c.args.a.now = omega arith in
+    let below : c.loop-place.place < length c.args.b.now = omega arith in
+    c.loop-place.invariant
+    ∙ goes pair_view same_pair c.args.a.now c.args.b.now c.loop-place.place c.index-a-place.result c.index-b-place.result lt below c.index-a-place.is c.index-b-place.is
+    (sym c.same_link.ensures ∙ c.if-not-same_link.false)
+
+pub same_links-returns-then-not-same_link : goal.same_links-returns-then-not-same_link
+same_links-returns-then-not-same_link t c =
+    let lt : c.loop-place.place < length c.args.a.now = omega arith in
+    let below : c.loop-place.place < length c.args.b.now = omega arith in
+    sym (c.loop-place.invariant
+    ∙ stops pair_view same_pair c.args.a.now c.args.b.now c.loop-place.place c.index-a-place.result c.index-b-place.result lt below c.index-a-place.is c.index-b-place.is
+    (sym c.same_link.ensures ∙ c.if-not-same_link.true))
+
+pub same_links-returns : goal.same_links-returns
+same_links-returns t c =
+    let past : length c.args.a.now ≤ c.loop-place.place = omega arith in
+    let beyond : length c.args.b.now ≤ c.loop-place.place = omega arith in
+    sym (c.loop-place.invariant ∙ ends pair_view same_pair c.args.a.now c.args.b.now c.loop-place.place past beyond)
+
+pub same_exprs-loop-place-init : goal.same_exprs-loop-place-init
+same_exprs-loop-place-init t c = refl
+
+pub same_exprs-loop-place-preserved : goal.same_exprs-loop-place-preserved
+same_exprs-loop-place-preserved t c =
+    let lt : c.loop-place.place < length c.args.a.now = omega arith in
+    let below : c.loop-place.place < length c.args.b.now = omega arith in
+    c.loop-place.invariant
+    ∙ goes view same_expr c.args.a.now c.args.b.now c.loop-place.place c.index-a-place.result c.index-b-place.result lt below c.index-a-place.is c.index-b-place.is
+    (sym c.same_expr.ensures ∙ c.if-not-same_expr.false)
+
+pub same_exprs-returns-then-not-same_expr : goal.same_exprs-returns-then-not-same_expr
+same_exprs-returns-then-not-same_expr t c =
+    let lt : c.loop-place.place < length c.args.a.now = omega arith in
+    let below : c.loop-place.place < length c.args.b.now = omega arith in
+    sym (c.loop-place.invariant
+    ∙ stops view same_expr c.args.a.now c.args.b.now c.loop-place.place c.index-a-place.result c.index-b-place.result lt below c.index-a-place.is c.index-b-place.is
+    (sym c.same_expr.ensures ∙ c.if-not-same_expr.true))
+
+pub same_exprs-returns : goal.same_exprs-returns
+same_exprs-returns t c =
+    let past : length c.args.a.now ≤ c.loop-place.place = omega arith in
+    let beyond : length c.args.b.now ≤ c.loop-place.place = omega arith in
+    sym (c.loop-place.invariant ∙ ends view same_expr c.args.a.now c.args.b.now c.loop-place.place past beyond)

@@ -1,4 +1,4 @@
-use Rattle.std.proofs.Common.{arith, option_map, ◌≡◌, ◌≢◌, suc, ◌+◌, ◌<◌, ◌∷◌, [], map, length, drop, Some, None, refl, ap, sym, ◌∙◌}
+use Rattle.std.proofs.Common.{arith, option_map, ◌≡◌, ◌≢◌, suc, ◌+◌, ◌<◌, List, ◌∷◌, [], map, length, drop, Option, Some, None, refl, ap, sym, ◌∙◌}
 use Rattle.std.proofs.lemmas.List.{at_drop_all, map-append}
 use Rattle.vhdl_names_rules.specs.declared.fault.NameFault.TheVariants.{NoMemory}
 use Rattle.vhdl_names_rules.specs.Expressions.{typed, typed_each, as_integer}
@@ -8,9 +8,10 @@ use Rattle.vhdl_tree.specs.Tree.{exprs_of}
 use Rattle.vhdl_tree.specs.View.{view}
 use Rattle.vhdl_tree.specs.declared.expression.Chain.{out-Chain}
 use Rattle.vhdl_names_expressions.specs.Chosen.{arguments_of, started, links_of}
-use Rattle.vhdl_names_expressions.specs.Steps.{is_parens, linked, all_linked}
+use Rattle.vhdl_names_expressions.specs.Steps.{is_parens, enclosed_if, linked, all_linked}
 use Rattle.vhdl_names_types.specs.Views.{sight_view, meaning_view, typed_view, typed_suffix_view}
 use Rattle.vhdl_names_types.proofs.Along.{gives_along}
+use Rattle.vhdl_names_types.proofs.Memory.{memory_gives, memory_told}
 use Rattle.vhdl_names_expressions.proofs.Chains.{started_is, link_goes, chain_begun, all_linked_none, link_fails, front, each_fails, each_goes, each_ends, arguments_whole}
 use Rattle.vhdl_tree.specs.View.{ident_view, suffix_view, range_view}
 use Rattle.vhdl_names_rules.specs.declared.fault.NameProblem.TheVariants.{TypeMismatch}
@@ -22,7 +23,7 @@ use Rattle.vhdl_names_rules.proofs.kept.Expressions.{typed_kept}
 use Rattle.vhdl_names_expressions.specs.Breaking.{link_breaks, all_break, started_breaks}
 use Rattle.vhdl_names_expressions.proofs.Breaking.{told_as, wanted_told, chain_first, chain_further, link_told, rest_goes, operator_on, link_first, range_first, range_second, static_first, slice_told, parens_told, negation_first, negation_told, sign_first, sign_told, integer_told, character_told, string_told, bits_told, named_suffix, named_meaning, named_no_value, named_denoted, named_attributed, each_told, each_left, arguments_on, begun_first, begun_second}
 use Rattle.vhdl_names_rules.specs.Expressions.{enclosed, signed}
-use Rattle.vhdl_names_rules.specs.Operators.{integer, inverse}
+use Rattle.vhdl_names_rules.specs.Operators.{Typed, integer, inverse, operated}
 use Rattle.vhdl_names_rules.specs.Rules.{◌>>=◌}
 use Rattle.vhdl_names_expressions.proofs.Chains.{static_is}
 use Rattle.vhdl_names_expressions.proofs.Typing.{passed_on, told_on as told_by, parens_give, negation_gives, sign_gives, no_meaning, no_suffix, with_value, no_operand}
@@ -108,6 +109,54 @@ typed_each-loop-argument-preserved t c =
 pub typed_each-returns-clause-given : goal.typed_each-returns-clause-given
 typed_each-returns-clause-given t c =
     each_ends (sight_view c.args.sight.now) _ (map typed_view c.loop-argument.done.items) c.args.arguments.now c.loop-argument.argument-index c.loop-argument.invariant.0 (omega arith)
+
+none_before : (o : Option (List Typed)) → o ≡ front [] o
+none_before None = refl
+none_before (Some xs) = refl
+
+pub typed_each-loop-argument-init : goal.typed_each-loop-argument-init
+typed_each-loop-argument-init t c =
+    let all = typed_each (sight_view c.args.sight.now) (exprs_of (map view c.args.arguments.now)) in
+    (none_before all ∙ ap (λ xs. front (map typed_view xs) all) (sym c.new-done.ensures.items), refl)
+
+pub typed_each-returns-in_err-push-clause-given : goal.typed_each-returns-in_err-push-clause-given
+typed_each-returns-in_err-push-clause-given t c = memory_gives _ _ _ c.from_residual-in_err-push.result c.from_residual-in_err-push.ensures.1 (λ e p. p)
+
+pub typed_each-returns-in_err-push-clause-told : goal.typed_each-returns-in_err-push-clause-told
+typed_each-returns-in_err-push-clause-told t c = memory_told _ _ c.from_residual-in_err-push.result c.from_residual-in_err-push.ensures.1 (λ e p. p)
+
+pub link-returns-clause-given : goal.link-returns-clause-given
+link-returns-clause-given t c =
+    let s = sight_view c.args.sight.now in
+    let l = c.args.link.now in
+    let v = typed_view c.args.first in
+    gives_along typed_view _ _ _
+    (ap (λ o. o >>= λ y. operated s.numbers l.operator v (enclosed_if c.args.after_parens y)) c.in_ok-operand.ensures.given
+    ∙ ap (operated s.numbers l.operator v) (sym c.beside-operand.ensures))
+    c.operated.ensures.given
+
+pub typed-returns-in-Integer-clause-given : goal.typed-returns-in-Integer-clause-given
+unfolding typed
+typed-returns-in-Integer-clause-given t c = gives_along typed_view _ _ _ (ap (λ x. typed (sight_view c.args.sight.now) (view x)) c.in-Integer.is) c.integer_literal.ensures.given
+
+pub typed-returns-in-Character-clause-given : goal.typed-returns-in-Character-clause-given
+unfolding typed
+typed-returns-in-Character-clause-given t c = gives_along typed_view _ _ _ (ap (λ x. typed (sight_view c.args.sight.now) (view x)) c.in-Character.is) c.character_literal.ensures.given
+
+pub typed-returns-in-StringLiteral-clause-given : goal.typed-returns-in-StringLiteral-clause-given
+unfolding typed
+typed-returns-in-StringLiteral-clause-given t c = gives_along typed_view _ _ _ (ap (λ x. typed (sight_view c.args.sight.now) (view x)) c.in-StringLiteral.is) c.string_literal.ensures.given
+
+pub typed-returns-in-BitString-clause-given : goal.typed-returns-in-BitString-clause-given
+unfolding typed
+typed-returns-in-BitString-clause-given t c = gives_along typed_view _ _ _ (ap (λ x. typed (sight_view c.args.sight.now) (view x)) c.in-BitString.is) c.bit_string_literal.ensures.given
+
+pub typed-returns-in-Name-clause-given : goal.typed-returns-in-Name-clause-given
+typed-returns-in-Name-clause-given t c = gives_along typed_view _ _ _ (ap (λ x. typed (sight_view c.args.sight.now) (view x)) c.in-Name.is) c.named.ensures.given
+
+pub typed-returns-in-Name-clause-told : goal.typed-returns-in-Name-clause-told
+typed-returns-in-Name-clause-told t c =
+    told_on _ _ c.named.result (λ f. told_same _ _ f (sym (ap (λ x. broken.typed (sight_view c.args.sight.now) (view x)) c.in-Name.is))) c.named.ensures.told
 
 -- ---- what is told
 

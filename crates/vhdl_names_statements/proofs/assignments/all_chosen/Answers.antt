@@ -2,13 +2,14 @@ use Rattle.std.proofs.Common.{arith, ◌<◌, ◌∷◌, [], length, map, refl, 
 use Rattle.std.proofs.lemmas.List.{map-append}
 use Rattle.vhdl_tree.specs.View as tree
 use Rattle.vhdl_names_types.specs.Views.{sight_view}
+use Rattle.vhdl_names_types.proofs.Memory.{memory_gives, memory_told}
 use Rattle.vhdl_names_units.specs.views.Sequential as views
 use Rattle.vhdl_names_rules.specs.problems.Broken.{Tells, any_of}
 use Rattle.vhdl_names_rules.specs.problems.Concurrent as broken
 use Rattle.vhdl_names_statements.specs.steps.Concurrent as steps
 use Rattle.vhdl_names_units.proofs.Behind.{next_told, next_left}
-use Rattle.vhdl_names_statements.proofs.steps.Passing.{told_by}
-use Rattle.vhdl_names_statements.proofs.steps.Told.{more_done}
+use Rattle.vhdl_names_statements.proofs.steps.Passing.{passed_on, told_by}
+use Rattle.vhdl_names_statements.proofs.steps.Told.{more_done, none_more}
 use Rattle.vhdl_names_statements.proofs.steps.Turns.{none_done, all_done}
 use Rattle.vhdl_names_statements.proofs.steps.Assigning.{waveform_kept}
 use Rattle.vhdl_names_statements.proofs.assignments.all_chosen.Goals as goal
@@ -21,6 +22,19 @@ returns-in_err-next-clause-told c =
     let h : Tells (any_of b (map tree.waveform_view xs)) c.in_err-next.field-0.0 =
     next_told tree.waveform_view xs c.loop-item.item-index c.item-item.result lt c.item-item.is b c.in_err-next.field-0.0 c.loop-item.invariant.1 c.in_err-next.ensures.told in
     told_by _ c.in_err-next.field-0.0 _ c.from_residual.result c.from_residual.ensures.1 (λ e p. p) h
+
+pub returns-in_err-next-clause-given : goal.returns-in_err-next-clause-given
+returns-in_err-next-clause-given c =
+    let lt : c.loop-item.item-index < length c.args.list.now = omega arith in
+    passed_on _ _ c.in_err-next.field-0.0 _ c.from_residual.result c.from_residual.ensures.1 (λ e p. p)
+    (λ n. none_more tree.waveform_view c.args.list.now c.loop-item.item-index c.item-item.result lt c.item-item.is (steps.chosen (sight_view c.args.sight.now) c.args.selected (tree.name_view c.args.target.now)) (views.alternatives_view c.loop-item.all) _
+    c.loop-item.invariant.0 (c.in_err-next.ensures.given n))
+
+pub returns-in_err-push-clause-given : goal.returns-in_err-push-clause-given
+returns-in_err-push-clause-given c = memory_gives _ _ _ c.from_residual-in_err-push.result c.from_residual-in_err-push.ensures.1 (λ e p. p)
+
+pub returns-in_err-push-clause-told : goal.returns-in_err-push-clause-told
+returns-in_err-push-clause-told c = memory_told _ _ c.from_residual-in_err-push.result c.from_residual-in_err-push.ensures.1 (λ e p. p)
 
 pub loop-item-preserved : goal.loop-item-preserved
 loop-item-preserved c =

@@ -10,6 +10,7 @@ use Rattle.vhdl_names_rules.specs.Choices as are
 use Rattle.vhdl_names_rules.specs.Statements.{statement}
 use Rattle.vhdl_names_types.specs.Views.{sight_view}
 use Rattle.vhdl_names_types.proofs.Along.{gives_along}
+use Rattle.vhdl_names_types.proofs.Memory.{memory_gives, memory_told}
 use Rattle.vhdl_names_units.specs.views.Sequential.{statement_view, statements_view, branch_view, branches_view, alternative_view, alternatives_view}
 use Rattle.vhdl_names_rules.specs.problems.Broken.{Tells}
 use Rattle.vhdl_names_rules.specs.problems.Expressions.{condition}
@@ -65,6 +66,66 @@ statements-returns-in_err-next-clause-told m c =
     (next_told tree.sequential_view xs c.loop-item.item-index x lt c.item-item.is (told.labelled s) c.in_err-next.field-0.0 c.loop-item.invariant.2
     (told_same _ _ c.in_err-next.field-0.0 (ap (λ e. told.labelled e (tree.sequential_view x)) c.loop-item.invariant.0) c.in_err-next.ensures.told)) in
     told_by _ c.in_err-next.field-0.0 _ c.from_residual.result c.from_residual.ensures.1 (λ e p. p) h
+
+pub statements-returns-in_err-next-clause-given : goal.statements-returns-in_err-next-clause-given
+statements-returns-in_err-next-clause-given m c =
+    let x = c.item-item.result in
+    let lt : c.loop-item.item-index < length c.args.list.now = omega arith in
+    passed_on _ _ c.in_err-next.field-0.0 _ c.from_residual.result c.from_residual.ensures.1 (λ e p. p)
+    (λ n. by.none_more tree.sequential_view c.args.list.now c.loop-item.item-index x lt c.item-item.is (steps.labelled (sight_view c.args.sight.now)) (statements_view c.loop-item.all) _ c.loop-item.invariant.1
+    (ap (λ e. steps.labelled e (tree.sequential_view x)) (sym c.loop-item.invariant.0) ∙ c.in_err-next.ensures.given n))
+
+pub statements-returns-in_err-push-clause-given : goal.statements-returns-in_err-push-clause-given
+statements-returns-in_err-push-clause-given m c = memory_gives _ _ _ c.from_residual-in_err-push.result c.from_residual-in_err-push.ensures.1 (λ e p. p)
+
+pub statements-returns-in_err-push-clause-told : goal.statements-returns-in_err-push-clause-told
+statements-returns-in_err-push-clause-told m c = memory_told _ _ c.from_residual-in_err-push.result c.from_residual-in_err-push.ensures.1 (λ e p. p)
+
+pub statements-returns-in_err-next-clause-kept : goal.statements-returns-in_err-next-clause-kept
+statements-returns-in_err-next-clause-kept m c = c.in_err-next.ensures.kept ∙ c.loop-item.invariant.0
+
+pub statements-returns-in_err-push-clause-kept : goal.statements-returns-in_err-push-clause-kept
+statements-returns-in_err-push-clause-kept m c = c.in_ok-next.ensures.kept ∙ c.loop-item.invariant.0
+
+pub branches-returns-in_err-next-clause-given : goal.branches-returns-in_err-next-clause-given
+branches-returns-in_err-next-clause-given m c =
+    let x = c.item-item.result in
+    let lt : c.loop-item.item-index < length c.args.list.now = omega arith in
+    passed_on _ _ c.in_err-next.field-0.0 _ c.from_residual.result c.from_residual.ensures.1 (λ e p. p)
+    (λ n. by.none_more tree.conditional_view c.args.list.now c.loop-item.item-index x lt c.item-item.is (steps.guarded (sight_view c.args.sight.now)) (branches_view c.loop-item.all) _ c.loop-item.invariant.1
+    (ap (λ e. steps.guarded e (tree.conditional_view x)) (sym c.loop-item.invariant.0) ∙ c.in_err-next.ensures.given n))
+
+pub branches-returns-in_err-push-clause-given : goal.branches-returns-in_err-push-clause-given
+branches-returns-in_err-push-clause-given m c = memory_gives _ _ _ c.from_residual-in_err-push.result c.from_residual-in_err-push.ensures.1 (λ e p. p)
+
+pub branches-returns-in_err-push-clause-told : goal.branches-returns-in_err-push-clause-told
+branches-returns-in_err-push-clause-told m c = memory_told _ _ c.from_residual-in_err-push.result c.from_residual-in_err-push.ensures.1 (λ e p. p)
+
+pub branches-returns-in_err-next-clause-kept : goal.branches-returns-in_err-next-clause-kept
+branches-returns-in_err-next-clause-kept m c = c.in_err-next.ensures.kept ∙ c.loop-item.invariant.0
+
+pub branches-returns-in_err-push-clause-kept : goal.branches-returns-in_err-push-clause-kept
+branches-returns-in_err-push-clause-kept m c = c.in_ok-next.ensures.kept ∙ c.loop-item.invariant.0
+
+pub alternatives-returns-in_err-next-clause-given : goal.alternatives-returns-in_err-next-clause-given
+alternatives-returns-in_err-next-clause-given m c =
+    let x = c.item-item.result in
+    let lt : c.loop-item.item-index < length c.args.list.now = omega arith in
+    passed_on _ _ c.in_err-next.field-0.0 _ c.from_residual.result c.from_residual.ensures.1 (λ e p. p)
+    (λ n. by.none_more tree.alternative_view c.args.list.now c.loop-item.item-index x lt c.item-item.is (cases.chosen (sight_view c.args.sight.now) c.args.selected) (alternatives_view c.loop-item.all) _ c.loop-item.invariant.1
+    (ap (λ e. cases.chosen e c.args.selected (tree.alternative_view x)) (sym c.loop-item.invariant.0) ∙ c.in_err-next.ensures.given n))
+
+pub alternatives-returns-in_err-push-clause-given : goal.alternatives-returns-in_err-push-clause-given
+alternatives-returns-in_err-push-clause-given m c = memory_gives _ _ _ c.from_residual-in_err-push.result c.from_residual-in_err-push.ensures.1 (λ e p. p)
+
+pub alternatives-returns-in_err-push-clause-told : goal.alternatives-returns-in_err-push-clause-told
+alternatives-returns-in_err-push-clause-told m c = memory_told _ _ c.from_residual-in_err-push.result c.from_residual-in_err-push.ensures.1 (λ e p. p)
+
+pub alternatives-returns-in_err-next-clause-kept : goal.alternatives-returns-in_err-next-clause-kept
+alternatives-returns-in_err-next-clause-kept m c = c.in_err-next.ensures.kept ∙ c.loop-item.invariant.0
+
+pub alternatives-returns-in_err-push-clause-kept : goal.alternatives-returns-in_err-push-clause-kept
+alternatives-returns-in_err-push-clause-kept m c = c.in_ok-next.ensures.kept ∙ c.loop-item.invariant.0
 
 pub statements-loop-item-preserved : goal.statements-loop-item-preserved
 statements-loop-item-preserved m c =
