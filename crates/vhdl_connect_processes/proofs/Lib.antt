@@ -2,6 +2,7 @@ pub mod Runs
 mod Lists
 mod Searched
 mod Parts
+mod Nodes
 mod Driven
 pub mod Reading
 mod Marking

@@ -39,8 +39,7 @@ impl Connection<'_> {
             }
             Test::Negated(operand) => self.connect_test(operand),
             Test::Combined { first, rest } => {
-                self.connect_test(first)?;
-                self.connect_tests(rest)
+                self.connect_test(first).and(self.connect_tests(rest))
             }
         }
     }
@@ -61,8 +60,7 @@ impl Connection<'_> {
         ensures left { OnOk result (value_view left.new ≡ value_in self.now (value_view left.old)) }
         ensures right { OnOk result (value_view right.new ≡ value_in self.now (value_view right.old)) }
     {
-        self.connect_value(left)?;
-        self.connect_value(right)
+        self.connect_value(left).and(self.connect_value(right))
     }
 
     /// The same of two expressions.
@@ -70,7 +68,6 @@ impl Connection<'_> {
         ensures left { OnOk result (expr_view left.new ≡ expr_in self.now (expr_view left.old)) }
         ensures right { OnOk result (expr_view right.new ≡ expr_in self.now (expr_view right.old)) }
     {
-        self.connect_expr(left)?;
-        self.connect_expr(right)
+        self.connect_expr(left).and(self.connect_expr(right))
     }
 }

@@ -25,8 +25,7 @@ impl Connection<'_> {
             Expr::Inverse(operand) => self.connect_expr(operand),
             Expr::Filled { element, .. } => self.connect_expr(element),
             Expr::Chain { first, rest } => {
-                self.connect_expr(first)?;
-                self.connect_links(rest)
+                self.connect_expr(first).and(self.connect_links(rest))
             }
             Expr::Counted { operand, .. } => self.connect_expr(operand),
         }

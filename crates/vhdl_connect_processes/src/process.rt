@@ -106,14 +106,13 @@ impl Round<'_> {
         requires dotted { IsDotted from.old.prefix.items }
         ensures { IfOk result (λ p. IsOf self.now.scope self.now.nets.now self.now.defaults.now (process_view from.old) p) }
     {
-        let mut body = mem::replace(&mut from.body, Vec::new(self.alloc));
         let connection = Connection {
             alloc: self.alloc,
             nets: self.nets,
             drives: &from.drives,
         };
-        connection.connect_body(&mut body)?;
-        let reads = read_of(self.alloc, &body)?;
+        connection.connect_body(&mut from.body)?;
+        let reads = read_of(self.alloc, &from.body)?;
         let wakes = wakes(&connection, &from.sensitivity, &reads)?;
         let drives = self.drivers(&from.drives)?;
         let variables = variables(self.alloc, &mut from.variables)?;
@@ -123,7 +122,7 @@ impl Round<'_> {
             reads,
             wakes,
             variables,
-            body,
+            body: mem::replace(&mut from.body, Vec::new(self.alloc)),
             scope: self.scope,
             generates,
             label: from.label.take(),

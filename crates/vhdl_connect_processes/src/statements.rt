@@ -65,9 +65,9 @@ impl Connection<'_> {
                 others,
                 ..
             } => {
-                self.connect_value(selector)?;
-                self.connect_alternatives(alternatives)?;
-                self.connect_statements(others)
+                self.connect_value(selector)
+                    .and(self.connect_alternatives(alternatives))
+                    .and(self.connect_statements(others))
             }
         }
     }
@@ -92,8 +92,8 @@ impl Connection<'_> {
         requires driven { Assigns (Contains self.now.drives.now) (statements_of branch.old.statements.items) }
         ensures { OnOk result (branch_view branch.new ≡ branch_in self.now (branch_view branch.old)) }
     {
-        self.connect_test(&mut branch.test)?;
-        self.connect_statements(&mut branch.statements)
+        self.connect_test(&mut branch.test)
+            .and(self.connect_statements(&mut branch.statements))
     }
 
     /// The same of the alternatives of a case.

@@ -1,6 +1,6 @@
 -- Statements by their parts, in the order in which the code comes to them.
 use Rattle.std.proofs.Common.{◌≡◌, ℕ, zero, suc, ◌≤◌, List, [], ◌∷◌, length, map, drop, Option, Vec, Global, Result, Ok, Err, refl, sym, ap, ◌∙◌, subst, arith}
-use Rattle.std.specs.Prelude.{ℤ, OnOk, IfErr}
+use Rattle.std.specs.Prelude.{ℤ}
 use Rattle.vhdl_names_rules.specs.units.Expressions.{Part, SignalPart, Range}
 use Rattle.vhdl_names_rules.specs.units.Statements as u
 use Rattle.vhdl_names_rules.specs.units.Statements.{Given}
@@ -24,9 +24,8 @@ use Rattle.vhdl_names_units.specs.views.Sequential as units
 use Rattle.vhdl_names_units.specs.views.Sequential.{Guarded, Chosen}
 use Rattle.vhdl_names_units.proofs.rows.Sequential as rows
 use Rattle.vhdl_expand_rules.specs.declared.fault.ElabFault.{ElabFault}
-use Rattle.vhdl_expand_rules.specs.declared.fault.ElabFault.TheVariants.{NoMemory}
 use Rattle.vhdl_expand_rules.specs.declared.fault.ElabProblem.{ElabProblem}
-use Rattle.vhdl_expand_rules.specs.Elab.{Elab, ◌>>=◌, each}
+use Rattle.vhdl_expand_rules.specs.Elab.{Elab, ◌>>=◌, each, problem_told}
 use Rattle.vhdl_expand_rules.specs.Integers.{turns}
 use Rattle.vhdl_expand_rules.specs.Site.{Site, in_loop, place_elements, variable_elements}
 use Rattle.vhdl_expand_rules.specs.Expressions.{value, test}
@@ -34,20 +33,26 @@ use Rattle.vhdl_expand_rules.specs.Statements as definition
 use Rattle.vhdl_expand_rules.specs.Statements.{choice, one}
 use Rattle.vhdl_expand_rules.proofs.Steps.{given}
 use Rattle.vhdl_expand_rules.proofs.Chains.{err_first}
-use Rattle.vhdl_expand_bodies.specs.Results.{Expands}
+use Rattle.vhdl_expand_bodies.specs.Results.{Expands, Adds}
 use Rattle.vhdl_expand_bodies.specs.Statements.{branch_view, branches_view, alternative_view, alternatives_view, otherwise_view}
 use Rattle.vhdl_expand_bodies.specs.steps.Assignments.{assign, set}
 use Rattle.vhdl_expand_bodies.specs.steps.Statements as steps
 use Rattle.vhdl_expand_bodies.specs.steps.Statements.{after}
-
--- one more statement
-pub add_gives : (view : Unit {0} → bodies.Stmts) (now : bodies.Stmts) (made : Elab bodies.Stmts) (x : bodies.Stmt) (r : Result (Unit {0}) ElabFault) → made ≡ Ok (one x)
-    → OnOk r (view tt ≡ bodies.followed_by now (one x)) → IfErr r (λ fault. fault ≡ NoMemory) → Expands view (after now made) r
-add_gives view now made x (Ok u) h added refused = ap (after now) h ∙ ap given (sym added)
-add_gives view now made x (Err fault) h added refused = λ n. absurd (n refused)
+use Rattle.vhdl_expand_bodies.proofs.Sequences.{statements_push}
 
 pub after_stops : {problem : ElabProblem} (now : bodies.Stmts) (r : Elab bodies.Stmts) → r ≡ Err problem → (after now r) ≡ Err problem
 after_stops now r h = err_first r _ h
+
+-- one more statement, where it is made
+pub added_gives : (now new : List Statement) (d : Elab bodies.Stmt) (whole : Elab bodies.Stmts) (m : Result Statement ElabFault) (r : Result (Unit {0}) ElabFault)
+    → whole ≡ (d >>= λ s. given (one s)) → Expands net.statement_view d m → Adds now new m r → Expands (λ _. net.statements_of new) (after (net.statements_of now) whole) r
+added_gives now new d whole (Ok made) (Ok u) h e a =
+    ap (after (net.statements_of now)) (h ∙ ap (λ q. q >>= λ s. given (one s)) e) ∙ ap given (sym (statements_push now new made a))
+added_gives now new d whole (Ok made) (Err fault) h e a = λ n. absurd (n a)
+added_gives now new d whole (Err why) (Ok u) h e a = absurd a
+added_gives now new d whole (Err why) (Err fault) h e a = λ n.
+    subst (λ (f : ElabFault). after (net.statements_of now) whole ≡ Err (problem_told f)) (sym a)
+    (after_stops (net.statements_of now) whole (h ∙ ap (λ q. q >>= λ s. given (one s)) (e (λ q. n (a ∙ q)))))
 
 pub none_left : {X : Type 0} (xs : List X) (i : ℕ) → length xs ≤ i → drop i xs ≡ []
 none_left [] zero h = refl
@@ -55,10 +60,10 @@ none_left [] (suc i) h = refl
 none_left (x ∷ xs) zero h = absurd (omega arith)
 none_left (x ∷ xs) (suc i) h = none_left xs i (omega arith)
 
-abbrev branch_of : bodies.Test → bodies.Stmts → Elab steps.Branch
+abbrev pub branch_of : bodies.Test → bodies.Stmts → Elab steps.Branch
 branch_of c x = Ok (record { test = c; statements = x })
 
-abbrev alternative_of : List (List ℕ) → bodies.Stmts → Elab steps.Alternative
+abbrev pub alternative_of : List (List ℕ) → bodies.Stmts → Elab steps.Alternative
 alternative_of c x = Ok (record { choices = c; statements = x })
 
 case_of_each : (w : bodies.Value) (n : Elab (List steps.Alternative)) (l : Elab bodies.Stmts) → ((n >>= λ bs. l >>= λ y. given (steps.alternatives_before y bs)) >>= λ cs. given (one (bodies.case_of w cs)))
@@ -83,25 +88,13 @@ module _ (at : Site) where
   unfolding definition.statement
   null_one = refl
 
-  assign-by : (p : SignalPart) (g : Given) → definition.statement at (u.assign p g) ≡ (assign at p g >>= λ s. given (one s))
+  pub assign_by : (p : SignalPart) (g : Given) → definition.statement at (u.assign p g) ≡ (assign at p g >>= λ s. given (one s))
   unfolding definition.statement
-  assign-by p g = as_one (place_elements at p) (λ es. definition.value_given at (length es) g) bodies.assign
+  assign_by p g = as_one (place_elements at p) (λ es. definition.value_given at (length es) g) bodies.assign
 
-  pub assign_one : (p : SignalPart) (g : Given) (x : bodies.Stmt) → assign at p g ≡ Ok x → definition.statement at (u.assign p g) ≡ Ok (one x)
-  assign_one p g x h = assign-by p g ∙ ap (λ r. r >>= λ y. given (one y)) h
-
-  pub assign_none : {problem : ElabProblem} (p : SignalPart) (g : Given) → (assign at p g) ≡ Err problem → (definition.statement at (u.assign p g)) ≡ Err problem
-  assign_none {problem} p g h = subst (λ (r : Elab bodies.Stmts). r ≡ Err problem) (sym (assign-by p g)) (err_first (assign at p g) _ h)
-
-  set-by : (k : ℕ) (part : Part) (g : Given) → definition.statement at (u.set k part g) ≡ (set at k part g >>= λ s. given (one s))
+  pub set_by : (k : ℕ) (part : Part) (g : Given) → definition.statement at (u.set k part g) ≡ (set at k part g >>= λ s. given (one s))
   unfolding definition.statement
-  set-by k part g = as_one (variable_elements at k part) (λ es. definition.value_given at (length es) g) bodies.set
-
-  pub set_one : (k : ℕ) (part : Part) (g : Given) (x : bodies.Stmt) → set at k part g ≡ Ok x → definition.statement at (u.set k part g) ≡ Ok (one x)
-  set_one k part g x h = set-by k part g ∙ ap (λ r. r >>= λ y. given (one y)) h
-
-  pub set_none : {problem : ElabProblem} (k : ℕ) (part : Part) (g : Given) → (set at k part g) ≡ Err problem → (definition.statement at (u.set k part g)) ≡ Err problem
-  set_none {problem} k part g h = subst (λ (r : Elab bodies.Stmts). r ≡ Err problem) (sym (set-by k part g)) (err_first (set at k part g) _ h)
+  set_by k part g = as_one (variable_elements at k part) (λ es. definition.value_given at (length es) g) bodies.set
 
   -- ---- if
 
@@ -129,10 +122,10 @@ module _ (at : Site) where
   if-is : (x : If) → units.statement_view (t.If x) ≡ u.if_of (units.branches_of (units.branches_view (out-If x).branches) (units.last_of (units.option_statements_view (out-If x).otherwise)))
   if-is x = ap (λ y. units.statement_view (t.If y)) (sym (roll-out-If x)) ∙ rows.view_if (out-If x).at (out-If x).branches (out-If x).otherwise
 
-  if-by : (x : If) → definition.statement at (units.statement_view (t.If x))
+  pub if_by : (x : If) → definition.statement at (units.statement_view (t.If x))
       ≡ (steps.conditional at (units.branches_view (out-If x).branches) (units.last_of (units.option_statements_view (out-If x).otherwise)) >>= λ y. given (one y))
   unfolding definition.statement
-  if-by x =
+  if_by x =
       let gs = units.branches_view (out-If x).branches in
       let last = units.last_of (units.option_statements_view (out-If x).otherwise) in
       ap (definition.statement at) (if-is x)
@@ -144,14 +137,6 @@ module _ (at : Site) where
       go (Ok bs) (Ok y) = refl
       go (Ok bs) (Err p) = refl
       go (Err p) l = refl
-
-  pub if_one : (x : If) (y : bodies.Stmt) → steps.conditional at (units.branches_view (out-If x).branches) (units.last_of (units.option_statements_view (out-If x).otherwise)) ≡ Ok y
-      → definition.statement at (units.statement_view (t.If x)) ≡ Ok (one y)
-  if_one x y h = if-by x ∙ ap (λ r. r >>= λ y. given (one y)) h
-
-  pub if_none : {problem : ElabProblem} (x : If) → (steps.conditional at (units.branches_view (out-If x).branches) (units.last_of (units.option_statements_view (out-If x).otherwise))) ≡ Err problem
-      → (definition.statement at (units.statement_view (t.If x))) ≡ Err problem
-  if_none {problem} x h = subst (λ (r : Elab bodies.Stmts). r ≡ Err problem) (sym (if-by x)) (err_first (steps.conditional at _ _) _ h)
 
   -- ---- case
 
@@ -179,9 +164,9 @@ module _ (at : Site) where
   abbrev selected : Case → Elab bodies.Stmt
   selected x = steps.selection at (analysed.value_view (out-Case x).selector) (units.alternatives_view (out-Case x).alternatives) (units.statements_of (units.statements_view (out-Case x).others))
 
-  case-by : (x : Case) → definition.statement at (units.statement_view (t.Case x)) ≡ (selected x >>= λ y. given (one y))
+  pub case_by : (x : Case) → definition.statement at (units.statement_view (t.Case x)) ≡ (selected x >>= λ y. given (one y))
   unfolding definition.statement
-  case-by x =
+  case_by x =
       let gs = units.alternatives_view (out-Case x).alternatives in
       let last = units.statements_of (units.statements_view (out-Case x).others) in
       ap (definition.statement at) (case-is x)
@@ -193,12 +178,6 @@ module _ (at : Site) where
           ≡ ((v >>= λ w. m (value_width w) >>= λ bs. l >>= λ y. given (bodies.case_of w (steps.alternatives_before y bs))) >>= λ y. given (one y))
       go (Err p) q m l h = refl
       go (Ok w) q m l h = ap (λ r. r >>= λ cs. given (one (bodies.case_of w cs))) (h (value_width w)) ∙ case_of_each w (m (value_width w)) l
-
-  pub case_one : (x : Case) (y : bodies.Stmt) → selected x ≡ Ok y → definition.statement at (units.statement_view (t.Case x)) ≡ Ok (one y)
-  case_one x y h = case-by x ∙ ap (λ r. r >>= λ y. given (one y)) h
-
-  pub case_none : {problem : ElabProblem} (x : Case) → (selected x) ≡ Err problem → (definition.statement at (units.statement_view (t.Case x))) ≡ Err problem
-  case_none {problem} x h = subst (λ (r : Elab bodies.Stmts). r ≡ Err problem) (sym (case-by x)) (err_first (selected x) _ h)
 
   -- ---- loop
 

@@ -1,7 +1,7 @@
 -- What several functions pass on, and lists of which nothing is made yet.
 use Rattle.std.proofs.Common.{◌≡◌, List, [], ◌++◌, Result, Ok, Err, refl, ap, sym, subst}
 use Rattle.std.specs.Prelude.{◌≢◌, IsErrAnd}
-use Rattle.vhdl_expand_rules.specs.Elab.{Elab, problem_told}
+use Rattle.vhdl_expand_rules.specs.Elab.{Elab, ◌>>=◌, problem_told}
 use Rattle.vhdl_expand_rules.specs.declared.fault.ElabFault.{ElabFault}
 use Rattle.vhdl_expand_rules.specs.declared.fault.ElabFault.TheVariants.{NoMemory}
 use Rattle.vhdl_expand_bodies.specs.Results.{Expands}
@@ -17,3 +17,15 @@ passed_on view given fault P (Err e) h same f = subst (λ (x : ElabFault). x ≢
 pub none_behind : {B : Type 0} (made : List B) (r : Elab (List B)) → made ≡ [] → r ≡ behind made r
 none_behind made (Ok ys) none = ap (λ m. Ok (m ++ ys)) (sym none)
 none_behind made (Err problem) none = refl
+
+-- what is made, or refused, by a call whose answer is this
+pub made_by : {X Y : Type 0} (view : X → Y) (given : Elab Y) (r : Result X ElabFault) (x : X) → r ≡ Ok x → Expands view given r → given ≡ Ok (view x)
+made_by view given r x e h = subst (λ q. Expands view given q) e h
+
+pub refused_by : {X Y : Type 0} (view : X → Y) (given : Elab Y) (r : Result X ElabFault) (fault : ElabFault) → r ≡ Err fault → Expands view given r
+    → fault ≢ NoMemory → given ≡ Err (problem_told fault)
+refused_by view given r fault e h = subst (λ q. Expands view given q) e h
+
+-- what comes next, of what is given
+pub on : {A B : Type 0} (f : A → Elab B) (r q : Elab A) → r ≡ q → (r >>= f) ≡ (q >>= f)
+on f r q h = ap (λ x. x >>= f) h

@@ -1,15 +1,17 @@
 -- Statements behind one another, and lists whose elements come one after another.
-use Rattle.std.proofs.Common.{◌≡◌, ℕ, suc, ◌+◌, ◌<◌, ◌≤◌, List, [], ◌∷◌, ◌++◌, length, map, get_or, drop, drop-cons, add-one, Ok, Err, refl, sym, ap, ◌∙◌, subst}
-use Rattle.std.specs.Prelude.{ℤ}
-use Rattle.std.proofs.lemmas.List.{append-nil, append_assoc}
+use Rattle.std.proofs.Common.{◌≡◌, ℕ, suc, ◌+◌, ◌<◌, ◌≤◌, List, [], ◌∷◌, ◌++◌, length, map, get_or, drop, drop-cons, add-one, Result, Ok, Err, refl, sym, ap, ◌∙◌, subst}
+use Rattle.std.specs.Prelude.{◌≢◌, ℤ}
+use Rattle.std.proofs.lemmas.List.{append-nil, append_assoc, map-append}
 use Rattle.vhdl_tree.specs.declared.operator.Direction.{Direction}
 use Rattle.vhdl_names_rules.specs.units.Statements as u
 use Rattle.rtl_model.specs.bodies.Body as bodies
 use Rattle.rtl_net.specs.declared.body.Statement.{Statement}
 use Rattle.rtl_net.specs.Bodies as net
 use Rattle.vhdl_names_units.specs.views.Sequential as units
+use Rattle.vhdl_expand_rules.specs.declared.fault.ElabFault.{ElabFault}
+use Rattle.vhdl_expand_rules.specs.declared.fault.ElabFault.TheVariants.{NoMemory}
 use Rattle.vhdl_expand_rules.specs.declared.fault.ElabProblem.{ElabProblem}
-use Rattle.vhdl_expand_rules.specs.Elab.{Elab, ◌>>=◌, each}
+use Rattle.vhdl_expand_rules.specs.Elab.{Elab, ◌>>=◌, each, problem_told}
 use Rattle.vhdl_expand_rules.specs.Integers.{numbers_from}
 use Rattle.vhdl_expand_rules.specs.Parameters.{parameter}
 use Rattle.vhdl_expand_rules.specs.Site.{Site, in_loop}
@@ -17,6 +19,7 @@ use Rattle.vhdl_expand_rules.specs.Statements.{joined_bodies, one, statement, st
 use Rattle.vhdl_expand_rules.proofs.Steps.{given, ok}
 use Rattle.vhdl_expand_rules.proofs.Chains.{err_first}
 use Rattle.vhdl_expand_rules.proofs.Parameters.{next-turn, no-turn}
+use Rattle.vhdl_expand_bodies.specs.Results.{Expands, Adds}
 use Rattle.vhdl_expand_bodies.specs.steps.Statements as steps
 use Rattle.vhdl_expand_bodies.specs.steps.Statements.{after}
 
@@ -137,3 +140,17 @@ module _ {A B X : Type 0} (f : A → Elab B) (v : X → A) where
 
   pub each_ends : (total : Elab (List B)) (made : List B) (left : List X) → left ≡ [] → total ≡ behind made (each f (map v left)) → total ≡ Ok made
   each_ends total made left h so_far = so_far ∙ ap (λ zs. behind made (each f (map v zs))) h ∙ ap given (append-nil made)
+
+  -- one more, where it is made
+  pub each_adds : {Y : Type 0} (view : Y → B) (total : Elab (List B)) (old new : List Y) (xs : List X) (i : ℕ) (x : X) (r : Result Y ElabFault) → i < length xs → x ≡ get_or xs i x
+      → total ≡ behind (map view old) (each f (map v (drop i xs))) → Expands view (f (v x)) r → Adds old new r (Ok tt) → total ≡ behind (map view new) (each f (map v (drop (i + 1) xs)))
+  each_adds view total old new xs i x (Ok y) below is so_far e a =
+      each_goes total (map view old) (map view new) xs i x (view y) below is so_far e (ap (map view) a ∙ map-append view old (y ∷ []))
+  each_adds view total old new xs i x (Err why) below is so_far e a = absurd a
+
+  -- one that isn't made, or for which there is no memory
+  pub each_refuses : {Y : Type 0} (view : Y → B) (total : Elab (List B)) (old new : List Y) (xs : List X) (i : ℕ) (x : X) (r : Result Y ElabFault) (fault : ElabFault) → i < length xs → x ≡ get_or xs i x
+      → total ≡ behind (map view old) (each f (map v (drop i xs))) → Expands view (f (v x)) r → Adds old new r (Err fault) → fault ≢ NoMemory → total ≡ Err (problem_told fault)
+  each_refuses view total old new xs i x (Ok y) fault below is so_far e a n = absurd (n a)
+  each_refuses view total old new xs i x (Err why) fault below is so_far e a n =
+      each_stops total (map view old) xs i x below is so_far (e (λ q. n (a ∙ q)) ∙ ap (λ (f : ElabFault). Err (problem_told f)) (sym a))

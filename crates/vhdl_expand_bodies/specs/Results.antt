@@ -1,5 +1,5 @@
 -- What a call that expands answers.
-use Rattle.std.specs.Prelude.{◌≡◌, ◌≢◌, Result, Ok, Err}
+use Rattle.std.specs.Prelude.{◌≡◌, ◌≢◌, List, [], ◌∷◌, ◌++◌, Result, Ok, Err}
 use Rattle.vhdl_expand_rules.specs.declared.fault.ElabFault.{ElabFault}
 use Rattle.vhdl_expand_rules.specs.declared.fault.ElabFault.TheVariants.{NoMemory}
 use Rattle.vhdl_expand_rules.specs.Elab.{Elab, problem_told, MayTell}
@@ -14,3 +14,10 @@ Expands view given (Err fault) = fault ≢ NoMemory → given ≡ Err (problem_t
 abbrev pub Charges : {X Y : Type 0} → (X → Y) → Elab Y → Result X ElabFault → Type 0
 Charges view given (Ok x) = given ≡ Ok (view x)
 Charges view given (Err fault) = fault ≢ NoMemory → MayTell given (problem_told fault)
+
+-- One more thing stands behind others, where it is made. Where it isn't, its fault is told, and else only that there is no memory.
+abbrev pub Adds : {X : Type 0} → (old new : List X) → Result X ElabFault → Result (Unit {0}) ElabFault → Type 0
+Adds old new (Ok made) (Ok u) = new ≡ old ++ made ∷ []
+Adds old new (Ok made) (Err fault) = fault ≡ NoMemory
+Adds old new (Err why) (Ok u) = ⊥
+Adds old new (Err why) (Err fault) = fault ≡ why

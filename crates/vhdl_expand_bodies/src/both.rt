@@ -1,6 +1,9 @@
 //! What is expanded one after the other.
 
 ghost use Rattle.std.specs.Prelude.{◌≡◌, IfOk, IfErr, Ok, Err};
+ghost use Rattle.vhdl_expand_bodies.specs.Results.{Adds};
+
+use vhdl_expand_rules::ElabFault;
 
 /// What is there, and what comes behind it. Where that is refused, it is let go here.
 pub(crate) fn both<A: Drop, B, E>(first: A, second: Result<B, E>) -> Result<(A, B), E>
@@ -11,4 +14,13 @@ pub(crate) fn both<A: Drop, B, E>(first: A, second: Result<B, E>) -> Result<(A, 
         Ok(second) => Ok((first, second)),
         Err(fault) => Err(fault),
     }
+}
+
+/// Puts one more thing, where it is made, behind others. It takes the memory of the list.
+pub(crate) fn add<T: Drop>(list: &mut Vec<T>, made: Result<T, ElabFault>) -> Result<(), ElabFault>
+    ensures { Adds list.old.items list.new.items made result }
+{
+    let next = made?;
+    list.push(next)?;
+    Ok(())
 }

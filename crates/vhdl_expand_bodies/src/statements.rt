@@ -1,10 +1,9 @@
 //! Statements, expanded (IEEE 1076-2008, clause 10): loops are the sequences of their turns.
 
-ghost use Rattle.std.specs.Prelude.{◌≡◌, ◌≢◌, ◌-◌, ◌^◌, min, map, option_map, IfErr, OnOk, Ok};
+ghost use Rattle.std.specs.Prelude.{◌≡◌, ◌≢◌, ◌-◌, ◌^◌, min, map, option_map, Ok};
 ghost use Rattle.rtl_model.specs.bodies.Body as bodies;
 ghost use Rattle.rtl_net.specs.Bodies.{statement_view, statements_of, choice_view};
 ghost use Rattle.vhdl_names_rules.specs.units.Statements as units;
-ghost use Rattle.vhdl_expand_rules.specs.declared.fault.ElabFault.TheVariants.{NoMemory};
 ghost use Rattle.vhdl_expand_rules.specs.Elab.{each};
 ghost use Rattle.vhdl_expand_rules.specs.Site.{in_loop};
 ghost use Rattle.vhdl_expand_rules.specs.Statements as definition;
@@ -20,7 +19,7 @@ ghost use Rattle.vhdl_names_rules.specs.views.Integers.{range_view};
 ghost use Rattle.vhdl_names_rules.specs.views.Vectors.{value_view};
 
 use crate::assignments::choice;
-use crate::both::both;
+use crate::both::{add, both};
 use crate::operand::Width;
 use crate::site::Site;
 use rtl_net::{Alternative, Branch, Choice, Statement};
@@ -39,16 +38,6 @@ fn byte(at: usize) -> u32
     }
 }
 
-/// Puts a statement behind others.
-#[tactic(auto, using(crate::proofs::Sequences::statements_push))]
-fn add(body: &mut Vec<Statement>, statement: Statement) -> Result<(), ElabFault>
-    ensures added { OnOk result (statements_of body.new.items ≡ bodies.followed_by (statements_of body.old.items) (definition.one (statement_view statement))) }
-    ensures refused { IfErr result (λ fault. fault ≡ NoMemory) }
-{
-    body.push(statement)?;
-    Ok(())
-}
-
 /// The choices of an alternative whose selector has so many elements; a fault is Length.
 fn choices(
     alloc: Global,
@@ -60,8 +49,7 @@ fn choices(
 {
     let mut choices = Vec::new(alloc);
     for item in list {
-        let next = choice(width, item, at)?;
-        choices.push(next)?;
+        add(&mut choices, choice(width, item, at))?;
     }
     Ok(choices)
 }
@@ -117,28 +105,20 @@ impl Site<'_> {
             (definition.statement (site_view self.now) (analysed.statement_view statement.now))) result }
     {
         match statement {
-            analysed::Statement::Null => add(body, Statement::Null),
+            analysed::Statement::Null => add(body, Ok(Statement::Null)),
             analysed::Statement::Assign { target, value } => {
-                let assignment = self.assign(alloc, target, value)?;
-                add(body, assignment)
+                add(body, self.assign(alloc, target, value))
             }
             analysed::Statement::Set {
                 at,
                 variable,
                 part,
                 value,
-            } => {
-                let assignment = self.set(alloc, *variable, part, value, *at)?;
-                add(body, assignment)
-            }
+            } => add(body, self.set(alloc, *variable, part, value, *at)),
             analysed::Statement::If(conditional) => {
-                let made = self.conditional(alloc, conditional)?;
-                add(body, made)
+                add(body, self.conditional(alloc, conditional))
             }
-            analysed::Statement::Case(selection) => {
-                let made = self.selection(alloc, selection)?;
-                add(body, made)
-            }
+            analysed::Statement::Case(selection) => add(body, self.selection(alloc, selection)),
             analysed::Statement::Loop(repeated) => self.add_turns(alloc, repeated, body),
         }
     }
@@ -175,8 +155,7 @@ impl Site<'_> {
     {
         let mut branches = Vec::new(alloc);
         for item in list {
-            let next = self.branch(alloc, item, at)?;
-            branches.push(next)?;
+            add(&mut branches, self.branch(alloc, item, at))?;
         }
         Ok(branches)
     }
@@ -259,8 +238,7 @@ impl Site<'_> {
     {
         let mut alternatives = Vec::new(alloc);
         for item in list {
-            let next = self.alternative(alloc, item, width, at)?;
-            alternatives.push(next)?;
+            add(&mut alternatives, self.alternative(alloc, item, width, at))?;
         }
         Ok(alternatives)
     }

@@ -6,3 +6,4 @@ pub mod Prefixed
 pub mod Told
 pub mod Codes
 pub mod Turns
+pub mod Gathering

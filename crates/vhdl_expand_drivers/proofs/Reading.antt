@@ -1,6 +1,6 @@
 -- The names that a body reads are those of its parts, one after another.
-use Rattle.std.proofs.Common.{◌≡◌, List, [], ◌∷◌, ◌++◌, map, Option, Some, None, Vec, Box, Global, Result, refl, sym, ap, ◌∙◌}
-use Rattle.std.specs.Prelude.{flat_map, OnOk}
+use Rattle.std.proofs.Common.{◌≡◌, List, [], ◌∷◌, ◌++◌, map, Option, Some, None, Vec, Box, Global, refl, sym, ap, ◌∙◌}
+use Rattle.std.specs.Prelude.{flat_map}
 use Rattle.std.proofs.lemmas.List.{append_assoc, append-nil}
 use Rattle.vhdl_names_rules.specs.declared.vector.Vector.{Vector}
 use Rattle.vhdl_names_rules.specs.declared.vector.Vector.TheVariants as v
@@ -30,7 +30,9 @@ use Rattle.vhdl_names_units.specs.declared.sequential.Branch.{Branch}
 use Rattle.vhdl_names_units.specs.declared.sequential.Alternative.{Alternative}
 use Rattle.vhdl_names_units.specs.views.Sequential.{statement_view, statements_view, statements_of, branch_view, branches_of, last_of, option_statements_view, alternative_view, alternatives_of}
 use Rattle.vhdl_names_units.proofs.rows.Sequential as rows
-use Rattle.vhdl_expand_drivers.proofs.Walks.{adds_both}
+use Rattle.vhdl_expand_drivers.proofs.Gathering.{adds_along}
+use Rattle.vhdl_expand_drivers.specs.declared.name.Gathered.{Gathered}
+use Rattle.vhdl_expand_drivers.specs.Adding.{Adds}
 use Rattle.vhdl_expand_drivers.specs.Names.{link_names, test_link_names, statement_names, branch_names, last_names, alternative_names}
 
 -- ---- chains of operators
@@ -107,20 +109,20 @@ loop_names x = ap definition.statement_names (rows.view_loop x.at x.range x.stat
 
 -- ---- what the walk puts behind others
 
-pub chain_adds : {A E : Type 0} (r : Result A E) (vec : Vector) (start : Box VectorStart Global) (links : Vec VectorLink Global) (st : VectorStart) (ls : List VectorLink) (old mid new : List u.SignalPart)
-    → vec ≡ v.Chain start links → st ≡ start.value → ls ≡ links.items → mid ≡ old ++ (vector_names (vector_view st.first) ++ link_names st.link)
-    → OnOk r (new ≡ mid ++ flat_map link_names ls) → OnOk r (new ≡ old ++ vector_names (vector_view vec))
-chain_adds r vec start links st ls old mid new h j k first more =
-    adds_both r old mid new (vector_names (vector_view st.first) ++ link_names st.link) (flat_map link_names ls) (vector_names (vector_view vec))
+pub chain_adds : (vec : Vector) (start : Box VectorStart Global) (links : Vec VectorLink Global) (st : VectorStart) (ls : List VectorLink) (old new : Gathered)
+    → vec ≡ v.Chain start links → st ≡ start.value → ls ≡ links.items
+    → Adds old new ((vector_names (vector_view st.first) ++ link_names st.link) ++ flat_map link_names ls) → Adds old new (vector_names (vector_view vec))
+chain_adds vec start links st ls old new h j k added =
+    adds_along old new ((vector_names (vector_view st.first) ++ link_names st.link) ++ flat_map link_names ls) (vector_names (vector_view vec))
     (ap (λ (x : Vector). vector_names (vector_view x)) h ∙ chain_names start links
     ∙ ap (λ (x : VectorStart). (vector_names (vector_view x.first) ++ link_names x.link) ++ flat_map link_names links.items) (sym j)
-    ∙ ap (λ xs. (vector_names (vector_view st.first) ++ link_names st.link) ++ flat_map link_names xs) (sym k)) first more
+    ∙ ap (λ xs. (vector_names (vector_view st.first) ++ link_names st.link) ++ flat_map link_names xs) (sym k)) added
 
-pub test_chain_adds : {A E : Type 0} (r : Result A E) (test : Test) (start : Box TestStart Global) (links : Vec TestLink Global) (st : TestStart) (ls : List TestLink) (old mid new : List u.SignalPart)
-    → test ≡ c.Chain start links → st ≡ start.value → ls ≡ links.items → mid ≡ old ++ (test_names (test_view st.first) ++ test_link_names st.link)
-    → OnOk r (new ≡ mid ++ flat_map test_link_names ls) → OnOk r (new ≡ old ++ test_names (test_view test))
-test_chain_adds r test start links st ls old mid new h j k first more =
-    adds_both r old mid new (test_names (test_view st.first) ++ test_link_names st.link) (flat_map test_link_names ls) (test_names (test_view test))
+pub test_chain_adds : (test : Test) (start : Box TestStart Global) (links : Vec TestLink Global) (st : TestStart) (ls : List TestLink) (old new : Gathered)
+    → test ≡ c.Chain start links → st ≡ start.value → ls ≡ links.items
+    → Adds old new ((test_names (test_view st.first) ++ test_link_names st.link) ++ flat_map test_link_names ls) → Adds old new (test_names (test_view test))
+test_chain_adds test start links st ls old new h j k added =
+    adds_along old new ((test_names (test_view st.first) ++ test_link_names st.link) ++ flat_map test_link_names ls) (test_names (test_view test))
     (ap (λ (x : Test). test_names (test_view x)) h ∙ test_chain_names start links
     ∙ ap (λ (x : TestStart). (test_names (test_view x.first) ++ test_link_names x.link) ++ flat_map test_link_names links.items) (sym j)
-    ∙ ap (λ xs. (test_names (test_view st.first) ++ test_link_names st.link) ++ flat_map test_link_names xs) (sym k)) first more
+    ∙ ap (λ xs. (test_names (test_view st.first) ++ test_link_names st.link) ++ flat_map test_link_names xs) (sym k)) added

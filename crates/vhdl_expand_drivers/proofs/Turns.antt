@@ -1,14 +1,9 @@
 -- A walk over a list, one thing after another.
-use Rattle.std.proofs.Common.{◌≡◌, ℕ, ◌+◌, ◌<◌, ◌≤◌, List, ◌++◌, length, get_or, drop, Result, Ok, Err, append-nil, append_assoc, true≢false, sym, ap, ◌∙◌}
-use Rattle.std.specs.Prelude.{flat_map, IsErr, OnOk}
+use Rattle.std.proofs.Common.{◌≡◌, ℕ, ◌+◌, ◌<◌, ◌≤◌, List, ◌++◌, length, get_or, drop, append-nil, append_assoc, sym, ap, ◌∙◌}
+use Rattle.std.specs.Prelude.{flat_map}
 use Rattle.std.proofs.lemmas.List.{at_drop_all}
 use Rattle.std.proofs.lemmas.List.Concat.{flat_map-cons}
 use Rattle.vhdl_expand_drivers.proofs.Walks.{next-left}
-
--- nothing is asked of a walk that is refused
-pub refused : {T E : Type 0} (r : Result T E) (P : Type 0) → IsErr r → OnOk r P
-refused (Ok x) P e = absurd (true≢false (sym e))
-refused (Err y) P e = tt
 
 module _ {X Y : Type 0} (f : X → List Y) (whole made : List Y) (xs : List X) (i : ℕ) (so_far : whole ≡ made ++ flat_map f (drop i xs)) where
   pub one_more : (x : X) (more : List Y) → i < length xs → x ≡ get_or xs i x → more ≡ made ++ f x → whole ≡ more ++ flat_map f (drop (i + 1) xs)

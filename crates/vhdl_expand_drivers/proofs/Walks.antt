@@ -1,6 +1,5 @@
 -- What a walk over a list puts behind what stands there.
-use Rattle.std.proofs.Common.{◌≡◌, ℕ, zero, suc, ◌+◌, ◌<◌, ◌≤◌, List, [], ◌∷◌, ◌++◌, length, get_or, map, drop, drop-cons, add-one, Result, refl, sym, subst, ap, ◌∙◌, arith}
-use Rattle.std.specs.Prelude.{OnOk}
+use Rattle.std.proofs.Common.{◌≡◌, ℕ, zero, suc, ◌+◌, ◌<◌, ◌≤◌, List, [], ◌∷◌, ◌++◌, length, get_or, map, drop, drop-cons, add-one, append-nil, refl, sym, ap, ◌∙◌, arith}
 use Rattle.std.specs.List.{range_with_len}
 use Rattle.std.proofs.lemmas.List.{append_assoc}
 use Rattle.std.proofs.lemmas.List.FromFn.{map-range_with_len_more}
@@ -14,15 +13,15 @@ none_left [] (suc i) h = refl
 none_left (x ∷ xs) zero h = absurd (omega arith)
 none_left (x ∷ xs) (suc i) h = none_left xs i (omega arith)
 
--- the same by another name
-pub adds_along : {A E B : Type 0} (r : Result A E) (new old xs ys : List B) → ys ≡ xs → OnOk r (new ≡ old ++ xs) → OnOk r (new ≡ old ++ ys)
-adds_along r new old xs ys e h = subst (λ zs. OnOk r (new ≡ old ++ zs)) (sym e) h
+-- one more of those that are listed, and all of them
+module _ (whole : List ℕ) (xs : List ℕ) where
+  pub one_listed : (made more : List ℕ) (i : ℕ) → i < length xs → whole ≡ made ++ drop i xs → more ≡ made ++ get_or xs i 0 ∷ [] → whole ≡ more ++ drop (i + 1) xs
+  one_listed made more i below so_far pushed =
+      so_far ∙ ap (λ l. made ++ l) (drop-cons xs i 0 below) ∙ ap (λ j. made ++ (get_or xs i 0 ∷ drop j xs)) (sym (add-one i))
+      ∙ sym (append_assoc made (get_or xs i 0 ∷ []) (drop (i + 1) xs)) ∙ ap (λ l. l ++ drop (i + 1) xs) (sym pushed)
 
--- two things behind what stands there
-pub adds_both : {A E B : Type 0} (r : Result A E) (old mid new xs ys zs : List B) → zs ≡ xs ++ ys → mid ≡ old ++ xs → OnOk r (new ≡ mid ++ ys) → OnOk r (new ≡ old ++ zs)
-adds_both r old mid new xs ys zs e h k =
-    adds_along r new old (xs ++ ys) zs e
-    (subst (λ ms. OnOk r (new ≡ ms)) (ap (λ ms. ms ++ ys) h ∙ append_assoc old xs ys) k)
+  pub all_listed : (made : List ℕ) (i : ℕ) → length xs ≤ i → whole ≡ made ++ drop i xs → made ≡ whole
+  all_listed made i past so_far = sym (so_far ∙ ap (λ l. made ++ l) (none_left xs i past) ∙ append-nil made)
 
 -- one more of a run
 range-more : (a n : ℕ) → range_with_len a (n + 1) ≡ range_with_len a n ++ (a + n) ∷ []

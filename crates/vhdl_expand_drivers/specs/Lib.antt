@@ -1,4 +1,5 @@
 pub mod Named
+pub mod Adding
 pub mod Targets
 pub mod Names
 pub mod Driven

@@ -1,10 +1,10 @@
 use Rattle.std.proofs.Common.{◌≡◌, Err, ◌<◌, length, map, arith, rules}
 use Rattle.std.specs.Prelude.{◌≢◌}
-use Rattle.std.proofs.lemmas.Grind.{common_steps}
 use Rattle.vhdl_expand_drivers.specs.Named.{name_view}
 use Rattle.vhdl_expand_rules.specs.declared.fault.ElabFault.TheVariants.{NoMemory}
 use Rattle.vhdl_expand_rules.specs.Prefixes.{prefixes_elements}
 use Rattle.vhdl_expand_bodies.specs.Sites.{site_view}
+use Rattle.vhdl_expand_bodies.proofs.Passing.{passed_on}
 use Rattle.vhdl_expand_drivers.proofs.Prefixed.{prefixes_go, prefixes_stop, prefixes_end}
 use Rattle.vhdl_expand_rules.specs.Elab.{problem_told}
 use Rattle.vhdl_expand_drivers.proofs.elements.prefixes.Goals as goal
@@ -22,4 +22,4 @@ returns-in_err-run c =
     let below : c.loop-item.item-index < length c.args.names.now = first_of (search rules, omega arith) in
     let stopped : c.in_err-run.field-0.0 ≢ NoMemory → (prefixes_elements (site_view c.args.site.now) (map name_view c.args.names.now)) ≡ Err (problem_told c.in_err-run.field-0.0) =
     λ n. prefixes_stop (site_view c.args.site.now) name_view _ c.loop-item.found.items c.args.names.now c.loop-item.item-index c.item-item.result below c.item-item.is c.loop-item.invariant (c.in_err-run.ensures.given n) in
-    first_of (search rules, grind (arith, common_steps))
+    passed_on _ _ c.in_err-run.field-0.0 _ c.from_residual.result c.from_residual.ensures.1 (λ e p. p) stopped

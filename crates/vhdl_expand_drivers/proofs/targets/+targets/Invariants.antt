@@ -1,18 +1,14 @@
-use Rattle.std.proofs.Common.{◌≡◌, ◌++◌, drop}
-use Rattle.std.specs.Prelude.{flat_map}
-use Rattle.vhdl_expand_drivers.specs.Named.{named_by}
+use Rattle.std.proofs.Common.{drop}
 use Rattle.vhdl_expand_drivers.specs.Targets.{statement_targets, branch_targets, alternative_targets}
+use Rattle.vhdl_expand_drivers.proofs.Gathering.{Left}
 use Rattle.vhdl_expand_drivers.proofs.targets.+targets.Given as goal
 
--- the names so far, and those that are left
+-- those so far, and those that are left
 abbrev pub invariant-of_statements-loop-item : goal.invariant-of_statements-loop-item
-invariant-of_statements-loop-item l =
-    named_by l.fn.found ++ flat_map statement_targets l.list ≡ named_by l.found ++ flat_map statement_targets (drop l.item-index l.list)
+invariant-of_statements-loop-item l = Left statement_targets l.fn.found l.list l.found (drop l.item-index l.list)
 
 abbrev pub invariant-of_branches-loop-item : goal.invariant-of_branches-loop-item
-invariant-of_branches-loop-item l =
-    named_by l.fn.found ++ flat_map branch_targets l.list ≡ named_by l.found ++ flat_map branch_targets (drop l.item-index l.list)
+invariant-of_branches-loop-item l = Left branch_targets l.fn.found l.list l.found (drop l.item-index l.list)
 
 abbrev pub invariant-of_alternatives-loop-item : goal.invariant-of_alternatives-loop-item
-invariant-of_alternatives-loop-item l =
-    named_by l.fn.found ++ flat_map alternative_targets l.list ≡ named_by l.found ++ flat_map alternative_targets (drop l.item-index l.list)
+invariant-of_alternatives-loop-item l = Left alternative_targets l.fn.found l.list l.found (drop l.item-index l.list)

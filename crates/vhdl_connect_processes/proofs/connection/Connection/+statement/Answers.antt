@@ -1,14 +1,15 @@
-use Rattle.std.proofs.Common.{List, All, Contains, Option, Vec, Global, sym, ap, ◌∙◌, subst, rules}
+use Rattle.std.proofs.Common.{ℕ, Ok, List, All, Contains, Option, Vec, Global, sym, ap, ◌∙◌, subst, rules}
 use Rattle.std.specs.Prelude.{option_map}
 use Rattle.rtl_net.specs.declared.body.Statement as s
 use Rattle.rtl_net.specs.declared.body.Statement.{Statement}
 use Rattle.rtl_net.specs.declared.body.Branch.{Branch}
 use Rattle.rtl_net.specs.declared.body.Alternative.{Alternative}
 use Rattle.rtl_net.specs.declared.indices.Indices.{Indices}
-use Rattle.rtl_net.specs.Bodies.{statement_view, statements_of, otherwise_of}
+use Rattle.rtl_net.specs.Bodies.{statement_view, otherwise_of}
 use Rattle.rtl_net.specs.Indices.{numbers}
 use Rattle.vhdl_expand_rules.specs.laws.Trees.{StmtAssigns, BranchesAssign}
 use Rattle.vhdl_connect_processes.proofs.Driven.{Statements, Branches, Alternatives, statements_assign, if_assigns, case_assigns}
+use Rattle.vhdl_connect_processes.proofs.Nodes.{on_both, on_three}
 use Rattle.vhdl_connect_processes.proofs.Parts.{if_alone, if_with_else, case_becomes, branch_becomes, alternative_becomes}
 use Rattle.vhdl_connect_processes.proofs.connection.Connection.+statement.Goals as goal
 
@@ -69,8 +70,9 @@ connect_statement-connect_statements-requires-in-Case t c =
 
 pub connect_branch-returns : goal.connect_branch-returns
 connect_branch-returns t c =
-    branch_becomes c.args.self.now c.connect_statements.result c.args.branch.now c.connect_test.new.test _ _ c.in_ok-connect_test.ensures c.deref_mut.ensures.value
-    (c.connect_statements.auto.statements ∙ c.deref_mut.ensures.len) c.connect_statements.ensures
+    on_both c.connect_test.result c.connect_statements.result c.and.result c.and.ensures c.connect_test.ensures c.connect_statements.ensures
+    (λ p n. branch_becomes c.args.self.now {A = ℕ} {E = ℕ} (Ok 0) c.args.branch.now c.connect_test.new.test _ _ p c.deref_mut.ensures.value
+    (c.connect_statements.auto.statements ∙ c.deref_mut.ensures.len) n)
 
 pub connect_alternative-returns : goal.connect_alternative-returns
 connect_alternative-returns t c =
@@ -88,11 +90,10 @@ connect_statement-returns-in-Some t c =
     (c.deref_mut.ensures.value ∙ ap (λ v. v.items) c.in-If.branches-is) (c.connect_branches.auto.branches ∙ c.deref_mut.ensures.len) c.in_ok-connect_branches-in-If.ensures
     c.deref_mut-in-Some.ensures.value (c.connect_statements.auto.statements ∙ c.deref_mut-in-Some.ensures.len) c.connect_statements.ensures
 
-pub connect_statement-returns-in_ok-connect_alternatives-in-Case : goal.connect_statement-returns-in_ok-connect_alternatives-in-Case
-connect_statement-returns-in_ok-connect_alternatives-in-Case t c =
-    case_becomes c.args.self.now c.connect_statements-in-Case.result c.args.statement.now c.in-Case.at c.in-Case.selector _ _ c.in-Case.alternatives _ c.in-Case.others _ _ _ _ _ c.in-Case.is
-    c.in-Case.selector-is c.in_ok-connect_value-in-Case.ensures
-    (c.deref_mut-in-Case.ensures.value ∙ ap (λ v. v.items) c.in-Case.alternatives-is) (c.connect_alternatives.auto.alternatives ∙ c.deref_mut-in-Case.ensures.len)
-    c.in_ok-connect_alternatives-in-Case.ensures
-    (c.deref_mut-in-Case-2.ensures.value ∙ ap (λ v. v.items) c.in-Case.others-is) (c.connect_statements-in-Case.auto.statements ∙ c.deref_mut-in-Case-2.ensures.len)
-    c.connect_statements-in-Case.ensures
+pub connect_statement-returns-in-Case : goal.connect_statement-returns-in-Case
+connect_statement-returns-in-Case t c =
+    on_three c.connect_value-in-Case.result c.connect_alternatives.result c.connect_statements-in-Case.result c.and.result c.and-in-Case.result c.and.ensures c.and-in-Case.ensures
+    c.connect_value-in-Case.ensures c.connect_alternatives.ensures c.connect_statements-in-Case.ensures
+    (λ v l n. case_becomes c.args.self.now {A = ℕ} {E = ℕ} (Ok 0) c.args.statement.now c.in-Case.at c.in-Case.selector _ _ c.in-Case.alternatives _ c.in-Case.others _ _ _ _ _ c.in-Case.is
+    c.in-Case.selector-is v (c.deref_mut-in-Case.ensures.value ∙ ap (λ v. v.items) c.in-Case.alternatives-is) (c.connect_alternatives.auto.alternatives ∙ c.deref_mut-in-Case.ensures.len) l
+    (c.deref_mut-in-Case-2.ensures.value ∙ ap (λ v. v.items) c.in-Case.others-is) (c.connect_statements-in-Case.auto.statements ∙ c.deref_mut-in-Case-2.ensures.len) n)

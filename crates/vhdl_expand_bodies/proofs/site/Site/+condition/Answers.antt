@@ -15,9 +15,9 @@ use Rattle.vhdl_expand_rules.proofs.Steps.{given}
 use Rattle.vhdl_expand_bodies.specs.Sites.{site_view}
 use Rattle.vhdl_expand_bodies.specs.steps.Tests as steps
 use Rattle.vhdl_expand_bodies.proofs.Links.{expands_along}
-use Rattle.vhdl_expand_bodies.proofs.Passing.{passed_on}
+use Rattle.vhdl_expand_bodies.proofs.Passing.{passed_on, on}
 use Rattle.vhdl_expand_bodies.proofs.TestChains.{chain_goes, chain_stops, more_stops, next_goes, next_stops, link_given}
-use Rattle.vhdl_expand_rules.specs.Elab.{Elab, ◌>>=◌, problem_told}
+use Rattle.vhdl_expand_rules.specs.Elab.{◌>>=◌, problem_told}
 use Rattle.vhdl_expand_bodies.proofs.site.Site.+condition.Goals as goal
 
 pub expanded_test-returns-in_err-chain-in-Chain : goal.expanded_test-returns-in_err-chain-in-Chain
@@ -61,9 +61,6 @@ add_test-returns t c =
     c.in_ok-operand.ensures refl c.in_ok-push.ensures.items
 
 -- ---- the forms of a condition but chains
-
-on : {A B : Type 0} (f : A → Elab B) (r q : Elab A) → r ≡ q → (r >>= f) ≡ (q >>= f)
-on f r q h = ap (λ x. x >>= f) h
 
 pub expanded_test-returns-in_ok-operand-in-Holds : goal.expanded_test-returns-in_ok-operand-in-Holds
 unfolding definition.test

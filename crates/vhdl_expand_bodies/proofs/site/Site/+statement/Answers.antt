@@ -1,17 +1,21 @@
 use mir.Syntax.{w32}
 use mir.Val.{SFits, to_z, of_z}
 use Rattle.std.proofs.lemmas.Int.{ints}
-use Rattle.std.proofs.Common.{Err, ◌≡◌, ◌<◌, [], ◌∷◌, length, map, ap, ◌∙◌, sym, subst, arith, rules}
+use Rattle.std.proofs.Common.{List, Vec, Global, Err, ◌≡◌, ◌<◌, length, map, ap, ◌∙◌, sym, subst, refl, arith, rules}
 use Rattle.std.specs.Prelude.{◌≢◌, Ok}
 use Rattle.std.proofs.lemmas.Grind.{common_steps}
-use Rattle.std.proofs.lemmas.List.{map-append}
 use Rattle.rtl_model.specs.bodies.Body as bodies
+use Rattle.rtl_net.specs.declared.body.Choice.{Choice}
+use Rattle.rtl_net.specs.declared.body.Test.{Test}
+use Rattle.rtl_net.specs.declared.body.Statement.TheVariants as s
 use Rattle.rtl_net.specs.Bodies as net
 use Rattle.rtl_net.specs.Bodies.{statements_of}
 use Rattle.vhdl_names_rules.specs.views.Integers.{range_view}
 use Rattle.vhdl_names_rules.specs.views.Vectors.{value_view}
 use Rattle.vhdl_names_units.specs.declared.sequential.Case.{out-Case}
 use Rattle.vhdl_names_units.specs.declared.sequential.If.{out-If}
+use Rattle.vhdl_names_units.specs.declared.sequential.Statement as analysed_statement
+use Rattle.vhdl_names_units.specs.views.Answers as answers
 use Rattle.vhdl_names_units.specs.views.Sequential as analysed
 use Rattle.vhdl_expand_rules.specs.declared.fault.ElabFault.TheVariants.{NoMemory}
 use Rattle.vhdl_expand_rules.specs.Statements as definition
@@ -20,45 +24,41 @@ use Rattle.vhdl_expand_bodies.specs.Statements.{branch_view, branches_view, alte
 use Rattle.vhdl_expand_bodies.specs.steps.Statements as steps
 use Rattle.vhdl_expand_bodies.specs.steps.Statements.{after}
 use Rattle.vhdl_expand_bodies.proofs.Links.{expands_along}
-use Rattle.vhdl_expand_bodies.proofs.Parts.{add_gives, after_stops, none_left, null_one, assign_one, assign_none, set_one, set_none, if_made, if_one, if_none, case_made, case_one, case_none, loop_is, same_turn, turned_goes}
-use Rattle.vhdl_expand_bodies.proofs.Passing.{passed_on, none_behind}
-use Rattle.vhdl_expand_bodies.proofs.Sequences.{list_goes, list_stops, list_ends, turns_go, turns_stop, turns_end, each_goes, each_stops, each_ends}
-use Rattle.vhdl_expand_rules.specs.Elab.{Elab, each, problem_told}
+use Rattle.vhdl_expand_bodies.proofs.Parts.{branch_of, alternative_of, added_gives, none_left, null_one, assign_by, set_by, if_made, if_by, case_made, case_by, loop_is, same_turn, turned_goes}
+use Rattle.vhdl_expand_bodies.proofs.Passing.{passed_on, none_behind, made_by, refused_by, on}
+use Rattle.vhdl_expand_bodies.proofs.Sequences.{list_goes, list_stops, list_ends, turns_go, turns_stop, turns_end, each_adds, each_refuses, each_ends}
+use Rattle.vhdl_expand_rules.specs.Elab.{Elab, ◌>>=◌, each, problem_told}
 use Rattle.vhdl_expand_bodies.proofs.site.Site.+statement.Goals as goal
 
 pub add_statement-returns-in-Null : goal.add_statement-returns-in-Null
 add_statement-returns-in-Null t c =
     let at = site_view c.args.self.now in
     let h = ap (λ x. definition.statement at (analysed.statement_view x)) c.in-Null.is ∙ null_one at in
-    add_gives _ _ _ _ _ h c.add.ensures.added c.add.ensures.refused
+    added_gives c.args.body.now.items c.add.new.list.items (Ok bodies.null_of) _ (Ok s.Null) c.add.result h refl c.add.ensures
 
-pub add_statement-returns-in_ok-assignment-in-Assign : goal.add_statement-returns-in_ok-assignment-in-Assign
-add_statement-returns-in_ok-assignment-in-Assign t c =
+pub add_statement-returns-in-Assign : goal.add_statement-returns-in-Assign
+add_statement-returns-in-Assign t c =
     let at = site_view c.args.self.now in
-    let h = ap (λ x. definition.statement at (analysed.statement_view x)) c.in-Assign.is
-    ∙ assign_one at _ _ _ c.in_ok-assignment-in-Assign.ensures in
-    add_gives _ _ _ _ _ h c.add-in-Assign.ensures.added c.add-in-Assign.ensures.refused
+    let h = ap (λ x. definition.statement at (analysed.statement_view x)) c.in-Assign.is ∙ assign_by at _ _ in
+    added_gives c.args.body.now.items c.add-in-Assign.new.list.items _ _ c.assign.result c.add-in-Assign.result h c.assign.ensures c.add-in-Assign.ensures
 
-pub add_statement-returns-in_ok-assignment-in-Set : goal.add_statement-returns-in_ok-assignment-in-Set
-add_statement-returns-in_ok-assignment-in-Set t c =
+pub add_statement-returns-in-Set : goal.add_statement-returns-in-Set
+add_statement-returns-in-Set t c =
     let at = site_view c.args.self.now in
-    let h = ap (λ x. definition.statement at (analysed.statement_view x)) c.in-Set.is
-    ∙ set_one at _ _ _ _ c.in_ok-assignment-in-Set.ensures in
-    add_gives _ _ _ _ _ h c.add-in-Set.ensures.added c.add-in-Set.ensures.refused
+    let h = ap (λ x. definition.statement at (analysed.statement_view x)) c.in-Set.is ∙ set_by at _ _ _ in
+    added_gives c.args.body.now.items c.add-in-Set.new.list.items _ _ c.set.result c.add-in-Set.result h c.set.ensures c.add-in-Set.ensures
 
-pub add_statement-returns-in_ok-made-in-If : goal.add_statement-returns-in_ok-made-in-If
-add_statement-returns-in_ok-made-in-If t c =
+pub add_statement-returns-in-If : goal.add_statement-returns-in-If
+add_statement-returns-in-If t c =
     let at = site_view c.args.self.now in
-    let h = ap (λ x. definition.statement at (analysed.statement_view x)) c.in-If.is
-    ∙ if_one at c.in-If.conditional _ c.in_ok-made-in-If.ensures in
-    add_gives _ _ _ _ _ h c.add-in-If.ensures.added c.add-in-If.ensures.refused
+    let h = ap (λ x. definition.statement at (analysed.statement_view x)) c.in-If.is ∙ if_by at c.in-If.conditional in
+    added_gives c.args.body.now.items c.add-in-If.new.list.items _ _ c.conditional.result c.add-in-If.result h c.conditional.ensures c.add-in-If.ensures
 
-pub add_statement-returns-in_ok-made-in-Case : goal.add_statement-returns-in_ok-made-in-Case
-add_statement-returns-in_ok-made-in-Case t c =
+pub add_statement-returns-in-Case : goal.add_statement-returns-in-Case
+add_statement-returns-in-Case t c =
     let at = site_view c.args.self.now in
-    let h = ap (λ x. definition.statement at (analysed.statement_view x)) c.in-Case.is
-    ∙ case_one at c.in-Case.selection _ c.in_ok-made-in-Case.ensures in
-    add_gives _ _ _ _ _ h c.add-in-Case.ensures.added c.add-in-Case.ensures.refused
+    let h = ap (λ x. definition.statement at (analysed.statement_view x)) c.in-Case.is ∙ case_by at c.in-Case.selection in
+    added_gives c.args.body.now.items c.add-in-Case.new.list.items _ _ c.selection.result c.add-in-Case.result h c.selection.ensures c.add-in-Case.ensures
 
 pub add_statement-returns-in-Loop : goal.add_statement-returns-in-Loop
 add_statement-returns-in-Loop t c =
@@ -96,34 +96,6 @@ add_statements-loop-statement-preserved t c =
 pub add_statements-returns : goal.add_statements-returns
 add_statements-returns t c =
     list_ends (site_view c.args.self.now) analysed.statement_view _ _ c.args.list.now _ (none_left c.args.list.now c.loop-statement.statement-index (omega arith)) c.loop-statement.invariant
-
-pub add_statement-returns-in_err-assignment-in-Assign : goal.add_statement-returns-in_err-assignment-in-Assign
-add_statement-returns-in_err-assignment-in-Assign t c =
-    let at = site_view c.args.self.now in
-    let stopped : c.in_err-assignment-in-Assign.field-0.0 ≢ NoMemory → (after (statements_of c.args.body.now.items) (definition.statement at (analysed.statement_view c.args.statement.now))) ≡ Err (problem_told c.in_err-assignment-in-Assign.field-0.0) =
-    λ n. after_stops _ _ (subst (λ x. (definition.statement at (analysed.statement_view x)) ≡ Err (problem_told c.in_err-assignment-in-Assign.field-0.0)) (sym c.in-Assign.is) (assign_none at _ _ (c.in_err-assignment-in-Assign.ensures n))) in
-    passed_on _ _ c.in_err-assignment-in-Assign.field-0.0 _ c.from_residual.result c.from_residual.ensures.1 (λ e p. p) stopped
-
-pub add_statement-returns-in_err-assignment-in-Set : goal.add_statement-returns-in_err-assignment-in-Set
-add_statement-returns-in_err-assignment-in-Set t c =
-    let at = site_view c.args.self.now in
-    let stopped : c.in_err-assignment-in-Set.field-0.0 ≢ NoMemory → (after (statements_of c.args.body.now.items) (definition.statement at (analysed.statement_view c.args.statement.now))) ≡ Err (problem_told c.in_err-assignment-in-Set.field-0.0) =
-    λ n. after_stops _ _ (subst (λ x. (definition.statement at (analysed.statement_view x)) ≡ Err (problem_told c.in_err-assignment-in-Set.field-0.0)) (sym c.in-Set.is) (set_none at _ _ _ (c.in_err-assignment-in-Set.ensures n))) in
-    passed_on _ _ c.in_err-assignment-in-Set.field-0.0 _ c.from_residual-in_err-assignment-in-Set.result c.from_residual-in_err-assignment-in-Set.ensures.1 (λ e p. p) stopped
-
-pub add_statement-returns-in_err-made-in-If : goal.add_statement-returns-in_err-made-in-If
-add_statement-returns-in_err-made-in-If t c =
-    let at = site_view c.args.self.now in
-    let stopped : c.in_err-made-in-If.field-0.0 ≢ NoMemory → (after (statements_of c.args.body.now.items) (definition.statement at (analysed.statement_view c.args.statement.now))) ≡ Err (problem_told c.in_err-made-in-If.field-0.0) =
-    λ n. after_stops _ _ (subst (λ x. (definition.statement at (analysed.statement_view x)) ≡ Err (problem_told c.in_err-made-in-If.field-0.0)) (sym c.in-If.is) (if_none at c.in-If.conditional (c.in_err-made-in-If.ensures n))) in
-    passed_on _ _ c.in_err-made-in-If.field-0.0 _ c.from_residual-in_err-made-in-If.result c.from_residual-in_err-made-in-If.ensures.1 (λ e p. p) stopped
-
-pub add_statement-returns-in_err-made-in-Case : goal.add_statement-returns-in_err-made-in-Case
-add_statement-returns-in_err-made-in-Case t c =
-    let at = site_view c.args.self.now in
-    let stopped : c.in_err-made-in-Case.field-0.0 ≢ NoMemory → (after (statements_of c.args.body.now.items) (definition.statement at (analysed.statement_view c.args.statement.now))) ≡ Err (problem_told c.in_err-made-in-Case.field-0.0) =
-    λ n. after_stops _ _ (subst (λ x. (definition.statement at (analysed.statement_view x)) ≡ Err (problem_told c.in_err-made-in-Case.field-0.0)) (sym c.in-Case.is) (case_none at c.in-Case.selection (c.in_err-made-in-Case.ensures n))) in
-    passed_on _ _ c.in_err-made-in-Case.field-0.0 _ c.from_residual-in_err-made-in-Case.result c.from_residual-in_err-made-in-Case.ensures.1 (λ e p. p) stopped
 
 pub add_statements-returns-in_err-add_statement : goal.add_statements-returns-in_err-add_statement
 add_statements-returns-in_err-add_statement t c =
@@ -176,16 +148,15 @@ pub branches-loop-item-preserved : goal.branches-loop-item-preserved
 branches-loop-item-preserved t c =
     let i = c.loop-item.item-index in
     let below : i < length c.args.list.now = omega arith in
-    each_goes (steps.branch (site_view c.args.self.now)) analysed.branch_view _ (map branch_view c.loop-item.branches.items) _ c.args.list.now i c.item-item.result (branch_view c.in_ok-next.next) below c.item-item.is
-    c.loop-item.invariant c.in_ok-next.ensures (ap (map branch_view) c.in_ok-push.ensures.items ∙ map-append branch_view c.loop-item.branches.items (c.in_ok-next.next ∷ []))
+    each_adds (steps.branch (site_view c.args.self.now)) analysed.branch_view branch_view _ c.loop-item.branches.items c.add.new.list.items c.args.list.now i c.item-item.result c.branch-self.result below c.item-item.is c.loop-item.invariant c.branch-self.ensures c.in_ok-add.ensures
 
-pub branches-returns-in_err-next : goal.branches-returns-in_err-next
-branches-returns-in_err-next t c =
+pub branches-returns-in_err-add : goal.branches-returns-in_err-add
+branches-returns-in_err-add t c =
     let i = c.loop-item.item-index in
     let below : i < length c.args.list.now = omega arith in
-    let stopped : c.in_err-next.field-0.0 ≢ NoMemory → each (steps.branch (site_view c.args.self.now)) (map analysed.branch_view c.args.list.now) ≡ Err (problem_told c.in_err-next.field-0.0) =
-    λ n. each_stops (steps.branch (site_view c.args.self.now)) analysed.branch_view _ (map branch_view c.loop-item.branches.items) c.args.list.now i c.item-item.result below c.item-item.is c.loop-item.invariant (c.in_err-next.ensures n) in
-    passed_on _ _ c.in_err-next.field-0.0 _ c.from_residual.result c.from_residual.ensures.1 (λ e p. p) stopped
+    let stopped : c.in_err-add.field-0.0 ≢ NoMemory → each (steps.branch (site_view c.args.self.now)) (map analysed.branch_view c.args.list.now) ≡ Err (problem_told c.in_err-add.field-0.0) =
+    each_refuses (steps.branch (site_view c.args.self.now)) analysed.branch_view branch_view _ c.loop-item.branches.items c.add.new.list.items c.args.list.now i c.item-item.result c.branch-self.result c.in_err-add.field-0.0 below c.item-item.is c.loop-item.invariant c.branch-self.ensures c.in_err-add.ensures in
+    passed_on _ _ c.in_err-add.field-0.0 _ c.from_residual.result c.from_residual.ensures.1 (λ e p. p) stopped
 
 pub branches-returns : goal.branches-returns
 branches-returns t c =
@@ -199,17 +170,52 @@ pub alternatives-loop-item-preserved : goal.alternatives-loop-item-preserved
 alternatives-loop-item-preserved t c =
     let i = c.loop-item.item-index in
     let below : i < length c.args.list.now = omega arith in
-    each_goes (steps.alternative (site_view c.args.self.now) c.args.width.len) analysed.alternative_view _ (map alternative_view c.loop-item.alternatives.items) _ c.args.list.now i c.item-item.result (alternative_view c.in_ok-next.next) below c.item-item.is
-    c.loop-item.invariant c.in_ok-next.ensures (ap (map alternative_view) c.in_ok-push.ensures.items ∙ map-append alternative_view c.loop-item.alternatives.items (c.in_ok-next.next ∷ []))
+    each_adds (steps.alternative (site_view c.args.self.now) c.args.width.len) analysed.alternative_view alternative_view _ c.loop-item.alternatives.items c.add.new.list.items c.args.list.now i c.item-item.result c.alternative.result below c.item-item.is c.loop-item.invariant c.alternative.ensures c.in_ok-add.ensures
 
-pub alternatives-returns-in_err-next : goal.alternatives-returns-in_err-next
-alternatives-returns-in_err-next t c =
+pub alternatives-returns-in_err-add : goal.alternatives-returns-in_err-add
+alternatives-returns-in_err-add t c =
     let i = c.loop-item.item-index in
     let below : i < length c.args.list.now = omega arith in
-    let stopped : c.in_err-next.field-0.0 ≢ NoMemory → each (steps.alternative (site_view c.args.self.now) c.args.width.len) (map analysed.alternative_view c.args.list.now) ≡ Err (problem_told c.in_err-next.field-0.0) =
-    λ n. each_stops (steps.alternative (site_view c.args.self.now) c.args.width.len) analysed.alternative_view _ (map alternative_view c.loop-item.alternatives.items) c.args.list.now i c.item-item.result below c.item-item.is c.loop-item.invariant (c.in_err-next.ensures n) in
-    passed_on _ _ c.in_err-next.field-0.0 _ c.from_residual.result c.from_residual.ensures.1 (λ e p. p) stopped
+    let stopped : c.in_err-add.field-0.0 ≢ NoMemory → each (steps.alternative (site_view c.args.self.now) c.args.width.len) (map analysed.alternative_view c.args.list.now) ≡ Err (problem_told c.in_err-add.field-0.0) =
+    each_refuses (steps.alternative (site_view c.args.self.now) c.args.width.len) analysed.alternative_view alternative_view _ c.loop-item.alternatives.items c.add.new.list.items c.args.list.now i c.item-item.result c.alternative.result c.in_err-add.field-0.0 below c.item-item.is c.loop-item.invariant c.alternative.ensures c.in_err-add.ensures in
+    passed_on _ _ c.in_err-add.field-0.0 _ c.from_residual.result c.from_residual.ensures.1 (λ e p. p) stopped
 
 pub alternatives-returns : goal.alternatives-returns
 alternatives-returns t c =
     each_ends (steps.alternative (site_view c.args.self.now) c.args.width.len) analysed.alternative_view _ (map alternative_view c.loop-item.alternatives.items) _ (none_left c.args.list.now c.loop-item.item-index (omega arith)) c.loop-item.invariant
+
+-- ---- two parts, one after the other
+
+pub branch-returns-in_err-test : goal.branch-returns-in_err-test
+branch-returns-in_err-test t c =
+    passed_on _ _ c.in_err-test.field-0.0 _ c.from_residual.result c.from_residual.ensures.1 (λ e p. p)
+    (λ n. on (λ b. definition.statements (site_view c.args.self.now) (analysed.statements_of (analysed.branch_view c.args.branch.now).statements) >>= λ x. branch_of b x) _ _ (c.in_err-test.ensures n))
+
+pub branch-returns-in_err-test-2 : goal.branch-returns-in_err-test-2
+branch-returns-in_err-test-2 t c =
+    passed_on _ _ c.in_err-test-2.field-0.0 _ c.from_residual-in_err-test-2.result c.from_residual-in_err-test-2.ensures.1 (λ e p. p)
+    (λ n. on (λ b. definition.statements (site_view c.args.self.now) (analysed.statements_of (analysed.branch_view c.args.branch.now).statements) >>= λ x. branch_of b x) _ _ c.in_ok-test.ensures
+    ∙ on (λ x. branch_of (net.test_view c.in_ok-test.test) x) _ _ (ap (λ (xs : List analysed_statement.Statement). definition.statements (site_view c.args.self.now) (analysed.statements_of (map analysed.statement_view xs))) (sym c.deref.ensures.value) ∙ refused_by _ _ _ _ c.in_err-test-2.ensures.fault c.body.ensures n))
+
+pub branch-returns : goal.branch-returns
+branch-returns t c =
+    on (λ b. definition.statements (site_view c.args.self.now) (analysed.statements_of (analysed.branch_view c.args.branch.now).statements) >>= λ x. branch_of b x) _ _ c.in_ok-test.ensures
+    ∙ on (λ x. branch_of (net.test_view c.in_ok-test.test) x) _ _ (ap (λ (xs : List analysed_statement.Statement). definition.statements (site_view c.args.self.now) (analysed.statements_of (map analysed.statement_view xs))) (sym c.deref.ensures.value) ∙ made_by (λ v. statements_of v.items) _ _ _ c.in_ok-test-2.ensures.both.0 c.body.ensures)
+    ∙ ap (λ (b : Test). branch_of (net.test_view b) (statements_of c.in_ok-test-2.statements.items)) c.in_ok-test-2.ensures.both.1
+
+pub alternative-returns-in_err-choices : goal.alternative-returns-in_err-choices
+alternative-returns-in_err-choices t c =
+    passed_on _ _ c.in_err-choices.field-0.0 _ c.from_residual.result c.from_residual.ensures.1 (λ e p. p)
+    (λ n. on (λ l. definition.statements (site_view c.args.self.now) (analysed.statements_of (analysed.alternative_view c.args.alternative.now).statements) >>= λ x. alternative_of l x) _ _ (ap (λ xs. each (definition.choice c.args.width.len) (map answers.choice_view xs)) (sym c.deref.ensures.value) ∙ c.in_err-choices.ensures n))
+
+pub alternative-returns-in_err-choices-2 : goal.alternative-returns-in_err-choices-2
+alternative-returns-in_err-choices-2 t c =
+    passed_on _ _ c.in_err-choices-2.field-0.0 _ c.from_residual-in_err-choices-2.result c.from_residual-in_err-choices-2.ensures.1 (λ e p. p)
+    (λ n. on (λ l. definition.statements (site_view c.args.self.now) (analysed.statements_of (analysed.alternative_view c.args.alternative.now).statements) >>= λ x. alternative_of l x) _ _ (ap (λ xs. each (definition.choice c.args.width.len) (map answers.choice_view xs)) (sym c.deref.ensures.value) ∙ c.in_ok-choices.ensures)
+    ∙ on (λ x. alternative_of (map net.choice_view c.in_ok-choices.choices.items) x) _ _ (ap (λ (xs : List analysed_statement.Statement). definition.statements (site_view c.args.self.now) (analysed.statements_of (map analysed.statement_view xs))) (sym c.deref-2.ensures.value) ∙ refused_by _ _ _ _ c.in_err-choices-2.ensures.fault c.body-statements.ensures n))
+
+pub alternative-returns : goal.alternative-returns
+alternative-returns t c =
+    on (λ l. definition.statements (site_view c.args.self.now) (analysed.statements_of (analysed.alternative_view c.args.alternative.now).statements) >>= λ x. alternative_of l x) _ _ (ap (λ xs. each (definition.choice c.args.width.len) (map answers.choice_view xs)) (sym c.deref.ensures.value) ∙ c.in_ok-choices.ensures)
+    ∙ on (λ x. alternative_of (map net.choice_view c.in_ok-choices.choices.items) x) _ _ (ap (λ (xs : List analysed_statement.Statement). definition.statements (site_view c.args.self.now) (analysed.statements_of (map analysed.statement_view xs))) (sym c.deref-2.ensures.value) ∙ made_by (λ v. statements_of v.items) _ _ _ c.in_ok-choices-2.ensures.both.0 c.body-statements.ensures)
+    ∙ ap (λ (v : Vec Choice Global). alternative_of (map net.choice_view v.items) (statements_of c.in_ok-choices-2.statements.items)) c.in_ok-choices-2.ensures.both.1
