@@ -29,7 +29,6 @@ use vhdl_values::Nine;
 
 /// A simulation of a netlist. What a cycle costs goes by the drivers, nets and processes that it touches; `new` takes all
 /// memory, and no other call takes any.
-#[derive(Drop)]
 pub struct Kernel<'a, E: Exec> {
     net: &'a Net,
     bodies: &'a [E],
@@ -39,6 +38,21 @@ pub struct Kernel<'a, E: Exec> {
     drivers: Drivers,
     resumed: Resumed,
     noted: Worklist,
+}
+
+impl<E: Exec> Drop for Kernel<'_, E> {
+    fn drop(self) {
+        let Kernel {
+            net: _,
+            bodies: _,
+            cuts: _,
+            alone: _,
+            values: _,
+            drivers: _,
+            resumed: _,
+            noted: _,
+        } = self;
+    }
 }
 
 /// No number of delta cycles up to the limit leaves no driver active.

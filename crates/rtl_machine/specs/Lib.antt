@@ -5,6 +5,7 @@ pub mod Watched
 pub mod Faults
 pub mod Admitted
 pub mod Answered
+pub mod Beginnings
 pub mod Words
 pub mod Evaluated
 pub mod Laws

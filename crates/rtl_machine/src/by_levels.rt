@@ -7,15 +7,12 @@ ghost use Rattle.rtl_machine.specs.Answered.{Admits};
 ghost use Rattle.rtl_machine.specs.Watched.{IsToldRun, WasToldRun};
 ghost use Rattle.rtl_machine.specs.levels.Answered.{RunsLevels};
 
-use crate::admission::admit;
 use crate::fault::MachineFault;
 use crate::level_summary::LevelSummary;
-use crate::running::SLOTS;
+use crate::prepared::{Prepared, prepare};
 use crate::stepping::Stepping;
-use rtl_eval_code::codes;
 use rtl_net::Net;
 use rtl_sink::{Sink, Unwatched, Watch};
-use rtl_stim::Wheel;
 use std::alloc::Global;
 
 /// Simulates a netlist under the stimulus that a text says, as the synchronous machine that it is: at each moment the clocked
@@ -60,11 +57,11 @@ pub fn run_levels_watched<V: Watch, W: Sink>(
     ensures failing { IfErr result (λ _. WasToldRun net.now text.now (λ stands. V.told watch.old stands watch.new)) }
 {
     net.is_elaborated();
-    let admitted = admit(alloc, net, text)?;
-    let bodies = codes(alloc, net)?;
-    let Ok(mut agenda) = Wheel::new(alloc, SLOTS) else {
-        return Err(MachineFault::Memory);
-    };
+    let Prepared {
+        admitted,
+        bodies,
+        mut agenda,
+    } = prepare(alloc, net, text)?;
     let stepping = Stepping {
         net,
         bodies: &bodies,

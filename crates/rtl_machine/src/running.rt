@@ -12,22 +12,18 @@ ghost use Rattle.rtl_machine.specs.Traced.{Traces};
 ghost use Rattle.rtl_machine.specs.Answered.{Admits, RunsNet};
 ghost use Rattle.rtl_machine.specs.Watched.{IsToldRun, IsToldRunFirst, WasToldRun};
 
-use crate::admission::admit;
 use crate::fault::MachineFault;
 use crate::laws::accepted_nets_are_synchronous;
+use crate::prepared::{Prepared, prepare};
 use crate::simulation::Simulation;
 use crate::summary::{RunFault, Summary};
 use rtl_eval::Exec;
-use rtl_eval_code::codes;
 use rtl_kernel::Pick;
 use rtl_model::simulation_laws;
 use rtl_net::Net;
 use rtl_sink::{Sink, Unwatched, Watch};
-use rtl_stim::{Agenda, Wheel};
+use rtl_stim::Agenda;
 use std::alloc::Global;
-
-/// How many slots the agenda of a simulation has.
-pub const SLOTS: usize = 256;
 
 /// Simulates a netlist under the stimulus that a text says, and writes the trace: that of the synchronous machine's run,
 /// whatever order of processes `pick` picks. Each moment settles within the bound of the checker's report. Nothing is written
@@ -73,11 +69,11 @@ pub fn run_watched<P: Pick, V: Watch, W: Sink>(
     ensures failing { IfErr result (λ _. WasToldRun net.now text.now (λ stands. V.told watch.old stands watch.new)) }
 {
     net.is_elaborated();
-    let admitted = admit(alloc, net, text)?;
-    let bodies = codes(alloc, net)?;
-    let Ok(mut agenda) = Wheel::new(alloc, SLOTS) else {
-        return Err(MachineFault::Memory);
-    };
+    let Prepared {
+        admitted,
+        bodies,
+        mut agenda,
+    } = prepare(alloc, net, text)?;
     let simulation = Simulation {
         net,
         bodies: &bodies,

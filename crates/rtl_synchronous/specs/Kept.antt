@@ -10,13 +10,14 @@ use Rattle.rtl_model.specs.simulation.Range.{IsValuation}
 use Rattle.rtl_eval.specs.Runs.{Outcome}
 use Rattle.rtl_kernel.specs.kernel.Kept.{RunBodies, HaveRoom}
 use Rattle.rtl_kernel.specs.drivers.Transactions.{all_targets}
+use Rattle.rtl_kernel.specs.wakes.Woken.{wakers_of}
 use Rattle.rtl_net_layout.specs.Cuts.{AreCutsOf}
 use Rattle.rtl_net.specs.Core.{core}
 use Rattle.rtl_net.specs.Nets.{NetlistView, flat}
 use Rattle.rtl_synchronous.specs.declared.schedule.Schedule.{Schedule}
 use Rattle.rtl_synchronous.specs.Running.{KeepsResets}
 use Rattle.rtl_synchronous.specs.Marks.{HasNoMark}
-use Rattle.rtl_synchronous.specs.Scheduled.{IsSchedule, whole_first}
+use Rattle.rtl_synchronous.specs.Scheduled.{AreEdges, AreLeaders, AreNexts, IsSchedule, whole_first}
 
 -- Each process of an accepted netlist may be run: the k-th body is that of the k-th process, and the k-th run has its room.
 pub record MayRun {E : Type 0} (process : E → FlatProcess) (types : E → List ElementType) (most : E → ℕ)
@@ -31,6 +32,16 @@ pub record MayRun {E : Type 0} (process : E → FlatProcess) (types : E → List
 pub record HasCuts (net : NetlistView) (schedule : Schedule) : Type 0 where
   pub cuts : AreCutsOf schedule.readers.of_net (all_targets net.processes) schedule.cuts
   pub wholes : schedule.wholes.items ≡ map whole_first schedule.cuts.cuts
+
+-- who is run when, in this netlist
+pub record IsPlanned (net : NetlistView) (s : Schedule) : Type 0 where
+  pub schedule : IsSchedule (core net) s.order.items (wakers_of s.readers) (wakers_of s.clocked)
+  pub each_reader : length (wakers_of s.readers) ≡ length net.types
+  pub each_clocked : length (wakers_of s.clocked) ≡ length net.types
+  pub cuts : HasCuts net s
+  pub edges : AreEdges (core net) s.edges.items
+  pub leaders : AreLeaders s.edges.items s.leaders.items
+  pub nexts : AreNexts (core net) s.nexts.items
 
 -- the values have settled, for some inputs and registers
 pub record IsAtRest (net : Netlist) (before values : List ℕ) : Type 0 where

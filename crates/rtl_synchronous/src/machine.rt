@@ -34,7 +34,6 @@ use vhdl_values::Nine;
 /// The synchronous machine of an accepted netlist, at a moment at which it has settled. A step runs the clocked processes that are
 /// sensitive to what changes, with the new inputs and before anything else changes, and then each combinational process of
 /// which something that it is sensitive to changes, in order of level. `new` takes all memory, and no other call takes any.
-#[derive(Drop)]
 pub struct Machine<'a, E: Exec> {
     net: &'a Net,
     bodies: &'a [E],
@@ -47,6 +46,21 @@ pub struct Machine<'a, E: Exec> {
     /// The clocked processes that are to run, by number, and the combinational ones, by rank.
     woken: Vec<bool>,
     dirty: Vec<bool>,
+}
+
+impl<E: Exec> Drop for Machine<'_, E> {
+    fn drop(self) {
+        let Machine {
+            net: _,
+            bodies: _,
+            schedule: _,
+            before: _,
+            values: _,
+            runs: _,
+            woken: _,
+            dirty: _,
+        } = self;
+    }
 }
 
 impl<'a, E: Exec> Model for Machine<'a, E> {

@@ -3,10 +3,9 @@
 ghost use Rattle.std.specs.Prelude.{◌≡◌, ℕ, ◌<◌, All, length, map, IfOk};
 ghost use Rattle.rtl_model.specs.simulation.Accepted.{IsAccepted};
 ghost use Rattle.rtl_model.specs.simulation.Levels.{AreLevels};
-ghost use Rattle.rtl_kernel.specs.wakes.Woken.{wakers_of};
 ghost use Rattle.rtl_net.specs.Core.{core};
-ghost use Rattle.rtl_synchronous.specs.Kept.{HasCuts};
-ghost use Rattle.rtl_synchronous.specs.Scheduled.{AreEdges, AreLeaders, AreNexts, IsSchedule, clocked_wakes, wakes_by_rank};
+ghost use Rattle.rtl_synchronous.specs.Kept.{IsPlanned};
+ghost use Rattle.rtl_synchronous.specs.Scheduled.{clocked_wakes, wakes_by_rank};
 
 use crate::awaited::{ClockEdge, edges_of, leaders_of};
 use crate::nexts::nexts_of;
@@ -21,7 +20,6 @@ use std::alloc::{AllocError, Global};
 /// clocked processes that are; the cuts of each process's drivers over nets that the same combinational ones are sensitive to, and
 /// where there is one alone its first net; of each process the edge without which it assigns nothing, if it is clocked and has no
 /// reset, and a process that awaits the same; and from each process on the next one that is clocked.
-#[derive(Drop)]
 pub struct Schedule {
     pub order: Vec<usize>,
     pub readers: Groups,
@@ -33,18 +31,27 @@ pub struct Schedule {
     pub nexts: Vec<usize>,
 }
 
+impl Drop for Schedule {
+    fn drop(self) {
+        let Schedule {
+            order: _,
+            readers: _,
+            clocked: _,
+            cuts: _,
+            wholes: _,
+            edges: _,
+            leaders: _,
+            nexts: _,
+        } = self;
+    }
+}
+
 impl Schedule {
     /// The schedule of an accepted netlist, whose processes have these levels.
     pub fn new(alloc: Global, net: &Net, levels: &[Option<u32>]) -> Result<Schedule, AllocError>
         requires accepted { IsAccepted (core net.now) }
         requires levels { (greatest : ℕ) × AreLevels (core net.now) levels.now greatest }
-        ensures schedule { IfOk result (λ s. IsSchedule (core net.now) s.order.items (wakers_of s.readers) (wakers_of s.clocked)) }
-        ensures each_reader { IfOk result (λ s. length (wakers_of s.readers) ≡ length net.now.types) }
-        ensures cuts { IfOk result (HasCuts net.now) }
-        ensures edges { IfOk result (λ s. AreEdges (core net.now) s.edges.items) }
-        ensures leaders { IfOk result (λ s. AreLeaders s.edges.items s.leaders.items) }
-        ensures nexts { IfOk result (λ s. AreNexts (core net.now) s.nexts.items) }
-        ensures each_clocked { IfOk result (λ s. length (wakers_of s.clocked) ≡ length net.now.types) }
+        ensures { IfOk result (IsPlanned net.now) }
     {
         let order = order_of(alloc, levels)?;
         let together = vec![in alloc; 0; net.nets()]?;

@@ -1,32 +1,59 @@
-use Rattle.std.proofs.Common.{map, ap, inl, inr, ◌∙◌}
-use Rattle.rtl_machine.proofs.Codes.{run_of, codes_run}
+use Rattle.std.proofs.Common.{inl, inr, refl}
+use Rattle.std.proofs.lemmas.Result.{IfOk-from_err}
+use Rattle.rtl_machine.specs.levels.Answered.{RunsLevels}
+use Rattle.rtl_machine.proofs.Refusals.{err_with}
 use Rattle.rtl_machine.proofs.Told.{if_ok, any_err, if_err}
 use Rattle.rtl_machine.proofs.by_levels.run_levels_watched.Goals as goal
 
-pub trace-requires-clause-bodies : goal.trace-requires-clause-bodies
-trace-requires-clause-bodies g c =
-    codes_run c.args.net.now c.deref.result.now (ap (map run_of) c.deref.ensures.value ∙ c.in_ok-bodies.ensures)
+pub trace-requires : goal.trace-requires
+trace-requires g c =
+    let P = c.in_ok-admitted.ensures in
+    record {
+      accepted = P.admitted.accepted;
+      levels = rw c.deref-2.ensures.value P.levels;
+      raceless = P.admitted.raceless;
+      bodies = rw c.deref.ensures.value P.bodies;
+      ports = c.requires.ports;
+      inputs = P.admitted.says.0;
+      waiting = P.waiting;
+      last = P.last;
+      intact = c.requires.intact;
+    }
 
-pub returns-clause-told : goal.returns-clause-told
-returns-clause-told g c =
-    if_ok _ _ c.trace.result (λ summary told. record {
-      bound = c.in_ok-admitted.admitted.bound;
-      stimulus = c.in_ok-admitted.admitted.stimulus;
-      admitted = c.in_ok-admitted.ensures.admitted;
-      done = told;
-    }) c.trace.ensures.told
+pub returns-in_err-admitted-clause-runs : goal.returns-in_err-admitted-clause-runs
+returns-in_err-admitted-clause-runs g c =
+    let out = g.W.Sink.state c.args.out.now in
+    let fault = c.in_err-admitted.field-0.0 in
+    err_with (RunsLevels c.args.net.now c.args.text.now out out) c.from_residual.result fault c.from_residual.ensures.1 (inr (record { fault = fault; is = refl; why = c.in_err-admitted.ensures; nothing = refl }))
+
+pub returns-in_err-admitted-clause-told : goal.returns-in_err-admitted-clause-told
+returns-in_err-admitted-clause-told g c = IfOk-from_err c.from_residual.result _ c.from_residual.ensures.0
 
 pub returns-in_err-admitted-clause-failing : goal.returns-in_err-admitted-clause-failing
 returns-in_err-admitted-clause-failing g c = any_err _ c.from_residual.result (inl (g.met.V.Watch.nothing c.args.watch.now))
 
-pub returns-in_err-bodies-clause-failing : goal.returns-in_err-bodies-clause-failing
-returns-in_err-bodies-clause-failing g c = any_err _ c.from_residual-in_err-bodies.result (inl (g.met.V.Watch.nothing c.args.watch.now))
+pub returns-clause-runs : goal.returns-clause-runs
+returns-clause-runs g c = inl (record {
+  bound = c.in_ok-admitted.field-0.admitted.bound;
+  stimulus = c.in_ok-admitted.field-0.admitted.stimulus;
+  admitted = c.in_ok-admitted.ensures.admitted;
+  done = c.trace.ensures.traces;
+})
+
+pub returns-clause-told : goal.returns-clause-told
+returns-clause-told g c =
+    if_ok _ _ c.trace.result (λ summary told. record {
+      bound = c.in_ok-admitted.field-0.admitted.bound;
+      stimulus = c.in_ok-admitted.field-0.admitted.stimulus;
+      admitted = c.in_ok-admitted.ensures.admitted;
+      done = told;
+    }) c.trace.ensures.told
 
 pub returns-clause-failing : goal.returns-clause-failing
 returns-clause-failing g c =
     if_err _ _ c.trace.result (λ first. inr (record {
-      bound = c.in_ok-admitted.admitted.bound;
-      stimulus = c.in_ok-admitted.admitted.stimulus;
+      bound = c.in_ok-admitted.field-0.admitted.bound;
+      stimulus = c.in_ok-admitted.field-0.admitted.stimulus;
       admitted = c.in_ok-admitted.ensures.admitted;
       done = first;
     })) c.trace.ensures.failing

@@ -60,3 +60,78 @@ returns-clause-rest g c =
     let taken = with_asleep net (leveled net E (faultless net A)) before v c.take_marked.new.values.items c.args.woken.now.items c.run_marked.new.marked.items
     (λ p. (get_or c.deref-5.result.now p no_outcome).entries) R c.take_marked.ensures.taken in
     at_rest net E A c.args.woken.now.items c.requires.clocked (λ p. (process net p).effect before v) v c.take_marked.new.values.items taken before c.sweep.new.values.items (λ p m. refl) c.sweep.ensures.swept
+
+pub run_marked-requires-clause-may : goal.run_marked-requires-clause-may
+run_marked-requires-clause-may g c = c.requires.may
+
+pub run_marked-requires-clause-edges : goal.run_marked-requires-clause-edges
+run_marked-requires-clause-edges g c = rw (c.deref.ensures.value) c.requires.edges
+
+pub run_marked-requires-clause-nexts : goal.run_marked-requires-clause-nexts
+run_marked-requires-clause-nexts g c = rw (c.deref-3.ensures.value) c.requires.nexts
+
+pub run_marked-requires-clause-clocked : goal.run_marked-requires-clause-clocked
+run_marked-requires-clause-clocked g c = c.requires.clocked
+
+pub run_marked-requires-clause-before : goal.run_marked-requires-clause-before
+run_marked-requires-clause-before g c = c.requires.before
+
+pub run_marked-requires-clause-values : goal.run_marked-requires-clause-values
+run_marked-requires-clause-values g c = rw (c.deref-4.ensures.value) c.requires.in_range
+
+pub run_marked-requires-clause-each_process : goal.run_marked-requires-clause-each_process
+run_marked-requires-clause-each_process g c = c.requires.each_process
+
+pub take_marked-requires-clause-accepted : goal.take_marked-requires-clause-accepted
+take_marked-requires-clause-accepted g c = c.requires.may.accepted
+
+pub take_marked-requires-clause-each_process : goal.take_marked-requires-clause-each_process
+take_marked-requires-clause-each_process g c = c.run_marked.ensures.each_process ∙ c.requires.each_process
+
+pub take_marked-requires-clause-own : goal.take_marked-requires-clause-own
+take_marked-requires-clause-own g c = rw (c.deref-5.ensures.value) c.run_marked.ensures.may.room.own
+
+pub take_marked-requires-clause-in_range : goal.take_marked-requires-clause-in_range
+take_marked-requires-clause-in_range g c = c.requires.in_range
+
+pub take_marked-requires-clause-cuts : goal.take_marked-requires-clause-cuts
+take_marked-requires-clause-cuts g c = c.requires.cuts
+
+pub take_marked-requires-clause-nexts : goal.take_marked-requires-clause-nexts
+take_marked-requires-clause-nexts g c = c.requires.nexts
+
+pub take_marked-requires-clause-each_net : goal.take_marked-requires-clause-each_net
+take_marked-requires-clause-each_net g c = c.requires.each_reader
+
+pub sweep-requires-clause-may : goal.sweep-requires-clause-may
+sweep-requires-clause-may g c = c.run_marked.ensures.may
+
+pub sweep-requires-clause-schedule : goal.sweep-requires-clause-schedule
+sweep-requires-clause-schedule g c = c.requires.schedule
+
+pub sweep-requires-clause-cuts : goal.sweep-requires-clause-cuts
+sweep-requires-clause-cuts g c = c.requires.cuts
+
+pub sweep-requires-clause-in_range : goal.sweep-requires-clause-in_range
+sweep-requires-clause-in_range g c = c.take_marked.ensures.in_range
+
+pub sweep-requires-clause-each_rank : goal.sweep-requires-clause-each_rank
+sweep-requires-clause-each_rank g c = c.take_marked.ensures.dirty.as_many ∙ c.requires.each_rank
+
+pub returns-clause-may : goal.returns-clause-may
+returns-clause-may g c = c.sweep.ensures.may
+
+pub returns-clause-in_range : goal.returns-clause-in_range
+returns-clause-in_range g c = c.sweep.ensures.in_range
+
+pub returns-clause-each_process : goal.returns-clause-each_process
+returns-clause-each_process g c = c.take_marked.ensures.each_process ∙ c.run_marked.ensures.each_process
+
+pub returns-clause-each_rank : goal.returns-clause-each_rank
+returns-clause-each_rank g c = c.sweep.ensures.each_rank ∙ c.take_marked.ensures.dirty.as_many
+
+pub returns-clause-none_woken : goal.returns-clause-none_woken
+returns-clause-none_woken g c = c.take_marked.ensures.none_marked
+
+pub returns-clause-none_dirty : goal.returns-clause-none_dirty
+returns-clause-none_dirty g c = c.sweep.ensures.none_dirty

@@ -1,13 +1,31 @@
-use Rattle.std.proofs.Common.{◌≡◌, ◌<◌, List, length, map, None, ap, ◌∙◌, arith, get_or}
+use Rattle.std.proofs.Common.{◌≡◌, ℕ, ◌<◌, List, length, map, None, ap, sym, ◌∙◌, arith, get_or}
 use Rattle.std.proofs.lemmas.List.{get_or_default, length-map, length-replicate}
-use Rattle.rtl_model.specs.nets.FlatNetlist.{element_starts}
+use Rattle.std.proofs.lemmas.Result.{IfOk-from_err}
+use Rattle.rtl_model.specs.nets.FlatNetlist.{FlatNetlist, element_starts}
 use Rattle.rtl_eval.specs.Runs.{Outcome}
+use Rattle.rtl_kernel.specs.kernel.Kept.{HaveRoom}
 use Rattle.rtl_net.specs.Nets.{flat, process_view, variable_view}
 use Rattle.rtl_net.specs.declared.process.Process.{Process}
 use Rattle.rtl_net.specs.declared.process.Variable.{Variable}
-use Rattle.rtl_synchronous.proofs.Rooms.{room_more}
+use Rattle.rtl_synchronous.proofs.Rooms.{HaveRoomTo, room_more}
 use Rattle.rtl_synchronous.proofs.Wired.{drivers_many, starts_are}
 use Rattle.rtl_synchronous.proofs.outcomes.room_for.Goals as goal
+
+-- all have it
+have_room : {E : Type 0} (most : E → ℕ) (net : FlatNetlist) (bodies : List E) (many : ℕ) (os : List Outcome) → HaveRoomTo most net bodies many os → many ≡ length net.processes
+    → length bodies ≡ length net.processes → HaveRoom most net bodies os
+have_room most net bodies many os H all as_many = record {
+  as_many = H.as_many ∙ all;
+  own = λ p l. H.own p (rw (← H.as_many) l);
+  room = λ p e l. H.room p e (rw (all, ← as_many) l);
+}
+
+pub loop-number-init : goal.loop-number-init
+loop-number-init g c = record {
+  as_many = ap length c.in_ok-runs.ensures.items;
+  own = λ p l. absurd (omega (arith, l));
+  room = λ p e l. absurd (omega (arith, l));
+}
 
 pub loop-number-preserved : goal.loop-number-preserved
 loop-number-preserved g c =
@@ -31,3 +49,22 @@ loop-number-preserved g c =
     (λ e. (let room : o.room ≡ g.E.Exec.most b = ap (λ (x : Outcome). x.room) c.in_ok-new.ensures ∙ c.room-room.ensures in
     let body : g.E.Exec.most b ≡ g.E.Exec.most (get_or c.args.bodies.now k e) = ap g.E.Exec.most (c.index-bodies-number.is ∙ get_or_default c.args.bodies.now k b e in_bodies) in
     omega (arith, room, body))))
+
+pub returns : goal.returns
+returns g c =
+    let net = c.args.net.now in
+    let I = c.loop-number.invariant in
+    let all : c.loop-number.number ≡ length net.processes = omega (arith, ap length c.processes-processes.ensures, c.loop-number-test.false, c.loop-number.auto.number-end) in
+    have_room g.E.Exec.most (flat net) c.args.bodies.now c.loop-number.number c.loop-number.runs.items I (all ∙ sym (length-map net.processes process_view)) c.requires.as_many
+
+pub returns-in_err-runs : goal.returns-in_err-runs
+returns-in_err-runs g c = IfOk-from_err c.from_residual.result _ c.from_residual.ensures.0
+
+pub returns-in_err-starts : goal.returns-in_err-starts
+returns-in_err-starts g c = IfOk-from_err c.from_residual-in_err-starts.result _ c.from_residual-in_err-starts.ensures.0
+
+pub returns-in_err-new : goal.returns-in_err-new
+returns-in_err-new g c = IfOk-from_err c.from_residual-in_err-new.result _ c.from_residual-in_err-new.ensures.0
+
+pub returns-in_err-push : goal.returns-in_err-push
+returns-in_err-push g c = IfOk-from_err c.from_residual-in_err-push.result _ c.from_residual-in_err-push.ensures.0

@@ -1,6 +1,7 @@
 use Rattle.std.proofs.Common.{refl, length, ap, sym, ◌∙◌, arith}
 use Rattle.std.proofs.lemmas.List.{length-map}
 use Rattle.std.proofs.lemmas.Option.{slice_get_within}
+use Rattle.std.proofs.lemmas.Result.{IfOk-from_err}
 use Rattle.rtl_model.specs.bodies.Types.{nine_valued}
 use Rattle.rtl_kernel.specs.kernel.Simulation.{each_given, initial_inputs}
 use Rattle.rtl_kernel.specs.values.TwoValues.{AreChanged}
@@ -122,3 +123,45 @@ come_to_rest-requires-clause-each_rank g c = omega (arith, c.in_ok-dirty.ensures
 
 pub returns-clause-net : goal.returns-clause-net
 returns-clause-net g c = refl
+
+pub returns-in_err-schedule : goal.returns-in_err-schedule
+returns-in_err-schedule g c = record {
+  net = IfOk-from_err c.from_residual.result _ c.from_residual.ensures.0;
+  first = IfOk-from_err c.from_residual.result _ c.from_residual.ensures.0;
+}
+
+pub returns-in_err-runs : goal.returns-in_err-runs
+returns-in_err-runs g c = record {
+  net = IfOk-from_err c.from_residual-in_err-runs.result _ c.from_residual-in_err-runs.ensures.0;
+  first = IfOk-from_err c.from_residual-in_err-runs.result _ c.from_residual-in_err-runs.ensures.0;
+}
+
+pub returns-in_err-values : goal.returns-in_err-values
+returns-in_err-values g c = record {
+  net = IfOk-from_err c.from_residual-in_err-values.result _ c.from_residual-in_err-values.ensures.0;
+  first = IfOk-from_err c.from_residual-in_err-values.result _ c.from_residual-in_err-values.ensures.0;
+}
+
+pub returns-in_err-before : goal.returns-in_err-before
+returns-in_err-before g c = record {
+  net = IfOk-from_err c.from_residual-in_err-before.result _ c.from_residual-in_err-before.ensures.0;
+  first = IfOk-from_err c.from_residual-in_err-before.result _ c.from_residual-in_err-before.ensures.0;
+}
+
+pub returns-in_err-woken : goal.returns-in_err-woken
+returns-in_err-woken g c = record {
+  net = IfOk-from_err c.from_residual-in_err-woken.result _ c.from_residual-in_err-woken.ensures.0;
+  first = IfOk-from_err c.from_residual-in_err-woken.result _ c.from_residual-in_err-woken.ensures.0;
+}
+
+pub returns-in_err-dirty : goal.returns-in_err-dirty
+returns-in_err-dirty g c = record {
+  net = IfOk-from_err c.from_residual-in_err-dirty.result _ c.from_residual-in_err-dirty.ensures.0;
+  first = IfOk-from_err c.from_residual-in_err-dirty.result _ c.from_residual-in_err-dirty.ensures.0;
+}
+
+pub room_for-requires : goal.room_for-requires
+room_for-requires g c = c.requires.bodies
+
+pub set_each-requires-clause-as_many : goal.set_each-requires-clause-as_many
+set_each-requires-clause-as_many g c = c.requires.initial ∙ sym (ap length c.inputs.ensures)
