@@ -8,11 +8,10 @@ ghost use Rattle.rtlsim.specs.declared.inputs.InputFault.TheVariants.{Failed, No
 
 use crate::problem::InputProblem;
 use rtl_sink::{In, Reader};
-use std::alloc::{AllocError, AllocFailed, Global};
+use std::alloc::{AllocError, Global};
 use std::fs;
 use std::io::ErrorKind;
 use std::rt::Files;
-use thiserror::Error;
 
 /// The most bytes of one input, and the most reads until its end is met.
 pub const MAX_INPUT: usize = 33_554_432;
@@ -21,13 +20,11 @@ pub const MAX_INPUT: usize = 33_554_432;
 const PART: usize = 8192;
 
 /// Why an input is refused.
-#[derive(Clone, Copy, PartialEq, Eq, Debug, Error)]
+#[derive(Clone, Copy)]
 pub enum InputFault {
     /// It isn't there, a read failed, or its end did not come within the limit.
-    #[error("the input failed")]
     Failed(InputProblem),
     /// Memory was refused.
-    #[error("out of memory")]
     NoMemory,
 }
 
@@ -36,10 +33,11 @@ impl InputFault {
     fn of_name<F: Files>(self, files: &F, name: &str) -> InputFault
         ensures { (result ≡ self) ⊎ (result ≡ Failed InputProblem.Folder) }
     {
-        if self == InputFault::Failed(InputProblem::ReadFailed) && is_folder(files, name) {
-            InputFault::Failed(InputProblem::Folder)
-        } else {
-            self
+        match self {
+            InputFault::Failed(InputProblem::ReadFailed) if is_folder(files, name) => {
+                InputFault::Failed(InputProblem::Folder)
+            }
+            _ => self,
         }
     }
 }
@@ -48,14 +46,6 @@ impl From<AllocError> for InputFault {
     ghost from_gives = { λ _ fault. fault ≡ NoMemory };
 
     fn from(_refused: AllocError) -> InputFault {
-        InputFault::NoMemory
-    }
-}
-
-impl<T: Drop> From<AllocFailed<T>> for InputFault {
-    ghost from_gives = { λ _ fault. fault ≡ NoMemory };
-
-    fn from(_refused: AllocFailed<T>) -> InputFault {
         InputFault::NoMemory
     }
 }

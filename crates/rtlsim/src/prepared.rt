@@ -13,13 +13,22 @@ use rtlsim_words::Request;
 use std::alloc::{AllocError, Global};
 
 /// The files of a source, and the words that set inputs as bytes.
-#[derive(Drop)]
 pub(crate) struct Prepared<'a> {
     /// The files of the source, in order.
     pub files: Vec<SourceFile<'a>>,
     /// Their texts joined, where there are several.
     joined: Vec<u8>,
     pub sets: Vec<&'a [u8]>,
+}
+
+impl Drop for Prepared<'_> {
+    fn drop(self) {
+        let Prepared {
+            files: _,
+            joined: _,
+            sets: _,
+        } = self;
+    }
 }
 
 impl Prepared<'_> {

@@ -6,7 +6,7 @@ ghost use Rattle.rtlsim.specs.Unread as unread;
 use std::io::ErrorKind;
 
 /// Why an input isn't read.
-#[derive(Clone, Copy, PartialEq, Eq, Debug)]
+#[derive(Clone, Copy)]
 pub enum InputProblem {
     /// There is no file of its name.
     Missing,

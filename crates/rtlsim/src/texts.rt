@@ -15,7 +15,6 @@ use rtlsim_words::Call;
 use std::alloc::Global;
 
 /// What was read for a call.
-#[derive(Drop)]
 pub(crate) struct Texts<'a> {
     /// The files whose texts stand before the source's, in order.
     pub before: Vec<ReadFile<'a>>,
@@ -27,15 +26,30 @@ pub(crate) struct Texts<'a> {
     pub expected: Option<Vec<u8>>,
 }
 
+impl Drop for Texts<'_> {
+    fn drop(self) {
+        let Texts {
+            before: _,
+            file: _,
+            main: _,
+            expected: _,
+        } = self;
+    }
+}
+
 /// A file and its bytes.
-#[derive(Drop)]
 pub(crate) struct ReadFile<'a> {
     pub name: &'a str,
     pub text: Vec<u8>,
 }
 
+impl Drop for ReadFile<'_> {
+    fn drop(self) {
+        let ReadFile { name: _, text: _ } = self;
+    }
+}
+
 /// A source, and a stimulus if there is one.
-#[derive(Drop)]
 pub(crate) enum Main {
     /// The source alone.
     Alone(Vec<u8>),
@@ -43,6 +57,19 @@ pub(crate) enum Main {
     Apart { source: Vec<u8>, stimulus: Vec<u8> },
     /// In one input, between which a line `@` stands.
     Together(Vec<u8>),
+}
+
+impl Drop for Main {
+    fn drop(self) {
+        match self {
+            Main::Alone(_) => {}
+            Main::Apart {
+                source: _,
+                stimulus: _,
+            } => {}
+            Main::Together(_) => {}
+        }
+    }
 }
 
 impl Texts<'_> {

@@ -1,6 +1,6 @@
 -- What event-driven simulation answers, from the netlist and the text of the stimulus to the trace (IEEE 1076-2008, 14.7.5;
 -- IEEE 1364-2005, clause 18).
-use Rattle.std.specs.Prelude.{◌≡◌, ◌≢◌, ◌⊎◌, ℕ, List, [], map, Result, Ok, Err}
+use Rattle.std.specs.Prelude.{⊤, ◌≡◌, ◌≢◌, ◌⊎◌, ℕ, List, [], map, Result, Ok, Err}
 use Rattle.rtl_net.specs.Core.{core}
 use Rattle.rtl_check.specs.Views.{fault_view}
 use Rattle.rtlsim_faults.specs.declared.faults.Fault.{Fault}
@@ -24,6 +24,13 @@ most_deltas = 1000
 -- no process keeps a variable's value from one run to the next
 abbrev pub HasNoneStored : NetlistView → Type 0
 HasNoneStored net = AreStored (core net) []
+
+-- a netlist without a stored variable passes; else all such variables are told, unless memory is refused
+abbrev pub RefusesStored : NetlistView → Result (Unit {0}) Fault → Type 0
+RefusesStored net (Ok passed) = HasNoneStored net
+RefusesStored net (Err (Rejected faults)) = AreStored (core net) (map fault_view faults.items) × (faults.items ≢ [])
+RefusesStored net (Err Memory) = ⊤
+RefusesStored net (Err _) = ⊥
 
 -- The netlist is simulated under what the text says, within so many delta cycles at each moment, and the trace is written
 -- as `Answers` says: whole; up to the first moment that doesn't settle; or a beginning of it, where memory is refused or

@@ -1,7 +1,7 @@
 //! Runs: the three ways to simulate a netlist under a stimulus.
 
 ghost use Rattle.rtlsim_commands.specs.Machine.{RunsMachine, RunsMachineByLevels};
-ghost use Rattle.rtlsim_commands.specs.Simulated.{RunsEvents, most_deltas};
+ghost use Rattle.rtlsim_commands.specs.Simulated.{RefusesStored, RunsEvents, most_deltas};
 ghost use Rattle.rtlsim_commands.specs.Sights.{machine, events};
 ghost use Rattle.rtlsim_commands.specs.Runs.{machine_unexpecting, events_unexpecting};
 
@@ -106,10 +106,7 @@ impl<P: Pick> Command for RunEvents<'_, P> {
         watch: &mut V,
         out: &mut S,
     ) -> Result<Summary, Fault> {
-        let stored = stored(alloc, net)?;
-        if !stored.is_empty() {
-            return Err(Fault::Rejected(stored));
-        }
+        refuse_stored(alloc, net)?;
         let stimulus = Stimulus::read(alloc, net, self.stimulus)?;
         let bodies = codes(alloc, net)?;
         let simulation = Simulation {
@@ -128,4 +125,16 @@ impl<P: Pick> Command for RunEvents<'_, P> {
 
 impl<P: Pick> Run for RunEvents<'_, P> {
     ghost unexpecting = { λ run net fault old new does. events_unexpecting run.stimulus.now net fault old new does };
+}
+
+/// Refuses a netlist with a stored variable.
+fn refuse_stored(alloc: Global, net: &Net) -> Result<(), Fault>
+    ensures { RefusesStored net.now result }
+{
+    let stored = stored(alloc, net)?;
+    if stored.is_empty() {
+        Ok(())
+    } else {
+        Err(Fault::Rejected(stored))
+    }
 }

@@ -5,16 +5,13 @@ ghost use Rattle.rtlsim_listing.specs.declared.fault.ListingFault.TheVariants.{M
 
 use rtl_net::NoMemory;
 use rtl_sink::WriteFailed;
-use thiserror::Error;
 
 /// Why lines were not written whole.
-#[derive(Clone, Copy, Debug, Error)]
+#[derive(Clone, Copy)]
 pub enum ListingFault {
     /// Memory for a name was refused.
-    #[error("out of memory")]
     Memory,
     /// The sink took less than the whole text.
-    #[error("the output failed")]
     Write,
 }
 
