@@ -5,6 +5,7 @@ use crate::calls::{by_tool, unless_told};
 use crate::faulty::{FailingReader, FailingWriter, Failure};
 use crate::program::Program;
 use crate::row::Row;
+use crate::text::Text;
 use rtl_sink::{In, Out};
 use std::alloc::Global;
 
@@ -17,7 +18,7 @@ const NEVER: Fails = (usize::MAX, Failure::Once);
 /// `tool`, where each read in turn fails: it tells so, and nothing else. Where none does, it is the row's.
 pub fn wrong_by_reads<P: Program>(alloc: Global, program: &P, row: &Row<'_>) -> Option<Answer> {
     for (failure, last) in [(Failure::Once, usize::MAX), (Failure::Interrupted, 0)] {
-        for reads in 0..=row.input.len().min(last) {
+        for reads in 0..=row.input.as_bytes().len().min(last) {
             let answer = by_reader(alloc, program, row, (reads, failure));
             if !answer.is(8, b"", row.failed_read()) {
                 return Some(answer);
@@ -29,26 +30,27 @@ pub fn wrong_by_reads<P: Program>(alloc: Global, program: &P, row: &Row<'_>) -> 
 
 /// `tool` over a reader that fails after so many reads.
 fn by_reader<P: Program>(alloc: Global, program: &P, row: &Row<'_>, fails: Fails) -> Answer {
-    let reader = FailingReader::new(&row.input, fails.0, fails.1);
+    let reader = FailingReader::new(row.input.as_bytes(), fails.0, fails.1);
     by_tool(alloc, program, &row.words, In::new(reader))
 }
 
 /// `tool`, where each write in turn fails: a beginning went out. Where none does, it is the row's.
 pub fn wrong_by_writes<P: Program>(alloc: Global, program: &P, row: &Row<'_>) -> Option<Answer> {
+    let (out, err) = (row.answer.out.as_bytes(), row.answer.err.as_bytes());
     for (failure, most) in [
         (Failure::Once, usize::MAX),
         (Failure::Interrupted, 1),
         (Failure::Stuck, 1),
     ] {
-        for writes in 0..row.answer.out.len().min(most) {
+        for writes in 0..out.len().min(most) {
             let answer = by_writers(alloc, program, row, [(writes, failure), NEVER, NEVER]);
-            if !answer.is(8, &row.answer.out[..writes], b"rtlsim: output\n") {
+            if !answer.is(8, &out[..writes], b"rtlsim: output\n") {
                 return Some(answer);
             }
         }
-        for writes in 0..row.answer.err.len().min(most) {
+        for writes in 0..err.len().min(most) {
             let answer = by_writers(alloc, program, row, [NEVER, (writes, failure), NEVER]);
-            if !answer.is(8, &row.answer.out, &row.answer.err[..writes]) {
+            if !answer.is(8, out, &err[..writes]) {
                 return Some(answer);
             }
         }
@@ -58,10 +60,12 @@ pub fn wrong_by_writes<P: Program>(alloc: Global, program: &P, row: &Row<'_>) ->
 
 /// `tool`, where each write of what shows how far a run is fails in turn: a beginning of that went out, and all else is the row's.
 pub fn wrong_by_shows<P: Program>(alloc: Global, program: &P, row: &Row<'_>) -> Option<Answer> {
-    for writes in 0..row.answer.progress.len() {
+    let wanted = &row.answer;
+    let shown = wanted.progress.as_bytes();
+    for writes in 0..shown.len() {
         let answer = by_writers(alloc, program, row, [NEVER, NEVER, (writes, Failure::Once)]);
-        if !answer.is(row.answer.status, &row.answer.out, &row.answer.err)
-            || !answer.shows(&row.answer.progress[..writes])
+        if !answer.is(wanted.status, wanted.out.as_bytes(), wanted.err.as_bytes())
+            || !answer.shows(&shown[..writes])
         {
             return Some(answer);
         }
@@ -79,12 +83,12 @@ fn by_writers<P: Program>(
     let mut out = Out::new(FailingWriter::new(alloc, out_fails.0, out_fails.1));
     let mut err = Out::new(FailingWriter::new(alloc, err_fails.0, err_fails.1));
     let mut progress = Out::new(FailingWriter::new(alloc, progress_fails.0, progress_fails.1));
-    let reader = row.input.as_slice();
+    let reader = row.input.as_bytes();
     let status = program.tool(alloc, &row.words, reader, &mut out, &mut err, &mut progress);
     Answer {
         status,
-        out: out.into_inner().taken,
-        err: err.into_inner().taken,
-        progress: progress.into_inner().taken,
+        out: Text::of(out.into_inner().taken),
+        err: Text::of(err.into_inner().taken),
+        progress: Text::of(progress.into_inner().taken),
     }
 }

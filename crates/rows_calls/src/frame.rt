@@ -1,6 +1,7 @@
 //! Texts as the tables write them, and the frames in which they stand.
 
-use std::alloc::{AllocError, Global};
+use crate::text::Text;
+use std::alloc::Global;
 
 /// What stands before and behind a text to make it a file.
 #[derive(Clone, Copy)]
@@ -24,43 +25,34 @@ impl<'a> Frame<'a> {
         }
     }
 
-    /// The text in this frame, and the place of the fault: the source's length where there is no mark. It takes memory for the
-    /// source.
-    ///
-    /// # Errors
-    ///
-    /// Where memory was refused.
-    pub fn source_of(self, alloc: Global, written: &str) -> Result<(String, usize), AllocError> {
+    /// The text in this frame, and the place of the fault: the source's length where there is no mark.
+    pub fn source_of(self, alloc: Global, written: &str) -> (Text, usize) {
         let (read, unread) = written.split_once('^').unwrap_or((written, ""));
-        let mut source = String::from_str(alloc, self.before)?;
-        push_repeated(&mut source, read)?;
-        let place = source.len();
-        push_repeated(&mut source, unread)?;
-        source.push_str(self.behind)?;
-        Ok((source, place))
+        let mut source = Text::new(alloc);
+        source.push(self.before);
+        push_repeated(&mut source, read);
+        let place = source.as_bytes().len();
+        push_repeated(&mut source, unread);
+        source.push(self.behind);
+        (source, place)
     }
 }
 
 /// Adds a text, in which `{N TEXT}` stands for N times the text.
-fn push_repeated(source: &mut String, written: &str) -> Result<(), AllocError> {
-    for (index, part) in written.split('{').enumerate() {
-        match part.split_once('}') {
-            Some((repetition, rest)) if index > 0 => {
-                push_repetition(source, repetition)?;
-                source.push_str(rest)?;
-            }
-            _ => source.push_str(part)?,
-        }
+fn push_repeated(source: &mut Text, written: &str) {
+    let mut parts = written.split('{');
+    source.push(parts.next().unwrap_or(""));
+    for part in parts {
+        push_repetition(source, part);
     }
-    Ok(())
 }
 
-/// Adds `N TEXT`: N times the text.
-fn push_repetition(source: &mut String, repetition: &str) -> Result<(), AllocError> {
-    if let Some((count, text)) = repetition.split_once(' ') {
-        for _ in 0..count.parse::<u32>().unwrap_or(0) {
-            source.push_str(text)?;
-        }
+/// Adds `N TEXT}REST`: N times the text, and the rest. Where there is no `}`, all is the rest.
+fn push_repetition(source: &mut Text, part: &str) {
+    let (repetition, rest) = part.split_once('}').unwrap_or(("", part));
+    let (count, text) = repetition.split_once(' ').unwrap_or(("", ""));
+    for _ in 0..count.parse::<u32>().unwrap_or(0) {
+        source.push(text);
     }
-    Ok(())
+    source.push(rest);
 }

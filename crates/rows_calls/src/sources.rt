@@ -1,12 +1,11 @@
 //! What the program prints for the rows of a table of small sources, in the words of the table.
 
-use crate::answer::text_of;
 use crate::calls::by_tool;
 use crate::frame::Frame;
 use crate::program::Program;
-use crate::row::words_of;
 use crate::table::{Teller, tell_table};
-use std::alloc::{AllocError, Global};
+use crate::text::Text;
+use std::alloc::Global;
 use std::io;
 use std::rt::Files;
 
@@ -51,16 +50,17 @@ struct Calls<'a, P: Program> {
 impl<P: Program> Teller for Calls<'_, P> {
     /// The answer to a call of `net`: what is told of the netlist, or the fault's name, where it stands at the text's mark if it
     /// has one.
-    fn told(&self, alloc: Global, frame: Frame<'_>, written: &str) -> Result<String, AllocError> {
-        let (source, place) = frame.source_of(alloc, written)?;
+    fn told(&self, alloc: Global, frame: Frame<'_>, written: &str, found: &mut Text) {
+        let (source, place) = frame.source_of(alloc, written);
         let words = ["net", "@", self.told.top()];
-        let answer = by_tool(alloc, self.program, &words, source.as_str().as_bytes());
+        let answer = by_tool(alloc, self.program, &words, source.as_bytes());
+        found.heed(&source);
         if answer.status == 0 {
-            return self.told.told_net(alloc, text_of(&answer.out));
+            push_lines(found, answer.out.as_str(), self.told.most_lines());
+        } else {
+            let mark = written.find('^').is_some().then_some(place);
+            self.told.push_line(found, answer.err.as_str().trim(), mark);
         }
-        let mark = written.find('^').is_some().then_some(place);
-        self.told
-            .told_fault(alloc, text_of(&answer.err).trim(), mark)
     }
 }
 
@@ -73,58 +73,49 @@ impl Told {
         }
     }
 
-    /// The lines that are told of a netlist, with `; ` between them.
-    fn told_net(self, alloc: Global, printed: &str) -> Result<String, AllocError> {
-        let mut told = String::new(alloc);
-        let most = match self {
+    /// How many lines of a netlist are told at most.
+    fn most_lines(self) -> usize {
+        match self {
             Told::Counts => 2,
             Told::Names | Told::Lines => usize::MAX,
-        };
-        push_lines(&mut told, printed, most)?;
-        Ok(told)
-    }
-
-    /// What is told of a fault's line: the line itself where the fault isn't at the mark.
-    fn told_fault(
-        self,
-        alloc: Global,
-        line: &str,
-        mark: Option<usize>,
-    ) -> Result<String, AllocError> {
-        let words = words_of(alloc, line)?;
-        self.told_words(alloc, line, &words, mark)
-    }
-
-    /// What is told of a fault's line of these words.
-    fn told_words(
-        self,
-        alloc: Global,
-        line: &str,
-        words: &[&str],
-        mark: Option<usize>,
-    ) -> Result<String, AllocError> {
-        let [_, layer, number, name, _, byte] = words else {
-            return String::from_str(alloc, line);
-        };
-        if mark.is_some() && byte.parse::<usize>().ok() != mark {
-            return String::from_str(alloc, line);
         }
-        match layer.as_bytes() {
-            b"lex" => format!(in alloc; "lexer's fault {number}"),
-            b"syntax" => format!(in alloc; "syntax {number}"),
-            b"elab" if matches!(self, Told::Names) => String::from_str(alloc, "analysed"),
-            _ => String::from_str(alloc, name),
+    }
+
+    /// Adds what is told of a fault's line: the line itself where the fault isn't at the mark.
+    fn push_line(self, found: &mut Text, line: &str, mark: Option<usize>) {
+        match line.split_once(" at ") {
+            Some((said, byte)) if mark.is_none() || byte.parse::<usize>().ok() == mark => {
+                self.push_fault(found, said)
+            }
+            _ => found.push(line),
+        }
+    }
+
+    /// Adds what is told of a fault, of a text `rtlsim: LAYER NUMBER NAME`.
+    fn push_fault(self, found: &mut Text, said: &str) {
+        let (_, said) = said.split_once(' ').unwrap_or((said, ""));
+        let (layer, said) = said.split_once(' ').unwrap_or((said, ""));
+        let (number, name) = said.split_once(' ').unwrap_or((said, ""));
+        if layer == "lex" {
+            found.push("lexer's fault ");
+            found.push(number);
+        } else if layer == "syntax" {
+            found.push("syntax ");
+            found.push(number);
+        } else if layer == "elab" && matches!(self, Told::Names) {
+            found.push("analysed");
+        } else {
+            found.push(name);
         }
     }
 }
 
 /// Adds the first lines of a text, with `; ` between them.
-fn push_lines(told: &mut String, text: &str, most: usize) -> Result<(), AllocError> {
+fn push_lines(found: &mut Text, text: &str, most: usize) {
+    let mut between: &[u8] = b"";
     for line in text.lines().take(most) {
-        if !told.is_empty() {
-            told.push_str("; ")?;
-        }
-        told.push_str(line)?;
+        found.push_bytes(between);
+        found.push(line);
+        between = b"; ";
     }
-    Ok(())
 }

@@ -1,18 +1,15 @@
 //! Tables, told row by row.
 
 use crate::frame::Frame;
-use std::alloc::{AllocError, Global};
+use crate::text::Text;
+use std::alloc::Global;
 use std::rt::Files;
 use std::{fs, io};
 
 /// What is asked of each row of a table.
 pub trait Teller {
-    /// What is found of a text in a frame, in words.
-    ///
-    /// # Errors
-    ///
-    /// Where memory was refused.
-    fn told(&self, alloc: Global, frame: Frame<'_>, written: &str) -> Result<String, AllocError>;
+    /// Adds what is found of a text in a frame, in words.
+    fn told(&self, alloc: Global, frame: Frame<'_>, written: &str, found: &mut Text);
 }
 
 /// Prints a file's name and its rows: a row as it stands where it is as expected, else with what was found. So what is printed is
@@ -26,34 +23,49 @@ pub fn tell_table<T: Teller>(
     file: &str,
     teller: &T,
 ) -> io::Result<()> {
-    let rows = fs::read_to_string(rt, file)?;
     println!(rt; "{file}")?;
+    let rows = fs::read_to_string(rt, file)?;
+    tell_rows(rt, rows.as_str(), teller)
+}
+
+/// Prints the rows of a table, and the frames of those behind them.
+fn tell_rows<T: Teller>(rt: &(impl Print + AllocGlobal), rows: &str, teller: &T) -> io::Result<()> {
     let mut frame = Frame::WHOLE;
-    for row in rows.as_str().lines() {
+    for row in rows.lines() {
         if let Some(form) = row.strip_prefix("in ") {
             frame = Frame::of(form);
         }
         if !row.starts_with('#') {
-            println!(rt; "{}", told_row(rt.alloc(), frame, row, teller)?)?;
+            told_row(rt.alloc(), frame, row, teller).print(rt)?;
         }
     }
     Ok(())
 }
 
 /// A row with what is found of it.
-fn told_row<T: Teller>(
-    alloc: Global,
-    frame: Frame<'_>,
-    row: &str,
-    teller: &T,
-) -> io::Result<String> {
-    let Some((written, expected)) = row.split_once(" → ") else {
-        return Ok(String::from_str(alloc, row)?);
-    };
-    let found = teller.told(alloc, frame, written)?;
-    if found.as_str() == expected {
-        Ok(String::from_str(alloc, row)?)
-    } else {
-        Ok(format!(in alloc; "{written} → {found}   (expected: {expected})")?)
+fn told_row<T: Teller>(alloc: Global, frame: Frame<'_>, row: &str, teller: &T) -> Text {
+    let mut told = Text::new(alloc);
+    match row.split_once(" → ") {
+        Some((written, expected)) => {
+            let mut found = Text::new(alloc);
+            teller.told(alloc, frame, written, &mut found);
+            push_found(&mut told, written, &found, expected);
+        }
+        None => told.push_line(row),
     }
+    told
+}
+
+/// Adds a row with what was found of its text, and with what was expected where that isn't it.
+fn push_found(told: &mut Text, written: &str, found: &Text, expected: &str) {
+    told.heed(found);
+    told.push(written);
+    told.push(" → ");
+    told.push(found.as_str());
+    if found.as_str() != expected {
+        told.push("   (expected: ");
+        told.push(expected);
+        told.push(")");
+    }
+    told.push("\n");
 }

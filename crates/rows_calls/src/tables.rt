@@ -1,17 +1,19 @@
 //! What is printed of tables of calls.
 
-use crate::answer::text_of;
-use crate::calls::wrong_answer;
+use crate::calls::{WAYS, wrong_answer};
+use crate::names::named;
 use crate::program::Program;
 use crate::row::Row;
+use crate::text::Text;
 use std::rt::Files;
 use std::{fs, io};
 
-/// Prints tables of calls, each row with its answer and its calls, and what a call gives that answers otherwise.
+/// Prints tables of calls, each row with its answer and its calls, and what a call gives that answers otherwise. It is told of a row
+/// or a call, too, that it isn't known.
 ///
 /// # Errors
 ///
-/// Those of reading a table, of printing, and of memory; and `InvalidData` where a line or a call of a row is of no kind.
+/// Those of reading a table, of printing, and of memory.
 pub fn tell_calls<R: Files + Print + AllocGlobal, P: Program>(
     rt: &R,
     program: &P,
@@ -25,40 +27,66 @@ pub fn tell_calls<R: Files + Print + AllocGlobal, P: Program>(
     Ok(())
 }
 
-/// Prints the rows of a table.
+/// Prints the rows of a table, each of which begins with `$` at the head of a line.
 fn tell_rows<R: Files + Print + AllocGlobal, P: Program>(
     rt: &R,
     program: &P,
     text: &str,
 ) -> io::Result<()> {
-    for part in text.split("\n$").skip(1) {
-        tell_row(rt, program, &Row::read(rt, part)?)?;
+    if let Some((_, rows)) = text.split_once("\n$") {
+        for part in rows.split("\n$") {
+            told_row(rt, program, part).print(rt)?;
+        }
     }
     Ok(())
 }
 
-/// Prints a row with its answer and its calls, and what a call gives that answers otherwise.
-fn tell_row<R: Files + Print + AllocGlobal, P: Program>(
+/// A row with its answer and its calls, and what a call gives that answers otherwise.
+fn told_row<R: Files + AllocGlobal, P: Program>(rt: &R, program: &P, part: &str) -> Text {
+    let mut told = Text::new(rt.alloc());
+    let row = Row::read(rt, part);
+    told.heed(&row.input);
+    told.heed(&row.answer.out);
+    told.heed(&row.answer.err);
+    push_row(&mut told, &row);
+    for call in row.calls.split(' ') {
+        push_call(&mut told, rt, program, &row, call);
+    }
+    told
+}
+
+/// Adds a row's words, its answer and its calls.
+fn push_row(told: &mut Text, row: &Row<'_>) {
+    told.push(row.line);
+    told.push(": ");
+    told.push_number(usize::from(row.answer.status));
+    told.push(" ");
+    told.push(row.told());
+    told.push(", by ");
+    told.push_line(row.calls);
+    if row.is_wrong {
+        told.push_line("NOT read");
+    }
+}
+
+/// Adds what a call gives, where it isn't what the row says.
+fn push_call<R: Files + AllocGlobal, P: Program>(
+    told: &mut Text,
     rt: &R,
     program: &P,
     row: &Row<'_>,
-) -> io::Result<()> {
-    println!(rt;
-        "{}: {} {}, by {}",
-        row.line,
-        row.answer.status,
-        row.told(),
-        row.calls
-    )?;
-    for call in row.calls.split(' ') {
-        if let Some(answer) = wrong_answer(rt, program, row, call)? {
-            println!(rt;
-                "NOT by {call}: {}\n{}{}",
-                answer.status,
-                text_of(&answer.out),
-                text_of(&answer.err)
-            )?;
-        }
+    call: &str,
+) {
+    let Some(way) = named(&WAYS, call) else {
+        return told.push_line("NOT by a call that is known");
+    };
+    if let Some(answer) = wrong_answer(rt, program, row, way) {
+        told.push("NOT by ");
+        told.push(call);
+        told.push(": ");
+        told.push_number(usize::from(answer.status));
+        told.push("\n");
+        told.push(answer.out.as_str());
+        told.push_line(answer.err.as_str());
     }
-    Ok(())
 }

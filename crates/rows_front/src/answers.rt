@@ -1,7 +1,8 @@
 //! What the values' calls answer.
 
-use crate::operands::{natural, vector};
-use vhdl_values::{Cmp, Logic, Nine, Vec9};
+use crate::calls::{Move, Sum};
+use crate::operands::{natural, value, vector};
+use vhdl_values::{Cmp, Logic, Nine, Vec9, resolve};
 
 /// The logical operator of two vectors of one length. Of two values it has to be the operator of values, alone and
 /// in places 0 and 63 of vectors of 64 elements.
@@ -61,35 +62,47 @@ fn turned(kind: Cmp) -> Cmp {
     }
 }
 
-/// A sum, difference or product, a natural number standing for the vector of the other's length.
-pub fn computed(operator: &str, left: &str, right: &str) -> Option<Vec9> {
-    let (left, right) = match (natural(left), natural(right)) {
-        (Some(number), _) => {
-            let right = vector(right)?;
-            (Vec9::of_nat(u64::from(number), right.len()), right)
-        }
-        (_, Some(number)) => {
-            let left = vector(left)?;
-            (left, Vec9::of_nat(u64::from(number), left.len()))
-        }
-        _ => (vector(left)?, vector(right)?),
-    };
-    match operator {
-        "+" => Some(left.add(&right)),
-        "-" => Some(left.sub(&right)),
-        _ if left.len() + right.len() <= 64 => Some(left.mul(&right)),
-        _ => None,
+/// Two vectors beside each other.
+pub fn joined(left: &Vec9, right: &Vec9) -> Option<Vec9> {
+    if left.len() + right.len() <= 64 {
+        Some(left.concat(right))
+    } else {
+        None
+    }
+}
+
+/// A sum, difference or product.
+pub fn computed(kind: &Sum, left: &str, right: &str) -> Option<Vec9> {
+    let (left, right) = numbers(left, right)?;
+    match kind {
+        Sum::Plus => Some(left.add(&right)),
+        Sum::Minus => Some(left.sub(&right)),
+        Sum::Times if left.len() + right.len() <= 64 => Some(left.mul(&right)),
+        Sum::Times => None,
+    }
+}
+
+/// Two vectors, a natural number standing for the vector of the other's length.
+fn numbers(left: &str, right: &str) -> Option<(Vec9, Vec9)> {
+    if let Some(number) = natural(left) {
+        let right = vector(right)?;
+        return Some((Vec9::of_nat(u64::from(number), right.len()), right));
+    }
+    let left = vector(left)?;
+    match natural(right) {
+        Some(number) => Some((left, Vec9::of_nat(u64::from(number), left.len()))),
+        None => Some((left, vector(right)?)),
     }
 }
 
 /// A vector at another length, shifted, or of a natural number.
-pub fn moved(operator: &str, left: &str, right: &str) -> Option<Vec9> {
+pub fn moved(kind: &Move, left: &str, right: &str) -> Option<Vec9> {
     let count = natural(right)? as usize;
-    match operator {
-        "shift_left" => Some(vector(left)?.shl(count)),
-        "shift_right" => Some(vector(left)?.shr(count)),
-        "resize" if 1 <= count && count <= 64 => Some(vector(left)?.resize(count)),
-        "to_unsigned" if 1 <= count && count <= 64 => {
+    match kind {
+        Move::Left => Some(vector(left)?.shl(count)),
+        Move::Right => Some(vector(left)?.shr(count)),
+        Move::Resized if 1 <= count && count <= 64 => Some(vector(left)?.resize(count)),
+        Move::OfNumber if 1 <= count && count <= 64 => {
             Some(Vec9::of_nat(u64::from(natural(left)?), count))
         }
         _ => None,
@@ -111,12 +124,22 @@ pub fn part(whole: &str, at: &str, len: &str) -> Option<Vec9> {
 }
 
 /// The vector with another value at a place from the left.
-pub fn changed(whole: &str, at: &str, value: Nine) -> Option<Vec9> {
+pub fn changed(whole: &str, at: &str, letter: &str) -> Option<Vec9> {
     let (mut whole, at) = (vector(whole)?, natural(at)? as usize);
     if at < whole.len() {
-        whole.set(at, value);
+        whole.set(at, value(letter)?);
         Some(whole)
     } else {
         None
     }
+}
+
+/// The value of a net that one, two or three values drive.
+pub fn resolved(first: &str, second: &str, third: &str) -> Option<Nine> {
+    let first = value(first)?;
+    Some(match (value(second), value(third)) {
+        (None, _) => resolve(&[first]),
+        (Some(second), None) => resolve(&[first, second]),
+        (Some(second), Some(third)) => resolve(&[first, second, third]),
+    })
 }

@@ -1,17 +1,16 @@
 //! Faults of the lexer and the parser, in words.
 
-use std::alloc::{AllocError, Global};
+use rows_calls::Text;
 use std::fmt::Display;
 
-/// A fault by number, byte and text.
-pub fn told_fault(
-    alloc: Global,
-    number: u8,
-    byte: Option<usize>,
-    fault: &impl Display,
-) -> Result<String, AllocError> {
-    match byte {
-        Some(at) => format!(in alloc; "fault {number} at {at}: {fault}"),
-        None => format!(in alloc; "fault {number}: {fault}"),
+/// Adds a fault by number, byte and text.
+pub fn push_fault(found: &mut Text, number: u8, byte: Option<usize>, fault: &impl Display) {
+    found.push("fault ");
+    found.push_number(usize::from(number));
+    if let Some(at) = byte {
+        found.push(" at ");
+        found.push_number(at);
     }
+    found.push(": ");
+    found.push_shown(fault);
 }

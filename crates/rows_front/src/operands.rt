@@ -2,7 +2,7 @@
 
 ghost use Rattle.std.specs.Prelude.{◌≤◌, IfSome, length};
 
-use vhdl_values::{Cmp, Edge, Logic, Nine, Vec9};
+use vhdl_values::{Nine, Vec9};
 
 /// The vector that 1 to 64 letters spell.
 pub fn vector(letters: &str) -> Option<Vec9> {
@@ -46,41 +46,4 @@ pub fn coded(word: &str) -> Option<Vec9> {
         codes[at] = *byte - b'0';
     }
     Some(Vec9::of_codes(&codes[..bytes.len()]))
-}
-
-/// The logical operator of a name.
-pub fn logic(word: &str) -> Option<Logic> {
-    match word {
-        "and" => Some(Logic::And),
-        "or" => Some(Logic::Or),
-        "nand" => Some(Logic::Nand),
-        "nor" => Some(Logic::Nor),
-        "xor" => Some(Logic::Xor),
-        "xnor" => Some(Logic::Xnor),
-        _ => None,
-    }
-}
-
-/// The relation of a sign.
-pub fn relation(word: &str) -> Option<Cmp> {
-    match word {
-        "=" => Some(Cmp::Eq),
-        "/=" => Some(Cmp::Ne),
-        "<" => Some(Cmp::Lt),
-        "<=" => Some(Cmp::Le),
-        ">" => Some(Cmp::Gt),
-        ">=" => Some(Cmp::Ge),
-        _ => None,
-    }
-}
-
-/// The kind of edge of a name.
-pub fn edge_kind(word: &str) -> Option<Edge> {
-    match word {
-        "rising" => Some(Edge::Rising),
-        "falling" => Some(Edge::Falling),
-        "to1" => Some(Edge::To1),
-        "to0" => Some(Edge::To0),
-        _ => None,
-    }
 }

@@ -5,49 +5,53 @@
 
 ghost use Rattle.std.specs.Prelude.{◌<◌};
 
-use std::alloc::{AllocError, Global};
+use rows_calls::Text;
+use std::alloc::Global;
 
 /// The bytes of a source that is written so.
-pub fn source_of(alloc: Global, written: &str) -> Result<Vec<u8>, AllocError> {
-    let mut source = Vec::new(alloc);
-    for (index, part) in written.split('\\').enumerate() {
-        if index == 0 {
-            source.extend_from_slice(part.as_bytes())?;
-        } else {
-            push_escaped(&mut source, part)?;
-        }
+pub fn source_of(alloc: Global, written: &str) -> Text {
+    let mut source = Text::new(alloc);
+    push_source(&mut source, written);
+    source
+}
+
+/// Adds the bytes of a source that is written so.
+pub fn push_source(source: &mut Text, written: &str) {
+    let mut parts = written.split('\\');
+    source.push(parts.next().unwrap_or(""));
+    for part in parts {
+        push_escaped(source, part);
     }
-    Ok(source)
 }
 
 /// Adds the bytes of a text that stands behind a backslash.
-fn push_escaped(source: &mut Vec<u8>, part: &str) -> Result<(), AllocError> {
-    if let Some(repeated) = part.strip_prefix('*') {
-        return push_repeated(source, repeated);
+fn push_escaped(source: &mut Text, part: &str) {
+    match part.as_bytes() {
+        [b'*', ..] => push_repeated(source, part),
+        [b'n', rest @ ..] => push_byte(source, b'\n', rest),
+        [b'r', rest @ ..] => push_byte(source, b'\r', rest),
+        [b't', rest @ ..] => push_byte(source, b'\t', rest),
+        [b'x', high, low, rest @ ..] => push_byte(source, 16 * digit(*high) + digit(*low), rest),
+        rest => source.push_bytes(rest),
     }
-    let (byte, rest) = match part.as_bytes() {
-        [b'n', rest @ ..] => (b'\n', rest),
-        [b'r', rest @ ..] => (b'\r', rest),
-        [b't', rest @ ..] => (b'\t', rest),
-        [b'x', high, low, rest @ ..] => (16 * digit(*high) + digit(*low), rest),
-        other => return source.extend_from_slice(other),
-    };
-    source.push(byte)?;
-    source.extend_from_slice(rest)
 }
 
-/// Adds a text of the form `N*`, a byte that comes N times, and a rest.
-fn push_repeated(source: &mut Vec<u8>, part: &str) -> Result<(), AllocError> {
-    let Some((count, rest)) = part.split_once('*') else {
-        return Ok(());
-    };
+/// Adds a byte and what stands behind it.
+fn push_byte(source: &mut Text, byte: u8, rest: &[u8]) {
+    source.push_bytes(&[byte]);
+    source.push_bytes(rest);
+}
+
+/// Adds a text of the form `*N*`, a byte that comes N times, and a rest.
+fn push_repeated(source: &mut Text, part: &str) {
+    let (_, counted) = part.split_once('*').unwrap_or(("", ""));
+    let (count, rest) = counted.split_once('*').unwrap_or(("", ""));
     if let (Ok(count), [byte, rest @ ..]) = (count.parse::<u32>(), rest.as_bytes()) {
         for _ in 0..count {
-            source.push(*byte)?;
+            source.push_bytes(&[*byte]);
         }
-        source.extend_from_slice(rest)?;
+        source.push_bytes(rest);
     }
-    Ok(())
 }
 
 /// The value of a hexadecimal digit, 0 of any other byte.
@@ -58,5 +62,19 @@ fn digit(b: u8) -> u8
         b'0'..=b'9' => b - b'0',
         b'a'..=b'f' => b - b'a' + 10,
         _ => 0,
+    }
+}
+
+/// Adds a text in that form, but for the end of its last line.
+pub fn push_written(found: &mut Text, text: &Text) {
+    found.heed(text);
+    let lines = text.as_str();
+    for byte in lines.strip_suffix('\n').unwrap_or(lines).as_bytes() {
+        match *byte {
+            b'\n' => found.push("\\n"),
+            b'\r' => found.push("\\r"),
+            b'\t' => found.push("\\t"),
+            byte => found.push_bytes(&[byte]),
+        }
     }
 }

@@ -1,10 +1,12 @@
 //! Tables of rows, by what stands in them.
 
-use crate::asked::told;
-use crate::tokens::{told_integer, told_tokens};
-use crate::trees::{told_text, told_tree};
-use rows_calls::{Frame, Teller};
-use std::alloc::{AllocError, Global};
+use crate::asked::push_answer;
+use crate::explained::push_explanation;
+use crate::problems::push_problem;
+use crate::tokens::{push_integer, push_tokens};
+use crate::trees::{push_reading, push_tree};
+use rows_calls::{Frame, Teller, Text};
+use std::alloc::Global;
 
 /// What the rows of a table are.
 pub enum Table {
@@ -18,16 +20,22 @@ pub enum Table {
     Texts,
     /// Sources, with their tree or fault.
     Trees,
+    /// Sources that are refused, with the explanation.
+    Refused,
+    /// Problems at the mark of a text, with the explanation.
+    Problems,
 }
 
 impl Teller for Table {
-    fn told(&self, alloc: Global, frame: Frame<'_>, written: &str) -> Result<String, AllocError> {
+    fn told(&self, alloc: Global, frame: Frame<'_>, written: &str, found: &mut Text) {
         match self {
-            Table::Values => told(alloc, written),
-            Table::Tokens => told_tokens(alloc, written),
-            Table::Integers => told_integer(alloc, written),
-            Table::Texts => told_text(alloc, frame, written),
-            Table::Trees => told_tree(alloc, written),
+            Table::Values => push_answer(found, written),
+            Table::Tokens => push_tokens(found, alloc, written),
+            Table::Integers => push_integer(found, written),
+            Table::Texts => push_reading(found, alloc, frame, written),
+            Table::Trees => push_tree(found, alloc, written),
+            Table::Refused => push_explanation(found, alloc, written),
+            Table::Problems => push_problem(found, alloc, written),
         }
     }
 }

@@ -1,43 +1,43 @@
 //! What the lexer makes of a text, in words.
 
-use crate::fault::told_fault;
+use crate::fault::push_fault;
 use crate::kinds::kind_name;
 use crate::source::source_of;
-use std::alloc::{AllocError, Global};
+use rows_calls::Text;
+use std::alloc::Global;
 use vhdl_lexer::{Token, integer_value, lex};
 
-/// The tokens of a source, or its fault.
-pub fn told_tokens(alloc: Global, written: &str) -> Result<String, AllocError> {
-    let source = source_of(alloc, written)?;
-    match lex(alloc, &source) {
-        Ok(tokens) => listed(alloc, &tokens),
-        Err(fault) => told_fault(alloc, fault.number(), fault.byte(), &fault),
+/// Adds the tokens of a source, or its fault.
+pub fn push_tokens(found: &mut Text, alloc: Global, written: &str) {
+    let source = source_of(alloc, written);
+    found.heed(&source);
+    match lex(alloc, source.as_bytes()) {
+        Ok(tokens) => push_listed(found, &tokens),
+        Err(fault) => push_fault(found, fault.number(), fault.byte(), &fault),
     }
 }
 
-/// Tokens by kind, first byte and the byte behind the last.
-fn listed(alloc: Global, tokens: &[Token]) -> Result<String, AllocError> {
+/// Adds tokens by kind, first byte and the byte behind the last.
+fn push_listed(found: &mut Text, tokens: &[Token]) {
     if tokens.is_empty() {
-        return String::from_str(alloc, "no token");
+        found.push("no token");
     }
-    let mut told = String::new(alloc);
-    for (index, token) in tokens.iter().enumerate() {
-        let comma = if index == 0 { "" } else { ", " };
-        write!(
-            told,
-            "{comma}{} {}..{}",
-            kind_name(token.kind),
-            token.start,
-            token.end
-        )?;
+    let mut between: &[u8] = b"";
+    for token in tokens {
+        found.push_bytes(between);
+        found.push(kind_name(token.kind));
+        found.push(" ");
+        found.push_number(token.start as usize);
+        found.push("..");
+        found.push_number(token.end as usize);
+        between = b", ";
     }
-    Ok(told)
 }
 
-/// The number that the text of an integer writes.
-pub fn told_integer(alloc: Global, text: &str) -> Result<String, AllocError> {
+/// Adds the number that the text of an integer writes.
+pub fn push_integer(found: &mut Text, text: &str) {
     match integer_value(text.as_bytes()) {
-        Some(number) => format!(in alloc; "{number}"),
-        None => String::from_str(alloc, "no number that is read"),
+        Some(number) => found.push_number(number as usize),
+        None => found.push("no number that is read"),
     }
 }

@@ -1,40 +1,72 @@
 //! What the parser makes of a text, in words.
 
-use crate::fault::told_fault;
-use rows_calls::Frame;
+ghost use Rattle.vhdl_lexer.specs.Cut.{AreWithin};
+
+use crate::fault::push_fault;
+use rows_calls::{Frame, Text};
 use rows_front_trees::push_file;
-use std::alloc::{AllocError, Global};
-use vhdl_lexer::{LexFault, lex};
+use std::alloc::Global;
+use vhdl_lexer::{LexFault, Token, lex};
 use vhdl_parser::{SyntaxFault, parse};
-use vhdl_tree::File;
 
-/// The tree of a source as a text, empty where the source has no unit, or else the parser's fault or the lexer's. A tree
-/// lives no longer than this call, so no other function holds one.
-pub fn tree_of(alloc: Global, source: &[u8]) -> Result<Result<String, SyntaxFault>, LexFault> {
-    let tokens = lex(alloc, source)?;
-    match parse(alloc, source, &tokens) {
-        Ok(file) => Ok(text_of(alloc, &file)),
-        Err(fault) => Ok(Err(fault)),
+/// What becomes of a source.
+#[derive(Drop)]
+pub enum Outcome {
+    /// It is read.
+    Read,
+    /// The lexer refuses it.
+    NoTokens(LexFault),
+    /// The parser refuses it.
+    NoTree(SyntaxFault),
+}
+
+/// What becomes of a source, whose tree is added as a text where it is read.
+pub fn read(tree: &mut Text, alloc: Global, source: &[u8]) -> Outcome {
+    match lex(alloc, source) {
+        Ok(tokens) => parsed(tree, alloc, source, &tokens),
+        Err(fault) => Outcome::NoTokens(fault),
     }
 }
 
-/// A tree as a text.
-fn text_of(alloc: Global, file: &File) -> Result<String, SyntaxFault> {
-    let mut text = String::new(alloc);
-    match push_file(&mut text, file) {
-        Ok(()) => Ok(text),
-        Err(_) => Err(SyntaxFault::NoMemory),
+/// What becomes of the tokens of a source. A tree lives no longer than this call, so no other function holds one.
+fn parsed(tree: &mut Text, alloc: Global, source: &[u8], tokens: &[Token]) -> Outcome
+    requires within { AreWithin source.now tokens.now }
+{
+    match parse(alloc, source, tokens) {
+        Ok(file) => {
+            push_file(tree, &file);
+            Outcome::Read
+        }
+        Err(fault) => Outcome::NoTree(fault),
     }
 }
 
-/// What becomes of a text in a frame: `read`, or the fault's name where it stands at the text's mark.
-pub fn told_text(alloc: Global, frame: Frame<'_>, written: &str) -> Result<String, AllocError> {
-    let (source, place) = frame.source_of(alloc, written)?;
-    match tree_of(alloc, source.as_str().as_bytes()) {
-        Ok(Ok(_)) => String::from_str(alloc, "read"),
-        Err(fault) => format!(in alloc; "lexer's fault {}", fault.number()),
-        Ok(Err(fault)) if fault.byte() == Some(place) => { String::from_str(alloc, name_of(fault)) }
-        Ok(Err(fault)) => format!(in alloc; "{fault}, and not at byte {place}"),
+/// Adds what becomes of a text in a frame: `read`, or the fault's name where it stands at the text's mark.
+pub fn push_reading(found: &mut Text, alloc: Global, frame: Frame<'_>, written: &str) {
+    let (source, place) = frame.source_of(alloc, written);
+    let mut tree = Text::new(alloc);
+    found.heed(&source);
+    match read(&mut tree, alloc, source.as_bytes()) {
+        Outcome::Read => found.push("read"),
+        Outcome::NoTokens(fault) => push_lexed(found, fault),
+        Outcome::NoTree(fault) => push_placed(found, fault, place),
+    }
+}
+
+/// Adds the number of a fault of the lexer.
+fn push_lexed(found: &mut Text, fault: LexFault) {
+    found.push("lexer's fault ");
+    found.push_number(usize::from(fault.number()));
+}
+
+/// Adds the name of a fault of the parser, or the whole fault where it doesn't stand at this place.
+fn push_placed(found: &mut Text, fault: SyntaxFault, place: usize) {
+    if fault.byte() == Some(place) {
+        found.push(name_of(fault));
+    } else {
+        found.push_shown(&fault);
+        found.push(", and not at byte ");
+        found.push_number(place);
     }
 }
 
@@ -48,13 +80,17 @@ fn name_of(fault: SyntaxFault) -> &'static str {
     }
 }
 
-/// The tree of a source, or its fault.
-pub fn told_tree(alloc: Global, written: &str) -> Result<String, AllocError> {
-    let (source, _) = Frame::WHOLE.source_of(alloc, written)?;
-    match tree_of(alloc, source.as_str().as_bytes()) {
-        Ok(Ok(tree)) if tree.is_empty() => String::from_str(alloc, "no unit"),
-        Ok(Ok(tree)) => Ok(tree),
-        Err(fault) => format!(in alloc; "lexer's fault {}", fault.number()),
-        Ok(Err(fault)) => told_fault(alloc, fault.number(), fault.byte(), &fault),
+/// Adds the tree of a source, or its fault.
+pub fn push_tree(found: &mut Text, alloc: Global, written: &str) {
+    let (source, _) = Frame::WHOLE.source_of(alloc, written);
+    found.heed(&source);
+    match read(found, alloc, source.as_bytes()) {
+        Outcome::Read => {
+            if found.as_bytes().is_empty() {
+                found.push("no unit");
+            }
+        }
+        Outcome::NoTokens(fault) => push_lexed(found, fault),
+        Outcome::NoTree(fault) => push_fault(found, fault.number(), fault.byte(), &fault),
     }
 }

@@ -1,171 +1,169 @@
 //! Concurrent statements.
 
 use crate::declarations::push_variables;
-use crate::expressions::{
-    push_choices, push_comma, push_end, push_expr, push_identifier, push_label, push_map,
-    push_name, push_range, push_value,
-};
+use crate::expressions::{push_choices, push_expr, push_map, push_name, push_range, push_value};
 use crate::sequential::push_sequentials;
-use std::alloc::AllocError;
+use crate::words::{push_at, push_end, push_identifier, push_if, push_label};
+use rows_calls::Text;
 use vhdl_tree::{
-    Assignment, Concurrent, Generate, Instance, Instantiated, Process, Scheme, SelectedAssignment,
-    Sensitivity,
+    Assignment, Concurrent, Generate, Instance, Instantiated, Name, Process, Scheme,
+    SelectedAssignment, Sensitivity,
 };
 
 /// Adds statements, with a space before each.
 #[cycle(concurrent)]
-pub fn push_concurrents(out: &mut String, statements: &[Concurrent]) -> Result<(), AllocError> {
+pub fn push_concurrents(out: &mut Text, statements: &[Concurrent]) {
     for statement in statements {
-        out.push(' ')?;
-        push_concurrent(out, statement)?;
+        out.push(" ");
+        push_concurrent(out, statement);
     }
-    Ok(())
 }
 
 #[cycle(concurrent)]
-fn push_concurrent(out: &mut String, statement: &Concurrent) -> Result<(), AllocError> {
+fn push_concurrent(out: &mut Text, statement: &Concurrent) {
     match statement {
         Concurrent::Assignment(assignment) => push_assignment(out, assignment),
         Concurrent::Selected { label, assignment } => {
-            push_label(out, label)?;
-            push_selected(out, assignment)
+            push_label(out, label);
+            push_selected(out, assignment);
         }
         Concurrent::Process { label, process } => {
-            push_label(out, label)?;
-            push_process(out, process)
+            push_label(out, label);
+            push_process(out, process);
         }
         Concurrent::Instance { label, instance } => {
-            push_identifier(out, label)?;
-            push_instance(out, instance)
+            push_identifier(out, label);
+            push_instance(out, instance);
         }
         Concurrent::Generate(generate) => push_generate(out, generate),
     }
 }
 
-fn push_assignment(out: &mut String, assignment: &Assignment) -> Result<(), AllocError> {
-    push_label(out, &assignment.label)?;
-    push_name(out, &assignment.target)?;
-    out.push_str(" <=")?;
-    for (index, branch) in assignment.branches.iter().enumerate() {
-        out.push_str(if index == 0 { " " } else { " else " })?;
-        push_value(out, &branch.value)?;
-        out.push_str(" when ")?;
-        push_expr(out, &branch.condition)?;
+fn push_assignment(out: &mut Text, assignment: &Assignment) {
+    push_label(out, &assignment.label);
+    push_name(out, &assignment.target);
+    out.push(" <=");
+    let mut before: &[u8] = b" ";
+    for branch in &assignment.branches {
+        out.push_bytes(before);
+        push_value(out, &branch.value);
+        out.push(" when ");
+        push_expr(out, &branch.condition);
+        before = b" else ";
     }
     if let Some(value) = &assignment.otherwise {
-        out.push_str(if assignment.branches.is_empty() {
-            " "
-        } else {
-            " else "
-        })?;
-        push_value(out, value)?;
+        out.push_bytes(before);
+        push_value(out, value);
     }
-    out.push(';')
+    out.push(";");
 }
 
-fn push_selected(out: &mut String, selected: &SelectedAssignment) -> Result<(), AllocError> {
-    let at = selected.at;
-    write!(out, "with@{at} ")?;
-    push_expr(out, &selected.selector)?;
-    out.push_str(" select ")?;
-    push_name(out, &selected.target)?;
-    out.push_str(" <= ")?;
-    for (index, waveform) in selected.waveforms.iter().enumerate() {
-        push_comma(out, index)?;
-        push_value(out, &waveform.value)?;
-        out.push_str(" when ")?;
-        push_choices(out, &waveform.choices)?;
+fn push_selected(out: &mut Text, selected: &SelectedAssignment) {
+    push_at(out, b"with", selected.at);
+    out.push(" ");
+    push_expr(out, &selected.selector);
+    out.push(" select ");
+    push_name(out, &selected.target);
+    let mut before: &[u8] = b" <= ";
+    for waveform in &selected.waveforms {
+        out.push_bytes(before);
+        push_value(out, &waveform.value);
+        out.push(" when ");
+        push_choices(out, &waveform.choices);
+        before = b", ";
     }
-    out.push(';')
+    out.push(";");
 }
 
-fn push_sensitivity(out: &mut String, sensitivity: &Sensitivity) -> Result<(), AllocError> {
+fn push_sensitivity(out: &mut Text, sensitivity: &Sensitivity) {
     match sensitivity {
-        Sensitivity::Absent => Ok(()),
-        Sensitivity::All => out.push_str(" (all)"),
-        Sensitivity::Names(names) => {
-            out.push_str(" (")?;
-            for (index, name) in names.iter().enumerate() {
-                push_comma(out, index)?;
-                push_name(out, name)?;
-            }
-            out.push(')')
-        }
+        Sensitivity::Absent => {}
+        Sensitivity::All => out.push(" (all)"),
+        Sensitivity::Names(names) => push_names(out, names),
     }
 }
 
-fn push_process(out: &mut String, process: &Process) -> Result<(), AllocError> {
-    let at = process.at;
-    write!(out, "process@{at}")?;
-    push_sensitivity(out, &process.sensitivity)?;
-    out.push_str(if process.is_word { " is" } else { "" })?;
+fn push_names(out: &mut Text, names: &[Name]) {
+    let mut before: &[u8] = b" (";
+    for name in names {
+        out.push_bytes(before);
+        push_name(out, name);
+        before = b", ";
+    }
+    out.push(")");
+}
+
+fn push_process(out: &mut Text, process: &Process) {
+    push_at(out, b"process", process.at);
+    push_sensitivity(out, &process.sensitivity);
+    push_if(out, process.is_word, " is");
     for variables in &process.variables {
-        push_variables(out, variables)?;
+        push_variables(out, variables);
     }
-    out.push_str(" begin")?;
-    push_sequentials(out, &process.statements)?;
-    push_end(out, " end process", &process.end_label)
+    out.push(" begin");
+    push_sequentials(out, &process.statements);
+    push_end(out, " end process", &process.end_label);
 }
 
-fn push_instance(out: &mut String, instance: &Instance) -> Result<(), AllocError> {
-    match &instance.unit {
+fn push_instance(out: &mut Text, instance: &Instance) {
+    push_instantiated(out, &instance.unit);
+    push_map(out, " generic map", &instance.generics);
+    push_map(out, " port map", &instance.ports);
+    out.push(";");
+}
+
+fn push_instantiated(out: &mut Text, unit: &Instantiated) {
+    match unit {
         Instantiated::Entity {
             library,
             name,
             architecture,
         } => {
-            out.push_str(" : entity ")?;
-            push_identifier(out, library)?;
-            out.push('.')?;
-            push_identifier(out, name)?;
+            out.push(" : entity ");
+            push_identifier(out, library);
+            out.push(".");
+            push_identifier(out, name);
             if let Some(architecture) = architecture {
-                out.push_str(" (")?;
-                push_identifier(out, architecture)?;
-                out.push(')')?;
+                out.push(" (");
+                push_identifier(out, architecture);
+                out.push(")");
             }
         }
         Instantiated::Component {
             component_word,
             name,
         } => {
-            out.push_str(if *component_word {
-                " : component "
-            } else {
-                " : "
-            })?;
-            push_identifier(out, name)?;
+            out.push(" : ");
+            push_if(out, *component_word, "component ");
+            push_identifier(out, name);
         }
     }
-    push_map(out, "generic", &instance.generics)?;
-    push_map(out, "port", &instance.ports)?;
-    out.push(';')
 }
 
-fn push_scheme(out: &mut String, scheme: &Scheme, at: usize) -> Result<(), AllocError> {
+fn push_scheme(out: &mut Text, scheme: &Scheme, at: usize) {
     match scheme {
         Scheme::For { parameter, range } => {
-            write!(out, "for@{at} ")?;
-            push_identifier(out, parameter)?;
-            out.push_str(" in ")?;
-            push_range(out, range)
+            push_at(out, b"for", at);
+            out.push(" ");
+            push_identifier(out, parameter);
+            out.push(" in ");
+            push_range(out, range);
         }
         Scheme::If { condition } => {
-            write!(out, "if@{at} ")?;
-            push_expr(out, condition)
+            push_at(out, b"if", at);
+            out.push(" ");
+            push_expr(out, condition);
         }
     }
 }
 
 #[cycle(concurrent)]
-fn push_generate(out: &mut String, generate: &Generate) -> Result<(), AllocError> {
-    push_identifier(out, &generate.label)?;
-    out.push_str(" : ")?;
-    push_scheme(out, &generate.scheme, generate.at)?;
-    out.push_str(if generate.begin_word {
-        " generate begin"
-    } else {
-        " generate"
-    })?;
-    push_concurrents(out, &generate.statements)?;
-    push_end(out, " end generate", &generate.end_label)
+fn push_generate(out: &mut Text, generate: &Generate) {
+    push_identifier(out, &generate.label);
+    out.push(" : ");
+    push_scheme(out, &generate.scheme, generate.at);
+    out.push(" generate");
+    push_if(out, generate.begin_word, " begin");
+    push_concurrents(out, &generate.statements);
+    push_end(out, " end generate", &generate.end_label);
 }

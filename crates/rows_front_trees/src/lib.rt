@@ -7,5 +7,6 @@ mod declarations;
 mod expressions;
 mod sequential;
 mod units;
+mod words;
 
 pub use units::push_file;

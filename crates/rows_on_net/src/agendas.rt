@@ -2,36 +2,38 @@
 
 ghost use Rattle.std.specs.Prelude.{◌≡◌, [], None};
 
+use crate::texts::push_count;
 use rtl_agenda::{Agenda, MapAgenda, NoMemory, Wheel};
-use std::io;
+use rtl_sink::{Sink, push_line, push_text};
+use std::alloc::Global;
 use vhdl_values::Nine;
 
-/// Prints what each kind of agenda gives, time by time.
-///
-/// # Errors
-///
-/// Those of printing, and of memory.
-pub fn tell_agendas(rt: &(impl Print + AllocGlobal)) -> io::Result<()> {
-    println!(rt; "an agenda over a map")?;
-    tell_agenda(rt, &mut MapAgenda::new(rt.alloc()))?;
-    println!(rt; "an agenda over 4 slots")?;
-    tell_agenda(rt, &mut Wheel::new(rt.alloc(), 4)?)
+/// Tells what each kind of agenda gives, time by time.
+pub fn tell_agendas<S: Sink>(alloc: Global, out: &mut S) {
+    push_line(out, b"an agenda over a map");
+    tell_agenda(&mut MapAgenda::new(alloc), out);
+    push_line(out, b"an agenda over 4 slots");
+    match Wheel::new(alloc, 4) {
+        Ok(mut wheel) => tell_agenda(&mut wheel, out),
+        Err(_) => push_line(out, b"memory"),
+    }
 }
 
-/// Takes five times off an agenda in which changes wait for four, and prints each with its changes.
-fn tell_agenda<A: Agenda>(rt: &impl Print, agenda: &mut A) -> io::Result<()>
+/// Takes five times off an agenda in which changes wait for four, and tells each with its changes.
+fn tell_agenda<A: Agenda, S: Sink>(agenda: &mut A, out: &mut S)
     requires waiting { (A.state agenda.old).waiting ≡ [] }
     requires last { (A.state agenda.old).last ≡ None }
 {
-    push_some(agenda)?;
+    if push_some(agenda).is_err() {
+        push_line(out, b"memory");
+    }
     for _ in 0..5 {
         match agenda.next() {
-            Some(time) => print!(rt; "  {time}:")?,
-            None => print!(rt; "  no time waits:")?,
+            Some(time) => push_count(out, "  ", time),
+            None => push_text(out, b"  no time waits"),
         }
-        tell_changes(rt, agenda.changes())?;
+        push_changes(out, agenda.changes());
     }
-    Ok(())
 }
 
 /// Pushes two changes for a time, and one each for times before and after it; one time is far behind the others.
@@ -47,10 +49,12 @@ fn push_some<A: Agenda>(agenda: &mut A) -> Result<(), NoMemory>
     Ok(())
 }
 
-/// Prints changes, each with its net and value.
-fn tell_changes(rt: &impl Print, changes: &[(usize, Nine)]) -> io::Result<()> {
+/// Writes changes behind their time, each with its net and value.
+fn push_changes<S: Sink>(out: &mut S, changes: &[(usize, Nine)]) {
+    push_text(out, b":");
     for (net, value) in changes {
-        print!(rt; " {net} {}", value.byte() as char)?;
+        push_count(out, " ", *net as u64);
+        push_text(out, &[b' ', value.byte()]);
     }
-    println!(rt; "")
+    push_text(out, b"\n");
 }

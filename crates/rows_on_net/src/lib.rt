@@ -1,29 +1,30 @@
 //! Rows of netlists: what its processes reach, what the checker reports of it and a second look lets stand, what comes of its
 //! simulation, and what the kernel does with it step by step; and rows of agendas.
 //!
-//! Where a netlist comes from is left to `Nets`, so that nothing here stands on sources: a crate of rows opens them.
+//! Where a netlist comes from is left to `Nets`, so that nothing here stands on sources: a crate of rows opens them. What is told
+//! goes to a sink. Where memory is refused, `memory` stands in place of what is told, or what is told differs from the rows.
 #![tactic(auto)]
 
 mod agendas;
+mod answers;
 mod bodies;
-mod calls;
 mod change;
 mod courses;
+mod held;
 mod nets;
 mod orders;
-mod outputs;
 mod pickers;
 mod processes;
 mod row;
 mod runs;
 mod stepping;
+mod texts;
 mod tries;
 mod ways;
 
 pub use agendas::tell_agendas;
-pub use bodies::Bodies;
 pub use nets::Nets;
 pub use orders::tell_orders;
-pub use processes::processes_of;
+pub use processes::push_processes;
 pub use runs::tell_runs;
-pub use tries::told_try;
+pub use tries::push_try;

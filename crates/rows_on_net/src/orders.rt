@@ -7,21 +7,10 @@ use crate::courses::{
     THREE_REGISTERS, TWO_DRIVERS,
 };
 use crate::nets::Nets;
-use crate::pickers::Asked;
+use crate::pickers::{Asked, Order};
 use crate::stepping::tell_course;
-use rtl_kernel::{Forward, Reverse};
-use std::io;
-
-/// Which of the processes that are to run is run next.
-#[derive(Clone, Copy)]
-enum Order {
-    Forward,
-    Reverse,
-    /// The first, where it is told among how many it was.
-    First,
-    /// The one in the middle, likewise.
-    Middle,
-}
+use rtl_sink::{Sink, push_line};
+use std::alloc::Global;
 
 const ROWS: &[(&str, &Course, Order)] = &[
     (
@@ -55,43 +44,22 @@ const ROWS: &[(&str, &Course, Order)] = &[
     ("registers, from the middle", THREE_REGISTERS, Order::Middle),
 ];
 
-/// Prints the rows, for bodies of a form.
-///
-/// # Errors
-///
-/// Those of printing, and of memory.
-pub fn tell_orders<N: Nets>(
-    rt: &(impl Print + AllocGlobal),
-    nets: &N,
-    form: Bodies,
-) -> io::Result<()> {
-    for (head, course, order) in ROWS {
-        println!(rt; "{head}")?;
-        match order {
-            Order::Forward => tell_course(rt, nets, course, form, &mut Forward)?,
-            Order::Reverse => tell_course(rt, nets, course, form, &mut Reverse)?,
-            Order::First => tell_asked(rt, nets, course, form, false)?,
-            Order::Middle => tell_asked(rt, nets, course, form, true)?,
-        }
-    }
-    Ok(())
+/// Tells the rows of the kernel, for bodies as trees and for bodies as codes.
+pub fn tell_orders<N: Nets, S: Sink>(alloc: Global, nets: &N, out: &mut S) {
+    push_line(out, b"bodies as trees");
+    tell_form(alloc, nets, Bodies::Trees, out);
+    push_line(out, b"bodies as codes");
+    tell_form(alloc, nets, Bodies::Codes, out);
 }
 
-/// Prints a row, and among how many processes one was to be taken each time.
-fn tell_asked<N: Nets>(
-    rt: &(impl Print + AllocGlobal),
-    nets: &N,
-    course: &Course,
-    form: Bodies,
-    is_middle: bool,
-) -> io::Result<()> {
-    let mut pick = Asked {
-        counts: Vec::new(rt.alloc()),
-        is_middle,
-    };
-    tell_course(rt, nets, course, form, &mut pick)?;
-    for count in &pick.counts {
-        println!(rt; "  asked for one of {count}")?;
+fn tell_form<N: Nets, S: Sink>(alloc: Global, nets: &N, form: Bodies, out: &mut S) {
+    for (head, course, order) in ROWS {
+        push_line(out, head.as_bytes());
+        let mut pick = Asked {
+            order: *order,
+            counts: Vec::new(alloc),
+        };
+        tell_course(alloc, nets, course, form, &mut pick, out);
+        pick.tell(out);
     }
-    Ok(())
 }

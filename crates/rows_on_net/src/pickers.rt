@@ -1,17 +1,54 @@
 //! A picker that keeps what it was asked.
 
-use rtl_kernel::Pick;
+use crate::texts::push_count;
+use rtl_kernel::{Forward, Pick, Reverse};
+use rtl_sink::{Sink, push_text};
 
-/// Takes the first process each time, or the one in the middle, and keeps among how many it was.
+/// Which of the processes that are to run is run next.
+#[derive(Clone, Copy)]
+pub enum Order {
+    Forward,
+    Reverse,
+    /// The first, where it is told among how many it was.
+    First,
+    /// The one in the middle, likewise.
+    Middle,
+}
+
+/// Takes the processes in an order, and keeps among how many each was, where that is told.
 #[derive(Drop)]
 pub struct Asked {
+    pub order: Order,
     pub counts: Vec<usize>,
-    pub is_middle: bool,
+}
+
+impl Asked {
+    fn keep(&mut self, count: usize) {
+        let _kept = self.counts.push(count).is_ok();
+    }
+
+    /// Tells among how many processes one was to be taken each time.
+    pub fn tell<S: Sink>(&self, out: &mut S) {
+        for count in &self.counts {
+            push_count(out, "  asked for one of ", *count as u64);
+            push_text(out, b"\n");
+        }
+    }
 }
 
 impl Pick for Asked {
     fn pick(&mut self, count: usize) -> usize {
-        let _kept = self.counts.push(count).is_ok();
-        if self.is_middle { count / 2 } else { 0 }
+        match self.order {
+            Order::Forward => Forward.pick(count),
+            Order::Reverse => Reverse.pick(count),
+            Order::First => {
+                self.keep(count);
+                0
+            }
+            Order::Middle => {
+                self.keep(count);
+                count / 2
+            }
+        }
     }
 }

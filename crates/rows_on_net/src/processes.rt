@@ -1,75 +1,71 @@
 //! What each process of a netlist drives, reads and is sensitive to, in words.
 
-use rtl_net::{Net, SignalKind, Variable};
+use rtl_net::{Net, Process, SignalKind, Variable};
+use rtl_sink::{Sink, push_number, push_text};
 use rtlsim_listing::net_name;
-use std::alloc::{AllocError, Global};
+use std::alloc::Global;
 use vhdl_values::Nine;
 
-/// The processes of a netlist, with `; ` between them: each with its number, the names of nets, and its variables with the values
-/// that they start with.
-///
-/// # Errors
-///
-/// Where memory was refused.
-pub fn processes_of(alloc: Global, net: &Net) -> Result<String, AllocError> {
-    let mut told = String::new(alloc);
-    for (number, process) in net.processes().iter().enumerate() {
+/// Writes the processes of a netlist, with `; ` between them: each with its number, the names of nets, and its variables with the
+/// values that they start with.
+pub fn push_processes<S: Sink>(alloc: Global, net: &Net, out: &mut S) {
+    let processes = net.processes();
+    for number in 0..processes.len() {
         if number > 0 {
-            told.push_str("; ")?;
+            push_text(out, b"; ");
         }
-        told.push_str(format!(in alloc; "{number} drives")?.as_str())?;
-        for driver in &process.drives {
-            push_net(&mut told, alloc, net, driver.net)?;
-        }
-        told.push_str(" reads")?;
-        push_nets(&mut told, alloc, net, &process.reads)?;
-        told.push_str(" wakes")?;
-        push_nets(&mut told, alloc, net, &process.wakes)?;
-        push_variables(&mut told, alloc, &process.variables)?;
+        push_number(out, number as u64);
+        push_process(alloc, net, &processes[number], out);
     }
-    Ok(told)
 }
 
-/// Adds the names of nets, each behind a space.
-fn push_nets(
-    told: &mut String,
-    alloc: Global,
-    net: &Net,
-    numbers: &[usize],
-) -> Result<(), AllocError> {
+fn push_process<S: Sink>(alloc: Global, net: &Net, process: &Process, out: &mut S) {
+    push_text(out, b" drives");
+    for driver in &process.drives {
+        push_net(alloc, net, driver.net, out);
+    }
+    push_text(out, b" reads");
+    push_nets(alloc, net, &process.reads, out);
+    push_text(out, b" wakes");
+    push_nets(alloc, net, &process.wakes, out);
+    for variable in &process.variables {
+        push_variable(out, variable);
+    }
+}
+
+/// Writes the names of nets, each behind a space.
+fn push_nets<S: Sink>(alloc: Global, net: &Net, numbers: &[usize], out: &mut S) {
     for number in numbers {
-        push_net(told, alloc, net, *number)?;
+        push_net(alloc, net, *number, out);
     }
-    Ok(())
 }
 
-/// Adds the name of a net behind a space.
-fn push_net(told: &mut String, alloc: Global, net: &Net, number: usize) -> Result<(), AllocError> {
-    told.push_str(" ")?;
-    if let Ok(name) = net_name(alloc, net, number) {
-        told.push_str(str::from_utf8(&name).unwrap_or("not UTF-8"))?;
+/// Writes the name of a net behind a space.
+fn push_net<S: Sink>(alloc: Global, net: &Net, number: usize, out: &mut S) {
+    push_text(out, b" ");
+    match net_name(alloc, net, number) {
+        Ok(name) => push_text(out, &name),
+        Err(_) => push_text(out, b"memory"),
     }
-    Ok(())
 }
 
-/// Adds the names of variables with what they start with.
-fn push_variables(
-    told: &mut String,
-    alloc: Global,
-    variables: &[Variable],
-) -> Result<(), AllocError> {
-    for variable in variables {
-        told.push_str(" ")?;
-        told.push_str(str::from_utf8(&variable.name).unwrap_or("not UTF-8"))?;
-        told.push_str(" ")?;
-        for start in &variable.starts {
-            match (variable.kind, Nine::from_code(*start)) {
-                (SignalKind::One | SignalKind::Vector { .. }, Some(value)) => {
-                    told.push(value.byte() as char)?;
-                }
-                _ => told.push_str(format!(in alloc; "{start}")?.as_str())?,
-            }
-        }
+/// Writes the name of a variable, and behind it what it starts with.
+fn push_variable<S: Sink>(out: &mut S, variable: &Variable) {
+    push_text(out, b" ");
+    push_text(out, &variable.name);
+    push_text(out, b" ");
+    for start in &variable.starts {
+        push_start(out, variable.kind, *start);
     }
-    Ok(())
+}
+
+/// Writes a value that an element starts with: a letter or digit of the nine values, or the number of a literal.
+fn push_start<S: Sink>(out: &mut S, kind: SignalKind, start: u8) {
+    if let SignalKind::Enumeration { .. } = kind {
+        return push_number(out, start as u64);
+    }
+    match Nine::from_code(start) {
+        Some(value) => push_text(out, &[value.byte()]),
+        None => push_number(out, start as u64),
+    }
 }

@@ -1,54 +1,24 @@
 //! A row of a table.
 
-use std::alloc::{AllocError, Global};
+use rtl_sink::{Out, push_line};
+use std::alloc::Global;
 
-/// A netlist under a stimulus, and what must come of it.
+/// A stimulus, how many delta cycles a moment may take, and what must come of it: the trace, and the line of the answer.
 #[derive(Drop)]
 pub struct Row<'a> {
-    /// The first line as it stands in the table: the netlist's name, and how many delta cycles a moment may take.
-    pub head: &'a str,
-    pub net: &'a str,
     pub limit: u32,
-    pub stimulus: Vec<u8>,
-    pub trace: Vec<u8>,
-    pub answer: &'a str,
+    pub stimulus: &'a [u8],
+    pub trace: &'a [u8],
+    pub answer: &'a [u8],
 }
 
-impl<'a> Row<'a> {
-    /// Reads a row, from the netlist's name on.
-    pub fn read(alloc: Global, part: &'a str) -> Result<Row<'a>, AllocError> {
-        let (head, rest) = part.split_once('\n').unwrap_or((part, ""));
-        let (net, limit) = head.split_once(' ').unwrap_or((head, ""));
-        let mut row = Row {
-            head,
-            net,
-            limit: limit.parse::<u32>().unwrap_or(0),
-            stimulus: Vec::new(alloc),
-            trace: Vec::new(alloc),
-            answer: "",
-        };
-        for line in rest.lines() {
-            row.take_line(line)?;
+/// What stands behind a mark in the lines that have it.
+pub fn lines_behind(alloc: Global, mark: &str, text: &str) -> Vec<u8> {
+    let mut lines = Out::new(Vec::new(alloc));
+    for line in text.lines() {
+        if let Some(rest) = line.strip_prefix(mark) {
+            push_line(&mut lines, rest.as_bytes());
         }
-        Ok(row)
     }
-
-    /// Takes a line: of the stimulus behind `<`, of the trace behind `>`, and the answer behind `!`. Others are comments.
-    fn take_line(&mut self, line: &'a str) -> Result<(), AllocError> {
-        if let Some(text) = line.strip_prefix("< ") {
-            return push_line(&mut self.stimulus, text);
-        }
-        if let Some(text) = line.strip_prefix("> ") {
-            return push_line(&mut self.trace, text);
-        }
-        if let Some(text) = line.strip_prefix("! ") {
-            self.answer = text;
-        }
-        Ok(())
-    }
-}
-
-fn push_line(text: &mut Vec<u8>, line: &str) -> Result<(), AllocError> {
-    text.extend_from_slice(line.as_bytes())?;
-    text.extend_from_slice(b"\n")
+    lines.into_inner()
 }

@@ -8,127 +8,140 @@ ghost use Rattle.rtl_net.specs.Nets.{flat};
 use crate::bodies::{Bodies, Stamped, with_stamps};
 use crate::courses::{Course, Form};
 use crate::nets::{Nets, net_named};
+use crate::pickers::Asked;
+use crate::texts::{push_count, push_truth};
 use rtl_eval::{Exec, trees};
 use rtl_eval_code::codes;
-use rtl_kernel::{Kernel, Pick};
+use rtl_kernel::Kernel;
 use rtl_net::Net;
+use rtl_sink::{Sink, push_line, push_text};
+use std::alloc::Global;
 use std::cell::Cell;
-use std::io;
 use vhdl_values::Nine;
 
-/// Starts a netlist, whose bodies have this form, and prints what it comes to at each step.
-pub fn tell_course<N: Nets, P: Pick>(
-    rt: &(impl Print + AllocGlobal),
+/// Starts a netlist, whose bodies have this form, and tells what it comes to at each step.
+pub fn tell_course<N: Nets, S: Sink>(
+    alloc: Global,
     nets: &N,
     course: &Course,
     form: Bodies,
-    pick: &mut P,
-) -> io::Result<()> {
-    match net_named(rt.alloc(), nets, course.net) {
-        Some(net) => tell_net(rt, &net, course, form, pick),
-        None => println!(rt; "no net has this name"),
+    pick: &mut Asked,
+    out: &mut S,
+) {
+    match net_named(alloc, nets, course.net) {
+        Some(net) => tell_net(alloc, &net, course, form, pick, out),
+        None => push_line(out, b"no net has this name"),
     }
 }
 
-fn tell_net<P: Pick>(
-    rt: &(impl Print + AllocGlobal),
+fn tell_net<S: Sink>(
+    alloc: Global,
     net: &Net,
     course: &Course,
     form: Bodies,
-    pick: &mut P,
-) -> io::Result<()> {
+    pick: &mut Asked,
+    out: &mut S,
+) {
     match form {
-        Bodies::Trees => {
-            let trees = trees(rt.alloc(), net)?;
-            tell_bodies(rt, net, &trees, course, pick)
-        }
-        Bodies::Codes => {
-            let codes = codes(rt.alloc(), net)?;
-            tell_bodies(rt, net, &codes, course, pick)
-        }
+        Bodies::Trees => match trees(alloc, net) {
+            Ok(trees) => tell_bodies(alloc, net, &trees, course, pick, out),
+            Err(_) => push_line(out, b"memory"),
+        },
+        Bodies::Codes => match codes(alloc, net) {
+            Ok(codes) => tell_bodies(alloc, net, &codes, course, pick, out),
+            Err(_) => push_line(out, b"memory"),
+        },
     }
 }
 
-fn tell_bodies<E: Exec, P: Pick>(
-    rt: &(impl Print + AllocGlobal),
+fn tell_bodies<E: Exec, S: Sink>(
+    alloc: Global,
     net: &Net,
     bodies: &[E],
     course: &Course,
-    pick: &mut P,
-) -> io::Result<()>
+    pick: &mut Asked,
+    out: &mut S,
+)
     requires { RunBodies E.process E.types (flat net.now) bodies.now }
 {
     let count = Cell::new(0);
-    let stamped = with_stamps(rt.alloc(), bodies, &count)?;
-    tell_stamped(rt, net, &stamped, course, pick)
+    match with_stamps(alloc, bodies, &count) {
+        Ok(stamped) => tell_stamped(alloc, net, &stamped, course, pick, out),
+        Err(_) => push_line(out, b"memory"),
+    }
 }
 
-fn tell_stamped<E: Exec, P: Pick>(
-    rt: &(impl Print + AllocGlobal),
+fn tell_stamped<E: Exec, S: Sink>(
+    alloc: Global,
     net: &Net,
     bodies: &[Stamped<'_, E>],
     course: &Course,
-    pick: &mut P,
-) -> io::Result<()>
+    pick: &mut Asked,
+    out: &mut S,
+)
     requires { RunBodies (λ b. E.process b.body.now) (λ b. E.types b.body.now) (flat net.now) bodies.now }
 {
     if course.initial.len() != net.inputs().len() {
-        return println!(rt; "no such inputs");
+        return push_line(out, b"no such inputs");
     }
-    let mut kernel = Kernel::new(rt.alloc(), net, bodies, course.initial)?;
-    kernel.start(pick);
-    tell_steps(rt, net, bodies, &mut kernel, course, pick)
+    match Kernel::new(alloc, net, bodies, course.initial) {
+        Ok(mut kernel) => {
+            kernel.start(pick);
+            tell_steps(net, bodies, &mut kernel, course, pick, out);
+        }
+        Err(_) => push_line(out, b"memory"),
+    }
 }
 
-/// Prints what a netlist comes to behind its start.
-fn tell_steps<E: Exec, P: Pick>(
-    rt: &impl Print,
+/// Tells what a netlist comes to behind its start.
+fn tell_steps<E: Exec, S: Sink>(
     net: &Net,
     bodies: &[Stamped<'_, E>],
     kernel: &mut Kernel<'_, Stamped<'_, E>>,
     course: &Course,
-    pick: &mut P,
-) -> io::Result<()>
+    pick: &mut Asked,
+    out: &mut S,
+)
     requires net { kernel.old.net ≡ net.now }
     requires ready { HasNoneToRun kernel.old.state }
 {
-    tell_order(rt, bodies, course.form)?;
+    push_order(bodies, course.form, out);
     if let Some(limit) = course.start {
-        tell_start(rt, kernel, limit, pick)?;
+        tell_start(kernel, limit, pick, out);
     }
     for (value, limit) in course.steps {
         if let Some(value) = value {
             change(net, kernel, *value, pick);
         }
-        tell_step(rt, kernel, *limit, course.form, pick)?;
-        tell_order(rt, bodies, course.form)?;
+        tell_step(kernel, *limit, course.form, pick, out);
+        push_order(bodies, course.form, out);
     }
-    Ok(())
 }
 
-/// Lets the start settle, and prints in how many delta cycles it does.
-fn tell_start<E: Exec, P: Pick>(
-    rt: &impl Print,
+/// Lets the start settle, and tells in how many delta cycles it does.
+fn tell_start<E: Exec, S: Sink>(
     kernel: &mut Kernel<'_, Stamped<'_, E>>,
     limit: u32,
-    pick: &mut P,
-) -> io::Result<()>
+    pick: &mut Asked,
+    out: &mut S,
+)
     requires ready { HasNoneToRun kernel.old.state }
     ensures net { kernel.new.net ≡ kernel.old.net }
     ensures ready { HasNoneToRun kernel.new.state }
 {
     match kernel.settle(limit, pick) {
-        Ok(deltas) => println!(rt; "  started, settled after {deltas}"),
-        Err(_) => println!(rt; "  the start does not settle"),
+        Ok(deltas) => push_count(out, "  started, settled after ", deltas as u64),
+        Err(_) => push_text(out, b"  the start does not settle"),
     }
+    push_text(out, b"\n");
 }
 
 /// Gives the first input a value, where there is one and no driver is active.
-fn change<E: Exec, P: Pick>(
+fn change<E: Exec>(
     net: &Net,
     kernel: &mut Kernel<'_, Stamped<'_, E>>,
     value: Nine,
-    pick: &mut P,
+    pick: &mut Asked,
 )
     requires net { kernel.old.net ≡ net.now }
     requires ready { HasNoneToRun kernel.old.state }
@@ -141,48 +154,62 @@ fn change<E: Exec, P: Pick>(
     }
 }
 
-/// Lets a netlist settle, and prints what it comes to.
-fn tell_step<E: Exec, P: Pick>(
-    rt: &impl Print,
+/// Lets a netlist settle, and tells what it comes to.
+fn tell_step<E: Exec, S: Sink>(
     kernel: &mut Kernel<'_, Stamped<'_, E>>,
     limit: u32,
     form: &Form,
-    pick: &mut P,
-) -> io::Result<()>
+    pick: &mut Asked,
+    out: &mut S,
+)
     requires ready { HasNoneToRun kernel.old.state }
     ensures net { kernel.new.net ≡ kernel.old.net }
     ensures ready { HasNoneToRun kernel.new.state }
 {
     match kernel.settle(limit, pick) {
-        Ok(deltas) if form.has_limits => print!(rt; "  settled after {deltas} of {limit}")?,
-        Ok(deltas) => print!(rt; "  settled after {deltas}")?,
-        Err(_) => print!(rt; "  not settled after {limit}")?,
+        Ok(deltas) => push_deltas(deltas, limit, form, out),
+        Err(_) => push_count(out, "  not settled after ", limit as u64),
     }
-    tell_values(rt, kernel.values(), form)?;
-    if form.has_quiet {
-        println!(rt; "    no driver is active: {}", kernel.is_quiet())?;
-    }
-    Ok(())
+    push_values(kernel.values(), form, out);
+    push_quiet(kernel.is_quiet(), form, out);
 }
 
-/// Prints the values of the nets that a form has.
-fn tell_values(rt: &impl Print, values: &[u8], form: &Form) -> io::Result<()> {
-    for (mark, value) in form.marks.iter().zip(values) {
+/// Writes after how many delta cycles a step settled.
+fn push_deltas<S: Sink>(deltas: u32, limit: u32, form: &Form, out: &mut S) {
+    push_count(out, "  settled after ", deltas as u64);
+    if form.has_limits {
+        push_count(out, " of ", limit as u64);
+    }
+}
+
+/// Writes the values of the nets that a form has.
+fn push_values<S: Sink>(values: &[u8], form: &Form, out: &mut S) {
+    for place in 0..values.len().min(form.marks.len()) {
+        let mark = form.marks[place];
         if !mark.is_empty() {
-            print!(rt; "{mark}{value}")?;
+            push_count(out, mark, values[place] as u64);
         }
     }
-    println!(rt; "")
+    push_text(out, b"\n");
 }
 
-/// Prints of each body which run its last one was, where a form has it.
-fn tell_order<E: Exec>(rt: &impl Print, bodies: &[Stamped<'_, E>], form: &Form) -> io::Result<()> {
+/// Tells whether no driver is active, where a form has it.
+fn push_quiet<S: Sink>(is_quiet: bool, form: &Form, out: &mut S) {
+    if form.has_quiet {
+        push_text(out, b"    no driver is active: ");
+        push_truth(out, is_quiet);
+        push_text(out, b"\n");
+    }
+}
+
+/// Writes of each body which run its last one was, where a form has it.
+fn push_order<E: Exec, S: Sink>(bodies: &[Stamped<'_, E>], form: &Form, out: &mut S) {
     if !form.has_order {
-        return Ok(());
+        return;
     }
-    print!(rt; "  runs")?;
+    push_text(out, b"  runs");
     for body in bodies {
-        print!(rt; " {}", body.stamp.get())?;
+        push_count(out, " ", body.stamp.get() as u64);
     }
-    println!(rt; "")
+    push_text(out, b"\n");
 }

@@ -1,82 +1,89 @@
 //! What is tried with a netlist.
 
-use crate::change::change;
+use crate::change::{change, put};
+use crate::texts::{push_joined, push_truth};
 use rtl_check::{Report, Verdict, check, stored};
 use rtl_net::Net;
 use rtl_recheck::recheck;
-use rtl_sink::Out;
+use rtl_sink::{Out, Sink, push_text};
 use rtlsim_listing::{show_check, show_faults};
-use std::alloc::{AllocError, Global};
+use std::alloc::Global;
 
-/// What comes of a try with a netlist, by a row's words: `check` for the checker's verdict, `stored` for the variables that
+/// Writes what comes of a try with a netlist, by a row's words: `check` for the checker's verdict, `stored` for the variables that
 /// are stored, and `recheck` for whether a report stands: the checker's, with the changes that the words behind tell.
-///
-/// # Errors
-///
-/// Where memory was refused.
-pub fn told_try(alloc: Global, net: &Net, line: &str) -> Result<String, AllocError> {
+pub fn push_try<S: Sink>(alloc: Global, net: &Net, line: &str, out: &mut S) {
     let (word, words) = line.split_once(' ').unwrap_or((line, ""));
-    match word.as_bytes() {
-        b"check" => told_check(alloc, net),
-        b"stored" => told_stored(alloc, net),
-        b"recheck" => told_recheck(alloc, net, words),
-        _ => String::from_str(alloc, "no such try"),
+    if word == "check" {
+        return push_check(alloc, net, out);
+    }
+    if word == "stored" {
+        return push_stored(alloc, net, out);
+    }
+    if word == "recheck" {
+        return push_recheck(alloc, net, words, out);
+    }
+    push_text(out, b"no such try");
+}
+
+/// Writes the lines of the verdict.
+fn push_check<S: Sink>(alloc: Global, net: &Net, out: &mut S) {
+    let mut lines = Out::new(Vec::new(alloc));
+    let is_told = match check(alloc, net) {
+        Ok(verdict) => show_check(alloc, net, &verdict, &mut lines).is_ok(),
+        Err(_) => false,
+    };
+    push_lines(out, is_told, &lines.into_inner());
+}
+
+/// Writes the lines of the stored variables.
+fn push_stored<S: Sink>(alloc: Global, net: &Net, out: &mut S) {
+    let mut lines = Out::new(Vec::new(alloc));
+    let is_told = match stored(alloc, net) {
+        Ok(faults) => show_faults(alloc, net, &faults, &mut lines).is_ok(),
+        Err(_) => false,
+    };
+    push_lines(out, is_told, &lines.into_inner());
+}
+
+/// Writes lines, with `; ` between them.
+fn push_lines<S: Sink>(out: &mut S, is_told: bool, lines: &[u8]) {
+    if is_told {
+        push_joined(out, lines);
+    } else {
+        push_text(out, b"not told");
     }
 }
 
-/// The lines of the verdict.
-fn told_check(alloc: Global, net: &Net) -> Result<String, AllocError> {
-    let verdict = check(alloc, net)?;
-    let mut out = Out::new(Vec::new(alloc));
-    let is_told = show_check(alloc, net, &verdict, &mut out).is_ok();
-    joined(alloc, is_told, &out.into_inner())
-}
-
-/// The lines of the stored variables.
-fn told_stored(alloc: Global, net: &Net) -> Result<String, AllocError> {
-    let faults = stored(alloc, net)?;
-    let mut out = Out::new(Vec::new(alloc));
-    let is_told = show_faults(alloc, net, &faults, &mut out).is_ok();
-    joined(alloc, is_told, &out.into_inner())
-}
-
-/// Lines, with `; ` between them.
-fn joined(alloc: Global, is_told: bool, written: &[u8]) -> Result<String, AllocError> {
-    if !is_told {
-        return String::from_str(alloc, "not told");
+/// Writes whether a report with these changes stands.
+fn push_recheck<S: Sink>(alloc: Global, net: &Net, words: &str, out: &mut S) {
+    match check(alloc, net) {
+        Ok(Verdict::Yes(mut report)) => push_stands(net, &mut report, words, out),
+        Ok(Verdict::No(_)) => push_stands(net, &mut guessed(alloc, net), words, out),
+        Err(_) => push_text(out, b"memory"),
     }
-    let mut lines = String::new(alloc);
-    for line in str::from_utf8(written).unwrap_or("not UTF-8").lines() {
-        if !lines.is_empty() {
-            lines.push_str("; ")?;
-        }
-        lines.push_str(line)?;
-    }
-    Ok(lines)
 }
 
-/// Whether a report with these changes stands.
-fn told_recheck(alloc: Global, net: &Net, words: &str) -> Result<String, AllocError> {
-    let mut report = report_of(alloc, net)?;
+/// Changes a report, and writes whether it stands.
+fn push_stands<S: Sink>(net: &Net, report: &mut Report, words: &str, out: &mut S) {
     for part in words.split(", ") {
-        if !change(&mut report, part)? {
-            return String::from_str(alloc, "no such change");
+        if !change(report, part) {
+            return push_text(out, b"no such change");
         }
     }
-    let stands = recheck(net, &report);
-    format!(in alloc; "{stands}")
+    push_truth(out, recheck(net, report));
 }
 
-/// The checker's report; where it has none, one with each process at level 1, no clocks, and bound 1.
-fn report_of(alloc: Global, net: &Net) -> Result<Report, AllocError> {
-    if let Verdict::Yes(report) = check(alloc, net)? {
-        return Ok(report);
-    }
-    let processes = net.processes().len();
-    Ok(Report {
-        levels: vec![in alloc; Some(1); processes]?,
-        from: vec![in alloc; None; processes]?,
+/// A report on a netlist that has none: each process at level 1, no clocks, and bound 1.
+fn guessed(alloc: Global, net: &Net) -> Report {
+    let mut report = Report {
+        levels: Vec::new(alloc),
+        from: Vec::new(alloc),
         clocks: Vec::new(alloc),
         bound: 1,
-    })
+    };
+    for process in 0..net.processes().len() {
+        put(&mut report.levels, process, Some(1));
+        put(&mut report.from, process, None);
+    }
+    report
 }

@@ -2,65 +2,58 @@
 
 ghost use Rattle.rtl_stim.specs.Ports.{HasOwnPorts};
 
-use crate::calls::answered;
-use crate::outputs::Counted;
+use crate::answers::run_row;
+use crate::held::Held;
 use crate::row::Row;
-use rtl_kernel::{Forward, Reverse};
+use rtl_kernel::{Forward, Pick, Reverse};
 use rtl_net::Net;
-use std::alloc::{AllocError, Global};
+use rtl_sink::Out;
+use std::alloc::Global;
 
-/// A way of simulating a row in which something else comes of it than must.
-pub fn other_way(
+/// A way of simulating a row in which something else comes of it than must: with the processes in the reverse order, to an output that
+/// takes a byte a call, and to outputs that fail.
+pub fn other_way(alloc: Global, net: &Net, row: &Row<'_>) -> Option<&'static str>
+    requires { HasOwnPorts net.now }
+{
+    let length = row.trace.len();
+    if left_of(alloc, net, row, &mut Reverse, usize::MAX, usize::MAX) != Some(0) {
+        return Some("in the reverse order");
+    }
+    if left_of(alloc, net, row, &mut Forward, 1, length) != Some(0) {
+        return Some("by a byte a call");
+    }
+    for calls in 0..length {
+        if left_of(alloc, net, row, &mut Forward, 1, calls) != Some(length - calls) {
+            return Some("by a byte a call up to a failure");
+        }
+        if left_of(alloc, net, row, &mut Forward, usize::MAX, calls).is_none() {
+            return Some("up to a failure");
+        }
+    }
+    None
+}
+
+/// How many bytes of a row's trace don't go to an output that takes at most so many a call, at so many calls. Nothing stands for
+/// them where what went out is no beginning of the trace, and where the answer isn't the row's, or behind a cut trace `output`.
+fn left_of<P: Pick>(
     alloc: Global,
     net: &Net,
     row: &Row<'_>,
-) -> Result<Option<&'static str>, AllocError>
+    pick: &mut P,
+    most: usize,
+    calls: usize,
+) -> Option<usize>
     requires { HasOwnPorts net.now }
 {
-    let mut out = Counted::new(alloc, usize::MAX, usize::MAX);
-    let answer = answered(alloc, net, row, &mut Reverse, &mut out)?;
-    if !is_told(row, &answer, &out) {
-        return Ok(Some("in the reverse order"));
-    }
-    let mut out = Counted::new(alloc, 1, row.trace.len());
-    let answer = answered(alloc, net, row, &mut Forward, &mut out)?;
-    if !is_told(row, &answer, &out) {
-        return Ok(Some("by a byte a call"));
-    }
-    other_failure(alloc, net, row)
+    let mut held = Held::new(row.trace, most, calls);
+    let mut told = Out::new(Vec::new(alloc));
+    run_row(alloc, net, row, pick, &mut held, &mut told);
+    left_where(row, held.left, &told.into_inner())
 }
 
-/// A way of letting the output fail at a call, in which something else comes of the row than a beginning of its trace.
-fn other_failure(
-    alloc: Global,
-    net: &Net,
-    row: &Row<'_>,
-) -> Result<Option<&'static str>, AllocError>
-    requires { HasOwnPorts net.now }
-{
-    for calls in 0..row.trace.len() {
-        let mut out = Counted::new(alloc, 1, calls);
-        let answer = answered(alloc, net, row, &mut Forward, &mut out)?;
-        if answer.as_str() != "output" || out.taken.as_slice() != &row.trace[..calls] {
-            return Ok(Some("by a byte a call up to a failure"));
-        }
-        let mut out = Counted::new(alloc, usize::MAX, calls);
-        let answer = answered(alloc, net, row, &mut Forward, &mut out)?;
-        if !is_told(row, &answer, &out) && !is_cut(row, &answer, &out) {
-            return Ok(Some("up to a failure"));
-        }
-    }
-    Ok(None)
-}
-
-/// Whether what came of a row is what must.
-fn is_told(row: &Row<'_>, answer: &String, out: &Counted) -> bool {
-    answer.as_str() == row.answer && out.taken.as_slice() == row.trace.as_slice()
-}
-
-/// Whether the output failed, and took less than the whole trace, from its beginning.
-fn is_cut(row: &Row<'_>, answer: &String, out: &Counted) -> bool {
-    answer.as_str() == "output"
-        && out.taken.len() < row.trace.len()
-        && row.trace.starts_with(out.taken.as_slice())
+/// How many bytes are left of a row's trace, where the answer is the one that belongs to them.
+fn left_where(row: &Row<'_>, left: Option<&[u8]>, told: &[u8]) -> Option<usize> {
+    let left = left?.len();
+    let wanted: &[u8] = if left == 0 { row.answer } else { b"output\n" };
+    if told == wanted { Some(left) } else { None }
 }

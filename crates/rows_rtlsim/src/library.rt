@@ -19,53 +19,43 @@ pub fn answer_by_library<S: Sink>(
 ) -> u8
     requires { IsIntact (S.state out.old) }
 {
-    match answer(alloc, request, input, out) {
-        Ok(status) => status.code(),
-        Err(fault) => fault.status().code(),
+    match request {
+        Request::Eval { top, sets, .. } => evaluate(alloc, input, top, sets, out),
+        Request::Net { top, .. } => {
+            status_of(show_net::<Vhdl, _>(alloc, input, top.as_bytes(), out))
+        }
+        Request::Check { top, .. } => {
+            status_of_check(show_check::<Vhdl, _>(alloc, input, top.as_bytes(), out))
+        }
+        Request::Dot { top, .. } => {
+            status_of_check(show_check_dot::<Vhdl, _>(alloc, input, top.as_bytes(), out))
+        }
+        // The library has no call that writes the object of a source's verdict.
+        Request::Json { .. } => Status::Failed.code(),
+        Request::Run {
+            is_event,
+            order,
+            top,
+            ..
+        } => match order {
+            Order::Forward => simulate(alloc, *is_event, input, top, &mut Forward, out),
+            Order::Reverse => simulate(alloc, *is_event, input, top, &mut Reverse, out),
+        },
+        Request::Levels { top, .. } => {
+            let (source, stimulus) = halves_at_line(input);
+            status_of(run_levels::<Vhdl, _>(alloc, source, top.as_bytes(), stimulus, out))
+        }
     }
 }
 
-/// Makes the call of a request, and gives the status where it succeeds.
-fn answer<S: Sink>(
-    alloc: Global,
-    request: &Request<'_>,
-    input: &[u8],
-    out: &mut S,
-) -> Result<Status, Fault>
+/// Evaluates a source under the words of its inputs.
+fn evaluate<S: Sink>(alloc: Global, input: &[u8], top: &str, sets: &[&str], out: &mut S) -> u8
     requires { IsIntact (S.state out.old) }
 {
-    match request {
-        Request::Eval { top, sets, .. } => {
-            eval::<Vhdl, _>(alloc, input, top.as_bytes(), &bytes_of(alloc, sets)?, out)?;
-        }
-        Request::Net { top, .. } => show_net::<Vhdl, _>(alloc, input, top.as_bytes(), out)?,
-        Request::Check { top, .. } => {
-            if !show_check::<Vhdl, _>(alloc, input, top.as_bytes(), out)? {
-                return Ok(Status::Rejected);
-            }
-        }
-        Request::Dot { top, .. } => {
-            if !show_check_dot::<Vhdl, _>(alloc, input, top.as_bytes(), out)? {
-                return Ok(Status::Rejected);
-            }
-        }
-        // The library has no call that writes the object of a source's verdict.
-        Request::Json { .. } => return Ok(Status::Failed),
-        Request::Run {
-            is_event,
-            order: Order::Forward,
-            top,
-            ..
-        } => simulate(alloc, *is_event, input, top, &mut Forward, out)?,
-        Request::Run { is_event, top, .. } => {
-            simulate(alloc, *is_event, input, top, &mut Reverse, out)?
-        }
-        Request::Levels { top, .. } => {
-            let (source, stimulus) = halves_at_line(input);
-            run_levels::<Vhdl, _>(alloc, source, top.as_bytes(), stimulus, out)?;
-        }
+    match bytes_of(alloc, sets) {
+        Ok(sets) => status_of(eval::<Vhdl, _>(alloc, input, top.as_bytes(), &sets, out)),
+        Err(_) => Status::Memory.code(),
     }
-    Ok(Status::Done)
 }
 
 /// Simulates the source that stands in an input, before its stimulus.
@@ -76,14 +66,31 @@ fn simulate<P: Pick, S: Sink>(
     top: &str,
     pick: &mut P,
     out: &mut S,
-) -> Result<(), Fault>
+) -> u8
     requires { IsIntact (S.state out.old) }
 {
     let (source, stimulus) = halves_at_line(input);
-    let _summary = if is_event {
-        run_event::<Vhdl, _, _>(alloc, source, top.as_bytes(), stimulus, pick, out)?
+    let top = top.as_bytes();
+    if is_event {
+        status_of(run_event::<Vhdl, _, _>(alloc, source, top, stimulus, pick, out))
     } else {
-        run::<Vhdl, _, _>(alloc, source, top.as_bytes(), stimulus, pick, out)?
-    };
-    Ok(())
+        status_of(run::<Vhdl, _, _>(alloc, source, top, stimulus, pick, out))
+    }
+}
+
+/// The status of a call.
+fn status_of<T: Drop>(answer: Result<T, Fault>) -> u8 {
+    match answer {
+        Ok(_) => Status::Done.code(),
+        Err(fault) => fault.status().code(),
+    }
+}
+
+/// The status of a call that tells whether a netlist is accepted.
+fn status_of_check(answer: Result<bool, Fault>) -> u8 {
+    match answer {
+        Ok(true) => Status::Done.code(),
+        Ok(false) => Status::Rejected.code(),
+        Err(fault) => fault.status().code(),
+    }
 }

@@ -23,11 +23,12 @@ mod tries;
 
 use opened::Opened;
 use processes::Processes;
-use rows_calls::{Told, tell_calls, tell_sources, tell_table};
-use rows_on_net::{Bodies, tell_agendas, tell_orders, tell_runs};
+use rows_calls::{Text, Told, tell_calls, tell_sources, tell_table};
+use rows_on_net::{tell_agendas, tell_orders, tell_runs};
 use rtlsim_calls::Rtlsim;
-use std::io;
+use std::alloc::Global;
 use std::rt::Files;
+use std::{fs, io};
 use tries::Tries;
 
 /// The tables of calls, in the folder in which the program runs.
@@ -82,18 +83,25 @@ const SOURCES: [(&str, Told); 18] = [
 fn main(rt: HostRuntime) -> io::Result<()> {
     tell_calls(&rt, &Rtlsim, &TABLES)?;
     tell_sources(&rt, &Rtlsim, &SOURCES)?;
-    tell_netlists(&rt)
+    tell_table(&rt, "rtl/processes.rows", &Processes)?;
+    tell_table(&rt, "rtl/reports.rows", &Tries)?;
+    tell_simulations(&rt)
 }
 
-/// Prints the tables of netlists, what the kernel does step by step, and what agendas give.
-fn tell_netlists(rt: &(impl Files + Print + AllocGlobal)) -> io::Result<()> {
-    tell_table(rt, "rtl/processes.rows", &Processes)?;
-    tell_table(rt, "rtl/reports.rows", &Tries)?;
-    tell_runs(rt, &Opened, "rtl/traces.rows")?;
-    tell_runs(rt, &Opened, "rtl/faults.rows")?;
-    println!(rt; "bodies as trees")?;
-    tell_orders(rt, &Opened, Bodies::Trees)?;
-    println!(rt; "bodies as codes")?;
-    tell_orders(rt, &Opened, Bodies::Codes)?;
-    tell_agendas(rt)
+/// Prints the tables of simulations, what the kernel does step by step, and what agendas give.
+fn tell_simulations(rt: &(impl Files + Print + AllocGlobal)) -> io::Result<()> {
+    let traces = fs::read_to_string(rt, "rtl/traces.rows")?;
+    let faults = fs::read_to_string(rt, "rtl/faults.rows")?;
+    told_simulations(rt.alloc(), &[traces.as_str(), faults.as_str()]).print(rt)
+}
+
+/// What the tables of simulations, the kernel and agendas come to.
+fn told_simulations(alloc: Global, tables: &[&str]) -> Text {
+    let mut told = Text::new(alloc);
+    for table in tables {
+        tell_runs(alloc, &Opened, table, &mut told);
+    }
+    tell_orders(alloc, &Opened, &mut told);
+    tell_agendas(alloc, &mut told);
+    told
 }

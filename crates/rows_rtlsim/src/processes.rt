@@ -1,8 +1,8 @@
 //! What is elaborated of a text, in words.
 
-use rows_calls::{Frame, Teller};
-use rows_on_net::processes_of;
-use std::alloc::{AllocError, Global};
+use rows_calls::{Frame, Teller, Text};
+use rows_on_net::push_processes;
+use std::alloc::Global;
 use vhdl_expand_rules::{ElabFault, ElabProblem};
 use vhdl_source::{SourceFault, open};
 
@@ -11,22 +11,35 @@ use vhdl_source::{SourceFault, open};
 pub struct Processes;
 
 impl Teller for Processes {
-    /// What is elaborated of a text in a frame: its netlist, or the fault's name, where it stands at the text's mark if it has
+    /// Adds what is elaborated of a text in a frame: its netlist, or the fault's name, where it stands at the text's mark if it has
     /// one.
-    fn told(&self, alloc: Global, frame: Frame<'_>, written: &str) -> Result<String, AllocError> {
-        let (source, place) = frame.source_of(alloc, written)?;
-        match open(alloc, source.as_str().as_bytes(), b"t") {
-            Ok(net) => processes_of(alloc, &net),
-            Err(SourceFault::Elab(ElabFault::At { problem, at })) => {
-                if at == place || written.find('^').is_none() {
-                    String::from_str(alloc, name_of(problem))
-                } else {
-                    let name = name_of(problem);
-                    format!(in alloc; "{name} at byte {at}, and not at byte {place}")
-                }
-            }
-            Err(fault) => format!(in alloc; "{fault}"),
+    fn told(&self, alloc: Global, frame: Frame<'_>, written: &str, found: &mut Text) {
+        let (source, place) = frame.source_of(alloc, written);
+        let mark = written.find('^').is_some().then_some(place);
+        found.heed(&source);
+        push_elaborated(alloc, source.as_bytes(), mark, found);
+    }
+}
+
+/// Adds what is elaborated of a source: the processes of its netlist, or its fault.
+fn push_elaborated(alloc: Global, source: &[u8], mark: Option<usize>, found: &mut Text) {
+    match open(alloc, source, b"t") {
+        Ok(net) => push_processes(alloc, &net, found),
+        Err(SourceFault::Elab(ElabFault::At { problem, at })) => {
+            push_problem(found, problem, at, mark.unwrap_or(at));
         }
+        Err(fault) => found.push_shown(&fault),
+    }
+}
+
+/// Adds the name of what is wrong at a byte, and both bytes where that isn't the marked one.
+fn push_problem(found: &mut Text, problem: ElabProblem, at: usize, mark: usize) {
+    found.push(name_of(problem));
+    if at != mark {
+        found.push(" at byte ");
+        found.push_number(at);
+        found.push(", and not at byte ");
+        found.push_number(mark);
     }
 }
 

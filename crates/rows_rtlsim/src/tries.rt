@@ -1,8 +1,8 @@
 //! What is tried with a design.
 
-use rows_calls::{Frame, Teller};
-use rows_on_net::told_try;
-use std::alloc::{AllocError, Global};
+use rows_calls::{Frame, Teller, Text};
+use rows_on_net::push_try;
+use std::alloc::Global;
 use vhdl_source::open;
 
 /// Tries with the design of a row's frame, by the row's words.
@@ -10,12 +10,13 @@ use vhdl_source::open;
 pub struct Tries;
 
 impl Teller for Tries {
-    /// What comes of a try.
-    fn told(&self, alloc: Global, frame: Frame<'_>, written: &str) -> Result<String, AllocError> {
-        let (source, _) = frame.source_of(alloc, "")?;
-        match open(alloc, source.as_str().as_bytes(), b"t") {
-            Ok(net) => told_try(alloc, &net, written),
-            Err(fault) => format!(in alloc; "{fault}"),
+    /// Adds what comes of a try.
+    fn told(&self, alloc: Global, frame: Frame<'_>, written: &str, found: &mut Text) {
+        let (source, _) = frame.source_of(alloc, "");
+        found.heed(&source);
+        match open(alloc, source.as_bytes(), b"t") {
+            Ok(net) => push_try(alloc, &net, written, found),
+            Err(fault) => found.push_shown(&fault),
         }
     }
 }

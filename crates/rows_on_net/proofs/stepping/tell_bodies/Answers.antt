@@ -5,5 +5,5 @@ use Rattle.rows_on_net.proofs.stepping.tell_bodies.Goals as goal
 pub tell_stamped-requires : goal.tell_stamped-requires
 tell_stamped-requires g c =
     let net = flat c.args.net.now in
-    rw c.deref.ensures.value (through g.E.Exec.process g.E.Exec.types net (λ b. b.body.now) c.in_ok-stamped.stamped.items
-    (rw c.in_ok-stamped.ensures c.requires))
+    rw c.deref.ensures.value (through g.E.Exec.process g.E.Exec.types net (λ b. b.body.now) c.in-Ok.stamped.items
+    (rw c.in-Ok.ensures c.requires))

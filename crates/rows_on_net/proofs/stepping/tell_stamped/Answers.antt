@@ -4,4 +4,4 @@ use Rattle.rtl_net.specs.Nets.{flat}
 use Rattle.rows_on_net.proofs.stepping.tell_stamped.Goals as goal
 
 pub tell_steps-requires-clause-ready : goal.tell_steps-requires-clause-ready
-tell_steps-requires-clause-ready g c = HasRun-done (core_netlist (flat c.in_ok-kernel.kernel.net)) c.in_ok-kernel.kernel.state c.start.new.self.state c.start.ensures.ran
+tell_steps-requires-clause-ready g c = HasRun-done (core_netlist (flat c.in-Ok.kernel.net)) c.in-Ok.kernel.state c.start.new.self.state c.start.ensures.ran

@@ -3,10 +3,10 @@ use Rattle.rtl_net.specs.Nets.{flat}
 use Rattle.rtl_kernel.specs.kernel.Kept.{RunBodies}
 use Rattle.rtl_eval.specs.Trees.{ProcessOf, process_of, processes_of}
 use Rattle.rows_on_net.proofs.Trees.{trees_run}
-use Rattle.rows_on_net.proofs.calls.answered.Goals as goal
+use Rattle.rows_on_net.proofs.answers.simulate.Goals as goal
 
 pub run-requires-clause-bodies : goal.run-requires-clause-bodies
 run-requires-clause-bodies g c =
     let net = c.args.net.now in
     subst (λ (bodies : List ProcessOf). RunBodies process_of (λ (t : ProcessOf). t.net.types) (flat net) bodies)
-    (sym (c.deref-2.ensures.value ∙ c.in_ok-bodies.ensures)) (trees_run net (processes_of net) refl)
+    (sym (c.deref.ensures.value ∙ c.in-Ok.ensures)) (trees_run net (processes_of net) refl)

@@ -1,0 +1,49 @@
+//! Identifiers, and words with the byte at which they start.
+
+use rows_calls::Text;
+use vhdl_tree::Identifier;
+
+/// Adds a text and the byte at which it starts.
+pub fn push_at(out: &mut Text, text: &[u8], at: usize) {
+    out.push_bytes(text);
+    out.push("@");
+    out.push_number(at);
+}
+
+/// Adds a word that may be left out, where it isn't.
+pub fn push_if(out: &mut Text, is_there: bool, word: &str) {
+    if is_there {
+        out.push(word);
+    }
+}
+
+pub fn push_identifier(out: &mut Text, identifier: &Identifier) {
+    push_at(out, &identifier.text, identifier.at);
+}
+
+pub fn push_identifiers(out: &mut Text, identifiers: &[Identifier]) {
+    let mut between: &[u8] = b"";
+    for identifier in identifiers {
+        out.push_bytes(between);
+        push_identifier(out, identifier);
+        between = b", ";
+    }
+}
+
+/// Adds a label and a colon, if there is a label.
+pub fn push_label(out: &mut Text, label: &Option<Identifier>) {
+    if let Some(label) = label {
+        push_identifier(out, label);
+        out.push(" : ");
+    }
+}
+
+/// Adds the end of what an optional word and an optional name close.
+pub fn push_end(out: &mut Text, words: &str, name: &Option<Identifier>) {
+    out.push(words);
+    if let Some(name) = name {
+        out.push(" ");
+        push_identifier(out, name);
+    }
+    out.push(";");
+}

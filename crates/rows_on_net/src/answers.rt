@@ -1,0 +1,98 @@
+//! What comes of a simulation.
+
+ghost use Rattle.std.specs.Prelude.{◌≡◌};
+ghost use Rattle.rtl_sink.specs.Written.{IsIntact};
+ghost use Rattle.rtl_stim.specs.Ports.{HasOwnPorts, inputs_of};
+
+use crate::row::Row;
+use crate::texts::push_count;
+use rtl_eval::trees;
+use rtl_kernel::Pick;
+use rtl_machine::{RunFault, Simulation, Summary};
+use rtl_net::Net;
+use rtl_sink::{Sink, push_text};
+use rtl_stim::{MapAgenda, StimFault, StimProblem, Stimulus};
+use std::alloc::Global;
+
+/// Simulates a row, and writes its trace, and a line of what comes of it.
+pub fn run_row<P: Pick, W: Sink, S: Sink>(
+    alloc: Global,
+    net: &Net,
+    row: &Row<'_>,
+    pick: &mut P,
+    trace: &mut W,
+    told: &mut S,
+)
+    requires ports { HasOwnPorts net.now }
+    requires intact { IsIntact (W.state trace.old) }
+{
+    match Stimulus::read(alloc, net, row.stimulus) {
+        Ok(stimulus) => simulate(alloc, net, row.limit, &stimulus, pick, trace, told),
+        Err(fault) => push_refused(told, fault),
+    }
+    push_text(told, b"\n");
+}
+
+/// Simulates a netlist under a stimulus, with so many delta cycles at most in each moment.
+fn simulate<P: Pick, W: Sink, S: Sink>(
+    alloc: Global,
+    net: &Net,
+    limit: u32,
+    stimulus: &Stimulus,
+    pick: &mut P,
+    trace: &mut W,
+    told: &mut S,
+)
+    requires ports { HasOwnPorts net.now }
+    requires inputs { stimulus.now.inputs ≡ inputs_of net.now }
+    requires intact { IsIntact (W.state trace.old) }
+{
+    let Ok(trees) = trees(alloc, net) else {
+        return push_text(told, b"memory");
+    };
+    let simulation = Simulation {
+        net,
+        bodies: &trees,
+        stimulus,
+        limit,
+    };
+    match simulation.run(alloc, &mut MapAgenda::new(alloc), pick, trace) {
+        Ok(summary) => push_summary(told, summary),
+        Err(fault) => push_fault(told, fault),
+    }
+}
+
+fn push_summary<S: Sink>(told: &mut S, summary: Summary) {
+    push_count(told, "moments ", summary.moments);
+    push_count(told, " deltas ", summary.most_deltas as u64);
+}
+
+fn push_fault<S: Sink>(told: &mut S, fault: RunFault) {
+    match fault {
+        RunFault::NoSettling { time } => push_count(told, "settle 1 NoSettling ", time),
+        RunFault::Memory => push_text(told, b"memory"),
+        RunFault::Output => push_text(told, b"output"),
+    }
+}
+
+/// Writes why a stimulus is refused.
+fn push_refused<S: Sink>(told: &mut S, fault: StimFault) {
+    match fault {
+        StimFault::InLine { problem, line } => push_problem(told, problem, line),
+        StimFault::NoStop => push_text(told, b"stim 6 NoStop"),
+        StimFault::Race { time, input, clock } => {
+            push_count(told, "stim 8 Race ", time);
+            push_count(told, " ", input as u64);
+            push_count(told, " ", clock as u64);
+        }
+        StimFault::NoMemory => push_text(told, b"memory"),
+    }
+}
+
+/// Writes what is wrong with a line of a stimulus.
+fn push_problem<S: Sink>(told: &mut S, problem: StimProblem, line: usize) {
+    push_count(told, "stim ", problem.number() as u64);
+    push_text(told, b" ");
+    push_text(told, problem.title().as_bytes());
+    push_count(told, " line ", line as u64);
+}
