@@ -8,4 +8,3 @@ pub mod Reading
 pub mod Tabling
 pub mod Taking
 pub mod Told
-pub mod Turns

@@ -9,8 +9,8 @@ use Rattle.vhdl_names_types.proofs.Memory.{memory_gives}
 use Rattle.vhdl_names_units.specs.Lists.{in_turn, one_more}
 use Rattle.vhdl_names_units.proofs.Lists.{each_in_turn}
 use Rattle.vhdl_names_expressions.proofs.Typing.{passed_on}
+use Rattle.vhdl_names_statements.proofs.steps.Told.{more_done, none_more}
 use Rattle.vhdl_names_instances.specs.Views.{actual_view, statics_view}
-use Rattle.vhdl_names_instances.proofs.Turns.{none_more, more_done}
 use Rattle.vhdl_names_instances.proofs.actuals.generic_actuals.Goals as goal
 
 pub loop-actual-init : goal.loop-actual-init
@@ -34,8 +34,8 @@ pub loop-actual-preserved : goal.loop-actual-preserved
 loop-actual-preserved c =
     let g = if_any (static (sight_view c.args.sight.now)) in
     let lt : c.loop-actual.actual-index < length c.args.actuals.now = omega arith in
-    more_done actual_view c.args.actuals.now c.loop-actual.actual-index c.actual-item.result lt c.actual-item.is g (statics_view c.loop-actual.all) _ c.loop-actual.invariant
-    _ (option_map static_view c.in_ok-next.next) c.in_ok-next.ensures.given
+    more_done actual_view c.args.actuals.now c.loop-actual.actual-index c.actual-item.result lt c.actual-item.is g (statics_view c.loop-actual.all) _
+    (option_map static_view c.in_ok-next.next) _ c.loop-actual.invariant c.in_ok-next.ensures.given
     (ap (map (option_map static_view)) c.in_ok-push.ensures.items ∙ map-append (option_map static_view) c.loop-actual.all.items (c.in_ok-next.next ∷ []))
 
 pub returns : goal.returns
