@@ -1,4 +1,5 @@
 //! Conditions, expanded (IEEE 1076-2008, 9.2.2, 9.2.3, 9.2.9, 16.2.4; numeric_std).
+#![tactic(auto, unfolding(vhdl_expand_rules::specs::Expressions::test))]
 
 ghost use Rattle.std.specs.Prelude.{◌≡◌, true, option_map, IfOk};
 ghost use Rattle.vhdl_values.specs.declared.kinds.Logic.TheVariants.{And};
@@ -162,7 +163,6 @@ impl TestChain {
 impl Site<'_> {
     /// A condition, expanded; a fault is StaticError, Length, Index or TooWide.
     #[cycle(condition)]
-    #[tactic(auto, unfolding(vhdl_expand_rules::specs::Expressions::test))]
     pub(crate) fn expanded_test(
         &self,
         alloc: Global,
