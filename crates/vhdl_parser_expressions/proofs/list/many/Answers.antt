@@ -1,5 +1,4 @@
-use Rattle.std.proofs.Common.{◌≡◌, ◌-◌, true, false, length, Err, refl, rules, arith}
-use Rattle.std.proofs.lemmas.Grind.{common_steps}
+use Rattle.std.proofs.Common.{◌≡◌, ◌-◌, true, false, length, Err, refl, ap, ◌∙◌, rules, arith}
 use Rattle.std.proofs.lemmas.Result.{err_from_is_err_and}
 use Rattle.std.specs.Fn.{FnReturnsAt}
 use Rattle.vhdl_parser_expressions.specs.reader.Lists.{FnReturnsAtMut, no_turn, none_begins, one_refused, one_more, no_memory}
@@ -21,7 +20,7 @@ returns-in_err-item g c =
     let one : FnReturnsAt g.B.Fn c.args.begins c.loop-turn.parser true = search rules in
     let read : FnReturnsAtMut g.I.Fn c.args.item c.loop-turn.parser c.item.result c.item.new.arg2 = search rules in
     let w = err_from_is_err_and c.from_residual.result c.from_residual.ensures.1 in
-    let e : c.from_residual.result ≡ Err c.in_err-item.field-0.0 = first_of (search rules, grind (arith, common_steps)) in
+    let e : c.from_residual.result ≡ Err c.in_err-item.field-0.0 = w.1 ∙ ap (λ x. Err x) w.2 in
     c.loop-turn.invariant _ _ (rw (this_turn _ c.loop-turn._turn c.loop-turn-test.true, e) (one_refused one (rw c.in_err-item.was at read)))
 
 pub returns-in_err-push : goal.returns-in_err-push

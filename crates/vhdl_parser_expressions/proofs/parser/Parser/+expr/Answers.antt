@@ -31,7 +31,7 @@ pub arguments-loop-turn-preserved : goal.arguments-loop-turn-preserved
 unfolding many_from
 arguments-loop-turn-preserved t c =
     let e = one_more (λ n. many_from (is_kind k.Comma) (argument (inside c.args.levels)) n (exprs_view c.loop-turn.found) c.loop-turn.self) _ c.loop-turn._turn c.loop-turn-test.true c.loop-turn.invariant in
-    first_of (search rules, grind (arith, common_steps))
+    first_of (grind (arith, common_steps), search rules)
 
 pub arguments-returns : goal.arguments-returns
 unfolding many_from
@@ -60,7 +60,7 @@ unfolding more_from
 links-loop-turn-preserved t c left =
     let e = one_more (λ n. more_from (operand_of (inside c.args.levels) c.args.level) n c.args.level c.loop-turn.last (all_joined left (pairs_view c.loop-turn.found)) c.loop-turn.self) _ c.loop-turn._turn c.loop-turn-test.true (c.loop-turn.invariant left) in
     let p = pairs-push left c.loop-turn.found c.push.new.self c.in_ok-link.field-0 c.in_ok-push.ensures.items in
-    first_of (search rules, grind (arith, common_steps))
+    first_of (grind (arith, common_steps), search rules)
 
 pub links-returns : goal.links-returns
 unfolding more_from
