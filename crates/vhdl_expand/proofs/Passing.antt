@@ -4,6 +4,7 @@ use Rattle.std.specs.Prelude.{◌≢◌, IsErrAnd}
 use Rattle.vhdl_expand_rules.specs.Elab.{Elab, problem_told, MayTell}
 use Rattle.vhdl_expand_rules.specs.declared.fault.ElabFault.{ElabFault}
 use Rattle.vhdl_expand_rules.specs.declared.fault.ElabFault.TheVariants.{NoMemory}
+use Rattle.vhdl_expand_rules.specs.views.Integers.{Makes}
 use Rattle.vhdl_expand_bodies.specs.Results.{Charges}
 
 -- by a call that charges budgets
@@ -17,3 +18,9 @@ pub passed_err : {X : Type 0} (Q : ElabFault → Type 0) (fault : ElabFault) (P 
     → ((e : ElabFault) → P e → e ≡ fault) → Q fault → IfErr r Q
 passed_err Q fault P (Ok x) h same f = absurd h
 passed_err Q fault P (Err e) h same f = subst Q (sym (same e h)) f
+
+-- by one that takes no memory
+pub passed_made : {X Y : Type 0} (view : X → Y) (given : Elab Y) (fault : ElabFault) (P : ElabFault → Type 0) (r : Result X ElabFault) → IsErrAnd r P
+    → ((e : ElabFault) → P e → e ≡ fault) → given ≡ Err (problem_told fault) → Makes view given r
+passed_made view given fault P (Ok x) h same f = absurd h
+passed_made view given fault P (Err e) h same f = subst (λ (x : ElabFault). given ≡ Err (problem_told x)) (sym (same e h)) f

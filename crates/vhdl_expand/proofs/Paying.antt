@@ -9,8 +9,9 @@ use Rattle.vhdl_expand_rules.specs.Parameters.{parameter}
 use Rattle.vhdl_expand_rules.proofs.Parameters.{next-turn, no-turn}
 use Rattle.vhdl_expand_bodies.specs.Results.{Expands, Charges}
 use Rattle.vhdl_elab_rules.specs.Limits.{Counts}
+use Rattle.vhdl_expand_rules.specs.views.Integers.{Makes}
 use Rattle.vhdl_expand_tree.specs.Costs.{spent}
-use Rattle.vhdl_expand_tree.proofs.Alike.{Alike, wrong, alike_same, alike_trans, both_refused, tells_first}
+use Rattle.vhdl_expand_tree.proofs.Alike.{Alike, wrong, alike_same, alike_trans, both_refused, tells, tells_first}
 use Rattle.vhdl_expand_tree.proofs.Charging.{spent-plus, spent-none, spent_told}
 use Rattle.vhdl_expand_rules.specs.declared.fault.ElabProblem.{ElabProblem}
 use Rattle.vhdl_expand_rules.specs.declared.fault.ElabProblem.TheVariants.{TooMany}
@@ -19,6 +20,11 @@ use Rattle.vhdl_expand.specs.Unrolled.{both, together, paid}
 pub charges_alike : {X Y : Type 0} (view : X → Y) (p q : Elab Y) (r : Result X ElabFault) → Alike p q → Charges view q r → Charges view p r
 charges_alike view p q (Ok x) a h = a.gives (view x) h
 charges_alike view p q (Err fault) a h = λ n. a.stops _ (h n)
+
+-- costs that are taken by a call that takes no memory
+pub charges_made : {X Y : Type 0} (view : X → Y) (p q : Elab Y) (r : Result X ElabFault) → p ≡ q → Makes view q r → Charges view p r
+charges_made view p q (Ok x) e h = e ∙ h
+charges_made view p q (Err fault) e h = λ n. tells (e ∙ h)
 
 pub expands_same : {X Y : Type 0} (view : X → Y) (p q : Elab Y) (r : Result X ElabFault) → p ≡ q → Expands view q r → Expands view p r
 expands_same {X} {Y} view p q r e h = subst (λ (a : Elab Y). Expands view a r) (sym e) h

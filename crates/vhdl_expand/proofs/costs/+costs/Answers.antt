@@ -1,7 +1,7 @@
 use mir.Syntax.{w32}
 use mir.Val.{SFits, to_z, of_z}
 use Rattle.std.proofs.lemmas.Int.{ints}
-use Rattle.std.proofs.Common.{◌≡◌, ◌<◌, length, map, ap, ◌∙◌, arith, rules}
+use Rattle.std.proofs.Common.{◌≡◌, ◌<◌, length, map, refl, ap, ◌∙◌, arith, rules}
 use Rattle.std.specs.Prelude.{◌≢◌}
 use Rattle.vhdl_names_rules.specs.units.Statements as units
 use Rattle.vhdl_names_rules.specs.views.Integers.{range_view}
@@ -15,7 +15,7 @@ use Rattle.vhdl_expand_tree.specs.Costs.{a_statement}
 use Rattle.vhdl_expand_tree.specs.Views.{budget_view}
 use Rattle.vhdl_expand_tree.proofs.Alike.{alike_same, alike_trans, tells, tells_same}
 use Rattle.vhdl_expand.specs.Unrolled.{paid, both, together, in_turn, statement_costs, statements_costs, alternatives_costs, guarded_costs, chosen_costs}
-use Rattle.vhdl_expand.proofs.Paying.{charges_alike, list_go, list_stop, turns_go, turns_stop, turns_end}
+use Rattle.vhdl_expand.proofs.Paying.{charges_alike, charges_made, list_end, none_left, list_go, list_stop, turns_go, turns_stop, turns_end}
 use Rattle.vhdl_expand.proofs.Sums.{statements_together, if_costs, case_costs, loop_view_costs, same_list, same_branches, same_alternatives, same_turn}
 use Rattle.vhdl_expand.proofs.Sums.{choose_stops, branches_stop, no_else, some_else, select_stops, alternatives_stop, alternatives_go, range_stops, count_stops, turns_begin}
 use Rattle.vhdl_expand_rules.specs.Elab.{problem_told, MayTell}
@@ -224,3 +224,40 @@ of_loop-returns t c =
     let at = integers_view c.args.integers.now in
     let body = analysed.statements_of (analysed.statements_view c.args.repeated.now.statements) in
     turns_end (λ i. statements_costs (in_turn at i) body) c.in_ok-turns.turns.direction c.in_ok-turns.turns.first c.in_ok-turns.turns.count _ _ c.loop-turn.turn (omega arith) c.loop-turn.invariant
+
+-- ---- what is paid at once, and the ends of lists
+
+pub of_statement-returns-in-Null : goal.of_statement-returns-in-Null
+unfolding statement_costs
+of_statement-returns-in-Null t c =
+    charges_made _ _ _ _ (ap (λ x. paid (budget_view c.args.budget.now) (statement_costs (integers_view c.args.integers.now) (analysed.statement_view x))) c.in-Null.is) c.charge_statement.ensures.spent
+
+pub of_statement-returns-in-Assign : goal.of_statement-returns-in-Assign
+unfolding statement_costs
+of_statement-returns-in-Assign t c =
+    charges_made _ _ _ _ (ap (λ x. paid (budget_view c.args.budget.now) (statement_costs (integers_view c.args.integers.now) (analysed.statement_view x))) c.in-Assign.is) c.charge_statement-in-Assign.ensures.spent
+
+pub of_statement-returns-in-Set : goal.of_statement-returns-in-Set
+unfolding statement_costs
+of_statement-returns-in-Set t c =
+    charges_made _ _ _ _ (ap (λ x. paid (budget_view c.args.budget.now) (statement_costs (integers_view c.args.integers.now) (analysed.statement_view x))) c.in-Set.is) c.charge_statement-in-Set.ensures.spent
+
+pub of_statements-returns : goal.of_statements-returns
+of_statements-returns t c =
+    list_end (statement_costs (integers_view c.args.integers.now)) analysed.statement_view _ (budget_view c.loop-statement.budget) _ (none_left c.args.list.now c.loop-statement.statement-index (omega arith)) c.loop-statement.invariant
+
+pub of_branches-loop-branch-init : goal.of_branches-loop-branch-init
+of_branches-loop-branch-init t c =
+    alike_same refl
+
+pub of_branches-returns : goal.of_branches-returns
+of_branches-returns t c =
+    list_end (guarded_costs (integers_view c.args.integers.now)) analysed.branch_view _ (budget_view c.loop-branch.budget) _ (none_left c.args.list.now c.loop-branch.branch-index (omega arith)) c.loop-branch.invariant
+
+pub of_alternatives-loop-alternative-init : goal.of_alternatives-loop-alternative-init
+of_alternatives-loop-alternative-init t c =
+    alike_same refl
+
+pub of_alternatives-returns : goal.of_alternatives-returns
+of_alternatives-returns t c =
+    list_end (chosen_costs (integers_view c.args.integers.now)) analysed.alternative_view _ (budget_view c.loop-alternative.budget) _ (none_left c.args.list.now c.loop-alternative.alternative-index (omega arith)) c.loop-alternative.invariant

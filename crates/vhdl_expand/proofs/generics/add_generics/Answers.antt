@@ -3,7 +3,6 @@ use mir.Val.{to_z, of_z}
 use Rattle.std.proofs.Common.{Err, ◌≡◌, [], ◌∷◌, ◌++◌, length, map, ℤ, List, sym, ap, ◌∙◌, subst, rules, arith}
 use Rattle.std.proofs.lemmas.Int.{ints}
 use Rattle.std.specs.Prelude.{Ok, option_map}
-use Rattle.std.proofs.lemmas.Grind.{common_steps}
 use Rattle.vhdl_tree.specs.declared.expression.Identifier.{Identifier}
 use Rattle.vhdl_names_rules.specs.views.Integers.{static_view}
 use Rattle.vhdl_names_units.specs.views.Declarations.{generics_view}
@@ -15,6 +14,7 @@ use Rattle.vhdl_expand.specs.Stepwise.{stepwise}
 use Rattle.vhdl_expand.proofs.Walks.{one_goes, one_stops, one_ends}
 use Rattle.vhdl_expand.proofs.Given.{step, stepped, stopped, all_stepped, all_stopped}
 use Rattle.vhdl_expand_rules.specs.Elab.{problem_told}
+use Rattle.vhdl_expand_bodies.proofs.Passing.{passed_on}
 use Rattle.vhdl_expand.proofs.generics.add_generics.Goals as goal
 
 pub loop-name-init : goal.loop-name-init
@@ -59,4 +59,4 @@ returns-in_err-value c =
     all_stopped above actuals c.args.values.now.items _
     (one_stops (step above actuals) (λ (n : Identifier). d) _ values c.deref-name-items.result.now c.loop-name.name-index c.name-item.result
     c.loop-name-test.true c.name-item.is c.loop-name.invariant (stopped above actuals values _ c.len.result d count actual h)) in
-    first_of (search rules, grind (arith, common_steps))
+    passed_on _ _ c.in_err-value.field-0.0 _ c.from_residual.result c.from_residual.ensures.1 (λ e p. p) (λ _. total)
