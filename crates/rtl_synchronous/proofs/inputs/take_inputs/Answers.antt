@@ -1,11 +1,11 @@
-use Rattle.std.proofs.Common.{◌≡◌, get_or, set, ◌∙◌}
+use Rattle.std.proofs.Common.{◌≡◌, get_or, refl, set, ◌∙◌}
 use Rattle.std.specs.Prelude.{⊤}
 use Rattle.std.proofs.lemmas.List.{length-map, length-set}
 use Rattle.vhdl_values.specs.declared.scalar.Nine.TheVariants.{U}
 use Rattle.rtl_kernel.specs.kernel.Simulation.{changes_of}
 use Rattle.rtl_kernel.specs.wakes.Woken.{wakers_of}
 use Rattle.rtl_kernel.proofs.Changing.{changed_more, set_at}
-use Rattle.rtl_synchronous.proofs.Marking.{marks_then, marks_wider}
+use Rattle.rtl_synchronous.proofs.Marking.{marks_none, marks_then, marks_wider}
 use Rattle.rtl_synchronous.proofs.inputs.take_inputs.Goals as goal
 
 pub mark_followers-requires-clause-below : goal.mark_followers-requires-clause-below
@@ -33,3 +33,17 @@ loop-net-preserved c =
           (marks_wider (wakers_of c.args.schedule.now.readers) (λ n. n ≡ net) (λ n. ⊤) (λ n e. tt) values new c.loop-net.dirty.items c.mark_followers-in-loop-net.new.marks.items
           (rw (c.deref-in-loop-net.ensures.value) at c.mark_followers-in-loop-net.ensures));
     }
+
+pub loop-net-init : goal.loop-net-init
+loop-net-init c = record {
+  as_many = refl;
+  rest = λ m. refl;
+  woken = marks_none (wakers_of c.args.schedule.now.clocked) (λ n. ⊤) c.args.values.now.items c.args.woken.now.items;
+  dirty = marks_none (wakers_of c.args.schedule.now.readers) (λ n. ⊤) c.args.values.now.items c.args.dirty.now.items;
+}
+
+pub returns-clause-woken : goal.returns-clause-woken
+returns-clause-woken c = c.loop-net.invariant.woken
+
+pub returns-clause-dirty : goal.returns-clause-dirty
+returns-clause-dirty c = c.loop-net.invariant.dirty

@@ -40,3 +40,19 @@ returns-else-replace-clause-marks c =
     let written = subst (λ (vs : List ℕ). IsWritten first given old.items vs) (sym (with_items_is old new many)) done in
     marks_same (wakers_of c.args.groups.now) (IsOfRun first (length given)) old.items _ c.args.marks.now.items
     (same_values first given old.items _ written (λ k l. ap (λ (vs : List ℕ). get_or vs (first + k) 0) (sym c.deref_mut.ensures.value) ∙ c.replace.ensures.alike c.if-replace.false k l))
+
+pub returns-then-replace-clause-written : goal.returns-then-replace-clause-written
+returns-then-replace-clause-written c =
+    let old = c.args.values.now in
+    let new = c.replace.new.over in
+    let done = rw c.deref_mut.ensures.value at c.replace.ensures.written in
+    let many : length new ≡ old.len = omega (arith, done.as_many, old.ok.0) in
+    subst (λ (vs : List ℕ). IsWritten c.args.first c.args.given.now old.items vs) (sym (with_items_is old new many)) done
+
+pub returns-else-replace-clause-written : goal.returns-else-replace-clause-written
+returns-else-replace-clause-written c =
+    let old = c.args.values.now in
+    let new = c.replace.new.over in
+    let done = rw c.deref_mut.ensures.value at c.replace.ensures.written in
+    let many : length new ≡ old.len = omega (arith, done.as_many, old.ok.0) in
+    subst (λ (vs : List ℕ). IsWritten c.args.first c.args.given.now old.items vs) (sym (with_items_is old new many)) done

@@ -83,3 +83,21 @@ returns-clause-none_dirty g c =
     let done : length c.args.schedule.now.order.items ≤ c.loop-rank.rank = omega (arith, c.loop-rank-test.false, c.len.ensures, c.loop-rank.dirty.ok.0, I.sweeping.each_rank) in
     none_left (core c.args.net.now) c.args.schedule.now.order.items (wakers_of c.args.schedule.now.readers) (wakers_of c.args.schedule.now.clocked) c.requires.schedule
     (elaborated _ _ _ _ _ _ c.requires.may) c.requires.may.accepted c.loop-rank.rank c.args.values.now.items c.loop-rank.values.items c.loop-rank.dirty.items I.sweeping done
+
+pub settle-requires-clause-may : goal.settle-requires-clause-may
+settle-requires-clause-may g c = c.loop-rank.invariant.may
+
+pub settle-requires-clause-in_range : goal.settle-requires-clause-in_range
+settle-requires-clause-in_range g c = c.loop-rank.invariant.in_range
+
+pub settle-requires-clause-cuts : goal.settle-requires-clause-cuts
+settle-requires-clause-cuts g c = c.requires.cuts
+
+pub returns-clause-may : goal.returns-clause-may
+returns-clause-may g c = c.loop-rank.invariant.may
+
+pub returns-clause-in_range : goal.returns-clause-in_range
+returns-clause-in_range g c = c.loop-rank.invariant.in_range
+
+pub returns-clause-each_rank : goal.returns-clause-each_rank
+returns-clause-each_rank g c = c.loop-rank.invariant.sweeping.each_rank ∙ sym c.requires.each_rank
