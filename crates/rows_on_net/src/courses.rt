@@ -9,9 +9,18 @@ pub struct Course {
     pub initial: &'static [Nine],
     /// How many delta cycles the start may take before the first step, if it is to settle by itself.
     pub start: Option<u32>,
-    /// What the first input becomes, if it changes, and how many delta cycles the step may take.
-    pub steps: &'static [(Option<Nine>, u32)],
+    /// What the first input gets, and how many delta cycles the step may take.
+    pub steps: &'static [(Given, u32)],
     pub form: &'static Form,
+}
+
+/// What an input gets in a cycle.
+#[derive(Clone, Copy)]
+pub enum Given {
+    Nothing,
+    Value(Nine),
+    /// The first value, and then the second.
+    Both(Nine, Nine),
 }
 
 /// How steps are told.
@@ -31,7 +40,7 @@ pub const COUNTER: &Course = &Course {
     net: "counter",
     initial: &[Nine::Zero],
     start: Some(2),
-    steps: &[(Some(Nine::One), 2), (None, 1)],
+    steps: &[(Given::Value(Nine::One), 2), (Given::Nothing, 1)],
     form: COUNTED,
 };
 
@@ -40,7 +49,7 @@ pub const CUT_COUNTER: &Course = &Course {
     net: "counter",
     initial: &[Nine::Zero],
     start: Some(2),
-    steps: &[(Some(Nine::One), 1), (None, 1)],
+    steps: &[(Given::Value(Nine::One), 1), (Given::Nothing, 1)],
     form: COUNTED,
 };
 
@@ -50,9 +59,9 @@ pub const REGISTERS: &Course = &Course {
     initial: &[Nine::Zero, Nine::One],
     start: Some(2),
     steps: &[
-        (Some(Nine::One), 2),
-        (Some(Nine::Zero), 2),
-        (Some(Nine::One), 2),
+        (Given::Value(Nine::One), 2),
+        (Given::Value(Nine::Zero), 2),
+        (Given::Value(Nine::One), 2),
     ],
     form: &Form {
         marks: &[": clk ", "", ", q1 ", ", q2 "],
@@ -68,16 +77,23 @@ pub const THREE_REGISTERS: &Course = &Course {
     initial: &[Nine::Zero, Nine::One],
     start: Some(1),
     steps: &[
-        (Some(Nine::One), 1),
-        (Some(Nine::Zero), 1),
-        (Some(Nine::One), 1),
+        (Given::Value(Nine::One), 1),
+        (Given::Value(Nine::Zero), 1),
+        (Given::Value(Nine::One), 1),
     ],
-    form: &Form {
-        marks: &[": ", " ", " ", " ", " "],
-        has_limits: false,
-        has_quiet: false,
-        has_order: true,
-    },
+    form: ORDERED,
+};
+
+/// The same, whose clock rises and falls in one cycle: it has no event, so that nothing runs (IEEE 1076-2008, 14.7.3.4). Then it rises.
+pub const FALLING_BACK: &Course = &Course {
+    net: "three_registers",
+    initial: &[Nine::Zero, Nine::One],
+    start: Some(1),
+    steps: &[
+        (Given::Both(Nine::One, Nine::Zero), 1),
+        (Given::Value(Nine::One), 1),
+    ],
+    form: ORDERED,
 };
 
 /// A signal that is assigned its own inverse.
@@ -85,7 +101,7 @@ pub const OSCILLATOR_FROM_U: &Course = &Course {
     net: "oscillator_from_U",
     initial: &[],
     start: None,
-    steps: &[(None, 1_000)],
+    steps: &[(Given::Nothing, 1_000)],
     form: NUMBERED,
 };
 
@@ -94,7 +110,7 @@ pub const OSCILLATOR_FROM_0: &Course = &Course {
     net: "oscillator_from_0",
     initial: &[],
     start: None,
-    steps: &[(None, 1_000)],
+    steps: &[(Given::Nothing, 1_000)],
     form: NUMBERED,
 };
 
@@ -103,7 +119,7 @@ pub const TWO_DRIVERS: &Course = &Course {
     net: "two_drivers",
     initial: &[],
     start: None,
-    steps: &[(None, 1_000)],
+    steps: &[(Given::Nothing, 1_000)],
     form: NUMBERED,
 };
 
@@ -112,7 +128,7 @@ pub const SIBLINGS: &Course = &Course {
     net: "siblings",
     initial: &[Nine::Zero],
     start: Some(1_000),
-    steps: &[(Some(Nine::One), 1), (None, 1)],
+    steps: &[(Given::Value(Nine::One), 1), (Given::Nothing, 1)],
     form: NUMBERED,
 };
 
@@ -128,4 +144,11 @@ const NUMBERED: &Form = &Form {
     has_limits: true,
     has_quiet: false,
     has_order: false,
+};
+
+const ORDERED: &Form = &Form {
+    marks: &[": ", " ", " ", " ", " "],
+    has_limits: false,
+    has_quiet: false,
+    has_order: true,
 };

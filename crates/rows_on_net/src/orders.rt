@@ -3,8 +3,8 @@
 
 use crate::bodies::Bodies;
 use crate::courses::{
-    COUNTER, CUT_COUNTER, Course, OSCILLATOR_FROM_0, OSCILLATOR_FROM_U, REGISTERS, SIBLINGS,
-    THREE_REGISTERS, TWO_DRIVERS,
+    COUNTER, CUT_COUNTER, Course, FALLING_BACK, OSCILLATOR_FROM_0, OSCILLATOR_FROM_U, REGISTERS,
+    SIBLINGS, THREE_REGISTERS, TWO_DRIVERS,
 };
 use crate::nets::Nets;
 use crate::pickers::{Asked, Order};
@@ -42,6 +42,11 @@ const ROWS: &[(&str, &Course, Order)] = &[
     ),
     ("registers, reverse", THREE_REGISTERS, Order::Reverse),
     ("registers, from the middle", THREE_REGISTERS, Order::Middle),
+    (
+        "registers, the clock rises and falls in one cycle",
+        FALLING_BACK,
+        Order::Forward,
+    ),
 ];
 
 /// Tells the rows of the kernel, for bodies as trees and for bodies as codes.

@@ -6,7 +6,7 @@ ghost use Rattle.rtl_model.specs.simulation.Moments.{HasNoneToRun};
 ghost use Rattle.rtl_net.specs.Nets.{flat};
 
 use crate::bodies::{Bodies, Stamped, with_stamps};
-use crate::courses::{Course, Form};
+use crate::courses::{Course, Form, Given};
 use crate::nets::{Nets, net_named};
 use crate::pickers::Asked;
 use crate::texts::{push_count, push_truth};
@@ -17,7 +17,6 @@ use rtl_net::Net;
 use rtl_sink::{Sink, push_line, push_text};
 use std::alloc::Global;
 use std::cell::Cell;
-use vhdl_values::Nine;
 
 /// Starts a netlist, whose bodies have this form, and tells what it comes to at each step.
 pub fn tell_course<N: Nets, S: Sink>(
@@ -109,10 +108,8 @@ fn tell_steps<E: Exec, S: Sink>(
     if let Some(limit) = course.start {
         tell_start(kernel, limit, pick, out);
     }
-    for (value, limit) in course.steps {
-        if let Some(value) = value {
-            change(net, kernel, *value, pick);
-        }
+    for (given, limit) in course.steps {
+        change(net, kernel, *given, pick);
         tell_step(kernel, *limit, course.form, pick, out);
         push_order(bodies, course.form, out);
     }
@@ -136,11 +133,11 @@ fn tell_start<E: Exec, S: Sink>(
     push_text(out, b"\n");
 }
 
-/// Gives the first input a value, where there is one and no driver is active.
+/// Gives the first input what it gets, where there is one and no driver is active.
 fn change<E: Exec>(
     net: &Net,
     kernel: &mut Kernel<'_, Stamped<'_, E>>,
-    value: Nine,
+    given: Given,
     pick: &mut Asked,
 )
     requires net { kernel.old.net ≡ net.now }
@@ -149,8 +146,14 @@ fn change<E: Exec>(
     ensures ready { HasNoneToRun kernel.new.state }
 {
     let inputs = net.inputs();
-    if !inputs.is_empty() && kernel.is_quiet() {
-        kernel.apply(&[(inputs[0], value)], pick);
+    if inputs.is_empty() || !kernel.is_quiet() {
+        return;
+    }
+    let input = inputs[0];
+    match given {
+        Given::Nothing => {}
+        Given::Value(value) => kernel.apply(&[(input, value)], pick),
+        Given::Both(first, last) => kernel.apply(&[(input, first), (input, last)], pick),
     }
 }
 
