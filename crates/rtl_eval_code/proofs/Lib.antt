@@ -11,6 +11,7 @@ pub mod Effects
 pub mod Statements
 pub mod Given
 pub mod Branches
+pub mod Compared
 pub mod Alternatives
 pub mod Backwards
 pub mod Bodies
