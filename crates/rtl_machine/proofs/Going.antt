@@ -1,6 +1,6 @@
 -- A simulation begins, goes on, and stops.
-use Rattle.std.proofs.Common.{◌≡◌, ℕ, suc, ◌+◌, ◌<◌, ◌≤◌, max, Bool, List, [], ◌∷◌, ◌++◌, length, get_or, Result, Ok, Err, refl, sym, ap, subst, ◌∙◌, append-nil, arith}
-use Rattle.std.specs.Prelude.{if◌then◌else◌, IsErrAnd, IsTrue}
+use Rattle.std.proofs.Common.{◌≡◌, ℕ, suc, ◌+◌, ◌<◌, ◌≤◌, max, Bool, List, [], ◌∷◌, ◌++◌, length, get_or, refl, sym, ap, subst, ◌∙◌, append-nil, arith}
+use Rattle.std.specs.Prelude.{if◌then◌else◌, IsTrue}
 use Rattle.std.proofs.Common.{inl, inr}
 use Rattle.std.proofs.KnownBytes.{Appends-nil}
 use Rattle.rtl_machine.specs.simulations.Running.{IsGreatest}
@@ -14,7 +14,6 @@ use Rattle.rtl_vcd.specs.Trace.{first_text, moment_text, end_text, are_some, cha
 use Rattle.rtl_stim.specs.Stimuli.{StimulusView, moments, inputs_at}
 use Rattle.rtl_stim.proofs.Next.{each_begins_at_zero}
 use Rattle.rtl_machine.specs.declared.progress.Progress.{Progress}
-use Rattle.rtl_machine.specs.declared.summary.RunFault.{RunFault}
 use Rattle.rtl_net.specs.Core.{core}
 use Rattle.rtl_machine.specs.simulations.Simulated.{Settled, AreMoments}
 use Rattle.rtl_machine.specs.simulations.Traced.{text_so_far, whole_text}
@@ -22,11 +21,6 @@ use Rattle.rtl_machine.specs.simulations.Answered.{IsWhole, StopsAt, LeavesBegin
 use Rattle.rtl_machine.specs.simulations.Running.{last_values, last_printed_of, HasBegun, HasCome, HasSettledIn, IsNextMoment}
 use Rattle.rtl_machine.proofs.MomentTexts.{text_more, last_more, text_end, values_more}
 use Rattle.rtl_machine.proofs.Moments.{one_more, greatest_one, greatest_more, are_more, are_none, is_most}
-
--- an answer that is this fault
-pub err_with : {X : Type 0} (P : Result X RunFault → Type 0) (answer : Result X RunFault) (fault : RunFault) → IsErrAnd answer (λ f. f ≡ fault) → P (Err fault) → P answer
-err_with P (Ok x) fault is p = absurd is
-err_with P (Err f) fault is p = subst (λ (g : RunFault). P (Err g)) (sym is) p
 
 module _ (net : NetlistView) (s : StimulusView) (limit : ℕ) (start : SinkState) where
   -- ---- the first moment

@@ -1,6 +1,8 @@
 pub mod MomentTexts
 pub mod Steps
 pub mod Turns
+pub mod Results
+pub mod Admitting
 pub mod Stands
 pub mod Moments
 pub mod Going

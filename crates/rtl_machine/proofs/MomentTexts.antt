@@ -1,13 +1,26 @@
 -- The trace of one more moment, and the end of the whole.
-use Rattle.std.proofs.Common.{◌≡◌, ℕ, suc, ◌<◌, List, [], ◌∷◌, ◌++◌, length, get_or, refl, sym, ap, subst, ◌∙◌, append-nil, append_assoc, arith}
+use Rattle.std.proofs.Common.{◌≡◌, ℕ, suc, Bool, ◌<◌, List, [], ◌∷◌, ◌++◌, length, get_or, refl, sym, ap, subst, ◌∙◌, append-nil, append_assoc, arith}
 use Rattle.std.specs.Prelude.{if◌then◌else◌}
 use Rattle.rtl_net.specs.Nets.{NetlistView, SignalView}
+use Rattle.rtl_sink.specs.Written.{SinkState, Goes}
 use Rattle.rtl_vcd.specs.Header.{header_text}
 use Rattle.rtl_vcd.specs.Trace.{Moment, first_text, moment_text, moments_text, end_text, are_some, changes}
 use Rattle.rtl_stim.specs.Stimuli.{StimulusView, moments}
 use Rattle.rtl_machine.specs.simulations.Simulated.{Settled}
 use Rattle.rtl_machine.specs.simulations.Traced.{behind_first, at_times, changes_text, text_so_far, whole_text}
 use Rattle.rtl_machine.specs.simulations.Running.{last_values, last_printed, last_printed_of}
+
+-- of the same netlist and the same values
+module _ (own net : NetlistView) (same : own ≡ net) (was before is now : List ℕ) (was_before : was ≡ before) (is_now : is ≡ now) where
+  pub moment_goes : (out new : SinkState) (time : ℕ) → Goes out new (moment_text own.signals time was is) → Goes out new (moment_text net.signals time before now)
+  moment_goes out new time goes =
+      subst (λ (vs : List ℕ). Goes out new (moment_text net.signals time before vs)) is_now
+      (subst (λ (vs : List ℕ). Goes out new (moment_text net.signals time vs is)) was_before (subst (λ (n : NetlistView). Goes out new (moment_text n.signals time was is)) same goes))
+
+  pub some_change : (printed : Bool) → printed ≡ are_some (changes own.signals was is) → printed ≡ are_some (changes net.signals before now)
+  some_change printed some =
+      some ∙ ap (λ (n : NetlistView). are_some (changes n.signals was is)) same ∙ ap (λ (vs : List ℕ). are_some (changes net.signals vs is)) was_before
+      ∙ ap (λ (vs : List ℕ). are_some (changes net.signals before vs)) is_now
 
 module _ (signals : List SignalView) where
   -- the changes at one more moment stand behind those before it

@@ -1,6 +1,5 @@
 -- Why a netlist or a stimulus is not admitted.
-use Rattle.std.proofs.Common.{◌≡◌, ℕ, List, Result, Ok, Err, sym, subst}
-use Rattle.std.specs.Prelude.{IsErrAnd}
+use Rattle.std.proofs.Common.{ℕ, List, Err}
 use Rattle.rtl_model.specs.simulation.Accepted.{IsAccepted}
 use Rattle.rtl_net.specs.Nets.{NetlistView}
 use Rattle.rtl_net.specs.Core.{core}
@@ -8,15 +7,9 @@ use Rattle.rtl_stim_lines.specs.declared.faults.StimFault.{StimFault}
 use Rattle.rtl_stim_lines.specs.declared.faults.StimFault.TheVariants.{InLine, NoStop, Race, NoMemory}
 use Rattle.rtl_stim.specs.Ports.{inputs_of}
 use Rattle.rtl_stim.specs.Stimuli.{IsRead}
-use Rattle.rtl_machine.specs.declared.fault.MachineFault.{MachineFault}
 use Rattle.rtl_machine.specs.Faults.{of_stim}
 use Rattle.rtl_machine.specs.Admitted.{RefusesNet}
 use Rattle.rtl_machine.proofs.BadLines.{never_race}
-
--- an answer that is this fault
-pub err_with : {X : Type 0} (P : Result X MachineFault → Type 0) (answer : Result X MachineFault) (fault : MachineFault) → IsErrAnd answer (λ f. f ≡ fault) → P (Err fault) → P answer
-err_with P (Ok x) fault is p = absurd is
-err_with P (Err f) fault is p = subst (λ (g : MachineFault). P (Err g)) (sym is) p
 
 -- the text is refused
 pub refused_text : (net : NetlistView) (text : List ℕ) (fault : StimFault) → IsAccepted (core net) → IsRead net text (Err fault) → RefusesNet net text (of_stim fault)

@@ -1,5 +1,5 @@
--- One turn of a run: what the agenda gives next is the next moment, and the machine steps to it.
-use Rattle.std.proofs.Common.{◌≡◌, ℕ, zero, suc, ◌<◌, ◌≤◌, List, ◌∷◌, length, sym, ap, subst, ◌∙◌, arith}
+-- One turn of a run: the machine steps to the next moment.
+use Rattle.std.proofs.Common.{◌≡◌, ℕ, zero, suc, List, sym, ap, subst, ◌∙◌, arith}
 use Rattle.std.specs.Prelude.{All, Contains, IsTrue, slice_index}
 use Rattle.rtl_model.specs.simulation.Netlist.{Netlist, IsInput}
 use Rattle.rtl_model.specs.simulation.Accepted.{IsAccepted}
@@ -11,39 +11,22 @@ use Rattle.rtl_model.proofs.simulation.Faultless.{faultless}
 use Rattle.rtl_net.specs.Nets.{NetlistView, flat}
 use Rattle.rtl_net.specs.Elaborated.{IsNet}
 use Rattle.rtl_kernel.specs.kernel.Simulation.{changes_of, initial_inputs}
-use Rattle.rtl_agenda.specs.Agenda.{AgendaState, Change, IsOrderly}
-use Rattle.rtl_stim_lines.specs.Filling.{Waits}
-use Rattle.rtl_stim.specs.Moments.{GivesNext, IsStimulus}
+use Rattle.rtl_agenda.specs.Agenda.{Change}
+use Rattle.rtl_stim.specs.Moments.{GivesNext}
 use Rattle.rtl_stim.specs.Ports.{HasOwnPorts, inputs_of}
 use Rattle.rtl_stim.specs.Stimuli.{StimulusView, moments, inputs_at, initial_values}
 use Rattle.rtl_net.specs.Core.{core}
-use Rattle.rtl_machine.proofs.Steps.{first_inputs, leads, of_inputs, next_moment, later, within_stop, few}
+use Rattle.rtl_machine.proofs.Steps.{first_inputs, leads, of_inputs}
 use Rattle.rtl_machine.specs.Synchronous.{IsRaceless, IsSynchronous}
 use Rattle.rtl_synchronous.specs.Laws.{EachMachineGoesOnAlike}
 use Rattle.rtl_machine.specs.declared.level_progress.Progress.{Progress}
 use Rattle.rtl_machine.specs.levels.Running.{IsNext}
 
--- At this time, which comes next, these changes are taken: it is the moment behind m, the last one so far.
-pub record ComesNext (s : StimulusView) (p : Progress) (m time : ℕ) (taken : List Change) : Type 0 where
-  pub next : GivesNext s m time taken
-  pub is_last : suc m ≡ p.moments
-  pub after : p.now < time
-  pub within : time ≤ s.schedule.stop
-  pub few : p.moments ≤ s.schedule.stop
-
-pub comes_next : (s : StimulusView) → IsStimulus s → (p : Progress) (m : ℕ) → suc m ≡ p.moments → m < length (moments s) → slice_index (moments s) m ≡ p.now
-    → (agenda : AgendaState) → IsOrderly agenda → Waits s.inputs s.schedule p.now agenda.waiting
-    → (time : ℕ) (behind : AgendaState) → agenda.waiting ≡ (time, behind.taken) ∷ behind.waiting → ComesNext s p m time behind.taken
-comes_next s is_stimulus p m is_last there at agenda orderly waits time behind least =
-    let waits_at = subst (λ (now : ℕ). Waits s.inputs s.schedule now agenda.waiting) (sym at) waits in
-    let next = next_moment s is_stimulus m there agenda orderly waits_at time behind.taken behind.waiting least in
-    record {
-      next = next;
-      is_last = is_last;
-      after = let less = later s m time behind.taken next in omega (arith, less, at);
-      within = within_stop s m time behind.taken next;
-      few = let most = few s in let more = next.there in omega (arith, most, more, is_last);
-    }
+-- These changes are of inputs, no data input races with a clock, and with them a machine with these values steps to the run's next valuation.
+pub record LeadsOn (run : ℕ → List ℕ) (m : ℕ) (net : NetlistView) (values : List ℕ) (changes : List Change) : Type 0 where
+  pub inputs : All (λ change. Contains net.inputs change.0) changes
+  pub raceless : IsRace (core net) (slice_index values) (with_changes (changes_of changes) values) → ⊥
+  pub steps : (new : List ℕ) → IsStep (core net) values (with_changes (changes_of changes) values) new → new ≡ run (suc m)
 
 -- a valuation of a run solves the equations of its moment
 solves_at : (net : Netlist) (stimulus : ℕ → ℕ → ℕ) (run : ℕ → List ℕ) → IsMachineRun net stimulus run → (m : ℕ) → (registers : ℕ → ℕ) × Solves net (stimulus m) registers (run m)
@@ -96,30 +79,20 @@ module _ (alike : EachMachineGoesOnAlike) (net : NetlistView) (is_net : IsNet ne
         (alike (core net) (connected_is_elaborated (flat net) is_net.in_range is_net.connected) accepted (inputs_at s) run synchronous.machine).step m
         (with_changes (changes_of taken) values) new lead (subst (λ (v : List ℕ). IsStep (core net) v (with_changes (changes_of taken) values) new) same step)
 
-    -- ---- of a machine of this netlist, given these changes
-
-    module _ (machine_net : NetlistView) (is_same : machine_net ≡ net) (changes : List Change) (are : changes ≡ taken) where
-      pub changes_inputs : All (λ change. Contains machine_net.inputs change.0) changes
-      changes_inputs =
-          let all = of_inputs net is_net s ports inputs m time taken next in
-          subst (λ (n : NetlistView). All (λ change. Contains n.inputs change.0) changes) (sym is_same)
-          (subst (λ (cs : List Change). All (λ change. Contains net.inputs change.0) cs) (sym are) all)
-
-      pub changes_race : IsRaceless (core net) (inputs_at s) → IsRace (core machine_net) (slice_index values) (with_changes (changes_of changes) values) → ⊥
-      changes_race raceless =
-          subst (λ (n : NetlistView). IsRace (core n) (slice_index values) (with_changes (changes_of changes) values) → ⊥) (sym is_same)
-          (subst (λ (cs : List Change). IsRace (core net) (slice_index values) (with_changes (changes_of cs) values) → ⊥) (sym are) (no_race raceless))
-
-      pub steps_to : (new : List ℕ) → IsStep (core machine_net) values (with_changes (changes_of changes) values) new → new ≡ run (suc m)
-      steps_to new step =
-          next_is new (subst (λ (cs : List Change). IsStep (core net) values (with_changes (changes_of cs) values) new) are
-          (subst (λ (n : NetlistView). IsStep (core n) values (with_changes (changes_of changes) values) new) is_same step))
+    -- of a machine of this netlist, given these changes
+    pub leads_on : IsRaceless (core net) (inputs_at s) → (machine_net : NetlistView) → machine_net ≡ net → (changes : List Change) → changes ≡ taken → LeadsOn run m machine_net values changes
+    leads_on raceless machine_net is_same changes are =
+        subst (λ (n : NetlistView). LeadsOn run m n values changes) (sym is_same) (subst (λ (cs : List Change). LeadsOn run m net values cs) (sym are) (record {
+          inputs = of_inputs net is_net s ports inputs m time taken next;
+          raceless = no_race raceless;
+          steps = next_is;
+        }))
 
 -- with these the machine has the run's next valuation
-pub is_next : (net : NetlistView) (s : StimulusView) (run : ℕ → List ℕ) (p : Progress) (m time : ℕ) (taken : List Change) → ComesNext s p m time taken
+pub is_next : (net : NetlistView) (s : StimulusView) (run : ℕ → List ℕ) (p : Progress) (m time : ℕ) (taken : List Change) → GivesNext s m time taken → suc m ≡ p.moments
     → (new : List ℕ) → new ≡ run (suc m) → IsNext net s run p time new
-is_next net s run p m time taken turn new same = record {
-  there = let more = turn.next.there in omega (arith, more, turn.is_last);
-  is = subst (λ (k : ℕ). slice_index (moments s) k ≡ time) turn.is_last turn.next.is;
-  of_run = same ∙ ap run turn.is_last;
+is_next net s run p m time taken next is_last new same = record {
+  there = let more = next.there in omega (arith, more, is_last);
+  is = subst (λ (k : ℕ). slice_index (moments s) k ≡ time) is_last next.is;
+  of_run = same ∙ ap run is_last;
 }

@@ -1,8 +1,8 @@
 use Rattle.std.proofs.Common.{inl, inr, refl}
-use Rattle.std.proofs.lemmas.Result.{IfOk-from_err}
+use Rattle.std.proofs.lemmas.Result.{IfOk-from_err, IfOk-weaker, IfErr-weaker}
 use Rattle.rtl_machine.specs.levels.Answered.{RunsLevels}
-use Rattle.rtl_machine.proofs.Refusals.{err_with}
-use Rattle.rtl_machine.proofs.Told.{if_ok, any_err, if_err}
+use Rattle.rtl_machine.proofs.Admitting.{admits}
+use Rattle.rtl_machine.proofs.Results.{err_with, any_err}
 use Rattle.rtl_machine.proofs.by_levels.run_levels_watched.Goals as goal
 
 pub trace-requires : goal.trace-requires
@@ -33,27 +33,13 @@ pub returns-in_err-admitted-clause-failing : goal.returns-in_err-admitted-clause
 returns-in_err-admitted-clause-failing g c = any_err _ c.from_residual.result (inl (g.met.V.Watch.nothing c.args.watch.now))
 
 pub returns-clause-runs : goal.returns-clause-runs
-returns-clause-runs g c = inl (record {
-  bound = c.in_ok-admitted.field-0.admitted.bound;
-  stimulus = c.in_ok-admitted.field-0.admitted.stimulus;
-  admitted = c.in_ok-admitted.ensures.admitted;
-  done = c.trace.ensures.traces;
-})
+returns-clause-runs g c = inl (admits _ c.in_ok-admitted.ensures.admitted c.trace.ensures.traces)
 
 pub returns-clause-told : goal.returns-clause-told
-returns-clause-told g c =
-    if_ok _ _ c.trace.result (λ summary told. record {
-      bound = c.in_ok-admitted.field-0.admitted.bound;
-      stimulus = c.in_ok-admitted.field-0.admitted.stimulus;
-      admitted = c.in_ok-admitted.ensures.admitted;
-      done = told;
-    }) c.trace.ensures.told
+returns-clause-told g c = IfOk-weaker c.trace.result _ _ (λ summary told. admits _ c.in_ok-admitted.ensures.admitted told) c.trace.ensures.told
 
 pub returns-clause-failing : goal.returns-clause-failing
-returns-clause-failing g c =
-    if_err _ _ c.trace.result (λ first. inr (record {
-      bound = c.in_ok-admitted.field-0.admitted.bound;
-      stimulus = c.in_ok-admitted.field-0.admitted.stimulus;
-      admitted = c.in_ok-admitted.ensures.admitted;
-      done = first;
-    })) c.trace.ensures.failing
+returns-clause-failing g c = IfErr-weaker c.trace.result _ _ (λ fault first. inr (admits _ c.in_ok-admitted.ensures.admitted first)) c.trace.ensures.failing
+
+pub prepare-requires : goal.prepare-requires
+prepare-requires g c = c.requires.ports

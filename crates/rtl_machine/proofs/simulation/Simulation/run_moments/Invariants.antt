@@ -1,12 +1,10 @@
-use Rattle.std.proofs.Common.{◌≡◌, ℕ, suc, ◌<◌, ◌-◌, List, length, IsTrue}
-use Rattle.std.specs.Prelude.{slice_index}
+use Rattle.std.proofs.Common.{◌≡◌, ℕ, ◌-◌, length, IsTrue}
 use Rattle.rtl_model.specs.simulation.Cycle.{is_quiet}
 use Rattle.rtl_model.specs.simulation.Moments.{HasNoneToRun}
-use Rattle.rtl_stim_lines.specs.Filling.{Waits}
-use Rattle.rtl_stim.specs.Stimuli.{moments}
-use Rattle.rtl_sink.specs.Stands.{Stand}
-use Rattle.rtl_machine.specs.simulations.Watched.{AreStands}
+use Rattle.rtl_machine.specs.simulations.Watched.{StandsFrom}
 use Rattle.rtl_machine.specs.simulations.Running.{HasCome, HasSettledIn}
+use Rattle.rtl_machine.proofs.Stands.{HasHeard}
+use Rattle.rtl_machine.proofs.Turns.{IsLast}
 use Rattle.rtl_machine.proofs.simulation.Simulation.run_moments.Given as goal
 
 -- the last moment so far, m, has settled, the watch was told of those before it, and what comes after it waits
@@ -19,15 +17,9 @@ invariant-loop-time g l = record {
   values : l.progress.values.items ≡ l.kernel.state.now;
   come : HasCome l.self.net.now l.self.stimulus.now l.self.limit (g.W.Sink.state l.fn.out) (g.W.Sink.state l.out) l.progress;
   m : ℕ;
-  is_last : suc m ≡ l.progress.summary.moments;
-  there : m < length (moments l.self.stimulus.now);
-  at : slice_index (moments l.self.stimulus.now) m ≡ l.progress.now;
+  last : IsLast l.self.stimulus.now m l.progress.summary.moments l.progress.now (g.A.Agenda.state l.agenda).waiting;
   settled : HasSettledIn l.self.net.now l.self.stimulus.now l.self.limit m l.kernel.state;
-  stands : List Stand;
-  are : AreStands l.self.net.now l.self.stimulus.now stands;
-  many : length stands ≡ m;
-  told : g.V.Watch.told l.fn.watch stands l.watch;
-  waits : Waits l.self.stimulus.now.inputs l.self.stimulus.now.schedule l.progress.now (g.A.Agenda.state l.agenda).waiting;
+  heard : HasHeard (StandsFrom l.self.net.now l.self.stimulus.now) (λ stands. g.V.Watch.told l.fn.watch stands l.watch) m;
 }
 
 abbrev pub decreases-loop-time : goal.decreases-loop-time

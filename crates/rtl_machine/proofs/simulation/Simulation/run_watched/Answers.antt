@@ -1,4 +1,5 @@
-use Rattle.std.proofs.Common.{ℕ, List, subst}
+use Rattle.std.proofs.Common.{List, ap, subst, ◌∙◌}
+use Rattle.std.proofs.lemmas.Result.{IfOk-from_err}
 use Rattle.vhdl_values.specs.declared.scalar.Nine.{Nine}
 use Rattle.rtl_model.specs.nets.CoreNetlist.{core_netlist}
 use Rattle.rtl_model.specs.simulation.Cycle.{start_state}
@@ -10,9 +11,9 @@ use Rattle.rtl_machine.specs.declared.summary.RunFault.TheVariants.{Memory}
 use Rattle.rtl_net.specs.Core.{core}
 use Rattle.rtl_machine.specs.simulations.Answered.{Answers}
 use Rattle.rtl_machine.proofs.Steps.{first_begun}
-use Rattle.rtl_sink.specs.Stands.{Stand}
-use Rattle.rtl_machine.proofs.Failing.{told_of, told_nothing}
-use Rattle.rtl_machine.proofs.Going.{err_with, nothing_leaves}
+use Rattle.rtl_machine.proofs.Results.{err_with, fails_with}
+use Rattle.rtl_machine.proofs.Stands.{told_nothing}
+use Rattle.rtl_machine.proofs.Going.{nothing_leaves}
 use Rattle.rtl_machine.proofs.simulation.Simulation.run_watched.Goals as goal
 
 pub returns-in_err-load-clause-answers : goal.returns-in_err-load-clause-answers
@@ -47,30 +48,54 @@ run_moments-requires-clause-begun g c =
 
 pub returns-in_err-load-clause-failing : goal.returns-in_err-load-clause-failing
 returns-in_err-load-clause-failing g c =
-    let net = c.args.self.now.net.now in
-    let s = c.args.self.now.stimulus.now in
-    let limit = c.args.self.now.limit in
-    let Told : List Stand → Type 0 = λ stands. g.V.Watch.told c.args.watch.now stands c.args.watch.now in
-    let Stuck : List Stand → List ℕ → List ℕ → ℕ → Type 0 = λ stands before now time. g.V.Watch.stuck c.args.watch.now stands before now time c.args.watch.now in
-    told_of net s limit Told Stuck c.from_residual.result Memory c.from_residual.ensures.1
-    (told_nothing net s limit Told Stuck (g.met.V.Watch.nothing c.args.watch.now))
+    fails_with _ _ c.from_residual.result Memory c.from_residual.ensures.1 (told_nothing c.args.self.now.net.now c.args.self.now.stimulus.now _ (g.met.V.Watch.nothing c.args.watch.now))
 
 pub returns-in_err-blocks-clause-failing : goal.returns-in_err-blocks-clause-failing
 returns-in_err-blocks-clause-failing g c =
-    let net = c.args.self.now.net.now in
-    let s = c.args.self.now.stimulus.now in
-    let limit = c.args.self.now.limit in
-    let Told : List Stand → Type 0 = λ stands. g.V.Watch.told c.args.watch.now stands c.args.watch.now in
-    let Stuck : List Stand → List ℕ → List ℕ → ℕ → Type 0 = λ stands before now time. g.V.Watch.stuck c.args.watch.now stands before now time c.args.watch.now in
-    told_of net s limit Told Stuck c.from_residual-in_err-blocks.result Memory c.from_residual-in_err-blocks.ensures.1
-    (told_nothing net s limit Told Stuck (g.met.V.Watch.nothing c.args.watch.now))
+    fails_with _ _ c.from_residual-in_err-blocks.result Memory c.from_residual-in_err-blocks.ensures.1 (told_nothing c.args.self.now.net.now c.args.self.now.stimulus.now _ (g.met.V.Watch.nothing c.args.watch.now))
 
 pub returns-in_err-kernel-clause-failing : goal.returns-in_err-kernel-clause-failing
 returns-in_err-kernel-clause-failing g c =
-    let net = c.args.self.now.net.now in
-    let s = c.args.self.now.stimulus.now in
-    let limit = c.args.self.now.limit in
-    let Told : List Stand → Type 0 = λ stands. g.V.Watch.told c.args.watch.now stands c.args.watch.now in
-    let Stuck : List Stand → List ℕ → List ℕ → ℕ → Type 0 = λ stands before now time. g.V.Watch.stuck c.args.watch.now stands before now time c.args.watch.now in
-    told_of net s limit Told Stuck c.from_residual-in_err-kernel.result Memory c.from_residual-in_err-kernel.ensures.1
-    (told_nothing net s limit Told Stuck (g.met.V.Watch.nothing c.args.watch.now))
+    fails_with _ _ c.from_residual-in_err-kernel.result Memory c.from_residual-in_err-kernel.ensures.1 (told_nothing c.args.self.now.net.now c.args.self.now.stimulus.now _ (g.met.V.Watch.nothing c.args.watch.now))
+
+pub load-requires-clause-waiting : goal.load-requires-clause-waiting
+load-requires-clause-waiting g c = c.requires.waiting
+
+pub load-requires-clause-last : goal.load-requires-clause-last
+load-requires-clause-last g c = c.requires.last
+
+pub run_moments-requires-clause-blocks : goal.run_moments-requires-clause-blocks
+run_moments-requires-clause-blocks g c = c.in_ok-blocks.ensures
+
+pub run_moments-requires-clause-net : goal.run_moments-requires-clause-net
+run_moments-requires-clause-net g c = c.start.ensures.net ∙ ap (λ (k : Simulation). k.net) c.in_ok-kernel.ensures
+
+pub run_moments-requires-clause-ports : goal.run_moments-requires-clause-ports
+run_moments-requires-clause-ports g c = c.requires.ports
+
+pub run_moments-requires-clause-inputs : goal.run_moments-requires-clause-inputs
+run_moments-requires-clause-inputs g c = c.requires.inputs
+
+pub run_moments-requires-clause-waits : goal.run_moments-requires-clause-waits
+run_moments-requires-clause-waits g c = c.in_ok-load.ensures.waits
+
+pub run_moments-requires-clause-intact : goal.run_moments-requires-clause-intact
+run_moments-requires-clause-intact g c = c.requires.intact
+
+pub returns-in_err-load-clause-told : goal.returns-in_err-load-clause-told
+returns-in_err-load-clause-told g c = IfOk-from_err c.from_residual.result _ c.from_residual.ensures.0
+
+pub returns-in_err-blocks-clause-told : goal.returns-in_err-blocks-clause-told
+returns-in_err-blocks-clause-told g c = IfOk-from_err c.from_residual-in_err-blocks.result _ c.from_residual-in_err-blocks.ensures.0
+
+pub returns-in_err-kernel-clause-told : goal.returns-in_err-kernel-clause-told
+returns-in_err-kernel-clause-told g c = IfOk-from_err c.from_residual-in_err-kernel.result _ c.from_residual-in_err-kernel.ensures.0
+
+pub returns-clause-answers : goal.returns-clause-answers
+returns-clause-answers g c = c.run_moments.ensures.answers
+
+pub returns-clause-told : goal.returns-clause-told
+returns-clause-told g c = c.run_moments.ensures.told
+
+pub returns-clause-failing : goal.returns-clause-failing
+returns-clause-failing g c = c.run_moments.ensures.failing

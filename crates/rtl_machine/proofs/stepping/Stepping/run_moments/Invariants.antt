@@ -1,14 +1,14 @@
-use Rattle.std.proofs.Common.{◌≡◌, ℕ, suc, ◌-◌, List, length}
+use Rattle.std.proofs.Common.{◌≡◌, ℕ, ◌-◌, List, length}
 use Rattle.rtl_net.specs.Core.{core}
-use Rattle.rtl_stim_lines.specs.Filling.{Waits}
 use Rattle.rtl_stim.specs.Stimuli.{inputs_at}
-use Rattle.rtl_sink.specs.Stands.{Stand}
-use Rattle.rtl_machine.specs.Watched.{AreStandsOf}
 use Rattle.rtl_machine.specs.Synchronous.{IsSynchronous}
 use Rattle.rtl_machine.specs.levels.Running.{HasCome}
+use Rattle.rtl_machine.proofs.Stands.{HasHeard}
+use Rattle.rtl_machine.proofs.Turns.{IsLast}
+use Rattle.rtl_machine.proofs.levels.Stands.{StandsAt}
 use Rattle.rtl_machine.proofs.stepping.Stepping.run_moments.Given as goal
 
--- the moments so far went out, the watch was told of those before the last, the machine has the run's valuation at the last of them, and what comes after it waits
+-- the moments so far went out, the watch was told of those before the last, m, the machine has the run's valuation at it, and what comes after it waits
 abbrev pub invariant-loop-time : goal.invariant-loop-time
 invariant-loop-time g l = record {
   net : l.machine.net ≡ l.self.net.now;
@@ -17,13 +17,9 @@ invariant-loop-time g l = record {
   synchronous : IsSynchronous (core l.self.net.now) l.self.bound (inputs_at l.self.stimulus.now) run;
   come : HasCome l.self.net.now l.self.stimulus.now run (g.W.Sink.state l.fn.out) (g.W.Sink.state l.out) l.progress;
   m : ℕ;
-  is_last : suc m ≡ l.progress.moments;
+  last : IsLast l.self.stimulus.now m l.progress.moments l.progress.now (g.A.Agenda.state l.agenda).waiting;
   values : l.machine.values ≡ run m;
-  stands : List Stand;
-  are : AreStandsOf l.self.stimulus.now run stands;
-  many : length stands ≡ m;
-  told : g.V.Watch.told l.fn.watch stands l.watch;
-  waits : Waits l.self.stimulus.now.inputs l.self.stimulus.now.schedule l.progress.now (g.A.Agenda.state l.agenda).waiting;
+  heard : HasHeard (StandsAt l.self.stimulus.now run) (λ stands. g.V.Watch.told l.fn.watch stands l.watch) m;
 }
 
 abbrev pub decreases-loop-time : goal.decreases-loop-time
