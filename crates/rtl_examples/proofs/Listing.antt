@@ -1,18 +1,18 @@
 -- The lines of known designs.
-use Rattle.std.proofs.Common.{◌≡◌, ℕ, List, [], ◌∷◌, ◌++◌, refl, ap, ◌∙◌, sym, length}
+use Rattle.std.proofs.Common.{◌≡◌, ℕ, List, [], ◌∷◌, ◌++◌, refl, ap, ◌∙◌, length}
 use Rattle.std.specs.Fmt.{digits}
 use Rattle.std.specs.Prelude.{Option, Some, None, codes, decimal, flat_map, slice_index, slice_index_or}
 use Rattle.rtl_model.specs.nets.FlatNetlist.{FlatNetlist, FlatProcess, flat_sources}
 use Rattle.rtl_model.specs.bodies.Types.{nine_valued}
 use Rattle.rtl_examples.specs.Counter as example
 use Rattle.rtl_net.specs.declared.process.Process.{Process}
-use Rattle.rtl_net.specs.Nets.{NetlistView, flat, process_view}
+use Rattle.rtl_net.specs.Nets.{flat, process_view}
 use Rattle.rtl_net.specs.Names.{net_name, name_of_process, generates_prefix}
 use Rattle.rtl_net_facts.specs.Reading.{is_in}
 use Rattle.rtl_check.specs.declared.reporting.Report.{Report}
-use Rattle.rtlsim_listing.specs.NetText.{net_text, net_line, lines, counts_text, start_text, sources_text}
+use Rattle.rtlsim_listing.specs.NetText.{net_text, lines, counts_text, start_text, sources_text}
 use Rattle.rtlsim_listing.specs.CheckText.{report_text, bounds_text, greatest_level, level_line}
-use Rattle.rtl_examples.specs.Listing.{IsUnlabelled, IsBare, top, cnt, of_processes, CounterIsListed, CounterIsReported, LoopIsListed, LevelIsListed, AreListed, LinesAreAsSaid}
+use Rattle.rtl_examples.specs.Listing.{IsUnlabelled, IsBare, top, cnt, CounterIsListed, CounterIsReported, LoopIsListed, LevelIsListed, AreListed, LinesAreAsSaid}
 
 -- the name of a process without a label
 unlabelled : (name generates : List ℕ) (p : Process) (k : ℕ) → IsUnlabelled p generates

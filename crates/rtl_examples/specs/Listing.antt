@@ -1,6 +1,6 @@
 -- What is printed of a counter (its top named cnt), and lines of other designs.
-use Rattle.std.specs.Prelude.{◌≡◌, ℕ, true, false, List, [], ◌∷◌, ◌++◌, Option, Some, None, codes}
-use Rattle.rtl_model.specs.nets.FlatNetlist.{FlatNetlist, FlatProcess}
+use Rattle.std.specs.Prelude.{◌≡◌, ℕ, true, false, List, [], ◌∷◌, Some, None, codes}
+use Rattle.rtl_model.specs.nets.FlatNetlist.{FlatProcess}
 use Rattle.rtl_model.specs.bodies.Types.{nine_valued, enumeration}
 use Rattle.rtl_model.specs.simulation.Netlist.{Driver, Idle}
 use Rattle.rtl_model.specs.simulation.Accepted.{TwoDrivers, MixedProcess, ClockNotInput, Loop}

@@ -7,5 +7,6 @@ mod Seen
 mod Settling
 mod Shown
 mod Lengths
+mod NoBudget
 mod Joined
 mod There

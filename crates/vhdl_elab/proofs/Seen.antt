@@ -1,21 +1,22 @@
 -- The table of elements and their uses, as the definitions see it.
-use Rattle.std.proofs.Common.{◌≡◌, ℕ, zero, suc, Bool, true, false, not, cond, ◌&&◌, ◌||◌, ◌==◌, if◌then◌else◌, List, [], ◌∷◌, ◌++◌, map, All, refl, sym, ap, ◌∙◌, arith, ne_eqb}
-use Rattle.std.specs.Prelude.{nat_le, filter, flat_map, slice_index_or}
+use Rattle.std.proofs.Common.{◌≡◌, ℕ, zero, suc, Bool, true, false, not, cond, ◌&&◌, ◌||◌, ◌==◌, if◌then◌else◌, List, [], ◌∷◌, ◌++◌, map, Option, Some, None, All, refl, sym, ap, ◌∙◌, arith, ne_eqb}
+use Rattle.std.specs.Prelude.{nat_le, find, filter, flat_map, option_map, slice_index_or}
 use Rattle.std.specs.List.{list_any, zip, AllByRecursion}
 use Rattle.std.proofs.lemmas.Bool.{le-leb}
+use Rattle.std.proofs.lemmas.Option.{same_Some}
 use Rattle.std.proofs.lemmas.List.{map-append}
 use Rattle.std.proofs.lemmas.List.Elements.{filter-append, All-head, All-tail}
-use Rattle.std.proofs.lemmas.List.Folds.{list_any-append}
 use Rattle.rtl_net.specs.declared.building.IdlePort.{IdlePort}
 use Rattle.rtl_net.specs.Parts.{idle_at}
 use Rattle.vhdl_elab_rules.specs.Numbering.{Placed}
 use Rattle.vhdl_elab_rules.specs.Wiring as wiring
 use Rattle.vhdl_elab_rules.specs.Wiring.{elements_of, is_input, is_output, is_top, inputs_of, idle_values}
+use Rattle.vhdl_elab_rules.specs.Limits as limits
 use Rattle.vhdl_connect_processes.specs.declared.uses.Use.{Use}
 use Rattle.vhdl_connect_processes.specs.Uses.{sources_of}
 use Rattle.vhdl_elab.specs.declared.made.Element.{Element}
 use Rattle.vhdl_elab.specs.Made.{Static, element_view, static_of, statics_of, use_of, uses_of}
-use Rattle.vhdl_elab.specs.Tables.{Used, is_input_of_top, inputs_in, has_no_source, is_idle, idle_in, has_several, is_two_unresolved}
+use Rattle.vhdl_elab.specs.Tables.{Used, is_input_of_top, inputs_in, has_no_source, is_idle, idle_in, first_at, has_several, is_two_unresolved}
 
 abbrev pub Seen : Type 0
 Seen = Static × Use
@@ -44,10 +45,6 @@ zip-all : (ps : List Placed) → zip (flat_map statics_of ps) (flat_map uses_of 
 zip-all [] = refl
 zip-all (p ∷ ps) = zip-front (static_of (is_top p)) use_of (elements_of p) (flat_map statics_of ps) (flat_map uses_of ps) ∙ ap (λ zs. seen_of p ++ zs) (zip-all ps)
 
-any-shown : {A B : Type 0} (v : A → B) (p : B → Bool) (xs : List A) → list_any (λ x. p (v x)) xs ≡ list_any p (map v xs)
-any-shown v p [] = refl
-any-shown v p (x ∷ xs) = ap (λ b. p (v x) || b) (any-shown v p xs)
-
 filter-shown : {A B : Type 0} (v : A → B) (p : B → Bool) (xs : List A) → map v (filter (λ x. p (v x)) xs) ≡ filter p (map v xs)
 filter-shown v p [] = refl
 filter-shown {A} {B} v p (x ∷ xs) = by (p (v x)) (filter-shown v p xs)
@@ -61,21 +58,79 @@ map-through : {A B C : Type 0} (h : B → C) (v : A → B) (xs : List A) → map
 map-through h v [] = refl
 map-through h v (x ∷ xs) = ap (λ zs. h (v x) ∷ zs) (map-through h v xs)
 
--- ---- any of the elements of instances
+-- ---- the first of several
+
+or_else : Option ℕ → Option ℕ → Option ℕ
+or_else (Some n) o = Some n
+or_else None o = o
+
+abbrev pub first_in : {A : Type 0} → (A → ℕ) → (A → Bool) → List A → Option ℕ
+first_in f p xs = option_map f (find p xs)
+
+first-append : {A : Type 0} (f : A → ℕ) (p : A → Bool) (xs ys : List A) → first_in f p (xs ++ ys) ≡ or_else (first_in f p xs) (first_in f p ys)
+unfolding or_else
+first-append f p [] ys = refl
+first-append {A} f p (x ∷ xs) ys = by (p x) (first-append f p xs ys)
+  where
+    by : (t : Bool) → first_in f p (xs ++ ys) ≡ or_else (first_in f p xs) (first_in f p ys)
+        → option_map f (cond t (Some x) (find p (xs ++ ys))) ≡ or_else (option_map f (cond t (Some x) (find p xs))) (first_in f p ys)
+    by true h = refl
+    by false h = h
+
+first-shown : {A B : Type 0} (v : A → B) (f : B → ℕ) (p : B → Bool) (xs : List A) → first_in (λ x. f (v x)) (λ x. p (v x)) xs ≡ first_in f p (map v xs)
+first-shown v f p [] = refl
+first-shown {A} {B} v f p (x ∷ xs) = by (p (v x)) (first-shown v f p xs)
+  where
+    by : (t : Bool) → first_in (λ y. f (v y)) (λ y. p (v y)) xs ≡ first_in f p (map v xs)
+        → option_map (λ y. f (v y)) (cond t (Some x) (find (λ y. p (v y)) xs)) ≡ option_map f (cond t (Some (v x)) (find p (map v xs)))
+    by true h = refl
+    by false h = h
+
+abbrev at_seen : Seen → ℕ
+at_seen s = s.0.at
+
+abbrev pub at_in : wiring.Element → ℕ
+at_in e = e.at
+
+-- where an element is found, there is one
+pub found-at : (q : wiring.Element → Bool) (es : List wiring.Element) (n : ℕ) → first_in at_in q es ≡ Some n → (list_any q es ≡ true) × (limits.first_at q es ≡ n)
+found-at q [] n h = absurd cc
+found-at q (e ∷ es) n h = by (q e) h (found-at q es n)
+  where
+    by : (t : Bool) → option_map at_in (cond t (Some e) (find q es)) ≡ Some n → (first_in at_in q es ≡ Some n → (list_any q es ≡ true) × (limits.first_at q es ≡ n))
+        → ((t || list_any q es) ≡ true) × (limits.declared_at (cond t (Some e) (find q es)) ≡ n)
+    by true h later = (refl, same_Some e.at n h)
+    by false h later = later h
+
+pub none-found : (q : wiring.Element → Bool) (es : List wiring.Element) → first_in at_in q es ≡ None → list_any q es ≡ false
+none-found q [] h = refl
+none-found q (e ∷ es) h = by (q e) h (none-found q es)
+  where
+    by : (t : Bool) → option_map at_in (cond t (Some e) (find q es)) ≡ None → (first_in at_in q es ≡ None → list_any q es ≡ false) → (t || list_any q es) ≡ false
+    by true h later = absurd cc
+    by false h later = later h
+
+-- ---- the first of the elements of instances
 
 module _ (p : Seen → Bool) (q : wiring.Element → Bool) where
   abbrev pub Agree : wiring.Element → Type 0
   Agree e = (top : Bool) → p (seen_as top e) ≡ q e
 
-  any-part : (t : Bool) (xs : List wiring.Element) → All Agree xs → list_any p (map (seen_as t) xs) ≡ list_any q xs
-  any-part t [] h = refl
-  any-part t (x ∷ xs) h = λ i. All-head Agree x xs h t i || any-part t xs (All-tail Agree x xs h) i
+  first-part : (t : Bool) (xs : List wiring.Element) → All Agree xs → first_in at_seen p (map (seen_as t) xs) ≡ first_in at_in q xs
+  first-part t [] h = refl
+  first-part t (x ∷ xs) h =
+      (λ i. option_map at_seen (cond (All-head Agree x xs h t i) (Some (seen_as t x)) (find p (map (seen_as t) xs)))) ∙ by (q x) (first-part t xs (All-tail Agree x xs h))
+    where
+      by : (b : Bool) → first_in at_seen p (map (seen_as t) xs) ≡ first_in at_in q xs
+          → option_map at_seen (cond b (Some (seen_as t x)) (find p (map (seen_as t) xs))) ≡ option_map at_in (cond b (Some x) (find q xs))
+      by true k = refl
+      by false k = k
 
-  any-all : (ps : List Placed) → AllByRecursion (λ (pl : Placed). All Agree (elements_of pl)) ps → list_any p (flat_map seen_of ps) ≡ list_any q (flat_map elements_of ps)
-  any-all [] h = refl
-  any-all (pl ∷ ps) h =
-      list_any-append p (seen_of pl) (flat_map seen_of ps) ∙ (λ i. any-part (is_top pl) (elements_of pl) h.0 i || any-all ps h.1 i)
-      ∙ sym (list_any-append q (elements_of pl) (flat_map elements_of ps))
+  first-all : (ps : List Placed) → AllByRecursion (λ (pl : Placed). All Agree (elements_of pl)) ps → first_in at_seen p (flat_map seen_of ps) ≡ first_in at_in q (flat_map elements_of ps)
+  first-all [] h = refl
+  first-all (pl ∷ ps) h =
+      first-append at_seen p (seen_of pl) (flat_map seen_of ps) ∙ (λ i. or_else (first-part (is_top pl) (elements_of pl) h.0 i) (first-all ps h.1 i))
+      ∙ sym (first-append at_in q (elements_of pl) (flat_map elements_of ps))
 
 -- ---- what counts of sources say
 
@@ -101,13 +156,12 @@ module _ (ps : List Placed) (es : List Element) (us : List Use) (elements : map 
   pub seen-is : map seen (zip es us) ≡ flat_map seen_of ps
   seen-is = zip-shown element_view es us ∙ (λ i. zip (elements i) (uses i)) ∙ zip-all ps
 
-  pub any-through : (p : Seen → Bool) (q : wiring.Element → Bool) → AllByRecursion (λ (pl : Placed). All (λ (e : wiring.Element). (top : Bool) → p (seen_as top e) ≡ q e) (elements_of pl)) ps
-      → list_any (λ (x : Used). p (seen x)) (zip es us) ≡ list_any q (flat_map elements_of ps)
-  any-through p q h = any-shown seen p (zip es us) ∙ ap (list_any p) seen-is ∙ any-all p q ps h
+  pub first-through : (p : Seen → Bool) (q : wiring.Element → Bool) → AllByRecursion (λ (pl : Placed). All (λ (e : wiring.Element). (top : Bool) → p (seen_as top e) ≡ q e) (elements_of pl)) ps
+      → first_at (λ (x : Used). p (seen x)) (zip es us) ≡ first_in at_in q (flat_map elements_of ps)
+  first-through p q h = first-shown seen at_seen p (zip es us) ∙ ap (first_in at_seen p) seen-is ∙ first-all p q ps h
 
-  pub two-unresolved : list_any is_two_unresolved (zip es us) ≡ list_any (λ (e : wiring.Element). not e.is_resolved && nat_le 2 e.sources) (flat_map elements_of ps)
-  two-unresolved =
-      any-shown seen two (zip es us) ∙ ap (list_any two) seen-is ∙ any-all two (λ (e : wiring.Element). not e.is_resolved && nat_le 2 e.sources) ps (everywhere ps)
+  pub two-unresolved : first_at is_two_unresolved (zip es us) ≡ first_in at_in limits.is_two_unresolved (flat_map elements_of ps)
+  two-unresolved = first-through two limits.is_two_unresolved (everywhere ps)
     where
       two : Seen → Bool
       two s = has_several s.1.sources && not s.0.is_resolved

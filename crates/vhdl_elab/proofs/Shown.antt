@@ -1,7 +1,7 @@
 -- The parts that are made show the netlist of the numbered design.
 use Rattle.std.proofs.Common.{◌≡◌, ℕ, zero, suc, ◌+◌, ◌<◌, Bool, true, false, not, ◌&&◌, List, [], ◌∷◌, ◌++◌, length, map, All, Ok, Err, refl, sym, ap, ◌∙◌, arith}
 use Rattle.std.specs.Prelude.{nat_le, slice_index, flat_map}
-use Rattle.std.specs.List.{AllZip, AllByRecursion, list_any, range_with_len, enumerate_from}
+use Rattle.std.specs.List.{AllZip, AllByRecursion, range_with_len, enumerate_from}
 use Rattle.std.proofs.lemmas.List.{length-map}
 use Rattle.std.proofs.lemmas.List.Elements.{All-nil, All-cons, All-weaker}
 use Rattle.smallvec.specs.SmallVec.{SmallVec}
@@ -12,13 +12,13 @@ use Rattle.rtl_net.specs.declared.process.Process.{Process}
 use Rattle.rtl_net.specs.Elaborated.{ReadsOfBody}
 use Rattle.rtl_net.specs.Nets.{scope_view, signal_view, type_of, process_view}
 use Rattle.rtl_net.specs.Parts.{idle_at, assembled}
-use Rattle.vhdl_expand_rules.specs.declared.fault.ElabProblem.{ElabProblem}
 use Rattle.vhdl_expand_rules.specs.declared.fault.ElabProblem.TheVariants.{TwoUnresolved, ReadOfShared}
-use Rattle.vhdl_expand_rules.specs.Elab.{Elab, ◌>>◌, unless}
+use Rattle.vhdl_expand_rules.specs.Elab.{Told, Elab, ◌>>◌, unless}
 use Rattle.vhdl_elab_rules.specs.Numbering.{Placed, Located, Numbered}
 use Rattle.vhdl_elab_rules.specs.Wiring as wiring
 use Rattle.vhdl_elab_rules.specs.Wiring.{elements_of, own_elements, idle_values, inputs_of, is_output, is_top, flat_process, start_of, flat_net}
-use Rattle.vhdl_elab_rules.specs.Limits.{has_two_unresolved, has_read_of_shared, is_shared}
+use Rattle.vhdl_elab_rules.specs.Limits as limits
+use Rattle.vhdl_elab_rules.specs.Limits.{elements, has_two_unresolved, has_read_of_shared, is_shared}
 use Rattle.vhdl_elab_rules.specs.Names.{scope_of, signals_of, named_process}
 use Rattle.vhdl_elab_rules.specs.Elaboration.{net_of}
 use Rattle.vhdl_elab_rules.specs.laws.Scopes.{scope_views}
@@ -29,11 +29,11 @@ use Rattle.vhdl_connect_processes.proofs.Sourced.{sources_hold, nets_start}
 use Rattle.vhdl_elab.specs.declared.made.Made.{Made}
 use Rattle.vhdl_elab.specs.Made.{element_view, statics_of, uses_of}
 use Rattle.vhdl_elab.specs.declared.wires.Wires.{Wires}
-use Rattle.vhdl_elab.specs.Tables.{inputs_in, idle_in, is_two_unresolved, is_read_of_shared}
+use Rattle.vhdl_elab.specs.Tables.{inputs_in, idle_in, first_at, is_two_unresolved, is_read_of_shared}
 use Rattle.vhdl_elab.specs.Wires.{used, IsHeld, IsWires, IsRefused, two_unresolved, read_of_shared}
 use Rattle.vhdl_elab.specs.Settled.{IsSettled}
 use Rattle.vhdl_elab.specs.Wired.{wired, NetsAreThere}
-use Rattle.vhdl_elab.proofs.Seen.{Seen, seen_as, any-through, two-unresolved, inputs-are, idle-are}
+use Rattle.vhdl_elab.proofs.Seen.{Seen, seen_as, at_in, first_in, found-at, none-found, first-through, two-unresolved, inputs-are, idle-are}
 
 -- ---- processes
 
@@ -112,10 +112,8 @@ module _ (d : Numbered) (m : Made) (h : IsTold d m) (same : length m.kinds.items
         ∙ ap (nat_le 2) (length-map (flat_sources net n) (source_value (map starts (map process_view m.processes.items))))
         ∙ ap (λ (f : FlatNetlist). nat_le 2 (length (flat_sources f n))) flat-is
 
-    reads-are : NetsAreThere d → list_any (is_read_of_shared table) (used m) ≡ has_read_of_shared d (flat_net d)
-    reads-are there =
-        any-through d.instances m.elements.items m.uses.items h.elements h.uses shared (λ (e : wiring.Element). is_output e.role && e.is_read && is_shared (flat_net d) e.net)
-        (everywhere d.instances there.elements)
+    reads-are : NetsAreThere d → first_at (is_read_of_shared table) (used m) ≡ first_in at_in (limits.is_read_of_shared (flat_net d)) (elements d)
+    reads-are there = first-through d.instances m.elements.items m.uses.items h.elements h.uses shared (limits.is_read_of_shared (flat_net d)) (everywhere d.instances there.elements)
       where
         shared : Seen → Bool
         shared s = is_output s.0.role && (s.1.is_read && nat_le 2 (length (items_at table s.0.net)))
@@ -134,21 +132,31 @@ module _ (d : Numbered) (m : Made) (h : IsTold d m) (same : length m.kinds.items
         everywhere [] b = tt
         everywhere (q ∷ qs) b = (All-weaker (λ (e : wiring.Element). e.net < d.nets) _ (λ e l. agree e l) (elements_of q) b.0, everywhere qs b.1)
 
-  two-is : list_any is_two_unresolved (used m) ≡ has_two_unresolved d
+  two-is : first_at is_two_unresolved (used m) ≡ first_in at_in limits.is_two_unresolved (elements d)
   two-is = two-unresolved d.instances m.elements.items m.uses.items h.elements h.uses
 
   -- ---- accepted and refused
 
-  abbrev refused : ElabProblem → Elab Shown
-  refused problem = Err problem
+  abbrev refused : Told → Elab Shown
+  refused told = Err told
 
-  wired-by : (a b : Bool) → has_two_unresolved d ≡ a → has_read_of_shared d (flat_net d) ≡ b → as_shown (wired d) ≡ as_shown (unless TwoUnresolved (not a) >> (unless ReadOfShared (not b) >> Ok (net_of d)))
-  wired-by a b p q = λ i. as_shown (unless TwoUnresolved (not (p i)) >> (unless ReadOfShared (not (q i)) >> Ok (net_of d)))
+  abbrev two_at : ℕ
+  two_at = limits.first_at limits.is_two_unresolved (elements d)
 
-  pub is-refused : (problem : ElabProblem) → NetsAreThere d → IsRefused m problem → as_shown (wired d) ≡ Err problem
-  is-refused problem there (two_unresolved is e) = wired-by true (has_read_of_shared d (flat_net d)) (sym two-is ∙ e) refl ∙ ap (λ (q : ElabProblem). refused q) (sym is)
-  is-refused problem there (read_of_shared is resolved table t e) =
-      wired-by false true (sym two-is ∙ resolved) (sym (reads-are table t there) ∙ e) ∙ ap (λ (q : ElabProblem). refused q) (sym is)
+  abbrev read_at : ℕ
+  read_at = limits.first_at (limits.is_read_of_shared (flat_net d)) (elements d)
+
+  wired-by : (a b : Bool) → has_two_unresolved d ≡ a → has_read_of_shared d (flat_net d) ≡ b
+      → as_shown (wired d) ≡ as_shown (unless TwoUnresolved two_at (not a) >> (unless ReadOfShared read_at (not b) >> Ok (net_of d)))
+  wired-by a b p q = λ i. as_shown (unless TwoUnresolved two_at (not (p i)) >> (unless ReadOfShared read_at (not (q i)) >> Ok (net_of d)))
+
+  pub is-refused : (told : Told) → NetsAreThere d → IsRefused m told → as_shown (wired d) ≡ Err told
+  is-refused told there (two_unresolved is e) =
+      let f = found-at limits.is_two_unresolved (elements d) told.1 (sym two-is ∙ e) in
+      wired-by true (has_read_of_shared d (flat_net d)) f.0 refl ∙ (λ i. refused (sym is i, f.1 i))
+  is-refused told there (read_of_shared is resolved table t e) =
+      let f = found-at (limits.is_read_of_shared (flat_net d)) (elements d) told.1 (sym (reads-are table t there) ∙ e) in
+      wired-by false true (none-found limits.is_two_unresolved (elements d) (sym two-is ∙ resolved)) f.0 ∙ (λ i. refused (sym is i, f.1 i))
 
   pub is-shown : (w : Wires) (p : Parts) → NetsAreThere d → IsWires m w → p ≡ record {
     kinds = m.kinds;
@@ -161,7 +169,8 @@ module _ (d : Numbered) (m : Made) (h : IsTold d m) (same : length m.kinds.items
   } → as_shown (wired d) ≡ Ok (net_shown (assembled p))
   unfolding flat_net
   is-shown w p there k e =
-      wired-by false false (sym two-is ∙ k.unresolved) (sym (reads-are k.table k.held there) ∙ k.shared)
+      wired-by false false (none-found limits.is_two_unresolved (elements d) (sym two-is ∙ k.resolved))
+      (none-found (limits.is_read_of_shared (flat_net d)) (elements d) (sym (reads-are k.table k.held there) ∙ k.unread))
       ∙ ap (λ (s : Shown). Ok s) (sym parts-are) ∙ ap (λ (q : Parts). Ok (net_shown (assembled q))) (sym e)
     where
       made : Parts

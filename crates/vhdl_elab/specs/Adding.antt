@@ -21,6 +21,7 @@ elements_count (o ∷ os) = size o.kind + elements_count os
 -- an object's element at place k, where its first element has this number
 abbrev pub static_at : (top : Bool) (nets : List ℕ) → Object → (first k : ℕ) → Static
 static_at top nets o first k = record {
+  at = o.at;
   role = o.role;
   is_resolved = o.is_resolved;
   start = slice_index o.starts k;

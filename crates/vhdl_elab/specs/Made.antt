@@ -1,5 +1,5 @@
 -- The tables of the code, and the numbered design that they are made of.
-use Rattle.std.specs.Prelude.{◌≡◌, ℕ, Bool, List, length, map, flat_map}
+use Rattle.std.specs.Prelude.{◌≡◌, ℕ, Bool, true, false, List, length, map, flat_map}
 use Rattle.std.specs.List.{AllZip, enumerate_from}
 use Rattle.rtl_net.specs.Nets.{scope_view, signal_view, type_of}
 use Rattle.rtl_net.specs.declared.process.Process.{Process}
@@ -10,17 +10,19 @@ use Rattle.vhdl_elab_rules.specs.Wiring as wiring
 use Rattle.vhdl_elab_rules.specs.Wiring.{elements_of, own_elements, defaults_of, is_top}
 use Rattle.vhdl_elab_rules.specs.laws.Scopes.{scope_views}
 use Rattle.vhdl_elab_rules.specs.Shown.{signal_shown}
-use Rattle.vhdl_expand_tree.specs.Views.{role_view}
 use Rattle.vhdl_connect_processes.specs.Located.{IsOf}
 use Rattle.vhdl_connect_processes.specs.Uses.{sources_of}
 use Rattle.vhdl_connect_processes.specs.declared.uses.Use.{Use}
 use Rattle.vhdl_elab.specs.declared.made.Element.{Element}
+use Rattle.vhdl_elab.specs.declared.made.ElementRole.{ElementRole}
+use Rattle.vhdl_elab.specs.declared.made.ElementRole.TheVariants.{InputOfTop, OutputOfTop, SignalOfTop, Input, Output, Signal}
 use Rattle.vhdl_elab.specs.declared.made.Made.{Made}
 
 -- ---- elements
 
 -- what the code knows of an element beside what is done with it, and whether its instance is the top
 pub record Static : Type 0 where
+  pub at : ℕ
   pub role : tree.Role
   pub is_resolved : Bool
   pub start : ℕ
@@ -28,18 +30,36 @@ pub record Static : Type 0 where
   pub is_own : Bool
   pub is_top : Bool
 
+abbrev pub role_of : ElementRole → tree.Role
+role_of InputOfTop = tree.input
+role_of OutputOfTop = tree.output
+role_of SignalOfTop = tree.internal
+role_of Input = tree.input
+role_of Output = tree.output
+role_of Signal = tree.internal
+
+abbrev pub is_of_top : ElementRole → Bool
+is_of_top InputOfTop = true
+is_of_top OutputOfTop = true
+is_of_top SignalOfTop = true
+is_of_top Input = false
+is_of_top Output = false
+is_of_top Signal = false
+
 abbrev pub element_view : Element → Static
 element_view e = record {
-  role = role_view e.role;
+  at = e.at;
+  role = role_of e.role;
   is_resolved = e.is_resolved;
   start = e.start;
   net = e.net;
   is_own = e.is_own;
-  is_top = e.is_top;
+  is_top = is_of_top e.role;
 }
 
 abbrev pub static_of : (top : Bool) → wiring.Element → Static
 static_of top e = record {
+  at = e.at;
   role = e.role;
   is_resolved = e.is_resolved;
   start = e.start;

@@ -1,19 +1,17 @@
 -- The flat netlist of a numbered design, none of whose rules is broken.
-use Rattle.std.specs.Prelude.{◌<◌, not, All, Ok}
+use Rattle.std.specs.Prelude.{◌<◌, All, Ok}
 use Rattle.std.specs.List.{AllByRecursion}
-use Rattle.vhdl_expand_rules.specs.declared.fault.ElabProblem.TheVariants.{TwoUnresolved, ReadOfShared}
-use Rattle.vhdl_expand_rules.specs.Elab.{Elab, ◌>>◌, unless}
+use Rattle.vhdl_expand_rules.specs.Elab.{Elab, ◌>>◌}
 use Rattle.vhdl_elab_rules.specs.Numbering.{Placed, Numbered}
-use Rattle.vhdl_elab_rules.specs.Wiring.{Element, elements_of, flat_net}
-use Rattle.vhdl_elab_rules.specs.Limits.{has_two_unresolved, has_read_of_shared}
-use Rattle.vhdl_elab_rules.specs.Elaboration.{Elaborated, net_of}
+use Rattle.vhdl_elab_rules.specs.Wiring.{Element, elements_of}
+use Rattle.vhdl_elab_rules.specs.Elaboration.{Elaborated, net_of, resolves, shares_unread}
 use Rattle.vhdl_elab.specs.Settled.{NetsAreBelow}
 
 -- what connection makes of a design within the limits
 abbrev pub wired : Numbered → Elab Elaborated
 wired d = do
-  unless TwoUnresolved (not (has_two_unresolved d))
-  unless ReadOfShared (not (has_read_of_shared d (flat_net d)))
+  resolves d
+  shares_unread d
   Ok (net_of d)
 
 -- each element has a net that is there

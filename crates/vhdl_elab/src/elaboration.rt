@@ -1,6 +1,7 @@
 //! Elaboration, from the name of the top on.
 
 ghost use Rattle.std.specs.Prelude.{◌≢◌, IfErr, IsTrue};
+ghost use Rattle.vhdl_names_rules.specs.units.Bytes.{units_bytes};
 ghost use Rattle.vhdl_names_rules.specs.sound.Units.{are_sound};
 ghost use Rattle.vhdl_names_rules.specs.sound.Named.{are_named};
 ghost use Rattle.vhdl_names_units.specs.views.Units.{units_view};
@@ -8,7 +9,7 @@ ghost use Rattle.vhdl_expand_bodies.specs.Results.{Charges};
 ghost use Rattle.vhdl_elab_rules.specs.Elaboration.{elaborated_net};
 ghost use Rattle.vhdl_elab_rules.specs.Refused.{MayRefuse};
 ghost use Rattle.vhdl_elab_rules.specs.Shown.{as_shown, net_shown};
-ghost use Rattle.vhdl_expand_rules.specs.Elab.{problem_told};
+ghost use Rattle.vhdl_expand_rules.specs.Elab.{fault_told};
 ghost use Rattle.vhdl_expand_rules.specs.declared.fault.ElabFault.TheVariants.{NoMemory};
 
 use crate::connection::connect;
@@ -24,8 +25,8 @@ use vhdl_names_units::Units;
 pub fn elaborate(alloc: Global, units: &Units, top: &[u8]) -> Result<Net, ElabFault>
     requires sound { IsTrue (are_sound (units_view units.now)) }
     requires named { IsTrue (are_named (units_view units.now)) }
-    ensures given { Charges net_shown (as_shown (elaborated_net (units_view units.now) top.now)) result }
-    ensures refused { IfErr result (λ fault. fault ≢ NoMemory → MayRefuse (units_view units.now) top.now (problem_told fault)) }
+    ensures given { Charges (units_bytes (units_view units.now)) net_shown (as_shown (elaborated_net (units_view units.now) top.now)) result }
+    ensures refused { IfErr result (λ fault. fault ≢ NoMemory → MayRefuse (units_view units.now) top.now (fault_told fault)) }
 {
     let design = expand(alloc, units, top)?;
     let parts = connect(alloc, design)?;

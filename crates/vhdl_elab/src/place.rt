@@ -10,13 +10,14 @@ ghost use Rattle.vhdl_expand_tree.specs.Views.{object_view, role_view};
 ghost use Rattle.vhdl_elab.specs.Made.{element_view};
 ghost use Rattle.vhdl_elab.specs.Adding.{object_statics, signal_of};
 
-use crate::made::Element;
+use crate::made::{Element, ElementRole};
 use crate::nets::start_at;
 use rtl_net::Signal;
 use smallvec::SmallVec;
 use std::alloc::{AllocError, Global};
 use std::mem;
 use vhdl_connect_processes::signal_kind;
+use vhdl_expand::byte;
 use vhdl_expand_tree::{Object, Role};
 
 /// The place of an instance: its number, whether it is the top, and the nets of its elements, in order of declaration.
@@ -64,12 +65,11 @@ impl InstancePlace<'_> {
     {
         for k in 0..object.kind.size() {
             elements.push(Element {
-                role: object.role,
+                role: ElementRole::of(object.role, self.is_top),
                 is_resolved: object.is_resolved,
                 start: start_at(object.starts.as_slice(), k),
                 net: net_at(self.nets, first + k),
                 is_own: object.actual.is_none(),
-                is_top: self.is_top,
                 at: object.at,
             })?;
         }
@@ -105,7 +105,7 @@ impl InstancePlace<'_> {
             port: is_port(object.role),
             kind,
             nets,
-            at: object.at,
+            at: byte(object.at),
         })
     }
 }

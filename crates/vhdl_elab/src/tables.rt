@@ -1,17 +1,16 @@
 //! What is told of a design by its elements and their uses: inputs, idle out ports, and what is refused of it as a whole
 //! (IEEE 1076-2008, 6.4.2.3, 6.5.6.3, 14.7.2).
 
-ghost use Rattle.std.specs.Prelude.{◌≡◌, nat_le, length, is_some, IfOk};
-ghost use Rattle.std.specs.List.{list_any, zip};
+ghost use Rattle.std.specs.Prelude.{◌≡◌, nat_le, length, IfOk};
+ghost use Rattle.std.specs.List.{zip};
 ghost use Rattle.vhdl_connect_processes.specs.Held.{items_at};
 ghost use Rattle.vhdl_elab.specs.Tables as tables;
 
-use crate::made::Element;
+use crate::made::{Element, ElementRole};
 use rtl_net::IdlePort;
 use smallvec::SmallVec;
 use std::alloc::{AllocError, Global};
 use vhdl_connect_processes::{Sources, Use};
-use vhdl_expand_tree::Role;
 
 /// The nets of the top's in ports, in order. It takes the memory of the list.
 pub fn inputs(alloc: Global, elements: &[Element]) -> Result<Vec<usize>, AllocError>
@@ -31,9 +30,8 @@ fn is_input_of_top(element: &Element) -> bool
     ensures { result ≡ tables.is_input_of_top element.now }
 {
     match element.role {
-        Role::Input => element.is_top,
-        Role::Output => false,
-        Role::Internal => false,
+        ElementRole::InputOfTop => true,
+        _ => false,
     }
 }
 
@@ -60,7 +58,7 @@ fn is_idle(element: &Element, used: &Use) -> bool
     ensures { result ≡ tables.is_idle (element.now, used.now) }
 {
     match (element.role, used.sources) {
-        (Role::Output, Sources::Zero) => !element.is_top,
+        (ElementRole::Output, Sources::Zero) => true,
         (_, _) => false,
     }
 }
@@ -76,9 +74,9 @@ fn idle_port(element: &Element) -> IdlePort
 }
 
 /// Where the first unresolved element with several sources of its own is declared.
-pub fn two_unresolved(elements: &[Element], uses: &[Use]) -> Option<u32>
+pub fn two_unresolved(elements: &[Element], uses: &[Use]) -> Option<usize>
     requires { length uses.now ≡ length elements.now }
-    ensures { is_some result ≡ list_any tables.is_two_unresolved (zip elements.now uses.now) }
+    ensures { result ≡ tables.first_at tables.is_two_unresolved (zip elements.now uses.now) }
 {
     for i in 0..elements.len() {
         if is_two_unresolved(&elements[i], &uses[i]) {
@@ -101,9 +99,9 @@ fn is_two_unresolved(element: &Element, used: &Use) -> bool
 
 /// Where the first element of an out port is declared that is read in its instance, and whose net has several sources, where
 /// the sources of each net hold these values.
-pub fn read_of_shared(elements: &[Element], uses: &[Use], held: &[SmallVec<u8, 1>]) -> Option<u32>
+pub fn read_of_shared(elements: &[Element], uses: &[Use], held: &[SmallVec<u8, 1>]) -> Option<usize>
     requires { length uses.now ≡ length elements.now }
-    ensures { is_some result ≡ list_any (tables.is_read_of_shared held.now) (zip elements.now uses.now) }
+    ensures { result ≡ tables.first_at (tables.is_read_of_shared held.now) (zip elements.now uses.now) }
 {
     for i in 0..elements.len() {
         if is_read_of_shared(&elements[i], &uses[i], held) {
@@ -118,9 +116,10 @@ fn is_read_of_shared(element: &Element, used: &Use, held: &[SmallVec<u8, 1>]) ->
     ensures { result ≡ tables.is_read_of_shared held.now (element.now, used.now) }
 {
     match element.role {
-        Role::Output => used.is_read && is_shared(held, element.net as usize),
-        Role::Input => false,
-        Role::Internal => false,
+        ElementRole::OutputOfTop | ElementRole::Output => {
+            used.is_read && is_shared(held, element.net as usize)
+        }
+        _ => false,
     }
 }
 

@@ -28,15 +28,15 @@ pub(crate) fn told(alloc: Global, made: &Made) -> Result<Wires, ElabFault>
     requires uses { length made.now.uses.items ≡ length made.now.elements.items }
     requires defaults { length made.now.kinds.items ≡ length made.now.defaults.items }
     ensures wired { IfOk result (λ w. IsWires made.now w) }
-    ensures refused { IfErr result (λ fault. fault ≢ NoMemory → IsRefused made.now (elab.problem_told fault)) }
+    ensures refused { IfErr result (λ fault. fault ≢ NoMemory → IsRefused made.now (elab.fault_told fault)) }
 {
     let idle = idle_ports(alloc, &made.elements, &made.uses)?;
     let values = held(alloc, made.kinds.len(), &made.processes, &idle)?;
     if let Some(at) = two_unresolved(&made.elements, &made.uses) {
-        return Err(ElabProblem::TwoUnresolved.at(at as usize));
+        return Err(ElabProblem::TwoUnresolved.at(at));
     }
     if let Some(at) = read_of_shared(&made.elements, &made.uses, &values) {
-        return Err(ElabProblem::ReadOfShared.at(at as usize));
+        return Err(ElabProblem::ReadOfShared.at(at));
     }
     let inputs = inputs(alloc, &made.elements)?;
     let starts = starts(alloc, &made.defaults, &values)?;

@@ -70,15 +70,15 @@ named-unit [] n unit h e = absurd cc
 named-unit (x ∷ units) zero unit h e = subst (λ (y : Entity). entity_is_named y ≡ true) (same_Some x unit e) (and_parts (entity_is_named x) (list_all entity_is_named units) h).0
 named-unit (x ∷ units) (suc n) unit h e = named-unit units n unit (and_parts (entity_is_named x) (list_all entity_is_named units) h).1 e
 
-module _ (units : Units) (named : list_all entity_is_named units ≡ true) (go : Entity → InstanceObjects → Elab Instance)
-    (go-dotted : (unit : Entity) (d : InstanceObjects) (i : Instance) → entity_is_named unit ≡ true → go unit d ≡ Ok i → InstanceIsDotted i) where
+module _ (units : Units) (named : list_all entity_is_named units ≡ true) (go : (at : ℕ) → Entity → InstanceObjects → Elab Instance)
+    (go-dotted : (at : ℕ) (unit : Entity) (d : InstanceObjects) (i : Instance) → entity_is_named unit ≡ true → go at unit d ≡ Ok i → InstanceIsDotted i) where
   instance-dotted : (at : Spot) (x : u.Instance) (i : Instance) → instance units go at x ≡ Ok i → InstanceIsDotted i
   unfolding instance
   instance-dotted at x i h =
-      let unit = bound (item_or NoTop (slice_get units x.unit)) _ i h in
+      let unit = bound (item_or NoTop x.at (slice_get units x.unit)) _ i h in
       let d = bound (interface at.site.integers x.generics unit.x) _ i unit.then_gave in
-      let os = bound (associations at.site unit.x.ports x.ports d.x.objects) _ i d.then_gave in
-      go-dotted unit.x (record d.x { objects = os.x }) i (named-unit units x.unit unit.x named (was_found NoTop (slice_get units x.unit) unit.x unit.gave)) os.then_gave
+      let os = bound (associations at.site x.at unit.x.ports x.ports d.x.objects) _ i d.then_gave in
+      go-dotted x.at unit.x (record d.x { objects = os.x }) i (named-unit units x.unit unit.x named (was_found NoTop x.at (slice_get units x.unit) unit.x unit.gave)) os.then_gave
 
   chosen-dotted : (b : Bool) (r : Elab Parts) (ps : Parts) → ((qs : Parts) → r ≡ Ok qs → PartsAreDotted qs) → cond b r (Ok no_parts) ≡ Ok ps → PartsAreDotted ps
   chosen-dotted true r ps h k = h ps k
@@ -94,14 +94,14 @@ module _ (units : Units) (named : list_all entity_is_named units ≡ true) (go :
     concurrent-dotted (u.instance x) at ps n d h =
         let i = bound (instance units go at x) _ ps h in
         subst PartsAreDotted (ok _ ps i.then_gave) (instance-dotted at x i.x i.gave, tt)
-    concurrent-dotted (u.generate_for label r body) at ps n d h =
+    concurrent-dotted (u.generate_for pos label r body) at ps n d h =
         let both = and_parts (has_text label) (concurrents_are_named body) n in
-        let is = bound (turns at.site.integers r) _ ps h in
+        let is = bound (turns at.site.integers pos r) _ ps h in
         let qs = bound (each (λ i. concurrents units go (in_turn at label i) body) is.x) _ ps is.then_gave in
         subst PartsAreDotted (ok (joined_parts qs.x) ps qs.then_gave)
         (joined-dotted qs.x (each-all PartsAreDotted (λ i. concurrents units go (in_turn at label i) body) is.x qs.x
         (λ i q. concurrents-dotted body (in_turn at label i) q both.1 (dotted-more at.prefix _ (some-turn label _))) qs.gave))
-    concurrent-dotted (u.generate_if label t body) at ps n d h =
+    concurrent-dotted (u.generate_if pos label t body) at ps n d h =
         let both = and_parts (has_text label) (concurrents_are_named body) n in
         let b = bound (decision at.site.integers t) _ ps h in
         chosen-dotted b.x (concurrents units go (in_branch at label) body) ps (λ qs. concurrents-dotted body (in_branch at label) qs both.1 (dotted-more at.prefix label (some-text label both.0))) b.then_gave
@@ -119,17 +119,17 @@ module _ (units : Units) (named : list_all entity_is_named units ≡ true) (go :
 architecture-named : (unit : Entity) → entity_is_named unit ≡ true → architecture_is_named unit.architecture ≡ true
 architecture-named unit h = (and_parts (has_text unit.name && objects_are_named (map (λ (p : Port). p.object) unit.ports)) (architecture_is_named unit.architecture) h).1
 
-instance_of-dotted : (units : Units) (levels : ℕ) → list_all entity_is_named units ≡ true → (unit : Entity) (d : InstanceObjects) (i : Instance) → entity_is_named unit ≡ true → instance_of units levels unit d ≡ Ok i
+instance_of-dotted : (units : Units) (levels : ℕ) → list_all entity_is_named units ≡ true → (at : ℕ) (unit : Entity) (d : InstanceObjects) (i : Instance) → entity_is_named unit ≡ true → instance_of units levels at unit d ≡ Ok i
     → InstanceIsDotted i
 unfolding instance_of
-instance_of-dotted units zero named unit d i n k = absurd cc
-instance_of-dotted units (suc m) named unit d i n k =
-    let a = bound (item_or NoTop unit.architecture) _ i k in
+instance_of-dotted units zero named at unit d i n k = absurd cc
+instance_of-dotted units (suc m) named at unit d i n k =
+    let a = bound (item_or NoTop at unit.architecture) _ i k in
     let e = bound (declarations d a.x.declarations) _ i a.then_gave in
     let spot : Spot = record { site = e.x.site; prefix = [] } in
     let ps = bound (concurrents units (instance_of units m) spot a.x.statements) _ i e.then_gave in
     let ts = bound (concurrents_turns spot a.x.statements) _ i ps.then_gave in
-    let whole : architecture_is_named (Some a.x) ≡ true = ap architecture_is_named (sym (was_found NoTop unit.architecture a.x a.gave)) ∙ architecture-named unit n in
+    let whole : architecture_is_named (Some a.x) ≡ true = ap architecture_is_named (sym (was_found NoTop at unit.architecture a.x a.gave)) ∙ architecture-named unit n in
     let both = and_parts (list_all declaration_is_named a.x.declarations) (concurrents_are_named a.x.statements) whole in
     subst InstanceIsDotted {x = t.instance e.x.objects ts.x ps.x} (ok (t.instance e.x.objects ts.x ps.x) i ts.then_gave)
     (concurrents-dotted units named (instance_of units m) (instance_of-dotted units m named) a.x.statements spot ps.x both.1 ([], refl) ps.gave)
@@ -149,9 +149,9 @@ pub each-tree-is-dotted : EachTreeIsDotted
 unfolding expanded_design are_named
 each-tree-is-dotted units top design h e =
     let named : list_all entity_is_named units ≡ true = h in
-    let unit = bound (item_or NoTop (entity_named units top)) _ design e in
+    let unit = bound (item_or NoTop 0 (entity_named units top)) _ design e in
     let d = bound (interface no_integers [] unit.x) _ design unit.then_gave in
-    let i = bound (instance_of units 32 unit.x d.x) _ design d.then_gave in
+    let i = bound (instance_of units 32 unit.x.at unit.x d.x) _ design d.then_gave in
     let is : entity_is_named unit.x ≡ true =
-    found-named (λ (x : Entity). bytes_eq x.name (map to_ascii_lowercase top)) units unit.x named (was_found NoTop (entity_named units top) unit.x unit.gave) in
-    subst (λ (x : Design). InstanceIsDotted x.top) (ok (record { name = unit.x.name; top = i.x }) design i.then_gave) (instance_of-dotted units 32 named unit.x d.x i.x is i.gave)
+    found-named (λ (x : Entity). bytes_eq x.name (map to_ascii_lowercase top)) units unit.x named (was_found NoTop 0 (entity_named units top) unit.x unit.gave) in
+    subst (λ (x : Design). InstanceIsDotted x.top) (ok (record { name = unit.x.name; top = i.x }) design i.then_gave) (instance_of-dotted units 32 named unit.x.at unit.x d.x i.x is i.gave)

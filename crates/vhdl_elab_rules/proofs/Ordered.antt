@@ -44,8 +44,8 @@ PortOf p o = (o.role ≡ role_of p.mode) × (o.name ≡ p.object.name)
 object-is : (at : Site) (role : Role) (o : u.Object) (x : Object) → object at role o ≡ Ok x → (x.role ≡ role) × (x.name ≡ o.name)
 unfolding object
 object-is at role o x h =
-    let k = bound (kind_of at.integers o.form) _ x h in
-    let vs = bound (starts at k.x o.default) _ x k.then_gave in
+    let k = bound (kind_of at.integers o.at o.form) _ x h in
+    let vs = bound (starts at o.at k.x o.default) _ x k.then_gave in
     subst (λ (y : Object). (y.role ≡ role) × (y.name ≡ o.name)) (ok _ x vs.then_gave) (refl, refl)
 
 zip-more : {A B : Type 0} (R : A → B → Type 0) (xs : List A) (ys : List B) (vs : List A) (ws : List B) → AllZip R xs ys → AllZip R vs ws → AllZip R (xs ++ vs) (ys ++ ws)
@@ -68,26 +68,26 @@ interface-is above actuals unit d h =
     let i = bound (generics above no_integers actuals unit.generics) _ d h in
     ports-are [] unit.ports (record { site = record no_site { integers = i.x }; objects = [] }) d tt i.then_gave
 
-association-is : (above : Site) (p : Port) (actual : Option SignalPart) (o x : Object) → PortOf p o → association above p actual o ≡ Ok x → PortOf p x
+association-is : (above : Site) (at : ℕ) (p : Port) (actual : Option SignalPart) (o x : Object) → PortOf p o → association above at p actual o ≡ Ok x → PortOf p x
 unfolding association
-association-is above p None o x h k =
-    let a = bound (unless Unassociated (not (is_input o.role) || is_some p.object.default)) _ x k in
+association-is above at p None o x h k =
+    let a = bound (unless Unassociated at (not (is_input o.role) || is_some p.object.default)) _ x k in
     subst (PortOf p) (ok o x a.then_gave) h
-association-is above p (Some place) o x h k =
+association-is above at p (Some place) o x h k =
     let es = bound (place_elements above place) _ x k in
-    let a = bound (same_length (length es.x) (size o.kind)) _ x es.then_gave in
+    let a = bound (same_length place.at (length es.x) (size o.kind)) _ x es.then_gave in
     subst (PortOf p) (ok (record o { actual = Some es.x }) x a.then_gave) h
 
-associations-are : (above : Site) (ps : List Port) (actuals : List (Option SignalPart)) (os xs : List Object) → AllZip PortOf ps os → associations above ps actuals os ≡ Ok xs → AllZip PortOf ps xs
+associations-are : (above : Site) (at : ℕ) (ps : List Port) (actuals : List (Option SignalPart)) (os xs : List Object) → AllZip PortOf ps os → associations above at ps actuals os ≡ Ok xs → AllZip PortOf ps xs
 unfolding associations
-associations-are above [] actuals [] xs h k = subst (λ (ys : List Object). AllZip PortOf [] ys) (ok [] xs k) tt
-associations-are above [] actuals (o ∷ os) xs h k = elim h [ ]
-associations-are above (p ∷ ps) actuals [] xs h k = elim h [ ]
-associations-are above (p ∷ ps) actuals (o ∷ os) xs h k =
-    let y = bound (association above p (first_of actuals) o) _ xs k in
-    let ys = bound (associations above ps (rest_of actuals) os) _ xs y.then_gave in
+associations-are above at [] actuals [] xs h k = subst (λ (ys : List Object). AllZip PortOf [] ys) (ok [] xs k) tt
+associations-are above at [] actuals (o ∷ os) xs h k = elim h [ ]
+associations-are above at (p ∷ ps) actuals [] xs h k = elim h [ ]
+associations-are above at (p ∷ ps) actuals (o ∷ os) xs h k =
+    let y = bound (association above at p (first_of actuals) o) _ xs k in
+    let ys = bound (associations above at ps (rest_of actuals) os) _ xs y.then_gave in
     subst (λ (zs : List Object). AllZip PortOf (p ∷ ps) zs) (ok (y.x ∷ ys.x) xs ys.then_gave)
-    (association-is above p (first_of actuals) o y.x h.0 y.gave, associations-are above ps (rest_of actuals) os ys.x h.1 ys.gave)
+    (association-is above at p (first_of actuals) o y.x h.0 y.gave, associations-are above at ps (rest_of actuals) os ys.x h.1 ys.gave)
 
 -- with signals behind
 record WithSignals (before after : List Object) : Type 0 where
@@ -100,12 +100,12 @@ no-signals os = record { signals = []; are = sym (append-nil os); are_signals = 
 
 declaration-adds : (x : Declaration) (d e : InstanceObjects) → declaration d x ≡ Ok e → WithSignals d.objects e.objects
 unfolding declaration
-declaration-adds (u.integer type s) d e k =
-    let x = bound (integer_of type d.site.integers s) _ e k in
+declaration-adds (u.integer at type s) d e k =
+    let x = bound (integer_of type d.site.integers at s) _ e k in
     subst (λ (y : InstanceObjects). WithSignals d.objects y.objects) (ok _ e x.then_gave) (no-signals d.objects)
-declaration-adds (u.Declaration.constant form f) d e k =
-    let x = bound (kind_of d.site.integers form) _ e k in
-    let vs = bound (fixed_values d.site (size x.x) f) _ e x.then_gave in
+declaration-adds (u.Declaration.constant at form f) d e k =
+    let x = bound (kind_of d.site.integers at form) _ e k in
+    let vs = bound (fixed_values d.site at (size x.x) f) _ e x.then_gave in
     subst (λ (y : InstanceObjects). WithSignals d.objects y.objects) (ok _ e vs.then_gave) (no-signals d.objects)
 declaration-adds (u.Declaration.signal o) d e k =
     let x = bound (object d.site internal o) _ e k in
@@ -161,15 +161,15 @@ joined-ordered : (ps : List Parts) → All PartsAreOrdered ps → PartsAreOrdere
 joined-ordered [] h = tt
 joined-ordered (p ∷ ps) h = followed-ordered p (joined_parts ps) (All-head PartsAreOrdered p ps h) (joined-ordered ps (All-tail PartsAreOrdered p ps h))
 
-module _ (units : Units) (go : Entity → InstanceObjects → Elab Instance) (go-ordered : (unit : Entity) (d : InstanceObjects) (i : Instance) → All IsPort d.objects → go unit d ≡ Ok i → InstanceIsOrdered i) where
+module _ (units : Units) (go : (at : ℕ) → Entity → InstanceObjects → Elab Instance) (go-ordered : (at : ℕ) (unit : Entity) (d : InstanceObjects) (i : Instance) → All IsPort d.objects → go at unit d ≡ Ok i → InstanceIsOrdered i) where
   instance-ordered : (at : Spot) (x : u.Instance) (i : Instance) → instance units go at x ≡ Ok i → InstanceIsOrdered i
   unfolding instance
   instance-ordered at x i h =
-      let unit = bound (item_or NoTop (slice_get units x.unit)) _ i h in
+      let unit = bound (item_or NoTop x.at (slice_get units x.unit)) _ i h in
       let d = bound (interface at.site.integers x.generics unit.x) _ i unit.then_gave in
-      let os = bound (associations at.site unit.x.ports x.ports d.x.objects) _ i d.then_gave in
-      go-ordered unit.x (record d.x { objects = os.x }) i
-      (all-ports unit.x.ports os.x (associations-are at.site unit.x.ports x.ports d.x.objects os.x (interface-is at.site.integers x.generics unit.x d.x d.gave) os.gave)) os.then_gave
+      let os = bound (associations at.site x.at unit.x.ports x.ports d.x.objects) _ i d.then_gave in
+      go-ordered x.at unit.x (record d.x { objects = os.x }) i
+      (all-ports unit.x.ports os.x (associations-are at.site x.at unit.x.ports x.ports d.x.objects os.x (interface-is at.site.integers x.generics unit.x d.x d.gave) os.gave)) os.then_gave
 
   chosen-ordered : (b : Bool) (r : Elab Parts) (ps : Parts) → ((qs : Parts) → r ≡ Ok qs → PartsAreOrdered qs) → cond b r (Ok no_parts) ≡ Ok ps → PartsAreOrdered ps
   chosen-ordered true r ps h k = h ps k
@@ -185,12 +185,12 @@ module _ (units : Units) (go : Entity → InstanceObjects → Elab Instance) (go
     concurrent-ordered (u.instance x) at ps h =
         let i = bound (instance units go at x) _ ps h in
         subst PartsAreOrdered (ok _ ps i.then_gave) (instance-ordered at x i.x i.gave, tt)
-    concurrent-ordered (u.generate_for label r body) at ps h =
-        let is = bound (turns at.site.integers r) _ ps h in
+    concurrent-ordered (u.generate_for pos label r body) at ps h =
+        let is = bound (turns at.site.integers pos r) _ ps h in
         let qs = bound (each (λ i. concurrents units go (in_turn at label i) body) is.x) _ ps is.then_gave in
         subst PartsAreOrdered (ok (joined_parts qs.x) ps qs.then_gave)
         (joined-ordered qs.x (each-all PartsAreOrdered (λ i. concurrents units go (in_turn at label i) body) is.x qs.x (λ i q. concurrents-ordered body (in_turn at label i) q) qs.gave))
-    concurrent-ordered (u.generate_if label t body) at ps h =
+    concurrent-ordered (u.generate_if pos label t body) at ps h =
         let b = bound (decision at.site.integers t) _ ps h in
         chosen-ordered b.x (concurrents units go (in_branch at label) body) ps (λ qs. concurrents-ordered body (in_branch at label) qs) b.then_gave
 
@@ -201,11 +201,11 @@ module _ (units : Units) (go : Entity → InstanceObjects → Elab Instance) (go
         let b = bound (concurrents units go at rest) _ ps a.then_gave in
         subst PartsAreOrdered (ok (followed_by a.x b.x) ps b.then_gave) (followed-ordered a.x b.x (concurrent-ordered x at a.x a.gave) (concurrents-ordered rest at b.x b.gave))
 
-instance_of-ordered : (units : Units) (levels : ℕ) (unit : Entity) (d : InstanceObjects) (i : Instance) → All IsPort d.objects → instance_of units levels unit d ≡ Ok i → InstanceIsOrdered i × WithSignals d.objects (objects_of i)
+instance_of-ordered : (units : Units) (levels : ℕ) (at : ℕ) (unit : Entity) (d : InstanceObjects) (i : Instance) → All IsPort d.objects → instance_of units levels at unit d ≡ Ok i → InstanceIsOrdered i × WithSignals d.objects (objects_of i)
 unfolding instance_of
-instance_of-ordered units zero unit d i h k = absurd cc
-instance_of-ordered units (suc n) unit d i h k =
-    let a = bound (item_or NoTop unit.architecture) _ i k in
+instance_of-ordered units zero at unit d i h k = absurd cc
+instance_of-ordered units (suc n) at unit d i h k =
+    let a = bound (item_or NoTop at unit.architecture) _ i k in
     let e = bound (declarations d a.x.declarations) _ i a.then_gave in
     let spot : Spot = record { site = e.x.site; prefix = [] } in
     let ps = bound (concurrents units (instance_of units n) spot a.x.statements) _ i e.then_gave in
@@ -214,7 +214,7 @@ instance_of-ordered units (suc n) unit d i h k =
     subst (λ (j : Instance). InstanceIsOrdered j × WithSignals d.objects (objects_of j)) {x = t.instance e.x.objects ts.x ps.x} (ok (t.instance e.x.objects ts.x ps.x) i ts.then_gave) (
       (
         ports-then d.objects e.x.objects h more,
-        concurrents-ordered units (instance_of units n) (λ x y j g l. (instance_of-ordered units n x y j g l).0) a.x.statements spot ps.x ps.gave,
+        concurrents-ordered units (instance_of units n) (λ at x y j g l. (instance_of-ordered units n at x y j g l).0) a.x.statements spot ps.x ps.gave,
       ),
       more,
     )
@@ -236,14 +236,14 @@ pub record IsOrdered (units : Units) (top : List ℕ) (design : Design) : Type 0
 pub is-ordered : (units : Units) (top : List ℕ) (design : Design) → expanded_design units top ≡ Ok design → IsOrdered units top design
 unfolding expanded_design
 is-ordered units top design h =
-    let unit = bound (item_or NoTop (entity_named units top)) _ design h in
+    let unit = bound (item_or NoTop 0 (entity_named units top)) _ design h in
     let d = bound (interface no_integers [] unit.x) _ design unit.then_gave in
-    let i = bound (instance_of units 32 unit.x d.x) _ design d.then_gave in
+    let i = bound (instance_of units 32 unit.x.at unit.x d.x) _ design d.then_gave in
     let zip = interface-is no_integers [] unit.x d.x d.gave in
-    let w = instance_of-ordered units 32 unit.x d.x i.x (all-ports unit.x.ports d.x.objects zip) i.gave in
+    let w = instance_of-ordered units 32 unit.x.at unit.x d.x i.x (all-ports unit.x.ports d.x.objects zip) i.gave in
     subst (IsOrdered units top) (ok (record { name = unit.x.name; top = i.x }) design i.then_gave) (record {
       unit = unit.x;
-      named = was_found NoTop (entity_named units top) unit.x unit.gave;
+      named = was_found NoTop 0 (entity_named units top) unit.x unit.gave;
       tree = w.0;
       ports = d.x.objects;
       signals = w.1.signals;

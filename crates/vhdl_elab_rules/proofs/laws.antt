@@ -15,3 +15,4 @@ pub mod Sound
 pub mod Scopes
 pub mod Signals
 pub mod Names
+pub mod Standing

@@ -10,7 +10,7 @@ use Rattle.vhdl_expand_rules.specs.Elab.{Elab, ◌>>=◌, ◌>>◌, unless}
 use Rattle.vhdl_expand_rules.specs.Expansion.{Design, expanded_design}
 use Rattle.vhdl_elab_rules.specs.Numbering.{Numbered, numbered_design}
 use Rattle.vhdl_elab_rules.specs.Wiring.{flat_net}
-use Rattle.vhdl_elab_rules.specs.Limits.{counts, is_within_limits, has_two_unresolved, has_read_of_shared}
+use Rattle.vhdl_elab_rules.specs.Limits.{elements, first_at, is_two_unresolved, has_two_unresolved, is_read_of_shared, has_read_of_shared, counts, is_within_limits}
 use Rattle.vhdl_elab_rules.specs.Names.{Scope, scope_of, Signal, signals_of, NamedProcess, named_process, net_names, process_names}
 
 -- a flat netlist, and names beside it
@@ -34,13 +34,20 @@ net_of d = record {
   process_names = process_names d;
 }
 
--- the netlist of a design, none of whose rules is broken
+-- the two rules of a design as a whole, each told where the first element is declared that breaks it
+abbrev pub resolves : Numbered → Elab (Unit {0})
+resolves d = unless TwoUnresolved (first_at is_two_unresolved (elements d)) (not (has_two_unresolved d))
+
+abbrev pub shares_unread : Numbered → Elab (Unit {0})
+shares_unread d = unless ReadOfShared (first_at (is_read_of_shared (flat_net d)) (elements d)) (not (has_read_of_shared d (flat_net d)))
+
+-- the netlist of a design, none of whose rules is broken; where its limits end, `MayRefuse` says
 unfoldable pub netlist_of : Design → Elab Elaborated
 netlist_of design = do
   let d = numbered_design design
-  unless TooMany (is_within_limits (counts d))
-  unless TwoUnresolved (not (has_two_unresolved d))
-  unless ReadOfShared (not (has_read_of_shared d (flat_net d)))
+  unless TooMany 0 (is_within_limits (counts d))
+  resolves d
+  shares_unread d
   Ok (net_of d)
 
 unfoldable pub elaborated_net : Units → (top : List ℕ) → Elab Elaborated

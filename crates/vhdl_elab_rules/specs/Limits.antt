@@ -1,6 +1,6 @@
 -- What is refused of a design as a whole: two sources of an unresolved element, an out port with several sources that is
 -- read, and more parts than the limits (IEEE 1076-2008, 6.4.2.3, 4.6, 6.5.6.3).
-use Rattle.std.specs.Prelude.{ℕ, ◌+◌, Bool, not, ◌&&◌, nat_le, List, length, map, sum, flat_map}
+use Rattle.std.specs.Prelude.{ℕ, ◌+◌, Bool, not, ◌&&◌, nat_le, List, length, map, sum, find, flat_map, Option, Some, None}
 use Rattle.std.specs.List.{list_any}
 use Rattle.rtl_model.specs.bodies.Body.{Stmt, null_of, assign, set, if_of, case_of, Stmts, done, step}
 use Rattle.rtl_model.specs.bodies.Body.{Branches, no_else, otherwise, branch, Alternatives, others, alternative}
@@ -15,16 +15,31 @@ use Rattle.vhdl_elab_rules.specs.Wiring.{Element, elements_of, is_output}
 abbrev pub elements : Numbered → List Element
 elements d = flat_map elements_of d.instances
 
+-- where an element is declared, 0 where there is none
+abbrev pub declared_at : Option Element → ℕ
+declared_at None = 0
+declared_at (Some e) = e.at
+
+-- where the first element is declared of which this is so
+abbrev pub first_at : (Element → Bool) → List Element → ℕ
+first_at is es = declared_at (find is es)
+
 -- an element of an unresolved declaration has two sources of its own
+abbrev pub is_two_unresolved : Element → Bool
+is_two_unresolved e = not e.is_resolved && nat_le 2 e.sources
+
 abbrev pub has_two_unresolved : Numbered → Bool
-has_two_unresolved d = list_any (λ (e : Element). not e.is_resolved && nat_le 2 e.sources) (elements d)
+has_two_unresolved d = list_any is_two_unresolved (elements d)
 
 abbrev pub is_shared : FlatNetlist → ℕ → Bool
 is_shared net n = nat_le 2 (length (flat_sources net n))
 
 -- an element of an out port is read in its instance, and its net has several sources
+abbrev pub is_read_of_shared : FlatNetlist → Element → Bool
+is_read_of_shared net e = is_output e.role && e.is_read && is_shared net e.net
+
 abbrev pub has_read_of_shared : Numbered → FlatNetlist → Bool
-has_read_of_shared d net = list_any (λ (e : Element). is_output e.role && e.is_read && is_shared net e.net) (elements d)
+has_read_of_shared d net = list_any (is_read_of_shared net) (elements d)
 
 -- ---- counts
 

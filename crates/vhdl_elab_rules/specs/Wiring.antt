@@ -16,6 +16,8 @@ use Rattle.vhdl_elab_rules.specs.Numbering.{Placed, Located, Numbered}
 -- ---- the elements of the declarations of an instance
 
 pub record Element : Type 0 where
+  -- the byte at which its object is declared
+  pub at : ℕ
   pub role : Role
   pub type : ElementType
   pub is_resolved : Bool
@@ -32,6 +34,7 @@ pub record Element : Type 0 where
 -- the element of this number, which an object has at this place
 abbrev pub element_of : Placed → Object → (number place : ℕ) → Element
 element_of p o number place = record {
+  at = o.at;
   role = o.role;
   type = element_type o.kind;
   is_resolved = o.is_resolved;

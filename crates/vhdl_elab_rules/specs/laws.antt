@@ -9,3 +9,4 @@ pub mod Sound
 pub mod Scopes
 pub mod Signals
 pub mod Names
+pub mod Bytes

@@ -1,6 +1,7 @@
 //! Laws of elaboration in the words of a designer (`specs/laws`), each the contract of a function that does nothing.
 
 ghost use Rattle.vhdl_elab_rules.specs.laws.Bodies.{EachBodyIsConnected};
+ghost use Rattle.vhdl_elab_rules.specs.laws.Bytes.{EachRefusalStandsInUnits};
 ghost use Rattle.vhdl_elab_rules.specs.laws.Names.{EachHasNames};
 ghost use Rattle.vhdl_elab_rules.specs.laws.Nets.{EachNetIsAsSaid};
 ghost use Rattle.vhdl_elab_rules.specs.laws.Processes.{EachProcessFits};
@@ -66,4 +67,9 @@ pub fn signals_fit_the_net()
 /// In a netlist of named units each scope has a label, each signal and variable a name, and each process a scope that is there.
 pub fn parts_have_names()
     ensures { EachHasNames }
+{}
+
+/// What may be refused of units is told at one of their bytes, or at 0.
+pub fn refusals_stand_in_the_units()
+    ensures { EachRefusalStandsInUnits }
 {}

@@ -4,6 +4,8 @@ use Rattle.std.proofs.Math.Seq.{take-suc-set}
 use Rattle.std.proofs.lemmas.List.{append_assoc, append-nil, map-append, length-map, length-take-le, drop-set-lt}
 use Rattle.std.proofs.lemmas.List.FromFn.{length-range_with_len}
 use Rattle.vhdl_tree.specs.declared.expression.Identifier.{Identifier}
+use Rattle.vhdl_tree.specs.Tree.{Ident}
+use Rattle.vhdl_tree.specs.View.{ident_view}
 use Rattle.vhdl_names_rules.specs.units.Expressions.{SignalPart}
 use Rattle.vhdl_names_rules.specs.units.Units as u
 use Rattle.vhdl_names_rules.specs.units.Units.{Port}
@@ -13,7 +15,7 @@ use Rattle.vhdl_expand_tree.specs.declared.tree.Object as tree
 use Rattle.vhdl_expand_tree.specs.Views.{object_view}
 use Rattle.vhdl_expand_rules.specs.declared.kind.Run.{Run}
 use Rattle.vhdl_expand_rules.specs.views.Kinds.{run_view}
-use Rattle.vhdl_expand_rules.specs.Elab.{Elab, ◌>>=◌}
+use Rattle.vhdl_expand_rules.specs.Elab.{Elab, ◌>>=◌, Told}
 use Rattle.vhdl_expand_rules.specs.Site.{Site}
 use Rattle.vhdl_expand_rules.specs.Tree.{Object}
 use Rattle.vhdl_expand_rules.specs.Declarations.{association, associations, first_of, rest_of}
@@ -25,7 +27,6 @@ use Rattle.vhdl_expand.specs.Objects.{named_object}
 use Rattle.vhdl_expand.specs.Stepwise.{stepwise}
 use Rattle.vhdl_expand.proofs.Given.{rest_behind}
 use Rattle.vhdl_expand.proofs.Names.{named}
-use Rattle.vhdl_expand_rules.specs.declared.fault.ElabProblem.{ElabProblem}
 use Rattle.vhdl_expand.proofs.Stepping.{goes_alike}
 
 pub run_long : (r : Run) → length (run_view r) ≡ r.len
@@ -34,40 +35,40 @@ run_long r = length-range_with_len r.first r.len
 abbrev port_with : Ports → u.Object → Port
 port_with ports o = record { mode = ports.mode; object = o }
 
-module _ (above : Site) (actuals : List (Option SignalPart)) where
+module _ (above : Site) (at : ℕ) (actuals : List (Option SignalPart)) where
   -- ---- the name of a port is no matter
 
-  nameless-association : (ports : Ports) (name : List ℕ) (a : Option SignalPart) (o : Object)
-      → association above (port_with ports (named_object ports.objects name)) a o ≡ association above (any_port ports) a o
+  nameless-association : (ports : Ports) (name : Ident) (a : Option SignalPart) (o : Object)
+      → association above at (port_with ports (named_object ports.objects name)) a o ≡ association above at (any_port ports) a o
   unfolding association
   nameless-association ports name None o = refl
   nameless-association ports name (Some place) o = refl
 
-  nameless-step : (ports : Ports) (name : List ℕ) (done left : List Object)
-      → next_associated above actuals (record { done = done; left = left }) (port_with ports (named_object ports.objects name))
-      ≡ next_associated above actuals (record { done = done; left = left }) (any_port ports)
+  nameless-step : (ports : Ports) (name : Ident) (done left : List Object)
+      → next_associated above at actuals (record { done = done; left = left }) (port_with ports (named_object ports.objects name))
+      ≡ next_associated above at actuals (record { done = done; left = left }) (any_port ports)
   nameless-step ports name done [] = refl
   nameless-step ports name done (o ∷ os) =
       ap (λ r. r >>= λ (x : Object). given (record { done = done ++ x ∷ []; left = os })) (nameless-association ports name (first_of (drop (length done) actuals)) o)
 
   nameless-walk : (ports : Ports) (names : List Identifier) (s : Associated)
-      → stepwise (next_associated above actuals) s (map (λ (n : Identifier). port_with ports (named_object ports.objects n.text.items)) names)
-      ≡ stepwise (next_associated above actuals) s (map (λ (n : Identifier). any_port ports) names)
+      → stepwise (next_associated above at actuals) s (map (λ (n : Identifier). port_with ports (named_object ports.objects (ident_view n))) names)
+      ≡ stepwise (next_associated above at actuals) s (map (λ (n : Identifier). any_port ports) names)
   nameless-walk ports [] s = refl
   nameless-walk ports (n ∷ names) s =
-      ap (λ r. r >>= λ t. stepwise (next_associated above actuals) t (map (λ (n : Identifier). port_with ports (named_object ports.objects n.text.items)) names))
-      (nameless-step ports n.text.items s.done s.left)
-      ∙ goes_alike (next_associated above actuals s (any_port ports)) _ _ (λ t. nameless-walk ports names t)
+      ap (λ r. r >>= λ t. stepwise (next_associated above at actuals) t (map (λ (n : Identifier). port_with ports (named_object ports.objects (ident_view n))) names))
+      (nameless-step ports (ident_view n) s.done s.left)
+      ∙ goes_alike (next_associated above at actuals s (any_port ports)) _ _ (λ t. nameless-walk ports names t)
 
-  as-ports : (ports : Ports) (names : List Identifier) → map (port_with ports) (map (λ (n : Identifier). named_object ports.objects n.text.items) names)
-      ≡ map (λ (n : Identifier). port_with ports (named_object ports.objects n.text.items)) names
+  as-ports : (ports : Ports) (names : List Identifier) → map (port_with ports) (map (λ (n : Identifier). named_object ports.objects (ident_view n)) names)
+      ≡ map (λ (n : Identifier). port_with ports (named_object ports.objects (ident_view n))) names
   as-ports ports [] = refl
-  as-ports ports (n ∷ names) = ap (λ ps. port_with ports (named_object ports.objects n.text.items) ∷ ps) (as-ports ports names)
+  as-ports ports (n ∷ names) = ap (λ ps. port_with ports (named_object ports.objects (ident_view n)) ∷ ps) (as-ports ports names)
 
   pub nameless : (ports : Ports) (s : Associated)
-      → stepwise (next_associated above actuals) s (ports_view ports) ≡ stepwise (next_associated above actuals) s (map (λ (n : Identifier). any_port ports) ports.objects.names.items)
+      → stepwise (next_associated above at actuals) s (ports_view ports) ≡ stepwise (next_associated above at actuals) s (map (λ (n : Identifier). any_port ports) ports.objects.names.items)
   nameless ports s =
-      ap (stepwise (next_associated above actuals) s)
+      ap (stepwise (next_associated above at actuals) s)
       (ap (map (port_with ports)) (named (named_object ports.objects) ports.objects.names.items) ∙ as-ports ports ports.objects.names.items)
       ∙ nameless-walk ports ports.objects.names.items s
 
@@ -80,12 +81,12 @@ module _ (above : Site) (actuals : List (Option SignalPart)) where
   done-long os n h = length-map (take n os) object_view ∙ length-take-le n os h
 
   next-is : (os : List tree.Object) (n : ℕ) (o : tree.Object) (p : Port) (a : Option SignalPart) → n < length os → o ≡ get_or os n o → a ≡ first_of (drop n actuals)
-      → next_associated above actuals (associated_to n os) p
-      ≡ association above p a (object_view o) >>= λ (x : Object). given (record { done = map object_view (take n os) ++ x ∷ []; left = map object_view (drop (suc n) os) })
+      → next_associated above at actuals (associated_to n os) p
+      ≡ association above at p a (object_view o) >>= λ (x : Object). given (record { done = map object_view (take n os) ++ x ∷ []; left = map object_view (drop (suc n) os) })
   next-is os n o p a below is e =
       let done = map object_view (take n os) in
-      ap (λ (left : List Object). next_associated above actuals (record { done = done; left = left }) p) (seen-next os n o below is)
-      ∙ ap (λ b. association above p b (object_view o) >>= λ (x : Object). given (record { done = done ++ x ∷ []; left = map object_view (drop (suc n) os) }))
+      ap (λ (left : List Object). next_associated above at actuals (record { done = done; left = left }) p) (seen-next os n o below is)
+      ∙ ap (λ b. association above at p b (object_view o) >>= λ (x : Object). given (record { done = done ++ x ∷ []; left = map object_view (drop (suc n) os) }))
       (ap (λ m. first_of (drop m actuals)) (done-long os n (omega arith)) ∙ sym e)
 
   set-done : (os : List tree.Object) (n : ℕ) (o : tree.Object) → n < length os → map object_view (take (n + 1) (set os n o)) ≡ map object_view (take n os) ++ object_view o ∷ []
@@ -95,7 +96,7 @@ module _ (above : Site) (actuals : List (Option SignalPart)) where
   set-left os n o = ap (map object_view) (drop-set-lt (n + 1) os n o (omega arith) ∙ ap (λ m. drop m os) (add-one n))
 
   pub next_given : (os new : List tree.Object) (n : ℕ) (o x : tree.Object) (p : Port) (a : Option SignalPart) → n < length os → o ≡ get_or os n o → a ≡ first_of (drop n actuals)
-      → association above p a (object_view o) ≡ Ok (object_view x) → new ≡ set os n x → next_associated above actuals (associated_to n os) p ≡ Ok (associated_to (n + 1) new)
+      → association above at p a (object_view o) ≡ Ok (object_view x) → new ≡ set os n x → next_associated above at actuals (associated_to n os) p ≡ Ok (associated_to (n + 1) new)
   next_given os new n o x p a below is e h pushed =
       next-is os n o p a below is e
       ∙ ap (λ r. r >>= λ (y : Object). given (record { done = map object_view (take n os) ++ y ∷ []; left = map object_view (drop (suc n) os) })) h
@@ -103,12 +104,12 @@ module _ (above : Site) (actuals : List (Option SignalPart)) where
       ∙ ap (λ (left : List Object). given (record { done = map object_view (take (n + 1) (set os n x)); left = left })) (sym (set-left os n x))
       ∙ ap (λ (xs : List tree.Object). given (associated_to (n + 1) xs)) (sym pushed)
 
-  pub next_refused : {problem : ElabProblem} → (os : List tree.Object) (n : ℕ) (o : tree.Object) (p : Port) (a : Option SignalPart) → n < length os → o ≡ get_or os n o → a ≡ first_of (drop n actuals)
-      → (association above p a (object_view o)) ≡ Err problem → (next_associated above actuals (associated_to n os) p) ≡ Err problem
-  next_refused {problem} os n o p a below is e h =
-      subst (λ (r : Elab Associated). r ≡ Err problem) (sym (next-is os n o p a below is e)) (err_first (association above p a (object_view o)) _ h)
+  pub next_refused : {told : Told} → (os : List tree.Object) (n : ℕ) (o : tree.Object) (p : Port) (a : Option SignalPart) → n < length os → o ≡ get_or os n o → a ≡ first_of (drop n actuals)
+      → (association above at p a (object_view o)) ≡ Err told → (next_associated above at actuals (associated_to n os) p) ≡ Err told
+  next_refused {told} os n o p a below is e h =
+      subst (λ (r : Elab Associated). r ≡ Err told) (sym (next-is os n o p a below is e)) (err_first (association above at p a (object_view o)) _ h)
 
-  none-left : (done : List Object) (ps : List Port) → stepwise (next_associated above actuals) (record { done = done; left = [] }) ps ≡ Ok (record { done = done; left = [] })
+  none-left : (done : List Object) (ps : List Port) → stepwise (next_associated above at actuals) (record { done = done; left = [] }) ps ≡ Ok (record { done = done; left = [] })
   none-left done [] = refl
   none-left done (p ∷ ps) = none-left done ps
 
@@ -119,10 +120,10 @@ module _ (above : Site) (actuals : List (Option SignalPart)) where
   past (o ∷ os) (suc n) h = past os n (omega arith)
 
   -- no port is left, whatever else is declared
-  pub all_associated : (os : List tree.Object) (n : ℕ) (ps : List Port) → length os ≤ n → stepwise (next_associated above actuals) (associated_to n os) ps ≡ Ok (associated_to n os)
+  pub all_associated : (os : List tree.Object) (n : ℕ) (ps : List Port) → length os ≤ n → stepwise (next_associated above at actuals) (associated_to n os) ps ≡ Ok (associated_to n os)
   all_associated os n ps h =
       let e = past os n h in
-      ap (λ (left : List Object). stepwise (next_associated above actuals) (record { done = map object_view (take n os); left = left }) ps) e
+      ap (λ (left : List Object). stepwise (next_associated above at actuals) (record { done = map object_view (take n os); left = left }) ps) e
       ∙ none-left (map object_view (take n os)) ps ∙ ap (λ (left : List Object). given (record { done = map object_view (take n os); left = left })) (sym e)
 
   -- ---- all ports
@@ -135,30 +136,30 @@ module _ (above : Site) (actuals : List (Option SignalPart)) where
   length-more (o ∷ done) x = ap suc (length-more done x)
 
   walk-is : (ps : List Port) (done left : List Object)
-      → done_of (stepwise (next_associated above actuals) (record { done = done; left = left }) ps) ≡ behind done (associations above ps (drop (length done) actuals) left)
+      → done_of (stepwise (next_associated above at actuals) (record { done = done; left = left }) ps) ≡ behind done (associations above at ps (drop (length done) actuals) left)
   unfolding associations
   walk-is [] done left = ap given (sym (append-nil done))
   walk-is (p ∷ ps) done [] = ap done_of (none-left done ps) ∙ ap given (sym (append-nil done))
-  walk-is (p ∷ ps) done (o ∷ os) = go (association above p (first_of (drop (length done) actuals)) o) (λ x.
+  walk-is (p ∷ ps) done (o ∷ os) = go (association above at p (first_of (drop (length done) actuals)) o) (λ x.
       walk-is ps (done ++ x ∷ []) os
-      ∙ ap (λ left. behind (done ++ x ∷ []) (associations above ps left os)) (ap (λ n. drop n actuals) (length-more done x) ∙ sym (rest_behind (length done) actuals)))
+      ∙ ap (λ left. behind (done ++ x ∷ []) (associations above at ps left os)) (ap (λ n. drop n actuals) (length-more done x) ∙ sym (rest_behind (length done) actuals)))
     where
       one : (x : Object) (q : Elab (List Object)) → behind (done ++ x ∷ []) q ≡ behind done (q >>= λ xs. given (x ∷ xs))
       one x (Ok xs) = ap given (append_assoc done (x ∷ []) xs)
-      one x (Err problem) = refl
+      one x (Err told) = refl
 
       go : (r : Elab Object)
-          → ((x : Object) → done_of (stepwise (next_associated above actuals) (record { done = done ++ x ∷ []; left = os }) ps)
-          ≡ behind (done ++ x ∷ []) (associations above ps (rest_of (drop (length done) actuals)) os))
-          → done_of ((r >>= λ (x : Object). given (record { done = done ++ x ∷ []; left = os })) >>= λ s. stepwise (next_associated above actuals) s ps)
-          ≡ behind done (r >>= λ x. associations above ps (rest_of (drop (length done) actuals)) os >>= λ xs. given (x ∷ xs))
-      go (Ok x) h = h x ∙ one x (associations above ps (rest_of (drop (length done) actuals)) os)
-      go (Err problem) h = refl
+          → ((x : Object) → done_of (stepwise (next_associated above at actuals) (record { done = done ++ x ∷ []; left = os }) ps)
+          ≡ behind (done ++ x ∷ []) (associations above at ps (rest_of (drop (length done) actuals)) os))
+          → done_of ((r >>= λ (x : Object). given (record { done = done ++ x ∷ []; left = os })) >>= λ s. stepwise (next_associated above at actuals) s ps)
+          ≡ behind done (r >>= λ x. associations above at ps (rest_of (drop (length done) actuals)) os >>= λ xs. given (x ∷ xs))
+      go (Ok x) h = h x ∙ one x (associations above at ps (rest_of (drop (length done) actuals)) os)
+      go (Err told) h = refl
 
   nothing-before : (r : Elab (List Object)) → behind [] r ≡ r
   nothing-before (Ok xs) = refl
-  nothing-before (Err problem) = refl
+  nothing-before (Err told) = refl
 
   pub associations_walk : (os : List tree.Object) (ps : List Port)
-      → associations above ps actuals (map object_view os) ≡ done_of (stepwise (next_associated above actuals) (associated_to 0 os) ps)
-  associations_walk os ps = sym (walk-is ps [] (map object_view os) ∙ nothing-before (associations above ps actuals (map object_view os)))
+      → associations above at ps actuals (map object_view os) ≡ done_of (stepwise (next_associated above at actuals) (associated_to 0 os) ps)
+  associations_walk os ps = sym (walk-is ps [] (map object_view os) ∙ nothing-before (associations above at ps actuals (map object_view os)))

@@ -24,33 +24,33 @@ branch-counted : (q : Elab Bool) (x : Elab Parts) (y : Elab ℕ) (ps : Parts) �
     → (q >>= λ holds. if holds then x else Ok no_parts) ≡ Ok ps → (n : ℕ) × ((q >>= λ holds. if holds then y else Ok 0) ≡ Ok n)
 branch-counted (Ok true) x y ps counted h = counted ps h
 branch-counted (Ok false) x y ps counted h = (0, refl)
-branch-counted (Err problem) x y ps counted h = absurd cc
+branch-counted (Err told) x y ps counted h = absurd cc
 
-module _ (units : Units) (go : Entity → InstanceObjects → Elab Instance) where
+module _ (units : Units) (go : ℕ → Entity → InstanceObjects → Elab Instance) where
   mutual
     unfolding concurrent concurrents concurrent_turns concurrents_turns
 
-    pub concurrent_counted : (at : Spot) (x : u.Concurrent) (ps : Parts) → concurrent units go at x ≡ Ok ps → (n : ℕ) × (concurrent_turns at x ≡ Ok n)
-    concurrent_counted at (u.process p) ps h = (0, refl)
-    concurrent_counted at (u.instance x) ps h = (0, refl)
-    concurrent_counted at (u.generate_for label r body) ps h =
-        let is = bound (turns at.site.integers r) _ ps h in
-        let pss = bound (each (λ i. concurrents units go (in_turn at label i) body) is.x) _ ps is.then_gave in
-        let ns = each-counted (λ i. concurrents units go (in_turn at label i) body) (λ i. concurrents_turns (in_turn at label i) body)
-        (λ i x e. concurrents_counted (in_turn at label i) body x e) is.x pss.x pss.gave in (
+    pub concurrent_counted : (here : Spot) (x : u.Concurrent) (ps : Parts) → concurrent units go here x ≡ Ok ps → (n : ℕ) × (concurrent_turns here x ≡ Ok n)
+    concurrent_counted here (u.process p) ps h = (0, refl)
+    concurrent_counted here (u.instance x) ps h = (0, refl)
+    concurrent_counted here (u.generate_for at label r body) ps h =
+        let is = bound (turns here.site.integers at r) _ ps h in
+        let pss = bound (each (λ i. concurrents units go (in_turn here label i) body) is.x) _ ps is.then_gave in
+        let ns = each-counted (λ i. concurrents units go (in_turn here label i) body) (λ i. concurrents_turns (in_turn here label i) body)
+        (λ i x e. concurrents_counted (in_turn here label i) body x e) is.x pss.x pss.gave in (
           length is.x + sum ns.0,
-          ap (λ q. q >>= λ js. each (λ i. concurrents_turns (in_turn at label i) body) js >>= λ ms. given (length js + sum ms)) is.gave
+          ap (λ q. q >>= λ js. each (λ i. concurrents_turns (in_turn here label i) body) js >>= λ ms. given (length js + sum ms)) is.gave
               ∙ ap (λ q. q >>= λ ms. given (length is.x + sum ms)) ns.1,
         )
-    concurrent_counted at (u.generate_if label t body) ps h =
-        branch-counted (decision at.site.integers t) (concurrents units go (in_branch at label) body) (concurrents_turns (in_branch at label) body) ps
-        (λ z e. concurrents_counted (in_branch at label) body z e) h
+    concurrent_counted here (u.generate_if at label t body) ps h =
+        branch-counted (decision here.site.integers t) (concurrents units go (in_branch here label) body) (concurrents_turns (in_branch here label) body) ps
+        (λ z e. concurrents_counted (in_branch here label) body z e) h
 
-    pub concurrents_counted : (at : Spot) (xs : u.Concurrents) (ps : Parts) → concurrents units go at xs ≡ Ok ps → (n : ℕ) × (concurrents_turns at xs ≡ Ok n)
-    concurrents_counted at u.no_concurrents ps h = (0, refl)
-    concurrents_counted at (u.concurrent x rest) ps h =
-        let p = bound (concurrent units go at x) _ ps h in
-        let q = bound (concurrents units go at rest) _ ps p.then_gave in
-        let m = concurrent_counted at x p.x p.gave in
-        let n = concurrents_counted at rest q.x q.gave in
+    pub concurrents_counted : (here : Spot) (xs : u.Concurrents) (ps : Parts) → concurrents units go here xs ≡ Ok ps → (n : ℕ) × (concurrents_turns here xs ≡ Ok n)
+    concurrents_counted here u.no_concurrents ps h = (0, refl)
+    concurrents_counted here (u.concurrent x rest) ps h =
+        let p = bound (concurrent units go here x) _ ps h in
+        let q = bound (concurrents units go here rest) _ ps p.then_gave in
+        let m = concurrent_counted here x p.x p.gave in
+        let n = concurrents_counted here rest q.x q.gave in
         (m.0 + n.0, λ i. m.1 i >>= λ a. n.1 i >>= λ b. given (a + b))

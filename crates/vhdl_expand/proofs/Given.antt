@@ -2,15 +2,14 @@
 use Rattle.std.proofs.Common.{◌≡◌, ℕ, zero, suc, List, [], ◌∷◌, ◌++◌, length, drop, Option, Ok, Err, refl, sym, ap, ◌∙◌, subst, ℤ}
 use Rattle.vhdl_names_rules.specs.units.Expressions as u
 use Rattle.vhdl_names_rules.specs.units.Units.{Generic}
-use Rattle.vhdl_expand_rules.specs.Elab.{Elab, ◌>>=◌}
+use Rattle.vhdl_expand_rules.specs.Elab.{Elab, ◌>>=◌, Told}
 use Rattle.vhdl_expand_rules.specs.Integers.{Integers}
 use Rattle.vhdl_expand_rules.specs.Declarations.{first_of, rest_of}
 use Rattle.vhdl_expand_rules.specs.Declarations as definition
 use Rattle.vhdl_expand_rules.proofs.Steps.{given, ok}
 use Rattle.vhdl_expand_rules.proofs.Chains.{err_first}
-use Rattle.vhdl_expand_tree.proofs.Alike.{wrong, same_problem}
+use Rattle.vhdl_expand_tree.proofs.Alike.{wrong, same_told}
 use Rattle.vhdl_expand.specs.Generics.{further_generics, generics_alone}
-use Rattle.vhdl_expand_rules.specs.declared.fault.ElabProblem.{ElabProblem}
 use Rattle.vhdl_expand.specs.Stepwise.{stepwise}
 
 pub rest_behind : {A : Type 0} (n : ℕ) (xs : List A) → rest_of (drop n xs) ≡ drop (suc n) xs
@@ -47,28 +46,28 @@ module _ (above : Integers) (actuals : List (Option u.Static)) where
       ap (λ a. definition.generic above (generics_alone values) a g >>= λ y. given (values ++ y ∷ [])) (ap (λ m. first_of (drop m actuals)) (sym e) ∙ sym is)
       ∙ ap (λ r. r >>= λ y. given (values ++ y ∷ [])) h ∙ ap given (sym pushed)
 
-  pub stopped : {problem : ElabProblem} → (values : List ℤ) (actual : Option u.Static) (n : ℕ) (g : Generic) → n ≡ length values → actual ≡ first_of (drop n actuals)
-      → (definition.generic above (generics_alone values) actual g) ≡ Err problem → (step values g) ≡ Err problem
-  stopped {problem} values actual n g e is h =
+  pub stopped : {told : Told} → (values : List ℤ) (actual : Option u.Static) (n : ℕ) (g : Generic) → n ≡ length values → actual ≡ first_of (drop n actuals)
+      → (definition.generic above (generics_alone values) actual g) ≡ Err told → (step values g) ≡ Err told
+  stopped {told} values actual n g e is h =
       err_first (definition.generic above (generics_alone values) (first_of (drop (length values) actuals)) g) (λ y. given (values ++ y ∷ []))
-      (subst (λ a. (definition.generic above (generics_alone values) a g) ≡ Err problem) (is ∙ ap (λ m. first_of (drop m actuals)) e) h)
+      (subst (λ a. (definition.generic above (generics_alone values) a g) ≡ Err told) (is ∙ ap (λ m. first_of (drop m actuals)) e) h)
 
   pub all_stepped : (values new : List ℤ) (gs : List Generic) → stepwise step values gs ≡ Ok new → further_generics above actuals values gs ≡ Ok (generics_alone new)
   all_stepped values new gs h = as_run values gs ∙ ap (λ r. r >>= λ xs. given (generics_alone xs)) h
 
-  pub all_stopped : {problem : ElabProblem} → (values : List ℤ) (gs : List Generic) → (stepwise step values gs) ≡ Err problem → (further_generics above actuals values gs) ≡ Err problem
-  all_stopped {problem} values gs h = subst (λ (r : Elab Integers). r ≡ Err problem) (sym (as_run values gs)) (err_first (stepwise step values gs) (λ xs. given (generics_alone xs)) h)
+  pub all_stopped : {told : Told} → (values : List ℤ) (gs : List Generic) → (stepwise step values gs) ≡ Err told → (further_generics above actuals values gs) ≡ Err told
+  all_stopped {told} values gs h = subst (λ (r : Elab Integers). r ≡ Err told) (sym (as_run values gs)) (err_first (stepwise step values gs) (λ xs. given (generics_alone xs)) h)
 
   as_ok : (r : Elab (List ℤ)) (new : List ℤ) → (r >>= λ xs. given (generics_alone xs)) ≡ Ok (generics_alone new) → r ≡ Ok new
   as_ok (Ok xs) new h = ap (λ (i : Integers). given i.generics) (ok (generics_alone xs) (generics_alone new) h)
   as_ok (Err p) new h = absurd cc
 
-  as_err : {problem : ElabProblem} → (r : Elab (List ℤ)) → (r >>= λ xs. given (generics_alone xs)) ≡ Err problem → r ≡ Err problem
+  as_err : {told : Told} → (r : Elab (List ℤ)) → (r >>= λ xs. given (generics_alone xs)) ≡ Err told → r ≡ Err told
   as_err (Ok xs) h = absurd cc
-  as_err {problem} (Err p) h = ap (λ q. wrong {A = List ℤ} q) (same_problem {A = Integers} p problem h)
+  as_err {told} (Err p) h = ap (λ q. wrong {A = List ℤ} q) (same_told {A = Integers} p told h)
 
   pub steps_of : (values new : List ℤ) (gs : List Generic) → further_generics above actuals values gs ≡ Ok (generics_alone new) → stepwise step values gs ≡ Ok new
   steps_of values new gs h = as_ok (stepwise step values gs) new (sym (as_run values gs) ∙ h)
 
-  pub stop_of : {problem : ElabProblem} → (values : List ℤ) (gs : List Generic) → (further_generics above actuals values gs) ≡ Err problem → (stepwise step values gs) ≡ Err problem
-  stop_of {problem} values gs h = as_err (stepwise step values gs) (subst (λ (r : Elab Integers). r ≡ Err problem) (as_run values gs) h)
+  pub stop_of : {told : Told} → (values : List ℤ) (gs : List Generic) → (further_generics above actuals values gs) ≡ Err told → (stepwise step values gs) ≡ Err told
+  stop_of {told} values gs h = as_err (stepwise step values gs) (subst (λ (r : Elab Integers). r ≡ Err told) (as_run values gs) h)

@@ -18,80 +18,80 @@ use Rattle.vhdl_expand_rules.specs.Declarations.{as_long_as, fixed_values, given
 use Rattle.vhdl_expand_rules.proofs.Steps.{given, bound}
 use Rattle.vhdl_expand.specs.Constants.{constant_of}
 
-found-behind : {A : Type 0} (problem : ElabProblem) (xs ys : List A) (k : ℕ) (x : A) → item_or problem (slice_get xs k) ≡ Ok x → item_or problem (slice_get (xs ++ ys) k) ≡ Ok x
-found-behind problem [] ys k x h = absurd cc
-found-behind problem (z ∷ xs) ys zero x h = h
-found-behind problem (z ∷ xs) ys (suc k) x h = found-behind problem xs ys k x h
+found-behind : {A : Type 0} (problem : ElabProblem) (at : ℕ) (xs ys : List A) (k : ℕ) (x : A) → item_or problem at (slice_get xs k) ≡ Ok x → item_or problem at (slice_get (xs ++ ys) k) ≡ Ok x
+found-behind problem at [] ys k x h = absurd cc
+found-behind problem at (z ∷ xs) ys zero x h = h
+found-behind problem at (z ∷ xs) ys (suc k) x h = found-behind problem at xs ys k x h
 
 -- ---- integers, when one more constant is declared
 
 abbrev more : Integers → ℤ → Integers
-more at y = record at { constants = at.constants ++ y ∷ [] }
+more here y = record here { constants = here.constants ++ y ∷ [] }
 
-integer-grows : (at : Integers) (y : ℤ) (s : Static) (x : ℤ) → integer at s ≡ Ok x → integer (more at y) s ≡ Ok x
+integer-grows : (here : Integers) (at : ℕ) (y : ℤ) (s : Static) (x : ℤ) → integer here at s ≡ Ok x → integer (more here y) at s ≡ Ok x
 unfolding integer
-integer-grows at y (u.number n) x h = h
-integer-grows at y (u.generic k) x h = h
-integer-grows at y (u.Static.constant k) x h = found-behind StaticError at.constants (y ∷ []) k x h
-integer-grows at y (u.generate_parameter k) x h = h
-integer-grows at y (u.loop_parameter k) x h = h
-integer-grows at y (u.Static.negated s) x h =
-    let a = bound (integer at s) _ x h in
-    ap (λ r. r >>= λ z. checked_integer (neg_ℤ z)) (integer-grows at y s a.x a.gave) ∙ a.then_gave
-integer-grows at y (u.Static.binary op s t) x h =
-    let a = bound (integer at s) _ x h in
-    let b = bound (integer at t) _ x a.then_gave in
-    ap (λ r. r >>= λ z. integer (more at y) t >>= λ w. integer_operation op z w) (integer-grows at y s a.x a.gave)
-    ∙ ap (λ r. r >>= λ w. integer_operation op a.x w) (integer-grows at y t b.x b.gave) ∙ b.then_gave
+integer-grows here at y (u.number n) x h = h
+integer-grows here at y (u.generic k) x h = h
+integer-grows here at y (u.Static.constant k) x h = found-behind StaticError at here.constants (y ∷ []) k x h
+integer-grows here at y (u.generate_parameter k) x h = h
+integer-grows here at y (u.loop_parameter k) x h = h
+integer-grows here at y (u.Static.negated sign s) x h =
+    let a = bound (integer here sign s) _ x h in
+    ap (λ r. r >>= λ z. checked_integer sign (neg_ℤ z)) (integer-grows here sign y s a.x a.gave) ∙ a.then_gave
+integer-grows here at y (u.Static.binary sign op s t) x h =
+    let a = bound (integer here sign s) _ x h in
+    let b = bound (integer here sign t) _ x a.then_gave in
+    ap (λ r. r >>= λ z. integer (more here y) sign t >>= λ w. integer_operation sign op z w) (integer-grows here sign y s a.x a.gave)
+    ∙ ap (λ r. r >>= λ w. integer_operation sign op a.x w) (integer-grows here sign y t b.x b.gave) ∙ b.then_gave
 
-pub integer_of_grows : (type : IntegerType) (at : Site) (y : ℤ) (s : Static) (x : ℤ) → integer_of type at.integers s ≡ Ok x → integer_of type (with_integer at y).integers s ≡ Ok x
+pub integer_of_grows : (type : IntegerType) (here : Site) (at : ℕ) (y : ℤ) (s : Static) (x : ℤ) → integer_of type here.integers at s ≡ Ok x → integer_of type (with_integer here y).integers at s ≡ Ok x
 unfolding integer_of
-integer_of_grows type at y s x h =
-    let a = bound (integer at.integers s) _ x h in
-    ap (λ r. r >>= λ z. unless GenericRange (is_of type z) >>= λ _. given z) (integer-grows at.integers y s a.x a.gave) ∙ a.then_gave
+integer_of_grows type here at y s x h =
+    let a = bound (integer here.integers at s) _ x h in
+    ap (λ r. r >>= λ z. unless GenericRange at (is_of type z) >>= λ _. given z) (integer-grows here.integers at y s a.x a.gave) ∙ a.then_gave
 
 -- ---- other constants, when one more is declared
 
-fixed-grows : (at : Site) (c : Constant) (len : ℕ) (f : Fixed) (vs : List Nine) → fixed_values at len f ≡ Ok vs → fixed_values (with_constant at c) len f ≡ Ok vs
+fixed-grows : (here : Site) (at : ℕ) (c : Constant) (len : ℕ) (f : Fixed) (vs : List Nine) → fixed_values here at len f ≡ Ok vs → fixed_values (with_constant here c) at len f ≡ Ok vs
 unfolding fixed_values
-fixed-grows at c len (units.Fixed.literal xs) vs h = h
-fixed-grows at c len (units.Fixed.position n) vs h = h
-fixed-grows at c len (units.Fixed.constant k) vs h =
-    let a = bound (item_or Index (slice_get at.constants k)) _ vs h in
-    ap (λ r. r >>= λ (d : Constant). as_long_as len d.values) (found-behind Index at.constants (c ∷ []) k a.x a.gave) ∙ a.then_gave
-fixed-grows at c len (units.Fixed.encoded s t) vs h = h
-fixed-grows at c len (units.filled v) vs h = h
+fixed-grows here at c len (units.Fixed.literal xs) vs h = h
+fixed-grows here at c len (units.Fixed.position n) vs h = h
+fixed-grows here at c len (units.Fixed.constant k) vs h =
+    let a = bound (item_or Index at (slice_get here.constants k)) _ vs h in
+    ap (λ r. r >>= λ (d : Constant). as_long_as at len d.values) (found-behind Index at here.constants (c ∷ []) k a.x a.gave) ∙ a.then_gave
+fixed-grows here at c len (units.Fixed.encoded s t) vs h = h
+fixed-grows here at c len (units.filled v) vs h = h
 
-pub constant_of_grows : (at : Site) (c : Constant) (form : Form) (f : Fixed) (d : Constant) → constant_of at form f ≡ Ok d → constant_of (with_constant at c) form f ≡ Ok d
-constant_of_grows at c form f d h =
-    let a = bound (kind_of at.integers form) _ d h in
-    let b = bound (fixed_values at (size a.x) f) _ d a.then_gave in
-    ap (λ r. r >>= λ kind. fixed_values (with_constant at c) (size kind) f >>= λ vs. given (record { kind = kind; values = vs })) a.gave
-    ∙ ap (λ r. r >>= λ vs. given (record { kind = a.x; values = vs })) (fixed-grows at c (size a.x) f b.x b.gave) ∙ b.then_gave
+pub constant_of_grows : (here : Site) (at : ℕ) (c : Constant) (form : Form) (f : Fixed) (d : Constant) → constant_of here at form f ≡ Ok d → constant_of (with_constant here c) at form f ≡ Ok d
+constant_of_grows here at c form f d h =
+    let a = bound (kind_of here.integers at form) _ d h in
+    let b = bound (fixed_values here at (size a.x) f) _ d a.then_gave in
+    ap (λ r. r >>= λ kind. fixed_values (with_constant here c) at (size kind) f >>= λ vs. given (record { kind = kind; values = vs })) a.gave
+    ∙ ap (λ r. r >>= λ vs. given (record { kind = a.x; values = vs })) (fixed-grows here at c (size a.x) f b.x b.gave) ∙ b.then_gave
 
 -- ---- what objects start with, when ports or signals are declared
 
 abbrev beside : Site → (ports signals : List ObjectKind) → Site
-beside at ps ss = record at { ports = ps; signals = ss }
+beside here ps ss = record here { ports = ps; signals = ss }
 
-fixed-stays : (at : Site) (ps ss : List ObjectKind) (len : ℕ) (f : Fixed) → fixed_values (beside at ps ss) len f ≡ fixed_values at len f
+fixed-stays : (here : Site) (ps ss : List ObjectKind) (at len : ℕ) (f : Fixed) → fixed_values (beside here ps ss) at len f ≡ fixed_values here at len f
 unfolding fixed_values
-fixed-stays at ps ss len (units.Fixed.literal xs) = refl
-fixed-stays at ps ss len (units.Fixed.position n) = refl
-fixed-stays at ps ss len (units.Fixed.constant k) = refl
-fixed-stays at ps ss len (units.Fixed.encoded s t) = refl
-fixed-stays at ps ss len (units.filled v) = refl
+fixed-stays here ps ss at len (units.Fixed.literal xs) = refl
+fixed-stays here ps ss at len (units.Fixed.position n) = refl
+fixed-stays here ps ss at len (units.Fixed.constant k) = refl
+fixed-stays here ps ss at len (units.Fixed.encoded s t) = refl
+fixed-stays here ps ss at len (units.filled v) = refl
 
-given-stays : (at : Site) (ps ss : List ObjectKind) (kind : ObjectKind) (f : Fixed) → given_starts (beside at ps ss) kind f ≡ given_starts at kind f
-given-stays at ps ss one f = ap (λ r. r >>= λ vs. given (map code_of vs)) (fixed-stays at ps ss 1 f)
-given-stays at ps ss (vector b) f = ap (λ r. r >>= λ vs. given (map code_of vs)) (fixed-stays at ps ss (size (vector b)) f)
-given-stays at ps ss (enumeration n) (units.Fixed.position p) = refl
-given-stays at ps ss (enumeration n) (units.Fixed.literal xs) = ap (λ r. r >>= λ vs. given (map code_of vs)) (fixed-stays at ps ss 1 (units.Fixed.literal xs))
-given-stays at ps ss (enumeration n) (units.Fixed.constant k) = ap (λ r. r >>= λ vs. given (map code_of vs)) (fixed-stays at ps ss 1 (units.Fixed.constant k))
-given-stays at ps ss (enumeration n) (units.Fixed.encoded s t) = ap (λ r. r >>= λ vs. given (map code_of vs)) (fixed-stays at ps ss 1 (units.Fixed.encoded s t))
-given-stays at ps ss (enumeration n) (units.filled v) = ap (λ r. r >>= λ vs. given (map code_of vs)) (fixed-stays at ps ss 1 (units.filled v))
+given-stays : (here : Site) (ps ss : List ObjectKind) (at : ℕ) (kind : ObjectKind) (f : Fixed) → given_starts (beside here ps ss) at kind f ≡ given_starts here at kind f
+given-stays here ps ss at one f = ap (λ r. r >>= λ vs. given (map code_of vs)) (fixed-stays here ps ss at 1 f)
+given-stays here ps ss at (vector b) f = ap (λ r. r >>= λ vs. given (map code_of vs)) (fixed-stays here ps ss at (size (vector b)) f)
+given-stays here ps ss at (enumeration n) (units.Fixed.position p) = refl
+given-stays here ps ss at (enumeration n) (units.Fixed.literal xs) = ap (λ r. r >>= λ vs. given (map code_of vs)) (fixed-stays here ps ss at 1 (units.Fixed.literal xs))
+given-stays here ps ss at (enumeration n) (units.Fixed.constant k) = ap (λ r. r >>= λ vs. given (map code_of vs)) (fixed-stays here ps ss at 1 (units.Fixed.constant k))
+given-stays here ps ss at (enumeration n) (units.Fixed.encoded s t) = ap (λ r. r >>= λ vs. given (map code_of vs)) (fixed-stays here ps ss at 1 (units.Fixed.encoded s t))
+given-stays here ps ss at (enumeration n) (units.filled v) = ap (λ r. r >>= λ vs. given (map code_of vs)) (fixed-stays here ps ss at 1 (units.filled v))
 
-pub starts_stay : (at : Site) (ps ss : List ObjectKind) (kind : ObjectKind) (default : Option Fixed) → starts (beside at ps ss) kind default ≡ starts at kind default
+pub starts_stay : (here : Site) (ps ss : List ObjectKind) (at : ℕ) (kind : ObjectKind) (default : Option Fixed) → starts (beside here ps ss) at kind default ≡ starts here at kind default
 unfolding starts
-starts_stay at ps ss kind None = refl
-starts_stay at ps ss kind (Some f) = given-stays at ps ss kind f
+starts_stay here ps ss at kind None = refl
+starts_stay here ps ss at kind (Some f) = given-stays here ps ss at kind f

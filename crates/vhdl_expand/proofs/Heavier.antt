@@ -22,9 +22,9 @@ pub lighter : (xs : List Concurrent) (i : ℕ) (x : Concurrent) → i < length x
     → weight (units.concurrent_view x) < weights (units.concurrents_of (map units.concurrent_view xs))
 lighter xs i x h is = subst (λ (y : Concurrent). weight (units.concurrent_view y) < weights (units.concurrents_of (map units.concurrent_view xs))) (sym is) (lighter-at xs i x h)
 
-pub generate_weight : (label : List ℕ) (body : u.Concurrents) (scheme : Scheme) → weight (units.generated label body scheme) ≡ 4 + weights body
-generate_weight label body (k.For r) = refl
-generate_weight label body (k.If test) = refl
+pub generate_weight : (label : List ℕ) (at : ℕ) (body : u.Concurrents) (scheme : Scheme) → weight (units.generated label at body scheme) ≡ 4 + weights body
+generate_weight label at body (k.For r) = refl
+generate_weight label at body (k.If test) = refl
 
 at-most : (units : Units) (k : ℕ) (e : Entity) → slice_get units k ≡ Some e → architecture_weight e.architecture ≤ units_weight units
 at-most [] k e h = absurd cc

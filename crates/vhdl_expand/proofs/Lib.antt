@@ -3,10 +3,16 @@ pub mod Names
 pub mod Given
 pub mod Stepping
 pub mod Growing
+pub mod Elsewhere
 pub mod ObjectSteps
 pub mod ConstantSteps
 pub mod Associating
 pub mod OwnNets
+pub mod Among
+pub mod Telling
+pub mod Standing
+pub mod Stopping
+pub mod Spending
 pub mod Paying
 pub mod Sums
 pub mod Declaring

@@ -3,9 +3,8 @@ use Rattle.std.proofs.Common.{◌≡◌, ℕ, ◌+◌, List, Ok, Err, refl, sym,
 use Rattle.std.specs.Prelude.{◌≢◌, IsErr}
 use Rattle.vhdl_names_rules.specs.units.Units as u
 use Rattle.rtl_model.specs.bodies.Body as bodies
-use Rattle.vhdl_expand_rules.specs.declared.fault.ElabProblem.{ElabProblem}
 use Rattle.vhdl_expand_rules.specs.declared.fault.ElabProblem.TheVariants.{TooMany}
-use Rattle.vhdl_expand_rules.specs.Elab.{Elab, ◌>>=◌, each, MayTell}
+use Rattle.vhdl_expand_rules.specs.Elab.{Elab, ◌>>=◌, each, MayTell, Told}
 use Rattle.vhdl_expand_rules.specs.Site.{Site, elements_count}
 use Rattle.vhdl_expand_rules.specs.Tree as t
 use Rattle.vhdl_expand_rules.specs.Prefixes.{targets, prefixes_elements, in_order}
@@ -16,9 +15,10 @@ use Rattle.vhdl_expand_rules.proofs.Chains.{bind-assoc}
 use Rattle.vhdl_expand_rules.proofs.Steps.{given, ok, bound}
 use Rattle.vhdl_elab_rules.specs.Limits.{Counts, statements_count}
 use Rattle.vhdl_expand_tree.specs.Costs.{a_process, plus, variables_costs, process_costs, spent, charged}
-use Rattle.vhdl_expand_tree.proofs.Alike.{Alike, wrong, same_problem, tells_first, tells_next, tells_again}
+use Rattle.vhdl_expand_tree.proofs.Alike.{Alike, wrong, same_told, tells_first, tells_next, tells_again}
 use Rattle.vhdl_expand_tree.proofs.Charging.{left_with, spent-plus, spent_told}
 use Rattle.vhdl_expand_drivers.specs.Driven.{drives_of}
+use Rattle.vhdl_expand.proofs.Spending.{spent_here, spent_there}
 use Rattle.vhdl_expand.specs.Unrolled.{paid, statements_costs}
 use Rattle.vhdl_expand.specs.Processes.{turns_paid, process_steps}
 use Rattle.vhdl_expand.proofs.Measured.{body_costs, statements-measured, turns_of, statements-turned}
@@ -29,11 +29,11 @@ then_ok r f x y h k = ap (λ q. q >>= f) h ∙ k
 -- what each part is
 record Parts (n : Counts) (at : Site) (p : u.Process) : Type 0 where
   unstarted : Counts
-  started : spent n a_process ≡ Ok unstarted
+  started : spent p.at n a_process ≡ Ok unstarted
   vs : List t.Variable
   declared : each (variable at) p.variables ≡ Ok vs
   unbodied : Counts
-  held : spent unstarted (variables_costs vs) ≡ Ok unbodied
+  held : spent p.at unstarted (variables_costs vs) ≡ Ok unbodied
   ds : List ℕ
   driven : drives_of at p.body ≡ Ok ds
   on : t.Sensitivity
@@ -65,35 +65,35 @@ made-costs q = λ i. record {
 -- ---- the first broken rule is the same
 
 -- behind a charge that is told as TooMany alone
-skip : {A B : Type 0} (n c : Counts) (f : Counts → Elab A) (whole : Elab B) (problem : ElabProblem) → problem ≢ TooMany → (spent n c >>= f) ≡ Err problem
-    → ((left : Counts) → f left ≡ Err problem → whole ≡ Err problem) → whole ≡ Err problem
-skip {A} {B} n c f whole problem unspent h go = by (spent n c) (spent_told n c) h
+skip : {told : Told} {A B : Type 0} (at : ℕ) (n c : Counts) (f : Counts → Elab A) (whole : Elab B) → told.0 ≢ TooMany → (spent at n c >>= f) ≡ Err told
+    → ((left : Counts) → f left ≡ Err told → whole ≡ Err told) → whole ≡ Err told
+skip {told} {A} {B} at n c f whole unspent h go = by (spent at n c) (spent_told at n c) h
   where
-    by : (r : Elab Counts) → ((other : ElabProblem) → r ≡ Err other → other ≡ TooMany) → (r >>= f) ≡ Err problem → whole ≡ Err problem
+    by : (r : Elab Counts) → ((other : Told) → r ≡ Err other → other.0 ≡ TooMany) → (r >>= f) ≡ Err told → whole ≡ Err told
     by (Ok left) only k = go left k
-    by (Err other) only k = absurd (unspent (sym (same_problem {A = A} other problem k) ∙ only other refl))
+    by (Err other) only k = absurd (unspent (ap (λ (x : Told). x.0) (sym (same_told {A = A} other told k)) ∙ only other refl))
 
-along : {A B C : Type 0} (r : Elab A) (f : A → Elab B) (g : A → Elab C) (problem : ElabProblem) → (r >>= f) ≡ Err problem
-    → ((x : A) → f x ≡ Err problem → g x ≡ Err problem) → (r >>= g) ≡ Err problem
-along (Ok x) f g problem h go = go x h
-along {A} {B} {C} (Err other) f g problem h go = ap (λ q. wrong {A = C} q) (same_problem {A = B} other problem h)
+along : {told : Told} {A B C : Type 0} (r : Elab A) (f : A → Elab B) (g : A → Elab C) → (r >>= f) ≡ Err told
+    → ((x : A) → f x ≡ Err told → g x ≡ Err told) → (r >>= g) ≡ Err told
+along (Ok x) f g h go = go x h
+along {told} {A} {B} {C} (Err other) f g h go = ap (λ q. wrong {A = C} q) (same_told {A = B} other told h)
 
-turns-along : {A B : Type 0} (cost : Elab Counts) (turned : Elab ℕ) → turned ≡ turns_of cost → (n : Counts) (f : ℕ × Counts → Elab A) (g : ℕ → Elab B) (problem : ElabProblem)
-    → problem ≢ TooMany → (turns_paid n cost >>= f) ≡ Err problem → ((x : ℕ × Counts) → f x ≡ Err problem → g x.0 ≡ Err problem) → (turned >>= g) ≡ Err problem
-turns-along {A} {B} cost turned same n f g problem unspent h go = ap (λ r. r >>= g) same ∙ by cost h
+turns-along : {told : Told} {A B : Type 0} (cost : Elab Counts) (turned : Elab ℕ) → turned ≡ turns_of cost → (n : Counts) (f : ℕ × Counts → Elab A) (g : ℕ → Elab B)
+    → told.0 ≢ TooMany → (turns_paid n cost >>= f) ≡ Err told → ((x : ℕ × Counts) → f x ≡ Err told → g x.0 ≡ Err told) → (turned >>= g) ≡ Err told
+turns-along {told} {A} {B} cost turned same n f g unspent h go = ap (λ r. r >>= g) same ∙ by cost h
   where
-    by : (q : Elab Counts) → (turns_paid n q >>= f) ≡ Err problem → (turns_of q >>= g) ≡ Err problem
-    by (Ok c) k = skip n c (λ rest. f (c.turns, rest)) (g c.turns) problem unspent (sym (bind-assoc (spent n c) (λ rest. left_with c.turns rest) f) ∙ k) (λ rest e. go (c.turns, rest) e)
-    by (Err other) k = ap (λ q. wrong {A = B} q) (same_problem {A = A} other problem k)
+    by : (q : Elab Counts) → (turns_paid n q >>= f) ≡ Err told → (turns_of q >>= g) ≡ Err told
+    by (Ok c) k = skip 0 n c (λ rest. f (c.turns, rest)) (g c.turns) unspent (sym (bind-assoc (spent 0 n c) (λ rest. left_with c.turns rest) f) ∙ k) (λ rest e. go (c.turns, rest) e)
+    by (Err other) k = ap (λ q. wrong {A = B} q) (same_told {A = A} other told k)
 
 -- what is paid for turns and statements
 record Paid (n : Counts) (c : Counts) (turned : ℕ × Counts) : Type 0 where
   turns_are : turned.0 ≡ c.turns
-  spent_is : spent n c ≡ Ok turned.1
+  spent_is : spent 0 n c ≡ Ok turned.1
 
 paid-turns : (n : Counts) (q : Elab Counts) (c : Counts) (turned : ℕ × Counts) → q ≡ Ok c → turns_paid n q ≡ Ok turned → Paid n c turned
 paid-turns n q c turned h k =
-    let s = bound (spent n c) _ turned (sym (ap (turns_paid n) h) ∙ k) in
+    let s = bound (spent 0 n c) _ turned (sym (ap (turns_paid n) h) ∙ k) in
     let here : ℕ × Counts = (c.turns, s.x) in
     let e = ok here turned s.then_gave in
     record { turns_are = sym (ap (λ x. x.0) e); spent_is = s.gave ∙ ap given (ap (λ x. x.1) e) }
@@ -103,9 +103,9 @@ module _ (n : Counts) (at : Site) (prefix : List ℕ) (p : u.Process) where
   unfolding process_steps
   steps-from x =
       let y : t.Process × Counts = (made n at prefix p x, x.turned.1) in
-      then_ok (spent n a_process) _ x.unstarted y x.started
+      then_ok (spent p.at n a_process) _ x.unstarted y x.started
       (then_ok (each (variable at) p.variables) _ x.vs y x.declared
-      (then_ok (spent x.unstarted (variables_costs x.vs)) _ x.unbodied y x.held
+      (then_ok (spent p.at x.unstarted (variables_costs x.vs)) _ x.unbodied y x.held
       (then_ok (drives_of at p.body) _ x.ds y x.driven
       (then_ok (sensitivity at p.sensitivity p.body) _ x.on y x.resumed
       (then_ok (turns_paid x.unbodied (statements_costs at.integers p.body)) _ x.turned y x.counted
@@ -114,9 +114,9 @@ module _ (n : Counts) (at : Site) (prefix : List ℕ) (p : u.Process) where
   steps-of : (y : t.Process × Counts) → process_steps n (record { site = at; prefix = prefix }) p ≡ Ok y → (x : Parts n at p) × ((made n at prefix p x, x.turned.1) ≡ y)
   unfolding process_steps
   steps-of y h =
-      let started = bound (spent n a_process) _ y h in
+      let started = bound (spent p.at n a_process) _ y h in
       let vs = bound (each (variable at) p.variables) _ y started.then_gave in
-      let held = bound (spent started.x (variables_costs vs.x)) _ y vs.then_gave in
+      let held = bound (spent p.at started.x (variables_costs vs.x)) _ y vs.then_gave in
       let ds = bound (drives_of at p.body) _ y held.then_gave in
       let on = bound (sensitivity at p.sensitivity p.body) _ y ds.then_gave in
       let turned = bound (turns_paid held.x (statements_costs at.integers p.body)) _ y on.then_gave in
@@ -157,13 +157,13 @@ module _ (n : Counts) (at : Site) (prefix : List ℕ) (p : u.Process) where
       (then_ok (statements_turns at p.body) _ m.n q m.turns_are
       (then_ok (statements (with_variables at x.vs) p.body) _ x.body q x.expanded
       (λ i. given (record { prefix = prefix; label = p.label; drives = drawn i; sensitivity = x.on; variables = x.vs; body = x.body; turns = sym paid.turns_are i })))))) in
-      let left : spent n (process_costs q) ≡ Ok x.turned.1 =
-      ap (spent n) (made-costs q) ∙ spent-plus a_process (plus (variables_costs x.vs) (body_costs x.turned.0 (statements_count x.body))) n
-      ∙ then_ok (spent n a_process) (λ l. spent l (plus (variables_costs x.vs) (body_costs x.turned.0 (statements_count x.body)))) x.unstarted x.turned.1 x.started
-      (spent-plus (variables_costs x.vs) (body_costs x.turned.0 (statements_count x.body)) x.unstarted
-      ∙ then_ok (spent x.unstarted (variables_costs x.vs)) (λ l. spent l (body_costs x.turned.0 (statements_count x.body))) x.unbodied x.turned.1 x.held
-      (ap (λ k. spent x.unbodied (body_costs k (statements_count x.body))) paid.turns_are ∙ paid.spent_is)) in
-      then_ok (process (record { site = at; prefix = prefix }) p) _ q y is (then_ok (spent n (process_costs q)) _ x.turned.1 y left refl)
+      let left : spent 0 n (process_costs q) ≡ Ok x.turned.1 =
+      ap (spent 0 n) (made-costs q) ∙ spent-plus 0 a_process (plus (variables_costs x.vs) (body_costs x.turned.0 (statements_count x.body))) n
+      ∙ then_ok (spent 0 n a_process) (λ l. spent 0 l (plus (variables_costs x.vs) (body_costs x.turned.0 (statements_count x.body)))) x.unstarted x.turned.1 (spent_here p.at n a_process x.unstarted x.started)
+      (spent-plus 0 (variables_costs x.vs) (body_costs x.turned.0 (statements_count x.body)) x.unstarted
+      ∙ then_ok (spent 0 x.unstarted (variables_costs x.vs)) (λ l. spent 0 l (body_costs x.turned.0 (statements_count x.body))) x.unbodied x.turned.1 (spent_here p.at x.unstarted (variables_costs x.vs) x.unbodied x.held)
+      (ap (λ k. spent 0 x.unbodied (body_costs k (statements_count x.body))) paid.turns_are ∙ paid.spent_is)) in
+      then_ok (process (record { site = at; prefix = prefix }) p) _ q y is (then_ok (spent 0 n (process_costs q)) _ x.turned.1 y left refl)
 
   whole-of : (y : t.Process × Counts) → charged n process_costs (process (record { site = at; prefix = prefix }) p) ≡ Ok y → Parts n at p
   unfolding process
@@ -178,111 +178,112 @@ module _ (n : Counts) (at : Site) (prefix : List ℕ) (p : u.Process) where
       let made : t.Process = record { prefix = prefix; label = p.label; drives = ds; sensitivity = on.x; variables = vs.x; body = body.x; turns = k.x } in
       let m = statements-measured (with_variables at vs.x) at refl p.body body.x body.gave in
       let same = ok m.n k.x (sym m.turns_are ∙ k.gave) in
-      let s = bound (spent n (process_costs q.x)) _ y q.then_gave in
+      let s = bound (spent 0 n (process_costs q.x)) _ y q.then_gave in
       let rest = plus (variables_costs vs.x) (body_costs m.n (statements_count body.x)) in
-      let all : (spent n a_process >>= λ l. spent l rest) ≡ Ok s.x =
-      sym (spent-plus a_process rest n) ∙ ap (λ j. spent n (plus a_process (plus (variables_costs vs.x) (body_costs j (statements_count body.x))))) same
-      ∙ ap (spent n) (sym (made-costs made)) ∙ ap (λ z. spent n (process_costs z)) (ok made q.x body.then_gave) ∙ s.gave in
-      let started = bound (spent n a_process) (λ l. spent l rest) s.x all in
-      let held = bound (spent started.x (variables_costs vs.x)) (λ l. spent l (body_costs m.n (statements_count body.x))) s.x
-      (sym (spent-plus (variables_costs vs.x) (body_costs m.n (statements_count body.x)) started.x) ∙ started.then_gave) in
+      let all : (spent 0 n a_process >>= λ l. spent 0 l rest) ≡ Ok s.x =
+      sym (spent-plus 0 a_process rest n) ∙ ap (λ j. spent 0 n (plus a_process (plus (variables_costs vs.x) (body_costs j (statements_count body.x))))) same
+      ∙ ap (spent 0 n) (sym (made-costs made)) ∙ ap (λ z. spent 0 n (process_costs z)) (ok made q.x body.then_gave) ∙ s.gave in
+      let started = bound (spent 0 n a_process) (λ l. spent 0 l rest) s.x all in
+      let held = bound (spent 0 started.x (variables_costs vs.x)) (λ l. spent 0 l (body_costs m.n (statements_count body.x))) s.x
+      (sym (spent-plus 0 (variables_costs vs.x) (body_costs m.n (statements_count body.x)) started.x) ∙ started.then_gave) in
       let turned : ℕ × Counts = (m.n, s.x) in
       record {
         unstarted = started.x;
-        started = started.gave;
+        started = spent_there p.at n a_process started.x started.gave;
         vs = vs.x;
         declared = vs.gave;
         unbodied = held.x;
-        held = held.gave;
+        held = spent_there p.at started.x (variables_costs vs.x) held.x held.gave;
         ds = ds;
         driven = then_ok (prefixes_elements at (targets p.body)) _ es.x ds es.gave refl;
         on = on.x;
         resumed = on.gave;
         turned = turned;
         counted = then_ok (statements_costs at.integers p.body) _ (body_costs m.n (statements_count body.x)) turned m.costs_are
-            (then_ok (spent held.x (body_costs m.n (statements_count body.x))) _ s.x turned held.then_gave refl);
+            (then_ok (spent 0 held.x (body_costs m.n (statements_count body.x))) _ s.x turned held.then_gave refl);
         body = body.x;
         expanded = body.gave;
       }
 
-  steps-refused : (problem : ElabProblem) → problem ≢ TooMany → process_steps n (record { site = at; prefix = prefix }) p ≡ Err problem
-      → process (record { site = at; prefix = prefix }) p ≡ Err problem
+  steps-refused : {told : Told} → told.0 ≢ TooMany → process_steps n (record { site = at; prefix = prefix }) p ≡ Err told
+      → process (record { site = at; prefix = prefix }) p ≡ Err told
   unfolding process_steps process
-  steps-refused problem unspent h =
-      skip n a_process _ _ problem unspent h (λ unstarted a.
-      along (each (variable at) p.variables) _ _ problem a (λ vs b.
-      skip unstarted (variables_costs vs) _ _ problem unspent b (λ unbodied e.
-      along (prefixes_elements at (targets p.body)) _ _ problem (sym (bind-assoc (prefixes_elements at (targets p.body)) _ _) ∙ e) (λ es f.
-      along (sensitivity at p.sensitivity p.body) _ _ problem f (λ on g.
-      turns-along (statements_costs at.integers p.body) (statements_turns at p.body) (statements-turned at p.body) unbodied _ _ problem unspent g (λ turned k.
-      along (statements (with_variables at vs) p.body) _ _ problem k (λ body l. absurd cc)))))))
+  steps-refused unspent h =
+      skip p.at n a_process _ _ unspent h (λ unstarted a.
+      along (each (variable at) p.variables) _ _ a (λ vs b.
+      skip p.at unstarted (variables_costs vs) _ _ unspent b (λ unbodied e.
+      along (prefixes_elements at (targets p.body)) _ _ (sym (bind-assoc (prefixes_elements at (targets p.body)) _ _) ∙ e) (λ es f.
+      along (sensitivity at p.sensitivity p.body) _ _ f (λ on g.
+      turns-along (statements_costs at.integers p.body) (statements_turns at p.body) (statements-turned at p.body) unbodied _ _ unspent g (λ turned k.
+      along (statements (with_variables at vs) p.body) _ _ k (λ body l. absurd cc)))))))
 
   pub process_alike : Alike (charged n process_costs (process (record { site = at; prefix = prefix }) p)) (process_steps n (record { site = at; prefix = prefix }) p)
   process_alike = record {
     gives = λ y h. let x = steps-of y h in whole-from x.0 ∙ ap given x.1;
-    stops = λ problem may_tell. record {
+    stops = λ bytes told may_tell. record {
       refused = go (charged n process_costs (process (record { site = at; prefix = prefix }) p)) (λ y e. subst (λ r. IsErr r) (steps-from (whole-of y e)) may_tell.refused);
-      first = λ unspent. ap (λ (r : Elab t.Process). charged n process_costs r) (steps-refused problem unspent (may_tell.first unspent));
+      first = λ unspent. ap (λ (r : Elab t.Process). charged n process_costs r) (steps-refused unspent (may_tell.first unspent));
+      placed = may_tell.placed;
     };
   }
     where
       go : (r : Elab (t.Process × Counts)) → ((y : t.Process × Counts) → r ≡ Ok y → IsErr (given y)) → IsErr r
       go (Ok y) k = k y refl
-      go (Err problem) k = refl
+      go (Err told) k = refl
 
 -- ---- where the steps stop
 
 -- what is not paid gives no turns
-pub not_paid : {problem : ElabProblem} (n : Counts) (q : Elab Counts) → MayTell (paid n q) problem → MayTell (turns_paid n q) problem
-not_paid n (Ok c) h = tells_first (spent n c) _ h
+pub not_paid : {bytes : List ℕ} {told : Told} (n : Counts) (q : Elab Counts) → MayTell bytes (paid n q) told → MayTell bytes (turns_paid n q) told
+not_paid n (Ok c) h = tells_first (spent 0 n c) _ h
 not_paid n (Err other) h = tells_again {A = Counts} {B = ℕ × Counts} other _ h
 
 module _ (n : Counts) (at : Site) (prefix : List ℕ) (p : u.Process) where
-  pub not_started : {problem : ElabProblem} → MayTell (spent n a_process) problem → MayTell (process_steps n (record { site = at; prefix = prefix }) p) problem
+  pub not_started : {bytes : List ℕ} {told : Told} → MayTell bytes (spent p.at n a_process) told → MayTell bytes (process_steps n (record { site = at; prefix = prefix }) p) told
   unfolding process_steps
-  not_started h = tells_first (spent n a_process) _ h
+  not_started h = tells_first (spent p.at n a_process) _ h
 
-  module _ (unstarted : Counts) (started : spent n a_process ≡ Ok unstarted) where
-    pub not_declared : {problem : ElabProblem} → MayTell (each (variable at) p.variables) problem → MayTell (process_steps n (record { site = at; prefix = prefix }) p) problem
+  module _ (unstarted : Counts) (started : spent p.at n a_process ≡ Ok unstarted) where
+    pub not_declared : {bytes : List ℕ} {told : Told} → MayTell bytes (each (variable at) p.variables) told → MayTell bytes (process_steps n (record { site = at; prefix = prefix }) p) told
     unfolding process_steps
-    not_declared h = tells_next (spent n a_process) _ unstarted started (tells_first (each (variable at) p.variables) _ h)
+    not_declared h = tells_next (spent p.at n a_process) _ unstarted started (tells_first (each (variable at) p.variables) _ h)
 
     module _ (vs : List t.Variable) (declared : each (variable at) p.variables ≡ Ok vs) where
-      pub not_held : {problem : ElabProblem} → MayTell (spent unstarted (variables_costs vs)) problem → MayTell (process_steps n (record { site = at; prefix = prefix }) p) problem
+      pub not_held : {bytes : List ℕ} {told : Told} → MayTell bytes (spent p.at unstarted (variables_costs vs)) told → MayTell bytes (process_steps n (record { site = at; prefix = prefix }) p) told
       unfolding process_steps
       not_held h =
-          tells_next (spent n a_process) _ unstarted started (tells_next (each (variable at) p.variables) _ vs declared
-          (tells_first (spent unstarted (variables_costs vs)) _ h))
+          tells_next (spent p.at n a_process) _ unstarted started (tells_next (each (variable at) p.variables) _ vs declared
+          (tells_first (spent p.at unstarted (variables_costs vs)) _ h))
 
-      module _ (unbodied : Counts) (held : spent unstarted (variables_costs vs) ≡ Ok unbodied) where
-        pub not_driven : {problem : ElabProblem} → MayTell (drives_of at p.body) problem → MayTell (process_steps n (record { site = at; prefix = prefix }) p) problem
+      module _ (unbodied : Counts) (held : spent p.at unstarted (variables_costs vs) ≡ Ok unbodied) where
+        pub not_driven : {bytes : List ℕ} {told : Told} → MayTell bytes (drives_of at p.body) told → MayTell bytes (process_steps n (record { site = at; prefix = prefix }) p) told
         unfolding process_steps
         not_driven h =
-            tells_next (spent n a_process) _ unstarted started (tells_next (each (variable at) p.variables) _ vs declared
-            (tells_next (spent unstarted (variables_costs vs)) _ unbodied held (tells_first (drives_of at p.body) _ h)))
+            tells_next (spent p.at n a_process) _ unstarted started (tells_next (each (variable at) p.variables) _ vs declared
+            (tells_next (spent p.at unstarted (variables_costs vs)) _ unbodied held (tells_first (drives_of at p.body) _ h)))
 
         module _ (ds : List ℕ) (driven : drives_of at p.body ≡ Ok ds) where
-          pub not_resumed : {problem : ElabProblem} → MayTell (sensitivity at p.sensitivity p.body) problem → MayTell (process_steps n (record { site = at; prefix = prefix }) p) problem
+          pub not_resumed : {bytes : List ℕ} {told : Told} → MayTell bytes (sensitivity at p.sensitivity p.body) told → MayTell bytes (process_steps n (record { site = at; prefix = prefix }) p) told
           unfolding process_steps
           not_resumed h =
-              tells_next (spent n a_process) _ unstarted started (tells_next (each (variable at) p.variables) _ vs declared
-              (tells_next (spent unstarted (variables_costs vs)) _ unbodied held (tells_next (drives_of at p.body) _ ds driven
+              tells_next (spent p.at n a_process) _ unstarted started (tells_next (each (variable at) p.variables) _ vs declared
+              (tells_next (spent p.at unstarted (variables_costs vs)) _ unbodied held (tells_next (drives_of at p.body) _ ds driven
               (tells_first (sensitivity at p.sensitivity p.body) _ h))))
 
           module _ (on : t.Sensitivity) (resumed : sensitivity at p.sensitivity p.body ≡ Ok on) where
-            pub not_counted : {problem : ElabProblem} → MayTell (turns_paid unbodied (statements_costs at.integers p.body)) problem
-                → MayTell (process_steps n (record { site = at; prefix = prefix }) p) problem
+            pub not_counted : {bytes : List ℕ} {told : Told} → MayTell bytes (turns_paid unbodied (statements_costs at.integers p.body)) told
+                → MayTell bytes (process_steps n (record { site = at; prefix = prefix }) p) told
             unfolding process_steps
             not_counted h =
-                tells_next (spent n a_process) _ unstarted started (tells_next (each (variable at) p.variables) _ vs declared
-                (tells_next (spent unstarted (variables_costs vs)) _ unbodied held (tells_next (drives_of at p.body) _ ds driven
+                tells_next (spent p.at n a_process) _ unstarted started (tells_next (each (variable at) p.variables) _ vs declared
+                (tells_next (spent p.at unstarted (variables_costs vs)) _ unbodied held (tells_next (drives_of at p.body) _ ds driven
                 (tells_next (sensitivity at p.sensitivity p.body) _ on resumed (tells_first (turns_paid unbodied (statements_costs at.integers p.body)) _ h)))))
 
-            pub not_expanded : {problem : ElabProblem} (turned : ℕ × Counts) → turns_paid unbodied (statements_costs at.integers p.body) ≡ Ok turned
-                → MayTell (statements (with_variables at vs) p.body) problem → MayTell (process_steps n (record { site = at; prefix = prefix }) p) problem
+            pub not_expanded : {bytes : List ℕ} {told : Told} (turned : ℕ × Counts) → turns_paid unbodied (statements_costs at.integers p.body) ≡ Ok turned
+                → MayTell bytes (statements (with_variables at vs) p.body) told → MayTell bytes (process_steps n (record { site = at; prefix = prefix }) p) told
             unfolding process_steps
             not_expanded turned counted h =
-                tells_next (spent n a_process) _ unstarted started (tells_next (each (variable at) p.variables) _ vs declared
-                (tells_next (spent unstarted (variables_costs vs)) _ unbodied held (tells_next (drives_of at p.body) _ ds driven
+                tells_next (spent p.at n a_process) _ unstarted started (tells_next (each (variable at) p.variables) _ vs declared
+                (tells_next (spent p.at unstarted (variables_costs vs)) _ unbodied held (tells_next (drives_of at p.body) _ ds driven
                 (tells_next (sensitivity at p.sensitivity p.body) _ on resumed
                 (tells_next (turns_paid unbodied (statements_costs at.integers p.body)) _ turned counted (tells_first (statements (with_variables at vs) p.body) _ h))))))

@@ -105,65 +105,65 @@ module _ (f : ℤ → Elab bodies.Stmts) (g : ℤ → Elab ℕ) (h : ℤ → Ela
 mutual
   unfolding statement statements branches alternatives statement_turns statements_turns branches_turns alternatives_turns statement_costs statements_costs branches_costs alternatives_costs
 
-  statement-measured : (at by : Site) → by.integers ≡ at.integers → (s : u.Statement) (x : bodies.Stmts) → statement at s ≡ Ok x
-      → Measured (statement_costs at.integers s) (statement_turns by s) (statements_count x)
-  statement-measured at by same u.null_of x h = recount _ _ 1 _ (ap statements_count (ok (one bodies.null_of) x h)) simple
-  statement-measured at by same (u.assign p g) x h =
-      let es = bound (place_elements at p) _ x h in
-      let v = bound (d.value_given at (length es.x) g) _ x es.then_gave in
+  statement-measured : (here by : Site) → by.integers ≡ here.integers → (s : u.Statement) (x : bodies.Stmts) → statement here s ≡ Ok x
+      → Measured (statement_costs here.integers s) (statement_turns by s) (statements_count x)
+  statement-measured here by same u.null_of x h = recount _ _ 1 _ (ap statements_count (ok (one bodies.null_of) x h)) simple
+  statement-measured here by same (u.assign p g) x h =
+      let es = bound (place_elements here p) _ x h in
+      let v = bound (d.value_given here p.at (length es.x) g) _ x es.then_gave in
       recount _ _ 1 _ (ap statements_count (ok (one (bodies.assign es.x v.x)) x v.then_gave)) simple
-  statement-measured at by same (u.set k part g) x h =
-      let es = bound (variable_elements at k part) _ x h in
-      let v = bound (d.value_given at (length es.x) g) _ x es.then_gave in
+  statement-measured here by same (u.set at k part g) x h =
+      let es = bound (variable_elements here at k part) _ x h in
+      let v = bound (d.value_given here at (length es.x) g) _ x es.then_gave in
       recount _ _ 1 _ (ap statements_count (ok (one (bodies.set es.x v.x)) x v.then_gave)) simple
-  statement-measured at by same (u.if_of bs) x h =
-      let cs = bound (branches at bs) _ x h in
-      recount _ _ _ _ (ap statements_count (ok (one (bodies.if_of cs.x)) x cs.then_gave)) (inside _ _ _ (branches-measured at by same bs cs.x cs.gave))
-  statement-measured at by same (u.case_of v alts) x h =
-      let e = bound (value at v) _ x h in
-      let cs = bound (alternatives at (value_width e.x) alts) _ x e.then_gave in
-      recount _ _ _ _ (ap statements_count (ok (one (bodies.case_of e.x cs.x)) x cs.then_gave)) (inside _ _ _ (alternatives-measured at by same (value_width e.x) alts cs.x cs.gave))
-  statement-measured at by same (u.for_of r body) x h =
-      let is = bound (turns at.integers r) _ x h in
-      let ss = bound (each (λ i. statements (in_loop at i) body) is.x) _ x is.then_gave in
+  statement-measured here by same (u.if_of at bs) x h =
+      let cs = bound (branches here bs) _ x h in
+      recount _ _ _ _ (ap statements_count (ok (one (bodies.if_of cs.x)) x cs.then_gave)) (inside _ _ _ (branches-measured here by same bs cs.x cs.gave))
+  statement-measured here by same (u.case_of at v alts) x h =
+      let e = bound (value here at v) _ x h in
+      let cs = bound (alternatives here at (value_width e.x) alts) _ x e.then_gave in
+      recount _ _ _ _ (ap statements_count (ok (one (bodies.case_of e.x cs.x)) x cs.then_gave)) (inside _ _ _ (alternatives-measured here by same at (value_width e.x) alts cs.x cs.gave))
+  statement-measured here by same (u.for_of at r body) x h =
+      let is = bound (turns here.integers at r) _ x h in
+      let ss = bound (each (λ i. statements (in_loop here i) body) is.x) _ x is.then_gave in
       recount _ _ _ _ (ap statements_count (ok (joined_bodies ss.x) x ss.then_gave))
-      (loop-measured (λ i. statements (in_loop at i) body) (λ i. statements_turns (in_loop by i) body) (λ i. statements_costs (in_turn at.integers i) body)
-      (λ i y e. statements-measured (in_loop at i) (in_loop by i) (ap (λ j. in_turn j i) same) body y e)
-      (turns at.integers r) (turns by.integers r) is.x ss.x is.gave (ap (λ j. turns j r) same ∙ is.gave) ss.gave)
+      (loop-measured (λ i. statements (in_loop here i) body) (λ i. statements_turns (in_loop by i) body) (λ i. statements_costs (in_turn here.integers i) body)
+      (λ i y e. statements-measured (in_loop here i) (in_loop by i) (ap (λ j. in_turn j i) same) body y e)
+      (turns here.integers at r) (turns by.integers at r) is.x ss.x is.gave (ap (λ j. turns j at r) same ∙ is.gave) ss.gave)
 
-  pub statements-measured : (at by : Site) → by.integers ≡ at.integers → (s : u.Statements) (x : bodies.Stmts) → statements at s ≡ Ok x
-      → Measured (statements_costs at.integers s) (statements_turns by s) (statements_count x)
-  statements-measured at by same u.done x h = recount _ _ 0 _ (ap statements_count (ok bodies.done x h)) nothing
-  statements-measured at by same (u.step s rest) x h =
-      let first = bound (statement at s) _ x h in
-      let more = bound (statements at rest) _ x first.then_gave in
+  pub statements-measured : (here by : Site) → by.integers ≡ here.integers → (s : u.Statements) (x : bodies.Stmts) → statements here s ≡ Ok x
+      → Measured (statements_costs here.integers s) (statements_turns by s) (statements_count x)
+  statements-measured here by same u.done x h = recount _ _ 0 _ (ap statements_count (ok bodies.done x h)) nothing
+  statements-measured here by same (u.step s rest) x h =
+      let first = bound (statement here s) _ x h in
+      let more = bound (statements here rest) _ x first.then_gave in
       recount _ _ _ _ (sym (followed-count first.x more.x) ∙ ap statements_count (ok (bodies.followed_by first.x more.x) x more.then_gave))
-      (add _ _ _ _ _ _ (statement-measured at by same s first.x first.gave) (statements-measured at by same rest more.x more.gave))
+      (add _ _ _ _ _ _ (statement-measured here by same s first.x first.gave) (statements-measured here by same rest more.x more.gave))
 
-  branches-measured : (at by : Site) → by.integers ≡ at.integers → (s : u.Branches) (x : bodies.Branches) → branches at s ≡ Ok x
-      → Measured (branches_costs at.integers s) (branches_turns by s) (branches_count x)
-  branches-measured at by same u.no_else x h = recount _ _ 0 _ (ap branches_count (ok bodies.no_else x h)) nothing
-  branches-measured at by same (u.otherwise s) x h =
-      let y = bound (statements at s) _ x h in
-      recount _ _ _ _ (ap branches_count (ok (bodies.otherwise y.x) x y.then_gave)) (statements-measured at by same s y.x y.gave)
-  branches-measured at by same (u.branch t s bs) x h =
-      let c = bound (test at t) _ x h in
-      let y = bound (statements at s) _ x c.then_gave in
-      let z = bound (branches at bs) _ x y.then_gave in
+  branches-measured : (here by : Site) → by.integers ≡ here.integers → (s : u.Branches) (x : bodies.Branches) → branches here s ≡ Ok x
+      → Measured (branches_costs here.integers s) (branches_turns by s) (branches_count x)
+  branches-measured here by same u.no_else x h = recount _ _ 0 _ (ap branches_count (ok bodies.no_else x h)) nothing
+  branches-measured here by same (u.otherwise s) x h =
+      let y = bound (statements here s) _ x h in
+      recount _ _ _ _ (ap branches_count (ok (bodies.otherwise y.x) x y.then_gave)) (statements-measured here by same s y.x y.gave)
+  branches-measured here by same (u.branch t s bs) x h =
+      let c = bound (test here t) _ x h in
+      let y = bound (statements here s) _ x c.then_gave in
+      let z = bound (branches here bs) _ x y.then_gave in
       recount _ _ _ _ (ap branches_count (ok (bodies.branch c.x y.x z.x) x z.then_gave))
-      (add _ _ _ _ _ _ (statements-measured at by same s y.x y.gave) (branches-measured at by same bs z.x z.gave))
+      (add _ _ _ _ _ _ (statements-measured here by same s y.x y.gave) (branches-measured here by same bs z.x z.gave))
 
-  alternatives-measured : (at by : Site) → by.integers ≡ at.integers → (len : ℕ) (s : u.Alternatives) (x : bodies.Alternatives) → alternatives at len s ≡ Ok x
-      → Measured (alternatives_costs at.integers s) (alternatives_turns by s) (alternatives_count x)
-  alternatives-measured at by same len (u.others s) x h =
-      let y = bound (statements at s) _ x h in
-      recount _ _ _ _ (ap alternatives_count (ok (bodies.others y.x) x y.then_gave)) (statements-measured at by same s y.x y.gave)
-  alternatives-measured at by same len (u.alternative choices s alts) x h =
-      let cs = bound (each (choice len) choices) _ x h in
-      let y = bound (statements at s) _ x cs.then_gave in
-      let z = bound (alternatives at len alts) _ x y.then_gave in
+  alternatives-measured : (here by : Site) → by.integers ≡ here.integers → (at len : ℕ) (s : u.Alternatives) (x : bodies.Alternatives) → alternatives here at len s ≡ Ok x
+      → Measured (alternatives_costs here.integers s) (alternatives_turns by s) (alternatives_count x)
+  alternatives-measured here by same at len (u.others s) x h =
+      let y = bound (statements here s) _ x h in
+      recount _ _ _ _ (ap alternatives_count (ok (bodies.others y.x) x y.then_gave)) (statements-measured here by same s y.x y.gave)
+  alternatives-measured here by same at len (u.alternative choices s alts) x h =
+      let cs = bound (each (choice at len) choices) _ x h in
+      let y = bound (statements here s) _ x cs.then_gave in
+      let z = bound (alternatives here at len alts) _ x y.then_gave in
       recount _ _ _ _ (ap alternatives_count (ok (bodies.alternative cs.x y.x z.x) x z.then_gave))
-      (add _ _ _ _ _ _ (statements-measured at by same s y.x y.gave) (alternatives-measured at by same len alts z.x z.gave))
+      (add _ _ _ _ _ _ (statements-measured here by same s y.x y.gave) (alternatives-measured here by same at len alts z.x z.gave))
 
 -- ---- the turns are those of the costs, given or refused
 
@@ -172,12 +172,12 @@ turns_of q = q >>= λ c. given c.turns
 
 add-turned : (p q : Elab Counts) → (turns_of p >>= λ x. turns_of q >>= λ y. given (x + y)) ≡ turns_of (both p q)
 add-turned (Ok a) (Ok b) = refl
-add-turned (Ok a) (Err problem) = refl
-add-turned (Err problem) q = refl
+add-turned (Ok a) (Err told) = refl
+add-turned (Err told) q = refl
 
 inside-turned : (q : Elab Counts) → turns_of q ≡ turns_of (both (given a_statement) q)
 inside-turned (Ok c) = ap given (sym (none-before c.turns))
-inside-turned (Err problem) = refl
+inside-turned (Err told) = refl
 
 step-turned : (a : Elab ℕ) (rest : Elab (List ℕ)) (p q : Elab Counts) → a ≡ turns_of p → (rest >>= λ ns. given (sum ns)) ≡ turns_of q
     → ((a >>= λ y. rest >>= λ ys. given (y ∷ ys)) >>= λ ns. given (sum ns)) ≡ turns_of (both p q)
@@ -202,32 +202,32 @@ module _ (g : ℤ → Elab ℕ) (h : ℤ → Elab Counts) (same : (i : ℤ) → 
 
   loop-turned : (q : Elab (List ℤ)) → (q >>= λ is. each g is >>= λ ns. given (length is + sum ns)) ≡ turns_of (q >>= λ is. both (given (costs.turns (length is))) (together h is))
   loop-turned (Ok is) = behind-turned (length is) (each g is) (together h is) (each-turned is)
-  loop-turned (Err problem) = refl
+  loop-turned (Err told) = refl
 
 mutual
   unfolding statement_turns statements_turns branches_turns alternatives_turns statement_costs statements_costs branches_costs alternatives_costs
 
-  statement-turned : (at : Site) (s : u.Statement) → statement_turns at s ≡ turns_of (statement_costs at.integers s)
-  statement-turned at u.null_of = refl
-  statement-turned at (u.assign p g) = refl
-  statement-turned at (u.set k part g) = refl
-  statement-turned at (u.if_of bs) = branches-turned at bs ∙ inside-turned (branches_costs at.integers bs)
-  statement-turned at (u.case_of v alts) = alternatives-turned at alts ∙ inside-turned (alternatives_costs at.integers alts)
-  statement-turned at (u.for_of r body) =
-      loop-turned (λ i. statements_turns (in_loop at i) body) (λ i. statements_costs (in_turn at.integers i) body) (λ i. statements-turned (in_loop at i) body) (turns at.integers r)
+  statement-turned : (here : Site) (s : u.Statement) → statement_turns here s ≡ turns_of (statement_costs here.integers s)
+  statement-turned here u.null_of = refl
+  statement-turned here (u.assign p g) = refl
+  statement-turned here (u.set at k part g) = refl
+  statement-turned here (u.if_of at bs) = branches-turned here bs ∙ inside-turned (branches_costs here.integers bs)
+  statement-turned here (u.case_of at v alts) = alternatives-turned here alts ∙ inside-turned (alternatives_costs here.integers alts)
+  statement-turned here (u.for_of at r body) =
+      loop-turned (λ i. statements_turns (in_loop here i) body) (λ i. statements_costs (in_turn here.integers i) body) (λ i. statements-turned (in_loop here i) body) (turns here.integers at r)
 
-  pub statements-turned : (at : Site) (s : u.Statements) → statements_turns at s ≡ turns_of (statements_costs at.integers s)
-  statements-turned at u.done = refl
-  statements-turned at (u.step s rest) =
-      (λ i. statement-turned at s i >>= λ m. statements-turned at rest i >>= λ n. given (m + n)) ∙ add-turned (statement_costs at.integers s) (statements_costs at.integers rest)
+  pub statements-turned : (here : Site) (s : u.Statements) → statements_turns here s ≡ turns_of (statements_costs here.integers s)
+  statements-turned here u.done = refl
+  statements-turned here (u.step s rest) =
+      (λ i. statement-turned here s i >>= λ m. statements-turned here rest i >>= λ n. given (m + n)) ∙ add-turned (statement_costs here.integers s) (statements_costs here.integers rest)
 
-  branches-turned : (at : Site) (s : u.Branches) → branches_turns at s ≡ turns_of (branches_costs at.integers s)
-  branches-turned at u.no_else = refl
-  branches-turned at (u.otherwise s) = statements-turned at s
-  branches-turned at (u.branch t s bs) =
-      (λ i. statements-turned at s i >>= λ m. branches-turned at bs i >>= λ n. given (m + n)) ∙ add-turned (statements_costs at.integers s) (branches_costs at.integers bs)
+  branches-turned : (here : Site) (s : u.Branches) → branches_turns here s ≡ turns_of (branches_costs here.integers s)
+  branches-turned here u.no_else = refl
+  branches-turned here (u.otherwise s) = statements-turned here s
+  branches-turned here (u.branch t s bs) =
+      (λ i. statements-turned here s i >>= λ m. branches-turned here bs i >>= λ n. given (m + n)) ∙ add-turned (statements_costs here.integers s) (branches_costs here.integers bs)
 
-  alternatives-turned : (at : Site) (s : u.Alternatives) → alternatives_turns at s ≡ turns_of (alternatives_costs at.integers s)
-  alternatives-turned at (u.others s) = statements-turned at s
-  alternatives-turned at (u.alternative choices s alts) =
-      (λ i. statements-turned at s i >>= λ m. alternatives-turned at alts i >>= λ n. given (m + n)) ∙ add-turned (statements_costs at.integers s) (alternatives_costs at.integers alts)
+  alternatives-turned : (here : Site) (s : u.Alternatives) → alternatives_turns here s ≡ turns_of (alternatives_costs here.integers s)
+  alternatives-turned here (u.others s) = statements-turned here s
+  alternatives-turned here (u.alternative choices s alts) =
+      (λ i. statements-turned here s i >>= λ m. alternatives-turned here alts i >>= λ n. given (m + n)) ∙ add-turned (statements_costs here.integers s) (alternatives_costs here.integers alts)

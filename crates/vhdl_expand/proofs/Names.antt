@@ -1,15 +1,16 @@
 -- One thing for each name of a declaration, and actuals by their number.
-use Rattle.std.proofs.Common.{◌≡◌, ℕ, zero, suc, List, [], ◌∷◌, map, drop, Option, Some, None, option_map, refl, sym, ap, ◌∙◌}
+use Rattle.std.proofs.Common.{◌≡◌, ℕ, zero, suc, List, [], ◌∷◌, map, drop, Option, Some, None, option_map, get_or, refl, sym, ap, ◌∙◌}
 use Rattle.std.specs.Borrow.{Bor}
 use Rattle.std.specs.Prelude.{slice_get}
+use Rattle.std.proofs.lemmas.Option.{same_Some}
 use Rattle.vhdl_tree.specs.declared.expression.Identifier.{Identifier}
 use Rattle.vhdl_tree.specs.View.{ident_view}
-use Rattle.vhdl_names_rules.specs.Visibility.{Name, names_of}
+use Rattle.vhdl_tree.specs.Tree.{Ident}
 use Rattle.vhdl_expand_rules.specs.Declarations.{first_of}
 
-pub named : {A : Type 0} (f : Name → A) (ns : List Identifier) → map f (names_of (map ident_view ns)) ≡ map (λ n. f n.text.items) ns
+pub named : {A : Type 0} (f : Ident → A) (ns : List Identifier) → map f (map ident_view ns) ≡ map (λ n. f (ident_view n)) ns
 named f [] = refl
-named f (n ∷ ns) = ap (λ xs. f n.text.items ∷ xs) (named f ns)
+named f (n ∷ ns) = ap (λ xs. f (ident_view n) ∷ xs) (named f ns)
 
 first-mapped : {A B : Type 0} (f : A → B) (n : ℕ) (xs : List (Option A)) → first_of (drop n (map (option_map f) xs)) ≡ option_map f (first_of (drop n xs))
 first-mapped f zero [] = refl
@@ -28,3 +29,8 @@ actual_seen f n xs o h = behind-reference f o ∙ ap (option_map f) h ∙ sym (f
 pub no_names : {A : Type 0} (xs : List A) → slice_get xs 0 ≡ None → xs ≡ []
 no_names [] h = refl
 no_names (x ∷ xs) h = absurd cc
+
+-- the first of them, as it is looked up
+pub first_got : {A : Type 0} (xs : List A) (x : A) → slice_get xs 0 ≡ Some x → x ≡ get_or xs 0 x
+first_got [] x h = absurd cc
+first_got (y ∷ ys) x h = sym (same_Some y x h)

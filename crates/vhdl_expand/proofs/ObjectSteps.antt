@@ -6,7 +6,7 @@ use Rattle.vhdl_tree.specs.declared.declaration.Mode.{Mode}
 use Rattle.vhdl_tree.specs.declared.declaration.Mode.TheVariants.{In, Out}
 use Rattle.vhdl_names_rules.specs.units.Units as u
 use Rattle.vhdl_names_rules.specs.units.Units.{Fixed, Form, Port, Declaration}
-use Rattle.vhdl_expand_rules.specs.Elab.{Elab, ◌>>=◌}
+use Rattle.vhdl_expand_rules.specs.Elab.{Elab, ◌>>=◌, Told}
 use Rattle.vhdl_expand_rules.specs.Kinds.{ObjectKind, kind_of}
 use Rattle.vhdl_expand_rules.specs.Site.{Site}
 use Rattle.vhdl_expand_rules.specs.Tree.{Role, input, output, internal, Object}
@@ -16,12 +16,11 @@ use Rattle.vhdl_expand_rules.proofs.Chains.{err_first}
 use Rattle.vhdl_expand.specs.Objects.{next_object, shape_of, shaped, with_object}
 use Rattle.vhdl_expand.specs.Stepwise.{stepwise}
 use Rattle.vhdl_expand.proofs.Growing.{starts_stay}
-use Rattle.vhdl_expand_rules.specs.declared.fault.ElabProblem.{ElabProblem}
 use Rattle.vhdl_expand.proofs.Stepping.{goes_alike, of_both, walks_alike}
 
-object-by : (at : Site) (role : Role) (o : u.Object) → object at role o ≡ shape_of at o.form o.default >>= λ (p : ObjectKind × List ℕ). given (shaped p role o)
+object-by : (here : Site) (role : Role) (o : u.Object) → object here role o ≡ shape_of here o.at o.form o.default >>= λ (p : ObjectKind × List ℕ). given (shaped p role o)
 unfolding object
-object-by at role o = of_both (kind_of at.integers o.form) (λ kind. starts at kind o.default) (λ kind vs. shaped (kind, vs) role o)
+object-by here role o = of_both (kind_of here.integers o.at o.form) (λ kind. starts here o.at kind o.default) (λ kind vs. shaped (kind, vs) role o)
 
 -- what is made of an object that is given
 made : (r : Elab (ObjectKind × List ℕ)) (o : u.Object) (role : Role) (f g : Object → InstanceObjects) → ((p : ObjectKind × List ℕ) → f (shaped p role o) ≡ g (shaped p role o))
@@ -29,49 +28,49 @@ made : (r : Elab (ObjectKind × List ℕ)) (o : u.Object) (role : Role) (f g : O
 made (Ok p) o role f g h = ap given (h p)
 made (Err p) o role f g h = refl
 
-made-of-object : (at : Site) (o : u.Object) (role : Role) (f g : Object → InstanceObjects) → ((p : ObjectKind × List ℕ) → f (shaped p role o) ≡ g (shaped p role o))
-    → (object at role o >>= λ x. given (f x)) ≡ (object at role o >>= λ x. given (g x))
-made-of-object at o role f g h =
-    ap (λ r. r >>= λ x. given (f x)) (object-by at role o) ∙ made (shape_of at o.form o.default) o role f g h ∙ ap (λ r. r >>= λ x. given (g x)) (sym (object-by at role o))
+made-of-object : (here : Site) (o : u.Object) (role : Role) (f g : Object → InstanceObjects) → ((p : ObjectKind × List ℕ) → f (shaped p role o) ≡ g (shaped p role o))
+    → (object here role o >>= λ x. given (f x)) ≡ (object here role o >>= λ x. given (g x))
+made-of-object here o role f g h =
+    ap (λ r. r >>= λ x. given (f x)) (object-by here role o) ∙ made (shape_of here o.at o.form o.default) o role f g h ∙ ap (λ r. r >>= λ x. given (g x)) (sym (object-by here role o))
 
 -- ---- one more object
 
-pub object_given : (d : InstanceObjects) (role : Role) (o : u.Object) (p : ObjectKind × List ℕ) (x : Object) (new : InstanceObjects) → shape_of d.site o.form o.default ≡ Ok p
+pub object_given : (d : InstanceObjects) (role : Role) (o : u.Object) (p : ObjectKind × List ℕ) (x : Object) (new : InstanceObjects) → shape_of d.site o.at o.form o.default ≡ Ok p
     → x ≡ shaped p role o → new ≡ with_object d x → next_object role d o ≡ Ok new
 object_given d role o p x new h e f =
     ap (λ r. r >>= λ y. given (with_object d y)) (object-by d.site role o ∙ ap (λ r. r >>= λ (q : ObjectKind × List ℕ). given (shaped q role o)) h)
     ∙ ap (λ y. given (with_object d y)) (sym e) ∙ ap given (sym f)
 
-pub object_refused : {problem : ElabProblem} → (d : InstanceObjects) (role : Role) (o : u.Object) → (shape_of d.site o.form o.default) ≡ Err problem → (next_object role d o) ≡ Err problem
-object_refused {problem} d role o h =
+pub object_refused : {told : Told} → (d : InstanceObjects) (role : Role) (o : u.Object) → (shape_of d.site o.at o.form o.default) ≡ Err told → (next_object role d o) ≡ Err told
+object_refused {told} d role o h =
     err_first (object d.site role o) (λ y. given (with_object d y))
-    (subst (λ (r : Elab Object). r ≡ Err problem) (sym (object-by d.site role o)) (err_first (shape_of d.site o.form o.default) (λ (q : ObjectKind × List ℕ). given (shaped q role o)) h))
+    (subst (λ (r : Elab Object). r ≡ Err told) (sym (object-by d.site role o)) (err_first (shape_of d.site o.at o.form o.default) (λ (q : ObjectKind × List ℕ). given (shaped q role o)) h))
 
-stays : (at new : Site) (form : Form) (default : Option Fixed) → new.integers ≡ at.integers → ((kind : ObjectKind) → starts new kind default ≡ starts at kind default)
-    → shape_of new form default ≡ shape_of at form default
-stays at new form default e h =
-    ap (λ i. kind_of i form >>= λ kind. starts new kind default >>= λ vs. given (kind, vs)) e
-    ∙ goes_alike (kind_of at.integers form) (λ kind. starts new kind default >>= λ vs. given (kind, vs)) (λ kind. starts at kind default >>= λ vs. given (kind, vs))
+stays : (here new : Site) (at : ℕ) (form : Form) (default : Option Fixed) → new.integers ≡ here.integers → ((kind : ObjectKind) → starts new at kind default ≡ starts here at kind default)
+    → shape_of new at form default ≡ shape_of here at form default
+stays here new at form default e h =
+    ap (λ i. kind_of i at form >>= λ kind. starts new at kind default >>= λ vs. given (kind, vs)) e
+    ∙ goes_alike (kind_of here.integers at form) (λ kind. starts new at kind default >>= λ vs. given (kind, vs)) (λ kind. starts here at kind default >>= λ vs. given (kind, vs))
     (λ kind. ap (λ r. r >>= λ vs. given (kind, vs)) (h kind))
 
 -- the next object of the declaration is like it
-pub shape_stays : (d new : InstanceObjects) (x : Object) (form : Form) (default : Option Fixed) → new ≡ with_object d x → shape_of new.site form default ≡ shape_of d.site form default
-shape_stays d new x form default e = ap (λ (n : InstanceObjects). shape_of n.site form default) e ∙ by x.role
+pub shape_stays : (d new : InstanceObjects) (x : Object) (at : ℕ) (form : Form) (default : Option Fixed) → new ≡ with_object d x → shape_of new.site at form default ≡ shape_of d.site at form default
+shape_stays d new x at form default e = ap (λ (n : InstanceObjects). shape_of n.site at form default) e ∙ by x.role
   where
-    port : shape_of (with_port d x).site form default ≡ shape_of d.site form default
-    port = stays d.site (with_port d x).site form default refl (λ kind. starts_stay d.site (d.site.ports ++ x.kind ∷ []) d.site.signals kind default)
+    port : shape_of (with_port d x).site at form default ≡ shape_of d.site at form default
+    port = stays d.site (with_port d x).site at form default refl (λ kind. starts_stay d.site (d.site.ports ++ x.kind ∷ []) d.site.signals at kind default)
 
-    by : (role : Role) → shape_of (with_object d (record x { role = role })).site form default ≡ shape_of d.site form default
+    by : (role : Role) → shape_of (with_object d (record x { role = role })).site at form default ≡ shape_of d.site at form default
     by input = port
     by output = port
-    by internal = stays d.site (with_signal d x).site form default refl (λ kind. starts_stay d.site d.site.ports (d.site.signals ++ x.kind ∷ []) kind default)
+    by internal = stays d.site (with_signal d x).site at form default refl (λ kind. starts_stay d.site d.site.ports (d.site.signals ++ x.kind ∷ []) at kind default)
 
-pub first_refused : {problem : ElabProblem} → {X : Type 0} (role : Role) (d : InstanceObjects) (v : X → u.Object) (xs : List X) (x : X) → slice_get xs 0 ≡ Some x
-    → (shape_of d.site (v x).form (v x).default) ≡ Err problem → (stepwise (next_object role) d (map v xs)) ≡ Err problem
+pub first_refused : {told : Told} → {X : Type 0} (role : Role) (d : InstanceObjects) (v : X → u.Object) (xs : List X) (x : X) → slice_get xs 0 ≡ Some x
+    → (shape_of d.site (v x).at (v x).form (v x).default) ≡ Err told → (stepwise (next_object role) d (map v xs)) ≡ Err told
 first_refused role d v [] x h e = absurd cc
-first_refused {problem} role d v (y ∷ xs) x h e =
+first_refused {told} role d v (y ∷ xs) x h e =
     err_first (next_object role d (v y)) (λ t. stepwise (next_object role) t (map v xs))
-    (object_refused d role (v y) (subst (λ (z : _). (shape_of d.site (v z).form (v z).default) ≡ Err problem) (sym (same_Some y x h)) e))
+    (object_refused d role (v y) (subst (λ (z : _). (shape_of d.site (v z).at (v z).form (v z).default) ≡ Err told) (sym (same_Some y x h)) e))
 
 -- ---- ports
 

@@ -3,28 +3,21 @@ use Rattle.std.proofs.Common.{◌≡◌, ℕ, zero, suc, ◌+◌, ◌<◌, ◌�
 use Rattle.std.specs.Prelude.{ℤ}
 use Rattle.vhdl_tree.specs.declared.operator.Direction.{Direction}
 use Rattle.vhdl_expand_rules.specs.declared.fault.ElabFault.{ElabFault}
-use Rattle.vhdl_expand_rules.specs.Elab.{Elab, ◌>>=◌, MayTell}
+use Rattle.vhdl_expand_rules.specs.Elab.{Elab, ◌>>=◌, MayTell, Told}
 use Rattle.vhdl_expand_rules.specs.Integers.{numbers_from, next}
 use Rattle.vhdl_expand_rules.specs.Parameters.{parameter}
 use Rattle.vhdl_expand_rules.proofs.Parameters.{next-turn, no-turn}
 use Rattle.vhdl_expand_bodies.specs.Results.{Expands, Charges}
 use Rattle.vhdl_elab_rules.specs.Limits.{Counts}
-use Rattle.vhdl_expand_rules.specs.views.Integers.{Makes}
 use Rattle.vhdl_expand_tree.specs.Costs.{spent}
-use Rattle.vhdl_expand_tree.proofs.Alike.{Alike, wrong, alike_same, alike_trans, both_refused, tells, tells_first}
+use Rattle.vhdl_expand_tree.proofs.Alike.{Alike, wrong, alike_same, alike_trans, both_refused, tells_first}
 use Rattle.vhdl_expand_tree.proofs.Charging.{spent-plus, spent-none, spent_told}
-use Rattle.vhdl_expand_rules.specs.declared.fault.ElabProblem.{ElabProblem}
 use Rattle.vhdl_expand_rules.specs.declared.fault.ElabProblem.TheVariants.{TooMany}
 use Rattle.vhdl_expand.specs.Unrolled.{both, together, paid}
 
-pub charges_alike : {X Y : Type 0} (view : X → Y) (p q : Elab Y) (r : Result X ElabFault) → Alike p q → Charges view q r → Charges view p r
-charges_alike view p q (Ok x) a h = a.gives (view x) h
-charges_alike view p q (Err fault) a h = λ n. a.stops _ (h n)
-
--- costs that are taken by a call that takes no memory
-pub charges_made : {X Y : Type 0} (view : X → Y) (p q : Elab Y) (r : Result X ElabFault) → p ≡ q → Makes view q r → Charges view p r
-charges_made view p q (Ok x) e h = e ∙ h
-charges_made view p q (Err fault) e h = λ n. tells (e ∙ h)
+pub charges_alike : (bytes : List ℕ) {X Y : Type 0} (view : X → Y) (p q : Elab Y) (r : Result X ElabFault) → Alike p q → Charges bytes view q r → Charges bytes view p r
+charges_alike bytes view p q (Ok x) a h = a.gives (view x) h
+charges_alike bytes view p q (Err fault) a h = λ n. a.stops _ _ (h n)
 
 pub expands_same : {X Y : Type 0} (view : X → Y) (p q : Elab Y) (r : Result X ElabFault) → p ≡ q → Expands view q r → Expands view p r
 expands_same {X} {Y} view p q r e h = subst (λ (a : Elab Y). Expands view a r) (sym e) h
@@ -32,19 +25,19 @@ expands_same {X} {Y} view p q r e h = subst (λ (a : Elab Y). Expands view a r) 
 -- ---- one after another
 
 pub paid_in_turn : (n : Counts) (p q : Elab Counts) → Alike (paid n (both p q)) (paid n p >>= λ m. paid m q)
-paid_in_turn n (Err problem) q = alike_same refl
-paid_in_turn n (Ok a) (Ok b) = alike_same (spent-plus a b n)
-paid_in_turn n (Ok a) (Err problem) = go (spent n a) (spent_told n a)
+paid_in_turn n (Err told) q = alike_same refl
+paid_in_turn n (Ok a) (Ok b) = alike_same (spent-plus 0 a b n)
+paid_in_turn n (Ok a) (Err told) = go (spent 0 n a) (spent_told 0 n a)
   where
-    go : (r : Elab Counts) → ((other : ElabProblem) → r ≡ Err other → other ≡ TooMany) → Alike {A = Counts} (wrong problem) (r >>= λ m. wrong problem)
+    go : (r : Elab Counts) → ((other : Told) → r ≡ Err other → other.0 ≡ TooMany) → Alike {A = Counts} (wrong told) (r >>= λ m. wrong told)
     go (Ok m) only = alike_same refl
     go (Err other) only = both_refused (only other refl) refl
 
 pub paid_go : (total : Elab Counts) (n m : Counts) (p q : Elab Counts) → Alike total (paid n (both p q)) → paid n p ≡ Ok m → Alike total (paid m q)
 paid_go total n m p q so_far h = alike_trans so_far (alike_trans (paid_in_turn n p q) (alike_same (ap (λ r. r >>= λ k. paid k q) h)))
 
-pub paid_stop : {problem : ElabProblem} → (total : Elab Counts) (n : Counts) (p q : Elab Counts) → Alike total (paid n (both p q)) → MayTell (paid n p) problem → MayTell total problem
-paid_stop total n p q so_far h = (alike_trans so_far (paid_in_turn n p q)).stops _ (tells_first (paid n p) _ h)
+pub paid_stop : {bytes : List ℕ} {told : Told} → (total : Elab Counts) (n : Counts) (p q : Elab Counts) → Alike total (paid n (both p q)) → MayTell bytes (paid n p) told → MayTell bytes total told
+paid_stop total n p q so_far h = (alike_trans so_far (paid_in_turn n p q)).stops _ _ (tells_first (paid n p) _ h)
 
 -- ---- of lists
 
@@ -58,14 +51,14 @@ module _ {A X : Type 0} (f : A → Elab Counts) (v : X → A) where
       paid_go total n m (f (v x)) (together f (map v (drop (i + 1) xs)))
       (alike_trans so_far (alike_same (ap (λ ys. paid n (together f (map v ys))) (next-left xs i x below is)))) h
 
-  pub list_stop : {problem : ElabProblem} → (total : Elab Counts) (n : Counts) (xs : List X) (i : ℕ) (x : X) → i < length xs → x ≡ get_or xs i x
-      → Alike total (paid n (together f (map v (drop i xs)))) → MayTell (paid n (f (v x))) problem → MayTell total problem
+  pub list_stop : {bytes : List ℕ} {told : Told} → (total : Elab Counts) (n : Counts) (xs : List X) (i : ℕ) (x : X) → i < length xs → x ≡ get_or xs i x
+      → Alike total (paid n (together f (map v (drop i xs)))) → MayTell bytes (paid n (f (v x))) told → MayTell bytes total told
   list_stop total n xs i x below is so_far h =
       paid_stop total n (f (v x)) (together f (map v (drop (i + 1) xs)))
       (alike_trans so_far (alike_same (ap (λ ys. paid n (together f (map v ys))) (next-left xs i x below is)))) h
 
   pub list_end : (total : Elab Counts) (n : Counts) (xs : List X) → xs ≡ [] → Alike total (paid n (together f (map v xs))) → total ≡ Ok n
-  list_end total n xs h so_far = so_far.gives n (ap (λ ys. paid n (together f (map v ys))) h ∙ spent-none n)
+  list_end total n xs h so_far = so_far.gives n (ap (λ ys. paid n (together f (map v ys))) h ∙ spent-none 0 n)
 
 pub none_left : {X : Type 0} (xs : List X) (i : ℕ) → length xs ≤ i → drop i xs ≡ []
 none_left [] zero h = refl
@@ -82,11 +75,11 @@ module _ (f : ℤ → Elab Counts) (direction : Direction) (x : ℤ) (count : �
       paid_go total n m (f i) (together f (drop (k + 1) (numbers_from direction x count)))
       (alike_trans so_far (alike_same (ap (λ js. paid n (together f js)) (next-turn direction x count k below ∙ ap (λ j. j ∷ drop (k + 1) (numbers_from direction x count)) (sym is))))) h
 
-  pub turns_stop : {problem : ElabProblem} → (total : Elab Counts) (n : Counts) (k : ℕ) (i : ℤ) → k < count → i ≡ parameter direction x k
-      → Alike total (paid n (together f (drop k (numbers_from direction x count)))) → MayTell (paid n (f i)) problem → MayTell total problem
+  pub turns_stop : {bytes : List ℕ} {told : Told} → (total : Elab Counts) (n : Counts) (k : ℕ) (i : ℤ) → k < count → i ≡ parameter direction x k
+      → Alike total (paid n (together f (drop k (numbers_from direction x count)))) → MayTell bytes (paid n (f i)) told → MayTell bytes total told
   turns_stop total n k i below is so_far h =
       paid_stop total n (f i) (together f (drop (k + 1) (numbers_from direction x count)))
       (alike_trans so_far (alike_same (ap (λ js. paid n (together f js)) (next-turn direction x count k below ∙ ap (λ j. j ∷ drop (k + 1) (numbers_from direction x count)) (sym is))))) h
 
   pub turns_end : (total : Elab Counts) (n : Counts) (k : ℕ) → count ≤ k → Alike total (paid n (together f (drop k (numbers_from direction x count)))) → total ≡ Ok n
-  turns_end total n k h so_far = so_far.gives n (ap (λ js. paid n (together f js)) (no-turn direction x count k h) ∙ spent-none n)
+  turns_end total n k h so_far = so_far.gives n (ap (λ js. paid n (together f js)) (no-turn direction x count k h) ∙ spent-none 0 n)

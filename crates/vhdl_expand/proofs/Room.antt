@@ -28,11 +28,11 @@ second : (a b : Bool) → (a && b) ≡ true → b ≡ true
 second true b h = h
 second false b h = absurd cc
 
-held-within : (budget left : Counts) (vs : List t.Variable) → spent budget (variables_costs vs) ≡ Ok left → (variables_costs vs).variable_elements ≤ budget.variable_elements
-held-within budget left vs h =
+held-within : (at : ℕ) (budget left : Counts) (vs : List t.Variable) → spent at budget (variables_costs vs) ≡ Ok left → (variables_costs vs).variable_elements ≤ budget.variable_elements
+held-within at budget left vs h =
     let costs : Counts = variables_costs vs in
-    let s = bound (unless TooMany (is_within costs budget)) _ left h in
-    let instances = second (nat_le costs.processes budget.processes) _ (kept TooMany (is_within costs budget) s.x s.gave) in
+    let s = bound (unless TooMany at (is_within costs budget)) _ left h in
+    let instances = second (nat_le costs.processes budget.processes) _ (kept TooMany at (is_within costs budget) s.x s.gave) in
     let nets = second (nat_le costs.instances budget.instances) _ instances in
     let turns = second (nat_le costs.nets budget.nets) _ nets in
     let statements = second (nat_le costs.turns budget.turns) _ turns in
@@ -43,22 +43,22 @@ held-within budget left vs h =
 abbrev IsLong : t.Variable → Type 0
 IsLong v = length v.starts ≡ size v.kind
 
-variable-long : (at : Site) (o : u.Object) (v : t.Variable) → variable at o ≡ Ok v → IsLong v
+variable-long : (here : Site) (o : u.Object) (v : t.Variable) → variable here o ≡ Ok v → IsLong v
 unfolding variable
-variable-long at o v h =
-    let k = bound (kind_of at.integers o.form) _ v h in
-    let vs = bound (starts at k.x o.default) _ v k.then_gave in
-    subst IsLong (ok (record { name = o.name; kind = k.x; starts = vs.x }) v vs.then_gave) (starts-length at k.x o.default vs.x vs.gave)
+variable-long here o v h =
+    let k = bound (kind_of here.integers o.at o.form) _ v h in
+    let vs = bound (starts here o.at k.x o.default) _ v k.then_gave in
+    subst IsLong (ok (record { name = o.name; kind = k.x; starts = vs.x }) v vs.then_gave) (starts-length here o.at k.x o.default vs.x vs.gave)
 
 starts-sizes : (vs : List t.Variable) → AllByRecursion IsLong vs → map (λ (v : t.Variable). length v.starts) vs ≡ map size (map (λ (v : t.Variable). v.kind) vs)
 starts-sizes [] h = refl
 starts-sizes (v ∷ vs) h = λ i. h.0 i ∷ starts-sizes vs h.1 i
 
-pub held_few : (at : Site) (os : List u.Object) (vs : List Variable) (budget left : Counts) → each (variable at) os ≡ Ok (map variable_view vs)
-    → spent budget (variables_costs (map variable_view vs)) ≡ Ok left → elements_count (map variable_kind vs) ≤ budget.variable_elements
-held_few at os vs budget left declared held =
-    let within = held-within budget left (map variable_view vs) held in
-    let long = recursion_from_All IsLong (map variable_view vs) (each-all IsLong (variable at) os (map variable_view vs) (variable-long at) declared) in
+pub held_few : (here : Site) (at : ℕ) (os : List u.Object) (vs : List Variable) (budget left : Counts) → each (variable here) os ≡ Ok (map variable_view vs)
+    → spent at budget (variables_costs (map variable_view vs)) ≡ Ok left → elements_count (map variable_kind vs) ≤ budget.variable_elements
+held_few here at os vs budget left declared held =
+    let within = held-within at budget left (map variable_view vs) held in
+    let long = recursion_from_All IsLong (map variable_view vs) (each-all IsLong (variable here) os (map variable_view vs) (variable-long here) declared) in
     let same : (variables_costs (map variable_view vs)).variable_elements ≡ elements_count (map variable_kind vs) = ap sum (starts-sizes (map variable_view vs) long) ∙ ap elements_count (sym (kinds_seen vs)) in
     omega (arith, within, same)
 

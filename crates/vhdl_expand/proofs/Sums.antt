@@ -1,9 +1,10 @@
 -- What statements cost, by their parts, in the order in which the code comes to them.
 use Rattle.std.proofs.Common.{◌≡◌, ℕ, List, [], ◌∷◌, length, map, Option, Some, None, Vec, Global, Ok, Err, refl, sym, ap, ◌∙◌}
-use Rattle.std.specs.Prelude.{ℤ}
+use Rattle.std.specs.Prelude.{ℤ, Contains}
 use Rattle.vhdl_names_rules.specs.units.Expressions.{Range}
 use Rattle.vhdl_names_rules.specs.units.Statements as u
 use Rattle.vhdl_names_rules.specs.views.Integers.{range_view}
+use Rattle.vhdl_names_rules.specs.views.Vectors.{value_view}
 use Rattle.vhdl_tree.specs.declared.operator.Direction.{Direction}
 use Rattle.vhdl_names_units.specs.declared.sequential.Statement.{Statement}
 use Rattle.vhdl_names_units.specs.declared.sequential.Statement.TheVariants as t
@@ -15,7 +16,8 @@ use Rattle.vhdl_names_units.specs.declared.sequential.Loop.{Loop}
 use Rattle.vhdl_names_units.specs.views.Sequential as units
 use Rattle.vhdl_names_units.specs.views.Sequential.{Guarded, Chosen}
 use Rattle.vhdl_names_units.proofs.rows.Sequential as rows
-use Rattle.vhdl_expand_rules.specs.Elab.{Elab, ◌>>=◌, MayTell}
+use Rattle.vhdl_expand_rules.specs.declared.fault.ElabProblem.TheVariants.{TooMany}
+use Rattle.vhdl_expand_rules.specs.Elab.{Elab, ◌>>=◌, MayTell, Told}
 use Rattle.vhdl_expand_rules.specs.Integers.{Integers, turns, numbers_from}
 use Rattle.vhdl_expand_rules.proofs.Steps.{given}
 use Rattle.vhdl_elab_rules.specs.Limits.{Counts}
@@ -24,160 +26,171 @@ use Rattle.vhdl_expand_tree.specs.Costs.{no_costs, a_statement, spent}
 use Rattle.vhdl_expand_tree.proofs.Charging.{plus-none, plus-assoc, spent-none}
 use Rattle.vhdl_expand.specs.Unrolled.{both, paid, together, in_turn, statement_costs, statements_costs, branches_costs, alternatives_costs, guarded_costs, chosen_costs}
 use Rattle.vhdl_expand_tree.proofs.Alike.{Alike, alike_same, alike_trans, tells, tells_first}
-use Rattle.vhdl_expand_rules.specs.declared.fault.ElabProblem.{ElabProblem}
 use Rattle.vhdl_expand_rules.proofs.Parameters.{counted-length}
 use Rattle.vhdl_expand.proofs.Paying.{paid_go, paid_stop}
 
 pub both-none : (q : Elab Counts) → both (given no_costs) q ≡ q
 both-none (Ok c) = ap given (plus-none c)
-both-none (Err problem) = refl
+both-none (Err told) = refl
 
 pub both-assoc : (p q r : Elab Counts) → both (both p q) r ≡ both p (both q r)
 both-assoc (Ok a) (Ok b) (Ok c) = ap given (plus-assoc a b c)
-both-assoc (Ok a) (Ok b) (Err problem) = refl
-both-assoc (Ok a) (Err problem) r = refl
-both-assoc (Err problem) q r = refl
+both-assoc (Ok a) (Ok b) (Err told) = refl
+both-assoc (Ok a) (Err told) r = refl
+both-assoc (Err told) q r = refl
 
-module _ (at : Integers) where
-  pub statements_together : (xs : List u.Statement) → statements_costs at (units.statements_of xs) ≡ together (statement_costs at) xs
+-- ---- statements of the code
+
+pub if_view : (x : If) → units.statement_view (t.If x) ≡ u.if_of (out-If x).at (units.branches_of (units.branches_view (out-If x).branches) (units.last_of (units.option_statements_view (out-If x).otherwise)))
+if_view x = ap (λ y. units.statement_view (t.If y)) (sym (roll-out-If x)) ∙ rows.view_if (out-If x).at (out-If x).branches (out-If x).otherwise
+
+pub case_view : (x : Case) → units.statement_view (t.Case x)
+    ≡ u.case_of (out-Case x).at (value_view (out-Case x).selector) (units.alternatives_of (units.alternatives_view (out-Case x).alternatives) (units.statements_of (units.statements_view (out-Case x).others)))
+case_view x = ap (λ y. units.statement_view (t.Case y)) (sym (roll-out-Case x)) ∙ rows.view_case (out-Case x).at (out-Case x).selector (out-Case x).alternatives (out-Case x).others
+
+pub loop_view : (x : Loop) → units.statement_view (t.Loop x) ≡ u.for_of x.at (range_view x.range) (units.statements_of (units.statements_view x.statements))
+loop_view x = rows.view_loop x.at x.range x.statements
+
+module _ (here : Integers) where
+  pub statements_together : (xs : List u.Statement) → statements_costs here (units.statements_of xs) ≡ together (statement_costs here) xs
   unfolding statements_costs
   statements_together [] = refl
-  statements_together (x ∷ xs) = ap (both (statement_costs at x)) (statements_together xs)
+  statements_together (x ∷ xs) = ap (both (statement_costs here x)) (statements_together xs)
 
-  branches-together : (gs : List Guarded) (last : u.Branches) → branches_costs at (units.branches_of gs last) ≡ both (together (guarded_costs at) gs) (branches_costs at last)
+  branches-together : (gs : List Guarded) (last : u.Branches) → branches_costs here (units.branches_of gs last) ≡ both (together (guarded_costs here) gs) (branches_costs here last)
   unfolding branches_costs
-  branches-together [] last = sym (both-none (branches_costs at last))
+  branches-together [] last = sym (both-none (branches_costs here last))
   branches-together (g ∷ gs) last =
-      ap (both (guarded_costs at g)) (branches-together gs last) ∙ sym (both-assoc (guarded_costs at g) (together (guarded_costs at) gs) (branches_costs at last))
+      ap (both (guarded_costs here g)) (branches-together gs last) ∙ sym (both-assoc (guarded_costs here g) (together (guarded_costs here) gs) (branches_costs here last))
 
-  alternatives-together : (gs : List Chosen) (last : u.Statements) → alternatives_costs at (units.alternatives_of gs last) ≡ both (together (chosen_costs at) gs) (statements_costs at last)
+  alternatives-together : (gs : List Chosen) (last : u.Statements) → alternatives_costs here (units.alternatives_of gs last) ≡ both (together (chosen_costs here) gs) (statements_costs here last)
   unfolding alternatives_costs
-  alternatives-together [] last = sym (both-none (statements_costs at last))
+  alternatives-together [] last = sym (both-none (statements_costs here last))
   alternatives-together (g ∷ gs) last =
-      ap (both (chosen_costs at g)) (alternatives-together gs last) ∙ sym (both-assoc (chosen_costs at g) (together (chosen_costs at) gs) (statements_costs at last))
+      ap (both (chosen_costs here g)) (alternatives-together gs last) ∙ sym (both-assoc (chosen_costs here g) (together (chosen_costs here) gs) (statements_costs here last))
 
-  pub choose_costs : (gs : List Guarded) (last : u.Branches)
-      → statement_costs at (u.if_of (units.branches_of gs last)) ≡ both (given a_statement) (both (together (guarded_costs at) gs) (branches_costs at last))
+  pub choose_costs : (at : ℕ) (gs : List Guarded) (last : u.Branches)
+      → statement_costs here (u.if_of at (units.branches_of gs last)) ≡ both (given a_statement) (both (together (guarded_costs here) gs) (branches_costs here last))
   unfolding statement_costs
-  choose_costs gs last = ap (both (given a_statement)) (branches-together gs last)
+  choose_costs at gs last = ap (both (given a_statement)) (branches-together gs last)
 
-  pub last_none : branches_costs at (units.last_of None) ≡ Ok no_costs
+  pub last_none : branches_costs here (units.last_of None) ≡ Ok no_costs
   unfolding branches_costs
   last_none = refl
 
-  pub last_some : (xs : List u.Statement) → branches_costs at (units.last_of (Some xs)) ≡ statements_costs at (units.statements_of xs)
+  pub last_some : (xs : List u.Statement) → branches_costs here (units.last_of (Some xs)) ≡ statements_costs here (units.statements_of xs)
   unfolding branches_costs
   last_some xs = refl
 
   pub select_costs : (gs : List Chosen) (last : u.Statements)
-      → both (given a_statement) (alternatives_costs at (units.alternatives_of gs last)) ≡ both (given a_statement) (both (together (chosen_costs at) gs) (statements_costs at last))
+      → both (given a_statement) (alternatives_costs here (units.alternatives_of gs last)) ≡ both (given a_statement) (both (together (chosen_costs here) gs) (statements_costs here last))
   select_costs gs last = ap (both (given a_statement)) (alternatives-together gs last)
 
-  pub loop_costs : (r : Range) (body : u.Statements) (is : List ℤ) (count : ℕ) → turns at r ≡ Ok is → length is ≡ count
-      → statement_costs at (u.for_of r body) ≡ both (given (costs.turns count)) (together (λ i. statements_costs (in_turn at i) body) is)
+  pub loop_costs : (at : ℕ) (r : Range) (body : u.Statements) (is : List ℤ) (count : ℕ) → turns here at r ≡ Ok is → length is ≡ count
+      → statement_costs here (u.for_of at r body) ≡ both (given (costs.turns count)) (together (λ i. statements_costs (in_turn here i) body) is)
   unfolding statement_costs
-  loop_costs r body is count h n =
-      ap (λ q. q >>= λ js. both (given (costs.turns (length js))) (together (λ i. statements_costs (in_turn at i) body) js)) h
-      ∙ ap (λ c. both (given (costs.turns c)) (together (λ i. statements_costs (in_turn at i) body) is)) n
+  loop_costs at r body is count h n =
+      ap (λ q. q >>= λ js. both (given (costs.turns (length js))) (together (λ i. statements_costs (in_turn here i) body) js)) h
+      ∙ ap (λ c. both (given (costs.turns c)) (together (λ i. statements_costs (in_turn here i) body) is)) n
 
-  pub loop_stops : {problem : ElabProblem} → (r : Range) (body : u.Statements) → turns at r ≡ Err problem → statement_costs at (u.for_of r body) ≡ Err problem
+  pub loop_stops : {told : Told} → (at : ℕ) (r : Range) (body : u.Statements) → turns here at r ≡ Err told → statement_costs here (u.for_of at r body) ≡ Err told
   unfolding statement_costs
-  loop_stops r body h = ap (λ q. q >>= λ js. both (given (costs.turns (length js))) (together (λ i. statements_costs (in_turn at i) body) js)) h
+  loop_stops at r body h = ap (λ q. q >>= λ js. both (given (costs.turns (length js))) (together (λ i. statements_costs (in_turn here i) body) js)) h
 
   -- ---- statements of the code
 
-  pub if_costs : (x : If) → statement_costs at (units.statement_view (t.If x))
-      ≡ statement_costs at (u.if_of (units.branches_of (units.branches_view (out-If x).branches) (units.last_of (units.option_statements_view (out-If x).otherwise))))
-  if_costs x = ap (statement_costs at) (ap (λ y. units.statement_view (t.If y)) (sym (roll-out-If x)) ∙ rows.view_if (out-If x).at (out-If x).branches (out-If x).otherwise)
+  pub if_costs : (x : If) → statement_costs here (units.statement_view (t.If x))
+      ≡ statement_costs here (u.if_of (out-If x).at (units.branches_of (units.branches_view (out-If x).branches) (units.last_of (units.option_statements_view (out-If x).otherwise))))
+  if_costs x = ap (statement_costs here) (if_view x)
 
-  pub case_costs : (x : Case) → statement_costs at (units.statement_view (t.Case x))
-      ≡ both (given a_statement) (alternatives_costs at (units.alternatives_of (units.alternatives_view (out-Case x).alternatives) (units.statements_of (units.statements_view (out-Case x).others))))
+  pub case_costs : (x : Case) → statement_costs here (units.statement_view (t.Case x))
+      ≡ both (given a_statement) (alternatives_costs here (units.alternatives_of (units.alternatives_view (out-Case x).alternatives) (units.statements_of (units.statements_view (out-Case x).others))))
   unfolding statement_costs
-  case_costs x = ap (statement_costs at) (ap (λ y. units.statement_view (t.Case y)) (sym (roll-out-Case x)) ∙ rows.view_case (out-Case x).at (out-Case x).selector (out-Case x).alternatives (out-Case x).others)
+  case_costs x = ap (statement_costs here) (case_view x)
 
-  pub loop_view_costs : (x : Loop) → statement_costs at (units.statement_view (t.Loop x))
-      ≡ statement_costs at (u.for_of (range_view x.range) (units.statements_of (units.statements_view x.statements)))
-  loop_view_costs x = ap (statement_costs at) (rows.view_loop x.at x.range x.statements)
+  pub loop_view_costs : (x : Loop) → statement_costs here (units.statement_view (t.Loop x))
+      ≡ statement_costs here (u.for_of x.at (range_view x.range) (units.statements_of (units.statements_view x.statements)))
+  loop_view_costs x = ap (statement_costs here) (rows.view_loop x.at x.range x.statements)
 
   -- ---- the same lists, read through references
 
   pub same_list : (n : Counts) (xs ys : List Statement) → xs ≡ ys
-      → paid n (statements_costs at (units.statements_of (map units.statement_view ys))) ≡ paid n (statements_costs at (units.statements_of (map units.statement_view xs)))
-  same_list n xs ys h = ap (λ zs. paid n (statements_costs at (units.statements_of (map units.statement_view zs)))) (sym h)
+      → paid n (statements_costs here (units.statements_of (map units.statement_view ys))) ≡ paid n (statements_costs here (units.statements_of (map units.statement_view xs)))
+  same_list n xs ys h = ap (λ zs. paid n (statements_costs here (units.statements_of (map units.statement_view zs)))) (sym h)
 
   pub same_branches : (n : Counts) (xs ys : List Branch) → xs ≡ ys
-      → paid n (together (guarded_costs at) (map units.branch_view ys)) ≡ paid n (together (guarded_costs at) (map units.branch_view xs))
-  same_branches n xs ys h = ap (λ zs. paid n (together (guarded_costs at) (map units.branch_view zs))) (sym h)
+      → paid n (together (guarded_costs here) (map units.branch_view ys)) ≡ paid n (together (guarded_costs here) (map units.branch_view xs))
+  same_branches n xs ys h = ap (λ zs. paid n (together (guarded_costs here) (map units.branch_view zs))) (sym h)
 
   pub same_alternatives : (n : Counts) (xs ys : List Alternative) → xs ≡ ys
-      → paid n (together (chosen_costs at) (map units.alternative_view ys)) ≡ paid n (together (chosen_costs at) (map units.alternative_view xs))
-  same_alternatives n xs ys h = ap (λ zs. paid n (together (chosen_costs at) (map units.alternative_view zs))) (sym h)
+      → paid n (together (chosen_costs here) (map units.alternative_view ys)) ≡ paid n (together (chosen_costs here) (map units.alternative_view xs))
+  same_alternatives n xs ys h = ap (λ zs. paid n (together (chosen_costs here) (map units.alternative_view zs))) (sym h)
 
-  pub same_turn : (n : Counts) (body : u.Statements) (i j : ℤ) → i ≡ j → paid n (statements_costs (in_turn at j) body) ≡ paid n (statements_costs (in_turn at i) body)
-  same_turn n body i j h = ap (λ k. paid n (statements_costs (in_turn at k) body)) (sym h)
+  pub same_turn : (n : Counts) (body : u.Statements) (i j : ℤ) → i ≡ j → paid n (statements_costs (in_turn here j) body) ≡ paid n (statements_costs (in_turn here i) body)
+  same_turn n body i j h = ap (λ k. paid n (statements_costs (in_turn here k) body)) (sym h)
 
   -- ---- an if statement: itself, its branches, and what it does else
 
-  module _ (n : Counts) (gs : List Guarded) (last : u.Branches) where
-    pub choose_stops : {problem : ElabProblem} → MayTell (spent n a_statement) problem → MayTell (paid n (statement_costs at (u.if_of (units.branches_of gs last)))) problem
-    choose_stops h = paid_stop _ n (given a_statement) _ (alike_same (ap (paid n) (choose_costs gs last))) h
+  module _ (at : ℕ) (n : Counts) (gs : List Guarded) (last : u.Branches) where
+    pub choose_stops : {bytes : List ℕ} {told : Told} → MayTell bytes (spent 0 n a_statement) told → MayTell bytes (paid n (statement_costs here (u.if_of at (units.branches_of gs last)))) told
+    choose_stops h = paid_stop _ n (given a_statement) _ (alike_same (ap (paid n) (choose_costs at gs last))) h
 
-    choose-begins : (m : Counts) → spent n a_statement ≡ Ok m
-        → Alike (paid n (statement_costs at (u.if_of (units.branches_of gs last)))) (paid m (both (together (guarded_costs at) gs) (branches_costs at last)))
-    choose-begins m h = paid_go _ n m (given a_statement) _ (alike_same (ap (paid n) (choose_costs gs last))) h
+    choose-begins : (m : Counts) → spent 0 n a_statement ≡ Ok m
+        → Alike (paid n (statement_costs here (u.if_of at (units.branches_of gs last)))) (paid m (both (together (guarded_costs here) gs) (branches_costs here last)))
+    choose-begins m h = paid_go _ n m (given a_statement) _ (alike_same (ap (paid n) (choose_costs at gs last))) h
 
-    pub branches_stop : {problem : ElabProblem} → (m : Counts) → spent n a_statement ≡ Ok m → MayTell (paid m (together (guarded_costs at) gs)) problem → MayTell (paid n (statement_costs at (u.if_of (units.branches_of gs last)))) problem
-    branches_stop m h k = paid_stop _ m (together (guarded_costs at) gs) (branches_costs at last) (choose-begins m h) k
+    pub branches_stop : {bytes : List ℕ} {told : Told} → (m : Counts) → spent 0 n a_statement ≡ Ok m → MayTell bytes (paid m (together (guarded_costs here) gs)) told → MayTell bytes (paid n (statement_costs here (u.if_of at (units.branches_of gs last)))) told
+    branches_stop m h k = paid_stop _ m (together (guarded_costs here) gs) (branches_costs here last) (choose-begins m h) k
 
-    pub branches_go : (m k : Counts) → spent n a_statement ≡ Ok m → paid m (together (guarded_costs at) gs) ≡ Ok k
-        → Alike (paid n (statement_costs at (u.if_of (units.branches_of gs last)))) (paid k (branches_costs at last))
-    branches_go m k h g = paid_go _ m k (together (guarded_costs at) gs) (branches_costs at last) (choose-begins m h) g
+    pub branches_go : (m k : Counts) → spent 0 n a_statement ≡ Ok m → paid m (together (guarded_costs here) gs) ≡ Ok k
+        → Alike (paid n (statement_costs here (u.if_of at (units.branches_of gs last)))) (paid k (branches_costs here last))
+    branches_go m k h g = paid_go _ m k (together (guarded_costs here) gs) (branches_costs here last) (choose-begins m h) g
 
-  pub no_else : (n m k : Counts) (gs : List Guarded) (x : Option (Vec Statement Global)) → x ≡ None → spent n a_statement ≡ Ok m → paid m (together (guarded_costs at) gs) ≡ Ok k
-      → paid n (statement_costs at (u.if_of (units.branches_of gs (units.last_of (units.option_statements_view x))))) ≡ Ok k
-  no_else n m k gs x none h g =
-      (branches_go n gs (units.last_of (units.option_statements_view x)) m k h g).gives k
-      (ap (λ o. paid k (branches_costs at (units.last_of (units.option_statements_view o)))) none ∙ ap (paid k) last_none ∙ spent-none k)
+  pub no_else : (at : ℕ) (n m k : Counts) (gs : List Guarded) (x : Option (Vec Statement Global)) → x ≡ None → spent 0 n a_statement ≡ Ok m → paid m (together (guarded_costs here) gs) ≡ Ok k
+      → paid n (statement_costs here (u.if_of at (units.branches_of gs (units.last_of (units.option_statements_view x))))) ≡ Ok k
+  no_else at n m k gs x none h g =
+      (branches_go at n gs (units.last_of (units.option_statements_view x)) m k h g).gives k
+      (ap (λ o. paid k (branches_costs here (units.last_of (units.option_statements_view o)))) none ∙ ap (paid k) last_none ∙ spent-none 0 k)
 
-  pub some_else : (n m k : Counts) (gs : List Guarded) (x : Option (Vec Statement Global)) (list : Vec Statement Global) → x ≡ Some list → spent n a_statement ≡ Ok m
-      → paid m (together (guarded_costs at) gs) ≡ Ok k → (zs : List Statement) → zs ≡ list.items
-      → Alike (paid n (statement_costs at (u.if_of (units.branches_of gs (units.last_of (units.option_statements_view x)))))) (paid k (statements_costs at (units.statements_of (map units.statement_view zs))))
-  some_else n m k gs x list some h g zs same =
-      alike_trans (branches_go n gs (units.last_of (units.option_statements_view x)) m k h g)
-      (alike_same (ap (λ o. paid k (branches_costs at (units.last_of (units.option_statements_view o)))) some ∙ ap (paid k) (last_some (units.statements_view list)) ∙ same_list k zs list.items same))
+  pub some_else : (at : ℕ) (n m k : Counts) (gs : List Guarded) (x : Option (Vec Statement Global)) (list : Vec Statement Global) → x ≡ Some list → spent 0 n a_statement ≡ Ok m
+      → paid m (together (guarded_costs here) gs) ≡ Ok k → (zs : List Statement) → zs ≡ list.items
+      → Alike (paid n (statement_costs here (u.if_of at (units.branches_of gs (units.last_of (units.option_statements_view x)))))) (paid k (statements_costs here (units.statements_of (map units.statement_view zs))))
+  some_else at n m k gs x list some h g zs same =
+      alike_trans (branches_go at n gs (units.last_of (units.option_statements_view x)) m k h g)
+      (alike_same (ap (λ o. paid k (branches_costs here (units.last_of (units.option_statements_view o)))) some ∙ ap (paid k) (last_some (units.statements_view list)) ∙ same_list k zs list.items same))
 
   -- ---- a case statement: itself, its alternatives, and what it does otherwise
 
   module _ (n : Counts) (gs : List Chosen) (last : u.Statements) where
-    pub select_stops : {problem : ElabProblem} → MayTell (spent n a_statement) problem → MayTell (paid n (both (given a_statement) (alternatives_costs at (units.alternatives_of gs last)))) problem
+    pub select_stops : {bytes : List ℕ} {told : Told} → MayTell bytes (spent 0 n a_statement) told → MayTell bytes (paid n (both (given a_statement) (alternatives_costs here (units.alternatives_of gs last)))) told
     select_stops h = paid_stop _ n (given a_statement) _ (alike_same refl) h
 
-    select-begins : (m : Counts) → spent n a_statement ≡ Ok m
-        → Alike (paid n (both (given a_statement) (alternatives_costs at (units.alternatives_of gs last)))) (paid m (both (together (chosen_costs at) gs) (statements_costs at last)))
+    select-begins : (m : Counts) → spent 0 n a_statement ≡ Ok m
+        → Alike (paid n (both (given a_statement) (alternatives_costs here (units.alternatives_of gs last)))) (paid m (both (together (chosen_costs here) gs) (statements_costs here last)))
     select-begins m h = paid_go _ n m (given a_statement) _ (alike_same (ap (paid n) (select_costs gs last))) h
 
-    pub alternatives_stop : {problem : ElabProblem} → (m : Counts) → spent n a_statement ≡ Ok m → MayTell (paid m (together (chosen_costs at) gs)) problem
-        → MayTell (paid n (both (given a_statement) (alternatives_costs at (units.alternatives_of gs last)))) problem
-    alternatives_stop m h k = paid_stop _ m (together (chosen_costs at) gs) (statements_costs at last) (select-begins m h) k
+    pub alternatives_stop : {bytes : List ℕ} {told : Told} → (m : Counts) → spent 0 n a_statement ≡ Ok m → MayTell bytes (paid m (together (chosen_costs here) gs)) told
+        → MayTell bytes (paid n (both (given a_statement) (alternatives_costs here (units.alternatives_of gs last)))) told
+    alternatives_stop m h k = paid_stop _ m (together (chosen_costs here) gs) (statements_costs here last) (select-begins m h) k
 
-    pub alternatives_go : (m k : Counts) → spent n a_statement ≡ Ok m → paid m (together (chosen_costs at) gs) ≡ Ok k
-        → Alike (paid n (both (given a_statement) (alternatives_costs at (units.alternatives_of gs last)))) (paid k (statements_costs at last))
-    alternatives_go m k h g = paid_go _ m k (together (chosen_costs at) gs) (statements_costs at last) (select-begins m h) g
+    pub alternatives_go : (m k : Counts) → spent 0 n a_statement ≡ Ok m → paid m (together (chosen_costs here) gs) ≡ Ok k
+        → Alike (paid n (both (given a_statement) (alternatives_costs here (units.alternatives_of gs last)))) (paid k (statements_costs here last))
+    alternatives_go m k h g = paid_go _ m k (together (chosen_costs here) gs) (statements_costs here last) (select-begins m h) g
 
   -- ---- a loop: how many turns it has, and these
 
-  module _ (n : Counts) (r : Range) (body : u.Statements) where
-    pub range_stops : {problem : ElabProblem} → turns at r ≡ Err problem → MayTell (paid n (statement_costs at (u.for_of r body))) problem
-    range_stops h = tells_first (statement_costs at (u.for_of r body)) _ (tells (loop_stops r body h))
+  module _ (at : ℕ) (n : Counts) (r : Range) (body : u.Statements) where
+    pub range_stops : {bytes : List ℕ} {told : Told} → (told.0 ≡ TooMany → Contains bytes told.1) → turns here at r ≡ Err told → MayTell bytes (paid n (statement_costs here (u.for_of at r body))) told
+    range_stops placed h = tells_first (statement_costs here (u.for_of at r body)) _ (tells placed (loop_stops at r body h))
 
-    loop-counted : (direction : Direction) (x : ℤ) (count : ℕ) → turns at r ≡ Ok (numbers_from direction x count)
-        → Alike (paid n (statement_costs at (u.for_of r body))) (paid n (both (given (costs.turns count)) (together (λ i. statements_costs (in_turn at i) body) (numbers_from direction x count))))
-    loop-counted direction x count h = alike_same (ap (paid n) (loop_costs r body (numbers_from direction x count) count h (counted-length direction x count)))
+    loop-counted : (direction : Direction) (x : ℤ) (count : ℕ) → turns here at r ≡ Ok (numbers_from direction x count)
+        → Alike (paid n (statement_costs here (u.for_of at r body))) (paid n (both (given (costs.turns count)) (together (λ i. statements_costs (in_turn here i) body) (numbers_from direction x count))))
+    loop-counted direction x count h = alike_same (ap (paid n) (loop_costs at r body (numbers_from direction x count) count h (counted-length direction x count)))
 
-    pub count_stops : {problem : ElabProblem} → (direction : Direction) (x : ℤ) (count : ℕ) → turns at r ≡ Ok (numbers_from direction x count) → MayTell (spent n (costs.turns count)) problem
-        → MayTell (paid n (statement_costs at (u.for_of r body))) problem
+    pub count_stops : {bytes : List ℕ} {told : Told} → (direction : Direction) (x : ℤ) (count : ℕ) → turns here at r ≡ Ok (numbers_from direction x count) → MayTell bytes (spent 0 n (costs.turns count)) told
+        → MayTell bytes (paid n (statement_costs here (u.for_of at r body))) told
     count_stops direction x count h k = paid_stop _ n (given (costs.turns count)) _ (loop-counted direction x count h) k
 
-    pub turns_begin : (m : Counts) (direction : Direction) (x : ℤ) (count : ℕ) → turns at r ≡ Ok (numbers_from direction x count) → spent n (costs.turns count) ≡ Ok m
-        → Alike (paid n (statement_costs at (u.for_of r body))) (paid m (together (λ i. statements_costs (in_turn at i) body) (numbers_from direction x count)))
+    pub turns_begin : (m : Counts) (direction : Direction) (x : ℤ) (count : ℕ) → turns here at r ≡ Ok (numbers_from direction x count) → spent 0 n (costs.turns count) ≡ Ok m
+        → Alike (paid n (statement_costs here (u.for_of at r body))) (paid m (together (λ i. statements_costs (in_turn here i) body) (numbers_from direction x count)))
     turns_begin m direction x count h k = paid_go _ n m (given (costs.turns count)) _ (loop-counted direction x count h) k

@@ -1,25 +1,36 @@
--- A fault tells its problem, wherever it stands.
+-- A fault tells its problem and where it stands.
 use Rattle.std.proofs.Common.{◌≡◌, ℕ, List, [], Ok, Err, Some, refl, sym, ap, ◌∙◌, subst}
-use Rattle.std.specs.Prelude.{IsOk, Option}
+use Rattle.std.specs.Prelude.{◌≢◌, IsOk, Option}
 use Rattle.vhdl_names_rules.specs.units.Units.{Units, Entity}
 use Rattle.vhdl_elab_rules.specs.Refused.{HasInterface}
-use Rattle.vhdl_expand_rules.specs.declared.fault.ElabProblem.TheVariants.{NoTop}
+use Rattle.vhdl_expand_rules.specs.declared.fault.ElabProblem.TheVariants.{NoTop, TooDeep, TooMany}
 use Rattle.vhdl_expand_rules.specs.Declarations.{InstanceObjects, interface}
 use Rattle.vhdl_expand_rules.specs.Expansion.{entity_named}
 use Rattle.vhdl_expand_rules.specs.Site.{no_integers}
 use Rattle.vhdl_expand_rules.specs.declared.fault.ElabFault.{ElabFault}
 use Rattle.vhdl_expand_rules.specs.declared.fault.ElabFault.TheVariants.{At}
 use Rattle.vhdl_expand_rules.specs.declared.fault.ElabProblem.{ElabProblem}
-use Rattle.vhdl_expand_rules.specs.Elab.{Elab, ◌>>=◌, item_or, problem_told, MayTell}
+use Rattle.vhdl_expand_rules.specs.Elab.{Elab, ◌>>=◌, item_or, fault_told, MayTell, Told}
+use Rattle.vhdl_expand_tree.proofs.Alike.{tells}
 
-pub told_at : {A : Type 0} {given : Elab A} {fault : ElabFault} {problem : ElabProblem} {at : ℕ} → fault ≡ At problem at → MayTell given problem → MayTell given (problem_told fault)
-told_at {A = A} {given = given} e t = let P : ElabProblem → Type 0 = λ q. MayTell given q in subst P (sym (ap (λ (f : ElabFault). problem_told f) e)) t
+pub told_at : {bytes : List ℕ} {A : Type 0} {given : Elab A} {fault : ElabFault} {problem : ElabProblem} {at : ℕ} → fault ≡ At problem at → MayTell bytes given (problem, at) → MayTell bytes given (fault_told fault)
+told_at {bytes = bytes} {A = A} {given = given} e t = let P : Told → Type 0 = λ q. MayTell bytes given q in subst P (sym (ap (λ (f : ElabFault). fault_told f) e)) t
 
-pub same_at : {A : Type 0} {given : Elab A} {fault : ElabFault} {problem : ElabProblem} {at : ℕ} → fault ≡ At problem at → given ≡ Err problem → given ≡ Err (problem_told fault)
-same_at {A = A} {given = given} e h = let P : ElabProblem → Type 0 = λ q. given ≡ Err q in subst P (sym (ap (λ (f : ElabFault). problem_told f) e)) h
+pub same_at : {A : Type 0} {given : Elab A} {fault : ElabFault} {problem : ElabProblem} {at : ℕ} → fault ≡ At problem at → given ≡ Err (problem, at) → given ≡ Err (fault_told fault)
+same_at {A = A} {given = given} e h = let P : Told → Type 0 = λ q. given ≡ Err q in subst P (sym (ap (λ (f : ElabFault). fault_told f) e)) h
+
+-- a problem that no budget has
+pub other_told : {A : Type 0} {bytes : List ℕ} {given : Elab A} (problem : ElabProblem) (at : ℕ) → problem ≢ TooMany → given ≡ Err (problem, at) → MayTell bytes given (problem, at)
+other_told problem at other e = tells (λ too. absurd (other too)) e
+
+pub no_top_other : NoTop ≢ TooMany
+no_top_other e = absurd cc
+
+pub too_deep_other : TooDeep ≢ TooMany
+too_deep_other e = absurd cc
 
 -- the interface of the top was elaborated
 pub has_interface : (units : Units) (top : List ℕ) (unit : Entity) (d : InstanceObjects) → entity_named units top ≡ Some unit → interface no_integers [] unit ≡ Ok d → HasInterface units top
 has_interface units top unit d named known =
-    let is = ap (λ (o : Option Entity). item_or NoTop o >>= λ u. interface no_integers [] u) named ∙ known in
+    let is = ap (λ (o : Option Entity). item_or NoTop 0 o >>= λ u. interface no_integers [] u) named ∙ known in
     subst (λ (r : Elab InstanceObjects). IsOk r) (sym is) refl

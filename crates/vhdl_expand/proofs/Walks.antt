@@ -1,10 +1,9 @@
 -- Going on from step to step, each of which may be refused, over a list and over lists of several parts.
 use Rattle.std.proofs.Common.{◌≡◌, ℕ, zero, suc, ◌+◌, ◌<◌, ◌≤◌, List, [], ◌∷◌, ◌++◌, length, map, get_or, drop, add-one, Ok, Err, refl, sym, ap, ◌∙◌, subst, arith}
 use Rattle.std.specs.Prelude.{flat_map}
-use Rattle.vhdl_expand_rules.specs.Elab.{Elab, ◌>>=◌}
+use Rattle.vhdl_expand_rules.specs.Elab.{Elab, ◌>>=◌, Told}
 use Rattle.vhdl_expand.specs.Stepwise.{stepwise}
 use Rattle.vhdl_expand_rules.proofs.Chains.{err_first}
-use Rattle.vhdl_expand_rules.specs.declared.fault.ElabProblem.{ElabProblem}
 use Rattle.vhdl_expand_drivers.proofs.Walks.{next-left, none_left}
 
 module _ {S X : Type 0} (step : S → X → Elab S) where
@@ -24,10 +23,10 @@ module _ {S X : Type 0} (step : S → X → Elab S) where
     one_goes total now new ys i y below is so_far h =
         so_far ∙ ap (λ zs. stepwise step now (map v zs)) (next-left ys i y below is) ∙ ap (λ r. r >>= λ t. stepwise step t (map v (drop (i + 1) ys))) h
 
-    pub one_stops : {problem : ElabProblem} → (total : Elab S) (now : S) (ys : List Y) (i : ℕ) (y : Y) → i < length ys → y ≡ get_or ys i y
-        → total ≡ stepwise step now (map v (drop i ys)) → (step now (v y)) ≡ Err problem → total ≡ Err problem
-    one_stops {problem} total now ys i y below is so_far h =
-        subst (λ (r : Elab S). r ≡ Err problem) (sym (so_far ∙ ap (λ zs. stepwise step now (map v zs)) (next-left ys i y below is)))
+    pub one_stops : {told : Told} → (total : Elab S) (now : S) (ys : List Y) (i : ℕ) (y : Y) → i < length ys → y ≡ get_or ys i y
+        → total ≡ stepwise step now (map v (drop i ys)) → (step now (v y)) ≡ Err told → total ≡ Err told
+    one_stops {told} total now ys i y below is so_far h =
+        subst (λ (r : Elab S). r ≡ Err told) (sym (so_far ∙ ap (λ zs. stepwise step now (map v zs)) (next-left ys i y below is)))
         (err_first (step now (v y)) (λ t. stepwise step t (map v (drop (i + 1) ys))) h)
 
     pub one_ends : (total : Elab S) (now : S) (ys : List Y) (i : ℕ) → length ys ≤ i → total ≡ stepwise step now (map v (drop i ys)) → total ≡ Ok now
@@ -42,10 +41,10 @@ module _ {S X : Type 0} (step : S → X → Elab S) where
         so_far ∙ ap (λ zs. stepwise step now (flat_map v zs)) (next-left ys i y below is) ∙ walk_behind now (v y) (flat_map v (drop (i + 1) ys))
         ∙ ap (λ r. r >>= λ t. stepwise step t (flat_map v (drop (i + 1) ys))) h
 
-    pub all_stop : {problem : ElabProblem} → (total : Elab S) (now : S) (ys : List Y) (i : ℕ) (y : Y) → i < length ys → y ≡ get_or ys i y
-        → total ≡ stepwise step now (flat_map v (drop i ys)) → (stepwise step now (v y)) ≡ Err problem → total ≡ Err problem
-    all_stop {problem} total now ys i y below is so_far h =
-        subst (λ (r : Elab S). r ≡ Err problem)
+    pub all_stop : {told : Told} → (total : Elab S) (now : S) (ys : List Y) (i : ℕ) (y : Y) → i < length ys → y ≡ get_or ys i y
+        → total ≡ stepwise step now (flat_map v (drop i ys)) → (stepwise step now (v y)) ≡ Err told → total ≡ Err told
+    all_stop {told} total now ys i y below is so_far h =
+        subst (λ (r : Elab S). r ≡ Err told)
         (sym (so_far ∙ ap (λ zs. stepwise step now (flat_map v zs)) (next-left ys i y below is) ∙ walk_behind now (v y) (flat_map v (drop (i + 1) ys))))
         (err_first (stepwise step now (v y)) (λ t. stepwise step t (flat_map v (drop (i + 1) ys))) h)
 
@@ -66,10 +65,10 @@ module _ {S X : Type 0} (step : S → X → Elab S) where
         so_far ∙ ap (stepwise step now) (same-left ys i below) ∙ ap (λ r. r >>= λ t. stepwise step t (map (λ (y : Y). x) (drop (suc i) ys))) h
         ∙ ap (λ j. stepwise step new (map (λ (y : Y). x) (drop j ys))) (sym (add-one i))
 
-    pub same_stops : {problem : ElabProblem} → (total : Elab S) (now : S) (ys : List Y) (i : ℕ) → i < length ys → total ≡ stepwise step now (map (λ (y : Y). x) (drop i ys))
-        → (step now x) ≡ Err problem → total ≡ Err problem
-    same_stops {problem} total now ys i below so_far h =
-        subst (λ (r : Elab S). r ≡ Err problem) (sym (so_far ∙ ap (stepwise step now) (same-left ys i below)))
+    pub same_stops : {told : Told} → (total : Elab S) (now : S) (ys : List Y) (i : ℕ) → i < length ys → total ≡ stepwise step now (map (λ (y : Y). x) (drop i ys))
+        → (step now x) ≡ Err told → total ≡ Err told
+    same_stops {told} total now ys i below so_far h =
+        subst (λ (r : Elab S). r ≡ Err told) (sym (so_far ∙ ap (stepwise step now) (same-left ys i below)))
         (err_first (step now x) (λ t. stepwise step t (map (λ (y : Y). x) (drop (suc i) ys))) h)
 
     pub same_ends : (total : Elab S) (now : S) (ys : List Y) (i : ℕ) → length ys ≤ i → total ≡ stepwise step now (map (λ (y : Y). x) (drop i ys)) → total ≡ Ok now

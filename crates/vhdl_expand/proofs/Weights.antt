@@ -6,8 +6,8 @@ abbrev mutual
   pub weight : Concurrent → ℕ
   weight (process p) = 1
   weight (instance x) = 2
-  weight (generate_for label r body) = 4 + weights body
-  weight (generate_if label t body) = 4 + weights body
+  weight (generate_for at label r body) = 4 + weights body
+  weight (generate_if at label t body) = 4 + weights body
 
   pub weights : Concurrents → ℕ
   weights no_concurrents = 0

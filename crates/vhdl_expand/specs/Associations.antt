@@ -15,7 +15,7 @@ use Rattle.vhdl_expand.specs.Objects.{named_object}
 
 -- a port of a declaration, whose name is no matter here
 abbrev pub any_port : Ports → u.Port
-any_port ports = record { mode = ports.mode; object = named_object ports.objects [] }
+any_port ports = record { mode = ports.mode; object = named_object ports.objects (record { at = 0; text = [] }) }
 
 abbrev pub places_view : List (Option code.SignalPart) → List (Option SignalPart)
 places_view actuals = map (option_map place_view) actuals
@@ -29,18 +29,18 @@ pub record Associated : Type 0 where
 abbrev pub associated_to : ℕ → List tree.Object → Associated
 associated_to count objects = record { done = map object_view (take count objects); left = map object_view (drop count objects) }
 
--- one more, where there is one
-abbrev pub next_associated : (above : Site) → List (Option SignalPart) → Associated → u.Port → Elab Associated
-next_associated above actuals s p = by s.left
+-- one more, where there is one, of an instance whose label starts at this byte
+abbrev pub next_associated : (above : Site) → (at : ℕ) → List (Option SignalPart) → Associated → u.Port → Elab Associated
+next_associated above at actuals s p = by s.left
   where
     by : List Object → Elab Associated
     by [] = Ok s
     by (o ∷ os) = do
-      x ← association above p (first_of (drop (length s.done) actuals)) o
+      x ← association above at p (first_of (drop (length s.done) actuals)) o
       Ok (record { done = s.done ++ x ∷ []; left = os })
 
 -- an instance behind whose ports nothing is declared yet
-abbrev pub associated : (above : Site) → List u.Port → List (Option SignalPart) → InstanceObjects → Elab InstanceObjects
-associated above ps actuals d = do
-  os ← associations above ps actuals d.objects
+abbrev pub associated : (above : Site) → (at : ℕ) → List u.Port → List (Option SignalPart) → InstanceObjects → Elab InstanceObjects
+associated above at ps actuals d = do
+  os ← associations above at ps actuals d.objects
   Ok (record d { objects = os })

@@ -1,5 +1,5 @@
 -- What contracts see of the values of generics.
-use Rattle.std.specs.Prelude.{List, drop, length, map, Option, option_map, ℤ}
+use Rattle.std.specs.Prelude.{ℕ, List, drop, length, map, Option, option_map, ℤ}
 use Rattle.vhdl_names_rules.specs.declared.integer.Static.{Static}
 use Rattle.vhdl_names_rules.specs.units.Expressions as u
 use Rattle.vhdl_names_rules.specs.units.Units.{Generic}
@@ -14,9 +14,9 @@ use Rattle.vhdl_expand_rules.specs.Declarations as definition
 abbrev pub actuals_view : List (Option Static) → List (Option u.Static)
 actuals_view actuals = map (option_map static_view) actuals
 
--- each generic of a declaration
-abbrev pub generic_view : Generics → Generic
-generic_view g = record { type = g.integer_type; default = option_map static_view g.default }
+-- the generic of a declaration whose name starts at this byte
+abbrev pub generic_view : (at : ℕ) → Generics → Generic
+generic_view at g = record { at = at; type = g.integer_type; default = option_map static_view g.default }
 
 -- where the generics with these values are declared, and nothing else
 abbrev pub generics_alone : List ℤ → Integers

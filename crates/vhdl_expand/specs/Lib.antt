@@ -5,6 +5,7 @@ pub mod Objects
 pub mod Constants
 pub mod Associations
 pub mod Unrolled
+pub mod Turning
 pub mod Processes
 pub mod Variables
 pub mod Laws

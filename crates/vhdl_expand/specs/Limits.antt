@@ -6,9 +6,9 @@ use Rattle.vhdl_expand_rules.specs.Expansion.{Design}
 use Rattle.vhdl_elab_rules.specs.Limits.{is_within, limits}
 use Rattle.vhdl_expand_tree.specs.Costs.{instance_costs}
 
--- what is given, where its costs are within the limits
+-- what is given, where its costs are within the limits; no one says where they end
 abbrev pub within_limits : Elab Design → Elab Design
 within_limits given = do
   d ← given
-  unless TooMany (is_within (instance_costs d.top) limits)
+  unless TooMany 0 (is_within (instance_costs d.top) limits)
   Ok d

@@ -53,20 +53,20 @@ together parts turned = do
 -- Of statements in the units, where so many instances may be nested from here on.
 module _ (units : Units) (levels : ℕ) where
   abbrev pub process : Spot → u.Process → Elab Made
-  process at p = do
-    q ← definition.process at p
+  process here p = do
+    q ← definition.process here p
     Ok (made_process q)
 
   abbrev pub instance : Spot → u.Instance → Elab Made
-  instance at x = do
-    i ← definition.instance units (instance_of units levels) at x
-    Ok (made_instance (at.prefix ++ x.label) i)
+  instance here x = do
+    i ← definition.instance units (instance_of units levels) here x
+    Ok (made_instance (here.prefix ++ x.label) i)
 
   abbrev pub concurrent : Spot → u.Concurrent → Elab Made
-  concurrent at x = together (definition.concurrent units (instance_of units levels) at x) (definition.concurrent_turns at x)
+  concurrent here x = together (definition.concurrent units (instance_of units levels) here x) (definition.concurrent_turns here x)
 
   abbrev pub concurrents : Spot → u.Concurrents → Elab Made
-  concurrents at xs = together (definition.concurrents units (instance_of units levels) at xs) (definition.concurrents_turns at xs)
+  concurrents here xs = together (definition.concurrents units (instance_of units levels) here xs) (definition.concurrents_turns here xs)
 
 abbrev pub nothing_yet : Counts → Progress
 nothing_yet left = record { made = record { parts = no_parts; turns = 0 }; left = left }

@@ -1,5 +1,6 @@
 -- Ports and signals, of which those of one declaration are alike.
 use Rattle.std.specs.Prelude.{ℕ, [], List, Option, None, option_map, ℤ, Ok}
+use Rattle.vhdl_tree.specs.Tree.{Ident}
 use Rattle.vhdl_names_rules.specs.units.Units as u
 use Rattle.vhdl_names_rules.specs.units.Units.{Fixed, Form}
 use Rattle.vhdl_names_units.specs.declared.declaration.Objects.{Objects}
@@ -11,14 +12,14 @@ use Rattle.vhdl_expand_rules.specs.Site.{Site, no_integers, no_site}
 use Rattle.vhdl_expand_rules.specs.Tree.{Role, input, output, internal, Object}
 
 -- what objects of this form and with this default are and start with
-abbrev pub shape_of : Site → Form → Option Fixed → Elab (ObjectKind × List ℕ)
-shape_of at form default = do
-  kind ← kind_of at.integers form
-  vs ← starts at kind default
+abbrev pub shape_of : Site → (at : ℕ) → Form → Option Fixed → Elab (ObjectKind × List ℕ)
+shape_of here at form default = do
+  kind ← kind_of here.integers at form
+  vs ← starts here at kind default
   Ok (kind, vs)
 
 abbrev pub shaped : ObjectKind × List ℕ → Role → u.Object → Object
-shaped shape role o = record { name = o.name; role = role; kind = shape.0; is_resolved = o.is_resolved; starts = shape.1; actual = None }
+shaped shape role o = record { at = o.at; name = o.name; role = role; kind = shape.0; is_resolved = o.is_resolved; starts = shape.1; actual = None }
 
 -- where generics with these values are declared, and nothing else
 abbrev pub of_generics : List ℤ → InstanceObjects
@@ -39,6 +40,6 @@ next_object role d o = do
   Ok (with_object d x)
 
 -- the object of this name among those of a declaration
-abbrev pub named_object : Objects → List ℕ → u.Object
+abbrev pub named_object : Objects → Ident → u.Object
 named_object objects name =
-    record { name = name; form = form_view objects.form; is_resolved = objects.is_resolved; default = option_map fixed_view objects.default }
+    record { at = name.at; name = name.text; form = form_view objects.form; is_resolved = objects.is_resolved; default = option_map fixed_view objects.default }

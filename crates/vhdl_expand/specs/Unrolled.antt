@@ -1,7 +1,8 @@
 -- What a body costs when its loops are unrolled (IEEE 1076-2008, 10.10): each assignment, null, if and case is a statement, and a
 -- loop is its turns and the statements of each.
-use Rattle.std.specs.Prelude.{List, [], ◌∷◌, ◌++◌, length, ℤ, Ok}
+use Rattle.std.specs.Prelude.{ℕ, List, [], ◌∷◌, ◌++◌, length, ℤ, Ok}
 use Rattle.vhdl_names_rules.specs.units.Statements as u
+use Rattle.vhdl_names_rules.specs.units.Bytes.{statements_bytes}
 use Rattle.vhdl_names_units.specs.views.Sequential.{Guarded, Chosen, statements_of}
 use Rattle.vhdl_expand_rules.specs.Elab.{Elab, ◌>>=◌}
 use Rattle.vhdl_expand_rules.specs.Integers.{Integers, turns}
@@ -23,40 +24,46 @@ together f (x ∷ xs) = both (f x) (together f xs)
 
 -- within a turn of a loop
 abbrev pub in_turn : Integers → ℤ → Integers
-in_turn at i = record at { loops = at.loops ++ i ∷ [] }
+in_turn here i = record here { loops = here.loops ++ i ∷ [] }
 
 unfoldable mutual
   pub statement_costs : Integers → u.Statement → Elab Counts
-  statement_costs at (u.if_of bs) = both (Ok a_statement) (branches_costs at bs)
-  statement_costs at (u.case_of v alts) = both (Ok a_statement) (alternatives_costs at alts)
-  statement_costs at (u.for_of r body) = do
-    is ← turns at r
-    both (Ok (costs.turns (length is))) (together (λ i. statements_costs (in_turn at i) body) is)
-  statement_costs at _ = Ok a_statement
+  statement_costs here (u.if_of at bs) = both (Ok a_statement) (branches_costs here bs)
+  statement_costs here (u.case_of at v alts) = both (Ok a_statement) (alternatives_costs here alts)
+  statement_costs here (u.for_of at r body) = do
+    is ← turns here at r
+    both (Ok (costs.turns (length is))) (together (λ i. statements_costs (in_turn here i) body) is)
+  statement_costs here _ = Ok a_statement
 
   pub statements_costs : Integers → u.Statements → Elab Counts
-  statements_costs at u.done = Ok no_costs
-  statements_costs at (u.step s rest) = both (statement_costs at s) (statements_costs at rest)
+  statements_costs here u.done = Ok no_costs
+  statements_costs here (u.step s rest) = both (statement_costs here s) (statements_costs here rest)
 
   pub branches_costs : Integers → u.Branches → Elab Counts
-  branches_costs at u.no_else = Ok no_costs
-  branches_costs at (u.otherwise s) = statements_costs at s
-  branches_costs at (u.branch t s bs) = both (statements_costs at s) (branches_costs at bs)
+  branches_costs here u.no_else = Ok no_costs
+  branches_costs here (u.otherwise s) = statements_costs here s
+  branches_costs here (u.branch t s bs) = both (statements_costs here s) (branches_costs here bs)
 
   pub alternatives_costs : Integers → u.Alternatives → Elab Counts
-  alternatives_costs at (u.others s) = statements_costs at s
-  alternatives_costs at (u.alternative choices s alts) = both (statements_costs at s) (alternatives_costs at alts)
+  alternatives_costs here (u.others s) = statements_costs here s
+  alternatives_costs here (u.alternative choices s alts) = both (statements_costs here s) (alternatives_costs here alts)
 
--- what is left of a budget when these costs are paid
+-- what is left of a budget when these costs are paid; no one says where it ends
 abbrev pub paid : (budget : Counts) → Elab Counts → Elab Counts
 paid budget given = do
   c ← given
-  spent budget c
+  spent 0 budget c
 
--- ---- the same where branches and alternatives stand in lists
+-- ---- the same where branches and alternatives stand in lists, and the bytes of their statements
 
 abbrev pub guarded_costs : Integers → Guarded → Elab Counts
-guarded_costs at g = statements_costs at (statements_of g.statements)
+guarded_costs here g = statements_costs here (statements_of g.statements)
 
 abbrev pub chosen_costs : Integers → Chosen → Elab Counts
-chosen_costs at g = statements_costs at (statements_of g.statements)
+chosen_costs here g = statements_costs here (statements_of g.statements)
+
+abbrev pub guarded_bytes : Guarded → List ℕ
+guarded_bytes g = statements_bytes (statements_of g.statements)
+
+abbrev pub chosen_bytes : Chosen → List ℕ
+chosen_bytes g = statements_bytes (statements_of g.statements)

@@ -58,7 +58,7 @@ fn is_input(role: Role) -> bool
 /// Sees that there are as many elements as an object of this kind has; a fault is Length.
 #[tactic(auto, using(crate::proofs::Associating::run_long))]
 fn as_many(run: Run, kind: ObjectKind, at: usize) -> Result<(), ElabFault>
-    ensures { Computes (same_length (length (run_view run)) (size (kind_view kind))) result }
+    ensures { Computes (same_length at (length (run_view run)) (size (kind_view kind))) result }
 {
     let found = run.len;
     let needed = kind.size();
@@ -80,7 +80,7 @@ fn associate(
     at: usize,
 ) -> Result<(), ElabFault>
     requires { IsSite above.now }
-    ensures { Expands (λ _. object_view port.new) (definition.association (site_view above.now) (any_port declaration.now) (option_map (λ place. place_view place.now) actual.entry) (object_view port.old)) result }
+    ensures { Expands (λ _. object_view port.new) (definition.association (site_view above.now) at (any_port declaration.now) (option_map (λ place. place_view place.now) actual.entry) (object_view port.old)) result }
 {
     let Some(place) = actual else {
         if is_input(port.role) && declaration.objects.default.is_none() {
@@ -107,7 +107,7 @@ fn associate_all(
 ) -> Result<usize, ElabFault>
     requires placed { IsSite above.now }
     requires there { before ≤ length ports.old.items }
-    ensures given { Expands (λ count. associated_to count ports.new.items) (stepwise (next_associated (site_view above.now) (places_view actuals.now)) (associated_to before ports.old.items) (ports_view declaration.now)) result }
+    ensures given { Expands (λ count. associated_to count ports.new.items) (stepwise (next_associated (site_view above.now) at (places_view actuals.now)) (associated_to before ports.old.items) (ports_view declaration.now)) result }
     ensures within { IfOk result (λ count. count ≤ length ports.new.items) }
 {
     let mut count = before;
@@ -134,7 +134,7 @@ fn associate_ports(
     at: usize,
 ) -> Result<(), ElabFault>
     requires { IsSite above.now }
-    ensures { Expands (λ _. map object_view ports.new.items) (definition.associations (site_view above.now) (flat_map ports_view declarations.now) (places_view actuals.now) (map object_view ports.old.items)) result }
+    ensures { Expands (λ _. map object_view ports.new.items) (definition.associations (site_view above.now) at (flat_map ports_view declarations.now) (places_view actuals.now) (map object_view ports.old.items)) result }
 {
     let mut count = 0;
     for declaration in declarations {
@@ -155,7 +155,7 @@ pub fn associations(
     at: usize,
 ) -> Result<(), ElabFault>
     requires { IsSite above.now }
-    ensures { Expands (λ _. declared_view declared.new) (associated (site_view above.now) (all_ports_view unit.now.ports) (places_view actuals.now) (declared_view declared.old)) result }
+    ensures { Expands (λ _. declared_view declared.new) (associated (site_view above.now) at (all_ports_view unit.now.ports) (places_view actuals.now) (declared_view declared.old)) result }
 {
     associate_ports(
         alloc,

@@ -3,18 +3,20 @@
 //! Only ranges of loops are computed, and each turn and each statement is taken from the budget as it is come to: so the walk ends
 //! where none is left, however long the body would be.
 
-ghost use Rattle.std.specs.Prelude.{◌≡◌, ◌++◌, [], ◌∷◌, map, Ok};
+ghost use Rattle.std.specs.Prelude.{◌≡◌, ◌++◌, [], ◌∷◌, flat_map, map, Ok};
 ghost use Rattle.vhdl_names_rules.specs.views.Integers.{range_view};
 ghost use Rattle.vhdl_expand_rules.specs.views.Integers.{integers_view};
 ghost use Rattle.vhdl_expand_bodies.specs.Results.{Expands, Charges};
 ghost use Rattle.vhdl_names_rules.specs.units.Statements as units;
+ghost use Rattle.vhdl_names_rules.specs.units.Bytes.{statement_bytes, statements_bytes, branches_bytes, alternatives_bytes};
 ghost use Rattle.vhdl_names_units.specs.declared.sequential.Case.{out-Case};
 ghost use Rattle.vhdl_names_units.specs.declared.sequential.If.{out-If};
 ghost use Rattle.vhdl_names_units.specs.views.Sequential as analysed;
 ghost use Rattle.vhdl_expand_tree.specs.Views.{budget_view};
 ghost use Rattle.vhdl_expand_tree.specs.Costs.{a_statement};
+ghost use Rattle.vhdl_expand.specs.Turning.{TellsTurns};
 ghost use Rattle.vhdl_expand.specs.Unrolled as definition;
-ghost use Rattle.vhdl_expand.specs.Unrolled.{paid, both, together, in_turn, guarded_costs, chosen_costs};
+ghost use Rattle.vhdl_expand.specs.Unrolled.{paid, both, together, in_turn, guarded_costs, chosen_costs, guarded_bytes, chosen_bytes};
 
 use std::alloc::Global;
 use vhdl_expand_rules::{ElabFault, Integers};
@@ -31,7 +33,7 @@ pub fn charge_body(
     at: usize,
     budget: &mut Budget,
 ) -> Result<(), ElabFault>
-    ensures { Charges (λ _. budget_view budget.new)
+    ensures { Charges (at ∷ statements_bytes (analysed.statements_of (map analysed.statement_view statements.now))) (λ _. budget_view budget.new)
         (paid (budget_view budget.old) (definition.statements_costs (integers_view integers.now) (analysed.statements_of (map analysed.statement_view statements.now)))) result }
 {
     of_statements(alloc, integers, statements, at, budget)
@@ -46,7 +48,7 @@ fn of_statements(
     at: usize,
     budget: &mut Budget,
 ) -> Result<(), ElabFault>
-    ensures { Charges (λ _. budget_view budget.new)
+    ensures { Charges (at ∷ statements_bytes (analysed.statements_of (map analysed.statement_view list.now))) (λ _. budget_view budget.new)
         (paid (budget_view budget.old) (definition.statements_costs (integers_view integers.now) (analysed.statements_of (map analysed.statement_view list.now)))) result }
 {
     for statement in list {
@@ -65,7 +67,7 @@ fn of_statement(
     at: usize,
     budget: &mut Budget,
 ) -> Result<(), ElabFault>
-    ensures { Charges (λ _. budget_view budget.new)
+    ensures { Charges (at ∷ statement_bytes (analysed.statement_view statement.now)) (λ _. budget_view budget.new)
         (paid (budget_view budget.old) (definition.statement_costs (integers_view integers.now) (analysed.statement_view statement.now))) result }
 {
     match statement {
@@ -86,9 +88,9 @@ fn of_conditional(
     conditional: &If,
     budget: &mut Budget,
 ) -> Result<(), ElabFault>
-    ensures { Charges (λ _. budget_view budget.new)
+    ensures { Charges ((out-If conditional.now).at ∷ branches_bytes (analysed.branches_of (analysed.branches_view (out-If conditional.now).branches) (analysed.last_of (analysed.option_statements_view (out-If conditional.now).otherwise)))) (λ _. budget_view budget.new)
         (paid (budget_view budget.old) (definition.statement_costs (integers_view integers.now)
-        (units.if_of (analysed.branches_of (analysed.branches_view (out-If conditional.now).branches) (analysed.last_of (analysed.option_statements_view (out-If conditional.now).otherwise)))))) result }
+        (units.if_of (out-If conditional.now).at (analysed.branches_of (analysed.branches_view (out-If conditional.now).branches) (analysed.last_of (analysed.option_statements_view (out-If conditional.now).otherwise)))))) result }
 {
     let at = conditional.at;
     budget.charge_statement(at)?;
@@ -108,7 +110,7 @@ fn of_branches(
     at: usize,
     budget: &mut Budget,
 ) -> Result<(), ElabFault>
-    ensures { Charges (λ _. budget_view budget.new)
+    ensures { Charges (at ∷ flat_map guarded_bytes (map analysed.branch_view list.now)) (λ _. budget_view budget.new)
         (paid (budget_view budget.old) (together (guarded_costs (integers_view integers.now)) (map analysed.branch_view list.now))) result }
 {
     for branch in list {
@@ -125,7 +127,7 @@ fn of_selection(
     selection: &Case,
     budget: &mut Budget,
 ) -> Result<(), ElabFault>
-    ensures { Charges (λ _. budget_view budget.new)
+    ensures { Charges ((out-Case selection.now).at ∷ alternatives_bytes (analysed.alternatives_of (analysed.alternatives_view (out-Case selection.now).alternatives) (analysed.statements_of (analysed.statements_view (out-Case selection.now).others)))) (λ _. budget_view budget.new)
         (paid (budget_view budget.old) (both (Ok a_statement) (definition.alternatives_costs (integers_view integers.now)
         (analysed.alternatives_of (analysed.alternatives_view (out-Case selection.now).alternatives) (analysed.statements_of (analysed.statements_view (out-Case selection.now).others)))))) result }
 {
@@ -144,7 +146,7 @@ fn of_alternatives(
     at: usize,
     budget: &mut Budget,
 ) -> Result<(), ElabFault>
-    ensures { Charges (λ _. budget_view budget.new)
+    ensures { Charges (at ∷ flat_map chosen_bytes (map analysed.alternative_view list.now)) (λ _. budget_view budget.new)
         (paid (budget_view budget.old) (together (chosen_costs (integers_view integers.now)) (map analysed.alternative_view list.now))) result }
 {
     for alternative in list {
@@ -153,7 +155,7 @@ fn of_alternatives(
     Ok(())
 }
 
-/// Takes what the turns of a loop cost.
+/// Takes what the turns of a loop cost. What is refused of its range by itself is told, whatever the budget has left.
 #[cycle(costs)]
 fn of_loop(
     alloc: Global,
@@ -161,9 +163,10 @@ fn of_loop(
     repeated: &Loop,
     budget: &mut Budget,
 ) -> Result<(), ElabFault>
-    ensures { Charges (λ _. budget_view budget.new)
+    ensures given { Charges (repeated.now.at ∷ statements_bytes (analysed.statements_of (analysed.statements_view repeated.now.statements))) (λ _. budget_view budget.new)
         (paid (budget_view budget.old) (definition.statement_costs (integers_view integers.now)
-        (units.for_of (range_view repeated.now.range) (analysed.statements_of (analysed.statements_view repeated.now.statements))))) result }
+        (units.for_of repeated.now.at (range_view repeated.now.range) (analysed.statements_of (analysed.statements_view repeated.now.statements))))) result }
+    ensures turned { TellsTurns (integers_view integers.now) repeated.now.at (range_view repeated.now.range) result }
 {
     let turns = integers.turns(&repeated.range, repeated.at)?;
     budget.charge_turns(turns.count as usize, repeated.at)?;
@@ -183,7 +186,7 @@ fn of_turn(
     parameter: i32,
     budget: &mut Budget,
 ) -> Result<(), ElabFault>
-    ensures { Charges (λ _. budget_view budget.new)
+    ensures { Charges (repeated.now.at ∷ statements_bytes (analysed.statements_of (analysed.statements_view repeated.now.statements))) (λ _. budget_view budget.new)
         (paid (budget_view budget.old) (definition.statements_costs (in_turn (integers_view integers.now) parameter)
         (analysed.statements_of (analysed.statements_view repeated.now.statements)))) result }
 {

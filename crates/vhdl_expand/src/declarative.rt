@@ -49,7 +49,7 @@ fn add_integers(
     value: &Static,
     declared: &mut InstanceObjects,
 ) -> Result<(), ElabFault>
-    ensures { Expands (λ _. declared_view declared.new) (definition.declarations (declared_view declared.old) (map (λ _. u.Declaration.integer integer_type (static_view value.now)) names.now)) result }
+    ensures { Expands (λ _. declared_view declared.new) (definition.declarations (declared_view declared.old) (map (λ n. u.Declaration.integer n.at integer_type (static_view value.now)) names.now)) result }
 {
     let Some(first) = names.first() else {
         return Ok(());
@@ -69,7 +69,7 @@ fn add_constants(
     value: &Fixed,
     declared: &mut InstanceObjects,
 ) -> Result<(), ElabFault>
-    ensures { Expands (λ _. declared_view declared.new) (definition.declarations (declared_view declared.old) (map (λ _. u.Declaration.constant (form_view form.now) (fixed_view value.now)) names.now)) result }
+    ensures { Expands (λ _. declared_view declared.new) (definition.declarations (declared_view declared.old) (map (λ n. u.Declaration.constant n.at (form_view form.now) (fixed_view value.now)) names.now)) result }
 {
     let Some(first) = names.first() else {
         return Ok(());

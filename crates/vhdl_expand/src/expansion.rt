@@ -3,11 +3,12 @@
 ghost use Rattle.std.specs.Prelude.{◌≡◌, ◌≢◌, ◌⊎◌, [], map, find, option_map, bytes_eq, Err, IfErr, IfOk};
 ghost use Rattle.std.specs.Char.{to_ascii_lowercase};
 ghost use Rattle.vhdl_names_rules.specs.units.Units as u;
+ghost use Rattle.vhdl_names_rules.specs.units.Bytes.{units_bytes};
 ghost use Rattle.vhdl_names_units.specs.views.Units.{entity_view, units_view};
 ghost use Rattle.vhdl_elab_rules.specs.Refused.{HasInterface};
 ghost use Rattle.vhdl_expand_rules.specs.declared.fault.ElabFault.TheVariants.{NoMemory};
 ghost use Rattle.vhdl_expand_rules.specs.Declarations as definition;
-ghost use Rattle.vhdl_expand_rules.specs.Elab.{problem_told};
+ghost use Rattle.vhdl_expand_rules.specs.Elab.{fault_told};
 ghost use Rattle.vhdl_expand_rules.specs.Expansion.{expanded_design};
 ghost use Rattle.vhdl_expand_rules.specs.Site.{no_integers};
 ghost use Rattle.vhdl_expand_bodies.specs.Results.{Expands, Charges};
@@ -69,8 +70,8 @@ fn outermost(alloc: Global, unit: &Entity) -> Result<InstanceObjects, ElabFault>
 /// the top have their defaults, and its ports are joined to nothing. A fault is any problem but TwoUnresolved and ReadOfShared, and
 /// nothing is made beyond the limits. It takes the memory of the tree.
 pub fn expand(alloc: Global, units: &Units, top: &[u8]) -> Result<Design, ElabFault>
-    ensures given { Charges design_view (within_limits (expanded_design (units_view units.now) top.now)) result }
-    ensures begun { IfErr result (λ fault. fault ≢ NoMemory → (within_limits (expanded_design (units_view units.now) top.now) ≡ Err (problem_told fault)) ⊎ HasInterface (units_view units.now) top.now) }
+    ensures given { Charges (units_bytes (units_view units.now)) design_view (within_limits (expanded_design (units_view units.now) top.now)) result }
+    ensures begun { IfErr result (λ fault. fault ≢ NoMemory → (within_limits (expanded_design (units_view units.now) top.now) ≡ Err (fault_told fault)) ⊎ HasInterface (units_view units.now) top.now) }
 {
     let name = small_letters(alloc, top)?;
     let Some(unit) = named(&units.entities, &name) else {

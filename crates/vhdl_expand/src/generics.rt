@@ -23,7 +23,7 @@ fn of_default(
     default: &Static,
     at: usize,
 ) -> Result<i32, ElabFault>
-    ensures { Computes (integer_of integer_type (generics_alone values.now) (static_view default.now)) result }
+    ensures { Computes (integer_of integer_type (generics_alone values.now) at (static_view default.now)) result }
 {
     let own = Integers {
         generics: values,
@@ -50,7 +50,7 @@ fn generic(
     declaration: &Generics,
     at: usize,
 ) -> Result<i32, ElabFault>
-    ensures { Computes (definition.generic (integers_view above.now) (generics_alone values.now) (option_map (λ value. static_view value.now) actual.entry) (generic_view declaration.now)) result }
+    ensures { Computes (definition.generic (integers_view above.now) (generics_alone values.now) (option_map (λ value. static_view value.now) actual.entry) (generic_view at declaration.now)) result }
 {
     if let Some(value) = actual {
         return above.integer_of(declaration.integer_type, value, at);

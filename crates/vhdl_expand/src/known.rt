@@ -68,7 +68,7 @@ impl InstanceObjects {
         value: &Static,
         at: usize,
     ) -> Result<i32, ElabFault>
-        ensures { Computes (integer_of integer_type (declared_view self.now).site.integers (static_view value.now)) result }
+        ensures { Computes (integer_of integer_type (declared_view self.now).site.integers at (static_view value.now)) result }
     {
         let site = self.site(&[]);
         let number = site.integers.integer_of(integer_type, value, at);
@@ -83,7 +83,7 @@ impl InstanceObjects {
         value: &Fixed,
         at: usize,
     ) -> Result<Constant, ElabFault>
-        ensures { Makes constant_view (constant_of (declared_view self.now).site (form_view form.now) (fixed_view value.now)) result }
+        ensures { Makes constant_view (constant_of (declared_view self.now).site at (form_view form.now) (fixed_view value.now)) result }
     {
         let site = self.site(&[]);
         let constant = constant(&site, form, value, at);
@@ -99,7 +99,7 @@ impl InstanceObjects {
         objects: &Objects,
         at: usize,
     ) -> Result<Shape, ElabFault>
-        ensures { Expands (λ shape. (kind_view shape.kind, shape.starts.items)) (shape_of (declared_view self.now).site (form_view objects.now.form) (option_map fixed_view objects.now.default)) result }
+        ensures { Expands (λ shape. (kind_view shape.kind, shape.starts.items)) (shape_of (declared_view self.now).site at (form_view objects.now.form) (option_map fixed_view objects.now.default)) result }
     {
         let site = self.site(&[]);
         let shape = Shape::of(alloc, &site, objects, at);

@@ -21,6 +21,7 @@ mod spot;
 mod values;
 mod variables;
 mod walk;
+mod words;
 
 pub use actuals::associations;
 pub use costs::charge_body;
@@ -31,3 +32,4 @@ pub use laws::bodies_are_counted_as_unrolled;
 pub use nets::charge_own_nets;
 pub use processes::process;
 pub use vhdl_expand_rules::{ElabFault, ElabProblem};
+pub use words::byte;

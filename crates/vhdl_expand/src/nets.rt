@@ -2,7 +2,7 @@
 
 ghost use Rattle.std.specs.Prelude.{◌≡◌, map};
 ghost use Rattle.vhdl_elab_rules.specs.Numbering.{own_size, own_sizes};
-ghost use Rattle.vhdl_expand_rules.specs.views.Integers.{Makes};
+ghost use Rattle.vhdl_expand_bodies.specs.Results.{Charges};
 ghost use Rattle.vhdl_expand_tree.specs.Costs.{nets, spent};
 ghost use Rattle.vhdl_expand_tree.specs.Views.{budget_view, object_view};
 
@@ -22,10 +22,10 @@ fn own_elements(object: &Object) -> usize
 /// Takes the nets of the elements that aren't those of an actual; where fewer are left, the fault is TooMany at the byte of the
 /// object that is too much, and what came before it is taken.
 pub fn charge_own_nets(objects: &[Object], budget: &mut Budget) -> Result<(), ElabFault>
-    ensures { Makes (λ _. budget_view budget.new) (spent (budget_view budget.old) (nets (own_sizes (map object_view objects.now)))) result }
+    ensures { Charges (map (λ o. o.at) objects.now) (λ _. budget_view budget.new) (spent 0 (budget_view budget.old) (nets (own_sizes (map object_view objects.now)))) result }
 {
     for object in objects {
-        budget.charge_nets(own_elements(object), object.at as usize)?;
+        budget.charge_nets(own_elements(object), object.at)?;
     }
     Ok(())
 }

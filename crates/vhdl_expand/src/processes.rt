@@ -1,6 +1,7 @@
 //! Processes of the tree (IEEE 1076-2008, 11.3, 14.7.2).
 
-ghost use Rattle.std.specs.Prelude.{◌≡◌, ◌-◌, ◌^◌, min, map, option_map, IfOk};
+ghost use Rattle.std.specs.Prelude.{◌≡◌, ◌∷◌, map, option_map, IfOk};
+ghost use Rattle.vhdl_names_rules.specs.units.Bytes.{statements_bytes, process_bytes};
 ghost use Rattle.vhdl_expand_rules.specs.Expansion as definition;
 ghost use Rattle.vhdl_expand_rules.specs.views.Integers.{integers_view};
 ghost use Rattle.vhdl_expand_bodies.specs.Results.{Expands, Charges};
@@ -14,6 +15,7 @@ ghost use Rattle.vhdl_expand.specs.Processes.{turns_paid, process_steps};
 
 use crate::costs::charge_body;
 use crate::variables::{body, charge_variables, variables};
+use crate::words::byte;
 use std::alloc::{AllocError, Global};
 use vhdl_expand_bodies::Site;
 use vhdl_expand_drivers::{drives, listed, read_elements};
@@ -21,16 +23,6 @@ use vhdl_expand_rules::{ElabFault, Integers};
 use vhdl_expand_tree::{Budget, Process, Sensitivity};
 use vhdl_names_units as analysed;
 use vhdl_tree::Identifier;
-
-/// A byte of the source as a word; those beyond it are all the last.
-fn byte(at: usize) -> u32
-    ensures { result ≡ min at (2 ^ 32 - 1) }
-{
-    match u32::try_from(at) {
-        Ok(at) => at,
-        Err(_) => u32::MAX,
-    }
-}
 
 /// The text of a label. It takes the memory of the copy.
 fn text_of(alloc: Global, label: &Option<Identifier>) -> Result<Option<Vec<u8>>, AllocError>
@@ -59,7 +51,7 @@ fn sensitivity(
             Ok(Sensitivity::Listed(elements))
         }
         analysed::Sensitivity::All => {
-            let elements = read_elements(alloc, site, &process.statements, process.at)?;
+            let elements = read_elements(alloc, site, &process.statements)?;
             Ok(Sensitivity::Every(elements))
         }
         analysed::Sensitivity::AsRead => Ok(Sensitivity::AsRead),
@@ -75,7 +67,7 @@ fn charge_turns(
     at: usize,
     budget: &mut Budget,
 ) -> Result<u32, ElabFault>
-    ensures { Charges (λ turns. (turns, budget_view budget.new))
+    ensures { Charges (at ∷ statements_bytes (statements.statements_of (map statements.statement_view list.now))) (λ turns. (turns, budget_view budget.new))
         (turns_paid (budget_view budget.old) (statements_costs (integers_view integers.now) (statements.statements_of (map statements.statement_view list.now)))) result }
 {
     let before = budget.turns;
@@ -93,16 +85,16 @@ fn parts_of(
     budget: &mut Budget,
 ) -> Result<Process, ElabFault>
     requires { IsSite site.now }
-    ensures { Charges (λ made. (process_view made, budget_view budget.new))
+    ensures { Charges (process_bytes (analysed.process_view process.now)) (λ made. (process_view made, budget_view budget.new))
         (process_steps (budget_view budget.old) (record { site = site_view site.now; prefix = prefix.now }) (analysed.process_view process.now)) result }
 {
     let at = process.at;
     budget.charge_process(at)?;
-    let variables = variables(alloc, site, &process.variables, at)?;
+    let variables = variables(alloc, site, &process.variables)?;
     // Read, so that it is known to fit a word.
     let _left = budget.variable_elements;
     charge_variables(&variables, at, budget)?;
-    let drives = drives(alloc, site, &process.statements, at)?;
+    let drives = drives(alloc, site, &process.statements)?;
     let sensitivity = sensitivity(alloc, site, process)?;
     let turns = charge_turns(alloc, &site.integers, &process.statements, at, budget)?;
     let body = body(alloc, site, &variables, &process.statements)?;
@@ -129,7 +121,7 @@ pub fn process(
     budget: &mut Budget,
 ) -> Result<Process, ElabFault>
     requires { IsSite site.now }
-    ensures { Charges (λ made. (process_view made, budget_view budget.new))
+    ensures { Charges (process_bytes (analysed.process_view process.now)) (λ made. (process_view made, budget_view budget.new))
         (charged (budget_view budget.old) process_costs (definition.process (record { site = site_view site.now; prefix = prefix.now }) (analysed.process_view process.now))) result }
 {
     parts_of(alloc, site, prefix, process, budget)

@@ -1,7 +1,7 @@
 //! What is made of an instance so far.
 
-ghost use Rattle.std.specs.Prelude.{Ok};
-ghost use Rattle.vhdl_expand_bodies.specs.Results.{Expands};
+ghost use Rattle.std.specs.Prelude.{[], ◌∷◌, Ok};
+ghost use Rattle.vhdl_expand_bodies.specs.Results.{Charges};
 ghost use Rattle.vhdl_expand.specs.Making.{TurnsFit, progress_view, adding, made_turns};
 
 use vhdl_expand_rules::ElabFault;
@@ -17,10 +17,10 @@ pub(crate) struct TreeProgress {
 }
 
 impl TreeProgress {
-    /// Counts turns of a generate, whose range starts at byte `at`; a fault is TooMany.
+    /// Counts turns of a generate, whose range starts at byte `at`; a fault is TooMany there.
     pub(crate) fn add_turns(&mut self, count: u32, at: usize) -> Result<(), ElabFault>
         requires fits { TurnsFit self.old }
-        ensures { Expands (λ _. progress_view self.new) (adding (progress_view self.old) (Ok (made_turns count))) result }
+        ensures { Charges (at ∷ []) (λ _. progress_view self.new) (adding (progress_view self.old) (Ok (made_turns count))) result }
     {
         self.left.charge_turns(count as usize, at)?;
         self.turns += count;

@@ -1,12 +1,13 @@
 //! What objects of one declaration are and start with (IEEE 1076-2008, 6.4.2.3, 6.5.2).
 
-ghost use Rattle.std.specs.Prelude.{◌≡◌, ◌-◌, ◌^◌, min, option_map, IfOk};
+ghost use Rattle.std.specs.Prelude.{◌≡◌, option_map, IfOk};
 ghost use Rattle.rtl_model.specs.bodies.Fits.{IsWidth};
 ghost use Rattle.vhdl_expand_tree.specs.Views.{object_view, role_view};
 ghost use Rattle.vhdl_expand_rules.specs.Kinds.{size};
 ghost use Rattle.vhdl_expand_rules.specs.views.Kinds.{kind_view};
 ghost use Rattle.vhdl_expand_bodies.specs.Results.{Expands};
 ghost use Rattle.vhdl_expand_bodies.specs.Sites.{site_view};
+ghost use Rattle.vhdl_tree.specs.View.{ident_view};
 ghost use Rattle.vhdl_names_units.specs.views.Answers.{fixed_view, form_view};
 ghost use Rattle.vhdl_expand.specs.Objects.{named_object, shape_of, shaped};
 
@@ -27,16 +28,6 @@ pub(crate) struct Shape {
     ghost is_some: { IsWidth (size (kind_view kind)) },
 }
 
-/// A byte of the source as a word; those beyond it are all the last.
-fn byte(at: usize) -> u32
-    ensures { result ≡ min at (2 ^ 32 - 1) }
-{
-    match u32::try_from(at) {
-        Ok(at) => at,
-        Err(_) => u32::MAX,
-    }
-}
-
 impl Shape {
     /// Of objects of a declaration; a fault is StaticError, Length, Index or TooWide, at this byte where no operator is to
     /// blame. It takes the memory of the list.
@@ -47,7 +38,7 @@ impl Shape {
         objects: &Objects,
         at: usize,
     ) -> Result<Shape, ElabFault>
-        ensures { Expands (λ shape. (kind_view shape.kind, shape.starts.items)) (shape_of (site_view site.now) (form_view objects.now.form) (option_map fixed_view objects.now.default)) result }
+        ensures { Expands (λ shape. (kind_view shape.kind, shape.starts.items)) (shape_of (site_view site.now) at (form_view objects.now.form) (option_map fixed_view objects.now.default)) result }
     {
         let kind = kind(&site.integers, &objects.form, at)?;
         let starts = starts(alloc, site, kind, &objects.default, at)?;
@@ -62,7 +53,7 @@ impl Shape {
         objects: &Objects,
         name: &Identifier,
     ) -> Result<Object, AllocError>
-        ensures given { IfOk result (λ object. object_view object ≡ shaped (kind_view self.now.kind, self.now.starts.items) (role_view role) (named_object objects.now name.now.text.items)) }
+        ensures given { IfOk result (λ object. object_view object ≡ shaped (kind_view self.now.kind, self.now.starts.items) (role_view role) (named_object objects.now (ident_view name.now))) }
         ensures width { IfOk result (λ object. IsWidth (size (kind_view object.kind))) }
     {
         Ok(Object {
@@ -72,7 +63,7 @@ impl Shape {
             is_resolved: objects.is_resolved,
             starts: SmallVec::from_slice(alloc, &self.starts)?,
             actual: None,
-            at: byte(name.at),
+            at: name.at,
         })
     }
 }

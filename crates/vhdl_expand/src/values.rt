@@ -20,7 +20,7 @@ use vhdl_values::{Nine, Vec9};
 /// As many values; a fault is Length.
 fn literal(len: usize, values: &[Nine], at: usize) -> Result<Vec9, ElabFault>
     requires { IsWidth len }
-    ensures given { Computes (definition.as_long_as len values.now) result }
+    ensures given { Computes (definition.as_long_as at len values.now) result }
     ensures long { IfOk result (λ values. length values ≡ len) }
 {
     let found = values.len();
@@ -32,7 +32,7 @@ fn literal(len: usize, values: &[Nine], at: usize) -> Result<Vec9, ElabFault>
 
 /// A vector that is as long; a fault is Length.
 fn vector(len: usize, values: Vec9, at: usize) -> Result<Vec9, ElabFault>
-    ensures given { Computes (definition.as_long_as len values) result }
+    ensures given { Computes (definition.as_long_as at len values) result }
     ensures long { IfOk result (λ values. length values ≡ len) }
 {
     let found = values.len();
@@ -51,7 +51,7 @@ fn encoded(
     size: &Static,
     at: usize,
 ) -> Result<Vec9, ElabFault>
-    ensures given { Computes (encoded_as (site_view site.now) len (static_view number.now) (static_view size.now)) result }
+    ensures given { Computes (encoded_as (site_view site.now) at len (static_view number.now) (static_view size.now)) result }
     ensures long { IfOk result (λ values. length values ≡ len) }
 {
     let number = site.integers.natural(number, at)?;
@@ -63,7 +63,7 @@ fn encoded(
 #[tactic(auto, unfolding(vhdl_expand_rules::specs::Declarations::fixed_values))]
 pub(crate) fn fixed(site: &Site, len: usize, value: &Fixed, at: usize) -> Result<Vec9, ElabFault>
     requires { IsWidth len }
-    ensures given { Computes (definition.fixed_values (site_view site.now) len (fixed_view value.now)) result }
+    ensures given { Computes (definition.fixed_values (site_view site.now) at len (fixed_view value.now)) result }
     ensures long { IfOk result (λ values. length values ≡ len) }
 {
     match value {
@@ -94,7 +94,7 @@ pub(crate) fn constant(
     value: &Fixed,
     at: usize,
 ) -> Result<Constant, ElabFault>
-    ensures { Makes constant_view (constant_of (site_view site.now) (form_view form.now) (fixed_view value.now)) result }
+    ensures { Makes constant_view (constant_of (site_view site.now) at (form_view form.now) (fixed_view value.now)) result }
 {
     let kind = kind(&site.integers, form, at)?;
     let values = fixed(site, kind.size(), value, at)?;

@@ -1,6 +1,6 @@
 //! The variables of a process, and its body among them (IEEE 1076-2008, 6.4.2.4, 10.6).
 
-ghost use Rattle.std.specs.Prelude.{◌≡◌, ◌^◌, ◌<◌, ◌++◌, flat_map, map, All, IfOk};
+ghost use Rattle.std.specs.Prelude.{◌≡◌, ◌^◌, ◌<◌, ◌++◌, [], ◌∷◌, flat_map, map, All, IfOk};
 ghost use Rattle.rtl_model.specs.bodies.Fits.{IsWidth};
 ghost use Rattle.rtl_net.specs.Bodies.{statements_of};
 ghost use Rattle.vhdl_expand_rules.specs.Declarations as definition;
@@ -13,6 +13,7 @@ ghost use Rattle.vhdl_expand_rules.specs.Tree as tree;
 ghost use Rattle.vhdl_expand_bodies.specs.Results.{Expands, Charges};
 ghost use Rattle.vhdl_expand_bodies.specs.Sites.{IsSite, placed_kind, site_view};
 ghost use Rattle.vhdl_expand_bodies.proofs.Sequences.{behind};
+ghost use Rattle.vhdl_tree.specs.View.{ident_view};
 ghost use Rattle.vhdl_names_units.specs.views.Declarations.{object_view};
 ghost use Rattle.vhdl_names_units.specs.views.Sequential as analysed;
 ghost use Rattle.vhdl_expand_tree.specs.Costs.{spent, variables_costs};
@@ -37,12 +38,11 @@ fn variable(
     site: &Site,
     objects: &Objects,
     name: &Identifier,
-    at: usize,
 ) -> Result<Variable, ElabFault>
-    ensures { Expands variable_view (definition.variable (site_view site.now) (named_object objects.now name.now.text.items)) result }
+    ensures { Expands variable_view (definition.variable (site_view site.now) (named_object objects.now (ident_view name.now))) result }
 {
-    let kind = kind(&site.integers, &objects.form, at)?;
-    let starts = starts(alloc, site, kind, &objects.default, at)?;
+    let kind = kind(&site.integers, &objects.form, name.at)?;
+    let starts = starts(alloc, site, kind, &objects.default, name.at)?;
     let name = name.text.to_vec(alloc)?;
     Ok(Variable { name, kind, starts })
 }
@@ -53,14 +53,13 @@ fn add_named(
     site: &Site,
     objects: &Objects,
     names: &[Identifier],
-    at: usize,
     variables: &mut Vec<Variable>,
 ) -> Result<(), ElabFault>
     ensures { Expands (λ _. map variable_view variables.new.items)
-        (behind (map variable_view variables.old.items) (each (definition.variable (site_view site.now)) (map (λ i. named_object objects.now i.text.items) names.now))) result }
+        (behind (map variable_view variables.old.items) (each (definition.variable (site_view site.now)) (map (λ i. named_object objects.now (ident_view i)) names.now))) result }
 {
     for name in names {
-        let next = variable(alloc, site, objects, name, at)?;
+        let next = variable(alloc, site, objects, name)?;
         variables.push(next)?;
     }
     Ok(())
@@ -71,13 +70,12 @@ pub(crate) fn variables(
     alloc: Global,
     site: &Site,
     declarations: &[Objects],
-    at: usize,
 ) -> Result<Vec<Variable>, ElabFault>
     ensures { Expands (λ v. map variable_view v.items) (each (definition.variable (site_view site.now)) (flat_map object_view declarations.now)) result }
 {
     let mut variables = Vec::new(alloc);
     for objects in declarations {
-        add_named(alloc, site, objects, &objects.names, at, &mut variables)?;
+        add_named(alloc, site, objects, &objects.names, &mut variables)?;
     }
     Ok(variables)
 }
@@ -88,7 +86,7 @@ pub(crate) fn charge_variables(
     at: usize,
     budget: &mut Budget,
 ) -> Result<(), ElabFault>
-    ensures { Charges (λ _. budget_view budget.new) (spent (budget_view budget.old) (variables_costs (map variable_view variables.now))) result }
+    ensures { Charges (at ∷ []) (λ _. budget_view budget.new) (spent at (budget_view budget.old) (variables_costs (map variable_view variables.now))) result }
 {
     for variable in variables {
         budget.charge_variables(variable.starts.len(), at)?;

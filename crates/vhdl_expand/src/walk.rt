@@ -1,7 +1,8 @@
 //! Concurrent statements, and the instances that they make (IEEE 1076-2008, clause 11).
 
-ghost use Rattle.std.specs.Prelude.{[], map, Ok};
+ghost use Rattle.std.specs.Prelude.{◌++◌, [], ◌∷◌, map, Ok};
 ghost use Rattle.vhdl_names_rules.specs.units.Units.{generate_for, generate_if};
+ghost use Rattle.vhdl_names_rules.specs.units.Bytes.{process_bytes, instance_bytes, concurrent_bytes, concurrents_bytes, units_bytes};
 ghost use Rattle.vhdl_names_rules.specs.views.Integers.{range_view};
 ghost use Rattle.vhdl_names_rules.specs.views.Tests.{static_test_view};
 ghost use Rattle.vhdl_names_units.specs.views.Concurrent as units;
@@ -14,6 +15,7 @@ ghost use Rattle.vhdl_expand_tree.specs.Views.{instance_view, budget_view};
 ghost use Rattle.vhdl_expand.specs.Making as made;
 ghost use Rattle.vhdl_expand.specs.Making.{TurnsFit, adding, nothing_yet, progress_view};
 ghost use Rattle.vhdl_expand.specs.Spots.{spot_view};
+ghost use Rattle.vhdl_expand.specs.Turning.{TellsTurns};
 ghost use Rattle.vhdl_expand.specs.Views.{declared_view};
 ghost use Rattle.vhdl_expand.specs.Walks.{units_of, IsAmong};
 
@@ -51,7 +53,7 @@ impl Walk<'_> {
     ) -> Result<(), ElabFault>
         requires site { IsSite spot.now.site }
         requires fits { TurnsFit so_far.old }
-        ensures { Charges (λ _. progress_view so_far.new) (adding (progress_view so_far.old)
+        ensures { Charges (concurrents_bytes (units.concurrents_of (map units.concurrent_view list.now)) ++ units_bytes (units_of self.now)) (λ _. progress_view so_far.new) (adding (progress_view so_far.old)
             (made.concurrents (units_of self.now) self.now.levels (spot_view spot.now) (units.concurrents_of (map units.concurrent_view list.now)))) result }
     {
         for item in list {
@@ -70,7 +72,7 @@ impl Walk<'_> {
     ) -> Result<(), ElabFault>
         requires site { IsSite spot.now.site }
         requires fits { TurnsFit so_far.old }
-        ensures { Charges (λ _. progress_view so_far.new) (adding (progress_view so_far.old)
+        ensures { Charges (concurrent_bytes (units.concurrent_view item.now) ++ units_bytes (units_of self.now)) (λ _. progress_view so_far.new) (adding (progress_view so_far.old)
             (made.concurrent (units_of self.now) self.now.levels (spot_view spot.now) (units.concurrent_view item.now))) result }
     {
         match item {
@@ -88,7 +90,7 @@ impl Walk<'_> {
         so_far: &mut TreeProgress,
     ) -> Result<(), ElabFault>
         requires site { IsSite spot.now.site }
-        ensures { Charges (λ _. progress_view so_far.new) (adding (progress_view so_far.old)
+        ensures { Charges (process_bytes (units.process_view written.now)) (λ _. progress_view so_far.new) (adding (progress_view so_far.old)
             (made.process (units_of self.now) self.now.levels (spot_view spot.now) (units.process_view written.now))) result }
     {
         let made = process(
@@ -111,7 +113,7 @@ impl Walk<'_> {
         so_far: &mut TreeProgress,
     ) -> Result<(), ElabFault>
         requires site { IsSite spot.now.site }
-        ensures { Charges (λ _. progress_view so_far.new) (adding (progress_view so_far.old)
+        ensures { Charges (instance_bytes (units.instance_view written.now) ++ units_bytes (units_of self.now)) (λ _. progress_view so_far.new) (adding (progress_view so_far.old)
             (made.instance (units_of self.now) self.now.levels (spot_view spot.now) (units.instance_view written.now))) result }
     {
         let at = written.label.at;
@@ -145,8 +147,8 @@ impl Walk<'_> {
         left: &mut Budget,
     ) -> Result<Instance, ElabFault>
         requires among { IsAmong (units_of self.now) (entity_view unit.now) }
-        ensures { Charges (λ i. (instance_view i, budget_view left.new)) (charged (budget_view left.old) instance_costs
-            (instance_of (units_of self.now) self.now.levels (entity_view unit.now) (declared_view declared))) result }
+        ensures { Charges (at ∷ (map (λ o. o.at) (declared_view declared).objects ++ units_bytes (units_of self.now))) (λ i. (instance_view i, budget_view left.new)) (charged (budget_view left.old) instance_costs
+            (instance_of (units_of self.now) self.now.levels at (entity_view unit.now) (declared_view declared))) result }
     {
         if self.levels == 0 {
             return Err(ElabProblem::TooDeep.at(at));
@@ -179,7 +181,7 @@ impl Walk<'_> {
         list: &[Concurrent],
         left: Budget,
     ) -> Result<TreeProgress, ElabFault>
-        ensures { Charges progress_view (adding (nothing_yet (budget_view left))
+        ensures { Charges (concurrents_bytes (units.concurrents_of (map units.concurrent_view list.now)) ++ units_bytes (units_of self.now)) progress_view (adding (nothing_yet (budget_view left))
             (made.concurrents (units_of self.now) self.now.levels (record { site = (declared_view declared.now).site; prefix = [] }) (units.concurrents_of (map units.concurrent_view list.now)))) result }
     {
         let mut made = TreeProgress {
@@ -207,9 +209,9 @@ impl Walk<'_> {
     ) -> Result<(), ElabFault>
         requires site { IsSite spot.now.site }
         requires fits { TurnsFit so_far.old }
-        ensures { Charges (λ _. progress_view so_far.new) (adding (progress_view so_far.old)
+        ensures { Charges (written.now.at ∷ (concurrents_bytes (units.concurrents_of (units.concurrents_view written.now.statements)) ++ units_bytes (units_of self.now))) (λ _. progress_view so_far.new) (adding (progress_view so_far.old)
             (made.concurrent (units_of self.now) self.now.levels (spot_view spot.now)
-            (units.generated written.now.label.text.items (units.concurrents_of (units.concurrents_view written.now.statements)) written.now.scheme))) result }
+            (units.generated written.now.label.text.items written.now.at (units.concurrents_of (units.concurrents_view written.now.statements)) written.now.scheme))) result }
     {
         match &written.scheme {
             Scheme::For(range) => self.turns(spot, written, range, so_far),
@@ -217,7 +219,8 @@ impl Walk<'_> {
         }
     }
 
-    /// The turns of a for generate, behind what is made so far.
+    /// The turns of a for generate, behind what is made so far. What is refused of its range by itself is told, whatever the budget
+    /// has left.
     #[cycle(concurrent)]
     fn turns(
         &self,
@@ -228,9 +231,10 @@ impl Walk<'_> {
     ) -> Result<(), ElabFault>
         requires site { IsSite spot.now.site }
         requires fits { TurnsFit so_far.old }
-        ensures { Charges (λ _. progress_view so_far.new) (adding (progress_view so_far.old)
+        ensures given { Charges (written.now.at ∷ (concurrents_bytes (units.concurrents_of (units.concurrents_view written.now.statements)) ++ units_bytes (units_of self.now))) (λ _. progress_view so_far.new) (adding (progress_view so_far.old)
             (made.concurrent (units_of self.now) self.now.levels (spot_view spot.now)
-            (generate_for written.now.label.text.items (range_view range.now) (units.concurrents_of (units.concurrents_view written.now.statements))))) result }
+            (generate_for written.now.at written.now.label.text.items (range_view range.now) (units.concurrents_of (units.concurrents_view written.now.statements))))) result }
+        ensures turned { TellsTurns (spot_view spot.now).site.integers written.now.at (range_view range.now) result }
     {
         let turns = spot.site.integers.turns(range, written.at)?;
         so_far.add_turns(turns.count, written.at)?;
@@ -252,7 +256,7 @@ impl Walk<'_> {
     ) -> Result<(), ElabFault>
         requires site { IsSite spot.now.site }
         requires fits { TurnsFit so_far.old }
-        ensures { Charges (λ _. progress_view so_far.new) (adding (progress_view so_far.old)
+        ensures { Charges (concurrents_bytes (units.concurrents_of (units.concurrents_view written.now.statements)) ++ units_bytes (units_of self.now)) (λ _. progress_view so_far.new) (adding (progress_view so_far.old)
             (made.concurrents (units_of self.now) self.now.levels (in_turn (spot_view spot.now) written.now.label.text.items parameter)
             (units.concurrents_of (units.concurrents_view written.now.statements)))) result }
     {
@@ -276,11 +280,11 @@ impl Walk<'_> {
     ) -> Result<(), ElabFault>
         requires site { IsSite spot.now.site }
         requires fits { TurnsFit so_far.old }
-        ensures { Charges (λ _. progress_view so_far.new) (adding (progress_view so_far.old)
+        ensures { Charges (concurrents_bytes (units.concurrents_of (units.concurrents_view written.now.statements)) ++ units_bytes (units_of self.now)) (λ _. progress_view so_far.new) (adding (progress_view so_far.old)
             (made.concurrent (units_of self.now) self.now.levels (spot_view spot.now)
-            (generate_if written.now.label.text.items (static_test_view test.now) (units.concurrents_of (units.concurrents_view written.now.statements))))) result }
+            (generate_if written.now.at written.now.label.text.items (static_test_view test.now) (units.concurrents_of (units.concurrents_view written.now.statements))))) result }
     {
-        if !spot.site.integers.decision(test, written.at)? {
+        if !spot.site.integers.decision(test)? {
             return Ok(());
         }
         let prefix = branch_prefix(self.alloc, spot.prefix, &written.label.text)?;

@@ -24,8 +24,7 @@ use Rattle.vhdl_names_units.specs.views.Sequential as units
 use Rattle.vhdl_names_units.specs.views.Sequential.{Guarded, Chosen}
 use Rattle.vhdl_names_units.proofs.rows.Sequential as rows
 use Rattle.vhdl_expand_rules.specs.declared.fault.ElabFault.{ElabFault}
-use Rattle.vhdl_expand_rules.specs.declared.fault.ElabProblem.{ElabProblem}
-use Rattle.vhdl_expand_rules.specs.Elab.{Elab, ◌>>=◌, each, problem_told}
+use Rattle.vhdl_expand_rules.specs.Elab.{Elab, ◌>>=◌, each, fault_told, Told}
 use Rattle.vhdl_expand_rules.specs.Integers.{turns}
 use Rattle.vhdl_expand_rules.specs.Site.{Site, in_loop, place_elements, variable_elements}
 use Rattle.vhdl_expand_rules.specs.Expressions.{value, test}
@@ -40,7 +39,7 @@ use Rattle.vhdl_expand_bodies.specs.steps.Statements as steps
 use Rattle.vhdl_expand_bodies.specs.steps.Statements.{after}
 use Rattle.vhdl_expand_bodies.proofs.Sequences.{statements_push}
 
-pub after_stops : {problem : ElabProblem} (now : bodies.Stmts) (r : Elab bodies.Stmts) → r ≡ Err problem → (after now r) ≡ Err problem
+pub after_stops : {told : Told} (now : bodies.Stmts) (r : Elab bodies.Stmts) → r ≡ Err told → (after now r) ≡ Err told
 after_stops now r h = err_first r _ h
 
 -- one more statement, where it is made
@@ -51,7 +50,7 @@ added_gives now new d whole (Ok made) (Ok u) h e a =
 added_gives now new d whole (Ok made) (Err fault) h e a = λ n. absurd (n a)
 added_gives now new d whole (Err why) (Ok u) h e a = absurd a
 added_gives now new d whole (Err why) (Err fault) h e a = λ n.
-    subst (λ (f : ElabFault). after (net.statements_of now) whole ≡ Err (problem_told f)) (sym a)
+    subst (λ (f : ElabFault). after (net.statements_of now) whole ≡ Err (fault_told f)) (sym a)
     (after_stops (net.statements_of now) whole (h ∙ ap (λ q. q >>= λ s. given (one s)) (e (λ q. n (a ∙ q)))))
 
 pub none_left : {X : Type 0} (xs : List X) (i : ℕ) → length xs ≤ i → drop i xs ≡ []
@@ -81,34 +80,34 @@ as_one (Ok x) f g = inner (f x) (g x)
     inner (Ok y) k = refl
     inner (Err p) k = refl
 
-module _ (at : Site) where
+module _ (here : Site) where
   -- ---- one statement each
 
-  pub null_one : definition.statement at u.null_of ≡ Ok (one bodies.null_of)
+  pub null_one : definition.statement here u.null_of ≡ Ok (one bodies.null_of)
   unfolding definition.statement
   null_one = refl
 
-  pub assign_by : (p : SignalPart) (g : Given) → definition.statement at (u.assign p g) ≡ (assign at p g >>= λ s. given (one s))
+  pub assign_by : (p : SignalPart) (g : Given) → definition.statement here (u.assign p g) ≡ (assign here p g >>= λ s. given (one s))
   unfolding definition.statement
-  assign_by p g = as_one (place_elements at p) (λ es. definition.value_given at (length es) g) bodies.assign
+  assign_by p g = as_one (place_elements here p) (λ es. definition.value_given here p.at (length es) g) bodies.assign
 
-  pub set_by : (k : ℕ) (part : Part) (g : Given) → definition.statement at (u.set k part g) ≡ (set at k part g >>= λ s. given (one s))
+  pub set_by : (at k : ℕ) (part : Part) (g : Given) → definition.statement here (u.set at k part g) ≡ (set here at k part g >>= λ s. given (one s))
   unfolding definition.statement
-  set_by k part g = as_one (variable_elements at k part) (λ es. definition.value_given at (length es) g) bodies.set
+  set_by at k part g = as_one (variable_elements here at k part) (λ es. definition.value_given here at (length es) g) bodies.set
 
   -- ---- if
 
   branches-each : (gs : List Guarded) (last : u.Branches)
-      → definition.branches at (units.branches_of gs last) ≡ (each (steps.branch at) gs >>= λ bs. definition.branches at last >>= λ y. given (steps.branches_before y bs))
+      → definition.branches here (units.branches_of gs last) ≡ (each (steps.branch here) gs >>= λ bs. definition.branches here last >>= λ y. given (steps.branches_before y bs))
   unfolding definition.branches
-  branches-each [] last = go (definition.branches at last)
+  branches-each [] last = go (definition.branches here last)
     where
       go : (r : Elab bodies.Branches) → r ≡ (r >>= λ y. given y)
       go (Ok y) = refl
       go (Err p) = refl
   branches-each (g ∷ gs) last =
-      go (test at g.condition) (definition.statements at (units.statements_of g.statements)) (definition.branches at (units.branches_of gs last))
-      (each (steps.branch at) gs) (definition.branches at last) (branches-each gs last)
+      go (test here g.condition) (definition.statements here (units.statements_of g.statements)) (definition.branches here (units.branches_of gs last))
+      (each (steps.branch here) gs) (definition.branches here last) (branches-each gs last)
     where
       go : (c : Elab bodies.Test) (x : Elab bodies.Stmts) (q : Elab bodies.Branches) (m : Elab (List steps.Branch)) (l : Elab bodies.Branches) → q ≡ (m >>= λ bs. l >>= λ y. given (steps.branches_before y bs))
           → (c >>= λ c. x >>= λ x. q >>= λ y. given (bodies.branch c x y))
@@ -119,18 +118,18 @@ module _ (at : Site) where
       go (Ok c) (Ok x) q (Ok bs) (Err p) h = ap (λ r. r >>= λ y. given (bodies.branch c x y)) h
       go (Ok c) (Ok x) q (Ok bs) (Ok y) h = ap (λ r. r >>= λ y. given (bodies.branch c x y)) h
 
-  if-is : (x : If) → units.statement_view (t.If x) ≡ u.if_of (units.branches_of (units.branches_view (out-If x).branches) (units.last_of (units.option_statements_view (out-If x).otherwise)))
+  if-is : (x : If) → units.statement_view (t.If x) ≡ u.if_of (out-If x).at (units.branches_of (units.branches_view (out-If x).branches) (units.last_of (units.option_statements_view (out-If x).otherwise)))
   if-is x = ap (λ y. units.statement_view (t.If y)) (sym (roll-out-If x)) ∙ rows.view_if (out-If x).at (out-If x).branches (out-If x).otherwise
 
-  pub if_by : (x : If) → definition.statement at (units.statement_view (t.If x))
-      ≡ (steps.conditional at (units.branches_view (out-If x).branches) (units.last_of (units.option_statements_view (out-If x).otherwise)) >>= λ y. given (one y))
+  pub if_by : (x : If) → definition.statement here (units.statement_view (t.If x))
+      ≡ (steps.conditional here (units.branches_view (out-If x).branches) (units.last_of (units.option_statements_view (out-If x).otherwise)) >>= λ y. given (one y))
   unfolding definition.statement
   if_by x =
       let gs = units.branches_view (out-If x).branches in
       let last = units.last_of (units.option_statements_view (out-If x).otherwise) in
-      ap (definition.statement at) (if-is x)
+      ap (definition.statement here) (if-is x)
       ∙ ap (λ r. r >>= λ cs. given (one (bodies.if_of cs))) (branches-each gs last)
-      ∙ go (each (steps.branch at) gs) (definition.branches at last)
+      ∙ go (each (steps.branch here) gs) (definition.branches here last)
     where
       go : (m : Elab (List steps.Branch)) (l : Elab bodies.Branches)
           → ((m >>= λ bs. l >>= λ y. given (steps.branches_before y bs)) >>= λ cs. given (one (bodies.if_of cs))) ≡ ((m >>= λ bs. l >>= λ y. given (bodies.if_of (steps.branches_before y bs))) >>= λ y. given (one y))
@@ -140,13 +139,13 @@ module _ (at : Site) where
 
   -- ---- case
 
-  alternatives-each : (len : ℕ) (gs : List Chosen) (last : u.Statements)
-      → definition.alternatives at len (units.alternatives_of gs last) ≡ (each (steps.alternative at len) gs >>= λ bs. definition.statements at last >>= λ y. given (steps.alternatives_before y bs))
+  alternatives-each : (at len : ℕ) (gs : List Chosen) (last : u.Statements)
+      → definition.alternatives here at len (units.alternatives_of gs last) ≡ (each (steps.alternative here at len) gs >>= λ bs. definition.statements here last >>= λ y. given (steps.alternatives_before y bs))
   unfolding definition.alternatives
-  alternatives-each len [] last = refl
-  alternatives-each len (g ∷ gs) last =
-      go (each (choice len) g.choices) (definition.statements at (units.statements_of g.statements)) (definition.alternatives at len (units.alternatives_of gs last))
-      (each (steps.alternative at len) gs) (definition.statements at last) (alternatives-each len gs last)
+  alternatives-each at len [] last = refl
+  alternatives-each at len (g ∷ gs) last =
+      go (each (choice at len) g.choices) (definition.statements here (units.statements_of g.statements)) (definition.alternatives here at len (units.alternatives_of gs last))
+      (each (steps.alternative here at len) gs) (definition.statements here last) (alternatives-each at len gs last)
     where
       go : (c : Elab (List (List ℕ))) (x : Elab bodies.Stmts) (q : Elab bodies.Alternatives) (m : Elab (List steps.Alternative)) (l : Elab bodies.Stmts) → q ≡ (m >>= λ bs. l >>= λ y. given (steps.alternatives_before y bs))
           → (c >>= λ c. x >>= λ x. q >>= λ y. given (bodies.alternative c x y))
@@ -158,20 +157,20 @@ module _ (at : Site) where
       go (Ok c) (Ok x) q (Ok bs) (Ok y) h = ap (λ r. r >>= λ y. given (bodies.alternative c x y)) h
 
   case-is : (x : Case) → units.statement_view (t.Case x)
-      ≡ u.case_of (analysed.value_view (out-Case x).selector) (units.alternatives_of (units.alternatives_view (out-Case x).alternatives) (units.statements_of (units.statements_view (out-Case x).others)))
+      ≡ u.case_of (out-Case x).at (analysed.value_view (out-Case x).selector) (units.alternatives_of (units.alternatives_view (out-Case x).alternatives) (units.statements_of (units.statements_view (out-Case x).others)))
   case-is x = ap (λ y. units.statement_view (t.Case y)) (sym (roll-out-Case x)) ∙ rows.view_case (out-Case x).at (out-Case x).selector (out-Case x).alternatives (out-Case x).others
 
   abbrev selected : Case → Elab bodies.Stmt
-  selected x = steps.selection at (analysed.value_view (out-Case x).selector) (units.alternatives_view (out-Case x).alternatives) (units.statements_of (units.statements_view (out-Case x).others))
+  selected x = steps.selection here (out-Case x).at (analysed.value_view (out-Case x).selector) (units.alternatives_view (out-Case x).alternatives) (units.statements_of (units.statements_view (out-Case x).others))
 
-  pub case_by : (x : Case) → definition.statement at (units.statement_view (t.Case x)) ≡ (selected x >>= λ y. given (one y))
+  pub case_by : (x : Case) → definition.statement here (units.statement_view (t.Case x)) ≡ (selected x >>= λ y. given (one y))
   unfolding definition.statement
   case_by x =
       let gs = units.alternatives_view (out-Case x).alternatives in
       let last = units.statements_of (units.statements_view (out-Case x).others) in
-      ap (definition.statement at) (case-is x)
-      ∙ go (value at (analysed.value_view (out-Case x).selector)) (λ len. definition.alternatives at len (units.alternatives_of gs last)) (λ len. each (steps.alternative at len) gs)
-      (definition.statements at last) (λ len. alternatives-each len gs last)
+      ap (definition.statement here) (case-is x)
+      ∙ go (value here (out-Case x).at (analysed.value_view (out-Case x).selector)) (λ len. definition.alternatives here (out-Case x).at len (units.alternatives_of gs last)) (λ len. each (steps.alternative here (out-Case x).at len) gs)
+      (definition.statements here last) (λ len. alternatives-each (out-Case x).at len gs last)
     where
       go : (v : Elab bodies.Value) (q : ℕ → Elab bodies.Alternatives) (m : ℕ → Elab (List steps.Alternative)) (l : Elab bodies.Stmts) → ((len : ℕ) → q len ≡ (m len >>= λ bs. l >>= λ y. given (steps.alternatives_before y bs)))
           → (v >>= λ w. q (value_width w) >>= λ cs. given (one (bodies.case_of w cs)))
@@ -181,9 +180,9 @@ module _ (at : Site) where
 
   -- ---- loop
 
-  pub loop_is : (x : Loop) → definition.statement at (units.statement_view (t.Loop x)) ≡ steps.turned at (range_view x.range) (units.statements_of (units.statements_view x.statements))
+  pub loop_is : (x : Loop) → definition.statement here (units.statement_view (t.Loop x)) ≡ steps.turned here x.at (range_view x.range) (units.statements_of (units.statements_view x.statements))
   unfolding definition.statement
-  loop_is x = ap (definition.statement at) (rows.view_loop x.at x.range x.statements)
+  loop_is x = ap (definition.statement here) (rows.view_loop x.at x.range x.statements)
 
 -- ---- what is made of the parts
 
@@ -202,15 +201,15 @@ pub case_made : (at : ℕ) (v : Value) (alternatives : Vec Alternative Global) (
     → net.statement_view (s.Case at v alternatives others) ≡ bodies.case_of (net.value_view v) (steps.alternatives_before (net.statements_of others.items) (alternatives_view alternatives))
 case_made at v alternatives others = view_case at v alternatives others ∙ ap (bodies.case_of (net.value_view v)) (alternatives-made (net.statements_of others.items) alternatives.items)
 
-module _ (at : Site) where
+module _ (here : Site) where
   -- a turn of the same value, with the same statements
   pub same_turn : (now : bodies.Stmts) (i j : ℤ) (xs ys : List analysed_statement.Statement) → i ≡ j → xs ≡ ys
-      → after now (definition.statements (in_loop at j) (units.statements_of (map units.statement_view ys)))
-      ≡ after now (definition.statements (in_loop at i) (units.statements_of (map units.statement_view xs)))
+      → after now (definition.statements (in_loop here j) (units.statements_of (map units.statement_view ys)))
+      ≡ after now (definition.statements (in_loop here i) (units.statements_of (map units.statement_view xs)))
   same_turn now i j xs ys h k =
-      ap (λ m. after now (definition.statements (in_loop at m) (units.statements_of (map units.statement_view ys)))) (sym h)
-      ∙ ap (λ zs. after now (definition.statements (in_loop at i) (units.statements_of (map units.statement_view zs)))) (sym k)
+      ap (λ m. after now (definition.statements (in_loop here m) (units.statements_of (map units.statement_view ys)))) (sym h)
+      ∙ ap (λ zs. after now (definition.statements (in_loop here i) (units.statements_of (map units.statement_view zs)))) (sym k)
 
-  pub turned_goes : (r : Range) (body : u.Statements) (is : List ℤ) (now : bodies.Stmts) → turns at.integers r ≡ Ok is
-      → after now (steps.turned at r body) ≡ after now (steps.repeated at body is)
-  turned_goes r body is now h = ap (λ q. after now (q >>= λ is. steps.repeated at body is)) h
+  pub turned_goes : (at : ℕ) (r : Range) (body : u.Statements) (is : List ℤ) (now : bodies.Stmts) → turns here.integers at r ≡ Ok is
+      → after now (steps.turned here at r body) ≡ after now (steps.repeated here body is)
+  turned_goes at r body is now h = ap (λ q. after now (q >>= λ is. steps.repeated here body is)) h

@@ -50,22 +50,22 @@ record Found (b : Bounds) (i : ℤ) (p : ℕ) : Type 0 where
   within : is_within b i ≡ true
   place : p ≡ nat_abs (i -ℤ pos b.left)
 
-found : (b : Bounds) (i : ℤ) (p : ℕ) → place_of b i ≡ Ok p → Found b i p
-found b i p h = go (is_within b i) refl h
+found : (b : Bounds) (at : ℕ) (i : ℤ) (p : ℕ) → place_of b at i ≡ Ok p → Found b i p
+found b at i p h = go (is_within b i) refl h
   where
-    go : (w : Bool) → is_within b i ≡ w → cond w (given (nat_abs (i -ℤ pos b.left))) (Err Index) ≡ Ok p → Found b i p
+    go : (w : Bool) → is_within b i ≡ w → cond w (given (nat_abs (i -ℤ pos b.left))) (Err (Index, at)) ≡ Ok p → Found b i p
     go true e k = record { within = e; place = sym (ok (nat_abs (i -ℤ pos b.left)) p k) }
     go false e k = absurd cc
 
-element-short : (l r : ℕ) (d : Direction) (i : ℤ) (p : ℕ) → place_of (record { left = l; direction = d; right = r }) i ≡ Ok p → p + 1 ≤ extent d (pos l) (pos r)
-element-short l r To i p h =
-    let f = found (record { left = l; direction = To; right = r }) i p h in
+element-short : (at l r : ℕ) (d : Direction) (i : ℤ) (p : ℕ) → place_of (record { left = l; direction = d; right = r }) at i ≡ Ok p → p + 1 ≤ extent d (pos l) (pos r)
+element-short at l r To i p h =
+    let f = found (record { left = l; direction = To; right = r }) at i p h in
     let w = in_range l r i f.within in
     let e : p ≡ w.n - l = f.place ∙ ap (λ j. nat_abs (j -ℤ pos l)) w.is ∙ up l w.n w.above in
     let s : nat_abs (pos l -ℤ pos r) ≡ r - l = down l r (omega (arith, w.above, w.below)) in
     grind (arith, nat_tests, w.above, w.below)
-element-short l r Downto i p h =
-    let f = found (record { left = l; direction = Downto; right = r }) i p h in
+element-short at l r Downto i p h =
+    let f = found (record { left = l; direction = Downto; right = r }) at i p h in
     let w = in_range r l i f.within in
     let e : p ≡ l - w.n = f.place ∙ ap (λ j. nat_abs (j -ℤ pos l)) w.is ∙ down w.n l w.below in
     let s : nat_abs (pos l -ℤ pos r) ≡ l - r = up r l (omega (arith, w.above, w.below)) in
@@ -73,12 +73,12 @@ element-short l r Downto i p h =
 
 -- ---- slices
 
-record Sliced (b : Bounds) (direction : Direction) (x y : ℤ) (f len : ℕ) : Type 0 where
+record Sliced (b : Bounds) (at : ℕ) (direction : Direction) (x y : ℤ) (f len : ℕ) : Type 0 where
   same : is_same_direction b.direction direction ≡ true
   some : is_null direction x y ≡ false
   last : ℕ
-  first_is : place_of b x ≡ Ok f
-  last_is : place_of b y ≡ Ok last
+  first_is : place_of b at x ≡ Ok f
+  last_is : place_of b at y ≡ Ok last
   extent_is : len ≡ extent direction x y
 
 not-true : (b : Bool) → not b ≡ true → b ≡ false
@@ -96,17 +96,17 @@ range-first a n f (suc len) h = cc
 range-length : (a n f len : ℕ) → range_with_len a n ≡ range_with_len f len → n ≡ len
 range-length a n f len h = sym (length-range_with_len a n) ∙ ap length h ∙ length-range_with_len f len
 
-sliced : (b : Bounds) (direction : Direction) (x y : ℤ) (f len : ℕ) → slice_places b direction x y ≡ Ok (range_with_len f len) → Sliced b direction x y f len
-sliced b direction x y f len h =
-    let s = bound (unless Index (is_same_direction b.direction direction)) _ _ h in
-    let n = bound (unless Index (not (is_null direction x y))) _ _ s.then_gave in
-    let p = bound (place_of b x) _ _ n.then_gave in
-    let q = bound (place_of b y) _ _ p.then_gave in
-    let none = not-true (is_null direction x y) (kept Index (not (is_null direction x y)) n.x n.gave) in
+sliced : (b : Bounds) (at : ℕ) (direction : Direction) (x y : ℤ) (f len : ℕ) → slice_places b at direction x y ≡ Ok (range_with_len f len) → Sliced b at direction x y f len
+sliced b at direction x y f len h =
+    let s = bound (unless Index at (is_same_direction b.direction direction)) _ _ h in
+    let n = bound (unless Index at (not (is_null direction x y))) _ _ s.then_gave in
+    let p = bound (place_of b at x) _ _ n.then_gave in
+    let q = bound (place_of b at y) _ _ p.then_gave in
+    let none = not-true (is_null direction x y) (kept Index at (not (is_null direction x y)) n.x n.gave) in
     let e = ok (range_with_len p.x (extent direction x y)) (range_with_len f len) q.then_gave in
     let k = extent-some direction x y none in
     record {
-      same = kept Index (is_same_direction b.direction direction) s.x s.gave;
+      same = kept Index at (is_same_direction b.direction direction) s.x s.gave;
       some = none;
       last = q.x;
       first_is = p.gave ∙ ap given (range-first p.x (nat_abs (x -ℤ y)) f len (ap (range_with_len p.x) (suc-is (extent direction x y) (nat_abs (x -ℤ y)) k) ∙ e));
@@ -120,11 +120,11 @@ sliced b direction x y f len h =
 abbrev Fits : (f len most : ℕ) → Type 0
 Fits f len most = (1 ≤ len) × (f + len ≤ most)
 
-slice-to : (l r : ℕ) (x y : ℤ) (f len : ℕ) → Sliced (record { left = l; direction = To; right = r }) To x y f len → Fits f len (extent To (pos l) (pos r))
-slice-to l r x y f len s =
+slice-to : (at l r : ℕ) (x y : ℤ) (f len : ℕ) → Sliced (record { left = l; direction = To; right = r }) at To x y f len → Fits f len (extent To (pos l) (pos r))
+slice-to at l r x y f len s =
     let b : Bounds = record { left = l; direction = To; right = r } in
-    let p = found b x f s.first_is in
-    let q = found b y s.last s.last_is in
+    let p = found b at x f s.first_is in
+    let q = found b at y s.last s.last_is in
     let v = in_range l r x p.within in
     let w = in_range l r y q.within in
     let e : f ≡ v.n - l = p.place ∙ ap (λ j. nat_abs (j -ℤ pos l)) v.is ∙ up l v.n v.above in
@@ -135,11 +135,11 @@ slice-to l r x y f len s =
     let z : nat_abs (pos l -ℤ pos r) ≡ r - l = down l r (omega (arith, w.above, w.below)) in
     (omega arith, grind (arith, nat_tests, v.above, v.below, w.above, w.below))
 
-slice-down : (l r : ℕ) (x y : ℤ) (f len : ℕ) → Sliced (record { left = l; direction = Downto; right = r }) Downto x y f len → Fits f len (extent Downto (pos l) (pos r))
-slice-down l r x y f len s =
+slice-down : (at l r : ℕ) (x y : ℤ) (f len : ℕ) → Sliced (record { left = l; direction = Downto; right = r }) at Downto x y f len → Fits f len (extent Downto (pos l) (pos r))
+slice-down at l r x y f len s =
     let b : Bounds = record { left = l; direction = Downto; right = r } in
-    let p = found b x f s.first_is in
-    let q = found b y s.last s.last_is in
+    let p = found b at x f s.first_is in
+    let q = found b at y s.last s.last_is in
     let v = in_range r l x p.within in
     let w = in_range r l y q.within in
     let e : f ≡ l - v.n = p.place ∙ ap (λ j. nat_abs (j -ℤ pos l)) v.is ∙ down v.n l v.below in
@@ -150,11 +150,11 @@ slice-down l r x y f len s =
     let z : nat_abs (pos l -ℤ pos r) ≡ l - r = up r l (omega (arith, w.above, w.below)) in
     (omega arith, grind (arith, nat_tests, v.above, v.below, w.above, w.below))
 
-slice-short : (l r : ℕ) (d e : Direction) (x y : ℤ) (f len : ℕ) → Sliced (record { left = l; direction = d; right = r }) e x y f len → Fits f len (extent d (pos l) (pos r))
-slice-short l r To To x y f len s = slice-to l r x y f len s
-slice-short l r Downto Downto x y f len s = slice-down l r x y f len s
-slice-short l r To Downto x y f len s = absurd (let h = s.same in cc)
-slice-short l r Downto To x y f len s = absurd (let h = s.same in cc)
+slice-short : (at l r : ℕ) (d e : Direction) (x y : ℤ) (f len : ℕ) → Sliced (record { left = l; direction = d; right = r }) at e x y f len → Fits f len (extent d (pos l) (pos r))
+slice-short at l r To To x y f len s = slice-to at l r x y f len s
+slice-short at l r Downto Downto x y f len s = slice-down at l r x y f len s
+slice-short at l r To Downto x y f len s = absurd (let h = s.same in cc)
+slice-short at l r Downto To x y f len s = absurd (let h = s.same in cc)
 
 -- ---- any part
 
@@ -171,21 +171,21 @@ whole-short (suc n) f len h e =
     let b = range-length 0 (suc n) f len e in
     (omega arith, omega arith)
 
-pub places-short : (at : Integers) (kind : ObjectKind) (part : Part) (f len : ℕ) → 1 ≤ size kind → places at kind part ≡ Ok (range_with_len f len) → Fits f len (size kind)
+pub places-short : (here : Integers) (at : ℕ) (kind : ObjectKind) (part : Part) (f len : ℕ) → 1 ≤ size kind → places here at kind part ≡ Ok (range_with_len f len) → Fits f len (size kind)
 unfolding places
-places-short at kind u.whole f len h e = whole-short (size kind) f len h (ok (range_with_len 0 (size kind)) (range_with_len f len) e)
-places-short at (vector b) (u.Part.element s) f len h e =
-    let i = bound (integer at s) _ _ e in
-    let p = bound (place_of b i.x) _ _ i.then_gave in
-    one-short p.x f len (bounds_size b) (element-short b.left b.right b.direction i.x p.x p.gave) (ok (p.x ∷ []) (range_with_len f len) p.then_gave)
-places-short at (vector b) (u.slice r) f len h e =
-    let x = bound (integer at r.left) _ _ e in
-    let y = bound (integer at r.right) _ _ x.then_gave in
-    slice-short b.left b.right b.direction r.direction x.x y.x f len (sliced b r.direction x.x y.x f len y.then_gave)
-places-short at one (u.Part.element s) f len h e = absurd cc
-places-short at one (u.slice r) f len h e = absurd cc
-places-short at (enumeration count) (u.Part.element s) f len h e = absurd cc
-places-short at (enumeration count) (u.slice r) f len h e = absurd cc
+places-short here at kind u.whole f len h e = whole-short (size kind) f len h (ok (range_with_len 0 (size kind)) (range_with_len f len) e)
+places-short here at (vector b) (u.Part.element s) f len h e =
+    let i = bound (integer here at s) _ _ e in
+    let p = bound (place_of b at i.x) _ _ i.then_gave in
+    one-short p.x f len (bounds_size b) (element-short at b.left b.right b.direction i.x p.x p.gave) (ok (p.x ∷ []) (range_with_len f len) p.then_gave)
+places-short here at (vector b) (u.slice r) f len h e =
+    let x = bound (integer here at r.left) _ _ e in
+    let y = bound (integer here at r.right) _ _ x.then_gave in
+    slice-short at b.left b.right b.direction r.direction x.x y.x f len (sliced b at r.direction x.x y.x f len y.then_gave)
+places-short here at one (u.Part.element s) f len h e = absurd cc
+places-short here at one (u.slice r) f len h e = absurd cc
+places-short here at (enumeration count) (u.Part.element s) f len h e = absurd cc
+places-short here at (enumeration count) (u.slice r) f len h e = absurd cc
 
 -- ---- of one thing among several
 
@@ -195,12 +195,12 @@ map-add m f (suc len) =
     let e : m + (f + 1) ≡ m + f + 1 = omega arith in
     ap (λ xs. (m + f) ∷ xs) (map-add m (f + 1) len ∙ ap (λ a. range_with_len a len) e)
 
-pub part-given : (at : Integers) (from : ℕ) (ps : List Placed) (k : ℕ) (part : Part) (p : Placed) (f len : ℕ) → slice_get ps k ≡ Some p
-    → IsSitePlaced (take k (map placed_kind ps)) p → places at (placed_kind p) part ≡ Ok (range_with_len f len)
-    → part_elements at from (map placed_kind ps) k part ≡ Ok (range_with_len (from + p.first + f) len)
-part-given at from ps k part p f len there placed h =
+pub part-given : (here : Integers) (at from : ℕ) (ps : List Placed) (k : ℕ) (part : Part) (p : Placed) (f len : ℕ) → slice_get ps k ≡ Some p
+    → IsSitePlaced (take k (map placed_kind ps)) p → places here at (placed_kind p) part ≡ Ok (range_with_len f len)
+    → part_elements here at from (map placed_kind ps) k part ≡ Ok (range_with_len (from + p.first + f) len)
+part-given here at from ps k part p f len there placed h =
     let kinds = map placed_kind ps in
-    ap (λ o. found_kind Index o >>= λ kind. places at kind part >>= λ xs. given (map (λ q. from + elements_count (take k kinds) + q) xs))
+    ap (λ o. found_kind Index at o >>= λ kind. places here at kind part >>= λ xs. given (map (λ q. from + elements_count (take k kinds) + q) xs))
     (slice_get-map placed_kind ps k ∙ ap (option_map placed_kind) there)
     ∙ ap (λ r. r >>= λ xs. given (map (λ q. from + elements_count (take k kinds) + q) xs)) h
     ∙ ap given (map-add (from + elements_count (take k kinds)) f len)
@@ -219,10 +219,10 @@ among (q ∷ ps) (suc k) p h =
     let rest : elements_count (take k (map placed_kind ps)) + size (placed_kind p) ≤ elements_count (map placed_kind ps) = among ps k p h in
     omega (arith, all, some, rest)
 
-pub part-fits : (at : Integers) (from : ℕ) (ps : List Placed) (k : ℕ) (part : Part) (p : Placed) (f len : ℕ) → from + elements_count (map placed_kind ps) < 2 ^ 32
-    → slice_get ps k ≡ Some p → IsSitePlaced (take k (map placed_kind ps)) p → places at (placed_kind p) part ≡ Ok (range_with_len f len) → IsWidth len × (from + p.first + f < 2 ^ 32)
-part-fits at from ps k part p f len few there placed h =
-    let fits = places-short at (placed_kind p) part f len placed.width.0 h in
+pub part-fits : (here : Integers) (at from : ℕ) (ps : List Placed) (k : ℕ) (part : Part) (p : Placed) (f len : ℕ) → from + elements_count (map placed_kind ps) < 2 ^ 32
+    → slice_get ps k ≡ Some p → IsSitePlaced (take k (map placed_kind ps)) p → places here at (placed_kind p) part ≡ Ok (range_with_len f len) → IsWidth len × (from + p.first + f < 2 ^ 32)
+part-fits here at from ps k part p f len few there placed h =
+    let fits = places-short here at (placed_kind p) part f len placed.width.0 h in
     let within = among ps k p there in
     ((fits.0, omega (arith, fits.0, fits.1, placed.width.1)), omega (arith, few, fits.0, fits.1, placed.first, within))
 
@@ -236,25 +236,25 @@ values-there vs f (suc len) h =
     ∙ ap (λ j. slice_index_or vs f X ∷ take len (drop j vs)) (add-one f)
     ∙ ap (take (suc len)) (sym (drop-cons vs f X here))
 
-pub constant-given : (at : Site) (k : ℕ) (part : Part) (c : Constant) (f len : ℕ) → slice_get at.constants k ≡ Some c → f + len ≤ length c.values
-    → places at.integers c.kind part ≡ Ok (range_with_len f len) → constant_values at k part ≡ Ok (take len (drop f c.values))
+pub constant-given : (here : Site) (at k : ℕ) (part : Part) (c : Constant) (f len : ℕ) → slice_get here.constants k ≡ Some c → f + len ≤ length c.values
+    → places here.integers at c.kind part ≡ Ok (range_with_len f len) → constant_values here at k part ≡ Ok (take len (drop f c.values))
 unfolding constant_values
-constant-given at k part c f len there h e =
-    ap (λ o. found_kind Index o >>= λ c. places at.integers c.kind part >>= λ ps. given (map (λ p. slice_index_or c.values p X) ps)) there
+constant-given here at k part c f len there h e =
+    ap (λ o. found_kind Index at o >>= λ c. places here.integers at c.kind part >>= λ ps. given (map (λ p. slice_index_or c.values p X) ps)) there
     ∙ ap (λ r. r >>= λ ps. given (map (λ p. slice_index_or c.values p X) ps)) e
     ∙ ap given (values-there c.values f len h)
 
 -- ---- sizes
 
-pub size_fits : (at : Integers) (s : Static) (n : ℕ) → size_of at s ≡ Ok n → IsWidth n
+pub size_fits : (here : Integers) (at : ℕ) (s : Static) (n : ℕ) → size_of here at s ≡ Ok n → IsWidth n
 unfolding size_of
-size_fits at s n h =
-    let m = bound (natural at s) _ n h in
-    let some = bound (unless Index (nat_le 1 m.x)) _ n m.then_gave in
-    let room = bound (unless TooWide (nat_le m.x 64)) _ n some.then_gave in
+size_fits here at s n h =
+    let m = bound (natural here at s) _ n h in
+    let some = bound (unless Index at (nat_le 1 m.x)) _ n m.then_gave in
+    let room = bound (unless TooWide at (nat_le m.x 64)) _ n some.then_gave in
     let e : m.x ≡ n = ok m.x n room.then_gave in
-    let low : 1 ≤ m.x = leb-true 1 m.x (kept Index (nat_le 1 m.x) some.x some.gave) in
-    let high : m.x ≤ 64 = leb-true m.x 64 (kept TooWide (nat_le m.x 64) room.x room.gave) in
+    let low : 1 ≤ m.x = leb-true 1 m.x (kept Index at (nat_le 1 m.x) some.x some.gave) in
+    let high : m.x ≤ 64 = leb-true m.x 64 (kept TooWide at (nat_le m.x 64) room.x room.gave) in
     (omega arith, omega arith)
 
 pub elements-length : (f len : ℕ) (ns : List ℕ) → given (range_with_len f len) ≡ Ok ns → length ns ≡ len
@@ -266,6 +266,6 @@ there xs k x h e = slice_get-get_or xs k x h ∙ ap Some (sym e)
 
 -- ---- one element
 
-pub one_element : (f len : ℕ) → 1 ≤ len → the_element (given (range_with_len f len)) ≡ Ok f
-one_element f zero some = absurd (omega arith)
-one_element f (suc len) some = refl
+pub one_element : (at f len : ℕ) → 1 ≤ len → the_element at (given (range_with_len f len)) ≡ Ok f
+one_element at f zero some = absurd (omega arith)
+one_element at f (suc len) some = refl

@@ -10,8 +10,7 @@ use Rattle.rtl_net.specs.Bodies as net
 use Rattle.vhdl_names_units.specs.views.Sequential as units
 use Rattle.vhdl_expand_rules.specs.declared.fault.ElabFault.{ElabFault}
 use Rattle.vhdl_expand_rules.specs.declared.fault.ElabFault.TheVariants.{NoMemory}
-use Rattle.vhdl_expand_rules.specs.declared.fault.ElabProblem.{ElabProblem}
-use Rattle.vhdl_expand_rules.specs.Elab.{Elab, ◌>>=◌, each, problem_told}
+use Rattle.vhdl_expand_rules.specs.Elab.{Elab, ◌>>=◌, each, fault_told, Told}
 use Rattle.vhdl_expand_rules.specs.Integers.{numbers_from}
 use Rattle.vhdl_expand_rules.specs.Parameters.{parameter}
 use Rattle.vhdl_expand_rules.specs.Site.{Site, in_loop}
@@ -45,40 +44,40 @@ after_goes made new (Ok x) (Ok y) h = ap given (sym (followed_assoc made x y) �
 after_goes made new (Ok x) (Err p) h = refl
 after_goes made new (Err p) q h = absurd cc
 
-after_stops : {problem : ElabProblem} (made : bodies.Stmts) (r q : Elab bodies.Stmts) → (after made r) ≡ Err problem → (after made (r >>= λ x. q >>= λ y. given (bodies.followed_by x y))) ≡ Err problem
+after_stops : {told : Told} (made : bodies.Stmts) (r q : Elab bodies.Stmts) → (after made r) ≡ Err told → (after made (r >>= λ x. q >>= λ y. given (bodies.followed_by x y))) ≡ Err told
 after_stops made (Ok x) q h = absurd cc
 after_stops made (Err p) q h = h
 
 next-left : {X : Type 0} (xs : List X) (i : ℕ) (x : X) → i < length xs → x ≡ get_or xs i x → drop i xs ≡ x ∷ drop (i + 1) xs
 next-left xs i x h e = drop-cons xs i x h ∙ ap (λ y. y ∷ drop (suc i) xs) (sym e) ∙ ap (λ j. x ∷ drop j xs) (sym (add-one i))
 
-module _ (at : Site) where
+module _ (here : Site) where
   pub list_goes : {X : Type 0} (v : X → u.Statement) (total : Elab bodies.Stmts) (now new : bodies.Stmts) (xs : List X) (i : ℕ) (x : X) → i < length xs → x ≡ get_or xs i x
-      → total ≡ after now (statements at (units.statements_of (map v (drop i xs)))) → after now (statement at (v x)) ≡ Ok new
-      → total ≡ after new (statements at (units.statements_of (map v (drop (i + 1) xs))))
+      → total ≡ after now (statements here (units.statements_of (map v (drop i xs)))) → after now (statement here (v x)) ≡ Ok new
+      → total ≡ after new (statements here (units.statements_of (map v (drop (i + 1) xs))))
   unfolding statements
   list_goes v total now new xs i x below is so_far h =
-      so_far ∙ ap (λ ys. after now (statements at (units.statements_of (map v ys)))) (next-left xs i x below is)
-      ∙ after_goes now new (statement at (v x)) (statements at (units.statements_of (map v (drop (i + 1) xs)))) h
+      so_far ∙ ap (λ ys. after now (statements here (units.statements_of (map v ys)))) (next-left xs i x below is)
+      ∙ after_goes now new (statement here (v x)) (statements here (units.statements_of (map v (drop (i + 1) xs)))) h
 
-  pub list_stops : {problem : ElabProblem} {X : Type 0} (v : X → u.Statement) (total : Elab bodies.Stmts) (now : bodies.Stmts) (xs : List X) (i : ℕ) (x : X) → i < length xs → x ≡ get_or xs i x
-      → total ≡ after now (statements at (units.statements_of (map v (drop i xs)))) → (after now (statement at (v x))) ≡ Err problem → total ≡ Err problem
+  pub list_stops : {told : Told} {X : Type 0} (v : X → u.Statement) (total : Elab bodies.Stmts) (now : bodies.Stmts) (xs : List X) (i : ℕ) (x : X) → i < length xs → x ≡ get_or xs i x
+      → total ≡ after now (statements here (units.statements_of (map v (drop i xs)))) → (after now (statement here (v x))) ≡ Err told → total ≡ Err told
   unfolding statements
-  list_stops {problem} v total now xs i x below is so_far h =
-      subst (λ (r : Elab bodies.Stmts). r ≡ Err problem)
-      (sym (so_far ∙ ap (λ ys. after now (statements at (units.statements_of (map v ys)))) (next-left xs i x below is)))
-      (after_stops now (statement at (v x)) (statements at (units.statements_of (map v (drop (i + 1) xs)))) h)
+  list_stops {told} v total now xs i x below is so_far h =
+      subst (λ (r : Elab bodies.Stmts). r ≡ Err told)
+      (sym (so_far ∙ ap (λ ys. after now (statements here (units.statements_of (map v ys)))) (next-left xs i x below is)))
+      (after_stops now (statement here (v x)) (statements here (units.statements_of (map v (drop (i + 1) xs)))) h)
 
   pub list_ends : {X : Type 0} (v : X → u.Statement) (total : Elab bodies.Stmts) (now : bodies.Stmts) (xs left : List X) → left ≡ []
-      → total ≡ after now (statements at (units.statements_of (map v left))) → total ≡ Ok now
+      → total ≡ after now (statements here (units.statements_of (map v left))) → total ≡ Ok now
   unfolding statements
-  list_ends v total now xs left h so_far = so_far ∙ ap (λ ys. after now (statements at (units.statements_of (map v ys)))) h ∙ ap given (followed_done now)
+  list_ends v total now xs left h so_far = so_far ∙ ap (λ ys. after now (statements here (units.statements_of (map v ys)))) h ∙ ap given (followed_done now)
 
   -- ---- turns of a loop
 
-  turn-goes : (body : u.Statements) (now new : bodies.Stmts) (i : ℤ) (is : List ℤ) → after now (statements (in_loop at i) body) ≡ Ok new
-      → after now (steps.repeated at body (i ∷ is)) ≡ after new (steps.repeated at body is)
-  turn-goes body now new i is h = go (statements (in_loop at i) body) (each (λ j. statements (in_loop at j) body) is) h
+  turn-goes : (body : u.Statements) (now new : bodies.Stmts) (i : ℤ) (is : List ℤ) → after now (statements (in_loop here i) body) ≡ Ok new
+      → after now (steps.repeated here body (i ∷ is)) ≡ after new (steps.repeated here body is)
+  turn-goes body now new i is h = go (statements (in_loop here i) body) (each (λ j. statements (in_loop here j) body) is) h
     where
       go : (r : Elab bodies.Stmts) (q : Elab (List bodies.Stmts)) → after now r ≡ Ok new
           → after now ((r >>= λ y. q >>= λ ys. given (y ∷ ys)) >>= λ ss. given (joined_bodies ss)) ≡ after new (q >>= λ ss. given (joined_bodies ss))
@@ -86,34 +85,34 @@ module _ (at : Site) where
       go (Ok x) (Err p) k = refl
       go (Err p) q k = absurd cc
 
-  turn-stops : {problem : ElabProblem} (body : u.Statements) (now : bodies.Stmts) (i : ℤ) (is : List ℤ) → (after now (statements (in_loop at i) body)) ≡ Err problem
-      → (after now (steps.repeated at body (i ∷ is))) ≡ Err problem
-  turn-stops body now i is h = go (statements (in_loop at i) body) (each (λ j. statements (in_loop at j) body) is) h
+  turn-stops : {told : Told} (body : u.Statements) (now : bodies.Stmts) (i : ℤ) (is : List ℤ) → (after now (statements (in_loop here i) body)) ≡ Err told
+      → (after now (steps.repeated here body (i ∷ is))) ≡ Err told
+  turn-stops body now i is h = go (statements (in_loop here i) body) (each (λ j. statements (in_loop here j) body) is) h
     where
-      go : {problem : ElabProblem} (r : Elab bodies.Stmts) (q : Elab (List bodies.Stmts)) → (after now r) ≡ Err problem → (after now ((r >>= λ y. q >>= λ ys. given (y ∷ ys)) >>= λ ss. given (joined_bodies ss))) ≡ Err problem
+      go : {told : Told} (r : Elab bodies.Stmts) (q : Elab (List bodies.Stmts)) → (after now r) ≡ Err told → (after now ((r >>= λ y. q >>= λ ys. given (y ∷ ys)) >>= λ ss. given (joined_bodies ss))) ≡ Err told
       go (Ok x) q k = absurd cc
       go (Err p) q k = k
 
   pub turns_go : (body : u.Statements) (total : Elab bodies.Stmts) (now new : bodies.Stmts) (direction : Direction) (x i : ℤ) (count k : ℕ) → k < count
-      → total ≡ after now (steps.repeated at body (drop k (numbers_from direction x count))) → i ≡ parameter direction x k
-      → after now (statements (in_loop at i) body) ≡ Ok new
-      → total ≡ after new (steps.repeated at body (drop (k + 1) (numbers_from direction x count)))
+      → total ≡ after now (steps.repeated here body (drop k (numbers_from direction x count))) → i ≡ parameter direction x k
+      → after now (statements (in_loop here i) body) ≡ Ok new
+      → total ≡ after new (steps.repeated here body (drop (k + 1) (numbers_from direction x count)))
   turns_go body total now new direction x i count k below so_far is h =
-      so_far ∙ ap (λ js. after now (steps.repeated at body js)) (next-turn direction x count k below ∙ ap (λ j. j ∷ drop (k + 1) (numbers_from direction x count)) (sym is))
+      so_far ∙ ap (λ js. after now (steps.repeated here body js)) (next-turn direction x count k below ∙ ap (λ j. j ∷ drop (k + 1) (numbers_from direction x count)) (sym is))
       ∙ turn-goes body now new i (drop (k + 1) (numbers_from direction x count)) h
 
-  pub turns_stop : {problem : ElabProblem} (body : u.Statements) (total : Elab bodies.Stmts) (now : bodies.Stmts) (direction : Direction) (x i : ℤ) (count k : ℕ) → k < count
-      → total ≡ after now (steps.repeated at body (drop k (numbers_from direction x count))) → i ≡ parameter direction x k
-      → (after now (statements (in_loop at i) body)) ≡ Err problem → total ≡ Err problem
-  turns_stop {problem} body total now direction x i count k below so_far is h =
-      subst (λ (r : Elab bodies.Stmts). r ≡ Err problem)
-      (sym (so_far ∙ ap (λ js. after now (steps.repeated at body js)) (next-turn direction x count k below ∙ ap (λ j. j ∷ drop (k + 1) (numbers_from direction x count)) (sym is))))
+  pub turns_stop : {told : Told} (body : u.Statements) (total : Elab bodies.Stmts) (now : bodies.Stmts) (direction : Direction) (x i : ℤ) (count k : ℕ) → k < count
+      → total ≡ after now (steps.repeated here body (drop k (numbers_from direction x count))) → i ≡ parameter direction x k
+      → (after now (statements (in_loop here i) body)) ≡ Err told → total ≡ Err told
+  turns_stop {told} body total now direction x i count k below so_far is h =
+      subst (λ (r : Elab bodies.Stmts). r ≡ Err told)
+      (sym (so_far ∙ ap (λ js. after now (steps.repeated here body js)) (next-turn direction x count k below ∙ ap (λ j. j ∷ drop (k + 1) (numbers_from direction x count)) (sym is))))
       (turn-stops body now i (drop (k + 1) (numbers_from direction x count)) h)
 
   pub turns_end : (body : u.Statements) (total : Elab bodies.Stmts) (now : bodies.Stmts) (direction : Direction) (x : ℤ) (count k : ℕ) → count ≤ k
-      → total ≡ after now (steps.repeated at body (drop k (numbers_from direction x count))) → total ≡ Ok now
+      → total ≡ after now (steps.repeated here body (drop k (numbers_from direction x count))) → total ≡ Ok now
   turns_end body total now direction x count k h so_far =
-      so_far ∙ ap (λ js. after now (steps.repeated at body js)) (no-turn direction x count k h) ∙ ap given (followed_done now)
+      so_far ∙ ap (λ js. after now (steps.repeated here body js)) (no-turn direction x count k h) ∙ ap given (followed_done now)
 
 -- ---- each of several things
 
@@ -132,10 +131,10 @@ module _ {A B X : Type 0} (f : A → Elab B) (v : X → A) where
       go (Ok zs) = ap given (sym (append_assoc made (y ∷ []) zs))
       go (Err p) = refl
 
-  pub each_stops : {problem : ElabProblem} (total : Elab (List B)) (made : List B) (xs : List X) (i : ℕ) (x : X) → i < length xs → x ≡ get_or xs i x
-      → total ≡ behind made (each f (map v (drop i xs))) → (f (v x)) ≡ Err problem → total ≡ Err problem
-  each_stops {problem} total made xs i x below is so_far h =
-      subst (λ (r : Elab (List B)). r ≡ Err problem) (sym (so_far ∙ ap (λ zs. behind made (each f (map v zs))) (next-left xs i x below is)))
+  pub each_stops : {told : Told} (total : Elab (List B)) (made : List B) (xs : List X) (i : ℕ) (x : X) → i < length xs → x ≡ get_or xs i x
+      → total ≡ behind made (each f (map v (drop i xs))) → (f (v x)) ≡ Err told → total ≡ Err told
+  each_stops {told} total made xs i x below is so_far h =
+      subst (λ (r : Elab (List B)). r ≡ Err told) (sym (so_far ∙ ap (λ zs. behind made (each f (map v zs))) (next-left xs i x below is)))
       (err_first (f (v x) >>= λ z. each f (map v (drop (i + 1) xs)) >>= λ zs. given (z ∷ zs)) (λ ys. given (made ++ ys)) (err_first (f (v x)) _ h))
 
   pub each_ends : (total : Elab (List B)) (made : List B) (left : List X) → left ≡ [] → total ≡ behind made (each f (map v left)) → total ≡ Ok made
@@ -150,7 +149,7 @@ module _ {A B X : Type 0} (f : A → Elab B) (v : X → A) where
 
   -- one that isn't made, or for which there is no memory
   pub each_refuses : {Y : Type 0} (view : Y → B) (total : Elab (List B)) (old new : List Y) (xs : List X) (i : ℕ) (x : X) (r : Result Y ElabFault) (fault : ElabFault) → i < length xs → x ≡ get_or xs i x
-      → total ≡ behind (map view old) (each f (map v (drop i xs))) → Expands view (f (v x)) r → Adds old new r (Err fault) → fault ≢ NoMemory → total ≡ Err (problem_told fault)
+      → total ≡ behind (map view old) (each f (map v (drop i xs))) → Expands view (f (v x)) r → Adds old new r (Err fault) → fault ≢ NoMemory → total ≡ Err (fault_told fault)
   each_refuses view total old new xs i x (Ok y) fault below is so_far e a n = absurd (n a)
   each_refuses view total old new xs i x (Err why) fault below is so_far e a n =
-      each_stops total (map view old) xs i x below is so_far (e (λ q. n (a ∙ q)) ∙ ap (λ (f : ElabFault). Err (problem_told f)) (sym a))
+      each_stops total (map view old) xs i x below is so_far (e (λ q. n (a ∙ q)) ∙ ap (λ (f : ElabFault). Err (fault_told f)) (sym a))

@@ -20,9 +20,8 @@ use Rattle.vhdl_names_rules.specs.views.Tests.{test_view, start_view, test_chain
 use Rattle.vhdl_names_rules.specs.units.Expressions as u
 use Rattle.vhdl_names_rules.proofs.rows.Vectors as rows
 use Rattle.vhdl_names_rules.proofs.rows.Tests.{view_chain}
-use Rattle.vhdl_expand_rules.specs.declared.fault.ElabProblem.{ElabProblem}
-use Rattle.vhdl_expand_rules.specs.Elab.{Elab, ◌>>=◌}
-use Rattle.vhdl_expand_rules.specs.Site.{Site, signal_elements}
+use Rattle.vhdl_expand_rules.specs.Elab.{Elab, ◌>>=◌, Told}
+use Rattle.vhdl_expand_rules.specs.Site.{Site, signal_elements, the_element}
 use Rattle.vhdl_expand_rules.specs.Expressions.{level_test, test}
 use Rattle.vhdl_expand_rules.proofs.Chains.{bind-assoc, err_first}
 use Rattle.vhdl_expand_rules.proofs.Steps.{given, ok}
@@ -72,45 +71,52 @@ links-push left (x ∷ xs) y = links-push (bodies.combined x.operator left (net.
 abbrev one_more : bodies.Test → Elab bodies.Test
 one_more t = Ok t
 
-pub level_given : (at : Site) (plain : Bool) (p : u.SignalPart) (x : Nine) (f len : ℕ) (es : List ℕ) (vs : List Nine)
-    → signal_elements at p.signal p.part ≡ Ok (range_with_len f len) → 1 ≤ len → (len ≡ 1 → ⊥) → given (range_with_len f len) ≡ Ok es → vs ≡ replicate 1 x
-    → steps.level at plain p x ≡ Ok (bodies.equal (bodies.elements (bodies.signal es)) (bodies.elements (bodies.constant vs)))
-level_given at plain p x f len es vs there some several same value =
+pub level_given : (here : Site) (plain : Bool) (p : u.SignalPart) (x : Nine) (f len : ℕ) (es : List ℕ) (vs : List Nine)
+    → signal_elements here p.at p.signal p.part ≡ Ok (range_with_len f len) → 1 ≤ len → (len ≡ 1 → ⊥) → given (range_with_len f len) ≡ Ok es → vs ≡ replicate 1 x
+    → steps.level here plain p x ≡ Ok (bodies.equal (bodies.elements (bodies.signal es)) (bodies.elements (bodies.constant vs)))
+level_given here plain p x f len es vs there some several same value =
     ap (λ r. r >>= λ es. one_more (level_test plain es x)) there
     ∙ ap one_more (level-more plain f len x (omega arith))
     ∙ ap (λ ms. one_more (bodies.equal (bodies.elements (bodies.signal ms)) (bodies.elements (bodies.constant (x ∷ []))))) (ok (range_with_len f len) es same)
     ∙ ap (λ ws. one_more (bodies.equal (bodies.elements (bodies.signal es)) (bodies.elements (bodies.constant ws)))) (sym value)
 
-module _ (at : Site) where
+-- of one element
+pub one_level : (here : Site) (plain : Bool) (p : u.SignalPart) (x : Nine) (f len e : ℕ) → signal_elements here p.at p.signal p.part ≡ Ok (range_with_len f len) → len ≡ 1
+    → the_element p.at (given (range_with_len f len)) ≡ Ok e → steps.level here plain p x ≡ Ok (bodies.level plain e x)
+one_level here plain p x f len e there one found =
+    let first : f ≡ e = ok f e (ap (λ n. the_element p.at (given (range_with_len f n))) (sym one) ∙ found) in
+    ap (λ r. r >>= λ es. one_more (level_test plain es x)) there ∙ ap (λ n. one_more (level_test plain (range_with_len f n) x)) one ∙ ap (λ m. one_more (bodies.level plain m x)) first
+
+module _ (here : Site) where
   next-left : (xs : List TestLink) (i : ℕ) (x : TestLink) → i < length xs → x ≡ get_or xs i x → drop i xs ≡ x ∷ drop (i + 1) xs
   next-left xs i x h e = drop-cons xs i x h ∙ ap (λ y. y ∷ drop (suc i) xs) (sym e) ∙ ap (λ j. x ∷ drop j xs) (sym (add-one i))
 
   -- one more
   pub next_goes : (begun now new : bodies.Test) (ls : List TestLink) (i : ℕ) (k : TestLink) → i < length ls → k ≡ get_or ls i k
-      → steps.all_linked at begun ls ≡ steps.all_linked at now (drop i ls) → steps.linked at now k ≡ Ok new
-      → steps.all_linked at begun ls ≡ steps.all_linked at new (drop (i + 1) ls)
+      → steps.all_linked here begun ls ≡ steps.all_linked here now (drop i ls) → steps.linked here now k ≡ Ok new
+      → steps.all_linked here begun ls ≡ steps.all_linked here new (drop (i + 1) ls)
   next_goes begun now new ls i k below is so_far h =
-      so_far ∙ ap (λ left. steps.all_linked at now left) (next-left ls i k below is)
-      ∙ ap (λ r. r >>= λ d. steps.all_linked at d (drop (i + 1) ls)) h
+      so_far ∙ ap (λ left. steps.all_linked here now left) (next-left ls i k below is)
+      ∙ ap (λ r. r >>= λ d. steps.all_linked here d (drop (i + 1) ls)) h
 
   -- one that is refused
-  pub next_stops : {problem : ElabProblem} (begun now : bodies.Test) (ls : List TestLink) (i : ℕ) (k : TestLink) → i < length ls → k ≡ get_or ls i k
-      → steps.all_linked at begun ls ≡ steps.all_linked at now (drop i ls) → (steps.linked at now k) ≡ Err problem → (steps.all_linked at begun ls) ≡ Err problem
-  next_stops {problem} begun now ls i k below is so_far h =
-      subst (λ (r : Elab bodies.Test). r ≡ Err problem)
-      (sym (so_far ∙ ap (λ left. steps.all_linked at now left) (next-left ls i k below is)))
-      (err_first (steps.linked at now k) _ h)
+  pub next_stops : {told : Told} (begun now : bodies.Test) (ls : List TestLink) (i : ℕ) (k : TestLink) → i < length ls → k ≡ get_or ls i k
+      → steps.all_linked here begun ls ≡ steps.all_linked here now (drop i ls) → (steps.linked here now k) ≡ Err told → (steps.all_linked here begun ls) ≡ Err told
+  next_stops {told} begun now ls i k below is so_far h =
+      subst (λ (r : Elab bodies.Test). r ≡ Err told)
+      (sym (so_far ∙ ap (λ left. steps.all_linked here now left) (next-left ls i k below is)))
+      (err_first (steps.linked here now k) _ h)
 
   -- an operator with its right operand, behind a chain
   pub link_given : (first : bodies.Test) (rest more : List m.TestLink) (k : TestLink) (x : m.TestLink)
-      → test at (test_view k.operand) ≡ Ok (net.test_view x.operand) → x.operator ≡ k.operator → more ≡ rest ++ x ∷ []
-      → steps.linked at (test_links_of first rest) k ≡ Ok (test_links_of first more)
+      → test here (test_view k.operand) ≡ Ok (net.test_view x.operand) → x.operator ≡ k.operator → more ≡ rest ++ x ∷ []
+      → steps.linked here (test_links_of first rest) k ≡ Ok (test_links_of first more)
   link_given first rest more k x h same pushed =
       ap (λ r. r >>= λ d. one_more (bodies.combined k.operator (test_links_of first rest) d)) h
       ∙ ap (λ op. one_more (bodies.combined op (test_links_of first rest) (net.test_view x.operand))) (sym same)
       ∙ ap one_more (sym (ap (test_links_of first) pushed ∙ links-push first rest x))
 
-  linked-step : (c : u.Test) (k : TestLink) → test at (u.Test.both k.operator c (test_view k.operand)) ≡ (test at c >>= λ d. steps.linked at d k)
+  linked-step : (c : u.Test) (k : TestLink) → test here (u.Test.both k.operator c (test_view k.operand)) ≡ (test here c >>= λ d. steps.linked here d k)
   unfolding test
   linked-step c k = refl
 
@@ -118,33 +124,33 @@ module _ (at : Site) where
   last-ok (Ok x) = refl
   last-ok (Err p) = refl
 
-  chained : (c : u.Test) (ls : List TestLink) → test at (test_chained c ls) ≡ (test at c >>= λ d. steps.all_linked at d ls)
-  chained c [] = last-ok (test at c)
-  chained c (k ∷ ls) = chained (u.Test.both k.operator c (test_view k.operand)) ls ∙ ap (λ r. r >>= λ d. steps.all_linked at d ls) (linked-step c k)
-      ∙ bind-assoc (test at c) (λ d. steps.linked at d k) (λ d. steps.all_linked at d ls)
+  chained : (c : u.Test) (ls : List TestLink) → test here (test_chained c ls) ≡ (test here c >>= λ d. steps.all_linked here d ls)
+  chained c [] = last-ok (test here c)
+  chained c (k ∷ ls) = chained (u.Test.both k.operator c (test_view k.operand)) ls ∙ ap (λ r. r >>= λ d. steps.all_linked here d ls) (linked-step c k)
+      ∙ bind-assoc (test here c) (λ d. steps.linked here d k) (λ d. steps.all_linked here d ls)
 
   chain_is : (e : Test) (start : Box TestStart Global) (links : Vec TestLink Global) (st : TestStart) (ls : List TestLink)
       → e ≡ t.Chain start links → st ≡ start.value → ls ≡ links.items
-      → test at (test_view e) ≡ (steps.started at st >>= λ d. steps.all_linked at d ls)
+      → test here (test_view e) ≡ (steps.started here st >>= λ d. steps.all_linked here d ls)
   chain_is e start links st ls h j k =
-      ap (λ (a : Test). test at (test_view a)) h ∙ ap (λ a. test at a) (view_chain start links)
-      ∙ ap (λ (a : TestStart). test at (test_chained (start_view a) links.items)) (sym j)
-      ∙ ap (λ xs. test at (test_chained (start_view st) xs)) (sym k)
+      ap (λ (a : Test). test here (test_view a)) h ∙ ap (λ a. test here a) (view_chain start links)
+      ∙ ap (λ (a : TestStart). test here (test_chained (start_view a) links.items)) (sym j)
+      ∙ ap (λ xs. test here (test_chained (start_view st) xs)) (sym k)
       ∙ chained (start_view st) ls
-      ∙ ap (λ r. r >>= λ d. steps.all_linked at d ls) (linked-step (test_view st.first) st.link)
+      ∙ ap (λ r. r >>= λ d. steps.all_linked here d ls) (linked-step (test_view st.first) st.link)
 
   pub chain_goes : (e : Test) (start : Box TestStart Global) (links : Vec TestLink Global) (st : TestStart) (ls : List TestLink) (d : bodies.Test)
-      → e ≡ t.Chain start links → st ≡ start.value → ls ≡ links.items → steps.started at st ≡ Ok d
-      → test at (test_view e) ≡ steps.all_linked at d ls
-  chain_goes e start links st ls d h j k given = chain_is e start links st ls h j k ∙ ap (λ r. r >>= λ d. steps.all_linked at d ls) given
+      → e ≡ t.Chain start links → st ≡ start.value → ls ≡ links.items → steps.started here st ≡ Ok d
+      → test here (test_view e) ≡ steps.all_linked here d ls
+  chain_goes e start links st ls d h j k given = chain_is e start links st ls h j k ∙ ap (λ r. r >>= λ d. steps.all_linked here d ls) given
 
-  pub chain_stops : {problem : ElabProblem} (e : Test) (start : Box TestStart Global) (links : Vec TestLink Global) (st : TestStart)
-      → e ≡ t.Chain start links → st ≡ start.value → (steps.started at st) ≡ Err problem → (test at (test_view e)) ≡ Err problem
-  chain_stops {problem} e start links st h j given =
-      subst (λ (r : Elab bodies.Test). r ≡ Err problem) (sym (chain_is e start links st links.items h j refl)) (err_first (steps.started at st) _ given)
+  pub chain_stops : {told : Told} (e : Test) (start : Box TestStart Global) (links : Vec TestLink Global) (st : TestStart)
+      → e ≡ t.Chain start links → st ≡ start.value → (steps.started here st) ≡ Err told → (test here (test_view e)) ≡ Err told
+  chain_stops {told} e start links st h j given =
+      subst (λ (r : Elab bodies.Test). r ≡ Err told) (sym (chain_is e start links st links.items h j refl)) (err_first (steps.started here st) _ given)
 
-  pub more_stops : {problem : ElabProblem} (e : Test) (start : Box TestStart Global) (links : Vec TestLink Global) (st : TestStart) (ls : List TestLink) (d : bodies.Test)
-      → e ≡ t.Chain start links → st ≡ start.value → ls ≡ links.items → steps.started at st ≡ Ok d
-      → (steps.all_linked at d ls) ≡ Err problem → (test at (test_view e)) ≡ Err problem
-  more_stops {problem} e start links st ls d h j k given stopped =
-      subst (λ (r : Elab bodies.Test). r ≡ Err problem) (sym (chain_goes e start links st ls d h j k given)) stopped
+  pub more_stops : {told : Told} (e : Test) (start : Box TestStart Global) (links : Vec TestLink Global) (st : TestStart) (ls : List TestLink) (d : bodies.Test)
+      → e ≡ t.Chain start links → st ≡ start.value → ls ≡ links.items → steps.started here st ≡ Ok d
+      → (steps.all_linked here d ls) ≡ Err told → (test here (test_view e)) ≡ Err told
+  more_stops {told} e start links st ls d h j k given stopped =
+      subst (λ (r : Elab bodies.Test). r ≡ Err told) (sym (chain_goes e start links st ls d h j k given)) stopped

@@ -22,7 +22,7 @@ use vhdl_values::Vec9;
 /// A choice of a case whose selector has so many elements; a fault is Length.
 #[tactic(auto, unfolding(vhdl_expand_rules::specs::Statements::choice))]
 pub(crate) fn choice(len: Width, choice: &analysed::Choice, at: usize) -> Result<Choice, ElabFault>
-    ensures { Expands choice_view (definition.choice len.len (analysed.choice_view choice.now)) result }
+    ensures { Expands choice_view (definition.choice at len.len (analysed.choice_view choice.now)) result }
 {
     match choice {
         analysed::Choice::Values(values) => {
@@ -48,7 +48,7 @@ impl Site<'_> {
         at: usize,
     ) -> Result<Value, ElabFault>
         requires { IsSite self.now }
-        ensures { Expands value_view (definition.value_given (site_view self.now) len (analysed.given_view given.now)) result }
+        ensures { Expands value_view (definition.value_given (site_view self.now) at len (analysed.given_view given.now)) result }
     {
         match given {
             Given::Single(value) => {
@@ -102,7 +102,7 @@ impl Site<'_> {
     ) -> Result<Statement, ElabFault>
         requires { IsSite self.now }
         ensures { Expands statement_view
-            (steps.set (site_view self.now) variable (part_view part.now) (analysed.given_view value.now)) result }
+            (steps.set (site_view self.now) at variable (part_view part.now) (analysed.given_view value.now)) result }
     {
         let run = self.variable_elements(variable, part, at)?;
         let value = self.assigned(alloc, run.len as u32, value, at)?;

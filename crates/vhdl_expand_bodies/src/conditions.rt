@@ -167,7 +167,6 @@ impl Site<'_> {
         &self,
         alloc: Global,
         test: &analysed::Test,
-        at: usize,
     ) -> Result<Test, ElabFault>
         requires { IsSite self.now }
         ensures { Expands test_view (definition.test (site_view self.now) (analysed.test_view test.now)) result }
@@ -178,7 +177,7 @@ impl Site<'_> {
                 Ok(Test::Condition(operand.expr))
             }
             analysed::Test::Fixed(decided) => {
-                let holds = self.integers.decision(decided, at)?;
+                let holds = self.integers.decision(decided)?;
                 Ok(Test::Decided(holds))
             }
             analysed::Test::Alike(at, left, right) => self.alike(alloc, left, right, *at),
@@ -203,12 +202,12 @@ impl Site<'_> {
                 Ok(Test::Event(element))
             }
             analysed::Test::Not(operand) => {
-                let operand = self.expanded_test(alloc, operand, at)?;
+                let operand = self.expanded_test(alloc, operand)?;
                 Ok(Test::Negated(Box::new(alloc, operand)?))
             }
             analysed::Test::Chain(start, links) => {
-                let mut chain = self.started_test(alloc, start, at)?;
-                self.add_tests(alloc, links, at, &mut chain)?;
+                let mut chain = self.started_test(alloc, start)?;
+                self.add_tests(alloc, links, &mut chain)?;
                 Ok(chain.whole())
             }
         }
@@ -223,7 +222,7 @@ impl Site<'_> {
         at: usize,
     ) -> Result<Test, ElabFault>
         requires { IsSite self.now }
-        ensures { Expands test_view (steps.alike (site_view self.now) (value_view left.now) (value_view right.now)) result }
+        ensures { Expands test_view (steps.alike (site_view self.now) at (value_view left.now) (value_view right.now)) result }
     {
         if let Some(place) = name_of(left) {
             if let Some(character) = character_of(right) {
@@ -246,7 +245,7 @@ impl Site<'_> {
         at: usize,
     ) -> Result<Test, ElabFault>
         requires { IsSite self.now }
-        ensures { Expands test_view (steps.equal (site_view self.now) (value_view left.now) (value_view right.now)) result }
+        ensures { Expands test_view (steps.equal (site_view self.now) at (value_view left.now) (value_view right.now)) result }
     {
         let left = self.expanded_value(alloc, left, at)?;
         let (left, right) = both(left, self.expanded_value(alloc, right, at))?;
@@ -262,7 +261,7 @@ impl Site<'_> {
         at: usize,
     ) -> Result<Test, ElabFault>
         requires { IsSite self.now }
-        ensures { Expands test_view (steps.unlike (site_view self.now) (value_view left.now) (value_view right.now)) result }
+        ensures { Expands test_view (steps.unlike (site_view self.now) at (value_view left.now) (value_view right.now)) result }
     {
         let left = self.expanded_value(alloc, left, at)?;
         let (left, right) = both(left, self.expanded_value(alloc, right, at))?;
@@ -295,7 +294,7 @@ impl Site<'_> {
         at: usize,
     ) -> Result<Test, ElabFault>
         requires { IsSite self.now }
-        ensures { Expands test_view (steps.compared_to (site_view self.now) relation (vector_view vector.now) (static_view integer.now)) result }
+        ensures { Expands test_view (steps.compared_to (site_view self.now) at relation (vector_view vector.now) (static_view integer.now)) result }
     {
         let operand = self.expanded(alloc, vector)?;
         let (operand, number) = both(operand, self.integers.natural(integer, at))?;
@@ -321,22 +320,17 @@ impl Site<'_> {
 
     /// The first operator of a chain.
     #[cycle(condition)]
-    fn started_test(
-        &self,
-        alloc: Global,
-        start: &TestStart,
-        at: usize,
-    ) -> Result<TestChain, ElabFault>
+    fn started_test(&self, alloc: Global, start: &TestStart) -> Result<TestChain, ElabFault>
         requires { IsSite self.now }
         ensures { Expands chain_view (steps.started (site_view self.now) start.now) result }
     {
-        let first = self.expanded_test(alloc, &start.first, at)?;
+        let first = self.expanded_test(alloc, &start.first)?;
         let first = Box::new(alloc, first)?;
         let mut chain = TestChain {
             first,
             rest: Vec::new(alloc),
         };
-        self.add_test(alloc, &start.link, at, &mut chain)?;
+        self.add_test(alloc, &start.link, &mut chain)?;
         Ok(chain)
     }
 
@@ -346,14 +340,13 @@ impl Site<'_> {
         &self,
         alloc: Global,
         links: &[analysed::TestLink],
-        at: usize,
         chain: &mut TestChain,
     ) -> Result<(), ElabFault>
         requires { IsSite self.now }
         ensures { Expands (λ _. chain_view chain.new) (steps.all_linked (site_view self.now) (chain_view chain.old) links.now) result }
     {
         for link in links {
-            self.add_test(alloc, link, at, chain)?;
+            self.add_test(alloc, link, chain)?;
         }
         Ok(())
     }
@@ -364,13 +357,12 @@ impl Site<'_> {
         &self,
         alloc: Global,
         link: &analysed::TestLink,
-        at: usize,
         chain: &mut TestChain,
     ) -> Result<(), ElabFault>
         requires { IsSite self.now }
         ensures { Expands (λ _. chain_view chain.new) (steps.linked (site_view self.now) (chain_view chain.old) link.now) result }
     {
-        let operand = self.expanded_test(alloc, &link.operand, at)?;
+        let operand = self.expanded_test(alloc, &link.operand)?;
         let operator = link.operator;
         chain.rest.push(TestLink { operator, operand })?;
         Ok(())

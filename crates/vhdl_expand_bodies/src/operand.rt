@@ -64,7 +64,7 @@ pub(crate) fn operator(operator: VectorOperator) -> Operator
 
 /// How many elements an operator makes of so many; a fault is Length or TooWide.
 fn fitted(operator: Operator, left: Width, right: Width, at: usize) -> Result<Width, ElabFault>
-    ensures given { Expands (λ _. tt) (definition.operands_fit (operator_view operator) left.len right.len) result }
+    ensures given { Expands (λ _. tt) (definition.operands_fit at (operator_view operator) left.len right.len) result }
     ensures width { IfOk result (λ w. w.len ≡ operated_width (operator_view operator) left.len right.len) }
 {
     match operator {
@@ -100,7 +100,7 @@ impl Chain {
         at: usize,
     ) -> Result<(), ElabFault>
         ensures { Expands (λ _. links_of (expr_view self.new.first.value) self.new.rest.items)
-            (definition.operation_on (operator_view operator) (links_of (expr_view self.old.first.value) self.old.rest.items) (expr_view right.expr)) result }
+            (definition.operation_on at (operator_view operator) (links_of (expr_view self.old.first.value) self.old.rest.items) (expr_view right.expr)) result }
     {
         let width = fitted(operator, self.width, right.width, at)?;
         let operand = right.expr;
@@ -177,7 +177,7 @@ impl Operand {
         at: usize,
     ) -> Result<Operand, ElabFault>
         ensures { Expands (λ o. expr_view o.expr)
-            (definition.operation_on (operator_view operator) (bodies.constant (digits_of (fits.width (expr_view self.expr)) number)) (expr_view self.expr)) result }
+            (definition.operation_on at (operator_view operator) (bodies.constant (digits_of (fits.width (expr_view self.expr)) number)) (expr_view self.expr)) result }
     {
         let digits = Operand::constant(Vec9::of_nat(u64::from(number), self.width.len));
         let mut chain = digits.begin(alloc)?;

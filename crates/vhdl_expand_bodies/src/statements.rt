@@ -45,7 +45,7 @@ fn choices(
     list: &[analysed::Choice],
     at: usize,
 ) -> Result<Vec<Choice>, ElabFault>
-    ensures { Expands (λ v. map choice_view v.items) (each (definition.choice width.len) (map answers.choice_view list.now)) result }
+    ensures { Expands (λ v. map choice_view v.items) (each (definition.choice at width.len) (map answers.choice_view list.now)) result }
 {
     let mut choices = Vec::new(alloc);
     for item in list {
@@ -132,7 +132,7 @@ impl Site<'_> {
             (steps.conditional (site_view self.now) (analysed.branches_view (out-If conditional.now).branches)
             (analysed.last_of (analysed.option_statements_view (out-If conditional.now).otherwise))) result }
     {
-        let branches = self.branches(alloc, &conditional.branches, conditional.at)?;
+        let branches = self.branches(alloc, &conditional.branches)?;
         let (branches, otherwise) = both(branches, self.otherwise(alloc, conditional))?;
         Ok(Statement::If {
             at: byte(conditional.at),
@@ -143,36 +143,26 @@ impl Site<'_> {
 
     /// The branches of an if statement.
     #[cycle(statement)]
-    fn branches(
-        &self,
-        alloc: Global,
-        list: &[analysed::Branch],
-        at: usize,
-    ) -> Result<Vec<Branch>, ElabFault>
+    fn branches(&self, alloc: Global, list: &[analysed::Branch]) -> Result<Vec<Branch>, ElabFault>
         requires { IsSite self.now }
         ensures { Expands branches_view
             (each (steps.branch (site_view self.now)) (map analysed.branch_view list.now)) result }
     {
         let mut branches = Vec::new(alloc);
         for item in list {
-            add(&mut branches, self.branch(alloc, item, at))?;
+            add(&mut branches, self.branch(alloc, item))?;
         }
         Ok(branches)
     }
 
     /// A condition, and the statements that it guards.
     #[cycle(statement)]
-    fn branch(
-        &self,
-        alloc: Global,
-        branch: &analysed::Branch,
-        at: usize,
-    ) -> Result<Branch, ElabFault>
+    fn branch(&self, alloc: Global, branch: &analysed::Branch) -> Result<Branch, ElabFault>
         requires { IsSite self.now }
         ensures { Expands branch_view
             (steps.branch (site_view self.now) (analysed.branch_view branch.now)) result }
     {
-        let test = self.expanded_test(alloc, &branch.condition, at)?;
+        let test = self.expanded_test(alloc, &branch.condition)?;
         let (test, statements) = both(test, self.body(alloc, &branch.statements))?;
         Ok(Branch { test, statements })
     }
@@ -205,7 +195,7 @@ impl Site<'_> {
     fn selection(&self, alloc: Global, selection: &Case) -> Result<Statement, ElabFault>
         requires { IsSite self.now }
         ensures { Expands statement_view
-            (steps.selection (site_view self.now) (value_view (out-Case selection.now).selector)
+            (steps.selection (site_view self.now) (out-Case selection.now).at (value_view (out-Case selection.now).selector)
             (analysed.alternatives_view (out-Case selection.now).alternatives) (analysed.statements_of (analysed.statements_view (out-Case selection.now).others))) result }
     {
         let at = selection.at;
@@ -234,7 +224,7 @@ impl Site<'_> {
     ) -> Result<Vec<Alternative>, ElabFault>
         requires { IsSite self.now }
         ensures { Expands alternatives_view
-            (each (steps.alternative (site_view self.now) width.len) (map analysed.alternative_view list.now)) result }
+            (each (steps.alternative (site_view self.now) at width.len) (map analysed.alternative_view list.now)) result }
     {
         let mut alternatives = Vec::new(alloc);
         for item in list {
@@ -254,7 +244,7 @@ impl Site<'_> {
     ) -> Result<Alternative, ElabFault>
         requires { IsSite self.now }
         ensures { Expands alternative_view
-            (steps.alternative (site_view self.now) width.len (analysed.alternative_view alternative.now)) result }
+            (steps.alternative (site_view self.now) at width.len (analysed.alternative_view alternative.now)) result }
     {
         let choices = choices(alloc, width, &alternative.choices, at)?;
         let statements = self.body(alloc, &alternative.statements);
@@ -276,7 +266,7 @@ impl Site<'_> {
         requires { IsSite self.now }
         ensures { Expands (λ _. statements_of body.new.items)
             (steps.after (statements_of body.old.items)
-            (steps.turned (site_view self.now) (range_view repeated.now.range)
+            (steps.turned (site_view self.now) repeated.now.at (range_view repeated.now.range)
             (analysed.statements_of (analysed.statements_view repeated.now.statements)))) result }
     {
         let turns = self.integers.turns(&repeated.range, repeated.at)?;

@@ -21,7 +21,7 @@ use vhdl_values::{Counted, Nine, Vec9};
 
 /// A string or bit string; a fault is Index or TooWide.
 fn literal(values: &[Nine], at: usize) -> Result<Operand, ElabFault>
-    ensures { Expands operand_view (steps.literal values.now) result }
+    ensures { Expands operand_view (steps.literal at values.now) result }
 {
     if values.is_empty() {
         return Err(ElabProblem::Index.at(at));
@@ -86,7 +86,7 @@ impl Site<'_> {
     /// A variable or part of one, by its elements.
     fn variable(&self, number: usize, part: &Part, at: usize) -> Result<Operand, ElabFault>
         requires { IsSite self.now }
-        ensures { Expands operand_view (steps.variable (site_view self.now) number (part_view part.now)) result }
+        ensures { Expands operand_view (steps.variable (site_view self.now) at number (part_view part.now)) result }
     {
         let run = self.variable_elements(number, part, at)?;
         let elements = elements(run);
@@ -99,7 +99,7 @@ impl Site<'_> {
     /// `to_unsigned`.
     #[tactic(auto, using(crate::proofs::Places::size_fits))]
     fn encoded(&self, number: &Static, size: &Static, at: usize) -> Result<Operand, ElabFault>
-        ensures { Expands operand_view (steps.encoded (site_view self.now) (static_view number.now) (static_view size.now)) result }
+        ensures { Expands operand_view (steps.encoded (site_view self.now) at (static_view number.now) (static_view size.now)) result }
     {
         let number = self.integers.natural(number, at)?;
         let len = self.integers.size_of(size, at)?;
@@ -119,7 +119,7 @@ impl Site<'_> {
     ) -> Result<Operand, ElabFault>
         requires { IsSite self.now }
         ensures { Expands operand_view
-            (steps.by_count (site_view self.now) operator (vector_view operand.now) (static_view count.now)) result }
+            (steps.by_count (site_view self.now) at operator (vector_view operand.now) (static_view count.now)) result }
     {
         let operand = self.expanded(alloc, operand)?;
         let (operand, count) = both(operand, self.integers.count_of(operator, count, at))?;
@@ -138,7 +138,7 @@ impl Site<'_> {
     ) -> Result<Operand, ElabFault>
         requires { IsSite self.now }
         ensures { Expands operand_view
-            (steps.integer_with (site_view self.now) operator (static_view integer.now) (vector_view operand.now)) result }
+            (steps.integer_with (site_view self.now) at operator (static_view integer.now) (vector_view operand.now)) result }
     {
         let number = self.integers.natural(integer, at)?;
         let operand = self.expanded(alloc, operand)?;

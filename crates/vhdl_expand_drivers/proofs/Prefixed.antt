@@ -10,8 +10,7 @@ use Rattle.vhdl_names_rules.specs.units.Expressions as u
 use Rattle.vhdl_names_rules.specs.units.Expressions.{Signal, Part, SignalPart}
 use Rattle.vhdl_names_rules.specs.units.Statements.{Statements}
 use Rattle.vhdl_expand_rules.specs.declared.fault.ElabProblem.TheVariants.{Index}
-use Rattle.vhdl_expand_rules.specs.declared.fault.ElabProblem.{ElabProblem}
-use Rattle.vhdl_expand_rules.specs.Elab.{Elab, ◌>>=◌, each, item_or}
+use Rattle.vhdl_expand_rules.specs.Elab.{Told, Elab, ◌>>=◌, each, item_or}
 use Rattle.vhdl_expand_rules.specs.Integers.{Integers}
 use Rattle.vhdl_expand_rules.specs.Kinds.{ObjectKind, size, places}
 use Rattle.vhdl_expand_rules.specs.Site.{Site, elements_count, part_elements, signal_elements, place_elements}
@@ -44,10 +43,10 @@ module _ {A X : Type 0} (f : A → Elab (List ℕ)) (v : X → A) where
       ∙ ap (λ r. behind made ((r >>= λ y. each f (map v (drop (i + 1) xs)) >>= λ zs. given (y ∷ zs)) >>= λ ess. given (concatenation_of ess))) h
       ∙ step made more es (each f (map v (drop (i + 1) xs))) pushed
 
-  stops : {problem : ElabProblem} (total : Elab (List ℕ)) (made : List ℕ) (xs : List X) (i : ℕ) (x : X) → i < length xs → x ≡ get_or xs i x
-      → total ≡ behind made (all (drop i xs)) → (f (v x)) ≡ Err problem → total ≡ Err problem
-  stops {problem} total made xs i x below is so_far h =
-      subst (λ (r : Elab (List ℕ)). r ≡ Err problem) (sym (so_far ∙ ap (λ zs. behind made (all zs)) (next-left xs i x below is)))
+  stops : {told : Told} (total : Elab (List ℕ)) (made : List ℕ) (xs : List X) (i : ℕ) (x : X) → i < length xs → x ≡ get_or xs i x
+      → total ≡ behind made (all (drop i xs)) → (f (v x)) ≡ Err told → total ≡ Err told
+  stops {told} total made xs i x below is so_far h =
+      subst (λ (r : Elab (List ℕ)). r ≡ Err told) (sym (so_far ∙ ap (λ zs. behind made (all zs)) (next-left xs i x below is)))
       (err_first (each f (map v (x ∷ drop (i + 1) xs)) >>= λ ess. given (concatenation_of ess)) (λ ys. given (made ++ ys))
       (err_first (each f (map v (x ∷ drop (i + 1) xs))) (λ ess. given (concatenation_of ess)) (err_first (f (v x)) _ h)))
 
@@ -61,8 +60,8 @@ module _ {X : Type 0} (at : Site) (v : X → SignalPart) where
   unfolding prefixes_elements
   prefixes_go total made more es xs i x below is so_far h pushed = goes (λ p. place_elements at (prefix p)) v total made more es xs i x below is so_far h pushed
 
-  pub prefixes_stop : {problem : ElabProblem} (total : Elab (List ℕ)) (made : List ℕ) (xs : List X) (i : ℕ) (x : X) → i < length xs → x ≡ get_or xs i x
-      → total ≡ behind made (prefixes_elements at (map v (drop i xs))) → (place_elements at (prefix (v x))) ≡ Err problem → total ≡ Err problem
+  pub prefixes_stop : {told : Told} (total : Elab (List ℕ)) (made : List ℕ) (xs : List X) (i : ℕ) (x : X) → i < length xs → x ≡ get_or xs i x
+      → total ≡ behind made (prefixes_elements at (map v (drop i xs))) → (place_elements at (prefix (v x))) ≡ Err told → total ≡ Err told
   unfolding prefixes_elements
   prefixes_stop total made xs i x below is so_far h = stops (λ p. place_elements at (prefix p)) v total made xs i x below is so_far h
 
@@ -76,8 +75,8 @@ module _ {X : Type 0} (at : Site) (v : X → SignalPart) where
   unfolding names_elements
   names_go total made more es xs i x below is so_far h pushed = goes (place_elements at) v total made more es xs i x below is so_far h pushed
 
-  pub names_stop : {problem : ElabProblem} (total : Elab (List ℕ)) (made : List ℕ) (xs : List X) (i : ℕ) (x : X) → i < length xs → x ≡ get_or xs i x
-      → total ≡ behind made (names_elements at (map v (drop i xs))) → (place_elements at (v x)) ≡ Err problem → total ≡ Err problem
+  pub names_stop : {told : Told} (total : Elab (List ℕ)) (made : List ℕ) (xs : List X) (i : ℕ) (x : X) → i < length xs → x ≡ get_or xs i x
+      → total ≡ behind made (names_elements at (map v (drop i xs))) → (place_elements at (v x)) ≡ Err told → total ≡ Err told
   unfolding names_elements
   names_stop total made xs i x below is so_far h = stops (place_elements at) v total made xs i x below is so_far h
 
@@ -100,16 +99,16 @@ within (q ∷ kinds) (suc k) kind p h l =
     let all : elements_count (q ∷ kinds) ≡ size q + elements_count kinds = count-cons q kinds in
     omega (arith, m, first, all)
 
-part-all : (P : ℕ → Type 0) (at : Integers) (from : ℕ) (kinds : List ObjectKind) (n : ℕ) (part : Part) (es : List ℕ) → part_elements at from kinds n part ≡ Ok es
+part-all : (P : ℕ → Type 0) (here : Integers) (at from : ℕ) (kinds : List ObjectKind) (n : ℕ) (part : Part) (es : List ℕ) → part_elements here at from kinds n part ≡ Ok es
     → ((p : ℕ) → p < elements_count kinds → P (from + p)) → All P es
-part-all P at from kinds n part es h go =
-    let kind = bound (item_or Index (slice_get kinds n)) _ es h in
-    let ps = bound (places at kind.x part) _ es kind.then_gave in
+part-all P here at from kinds n part es h go =
+    let kind = bound (item_or Index at (slice_get kinds n)) _ es h in
+    let ps = bound (places here at kind.x part) _ es kind.then_gave in
     let c : ℕ = elements_count (take n kinds) in
-    let there : slice_get kinds n ≡ Some kind.x = was_found Index (slice_get kinds n) kind.x kind.gave in
+    let there : slice_get kinds n ≡ Some kind.x = was_found Index at (slice_get kinds n) kind.x kind.gave in
     subst (All P) (ok (map (λ p. from + c + p) ps.x) es ps.then_gave)
     (All-map P (λ p. from + c + p) ps.x (All-weaker (λ p. p < size kind.x) (λ p. P (from + c + p))
-    (λ p l. subst P (plus-assoc from c p) (go (c + p) (within kinds n kind.x p there l))) ps.x (places_below at kind.x part ps.x ps.gave)))
+    (λ p l. subst P (plus-assoc from c p) (go (c + p) (within kinds n kind.x p there l))) ps.x (places_below here at kind.x part ps.x ps.gave)))
   where
     plus-assoc : (a b c : ℕ) → a + (b + c) ≡ a + b + c
     plus-assoc a b c = omega arith
@@ -117,10 +116,10 @@ part-all P at from kinds n part es h go =
 abbrev count : Site → ℕ
 count at = elements_count at.ports + elements_count at.signals
 
-signal-below : (at : Site) (x : Signal) (part : Part) (es : List ℕ) → signal_elements at x part ≡ Ok es → All (λ e. e < count at) es
+signal-below : (here : Site) (at : ℕ) (x : Signal) (part : Part) (es : List ℕ) → signal_elements here at x part ≡ Ok es → All (λ e. e < count here) es
 unfolding signal_elements
-signal-below at (u.port k) part es h = part-all (λ e. e < count at) at.integers 0 at.ports k part es h (λ p l. omega (arith, l))
-signal-below at (u.Signal.signal k) part es h = part-all (λ e. e < count at) at.integers (elements_count at.ports) at.signals k part es h (λ p l. omega (arith, l))
+signal-below here at (u.port k) part es h = part-all (λ e. e < count here) here.integers at 0 here.ports k part es h (λ p l. omega (arith, l))
+signal-below here at (u.Signal.signal k) part es h = part-all (λ e. e < count here) here.integers at (elements_count here.ports) here.signals k part es h (λ p l. omega (arith, l))
 
 pub prefixes_below : (at : Site) (ps : List SignalPart) (ds : List ℕ) → prefixes_elements at ps ≡ Ok ds → All (λ e. e < count at) ds
 unfolding prefixes_elements
@@ -128,7 +127,7 @@ prefixes_below at ps ds h =
     let ess = bound (each (λ p. place_elements at (prefix p)) ps) _ ds h in
     subst (All (λ e. e < count at)) (ok (concatenation_of ess.x) ds ess.then_gave)
     (all_concatenated (λ e. e < count at) ess.x
-    (each-all (All (λ e. e < count at)) (λ p. place_elements at (prefix p)) ps ess.x (λ p es g. signal-below at (prefix p).signal (prefix p).part es g) ess.gave))
+    (each-all (All (λ e. e < count at)) (λ p. place_elements at (prefix p)) ps ess.x (λ p es g. signal-below at (prefix p).at (prefix p).signal (prefix p).part es g) ess.gave))
 
 pub drives_given : (at : Site) (body : Statements) (ds sorted : List ℕ) → prefixes_elements at (targets body) ≡ Ok ds → IsStrictlyIncreasing sorted
     → ((n : ℕ) → is_in n sorted ≡ is_in n ds) → drives_of at body ≡ Ok sorted

@@ -7,13 +7,13 @@ use Rattle.vhdl_expand_rules.specs.Prefixes.{targets, names, prefixes_elements, 
 
 -- the elements that a process with this body has drivers for, in order
 abbrev pub drives_of : Site → Statements → Elab (List ℕ)
-drives_of at body = do
-  ds ← prefixes_elements at (targets body)
-  Ok (in_order (elements_count at.ports + elements_count at.signals) ds)
+drives_of here body = do
+  ds ← prefixes_elements here (targets body)
+  Ok (in_order (elements_count here.ports + elements_count here.signals) ds)
 
 -- the elements that `process (all)` is sensitive to, in order of the names
 abbrev pub read_by : Site → Statements → Elab (List ℕ)
-read_by at body = prefixes_elements at (names body)
+read_by here body = prefixes_elements here (names body)
 
 -- each number is above the one before it
 abbrev pub IsRising : List ℕ → Type 0

@@ -17,8 +17,8 @@ codes_of given = do
   Ok (map code_of vs)
 
 -- a number's digits, of this size, which has to be as long
-abbrev pub encoded_as : Site → (len : ℕ) → Static → Static → Elab (List Nine)
-encoded_as at len s t = do
-  n ← natural at.integers s
-  m ← size_of at.integers t
-  as_long_as len (digits_of m n)
+abbrev pub encoded_as : Site → (at : ℕ) → (len : ℕ) → Static → Static → Elab (List Nine)
+encoded_as here at len s t = do
+  n ← natural here.integers at s
+  m ← size_of here.integers at t
+  as_long_as at len (digits_of m n)

@@ -22,8 +22,8 @@ use vhdl_expand_rules::{ElabFault, Run, is_static_part};
 use vhdl_names_rules::{Part, SignalPart};
 use vhdl_names_units::Statement;
 
-/// The elements of the longest static prefix of a name; a fault is StaticError or Index, at byte `at` where the name has none.
-fn prefix(site: &Site, named: &Name, at: usize) -> Result<Run, ElabFault>
+/// The elements of the longest static prefix of a name; a fault is StaticError or Index, at byte 0 where the name has none.
+fn prefix(site: &Site, named: &Name) -> Result<Run, ElabFault>
     requires { IsSite site.now }
     ensures given { Expands run_view (place_elements (site_view site.now) (definition.prefix (name_view named.now))) result }
     ensures short { IfOk result IsShort }
@@ -35,7 +35,7 @@ fn prefix(site: &Site, named: &Name, at: usize) -> Result<Run, ElabFault>
             }
             site.signal_elements(place.signal, &Part::Whole, place.at)
         }
-        Name::Whole(signal) => site.signal_elements(*signal, &Part::Whole, at),
+        Name::Whole(signal) => site.signal_elements(*signal, &Part::Whole, 0),
     }
 }
 
@@ -52,13 +52,13 @@ fn add_run(found: &mut Vec<usize>, run: Run) -> Result<(), AllocError>
 
 /// The elements of the longest static prefixes of names, in order of the names; a fault is StaticError or Index. It takes the
 /// memory of the list.
-fn prefixes(alloc: Global, site: &Site, names: &[Name], at: usize) -> Result<Vec<usize>, ElabFault>
+fn prefixes(alloc: Global, site: &Site, names: &[Name]) -> Result<Vec<usize>, ElabFault>
     requires { IsSite site.now }
     ensures { Expands (λ v. v.items) (definition.prefixes_elements (site_view site.now) (map name_view names.now)) result }
 {
     let mut found = Vec::new(alloc);
     for item in names {
-        let run = prefix(site, item, at)?;
+        let run = prefix(site, item)?;
         add_run(&mut found, run)?;
     }
     Ok(found)
@@ -83,29 +83,23 @@ pub fn read_elements(
     alloc: Global,
     site: &Site,
     list: &[Statement],
-    at: usize,
 ) -> Result<Vec<usize>, ElabFault>
     requires { IsSite site.now }
     ensures { Expands (λ v. v.items) (read_by (site_view site.now) (statements_of (map statement_view list.now))) result }
 {
     let names = names_in(alloc, list)?;
-    prefixes(alloc, site, &names, at)
+    prefixes(alloc, site, &names)
 }
 
 /// The elements that statements drive, which are those of the longest static prefixes of their targets, in order and each once; a
 /// fault is StaticError or Index. It takes the memory of the list, and time by the elements of the targets, sorted.
-pub fn drives(
-    alloc: Global,
-    site: &Site,
-    list: &[Statement],
-    at: usize,
-) -> Result<Vec<usize>, ElabFault>
+pub fn drives(alloc: Global, site: &Site, list: &[Statement]) -> Result<Vec<usize>, ElabFault>
     requires { IsSite site.now }
     ensures given { Expands (λ v. v.items) (drives_of (site_view site.now) (statements_of (map statement_view list.now))) result }
     ensures rising { IfOk result (λ v. IsRising v.items) }
 {
     let names = targets_of(alloc, list)?;
-    let mut elements = prefixes(alloc, site, &names, at)?;
+    let mut elements = prefixes(alloc, site, &names)?;
     sort_once(&mut elements);
     Ok(elements)
 }

@@ -23,7 +23,7 @@ use vhdl_values::{Nine, Vec9};
 /// What a form is where these integers are known; a fault is StaticError, Index or TooWide.
 #[tactic(auto, unfolding(vhdl_expand_rules::specs::Kinds::kind_of))]
 pub fn kind(integers: &Integers, form: &Form, at: usize) -> Result<ObjectKind, ElabFault>
-    ensures { Makes kind_view (kinds.kind_of (integers_view integers.now) (form_view form.now)) result }
+    ensures { Makes kind_view (kinds.kind_of (integers_view integers.now) at (form_view form.now)) result }
 {
     match form {
         Form::Element => Ok(ObjectKind::One),
@@ -77,7 +77,7 @@ fn literal(
     values: &[Nine],
     at: usize,
 ) -> Result<SmallVec<u8, 8>, ElabFault>
-    ensures { Expands (λ v. v.items) (codes_of (definition.as_long_as len values.now)) result }
+    ensures { Expands (λ v. v.items) (codes_of (definition.as_long_as at len values.now)) result }
 {
     let found = values.len();
     if found != len {
@@ -88,7 +88,7 @@ fn literal(
 
 /// The codes of a vector that is as long; a fault is Length.
 fn vector(alloc: Global, len: usize, values: Vec9, at: usize) -> Result<SmallVec<u8, 8>, ElabFault>
-    ensures { Expands (λ v. v.items) (codes_of (definition.as_long_as len values)) result }
+    ensures { Expands (λ v. v.items) (codes_of (definition.as_long_as at len values)) result }
 {
     let found = values.len();
     if found != len {
@@ -107,7 +107,7 @@ fn encoded(
     size: &Static,
     at: usize,
 ) -> Result<SmallVec<u8, 8>, ElabFault>
-    ensures { Expands (λ v. v.items) (codes_of (encoded_as (site_view site.now) len (static_view number.now) (static_view size.now))) result }
+    ensures { Expands (λ v. v.items) (codes_of (encoded_as (site_view site.now) at len (static_view number.now) (static_view size.now))) result }
 {
     let number = site.integers.natural(number, at)?;
     let size = site.integers.size_of(size, at)?;
@@ -128,7 +128,7 @@ fn fixed(
     value: &Fixed,
     at: usize,
 ) -> Result<SmallVec<u8, 8>, ElabFault>
-    ensures { Expands (λ v. v.items) (codes_of (definition.fixed_values (site_view site.now) len (fixed_view value.now))) result }
+    ensures { Expands (λ v. v.items) (codes_of (definition.fixed_values (site_view site.now) at len (fixed_view value.now))) result }
 {
     match value {
         Fixed::Literal(values) => literal(alloc, len, values, at),
@@ -165,7 +165,7 @@ fn given(
     value: &Fixed,
     at: usize,
 ) -> Result<SmallVec<u8, 8>, ElabFault>
-    ensures { Expands (λ v. v.items) (definition.given_starts (site_view site.now) (kind_view kind) (fixed_view value.now)) result }
+    ensures { Expands (λ v. v.items) (definition.given_starts (site_view site.now) at (kind_view kind) (fixed_view value.now)) result }
 {
     match kind {
         ObjectKind::One | ObjectKind::Vector(_) => fixed(alloc, site, kind.size(), value, at),
@@ -187,7 +187,7 @@ pub fn starts(
     default: &Option<Fixed>,
     at: usize,
 ) -> Result<SmallVec<u8, 8>, ElabFault>
-    ensures { Expands (λ v. v.items) (definition.starts (site_view site.now) (kind_view kind) (option_map fixed_view default.now)) result }
+    ensures { Expands (λ v. v.items) (definition.starts (site_view site.now) at (kind_view kind) (option_map fixed_view default.now)) result }
 {
     match default {
         None => Ok(filled(alloc, kind.size(), 0)?),

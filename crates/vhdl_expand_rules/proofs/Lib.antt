@@ -5,4 +5,5 @@ mod Modulus
 pub mod Parameters
 pub mod Decided
 pub mod StaticChains
+pub mod Tells
 pub mod laws

@@ -21,7 +21,7 @@ and-true false = refl
 chained-static : (t : u.Static) (ls : List StaticLink) → is_static (static_chained t ls) ≡ (is_static t && all_static ls)
 chained-static t [] = sym (and-true (is_static t))
 chained-static t (l ∷ ls) =
-    chained-static (u.Static.binary l.operator t (static_view l.operand)) ls
+    chained-static (u.Static.binary l.at l.operator t (static_view l.operand)) ls
     ∙ and-assoc (is_static t) (is_static (static_view l.operand)) (all_static ls)
 
 chain-static : (e : Static) (start : Box StaticStart Global) (links : Vec StaticLink Global) (st : StaticStart) (ls : List StaticLink)

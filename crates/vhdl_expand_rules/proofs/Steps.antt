@@ -1,5 +1,5 @@
 -- What the steps of an elaboration gave, where the whole gave something.
-use Rattle.std.proofs.Common.{◌≡◌, Bool, true, false, List, [], ◌∷◌, Ok, Err, All, refl, subst}
+use Rattle.std.proofs.Common.{◌≡◌, ℕ, Bool, true, false, List, [], ◌∷◌, Ok, Err, All, refl, subst}
 use Rattle.std.proofs.lemmas.List.Elements.{All-cons, All-nil}
 use Rattle.vhdl_expand_rules.specs.declared.fault.ElabProblem.{ElabProblem}
 use Rattle.vhdl_expand_rules.specs.Elab.{Elab, ◌>>=◌, unless, each}
@@ -18,12 +18,12 @@ pub record Bound {A B : Type 0} (r : Elab A) (f : A → Elab B) (y : B) : Type 0
 
 pub bound : {A B : Type 0} (r : Elab A) (f : A → Elab B) (y : B) → (r >>= f) ≡ Ok y → Bound r f y
 bound (Ok x) f y h = record { x = x; gave = refl; then_gave = h }
-bound (Err problem) f y h = absurd cc
+bound (Err told) f y h = absurd cc
 
 -- a rule that was kept
-pub kept : (problem : ElabProblem) (test : Bool) (u : Unit {0}) → unless problem test ≡ Ok u → test ≡ true
-kept problem true u h = refl
-kept problem false u h = absurd cc
+pub kept : (problem : ElabProblem) (at : ℕ) (test : Bool) (u : Unit {0}) → unless problem at test ≡ Ok u → test ≡ true
+kept problem at true u h = refl
+kept problem at false u h = absurd cc
 
 -- what all steps gave
 pub each-all : {A B : Type 0} (P : B → Type 0) (f : A → Elab B) (xs : List A) (ys : List B)

@@ -12,3 +12,4 @@ pub mod Declared
 pub mod Processes
 pub mod Trees
 pub mod Labels
+pub mod told

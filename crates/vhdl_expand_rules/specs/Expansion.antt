@@ -1,13 +1,13 @@
 -- Expansion: from the units of a file and the name of a top to the tree of its instances (IEEE 1076-2008, 14.2 to 14.5,
 -- clause 11). Numbers of nets and processes are no matter of it.
-use Rattle.std.specs.Prelude.{ℕ, zero, suc, ◌+◌, if◌then◌else◌, List, [], ◌∷◌, ◌++◌, length, map, sum, find, slice_get, Option, ℤ, Ok, Err, bytes_eq, codes}
+use Rattle.std.specs.Prelude.{ℕ, zero, suc, ◌+◌, if◌then◌else◌, List, [], ◌∷◌, ◌++◌, length, map, sum, find, slice_get, Option, ℤ, Ok, bytes_eq, codes}
 use Rattle.std.specs.Fmt.{signed_decimal}
 use Rattle.std.specs.Char.{to_ascii_lowercase}
 use Rattle.vhdl_names_rules.specs.units.Units as u
 use Rattle.vhdl_names_rules.specs.units.Units.{Units, Entity, Architecture}
 use Rattle.vhdl_names_rules.specs.units.Statements as s
 use Rattle.vhdl_expand_rules.specs.declared.fault.ElabProblem.TheVariants.{NoTop, TooDeep}
-use Rattle.vhdl_expand_rules.specs.Elab.{Elab, ◌>>=◌, item_or, each}
+use Rattle.vhdl_expand_rules.specs.Elab.{Elab, ◌>>=◌, refused, item_or, each}
 use Rattle.vhdl_expand_rules.specs.Integers.{decision, turns}
 use Rattle.vhdl_expand_rules.specs.Site.{Site, no_integers, in_generate, elements_count}
 use Rattle.vhdl_expand_rules.specs.Tree.{Sensitivity, listed, every, as_read, Variable, Process, Instance, Parts, no_parts, inner, followed_by}
@@ -74,15 +74,15 @@ abbrev pub joined_parts : List Parts → Parts
 joined_parts [] = no_parts
 joined_parts (ps ∷ rest) = followed_by ps (joined_parts rest)
 
--- The parameters are the units, and what an instance of a unit is: with what is known of it, and its ports.
-module _ (units : Units) (instance_of : Entity → InstanceObjects → Elab Instance) where
+-- The parameters are the units, and what an instance of a unit is: by the byte of its label, with what is known of it, and its ports.
+module _ (units : Units) (instance_of : (at : ℕ) → Entity → InstanceObjects → Elab Instance) where
   -- an instance that stands here (11.7)
   unfoldable pub instance : Spot → u.Instance → Elab Instance
   instance here x = do
-    unit ← item_or NoTop (slice_get units x.unit)
+    unit ← item_or NoTop x.at (slice_get units x.unit)
     d ← interface here.site.integers x.generics unit
-    os ← associations here.site unit.ports x.ports d.objects
-    instance_of unit (record d { objects = os })
+    os ← associations here.site x.at unit.ports x.ports d.objects
+    instance_of x.at unit (record d { objects = os })
 
   unfoldable mutual
     pub concurrent : Spot → u.Concurrent → Elab Parts
@@ -93,12 +93,12 @@ module _ (units : Units) (instance_of : Entity → InstanceObjects → Elab Inst
       i ← instance here x
       Ok (inner (here.prefix ++ x.label) i no_parts)
     -- a null range makes nothing, and nothing in it is computed (11.9)
-    concurrent here (u.generate_for label r body) = do
-      is ← turns here.site.integers r
+    concurrent here (u.generate_for at label r body) = do
+      is ← turns here.site.integers at r
       ps ← each (λ i. concurrents (in_turn here label i) body) is
       Ok (joined_parts ps)
     -- nor does a condition that doesn't hold
-    concurrent here (u.generate_if label t body) = do
+    concurrent here (u.generate_if at label t body) = do
       holds ← decision here.site.integers t
       if holds then concurrents (in_branch here label) body else Ok no_parts
 
@@ -112,11 +112,11 @@ module _ (units : Units) (instance_of : Entity → InstanceObjects → Elab Inst
 -- how many turns the generates of a text have together, each turn of an outer one with those inside it
 unfoldable mutual
   pub concurrent_turns : Spot → u.Concurrent → Elab ℕ
-  concurrent_turns here (u.generate_for label r body) = do
-    is ← turns here.site.integers r
+  concurrent_turns here (u.generate_for at label r body) = do
+    is ← turns here.site.integers at r
     ns ← each (λ i. concurrents_turns (in_turn here label i) body) is
     Ok (length is + sum ns)
-  concurrent_turns here (u.generate_if label t body) = do
+  concurrent_turns here (u.generate_if at label t body) = do
     holds ← decision here.site.integers t
     if holds then concurrents_turns (in_branch here label) body else Ok 0
   concurrent_turns here _ = Ok 0
@@ -131,11 +131,11 @@ unfoldable mutual
 -- ---- instances and the top
 
 -- An instance of a unit, whose generics and ports are declared: its architecture's declarations and statements. So many
--- instances may be nested from it on.
-unfoldable pub instance_of : Units → (levels : ℕ) → Entity → InstanceObjects → Elab Instance
-instance_of units zero unit d = Err TooDeep
-instance_of units (suc n) unit d = do
-  a ← item_or NoTop unit.architecture
+-- instances may be nested from it on. Its label starts at this byte, or the name of the top's entity.
+unfoldable pub instance_of : Units → (levels : ℕ) → (at : ℕ) → Entity → InstanceObjects → Elab Instance
+instance_of units zero at unit d = refused TooDeep at
+instance_of units (suc n) at unit d = do
+  a ← item_or NoTop at unit.architecture
   e ← declarations d a.declarations
   parts ← concurrents units (instance_of units n) (record { site = e.site; prefix = [] }) a.statements
   turns ← concurrents_turns (record { site = e.site; prefix = [] }) a.statements
@@ -150,9 +150,10 @@ pub record Design : Type 0 where
   pub name : List ℕ
   pub top : Instance
 
+-- a source that has no entity of this name is refused at its first byte
 unfoldable pub expanded_design : Units → (top : List ℕ) → Elab Design
 expanded_design units top = do
-  unit ← item_or NoTop (entity_named units top)
+  unit ← item_or NoTop 0 (entity_named units top)
   d ← interface no_integers [] unit
-  i ← instance_of units 32 unit d
+  i ← instance_of units 32 unit.at unit d
   Ok (record { name = unit.name; top = i })

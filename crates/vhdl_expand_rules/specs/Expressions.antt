@@ -26,16 +26,16 @@ use Rattle.vhdl_expand_rules.specs.Site.{Site, place_elements, signal_elements, 
 -- ---- vectors
 
 -- the operands of a logical operator are as long as each other; a result has at most 64 elements
-abbrev pub operands_fit : bodies.Operator → ℕ → ℕ → Elab (Unit {0})
-operands_fit (bodies.logical op) m n = same_length m n
-operands_fit bodies.joined m n = unless TooWide (nat_le (m + n) 64)
-operands_fit bodies.plus m n = Ok tt
-operands_fit bodies.minus m n = Ok tt
-operands_fit bodies.times m n = unless TooWide (nat_le (m + n) 64)
+abbrev pub operands_fit : (at : ℕ) → bodies.Operator → ℕ → ℕ → Elab (Unit {0})
+operands_fit at (bodies.logical op) m n = same_length at m n
+operands_fit at bodies.joined m n = unless TooWide at (nat_le (m + n) 64)
+operands_fit at bodies.plus m n = Ok tt
+operands_fit at bodies.minus m n = Ok tt
+operands_fit at bodies.times m n = unless TooWide at (nat_le (m + n) 64)
 
-abbrev pub operation_on : bodies.Operator → bodies.Expr → bodies.Expr → Elab bodies.Expr
-operation_on op d e = do
-  operands_fit op (width d) (width e)
+abbrev pub operation_on : (at : ℕ) → bodies.Operator → bodies.Expr → bodies.Expr → Elab bodies.Expr
+operation_on at op d e = do
+  operands_fit at op (width d) (width e)
   Ok (bodies.Expr.binary op d e)
 
 abbrev pub numeric : Numeric → bodies.Operator
@@ -52,54 +52,54 @@ unfoldable pub vector : Site → Vector → Elab bodies.Expr
 vector here (u.of_signal p) = do
   es ← place_elements here p
   Ok (bodies.signal es)
-vector here (u.of_variable k part) = do
-  es ← variable_elements here k part
+vector here (u.of_variable at k part) = do
+  es ← variable_elements here at k part
   Ok (bodies.variable es)
-vector here (u.of_constant k part) = do
-  vs ← constant_values here k part
+vector here (u.of_constant at k part) = do
+  vs ← constant_values here at k part
   Ok (bodies.constant vs)
 vector here (u.character x) = Ok (bodies.constant (x ∷ []))
 vector here (u.enclosed_character x) = Ok (bodies.constant (x ∷ []))
-vector here (u.Vector.literal xs) = do
-  as_size (length xs)
+vector here (u.Vector.literal at xs) = do
+  as_size at (length xs)
   Ok (bodies.constant xs)
 vector here (u.Vector.inverse x) = do
   e ← vector here x
   Ok (bodies.inverse e)
-vector here (u.Vector.binary op x y) = do
+vector here (u.Vector.binary at op x y) = do
   d ← vector here x
   e ← vector here y
-  operation_on (operator op) d e
+  operation_on at (operator op) d e
 -- a natural number stands for its last digits, as many as the vector beside it has
-vector here (u.with_integer op x s) = do
+vector here (u.with_integer at op x s) = do
   e ← vector here x
-  n ← natural here.integers s
-  operation_on (numeric op) e (bodies.constant (digits_of (width e) n))
-vector here (u.integer_with op s x) = do
-  n ← natural here.integers s
+  n ← natural here.integers at s
+  operation_on at (numeric op) e (bodies.constant (digits_of (width e) n))
+vector here (u.integer_with at op s x) = do
+  n ← natural here.integers at s
   e ← vector here x
-  operation_on (numeric op) (bodies.constant (digits_of (width e) n)) e
-vector here (u.Vector.encoded s t) = do
-  n ← natural here.integers s
-  len ← size_of here.integers t
+  operation_on at (numeric op) (bodies.constant (digits_of (width e) n)) e
+vector here (u.Vector.encoded at s t) = do
+  n ← natural here.integers at s
+  len ← size_of here.integers at t
   Ok (bodies.constant (digits_of len n))
-vector here (u.counted op x s) = do
+vector here (u.counted at op x s) = do
   e ← vector here x
-  n ← count_of op here.integers s
+  n ← count_of op here.integers at s
   Ok (bodies.counted op n e)
 
 -- ---- values
 
-unfoldable pub value : Site → Value → Elab bodies.Value
-value here (u.Value.elements x) = do
+unfoldable pub value : Site → (at : ℕ) → Value → Elab bodies.Value
+value here at (u.Value.elements x) = do
   e ← vector here x
   Ok (bodies.elements e)
-value here (u.Value.position n) = Ok (bodies.position n)
-value here (u.state_of s) = do
-  e ← the_element (signal_elements here s u.whole)
+value here at (u.Value.position n) = Ok (bodies.position n)
+value here at (u.state_of s) = do
+  e ← the_element at (signal_elements here at s u.whole)
   Ok (bodies.position_of e)
-value here (u.state_of_variable k) = do
-  e ← the_element (variable_elements here k u.whole)
+value here at (u.state_of_variable k) = do
+  e ← the_element at (variable_elements here at k u.whole)
   Ok (bodies.position_in e)
 
 -- ---- truths
@@ -119,22 +119,22 @@ abbrev pub level_test : (plain : Bool) → (es : List ℕ) → Nine → bodies.T
 level_test plain (e ∷ []) x = bodies.level plain e x
 level_test plain es x = bodies.equal (bodies.elements (bodies.signal es)) (bodies.elements (bodies.constant (x ∷ [])))
 
-abbrev pub alike : Site → Value → Value → Elab bodies.Test
-alike here (u.Value.elements (u.of_signal p)) (u.Value.elements (u.character x)) = do
+abbrev pub alike : Site → (at : ℕ) → Value → Value → Elab bodies.Test
+alike here at (u.Value.elements (u.of_signal p)) (u.Value.elements (u.character x)) = do
   es ← place_elements here p
   Ok (level_test true es x)
-alike here (u.Value.elements (u.of_signal p)) (u.Value.elements (u.enclosed_character x)) = do
+alike here at (u.Value.elements (u.of_signal p)) (u.Value.elements (u.enclosed_character x)) = do
   es ← place_elements here p
   Ok (level_test false es x)
-alike here (u.Value.elements (u.character x)) (u.Value.elements (u.of_signal p)) = do
+alike here at (u.Value.elements (u.character x)) (u.Value.elements (u.of_signal p)) = do
   es ← place_elements here p
   Ok (level_test false es x)
-alike here (u.Value.elements (u.enclosed_character x)) (u.Value.elements (u.of_signal p)) = do
+alike here at (u.Value.elements (u.enclosed_character x)) (u.Value.elements (u.of_signal p)) = do
   es ← place_elements here p
   Ok (level_test false es x)
-alike here v w = do
-  d ← value here v
-  e ← value here w
+alike here at v w = do
+  d ← value here at v
+  e ← value here at w
   Ok (bodies.equal d e)
 
 abbrev pub edge_test : Edge → (net : ℕ) → bodies.Test
@@ -150,28 +150,28 @@ test here (u.holds x) = do
 test here (u.Test.fixed t) = do
   c ← decision here.integers t
   Ok (bodies.decided c)
-test here (u.alike v w) = alike here v w
-test here (u.unlike v w) = do
-  d ← value here v
-  e ← value here w
+test here (u.alike at v w) = alike here at v w
+test here (u.unlike at v w) = do
+  d ← value here at v
+  e ← value here at w
   Ok (bodies.unequal d e)
-test here (u.Test.compared op x y) = do
+test here (u.Test.compared at op x y) = do
   d ← vector here x
   e ← vector here y
   Ok (bodies.compared op d e)
-test here (u.compared_to op x s) = do
+test here (u.compared_to at op x s) = do
   e ← vector here x
-  n ← natural here.integers s
+  n ← natural here.integers at s
   Ok (bodies.compared_to op e n)
-test here (u.compared_with op s x) = do
-  n ← natural here.integers s
+test here (u.compared_with at op s x) = do
+  n ← natural here.integers at s
   e ← vector here x
   Ok (bodies.compared_to (converse_of op) e n)
 test here (u.edge kind p) = do
-  e ← the_element (place_elements here p)
+  e ← the_element p.at (place_elements here p)
   Ok (edge_test kind e)
 test here (u.event p) = do
-  e ← the_element (place_elements here p)
+  e ← the_element p.at (place_elements here p)
   Ok (bodies.event e)
 test here (u.Test.negated t) = do
   c ← test here t

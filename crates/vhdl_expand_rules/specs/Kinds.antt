@@ -1,6 +1,6 @@
 -- What is declared: one element, a vector within its bounds, or a value of an enumeration; and the parts of it that
 -- indexed names and slices mean (IEEE 1076-2008, 5.3.2, 8.4, 8.5).
-use Rattle.std.specs.Prelude.{ℕ, Bool, true, false, not, ◌&&◌, nat_le, if◌then◌else◌, List, [], ◌∷◌, ℤ, pos, ◌-ℤ◌, int_le, nat_abs, Ok, Err}
+use Rattle.std.specs.Prelude.{ℕ, Bool, true, false, not, ◌&&◌, nat_le, if◌then◌else◌, List, [], ◌∷◌, ℤ, pos, ◌-ℤ◌, int_le, nat_abs, Ok}
 use Rattle.std.specs.List.{range_with_len}
 use Rattle.vhdl_values.specs.declared.kinds.Counted.{Counted}
 use Rattle.vhdl_values.specs.declared.kinds.Counted.TheVariants.{Resize, ShiftLeft, ShiftRight}
@@ -13,7 +13,7 @@ use Rattle.vhdl_names_rules.specs.units.Units as units
 use Rattle.rtl_model.specs.bodies.Types.{ElementType}
 use Rattle.rtl_model.specs.bodies.Types as types
 use Rattle.vhdl_expand_rules.specs.declared.fault.ElabProblem.TheVariants.{Index, TooWide}
-use Rattle.vhdl_expand_rules.specs.Elab.{Elab, ◌>>=◌, ◌>>◌, unless}
+use Rattle.vhdl_expand_rules.specs.Elab.{Elab, ◌>>=◌, ◌>>◌, refused, unless}
 use Rattle.vhdl_expand_rules.specs.Integers.{Integers, integer, natural, as_natural, is_null, extent}
 
 -- the bounds of a vector, as they are declared
@@ -44,40 +44,40 @@ element_type (enumeration count) = types.enumeration count
 -- ---- declared
 
 -- Bounds are natural numbers, from 1 to 64 elements apart. A null range is refused whatever its bounds are.
-unfoldable pub declared_bounds : Integers → Range → Elab Bounds
-declared_bounds here r = do
-  x ← integer here r.left
-  y ← integer here r.right
-  unless Index (not (is_null r.direction x y))
-  left ← as_natural x
-  right ← as_natural y
-  unless TooWide (nat_le (extent r.direction x y) 64)
+unfoldable pub declared_bounds : Integers → (at : ℕ) → Range → Elab Bounds
+declared_bounds here at r = do
+  x ← integer here at r.left
+  y ← integer here at r.right
+  unless Index at (not (is_null r.direction x y))
+  left ← as_natural at x
+  right ← as_natural at y
+  unless TooWide at (nat_le (extent r.direction x y) 64)
   Ok (record { left = left; direction = r.direction; right = right })
 
-unfoldable pub kind_of : Integers → Form → Elab ObjectKind
-kind_of here units.element = Ok one
-kind_of here (units.vector r) = do
-  b ← declared_bounds here r
+unfoldable pub kind_of : Integers → (at : ℕ) → Form → Elab ObjectKind
+kind_of here at units.element = Ok one
+kind_of here at (units.vector r) = do
+  b ← declared_bounds here at r
   Ok (vector b)
-kind_of here (units.enumeration count) = Ok (enumeration count)
+kind_of here at (units.enumeration count) = Ok (enumeration count)
 
 -- the size that a call asks for
-abbrev pub as_size : ℕ → Elab ℕ
-as_size n = do
-  unless Index (nat_le 1 n)
-  unless TooWide (nat_le n 64)
+abbrev pub as_size : (at : ℕ) → ℕ → Elab ℕ
+as_size at n = do
+  unless Index at (nat_le 1 n)
+  unless TooWide at (nat_le n 64)
   Ok n
 
-unfoldable pub size_of : Integers → Static → Elab ℕ
-size_of here s = do
-  n ← natural here s
-  as_size n
+unfoldable pub size_of : Integers → (at : ℕ) → Static → Elab ℕ
+size_of here at s = do
+  n ← natural here at s
+  as_size at n
 
 -- the count of an operator: a length, or how many places
-unfoldable pub count_of : Counted → Integers → Static → Elab ℕ
-count_of Resize here s = size_of here s
-count_of ShiftLeft here s = natural here s
-count_of ShiftRight here s = natural here s
+unfoldable pub count_of : Counted → Integers → (at : ℕ) → Static → Elab ℕ
+count_of Resize here at s = size_of here at s
+count_of ShiftLeft here at s = natural here at s
+count_of ShiftRight here at s = natural here at s
 
 -- ---- parts
 
@@ -89,8 +89,8 @@ is_within b i = range b.direction
     range Downto = int_le (pos b.right) i && int_le i (pos b.left)
 
 -- the place of an index, counted from the left
-abbrev pub place_of : Bounds → ℤ → Elab ℕ
-place_of b i = if is_within b i then Ok (nat_abs (i -ℤ pos b.left)) else Err Index
+abbrev pub place_of : Bounds → (at : ℕ) → ℤ → Elab ℕ
+place_of b at i = if is_within b i then Ok (nat_abs (i -ℤ pos b.left)) else refused Index at
 
 abbrev pub is_same_direction : Direction → Direction → Bool
 is_same_direction To To = true
@@ -98,24 +98,24 @@ is_same_direction Downto Downto = true
 is_same_direction _ _ = false
 
 -- a slice has the direction of the declaration, has an element, and lies within the bounds
-abbrev pub slice_places : Bounds → Direction → (left right : ℤ) → Elab (List ℕ)
-slice_places b direction x y = do
-  unless Index (is_same_direction b.direction direction)
-  unless Index (not (is_null direction x y))
-  first ← place_of b x
-  last ← place_of b y
+abbrev pub slice_places : Bounds → (at : ℕ) → Direction → (left right : ℤ) → Elab (List ℕ)
+slice_places b at direction x y = do
+  unless Index at (is_same_direction b.direction direction)
+  unless Index at (not (is_null direction x y))
+  first ← place_of b at x
+  last ← place_of b at y
   Ok (range_with_len first (extent direction x y))
 
 -- the places of a part, from the left
-unfoldable pub places : Integers → ObjectKind → Part → Elab (List ℕ)
-places here kind u.whole = Ok (range_with_len 0 (size kind))
-places here (vector b) (u.Part.element s) = do
-  i ← integer here s
-  p ← place_of b i
+unfoldable pub places : Integers → (at : ℕ) → ObjectKind → Part → Elab (List ℕ)
+places here at kind u.whole = Ok (range_with_len 0 (size kind))
+places here at (vector b) (u.Part.element s) = do
+  i ← integer here at s
+  p ← place_of b at i
   Ok (p ∷ [])
-places here (vector b) (u.slice r) = do
-  x ← integer here r.left
-  y ← integer here r.right
-  slice_places b r.direction x y
+places here at (vector b) (u.slice r) = do
+  x ← integer here at r.left
+  y ← integer here at r.right
+  slice_places b at r.direction x y
 -- of what is no vector there are no parts, in units that names have passed
-places here _ _ = Err Index
+places here at _ _ = refused Index at

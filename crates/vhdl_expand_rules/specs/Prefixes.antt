@@ -13,8 +13,8 @@ use Rattle.vhdl_expand_rules.specs.Site.{Site, place_elements}
 
 abbrev pub is_static : Static → Bool
 is_static (u.loop_parameter k) = false
-is_static (u.Static.negated x) = is_static x
-is_static (u.Static.binary op x y) = is_static x && is_static y
+is_static (u.Static.negated at x) = is_static x
+is_static (u.Static.binary at op x y) = is_static x && is_static y
 is_static _ = true
 
 abbrev pub is_static_part : Part → Bool
@@ -32,10 +32,10 @@ abbrev mutual
   pub statement_targets : s.Statement → List SignalPart
   statement_targets s.null_of = []
   statement_targets (s.assign p g) = p ∷ []
-  statement_targets (s.set k part g) = []
-  statement_targets (s.if_of bs) = branches_targets bs
-  statement_targets (s.case_of v alts) = alternatives_targets alts
-  statement_targets (s.for_of r body) = targets body
+  statement_targets (s.set at k part g) = []
+  statement_targets (s.if_of at bs) = branches_targets bs
+  statement_targets (s.case_of at v alts) = alternatives_targets alts
+  statement_targets (s.for_of at r body) = targets body
 
   pub targets : s.Statements → List SignalPart
   targets s.done = []
@@ -55,25 +55,30 @@ abbrev mutual
 abbrev pub vector_names : Vector → List SignalPart
 vector_names (u.of_signal p) = p ∷ []
 vector_names (u.Vector.inverse x) = vector_names x
-vector_names (u.Vector.binary op x y) = vector_names x ++ vector_names y
-vector_names (u.with_integer op x n) = vector_names x
-vector_names (u.integer_with op n x) = vector_names x
-vector_names (u.counted op x n) = vector_names x
+vector_names (u.Vector.binary at op x y) = vector_names x ++ vector_names y
+vector_names (u.with_integer at op x n) = vector_names x
+vector_names (u.integer_with at op n x) = vector_names x
+vector_names (u.counted at op x n) = vector_names x
 vector_names _ = []
+
+-- The whole of a signal of an enumeration, whose byte the units don't have: it is there in units that names have passed, so that nothing
+-- is told at it.
+abbrev pub whole_of : u.Signal → SignalPart
+whole_of x = record { at = 0; signal = x; part = u.whole }
 
 abbrev pub value_names : Value → List SignalPart
 value_names (u.Value.elements x) = vector_names x
-value_names (u.state_of x) = record { signal = x; part = u.whole } ∷ []
+value_names (u.state_of x) = whole_of x ∷ []
 value_names _ = []
 
 abbrev pub test_names : Test → List SignalPart
 test_names (u.holds x) = vector_names x
 test_names (u.Test.fixed t) = []
-test_names (u.alike x y) = value_names x ++ value_names y
-test_names (u.unlike x y) = value_names x ++ value_names y
-test_names (u.Test.compared op x y) = vector_names x ++ vector_names y
-test_names (u.compared_to op x n) = vector_names x
-test_names (u.compared_with op n x) = vector_names x
+test_names (u.alike at x y) = value_names x ++ value_names y
+test_names (u.unlike at x y) = value_names x ++ value_names y
+test_names (u.Test.compared at op x y) = vector_names x ++ vector_names y
+test_names (u.compared_to at op x n) = vector_names x
+test_names (u.compared_with at op n x) = vector_names x
 test_names (u.edge kind p) = p ∷ []
 test_names (u.event p) = p ∷ []
 test_names (u.Test.negated t) = test_names t
@@ -87,10 +92,10 @@ abbrev mutual
   pub statement_names : s.Statement → List SignalPart
   statement_names s.null_of = []
   statement_names (s.assign p g) = given_names g
-  statement_names (s.set k part g) = given_names g
-  statement_names (s.if_of bs) = branches_names bs
-  statement_names (s.case_of v alts) = value_names v ++ alternatives_names alts
-  statement_names (s.for_of r body) = names body
+  statement_names (s.set at k part g) = given_names g
+  statement_names (s.if_of at bs) = branches_names bs
+  statement_names (s.case_of at v alts) = value_names v ++ alternatives_names alts
+  statement_names (s.for_of at r body) = names body
 
   pub names : s.Statements → List SignalPart
   names s.done = []

@@ -45,33 +45,33 @@ abbrev pub elements_count : List ObjectKind → ℕ
 elements_count kinds = sum (map size kinds)
 
 -- the elements of a part of the thing of this number, the first of all having the number `from`
-abbrev pub part_elements : Integers → (from : ℕ) → List ObjectKind → ℕ → Part → Elab (List ℕ)
-part_elements here from kinds k part = do
-  kind ← item_or Index (slice_get kinds k)
-  ps ← places here kind part
+abbrev pub part_elements : Integers → (at : ℕ) → (from : ℕ) → List ObjectKind → ℕ → Part → Elab (List ℕ)
+part_elements here at from kinds k part = do
+  kind ← item_or Index at (slice_get kinds k)
+  ps ← places here at kind part
   Ok (map (λ p. from + elements_count (take k kinds) + p) ps)
 
 -- of a signal's or port's name
-unfoldable pub signal_elements : Site → Signal → Part → Elab (List ℕ)
-signal_elements here (u.port k) part = part_elements here.integers 0 here.ports k part
-signal_elements here (u.Signal.signal k) part = part_elements here.integers (elements_count here.ports) here.signals k part
+unfoldable pub signal_elements : Site → (at : ℕ) → Signal → Part → Elab (List ℕ)
+signal_elements here at (u.port k) part = part_elements here.integers at 0 here.ports k part
+signal_elements here at (u.Signal.signal k) part = part_elements here.integers at (elements_count here.ports) here.signals k part
 
 abbrev pub place_elements : Site → SignalPart → Elab (List ℕ)
-place_elements here p = signal_elements here p.signal p.part
+place_elements here p = signal_elements here p.at p.signal p.part
 
 -- of a variable's name
-unfoldable pub variable_elements : Site → ℕ → Part → Elab (List ℕ)
-variable_elements here k part = part_elements here.integers 0 here.variables k part
+unfoldable pub variable_elements : Site → (at : ℕ) → ℕ → Part → Elab (List ℕ)
+variable_elements here at k part = part_elements here.integers at 0 here.variables k part
 
 -- the values of a part of a constant
-unfoldable pub constant_values : Site → ℕ → Part → Elab (List Nine)
-constant_values here k part = do
-  c ← item_or Index (slice_get here.constants k)
-  ps ← places here.integers c.kind part
+unfoldable pub constant_values : Site → (at : ℕ) → ℕ → Part → Elab (List Nine)
+constant_values here at k part = do
+  c ← item_or Index at (slice_get here.constants k)
+  ps ← places here.integers at c.kind part
   Ok (map (λ p. slice_index_or c.values p X) ps)
 
 -- what has one element has this
-abbrev pub the_element : Elab (List ℕ) → Elab ℕ
-the_element named = do
+abbrev pub the_element : (at : ℕ) → Elab (List ℕ) → Elab ℕ
+the_element at named = do
   es ← named
-  item_or Index (slice_get es 0)
+  item_or Index at (slice_get es 0)

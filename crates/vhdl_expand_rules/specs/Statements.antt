@@ -12,22 +12,22 @@ use Rattle.vhdl_expand_rules.specs.Site.{Site, in_loop, place_elements, variable
 use Rattle.vhdl_expand_rules.specs.Expressions.{vector, value, test}
 
 -- what is assigned to so many elements: a value with as many, or one element for each of them
-unfoldable pub value_given : Site → (len : ℕ) → Given → Elab bodies.Value
-value_given here len (u.single v) = do
-  e ← value here v
-  same_length (value_width e) len
+unfoldable pub value_given : Site → (at : ℕ) → (len : ℕ) → Given → Elab bodies.Value
+value_given here at len (u.single v) = do
+  e ← value here at v
+  same_length at (value_width e) len
   Ok e
-value_given here len (u.filled x) = do
+value_given here at len (u.filled x) = do
   e ← vector here x
-  same_length (width e) 1
+  same_length at (width e) 1
   Ok (bodies.elements (bodies.filled len e))
 
 -- a choice has as many elements as what is selected by
-unfoldable pub choice : (len : ℕ) → Choice → Elab (List ℕ)
-choice len (u.values vs) = do
-  same_length (length vs) len
+unfoldable pub choice : (at : ℕ) → (len : ℕ) → Choice → Elab (List ℕ)
+choice at len (u.values vs) = do
+  same_length at (length vs) len
   Ok (map code_of vs)
-choice len (u.position n) = Ok (n ∷ [])
+choice at len (u.position n) = Ok (n ∷ [])
 
 -- bodies, one after another
 abbrev pub joined_bodies : List bodies.Stmts → bodies.Stmts
@@ -43,21 +43,21 @@ unfoldable mutual
   statement here u.null_of = Ok (one bodies.null_of)
   statement here (u.assign p g) = do
     es ← place_elements here p
-    v ← value_given here (length es) g
+    v ← value_given here p.at (length es) g
     Ok (one (bodies.assign es v))
-  statement here (u.set k part g) = do
-    es ← variable_elements here k part
-    v ← value_given here (length es) g
+  statement here (u.set at k part g) = do
+    es ← variable_elements here at k part
+    v ← value_given here at (length es) g
     Ok (one (bodies.set es v))
-  statement here (u.if_of bs) = do
+  statement here (u.if_of at bs) = do
     cs ← branches here bs
     Ok (one (bodies.if_of cs))
-  statement here (u.case_of v alts) = do
-    e ← value here v
-    cs ← alternatives here (value_width e) alts
+  statement here (u.case_of at v alts) = do
+    e ← value here at v
+    cs ← alternatives here at (value_width e) alts
     Ok (one (bodies.case_of e cs))
-  statement here (u.for_of r body) = do
-    is ← turns here.integers r
+  statement here (u.for_of at r body) = do
+    is ← turns here.integers at r
     ss ← each (λ i. statements (in_loop here i) body) is
     Ok (joined_bodies ss)
 
@@ -79,24 +79,24 @@ unfoldable mutual
     y ← branches here bs
     Ok (bodies.branch c x y)
 
-  pub alternatives : Site → (len : ℕ) → u.Alternatives → Elab bodies.Alternatives
-  alternatives here len (u.others s) = do
+  pub alternatives : Site → (at : ℕ) → (len : ℕ) → u.Alternatives → Elab bodies.Alternatives
+  alternatives here at len (u.others s) = do
     x ← statements here s
     Ok (bodies.others x)
-  alternatives here len (u.alternative choices s alts) = do
-    cs ← each (choice len) choices
+  alternatives here at len (u.alternative choices s alts) = do
+    cs ← each (choice at len) choices
     x ← statements here s
-    y ← alternatives here len alts
+    y ← alternatives here at len alts
     Ok (bodies.alternative cs x y)
 
 -- ---- how many turns the loops of a body have together: each turn of an outer loop counts, and those inside it
 
 unfoldable mutual
   pub statement_turns : Site → u.Statement → Elab ℕ
-  statement_turns here (u.if_of bs) = branches_turns here bs
-  statement_turns here (u.case_of v alts) = alternatives_turns here alts
-  statement_turns here (u.for_of r body) = do
-    is ← turns here.integers r
+  statement_turns here (u.if_of at bs) = branches_turns here bs
+  statement_turns here (u.case_of at v alts) = alternatives_turns here alts
+  statement_turns here (u.for_of at r body) = do
+    is ← turns here.integers at r
     ns ← each (λ i. statements_turns (in_loop here i) body) is
     Ok (length is + sum ns)
   statement_turns here _ = Ok 0

@@ -13,9 +13,10 @@ pub data Role : Type 0 where
   output : Role
   internal : Role
 
--- A port or a signal, and what each of its elements starts with. An associated port has the elements of the actual, in
--- the instance above; any other object has none there.
+-- A port or a signal with the byte at which it is declared, and what each of its elements starts with. An associated port has the elements
+-- of the actual, in the instance above; any other object has none there.
 pub record Object : Type 0 where
+  pub at : ℕ
   pub name : List ℕ
   pub role : Role
   pub kind : ObjectKind

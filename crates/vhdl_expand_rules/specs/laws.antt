@@ -5,3 +5,4 @@ pub mod Expressions
 pub mod Statements
 pub mod Trees
 pub mod Labels
+pub mod Bytes

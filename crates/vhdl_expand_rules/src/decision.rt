@@ -65,11 +65,10 @@ pub fn extent(direction: Direction, left: i32, right: i32) -> u64
 }
 
 impl Integers<'_> {
-    /// Whether a condition over static integers holds; a fault is StaticError. `at` is the byte that a
-    /// fault names where no operator is to blame.
+    /// Whether a condition over static integers holds; a fault is StaticError.
     #[cycle(decision)]
     #[tactic(auto, unfolding(crate::specs::Integers::decision))]
-    pub fn decision(&self, test: &StaticTest, at: usize) -> Result<bool, ElabFault>
+    pub fn decision(&self, test: &StaticTest) -> Result<bool, ElabFault>
         ensures { Computes (definition.decision (integers_view self.now) (static_test_view test.now)) result }
     {
         match test {
@@ -79,12 +78,12 @@ impl Integers<'_> {
                 Ok(compares(*relation, x, y))
             }
             StaticTest::Not(operand) => {
-                let holds = self.decision(operand, at)?;
+                let holds = self.decision(operand)?;
                 Ok(!holds)
             }
             StaticTest::Chain(start, links) => {
-                let first = self.first_decision(start, at)?;
-                self.all_decisions(first, links, at)
+                let first = self.first_decision(start)?;
+                self.all_decisions(first, links)
             }
         }
     }
@@ -92,27 +91,22 @@ impl Integers<'_> {
     /// The truth of the first operator of a chain.
     #[cycle(decision)]
     #[tactic(auto, unfolding(crate::specs::Integers::decision))]
-    fn first_decision(&self, start: &StaticTestStart, at: usize) -> Result<bool, ElabFault>
+    fn first_decision(&self, start: &StaticTestStart) -> Result<bool, ElabFault>
         ensures { Computes (definition.decision (integers_view self.now) (static_start_view start.now)) result }
     {
-        let left = self.decision(&start.first, at)?;
-        let right = self.decision(&start.link.operand, at)?;
+        let left = self.decision(&start.first)?;
+        let right = self.decision(&start.link.operand)?;
         Ok(truth(start.link.operator, left, right))
     }
 
     /// The truth of a chain's further operators, on the truth of what stands before them.
     #[cycle(decision)]
-    fn all_decisions(
-        &self,
-        first: bool,
-        links: &[StaticTestLink],
-        at: usize,
-    ) -> Result<bool, ElabFault>
+    fn all_decisions(&self, first: bool, links: &[StaticTestLink]) -> Result<bool, ElabFault>
         ensures { Computes (all_decided (integers_view self.now) first links.now) result }
     {
         let mut holds = first;
         for link in links {
-            let operand = self.decision(&link.operand, at)?;
+            let operand = self.decision(&link.operand)?;
             holds = truth(link.operator, holds, operand);
         }
         Ok(holds)
@@ -121,7 +115,7 @@ impl Integers<'_> {
     /// The turns of a loop or generate with this range, at most 4,096; a fault is StaticError or TooMany.
     #[tactic(auto, unfolding(crate::specs::Integers::turns))]
     pub fn turns(&self, range: &StaticRange, at: usize) -> Result<Turns, ElabFault>
-        ensures { Makes turns_view (definition.turns (integers_view self.now) (range_view range.now)) result }
+        ensures { Makes turns_view (definition.turns (integers_view self.now) at (range_view range.now)) result }
     {
         let first = self.integer(&range.left, at)?;
         let last = self.integer(&range.right, at)?;

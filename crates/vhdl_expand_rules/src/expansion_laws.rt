@@ -1,5 +1,6 @@
 //! Laws of expansion in the words of a reader (`specs/laws`), each the contract of a function that does nothing.
 
+ghost use Rattle.vhdl_expand_rules.specs.laws.Bytes.{EachBodyIsToldAtItsBytes, EachProcessIsToldAtItsBytes, EachDesignIsToldAtBytesOfUnits};
 ghost use Rattle.vhdl_expand_rules.specs.laws.Expressions.{EachNameFits, EachVectorFits, EachValueFits, EachTestFits};
 ghost use Rattle.vhdl_expand_rules.specs.laws.Labels.{EachTreeIsNamed};
 ghost use Rattle.vhdl_expand_rules.specs.laws.Lengths.{EachDesignFits};
@@ -34,4 +35,11 @@ pub fn trees_are_sound()
 /// Names and labels of a tree have a letter, where those of its units have.
 pub fn trees_are_named()
     ensures { EachTreeIsNamed }
+{}
+
+/// What is refused of a body, of a process or of units is told at one of their bytes, or at 0.
+pub fn refusals_stand_in_the_units()
+    ensures bodies { EachBodyIsToldAtItsBytes }
+    ensures processes { EachProcessIsToldAtItsBytes }
+    ensures designs { EachDesignIsToldAtBytesOfUnits }
 {}

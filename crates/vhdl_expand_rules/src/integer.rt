@@ -21,7 +21,7 @@ pub struct Integers<'a> {
 
 /// A value that has to lie in the range of static integers.
 fn checked(x: i32, at: usize) -> Result<i32, ElabFault>
-    ensures { Computes (definition.checked_integer x) result }
+    ensures { Computes (definition.checked_integer at x) result }
 {
     if x.unsigned_abs() <= MAX_INTEGER {
         Ok(x)
@@ -32,7 +32,7 @@ fn checked(x: i32, at: usize) -> Result<i32, ElabFault>
 
 /// The result of an operator, if there is one.
 fn within(x: Option<i32>, at: usize) -> Result<i32, ElabFault>
-    ensures { Computes (in_range x) result }
+    ensures { Computes (in_range at x) result }
 {
     match x {
         Some(x) => checked(x, at),
@@ -42,7 +42,7 @@ fn within(x: Option<i32>, at: usize) -> Result<i32, ElabFault>
 
 /// A literal.
 fn literal(n: u32, at: usize) -> Result<i32, ElabFault>
-    ensures { Computes (definition.checked_integer (pos n)) result }
+    ensures { Computes (definition.checked_integer at (pos n)) result }
 {
     match i32::try_from(n) {
         Ok(x) => checked(x, at),
@@ -52,7 +52,7 @@ fn literal(n: u32, at: usize) -> Result<i32, ElabFault>
 
 /// An integer where a natural number is needed.
 pub fn as_natural(x: i32, at: usize) -> Result<u32, ElabFault>
-    ensures { Computes (definition.as_natural x) result }
+    ensures { Computes (definition.as_natural at x) result }
 {
     match u32::try_from(x) {
         Ok(n) => Ok(n),
@@ -62,7 +62,7 @@ pub fn as_natural(x: i32, at: usize) -> Result<u32, ElabFault>
 
 /// The integer of this number.
 fn known(xs: &[i32], number: usize, at: usize) -> Result<i32, ElabFault>
-    ensures { Computes (definition.known_integer xs.now number) result }
+    ensures { Computes (definition.known_integer at xs.now number) result }
 {
     match xs.get(number) {
         Some(x) => Ok(*x),
@@ -72,7 +72,7 @@ fn known(xs: &[i32], number: usize, at: usize) -> Result<i32, ElabFault>
 
 /// `left rem right`, which has the sign of the dividend.
 fn remainder(left: i32, right: i32, at: usize) -> Result<i32, ElabFault>
-    ensures { Computes (definition.integer_operation Remainder left right) result }
+    ensures { Computes (definition.integer_operation at Remainder left right) result }
 {
     if right == -1 {
         return Ok(0);
@@ -85,7 +85,7 @@ fn remainder(left: i32, right: i32, at: usize) -> Result<i32, ElabFault>
 
 /// `left + right`.
 fn sum(left: i32, right: i32, at: usize) -> Result<i32, ElabFault>
-    ensures { Computes (definition.checked_integer (left +ℤ right)) result }
+    ensures { Computes (definition.checked_integer at (left +ℤ right)) result }
 {
     within(left.checked_add(right), at)
 }
@@ -99,7 +99,7 @@ fn are_opposite(left: i32, right: i32) -> bool
 
 /// The modulus of this remainder: it has the sign of the divisor.
 fn with_sign_of(right: i32, remainder: i32, at: usize) -> Result<i32, ElabFault>
-    ensures { Computes (definition.checked_integer (with_sign right remainder)) result }
+    ensures { Computes (definition.checked_integer at (with_sign right remainder)) result }
 {
     if are_opposite(remainder, right) {
         sum(remainder, right, at)
@@ -110,7 +110,7 @@ fn with_sign_of(right: i32, remainder: i32, at: usize) -> Result<i32, ElabFault>
 
 /// `left mod right`, which has the sign of the divisor.
 fn modulus(left: i32, right: i32, at: usize) -> Result<i32, ElabFault>
-    ensures { Computes (definition.integer_operation Modulo left right) result }
+    ensures { Computes (definition.integer_operation at Modulo left right) result }
 {
     let remainder = remainder(left, right, at)?;
     let modulus = with_sign_of(right, remainder, at)?;
@@ -119,7 +119,7 @@ fn modulus(left: i32, right: i32, at: usize) -> Result<i32, ElabFault>
 
 /// An operator's result. `at` is the byte at which the operator starts.
 fn operated(operator: Arithmetic, left: i32, right: i32, at: usize) -> Result<i32, ElabFault>
-    ensures { Computes (definition.integer_operation operator left right) result }
+    ensures { Computes (definition.integer_operation at operator left right) result }
 {
     match operator {
         Arithmetic::Add => sum(left, right, at),
@@ -137,7 +137,7 @@ impl Integers<'_> {
     #[cycle(integer)]
     #[tactic(auto, unfolding(crate::specs::Integers::integer))]
     pub fn integer(&self, value: &Static, at: usize) -> Result<i32, ElabFault>
-        ensures { Computes (definition.integer (integers_view self.now) (static_view value.now)) result }
+        ensures { Computes (definition.integer (integers_view self.now) at (static_view value.now)) result }
     {
         match value {
             Static::Number(n) => literal(*n, at),
@@ -159,7 +159,7 @@ impl Integers<'_> {
     /// The value of a static integer that has to be natural; a fault is StaticError.
     #[tactic(auto, unfolding(crate::specs::Integers::natural))]
     pub fn natural(&self, value: &Static, at: usize) -> Result<u32, ElabFault>
-        ensures { Computes (definition.natural (integers_view self.now) (static_view value.now)) result }
+        ensures { Computes (definition.natural (integers_view self.now) at (static_view value.now)) result }
     {
         let x = self.integer(value, at)?;
         as_natural(x, at)
@@ -168,7 +168,7 @@ impl Integers<'_> {
     /// The value of a generic or constant of a type of integers; a fault is StaticError or GenericRange.
     #[tactic(auto, unfolding(crate::specs::Integers::integer_of))]
     pub fn integer_of(&self, of: IntegerType, value: &Static, at: usize) -> Result<i32, ElabFault>
-        ensures { Computes (definition.integer_of of (integers_view self.now) (static_view value.now)) result }
+        ensures { Computes (definition.integer_of of (integers_view self.now) at (static_view value.now)) result }
     {
         let x = self.integer(value, at)?;
         let fits = match of {
@@ -186,7 +186,7 @@ impl Integers<'_> {
     #[cycle(integer)]
     #[tactic(auto, unfolding(crate::specs::Integers::integer))]
     fn started(&self, start: &StaticStart) -> Result<i32, ElabFault>
-        ensures { Computes (definition.integer (integers_view self.now) (start_view start.now)) result }
+        ensures { Computes (definition.integer (integers_view self.now) start.now.link.at (start_view start.now)) result }
     {
         let at = start.link.at;
         let left = self.integer(&start.first, at)?;

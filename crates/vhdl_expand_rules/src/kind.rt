@@ -70,7 +70,7 @@ impl Bounds {
 
     /// The place of an index, counted from the left; a fault is Index.
     fn place_of(self, index: i32, at: usize) -> Result<usize, ElabFault>
-        ensures { Computes (definition.place_of (bounds_view self) index) result }
+        ensures { Computes (definition.place_of (bounds_view self) at index) result }
     {
         if !self.is_within(index) {
             return Err(ElabProblem::Index.at(at));
@@ -80,7 +80,7 @@ impl Bounds {
 
     /// The places of a slice from one index to another; a fault is Index.
     fn slice(self, direction: Direction, left: i32, right: i32, at: usize) -> Result<Run, ElabFault>
-        ensures { Makes run_view (definition.slice_places (bounds_view self) direction left right) result }
+        ensures { Makes run_view (definition.slice_places (bounds_view self) at direction left right) result }
     {
         if !is_same(self.direction, direction) || is_null(direction, left, right) {
             return Err(ElabProblem::Index.at(at));
@@ -124,7 +124,7 @@ fn is_same(left: Direction, right: Direction) -> bool
 
 /// A size that is asked for: 1 to 64.
 fn as_size(n: u32, at: usize) -> Result<u32, ElabFault>
-    ensures { Computes (definition.as_size n) result }
+    ensures { Computes (definition.as_size at n) result }
 {
     if n < 1 {
         return Err(ElabProblem::Index.at(at));
@@ -139,7 +139,7 @@ impl Integers<'_> {
     /// The bounds of a declared vector, of 1 to 64 elements; a fault is StaticError, Index or TooWide.
     #[tactic(auto, unfolding(crate::specs::Kinds::declared_bounds))]
     pub fn declared_bounds(&self, range: &StaticRange, at: usize) -> Result<Bounds, ElabFault>
-        ensures { Makes bounds_view (definition.declared_bounds (integers_view self.now) (range_view range.now)) result }
+        ensures { Makes bounds_view (definition.declared_bounds (integers_view self.now) at (range_view range.now)) result }
     {
         let left = self.integer(&range.left, at)?;
         let right = self.integer(&range.right, at)?;
@@ -161,7 +161,7 @@ impl Integers<'_> {
     /// The size that a call asks for, 1 to 64; a fault is StaticError, Index or TooWide.
     #[tactic(auto, unfolding(crate::specs::Kinds::size_of))]
     pub fn size_of(&self, size: &Static, at: usize) -> Result<u32, ElabFault>
-        ensures { Computes (definition.size_of (integers_view self.now) (static_view size.now)) result }
+        ensures { Computes (definition.size_of (integers_view self.now) at (static_view size.now)) result }
     {
         let n = self.natural(size, at)?;
         as_size(n, at)
@@ -170,7 +170,7 @@ impl Integers<'_> {
     /// The count of an operator: a length, 1 to 64, or how many places; a fault is StaticError, Index or TooWide.
     #[tactic(auto, unfolding(crate::specs::Kinds::count_of))]
     pub fn count_of(&self, operator: Counted, count: &Static, at: usize) -> Result<u32, ElabFault>
-        ensures { Computes (definition.count_of operator (integers_view self.now) (static_view count.now)) result }
+        ensures { Computes (definition.count_of operator (integers_view self.now) at (static_view count.now)) result }
     {
         match operator {
             Counted::Resize => self.size_of(count, at),
@@ -181,7 +181,7 @@ impl Integers<'_> {
     /// The places of a part of what is declared; a fault is StaticError or Index.
     #[tactic(auto, unfolding(crate::specs::Kinds::places))]
     pub fn places(&self, kind: ObjectKind, part: &Part, at: usize) -> Result<Run, ElabFault>
-        ensures { Makes run_view (definition.places (integers_view self.now) (kind_view kind) (part_view part.now)) result }
+        ensures { Makes run_view (definition.places (integers_view self.now) at (kind_view kind) (part_view part.now)) result }
     {
         match part {
             Part::Whole => Ok(Run {
@@ -202,7 +202,7 @@ impl Integers<'_> {
     /// The place of an element of a vector.
     #[tactic(auto, unfolding(crate::specs::Kinds::places))]
     fn element_of(&self, bounds: Bounds, index: &Static, at: usize) -> Result<Run, ElabFault>
-        ensures { Makes run_view (definition.places (integers_view self.now) (definition.vector (bounds_view bounds)) (units.Part.element (static_view index.now))) result }
+        ensures { Makes run_view (definition.places (integers_view self.now) at (definition.vector (bounds_view bounds)) (units.Part.element (static_view index.now))) result }
     {
         let index = self.integer(index, at)?;
         let first = bounds.place_of(index, at)?;
@@ -212,7 +212,7 @@ impl Integers<'_> {
     /// The places of a slice of a vector.
     #[tactic(auto, unfolding(crate::specs::Kinds::places))]
     fn slice_of(&self, bounds: Bounds, range: &StaticRange, at: usize) -> Result<Run, ElabFault>
-        ensures { Makes run_view (definition.places (integers_view self.now) (definition.vector (bounds_view bounds)) (units.slice (range_view range.now))) result }
+        ensures { Makes run_view (definition.places (integers_view self.now) at (definition.vector (bounds_view bounds)) (units.slice (range_view range.now))) result }
     {
         let left = self.integer(&range.left, at)?;
         let right = self.integer(&range.right, at)?;

@@ -2,13 +2,12 @@
 use Rattle.std.proofs.Common.{◌≡◌, ℕ, ◌+◌, ◌-◌, Bool, true, false, ◌&&◌, nat_le, Ok, Err, refl, sym, ap, ◌∙◌, arith}
 use Rattle.std.specs.Prelude.{IsErr}
 use Rattle.std.proofs.lemmas.Bool.Decides.{nat_tests}
-use Rattle.vhdl_expand_rules.specs.declared.fault.ElabProblem.{ElabProblem}
 use Rattle.vhdl_expand_rules.specs.declared.fault.ElabProblem.TheVariants.{TooMany}
-use Rattle.vhdl_expand_rules.specs.Elab.{Elab, ◌>>=◌, ◌>>◌, unless}
+use Rattle.vhdl_expand_rules.specs.Elab.{Told, Elab, ◌>>=◌, ◌>>◌, unless}
 use Rattle.vhdl_expand_rules.proofs.Steps.{given}
 use Rattle.vhdl_elab_rules.specs.Limits.{Counts, is_within}
 use Rattle.vhdl_expand_tree.specs.Costs.{no_costs, plus, less, spent, charged}
-use Rattle.vhdl_expand_tree.proofs.Alike.{Alike, wrong, same_problem, alike_same, alike_after, both_refused}
+use Rattle.vhdl_expand_tree.proofs.Alike.{Alike, wrong, same_told, alike_same, alike_after, both_refused}
 
 -- ---- numbers
 
@@ -74,17 +73,17 @@ less-plus a b n = λ i. record {
 }
 
 -- a budget that does not suffice is one problem
-pub spent_told : (n c : Counts) (problem : ElabProblem) → spent n c ≡ Err problem → problem ≡ TooMany
-spent_told n c problem h = by (is_within c n) h
+pub spent_told : (at : ℕ) (n c : Counts) (told : Told) → spent at n c ≡ Err told → told.0 ≡ TooMany
+spent_told at n c told h = by (is_within c n) h
   where
-    by : (t : Bool) → (unless TooMany t >> given (less n c)) ≡ wrong problem → problem ≡ TooMany
+    by : (t : Bool) → (unless TooMany at t >> given (less n c)) ≡ wrong told → told.0 ≡ TooMany
     by true k = absurd cc
-    by false k = sym (same_problem {A = Counts} TooMany problem k)
+    by false k = ap (λ (x : Told). x.0) (sym (same_told {A = Counts} (TooMany, at) told k))
 
-pub spent-plus : (a b n : Counts) → spent n (plus a b) ≡ (spent n a >>= λ left. spent left b)
-spent-plus a b n = (λ i. unless TooMany (within-plus a b n i) >> given (less-plus a b n i)) ∙ go (is_within a n)
+pub spent-plus : (at : ℕ) (a b n : Counts) → spent at n (plus a b) ≡ (spent at n a >>= λ left. spent at left b)
+spent-plus at a b n = (λ i. unless TooMany at (within-plus a b n i) >> given (less-plus a b n i)) ∙ go (is_within a n)
   where
-    go : (x : Bool) → (unless TooMany (x && is_within b (less n a)) >> given (less (less n a) b)) ≡ ((unless TooMany x >> given (less n a)) >>= λ left. spent left b)
+    go : (x : Bool) → (unless TooMany at (x && is_within b (less n a)) >> given (less (less n a) b)) ≡ ((unless TooMany at x >> given (less n a)) >>= λ left. spent at left b)
     go true = refl
     go false = refl
 
@@ -102,8 +101,8 @@ all-left n = λ i. record {
   variable_elements = none-taken n.variable_elements i;
 }
 
-pub spent-none : (n : Counts) → spent n no_costs ≡ Ok n
-spent-none n = (λ i. unless TooMany (none-within n i) >> given (all-left n i))
+pub spent-none : (at : ℕ) (n : Counts) → spent at n no_costs ≡ Ok n
+spent-none at n = (λ i. unless TooMany at (none-within n i) >> given (all-left n i))
 
 pub plus-none : (a : Counts) → plus no_costs a ≡ a
 plus-none a = λ i. record {
@@ -134,38 +133,38 @@ left_with x left = Ok (x, left)
 module _ {X Y Z : Type 0} (cx : X → Counts) (cy : Y → Counts) (cz : Z → Counts) (join : X → Y → Z) (together : (x : X) (y : Y) → cz (join x y) ≡ plus (cx x) (cy y)) where
   pub charged_in_turn : (n : Counts) (p : Elab X) (f : X → Elab Y)
       → Alike (charged n cz (p >>= λ x. f x >>= λ y. given (join x y))) (charged n cx p >>= λ a. charged a.1 cy (f a.0) >>= λ b. left_with (join a.0 b.0) b.1)
-  charged_in_turn n (Err problem) f = alike_same refl
-  charged_in_turn n (Ok x) f = alike_after (costs (f x)) (go (spent n (cx x)) (spent_told n (cx x)))
+  charged_in_turn n (Err told) f = alike_same refl
+  charged_in_turn n (Ok x) f = alike_after (costs (f x)) (go (spent 0 n (cx x)) (spent_told 0 n (cx x)))
     where
-      split : (y : Y) → (spent n (cz (join x y)) >>= λ s. left_with (join x y) s) ≡ ((spent n (cx x) >>= λ left. spent left (cy y)) >>= λ s. left_with (join x y) s)
-      split y = λ i. (ap (spent n) (together x y) ∙ spent-plus (cx x) (cy y) n) i >>= λ s. left_with (join x y) s
+      split : (y : Y) → (spent 0 n (cz (join x y)) >>= λ s. left_with (join x y) s) ≡ ((spent 0 n (cx x) >>= λ left. spent 0 left (cy y)) >>= λ s. left_with (join x y) s)
+      split y = λ i. (ap (spent 0 n) (together x y) ∙ spent-plus 0 (cx x) (cy y) n) i >>= λ s. left_with (join x y) s
 
-      costs : (r : Elab Y) → ((r >>= λ y. given (join x y)) >>= λ z. spent n (cz z) >>= λ s. left_with z s) ≡ (r >>= λ y. (spent n (cx x) >>= λ left. spent left (cy y)) >>= λ s. left_with (join x y) s)
+      costs : (r : Elab Y) → ((r >>= λ y. given (join x y)) >>= λ z. spent 0 n (cz z) >>= λ s. left_with z s) ≡ (r >>= λ y. (spent 0 n (cx x) >>= λ left. spent 0 left (cy y)) >>= λ s. left_with (join x y) s)
       costs (Ok y) = split y
-      costs (Err problem) = refl
+      costs (Err told) = refl
 
-      refused : (r : Elab Y) (problem : ElabProblem) → IsErr (r >>= λ y. (wrong problem >>= λ left. spent left (cy y)) >>= λ s. left_with (join x y) s)
-      refused (Ok y) problem = refl
-      refused (Err first) problem = refl
+      refused : (r : Elab Y) (told : Told) → IsErr (r >>= λ y. (wrong told >>= λ left. spent 0 left (cy y)) >>= λ s. left_with (join x y) s)
+      refused (Ok y) told = refl
+      refused (Err first) told = refl
 
       last : (y : Y) (r : Elab Counts) → (r >>= λ s. left_with (join x y) s) ≡ ((r >>= λ s. left_with y s) >>= λ b. left_with (join x b.0) b.1)
       last y (Ok s) = refl
-      last y (Err problem) = refl
+      last y (Err told) = refl
 
-      next : (left : Counts) (r : Elab Y) → (r >>= λ y. spent left (cy y) >>= λ s. left_with (join x y) s) ≡ ((r >>= λ y. spent left (cy y) >>= λ s. left_with y s) >>= λ b. left_with (join x b.0) b.1)
-      next left (Ok y) = last y (spent left (cy y))
-      next left (Err problem) = refl
+      next : (left : Counts) (r : Elab Y) → (r >>= λ y. spent 0 left (cy y) >>= λ s. left_with (join x y) s) ≡ ((r >>= λ y. spent 0 left (cy y) >>= λ s. left_with y s) >>= λ b. left_with (join x b.0) b.1)
+      next left (Ok y) = last y (spent 0 left (cy y))
+      next left (Err told) = refl
 
-      go : (t : Elab Counts) → ((problem : ElabProblem) → t ≡ Err problem → problem ≡ TooMany) → Alike (f x >>= λ y. (t >>= λ left. spent left (cy y)) >>= λ s. left_with (join x y) s) ((t >>= λ s. left_with x s) >>= λ a. charged a.1 cy (f a.0) >>= λ b. left_with (join a.0 b.0) b.1)
+      go : (t : Elab Counts) → ((told : Told) → t ≡ Err told → told.0 ≡ TooMany) → Alike (f x >>= λ y. (t >>= λ left. spent 0 left (cy y)) >>= λ s. left_with (join x y) s) ((t >>= λ s. left_with x s) >>= λ a. charged a.1 cy (f a.0) >>= λ b. left_with (join a.0 b.0) b.1)
       go (Ok left) only = alike_same (next left (f x))
-      go (Err problem) only = both_refused (only problem refl) (refused (f x) problem)
+      go (Err told) only = both_refused (only told refl) (refused (f x) told)
 
 -- what costs as much as what it is made of
 pub charged_made : {X Z : Type 0} (cx : X → Counts) (cz : Z → Counts) (make : X → Z) → ((x : X) → cz (make x) ≡ cx x) → (n : Counts) (p : Elab X)
     → charged n cz (p >>= λ x. given (make x)) ≡ (charged n cx p >>= λ a. left_with (make a.0) a.1)
-charged_made cx cz make same n (Err problem) = refl
-charged_made cx cz make same n (Ok x) = (λ i. spent n (same x i) >>= λ s. left_with (make x) s) ∙ go (spent n (cx x))
+charged_made cx cz make same n (Err told) = refl
+charged_made cx cz make same n (Ok x) = (λ i. spent 0 n (same x i) >>= λ s. left_with (make x) s) ∙ go (spent 0 n (cx x))
   where
     go : (r : Elab Counts) → (r >>= λ s. left_with (make x) s) ≡ ((r >>= λ s. left_with x s) >>= λ a. left_with (make a.0) a.1)
     go (Ok s) = refl
-    go (Err problem) = refl
+    go (Err told) = refl

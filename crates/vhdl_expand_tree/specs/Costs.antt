@@ -83,21 +83,22 @@ abbrev mutual
 
 -- ---- what is left
 
--- of a number
-abbrev pub left : (of taken : ℕ) → Elab ℕ
-left of taken = do
-  unless TooMany (nat_le taken of)
+-- of a number, told at this byte where that doesn't suffice
+abbrev pub left : (at of taken : ℕ) → Elab ℕ
+left at of taken = do
+  unless TooMany at (nat_le taken of)
   Ok (of - taken)
 
 -- of a budget, when these are taken
-abbrev pub spent : (budget costs : Counts) → Elab Counts
-spent budget costs = do
-  unless TooMany (is_within costs budget)
+abbrev pub spent : (at : ℕ) → (budget costs : Counts) → Elab Counts
+spent at budget costs = do
+  unless TooMany at (is_within costs budget)
   Ok (less budget costs)
 
--- what is given and then costs so much: with what is left of the budget, where that suffices
+-- what is given and then costs so much: with what is left of the budget, where that suffices. Of a call that charges on its way, no one
+-- says where (`MayTell`).
 abbrev pub charged : {Y : Type 0} → (budget : Counts) → (Y → Counts) → Elab Y → Elab (Y × Counts)
 charged budget costs given = do
   y ← given
-  rest ← spent budget (costs y)
+  rest ← spent 0 budget (costs y)
   Ok (y, rest)

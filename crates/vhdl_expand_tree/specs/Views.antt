@@ -1,4 +1,4 @@
--- What contracts see of the code's tree: the tree of the definitions, without places in the text.
+-- What contracts see of the code's tree: the tree of the definitions. Where statements and processes start, it leaves out.
 use Rattle.std.specs.Prelude.{List, [], ◌∷◌, map, option_map, Vec}
 use Rattle.std.specs.Global.{Global}
 use Rattle.rtl_net.specs.Bodies.{statements_of}
@@ -39,6 +39,7 @@ role_view r.Internal = tree.internal
 
 abbrev pub object_view : Object → tree.Object
 object_view o = record {
+  at = o.at;
   name = o.name.items;
   role = role_view o.role;
   kind = kind_view o.kind;

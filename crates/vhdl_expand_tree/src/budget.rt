@@ -54,7 +54,7 @@ impl Budget {
 
     /// Takes a process, which starts at byte `at`; where none is left, nothing is taken, and the fault is TooMany there.
     pub fn charge_process(&mut self, at: usize) -> Result<(), ElabFault>
-        ensures spent { Makes (λ _. budget_view self.new) (spent (budget_view self.old) a_process) result }
+        ensures spent { Makes (λ _. budget_view self.new) (spent at (budget_view self.old) a_process) result }
         ensures fault { IfErr result (λ fault. fault ≡ At TooMany at) }
         ensures kept { OnErr result (self.new ≡ self.old) }
     {
@@ -64,7 +64,7 @@ impl Budget {
 
     /// Takes an instance, whose label starts at byte `at`; where none is left, nothing is taken, and the fault is TooMany there.
     pub fn charge_instance(&mut self, at: usize) -> Result<(), ElabFault>
-        ensures spent { Makes (λ _. budget_view self.new) (spent (budget_view self.old) an_instance) result }
+        ensures spent { Makes (λ _. budget_view self.new) (spent at (budget_view self.old) an_instance) result }
         ensures fault { IfErr result (λ fault. fault ≡ At TooMany at) }
         ensures kept { OnErr result (self.new ≡ self.old) }
     {
@@ -74,7 +74,7 @@ impl Budget {
 
     /// Takes a statement of an unrolled body; where none is left, nothing is taken, and the fault is TooMany at this byte.
     pub fn charge_statement(&mut self, at: usize) -> Result<(), ElabFault>
-        ensures spent { Makes (λ _. budget_view self.new) (spent (budget_view self.old) a_statement) result }
+        ensures spent { Makes (λ _. budget_view self.new) (spent at (budget_view self.old) a_statement) result }
         ensures fault { IfErr result (λ fault. fault ≡ At TooMany at) }
         ensures kept { OnErr result (self.new ≡ self.old) }
     {
@@ -85,7 +85,7 @@ impl Budget {
     /// Takes so many turns of a loop or generate, whose range starts at byte `at`; where fewer are left, nothing is taken, and the
     /// fault is TooMany there.
     pub fn charge_turns(&mut self, count: usize, at: usize) -> Result<(), ElabFault>
-        ensures spent { Makes (λ _. budget_view self.new) (spent (budget_view self.old) (turns count)) result }
+        ensures spent { Makes (λ _. budget_view self.new) (spent at (budget_view self.old) (turns count)) result }
         ensures fault { IfErr result (λ fault. fault ≡ At TooMany at) }
         ensures kept { OnErr result (self.new ≡ self.old) }
     {
@@ -95,7 +95,7 @@ impl Budget {
 
     /// Takes so many nets, of an object at byte `at`; where fewer are left, nothing is taken, and the fault is TooMany there.
     pub fn charge_nets(&mut self, count: usize, at: usize) -> Result<(), ElabFault>
-        ensures spent { Makes (λ _. budget_view self.new) (spent (budget_view self.old) (nets count)) result }
+        ensures spent { Makes (λ _. budget_view self.new) (spent at (budget_view self.old) (nets count)) result }
         ensures fault { IfErr result (λ fault. fault ≡ At TooMany at) }
         ensures kept { OnErr result (self.new ≡ self.old) }
     {
@@ -106,7 +106,7 @@ impl Budget {
     /// Takes so many elements of variables of the process at byte `at`; where fewer are left, nothing is taken, and the fault is
     /// TooMany there.
     pub fn charge_variables(&mut self, count: usize, at: usize) -> Result<(), ElabFault>
-        ensures spent { Makes (λ _. budget_view self.new) (spent (budget_view self.old) (variable_elements count)) result }
+        ensures spent { Makes (λ _. budget_view self.new) (spent at (budget_view self.old) (variable_elements count)) result }
         ensures fault { IfErr result (λ fault. fault ≡ At TooMany at) }
         ensures kept { OnErr result (self.new ≡ self.old) }
     {
@@ -117,7 +117,7 @@ impl Budget {
 
 /// What is left of so many when so many are taken; where there are fewer, the fault is TooMany at this byte.
 fn left(of: u32, taken: usize, at: usize) -> Result<u32, ElabFault>
-    ensures given { Makes (λ rest. rest) (costs.left of taken) result }
+    ensures given { Makes (λ rest. rest) (costs.left at of taken) result }
     ensures fault { IfErr result (λ fault. fault ≡ At TooMany at) }
 {
     if taken > of as usize {

@@ -29,7 +29,7 @@ pub struct Object {
     /// Of an associated port, the elements of its actual in the instance above, from the left.
     pub actual: Option<Vec<usize>>,
     /// The byte of the source at which it is declared.
-    pub at: u32,
+    pub at: usize,
 }
 
 impl Drop for Object {

@@ -1,5 +1,5 @@
 -- Concurrent statements, one after another.
-use Rattle.std.proofs.Common.{◌≡◌, Bool, true, false, List, [], ◌∷◌, Option, Some, None, refl, ap, ◌∙◌}
+use Rattle.std.proofs.Common.{◌≡◌, ℕ, Bool, true, false, List, [], ◌∷◌, Option, Some, None, refl, ap, ◌∙◌}
 use Rattle.std.specs.Prelude.{option_map}
 use Rattle.vhdl_tree.specs.Tree as t
 use Rattle.vhdl_tree.specs.Tree.{Ident}
@@ -41,16 +41,16 @@ module _ (f : Sight → Ident → t.Instance → Option u.Instance) where
       end None o = refl
       end (Some y) o = refl
 
-  generate_by : (sight : Sight) (label : Ident) (at : _) (k : t.Scheme) (word : Bool) (cs : List t.Concurrent) (end : Option Ident)
-      → steps.concurrent f sight (t.generated label at k word (t.concurrents_of cs) end) ≡ steps.generate f sight label k cs end
+  generate_by : (sight : Sight) (label : Ident) (at : ℕ) (k : t.Scheme) (word : Bool) (cs : List t.Concurrent) (end : Option Ident)
+      → steps.concurrent f sight (t.generated label at k word (t.concurrents_of cs) end) ≡ steps.generate f sight label at k cs end
   generate_by sight label at k word cs end =
-      ap (λ o. met (ends label.text end) >> (met (are_distinct (concurrent_labels (t.concurrents_of cs))) >> (o >>= λ b. generated sight label.text k b)))
+      ap (λ o. met (ends label.text end) >> (met (are_distinct (concurrent_labels (t.concurrents_of cs))) >> (o >>= λ b. generated sight label.text at k b)))
       (each_statement (sight_within sight k) cs)
       ∙ go (ends label.text end) (are_distinct (concurrent_labels (t.concurrents_of cs))) (steps.all f (sight_within sight k) cs)
     where
       go : (e d : Bool) (o : Option (List u.Concurrent))
-          → (met e >> (met d >> (option_map concurrents_of o >>= λ b. generated sight label.text k b)))
-          ≡ ((met d >> o) >>= λ xs. met e >> generated sight label.text k (concurrents_of xs))
+          → (met e >> (met d >> (option_map concurrents_of o >>= λ b. generated sight label.text at k b)))
+          ≡ ((met d >> o) >>= λ xs. met e >> generated sight label.text at k (concurrents_of xs))
       go true true None = refl
       go true true (Some xs) = refl
       go true false o = refl
@@ -59,7 +59,7 @@ module _ (f : Sight → Ident → t.Instance → Option u.Instance) where
       go false false o = refl
 
   pub generate_gives : (sight : Sight) (g : Generate) → steps.concurrent f sight (tree.concurrent_view (c.Generate g))
-      ≡ steps.generate f sight (tree.ident_view (out-Generate g).label) (tree.scheme_view (out-Generate g).scheme) (tree.concurrents_view (out-Generate g).statements)
+      ≡ steps.generate f sight (tree.ident_view (out-Generate g).label) (out-Generate g).at (tree.scheme_view (out-Generate g).scheme) (tree.concurrents_view (out-Generate g).statements)
       (tree.option_ident_view (out-Generate g).end_label)
   generate_gives sight g =
       ap (steps.concurrent f sight) (generate_is g)
@@ -67,11 +67,11 @@ module _ (f : Sight → Ident → t.Instance → Option u.Instance) where
       (tree.option_ident_view (out-Generate g).end_label)
 
   -- where what it goes by is refused, the generate is
-  pub no_scheme : (sight : Sight) (label : Ident) (k : t.Scheme) (cs : List t.Concurrent) (end : Option Ident)
-      → ((b : u.Concurrents) → generated sight label.text k b ≡ None) → steps.generate f sight label k cs end ≡ None
-  no_scheme sight label k cs end h = go (are_distinct (concurrent_labels (t.concurrents_of cs))) (ends label.text end) (steps.all f (sight_within sight k) cs)
+  pub no_scheme : (sight : Sight) (label : Ident) (at : ℕ) (k : t.Scheme) (cs : List t.Concurrent) (end : Option Ident)
+      → ((b : u.Concurrents) → generated sight label.text at k b ≡ None) → steps.generate f sight label at k cs end ≡ None
+  no_scheme sight label at k cs end h = go (are_distinct (concurrent_labels (t.concurrents_of cs))) (ends label.text end) (steps.all f (sight_within sight k) cs)
     where
-      go : (d e : Bool) (o : Option (List u.Concurrent)) → ((met d >> o) >>= λ xs. met e >> generated sight label.text k (concurrents_of xs)) ≡ None
+      go : (d e : Bool) (o : Option (List u.Concurrent)) → ((met d >> o) >>= λ xs. met e >> generated sight label.text at k (concurrents_of xs)) ≡ None
       go true true None = refl
       go true true (Some xs) = h (concurrents_of xs)
       go true false None = refl
@@ -79,18 +79,18 @@ module _ (f : Sight → Ident → t.Instance → Option u.Instance) where
       go false e o = refl
 
   -- where the statements in it are refused, and where its end is
-  module _ (sight : Sight) (label : Ident) (k : t.Scheme) (cs : List t.Concurrent) (end : Option Ident) where
-    pub no_body : (within : Sight) → Some (sight_within sight k) ≡ Some within → steps.labelled f within cs ≡ None → steps.generate f sight label k cs end ≡ None
+  module _ (sight : Sight) (label : Ident) (at : ℕ) (k : t.Scheme) (cs : List t.Concurrent) (end : Option Ident) where
+    pub no_body : (within : Sight) → Some (sight_within sight k) ≡ Some within → steps.labelled f within cs ≡ None → steps.generate f sight label at k cs end ≡ None
     no_body within e h =
-        ap (λ (o : Option (List u.Concurrent)). o >>= λ xs. met (ends label.text end) >> generated sight label.text k (concurrents_of xs))
+        ap (λ (o : Option (List u.Concurrent)). o >>= λ xs. met (ends label.text end) >> generated sight label.text at k (concurrents_of xs))
         (ap (λ s. steps.labelled f s cs) (some_is (sight_within sight k) within e) ∙ h)
 
-    pub no_end : met (ends label.text end) ≡ None → steps.generate f sight label k cs end ≡ None
+    pub no_end : met (ends label.text end) ≡ None → steps.generate f sight label at k cs end ≡ None
     no_end h = go (steps.labelled f (sight_within sight k) cs)
       where
-        go : (o : Option (List u.Concurrent)) → (o >>= λ xs. met (ends label.text end) >> generated sight label.text k (concurrents_of xs)) ≡ None
+        go : (o : Option (List u.Concurrent)) → (o >>= λ xs. met (ends label.text end) >> generated sight label.text at k (concurrents_of xs)) ≡ None
         go None = refl
-        go (Some xs) = ap (λ o. o >> generated sight label.text k (concurrents_of xs)) h
+        go (Some xs) = ap (λ o. o >> generated sight label.text at k (concurrents_of xs)) h
 
   module _ (es : List EntityView) (h : (sight : Sight) (label : Ident) (i : t.Instance) → instance es sight label i ≡ f sight label i) where
     mutual
@@ -102,7 +102,7 @@ module _ (f : Sight → Ident → t.Instance → Option u.Instance) where
       by_instance sight (t.process label p) = refl
       by_instance sight (t.instance label i) = ap (option_map u.instance) (h sight label i)
       by_instance sight (t.generated label at k word cs end) =
-          ap (λ o. met (ends label.text end) >> (met (are_distinct (concurrent_labels cs)) >> (o >>= λ b. generated sight label.text k b)))
+          ap (λ o. met (ends label.text end) >> (met (are_distinct (concurrent_labels cs)) >> (o >>= λ b. generated sight label.text at k b)))
           (by_instances (sight_within sight k) cs)
 
       by_instances : (sight : Sight) (cs : t.Concurrents) → rules.concurrents es sight cs ≡ steps.concurrents f sight cs

@@ -15,7 +15,7 @@ use Rattle.vhdl_names.specs.steps.Processes as steps
 
 module _ (sight : Sight) (label : Option Ident) (p : t.Process) (outside : sight.variables ≡ []) where
   abbrev made : u.Sensitivity → List u.Object → s.Statements → Option u.Process
-  made on vs b = met (label_ends label p.end_label) >> Some (record { label = label_of label; variables = vs; sensitivity = on; body = b })
+  made on vs b = met (label_ends label p.end_label) >> Some (record { at = p.at; label = label_of label; variables = vs; sensitivity = on; body = b })
 
   with_body : (on : u.Sensitivity) (w : Sight × List u.Object) (d l : Bool)
       → (met d >> (met l >> (statements w.0 (t.statements_of p.statements) >>= made on w.1)))

@@ -170,14 +170,14 @@ module _ (es : List EntityView) (sight : Sight) (label : Ident) (k : t.Scheme) (
   pub generate_by : Tells by f → Tells (told.generate es sight label k cs end) f
   generate_by h = told_left by (inside ▸ closed) f h
 
-  module _ (y : u.Concurrent) (is : rules.generated sight [] k u.no_concurrents ≡ Some y) (entered : Sight) (e : Some (sight_within sight k) ≡ Some entered) where
+  module _ (y : u.Concurrent) (is : rules.generated sight [] 0 k u.no_concurrents ≡ Some y) (entered : Sight) (e : Some (sight_within sight k) ≡ Some entered) where
     same : told.labelled es entered cs ≡ inside
     same =
         let s : entered ≡ sight_within sight k = cc in
         ap (λ s. told.labelled es s cs) s
 
     past : Tells (inside ▸ closed) f → Tells (told.generate es sight label k cs end) f
-    past h = told_right by (inside ▸ closed) f (scheme_kept sight [] k u.no_concurrents y is) h
+    past h = told_right by (inside ▸ closed) f (scheme_kept sight [] 0 k u.no_concurrents y is) h
 
     pub generate_inside : Tells (told.labelled es entered cs) f → Tells (told.generate es sight label k cs end) f
     generate_inside h = past (told_left inside closed f (told_same (told.labelled es entered cs) inside f same h))

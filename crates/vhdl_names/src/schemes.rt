@@ -19,8 +19,8 @@ use vhdl_tree as syntax;
 
 /// A parameter's range, or a condition over static integers.
 pub fn scheme(alloc: Global, sight: &Sight, scheme: &syntax::Scheme) -> Result<Scheme, NameFault>
-    ensures given { (label : List ℕ) (body : u.Concurrents) → Gives (generated label body)
-        (rules.generated (sight_view sight.now) label (scheme_view scheme.now) body) result }
+    ensures given { (label : List ℕ) (at : ℕ) (body : u.Concurrents) → Gives (generated label at body)
+        (rules.generated (sight_view sight.now) label at (scheme_view scheme.now) body) result }
     ensures told { IfErr result (Tells (broken.scheme (sight_view sight.now) (scheme_view scheme.now))) }
 {
     match scheme {

@@ -169,7 +169,7 @@ fn generate(
 ) -> Result<Concurrent, NameFault>
     requires outside { (sight_view sight.old).variables ≡ [] }
     ensures given { Gives views.concurrent_view (steps.generate (instance_of (names_view entities.now.names) (seens_view entities.now.formals))
-        (sight_view sight.old) (tree.ident_view (out-Generate written.now).label) (tree.scheme_view (out-Generate written.now).scheme)
+        (sight_view sight.old) (tree.ident_view (out-Generate written.now).label) (out-Generate written.now).at (tree.scheme_view (out-Generate written.now).scheme)
         (tree.concurrents_view (out-Generate written.now).statements) (tree.option_ident_view (out-Generate written.now).end_label)) result }
     ensures kept { OnOk result (sight_view sight.new ≡ sight_view sight.old) }
     ensures told { (all : List EntityView) → AreEntities entities.now all

@@ -113,36 +113,36 @@ constants_of s d o = declares_all (names_of d.names) (constant_number s) c.decla
 constants_typed : (s : Sight) (d : t.Constants) (o : Option IntegerType) → constants_by s d o ≡ constants_of s d (c.by_type (within s d.names) d o)
 constants_typed s d (Some w) = go (met (is_none d.subtype.range))
   where
-    last : (o : Option Static) → (o >>= λ value. Some (record { declared = numbered visibility.integer_constant (count_of visibility.is_integer_constant s.region) (names_of d.names); analysed = for_each (λ n. u.Declaration.integer w value) d.names }))
+    last : (o : Option Static) → (o >>= λ value. Some (record { declared = numbered visibility.integer_constant (count_of visibility.is_integer_constant s.region) (names_of d.names); analysed = for_each (λ n. u.Declaration.integer n.at w value) d.names }))
         ≡ constants_of s d (o >>= λ value. Some (of_integers w value))
     last None = refl
     last (Some value) = refl
 
-    next : (o : Option t.Expr) → (o >>= λ e. (static (within s d.names) e >>= λ value. Some (record { declared = numbered visibility.integer_constant (count_of visibility.is_integer_constant s.region) (names_of d.names); analysed = for_each (λ n. u.Declaration.integer w value) d.names })))
+    next : (o : Option t.Expr) → (o >>= λ e. (static (within s d.names) e >>= λ value. Some (record { declared = numbered visibility.integer_constant (count_of visibility.is_integer_constant s.region) (names_of d.names); analysed = for_each (λ n. u.Declaration.integer n.at w value) d.names })))
         ≡ constants_of s d (o >>= λ e. (static (within s d.names) e >>= λ value. Some (of_integers w value)))
     next None = refl
     next (Some e) = last (static (within s d.names) e)
 
-    go : (o : Option (Unit {0})) → (o >>= λ _. (single_expression d.value >>= λ e. (static (within s d.names) e >>= λ value. Some (record { declared = numbered visibility.integer_constant (count_of visibility.is_integer_constant s.region) (names_of d.names); analysed = for_each (λ n. u.Declaration.integer w value) d.names }))))
+    go : (o : Option (Unit {0})) → (o >>= λ _. (single_expression d.value >>= λ e. (static (within s d.names) e >>= λ value. Some (record { declared = numbered visibility.integer_constant (count_of visibility.is_integer_constant s.region) (names_of d.names); analysed = for_each (λ n. u.Declaration.integer n.at w value) d.names }))))
         ≡ constants_of s d (o >>= λ _. (single_expression d.value >>= λ e. (static (within s d.names) e >>= λ value. Some (of_integers w value))))
     go None = refl
     go (Some x) = next (single_expression d.value)
 constants_typed s d None =
     three_steps (subtype (within s d.names) d.subtype) (λ type. as_kind type.type) (λ type. fixed_value (within s d.names) type.type d.value)
-    (λ type kind value. record { declared = numbered (λ k. visibility.constant k kind (declaring_literal value)) (count_of visibility.is_constant s.region) (names_of d.names); analysed = for_each (λ n. u.Declaration.constant type.form value) d.names })
+    (λ type kind value. record { declared = numbered (λ k. visibility.constant k kind (declaring_literal value)) (count_of visibility.is_constant s.region) (names_of d.names); analysed = for_each (λ n. u.Declaration.constant n.at type.form value) d.names })
     ∙ go (subtype (within s d.names) d.subtype)
   where
-    last : (type : Subtype) (kind : ElementKind) (o : Option Fixed) → ((o >>= λ value. Some (triple type kind value)) >>= λ w. Some (record { declared = numbered (λ k. visibility.constant k w.1 (declaring_literal w.2)) (count_of visibility.is_constant s.region) (names_of d.names); analysed = for_each (λ n. u.Declaration.constant w.0.form w.2) d.names }))
+    last : (type : Subtype) (kind : ElementKind) (o : Option Fixed) → ((o >>= λ value. Some (triple type kind value)) >>= λ w. Some (record { declared = numbered (λ k. visibility.constant k w.1 (declaring_literal w.2)) (count_of visibility.is_constant s.region) (names_of d.names); analysed = for_each (λ n. u.Declaration.constant n.at w.0.form w.2) d.names }))
         ≡ constants_of s d (o >>= λ value. Some (of_values kind type.form value))
     last type kind None = refl
     last type kind (Some value) = refl
 
-    next : (type : Subtype) (o : Option ElementKind) → ((o >>= λ kind. (fixed_value (within s d.names) type.type d.value >>= λ value. Some (triple type kind value))) >>= λ w. Some (record { declared = numbered (λ k. visibility.constant k w.1 (declaring_literal w.2)) (count_of visibility.is_constant s.region) (names_of d.names); analysed = for_each (λ n. u.Declaration.constant w.0.form w.2) d.names }))
+    next : (type : Subtype) (o : Option ElementKind) → ((o >>= λ kind. (fixed_value (within s d.names) type.type d.value >>= λ value. Some (triple type kind value))) >>= λ w. Some (record { declared = numbered (λ k. visibility.constant k w.1 (declaring_literal w.2)) (count_of visibility.is_constant s.region) (names_of d.names); analysed = for_each (λ n. u.Declaration.constant n.at w.0.form w.2) d.names }))
         ≡ constants_of s d (o >>= λ kind. (fixed_value (within s d.names) type.type d.value >>= λ value. Some (of_values kind type.form value)))
     next type None = refl
     next type (Some kind) = last type kind (fixed_value (within s d.names) type.type d.value)
 
-    go : (o : Option Subtype) → ((o >>= λ type. (as_kind type.type >>= λ kind. (fixed_value (within s d.names) type.type d.value >>= λ value. Some (triple type kind value)))) >>= λ w. Some (record { declared = numbered (λ k. visibility.constant k w.1 (declaring_literal w.2)) (count_of visibility.is_constant s.region) (names_of d.names); analysed = for_each (λ n. u.Declaration.constant w.0.form w.2) d.names }))
+    go : (o : Option Subtype) → ((o >>= λ type. (as_kind type.type >>= λ kind. (fixed_value (within s d.names) type.type d.value >>= λ value. Some (triple type kind value)))) >>= λ w. Some (record { declared = numbered (λ k. visibility.constant k w.1 (declaring_literal w.2)) (count_of visibility.is_constant s.region) (names_of d.names); analysed = for_each (λ n. u.Declaration.constant n.at w.0.form w.2) d.names }))
         ≡ constants_of s d (o >>= λ type. (as_kind type.type >>= λ kind. (fixed_value (within s d.names) type.type d.value >>= λ value. Some (of_values kind type.form value))))
     go None = refl
     go (Some type) = next type (as_kind type.type)

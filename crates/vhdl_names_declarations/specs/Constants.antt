@@ -58,5 +58,5 @@ number i k (of_integers w s) = i
 number i k (of_values kind form value) = k
 
 abbrev pub declarations : List Ident → TypedConstant → List u.Declaration
-declarations ns (of_integers w s) = for_each (λ n. u.Declaration.integer w s) ns
-declarations ns (of_values kind form value) = for_each (λ n. u.Declaration.constant form value) ns
+declarations ns (of_integers w s) = for_each (λ n. u.Declaration.integer n.at w s) ns
+declarations ns (of_values kind form value) = for_each (λ n. u.Declaration.constant n.at form value) ns

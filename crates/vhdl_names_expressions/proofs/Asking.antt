@@ -31,11 +31,11 @@ given_others sight type at e = refl
 pub not_static : (x : u.Test) → is_fixed x ≡ false → as_static_test (truth x) ≡ None
 not_static (u.holds a) h = refl
 not_static (u.Test.fixed a) h = absurd (true≢false h)
-not_static (u.alike a b) h = refl
-not_static (u.unlike a b) h = refl
-not_static (u.Test.compared o a b) h = refl
-not_static (u.compared_to o a b) h = refl
-not_static (u.compared_with o a b) h = refl
+not_static (u.alike at a b) h = refl
+not_static (u.unlike at a b) h = refl
+not_static (u.Test.compared at o a b) h = refl
+not_static (u.compared_to at o a b) h = refl
+not_static (u.compared_with at o a b) h = refl
 not_static (u.edge a b) h = refl
 not_static (u.event a) h = refl
 not_static (u.Test.negated a) h = refl
@@ -54,14 +54,14 @@ turned false (Some s) None f = refl
 turned false (Some s) (Some d) f = refl
 
 pub signal_in_turn : (sight : Sight) (n : t.Name) →
-    signal sight n ≡ (meaning sight n.identifier.text >>= λ d. (typed_suffix sight n.suffix >>= λ s. (met (is_none n.attribute) >> as_signal d s)))
+    signal sight n ≡ (meaning sight n.identifier.text >>= λ d. (typed_suffix sight n.suffix >>= λ s. (met (is_none n.attribute) >> as_signal n.identifier.at d s)))
 unfolding signal
-signal_in_turn sight n = turned (is_none n.attribute) (typed_suffix sight n.suffix) (meaning sight n.identifier.text) as_signal
+signal_in_turn sight n = turned (is_none n.attribute) (typed_suffix sight n.suffix) (meaning sight n.identifier.text) (as_signal n.identifier.at)
 
 pub variable_in_turn : (sight : Sight) (n : t.Name) →
-    variable sight n ≡ (meaning sight n.identifier.text >>= λ d. (typed_suffix sight n.suffix >>= λ s. (met (is_none n.attribute) >> as_variable d s)))
+    variable sight n ≡ (meaning sight n.identifier.text >>= λ d. (typed_suffix sight n.suffix >>= λ s. (met (is_none n.attribute) >> as_variable n.identifier.at d s)))
 unfolding variable
-variable_in_turn sight n = turned (is_none n.attribute) (typed_suffix sight n.suffix) (meaning sight n.identifier.text) as_variable
+variable_in_turn sight n = turned (is_none n.attribute) (typed_suffix sight n.suffix) (meaning sight n.identifier.text) (as_variable n.identifier.at)
 
 pub target_is : (sight : Sight) (n : t.Name) → target sight n ≡ (signal sight n >>= λ x. (met (not (is_input x.mode)) >> Some x))
 unfolding target

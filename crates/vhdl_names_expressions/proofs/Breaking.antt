@@ -82,11 +82,11 @@ wanted_told b o p at place wanted see v r kept given same h k =
 -- ---- chains
 
 operator_is : (sight : Sight) (x : t.Expr) (l : Link) (o q : Option Typed) →
-    where_given o (λ v. where_given q (λ y. lacking (operator_problem l.operator v (beside x y)) l.at (operated sight.numbers l.operator v (beside x y))))
-    ≡ where_given o (λ v. where_given q (λ y. lacking (operator_problem l.operator v (enclosed_if (is_parens x) y)) l.at (operated sight.numbers l.operator v (enclosed_if (is_parens x) y))))
+    where_given o (λ v. where_given q (λ y. lacking (operator_problem l.operator v (beside x y)) l.at (operated sight.numbers l.at l.operator v (beside x y))))
+    ≡ where_given o (λ v. where_given q (λ y. lacking (operator_problem l.operator v (enclosed_if (is_parens x) y)) l.at (operated sight.numbers l.at l.operator v (enclosed_if (is_parens x) y))))
 operator_is sight x l None q = refl
 operator_is sight x l (Some v) None = refl
-operator_is sight x l (Some v) (Some y) = ap (λ z. lacking (operator_problem l.operator v z) l.at (operated sight.numbers l.operator v z)) (beside_if x y)
+operator_is sight x l (Some v) (Some y) = ap (λ z. lacking (operator_problem l.operator v z) l.at (operated sight.numbers l.at l.operator v z)) (beside_if x y)
 
 binary_is : (sight : Sight) (b : Bool) (x : t.Expr) (l : Link) →
     typed sight (t.binary b l.operator l.at x (view l.operand)) ≡ (typed sight x ▸ link_breaks sight (is_parens x) (are.typed sight x) l)
@@ -129,10 +129,10 @@ chain_first sight e box k f is same h =
 -- a link that is given breaks nothing
 link_kept : (sight : Sight) (b : Bool) (v w : Typed) (l : Link) → linked sight b (Some v) l ≡ Some w → IsKept (link_breaks sight b (Some v) l)
 link_kept sight b v w l h =
-    let y = comes (are.typed sight (view l.operand)) (λ y. operated sight.numbers l.operator v (enclosed_if b y)) w h in
+    let y = comes (are.typed sight (view l.operand)) (λ y. operated sight.numbers l.at l.operator v (enclosed_if b y)) w h in
     both_kept (typed sight (view l.operand)) _ (typed_kept (view l.operand) sight y.value y.is)
-    (given_kept (λ q. lacking (operator_problem l.operator v (enclosed_if b q)) l.at (operated sight.numbers l.operator v (enclosed_if b q))) (are.typed sight (view l.operand)) y.value y.is
-    (lacking_kept (operator_problem l.operator v (enclosed_if b y.value)) l.at (operated sight.numbers l.operator v (enclosed_if b y.value)) w y.rest))
+    (given_kept (λ q. lacking (operator_problem l.operator v (enclosed_if b q)) l.at (operated sight.numbers l.at l.operator v (enclosed_if b q))) (are.typed sight (view l.operand)) y.value y.is
+    (lacking_kept (operator_problem l.operator v (enclosed_if b y.value)) l.at (operated sight.numbers l.at l.operator v (enclosed_if b y.value)) w y.rest))
 
 begun_kept : (sight : Sight) (e : t.Expr) (l : Link) (w : Typed) (o : Option Typed) → are.typed sight e ≡ o → linked sight (is_parens e) o l ≡ Some w →
     IsKept (typed sight e ▸ link_breaks sight (is_parens e) o l)
@@ -191,12 +191,12 @@ rest_goes sight v w ls i j l lt e next gives =
 
 -- an operator, where both operands are given
 pub operator_on : {X : Type 0} (sight : Sight) (b : Bool) (v y z : Typed) (l : Link) (r : Result X NameFault) → are.typed sight (view l.operand) ≡ Some y →
-    z ≡ enclosed_if b y → IfErr r (Tells (lacking (operator_problem l.operator v z) l.at (operated sight.numbers l.operator v z))) → IfErr r (Tells (link_breaks sight b (Some v) l))
+    z ≡ enclosed_if b y → IfErr r (Tells (lacking (operator_problem l.operator v z) l.at (operated sight.numbers l.at l.operator v z))) → IfErr r (Tells (link_breaks sight b (Some v) l))
 operator_on sight b v y z l r given at h =
     asked_told (typed sight (view l.operand)) (are.typed sight (view l.operand))
-    (λ q. lacking (operator_problem l.operator v (enclosed_if b q)) l.at (operated sight.numbers l.operator v (enclosed_if b q))) y r
+    (λ q. lacking (operator_problem l.operator v (enclosed_if b q)) l.at (operated sight.numbers l.at l.operator v (enclosed_if b q))) y r
     (typed_kept (view l.operand) sight y given) given
-    (told_as _ _ r (ap (λ q. lacking (operator_problem l.operator v q) l.at (operated sight.numbers l.operator v q)) at) h)
+    (told_as _ _ r (ap (λ q. lacking (operator_problem l.operator v q) l.at (operated sight.numbers l.at l.operator v q)) at) h)
 
 pub link_first : (sight : Sight) (b : Bool) (v : Typed) (l : Link) (f : NameFault) → Tells (typed sight (view l.operand)) f → Tells (link_breaks sight b (Some v) l) f
 link_first sight b v l f = told_left (typed sight (view l.operand)) _ f
@@ -229,10 +229,10 @@ module _ (sight : Sight) (n : Ident) (y : t.Suffix) (a : Option Ident) where
         (told_given (with_suffix n.at a d) (are.typed_suffix sight y) x f e2 h))))
 
     abbrev of_name : Broken
-    of_name = lacking (name_problem d x) n.at (denoted d x)
+    of_name = lacking (name_problem d x) n.at (denoted n.at d x)
 
     abbrev of_attribute : Broken
-    of_attribute = where_given (denoted d x) (attributed n.at a)
+    of_attribute = where_given (denoted n.at d x) (attributed n.at a)
 
     pub named_no_value : (f : NameFault) → Tells (of_no_value d x a) f → Tells (typed sight (t.named n y a)) f
     named_no_value f h = of_both f (told_left (of_no_value d x a) (of_name ▸ of_attribute) f h)
@@ -240,11 +240,11 @@ module _ (sight : Sight) (n : Ident) (y : t.Suffix) (a : Option Ident) where
     pub named_denoted : (f : NameFault) → IsKept (of_no_value d x a) → Tells of_name f → Tells (typed sight (t.named n y a)) f
     named_denoted f kept h = of_both f (told_right (of_no_value d x a) (of_name ▸ of_attribute) f kept (told_left of_name of_attribute f h))
 
-    pub named_attributed : (v : Typed) (f : NameFault) → IsKept (of_no_value d x a) → denoted d x ≡ Some v → Tells (attributed n.at a v) f → Tells (typed sight (t.named n y a)) f
+    pub named_attributed : (v : Typed) (f : NameFault) → IsKept (of_no_value d x a) → denoted n.at d x ≡ Some v → Tells (attributed n.at a v) f → Tells (typed sight (t.named n y a)) f
     named_attributed v f kept e3 h =
         of_both f
         (told_right (of_no_value d x a) (of_name ▸ of_attribute) f kept
-        (told_right of_name of_attribute f (lacking_kept (name_problem d x) n.at (denoted d x) v e3) (told_given (attributed n.at a) (denoted d x) v f e3 h)))
+        (told_right of_name of_attribute f (lacking_kept (name_problem d x) n.at (denoted n.at d x) v e3) (told_given (attributed n.at a) (denoted n.at d x) v f e3 h)))
 
 -- ---- arguments
 

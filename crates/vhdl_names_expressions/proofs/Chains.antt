@@ -42,11 +42,11 @@ unfolding typed
 linked_typed sight b x l = go (typed sight x)
   where
     next : (v : Typed) (o : Option Typed) →
-        (o >>= λ y. operated sight.numbers l.operator v (beside x y)) ≡ (o >>= λ y. operated sight.numbers l.operator v (enclosed_if (is_parens x) y))
+        (o >>= λ y. operated sight.numbers l.at l.operator v (beside x y)) ≡ (o >>= λ y. operated sight.numbers l.at l.operator v (enclosed_if (is_parens x) y))
     next v None = refl
-    next v (Some y) = ap (operated sight.numbers l.operator v) (beside_if x y)
+    next v (Some y) = ap (operated sight.numbers l.at l.operator v) (beside_if x y)
 
-    go : (o : Option Typed) → (o >>= λ v. (typed sight (view l.operand) >>= λ y. operated sight.numbers l.operator v (beside x y))) ≡ linked sight (is_parens x) o l
+    go : (o : Option Typed) → (o >>= λ v. (typed sight (view l.operand) >>= λ y. operated sight.numbers l.at l.operator v (beside x y))) ≡ linked sight (is_parens x) o l
     go None = refl
     go (Some v) = next v (typed sight (view l.operand))
 
@@ -87,12 +87,12 @@ link_goes sight v w ls i j l lt e next gives =
 
 -- the identifier first
 pub named_in_turn : (sight : Sight) (n : Ident) (s : t.Suffix) (a : Option Ident) →
-    typed sight (t.named n s a) ≡ (visibility.meaning sight n.text >>= λ d. (typed_suffix sight s >>= λ x. (denoted d x >>= attributed a)))
+    typed sight (t.named n s a) ≡ (visibility.meaning sight n.text >>= λ d. (typed_suffix sight s >>= λ x. (denoted n.at d x >>= attributed a)))
 unfolding typed
 named_in_turn sight n s a = go (typed_suffix sight s) (visibility.meaning sight n.text)
   where
     go : (o : Option Suffix) (p : Option visibility.Meaning) →
-        (o >>= λ x. (p >>= λ d. (denoted d x >>= attributed a))) ≡ (p >>= λ d. (o >>= λ x. (denoted d x >>= attributed a)))
+        (o >>= λ x. (p >>= λ d. (denoted n.at d x >>= attributed a))) ≡ (p >>= λ d. (o >>= λ x. (denoted n.at d x >>= attributed a)))
     go None None = refl
     go None (Some d) = refl
     go (Some x) None = refl

@@ -16,7 +16,7 @@ abbrev pub link_breaks : Sight → Bool → Option Typed → Link → Broken
 link_breaks sight b o l =
     typed sight (view l.operand)
     ▸ where_given o (λ x. where_given (are.typed sight (view l.operand)) (λ y.
-    lacking (operator_problem l.operator x (enclosed_if b y)) l.at (operated sight.numbers l.operator x (enclosed_if b y))))
+    lacking (operator_problem l.operator x (enclosed_if b y)) l.at (operated sight.numbers l.at l.operator x (enclosed_if b y))))
 
 -- further links, on what stands before them
 abbrev pub all_break : Sight → Option Typed → List Link → Broken

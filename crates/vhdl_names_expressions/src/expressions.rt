@@ -1,7 +1,7 @@
 //! The types of expressions (IEEE 1076-2008, clause 9). Faults are told in order of the text, those
 //! of operands before those of their operator.
 
-ghost use Rattle.std.specs.Prelude.{◌≡◌, true, Some, map, option_map, IfOk, IfErr, OnErr, None};
+ghost use Rattle.std.specs.Prelude.{◌≡◌, ℕ, true, Some, map, option_map, IfOk, IfErr, OnErr, None};
 ghost use Rattle.vhdl_names_rules.specs.problems.Broken.{Tells, nothing, refused};
 ghost use Rattle.vhdl_names_rules.specs.problems.Expressions as broken;
 ghost use Rattle.vhdl_names_rules.specs.problems.Places as places;
@@ -237,7 +237,7 @@ fn of_no_value(
     attribute: &Option<Identifier>,
 ) -> Result<(), NameFault>
     ensures kept { IfOk result (λ _. broken.of_no_value (meaning_view meaning.now) (typed_suffix_view suffix.now) (option_map ident_view attribute.now) ≡ nothing) }
-    ensures none { OnErr result (denoted_of (meaning_view meaning.now) (typed_suffix_view suffix.now) ≡ None) }
+    ensures none { OnErr result ((at : ℕ) → denoted_of at (meaning_view meaning.now) (typed_suffix_view suffix.now) ≡ None) }
     ensures told { IfErr result (Tells (broken.of_no_value (meaning_view meaning.now) (typed_suffix_view suffix.now) (option_map ident_view attribute.now))) }
 {
     match suffix {

@@ -130,12 +130,12 @@ module _ (es : List EntityView) where
       → (associated (filter_map generic_name e.interface.declared) as' >>= λ gs. each (if_any (static sight)) gs >>= λ generics.
       associated (map (λ (f : Formal). f.name) (filter_map port_formal e.interface.declared)) bs >>= λ ps.
       rules.port_actuals sight (filter_map port_formal e.interface.declared) ps >>= λ ports.
-      let i : u.Instance = record { label = label.text; unit = k; generics = generics; ports = ports } in Some i)
+      let i : u.Instance = record { at = label.at; label = label.text; unit = k; generics = generics; ports = ports } in Some i)
       ≡ steps.with_formals sight label k (seen e) as' bs
   formals_by sight label k e as' bs =
       bound (associated (filter_map generic_name e.interface.declared) as') _ _ (λ gs. bound (each (if_any (static sight)) gs) _ _ (λ generics.
       bound (associated (map (λ (f : Formal). f.name) (filter_map port_formal e.interface.declared)) bs) _ _ (λ ps.
-      ap (λ o. o >>= λ ports. let i : u.Instance = record { label = label.text; unit = k; generics = generics; ports = ports } in Some i)
+      ap (λ o. o >>= λ ports. let i : u.Instance = record { at = label.at; label = label.text; unit = k; generics = generics; ports = ports } in Some i)
       (ports_by sight (filter_map port_formal e.interface.declared) ps))))
 
   instance_by : (sight : Sight) (label : Ident) (i : t.Instance)
@@ -145,7 +145,7 @@ module _ (es : List EntityView) where
       ap (λ o. o >>= λ k. slice_get es k >>= λ e. associated (filter_map generic_name e.interface.declared) (all_of i.generics)
       >>= λ gs. each (if_any (static sight)) gs >>= λ generics. associated (map (λ (f : Formal). f.name) (filter_map port_formal e.interface.declared)) (all_of i.ports)
       >>= λ ps. rules.port_actuals sight (filter_map port_formal e.interface.declared) ps >>= λ ports.
-      let i : u.Instance = record { label = label.text; unit = k; generics = generics; ports = ports } in Some i) (instantiated_by sight i.unit)
+      let i : u.Instance = record { at = label.at; label = label.text; unit = k; generics = generics; ports = ports } in Some i) (instantiated_by sight i.unit)
       ∙ bound (steps.instantiated (map (λ (e : EntityView). e.name) es) (map seen es) sight i.unit) _ _
       (λ k. bound (slice_get es k) _ _ (λ e. formals_by sight label k e (all_of i.generics) (all_of i.ports))
       ∙ go k (slice_get es k) ∙ ap (λ o. o >>= λ e. steps.with_formals sight label k e (all_of i.generics) (all_of i.ports)) (sym (slice_get-map seen es k)))

@@ -65,5 +65,5 @@ maps_given sight e s is label k as' bs as'' bs' p q h g =
     ∙ both_given (associated (filter_map generic_name e.interface.declared) as') (λ gs. each (if_any (static sight)) gs)
     (associated (map (λ (f : Formal). f.name) (filter_map port_formal e.interface.declared)) bs)
     (λ ps. port_actuals sight (map type_of (filter_map port_formal e.interface.declared)) ps)
-    (λ generics ports. record { label = label.text; unit = k; generics = generics; ports = ports })
+    (λ generics ports. record { at = label.at; label = label.text; unit = k; generics = generics; ports = ports })
     (ap (λ (s : Seen). is_some (steps.generics sight s.generics as')) (sym is) ∙ h) g

@@ -1,5 +1,5 @@
 -- Each concurrent statement fits where it stands (IEEE 1076-2008, clause 11).
-use Rattle.std.proofs.Common.{◌≡◌, suc, true, List, length, Some, refl, subst, arith}
+use Rattle.std.proofs.Common.{◌≡◌, ℕ, suc, true, List, length, Some, refl, subst, arith}
 use Rattle.std.proofs.lemmas.Bool.{and_from, lt-ltb}
 use Rattle.vhdl_tree.specs.Tree as t
 use Rattle.vhdl_tree.specs.Tree.{Ident}
@@ -58,15 +58,15 @@ outside_within : (i : Inside) (counts : Counts) (sight : Sight) (scheme : t.Sche
 outside_within i counts sight (t.for_each n r) h = record { inside = inside_generate i counts sight n h.inside; no_variables = h.no_variables; none_in_sight = h.none_in_sight }
 outside_within i counts sight (t.if_holds d) h = h
 
-generated_is : (units : Units) (i : Inside) (counts : Counts) (sight : Sight) (label : Name) (scheme : t.Scheme) (body : u.Concurrents) (x : u.Concurrent) → IsInside i counts sight
-    → concurrents_fit units (inside_scheme i scheme) body ≡ true → generated sight label scheme body ≡ Some x → concurrent_fits units i x ≡ true
+generated_is : (units : Units) (i : Inside) (counts : Counts) (sight : Sight) (label : Name) (at : ℕ) (scheme : t.Scheme) (body : u.Concurrents) (x : u.Concurrent) → IsInside i counts sight
+    → concurrents_fit units (inside_scheme i scheme) body ≡ true → generated sight label at scheme body ≡ Some x → concurrent_fits units i x ≡ true
 unfolding concurrent_fits
-generated_is units i counts sight label (t.for_each n r) body x h f q =
-    let a = mapped (λ range. u.generate_for label range body) (static_range sight r) x q in
+generated_is units i counts sight label at (t.for_each n r) body x h f q =
+    let a = mapped (λ range. u.generate_for at label range body) (static_range sight r) x q in
     subst (λ x. concurrent_fits units i x ≡ true) a.is
     (and_from (range_fits i a.value) (concurrents_fit units (w.within_generate i) body) (static_range_fits i counts sight r a.value h a.from) f)
-generated_is units i counts sight label (t.if_holds d) body x h f q =
-    let a = mapped (λ test. u.generate_if label test body) (typed sight d >>= as_static_test) x q in
+generated_is units i counts sight label at (t.if_holds d) body x h f q =
+    let a = mapped (λ test. u.generate_if at label test body) (typed sight d >>= as_static_test) x q in
     let b = comes (typed sight d) as_static_test a.value a.from in
     subst (λ x. concurrent_fits units i x ≡ true) a.is
     (and_from (static_test_fits i a.value) (concurrents_fit units i body) (static_condition_fits i counts b.value a.value (typed_fits d i counts sight b.value h b.is) b.rest) f)
@@ -90,7 +90,7 @@ mutual
       let a = kept (ends label.text end) _ x q in
       let b = kept (are_distinct (concurrent_labels cs)) _ x a.1 in
       let body = comes (concurrents entities (sight_within sight scheme) cs) _ x b.1 in
-      generated_is units i counts sight label.text scheme body.value x h.inside
+      generated_is units i counts sight label.text at scheme body.value x h.inside
       (concurrents_are cs units entities (inside_scheme i scheme) counts (sight_within sight scheme) body.value all (outside_within i counts sight scheme h) body.is) body.rest
 
   pub concurrents_are : (cs : t.Concurrents) (units : Units) (entities : List EntityView) (i : Inside) (counts : Counts) (sight : Sight) (xs : u.Concurrents) → AreUnits units entities

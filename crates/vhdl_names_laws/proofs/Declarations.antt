@@ -30,7 +30,7 @@ use Rattle.vhdl_names_rules.specs.sound.Units.{form_fits, fixed_fits, object_fit
 use Rattle.vhdl_names_laws.specs.Meanings.{Counts, kind_shape, type_shape, IsCounted, AllFit}
 use Rattle.vhdl_names_laws.proofs.Statics.{some_same, get_last, HasMore, keeps_all, keeps_before, same_numbers, static_more, literal_of_more}
 use Rattle.vhdl_names_laws.proofs.Expressions.{static_integer_fits}
-use Rattle.vhdl_names_laws.proofs.Subtypes.{form_more, fixed_more, object_more, subtype_fits, fixed_value_fits, object_is, declaring_fits}
+use Rattle.vhdl_names_laws.proofs.Subtypes.{form_more, fixed_more, object_more, subtype_fits, fixed_value_fits, no_name, object_is, declaring_fits}
 use Rattle.vhdl_names_laws.proofs.InOrder as r
 use Rattle.vhdl_names_laws.proofs.Formals.{same_names, same_formals, no_names, no_formals}
 use Rattle.vhdl_names_rules.proofs.laws.Rules.{comes, kept}
@@ -59,15 +59,15 @@ signals_step i counts sight d x h q =
     let a = comes (subtype (within sight d.names) d.subtype) _ x q in
     let c = comes (if_any (fixed_value (within sight d.names) a.value.type) d.default) _ x a.rest in
     let f = subtype_fits i counts (within sight d.names) d.subtype a.value in' a.is in
-    let make : Name → u.Declaration = λ n. u.Declaration.signal (object a.value c.value n) in
+    let make : Ident → u.Declaration = λ n. u.Declaration.signal (object a.value c.value n) in
     subst (DeclarationStep i sight) (some_same _ x c.rest)
     (r.names_step with_declaration declaration_fits with_declared IsKnown nothing_more more_twice (λ k. visibility.signal k a.value.type) (λ (s : Sight). count_of visibility.is_signal s.region) make
-    (λ i counts. (object_fits i (object a.value c.value []) ≡ true) × IsCounted counts a.value.type)
-    (λ i counts sight n ok k. single i counts sight n a.value.form a.value.type f.shape ok.1 k)
+    (λ i counts. (object_fits i (object a.value c.value no_name) ≡ true) × IsCounted counts a.value.type)
+    (λ i counts sight n ok k. single i counts sight n.text a.value.form a.value.type f.shape ok.1 k)
     (λ i counts n ok. ok.0)
-    (λ i counts n ok. (object_more i (record i { signals = i.signals ++ a.value.form ∷ [] }) (more_signals i counts a.value.form).numbers (keeps_all i.constants) (object a.value c.value []) ok.0, ok.1))
-    (λ sight n. one_more visibility.is_signal sight.region (declare n (visibility.signal (count_of visibility.is_signal sight.region) a.value.type)) refl)
-    (names_of d.names) i counts sight (object_is i counts (within sight d.names) a.value d.default c.value in' f c.is, f.counted) h)
+    (λ i counts n ok. (object_more i (record i { signals = i.signals ++ a.value.form ∷ [] }) (more_signals i counts a.value.form).numbers (keeps_all i.constants) (object a.value c.value no_name) ok.0, ok.1))
+    (λ sight n. one_more visibility.is_signal sight.region (declare n.text (visibility.signal (count_of visibility.is_signal sight.region) a.value.type)) refl)
+    d.names i counts sight (object_is i counts (within sight d.names) a.value d.default c.value in' f c.is, f.counted) h)
   where
     single : (i : Inside) (counts : Counts) (sight : Sight) (n : Name) (form : Form) (type : ObjectType) → shape_of form ≡ type_shape type → IsCounted counts type → IsKnown i counts sight
         → IsKnown (record i { signals = i.signals ++ form ∷ [] }) counts (with_declared sight (declare n (visibility.signal (count_of visibility.is_signal sight.region) type) ∷ []))
@@ -116,15 +116,15 @@ integers_step i counts sight d type x h q =
     let a = kept (is_none d.subtype.range) _ x q in
     let b = comes (single_expression d.value) _ x a.1 in
     let c = comes (static (within sight d.names) b.value) _ x b.rest in
-    let make : Name → u.Declaration = λ n. u.Declaration.integer type c.value in
+    let make : Ident → u.Declaration = λ n. u.Declaration.integer n.at type c.value in
     subst (DeclarationStep i sight) (some_same _ x c.rest)
     (r.names_step with_declaration declaration_fits with_declared IsKnown nothing_more more_twice visibility.integer_constant (λ (s : Sight). count_of visibility.is_integer_constant s.region) make
     (λ i counts. static_fits i c.value ≡ true)
-    (λ i counts sight n ok k. single i counts sight n k)
+    (λ i counts sight n ok k. single i counts sight n.text k)
     (λ i counts n ok. ok)
     (λ i counts n ok. static_more i (record i { integers = suc i.integers }) (more_integers i counts).numbers c.value ok)
-    (λ sight n. one_more visibility.is_integer_constant sight.region (declare n (visibility.integer_constant (count_of visibility.is_integer_constant sight.region))) refl)
-    (names_of d.names) i counts sight (static_integer_fits i counts (within sight d.names) b.value c.value (inside_within i counts sight d.names h.inside) c.is) h)
+    (λ sight n. one_more visibility.is_integer_constant sight.region (declare n.text (visibility.integer_constant (count_of visibility.is_integer_constant sight.region))) refl)
+    d.names i counts sight (static_integer_fits i counts (within sight d.names) b.value c.value (inside_within i counts sight d.names h.inside) c.is) h)
   where
     single : (i : Inside) (counts : Counts) (sight : Sight) (n : Name) → IsKnown i counts sight
         → IsKnown (record i { integers = suc i.integers }) counts (with_declared sight (declare n (visibility.integer_constant (count_of visibility.is_integer_constant sight.region)) ∷ []))
@@ -156,18 +156,18 @@ others_step i counts sight d x h q =
     let f = subtype_fits i counts (within sight d.names) d.subtype a.value in' a.is in
     let shape = f.shape ∙ elements_kind a.value.type b.value b.is in
     let v = fixed_value_fits i counts (within sight d.names) a.value.type d.value c.value in' f.counted c.is in
-    let make : Name → u.Declaration = λ n. u.Declaration.constant a.value.form c.value in
+    let make : Ident → u.Declaration = λ n. u.Declaration.constant n.at a.value.form c.value in
     subst (DeclarationStep i sight) (some_same _ x c.rest)
     (r.names_step with_declaration declaration_fits with_declared IsKnown nothing_more more_twice (λ k. visibility.constant k b.value (declaring_literal c.value)) (λ (s : Sight). count_of visibility.is_constant s.region) make
     (λ i counts. (form_fits i a.value.form ≡ true) × (fixed_fits i (shape_of a.value.form) c.value ≡ true))
-    (λ i counts sight n ok k. single i counts sight n a.value.form b.value c.value shape (ap (λ z. fixed_fits i z c.value) (sym shape) ∙ ok.1) k)
+    (λ i counts sight n ok k. single i counts sight n.text a.value.form b.value c.value shape (ap (λ z. fixed_fits i z c.value) (sym shape) ∙ ok.1) k)
     (λ i counts n ok. and_from (form_fits i a.value.form) (fixed_fits i (shape_of a.value.form) c.value) ok.0 ok.1)
     (λ i counts n ok. (
       form_more i (record i { constants = i.constants ++ a.value.form ∷ [] }) (more_constants i counts a.value.form).numbers a.value.form ok.0,
       fixed_more i (record i { constants = i.constants ++ a.value.form ∷ [] }) (more_constants i counts a.value.form).numbers (keeps_before i.constants (a.value.form ∷ [])) (shape_of a.value.form) c.value ok.1,
     ))
-    (λ sight n. one_more visibility.is_constant sight.region (declare n (visibility.constant (count_of visibility.is_constant sight.region) b.value (declaring_literal c.value))) refl)
-    (names_of d.names) i counts sight (f.form, ap (λ z. fixed_fits i z c.value) f.shape ∙ v) h)
+    (λ sight n. one_more visibility.is_constant sight.region (declare n.text (visibility.constant (count_of visibility.is_constant sight.region) b.value (declaring_literal c.value))) refl)
+    d.names i counts sight (f.form, ap (λ z. fixed_fits i z c.value) f.shape ∙ v) h)
   where
     single : (i : Inside) (counts : Counts) (sight : Sight) (n : Name) (form : Form) (kind : ElementKind) (v : Fixed) → shape_of form ≡ kind_shape kind → fixed_fits i (kind_shape kind) v ≡ true → IsKnown i counts sight
         → IsKnown (record i { constants = i.constants ++ form ∷ [] }) counts (with_declared sight (declare n (visibility.constant (count_of visibility.is_constant sight.region) kind (declaring_literal v)) ∷ []))

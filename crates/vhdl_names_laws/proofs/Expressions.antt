@@ -1,5 +1,5 @@
 -- Each expression is what its type says (IEEE 1076-2008, clause 9).
-use Rattle.std.proofs.Common.{◌≡◌, true, List, [], ◌∷◌, Some, refl, subst}
+use Rattle.std.proofs.Common.{◌≡◌, ℕ, true, List, [], ◌∷◌, Some, refl, subst}
 use Rattle.std.proofs.lemmas.Bool.{and_from}
 use Rattle.vhdl_tree.specs.declared.operator.Sign.{Sign}
 use Rattle.vhdl_tree.specs.declared.operator.Sign.TheVariants.{Plus, Minus}
@@ -29,25 +29,25 @@ as_integer_fits i counts (o.elements k x) s h g = absurd cc
 as_integer_fits i counts (o.enumerated d m x) s h g = absurd cc
 as_integer_fits i counts (o.truth x) s h g = absurd cc
 
-signed_fits : (i : Inside) (sign : Sign) (s : Static) → static_fits i s ≡ true → static_fits i (signed sign s) ≡ true
-signed_fits i Plus s h = h
-signed_fits i Minus s h = h
+signed_fits : (i : Inside) (at : ℕ) (sign : Sign) (s : Static) → static_fits i s ≡ true → static_fits i (signed at sign s) ≡ true
+signed_fits i at Plus s h = h
+signed_fits i at Minus s h = h
 
 -- what stands in parentheses is as it was
 enclosed_fits : (i : Inside) (counts : Counts) (x : Typed) → TypedFits i counts x → TypedFits i counts (enclosed x)
 enclosed_fits i counts (o.integer r) h = h
 enclosed_fits i counts (o.elements Element (e.of_signal q)) h = h
-enclosed_fits i counts (o.elements Element (e.of_variable k q)) h = h
-enclosed_fits i counts (o.elements Element (e.of_constant k q)) h = h
+enclosed_fits i counts (o.elements Element (e.of_variable at k q)) h = h
+enclosed_fits i counts (o.elements Element (e.of_constant at k q)) h = h
 enclosed_fits i counts (o.elements Element (e.character c)) h = h
 enclosed_fits i counts (o.elements Element (e.enclosed_character c)) h = h
-enclosed_fits i counts (o.elements Element (e.Vector.literal vs)) h = h
+enclosed_fits i counts (o.elements Element (e.Vector.literal at vs)) h = h
 enclosed_fits i counts (o.elements Element (e.Vector.inverse x)) h = h
-enclosed_fits i counts (o.elements Element (e.Vector.binary c x y)) h = h
-enclosed_fits i counts (o.elements Element (e.with_integer c x y)) h = h
-enclosed_fits i counts (o.elements Element (e.integer_with c x y)) h = h
-enclosed_fits i counts (o.elements Element (e.Vector.encoded x y)) h = h
-enclosed_fits i counts (o.elements Element (e.counted c x y)) h = h
+enclosed_fits i counts (o.elements Element (e.Vector.binary at c x y)) h = h
+enclosed_fits i counts (o.elements Element (e.with_integer at c x y)) h = h
+enclosed_fits i counts (o.elements Element (e.integer_with at c x y)) h = h
+enclosed_fits i counts (o.elements Element (e.Vector.encoded at x y)) h = h
+enclosed_fits i counts (o.elements Element (e.counted at c x y)) h = h
 enclosed_fits i counts (o.elements LogicVector x) h = h
 enclosed_fits i counts (o.elements Unsigned x) h = h
 enclosed_fits i counts (o.elements OpenVector x) h = h
@@ -76,17 +76,17 @@ mutual
       let a = mapped (λ v. o.elements Element (e.character v)) (nine_of c) x g in
       subst (TypedFits i counts) a.is refl
   typed_fits (t.string at text) i counts sight x h g =
-      let a = mapped (λ vs. o.elements OpenVector (e.Vector.literal vs)) (values_of_string text) x g in
+      let a = mapped (λ vs. o.elements OpenVector (e.Vector.literal at vs)) (values_of_string text) x g in
       subst (TypedFits i counts) a.is refl
   typed_fits (t.bits at text) i counts sight x h g =
-      let a = mapped (λ vs. o.elements OpenVector (e.Vector.literal vs)) (values_of_bits text) x g in
+      let a = mapped (λ vs. o.elements OpenVector (e.Vector.literal at vs)) (values_of_bits text) x g in
       subst (TypedFits i counts) a.is refl
   typed_fits (t.named n suffix attribute) i counts sight x h g =
       let a = comes (typed_suffix sight suffix) _ x g in
       let b = comes (meaning sight n.text) _ x a.rest in
-      let c = comes (denoted b.value a.value) _ x b.rest in
+      let c = comes (denoted n.at b.value a.value) _ x b.rest in
       attributed_fits i counts attribute c.value x
-      (denoted_fits i counts b.value a.value c.value (meant i counts sight h n.text b.value b.is) (suffix_fits suffix i counts sight a.value h a.is) c.is) c.rest
+      (denoted_fits i counts n.at b.value a.value c.value (meant i counts sight h n.text b.value b.is) (suffix_fits suffix i counts sight a.value h a.is) c.is) c.rest
   typed_fits (t.parens at d) i counts sight x h g =
       let a = mapped enclosed (typed sight d) x g in
       subst (TypedFits i counts) a.is (enclosed_fits i counts a.value (typed_fits d i counts sight a.value h a.from))
@@ -97,11 +97,11 @@ mutual
       let a = comes (typed sight d) _ x g in
       let b = comes (as_integer a.value) _ x a.rest in
       subst (TypedFits i counts) (some_same _ x b.rest)
-      (signed_fits i sign b.value (as_integer_fits i counts a.value b.value (typed_fits d i counts sight a.value h a.is) b.is))
+      (signed_fits i at sign b.value (as_integer_fits i counts a.value b.value (typed_fits d i counts sight a.value h a.is) b.is))
   typed_fits (t.binary begins op at d f) i counts sight x h g =
       let a = comes (typed sight d) _ x g in
       let b = comes (typed sight f) _ x a.rest in
-      operated_fits i counts sight.numbers op a.value (beside d b.value) x (typed_fits d i counts sight a.value h a.is)
+      operated_fits i counts sight.numbers at op a.value (beside d b.value) x (typed_fits d i counts sight a.value h a.is)
       (beside_fits i counts d b.value (typed_fits f i counts sight b.value h b.is)) b.rest
 
   pub suffix_fits : (s : t.Suffix) (i : Inside) (counts : Counts) (sight : Sight) (x : Suffix) → IsInside i counts sight → typed_suffix sight s ≡ Some x → SuffixFits i counts x

@@ -2,7 +2,8 @@
 use Rattle.std.proofs.Common.{◌≡◌, ℕ, suc, Bool, true, ◌&&◌, List, [], ◌∷◌, ◌++◌, map, Option, Some, refl, sym, subst}
 use Rattle.std.specs.List.{AllByRecursion}
 use Rattle.std.proofs.lemmas.Bool.{and_parts, and_from}
-use Rattle.vhdl_names_rules.specs.Visibility.{Name, Meaning, Declared, declare, numbered, Sight, Declares, followed_by}
+use Rattle.vhdl_tree.specs.Tree.{Ident}
+use Rattle.vhdl_names_rules.specs.Visibility.{Meaning, Declared, declare, names_of, numbered, Sight, Declares, followed_by}
 use Rattle.vhdl_names_rules.specs.Declarations.{in_order}
 use Rattle.vhdl_names_rules.specs.sound.Expressions.{Inside}
 use Rattle.vhdl_names_laws.specs.Meanings.{Counts}
@@ -67,19 +68,19 @@ module _ {B : Type 0} (add : Inside → B → Inside) (fits : Inside → B → B
 
     -- ---- the names of one declaration
 
-    pub names_step : (f : ℕ → Meaning) (count : Sight → ℕ) (a : Name → B) (Ok : Inside → Counts → Type 0)
-        → ((i : Inside) (counts : Counts) (sight : Sight) (n : Name) → Ok i counts → Known i counts sight → Known (add i (a n)) counts (with_more sight (declare n (f (count sight)) ∷ [])))
-        → ((i : Inside) (counts : Counts) (n : Name) → Ok i counts → fits i (a n) ≡ true)
-        → ((i : Inside) (counts : Counts) (n : Name) → Ok i counts → Ok (add i (a n)) counts)
-        → ((sight : Sight) (n : Name) → count (with_more sight (declare n (f (count sight)) ∷ [])) ≡ suc (count sight))
-        → (ns : List Name) (i : Inside) (counts : Counts) (sight : Sight) → Ok i counts → Known i counts sight
-        → Step i sight (record { declared = numbered f (count sight) ns; analysed = map a ns })
+    pub names_step : (f : ℕ → Meaning) (count : Sight → ℕ) (a : Ident → B) (Ok : Inside → Counts → Type 0)
+        → ((i : Inside) (counts : Counts) (sight : Sight) (n : Ident) → Ok i counts → Known i counts sight → Known (add i (a n)) counts (with_more sight (declare n.text (f (count sight)) ∷ [])))
+        → ((i : Inside) (counts : Counts) (n : Ident) → Ok i counts → fits i (a n) ≡ true)
+        → ((i : Inside) (counts : Counts) (n : Ident) → Ok i counts → Ok (add i (a n)) counts)
+        → ((sight : Sight) (n : Ident) → count (with_more sight (declare n.text (f (count sight)) ∷ [])) ≡ suc (count sight))
+        → (ns : List Ident) (i : Inside) (counts : Counts) (sight : Sight) → Ok i counts → Known i counts sight
+        → Step i sight (record { declared = numbered f (count sight) (names_of ns); analysed = map a ns })
     names_step f count a Ok single fit keep up [] i counts sight ok h = no_step i counts sight h
     names_step f count a Ok single fit keep up (n ∷ ns) i counts sight ok h =
-        let next : Sight = with_more sight (declare n (f (count sight)) ∷ []) in
+        let next : Sight = with_more sight (declare n.text (f (count sight)) ∷ []) in
         let here = single i counts sight n ok h in
         let rest = names_step f count a Ok single fit keep up ns (add i (a n)) counts next (keep i counts n ok) here in
-        let later : Step (add i (a n)) next (record { declared = numbered f (suc (count sight)) ns; analysed = map a ns }) =
-        subst (λ k. Step (add i (a n)) next (record { declared = numbered f k ns; analysed = map a ns })) (up sight n) rest in
-        two_steps i sight (record { declared = declare n (f (count sight)) ∷ []; analysed = a n ∷ [] }) (record { declared = numbered f (suc (count sight)) ns; analysed = map a ns })
+        let later : Step (add i (a n)) next (record { declared = numbered f (suc (count sight)) (names_of ns); analysed = map a ns }) =
+        subst (λ k. Step (add i (a n)) next (record { declared = numbered f k (names_of ns); analysed = map a ns })) (up sight n) rest in
+        two_steps i sight (record { declared = declare n.text (f (count sight)) ∷ []; analysed = a n ∷ [] }) (record { declared = numbered f (suc (count sight)) (names_of ns); analysed = map a ns })
         (record { more = counts; fit = and_from (fits i (a n)) true (fit i counts n ok) refl; after = here }) later

@@ -123,7 +123,7 @@ instance_is units entities i counts sight label y x all h q =
     let ps = comes (associated (map (λ (f : Formal). f.name) formals) (all_of y.ports)) _ x generics.rest in
     let ports = comes (port_actuals sight formals ps.value) _ x ps.rest in
     let unit = all k.value e.value e.is in
-    let made : u.Instance = record { label = label.text; unit = k.value; generics = generics.value; ports = ports.value } in
+    let made : u.Instance = record { at = label.at; label = label.text; unit = k.value; generics = generics.value; ports = ports.value } in
     let few : length generics.value ≡ length unit.unit.generics =
     each_length (if_any (static sight)) gs.value generics.value generics.is ∙ ((formals_have_actuals names (all_of y.generics) gs.value gs.is).as_many ∙ unit.generics) in
     let many : length ps.value ≡ length formals =

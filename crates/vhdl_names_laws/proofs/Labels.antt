@@ -1,5 +1,5 @@
 -- The labels of concurrent statements are identifiers of the file.
-use Rattle.std.proofs.Common.{◌≡◌, true, ◌&&◌, List, [], ◌∷◌, ◌++◌, map, Option, Some, None, refl, ap, sym, ◌∙◌, subst}
+use Rattle.std.proofs.Common.{◌≡◌, ℕ, true, ◌&&◌, List, [], ◌∷◌, ◌++◌, map, Option, Some, None, refl, ap, sym, ◌∙◌, subst}
 use Rattle.std.specs.List.{slice_get, filter_map, AllByRecursion}
 use Rattle.std.specs.Option.{option_map}
 use Rattle.std.proofs.lemmas.Bool.{and_from}
@@ -36,16 +36,16 @@ label_named None rest h = refl
 label_named (Some l) rest h = h.0.some
 
 -- a process of one statement has no variables
-assigning_named : (label : Option Ident) (rest : List Piece) (x : s.Statement) → AreWords (spell_option spell_label label ++ rest) → concurrent_is_named (assigning label x) ≡ true
+assigning_named : (at : ℕ) (label : Option Ident) (rest : List Piece) (x : s.Statement) → AreWords (spell_option spell_label label ++ rest) → concurrent_is_named (assigning at label x) ≡ true
 unfolding concurrent_is_named
-assigning_named label rest x h = and_from (label_is_named (label_of label)) true (label_named label rest h) refl
+assigning_named at label rest x h = and_from (label_is_named (label_of label)) true (label_named label rest h) refl
 
 assignment_named : (sight : Sight) (a : t.Assignment) (rest : List Piece) (x : u.Concurrent) → AreWords (spell_option spell_label a.label ++ rest) → assignment sight a ≡ Some x → concurrent_is_named x ≡ true
 unfolding assignment
 assignment_named sight a rest x h q =
     let b = comes (target sight a.target) _ x q in
-    let c = comes (assignment_body sight b.value a.branches a.otherwise) _ x b.rest in
-    subst (λ x. concurrent_is_named x ≡ true) (some_same _ x c.rest) (assigning_named a.label rest c.value h)
+    let c = comes (assignment_body sight a.target.identifier.at b.value a.branches a.otherwise) _ x b.rest in
+    subst (λ x. concurrent_is_named x ≡ true) (some_same _ x c.rest) (assigning_named a.target.identifier.at a.label rest c.value h)
 
 selected_named : (sight : Sight) (label : Option Ident) (a : t.SelectedAssignment) (rest : List Piece) (x : u.Concurrent) → AreWords (spell_option spell_label label ++ rest) → selected sight label a ≡ Some x
     → concurrent_is_named x ≡ true
@@ -57,7 +57,7 @@ selected_named sight label a rest x h q =
     let css = comes (covered sight by.value.0 (map (λ (w : t.Waveform). w.choices) a.waveforms)) _ x to.rest in
     let bodies = comes (each (λ (w : t.Waveform). option_map alone (assigned sight to.value w.value)) a.waveforms) _ x css.rest in
     let all = comes (arranged css.value bodies.value) _ x bodies.rest in
-    subst (λ x. concurrent_is_named x ≡ true) (some_same _ x all.rest) (assigning_named label rest (s.case_of by.value.1 all.value) h)
+    subst (λ x. concurrent_is_named x ≡ true) (some_same _ x all.rest) (assigning_named a.at label rest (s.case_of a.at by.value.1 all.value) h)
 
 process_named : (sight : Sight) (label : Option Ident) (d : t.Process) (x : u.Process) → label_is_named (label_of label) ≡ true → AllByRecursion (λ (v : t.Variables). NamesAreWords v.names) d.variables
     → process sight label d ≡ Some x → (label_is_named x.label && objects_are_named x.variables) ≡ true
@@ -94,13 +94,13 @@ instance_named entities sight label y x q =
     let ports = comes (port_actuals sight (filter_map port_formal e.value.interface.declared) ps.value) _ x ps.rest in
     ap (λ (x : u.Instance). x.label) (sym (some_same _ x ports.rest))
 
-generated_named : (sight : Sight) (label : Name) (scheme : t.Scheme) (body : u.Concurrents) (x : u.Concurrent) → has_text label ≡ true → concurrents_are_named body ≡ true
-    → generated sight label scheme body ≡ Some x → concurrent_is_named x ≡ true
+generated_named : (sight : Sight) (label : Name) (at : ℕ) (scheme : t.Scheme) (body : u.Concurrents) (x : u.Concurrent) → has_text label ≡ true → concurrents_are_named body ≡ true
+    → generated sight label at scheme body ≡ Some x → concurrent_is_named x ≡ true
 unfolding concurrent_is_named
-generated_named sight label (t.for_each n r) body x h f q =
+generated_named sight label at (t.for_each n r) body x h f q =
     let a = mapped _ _ x q in
     subst (λ x. concurrent_is_named x ≡ true) a.is (and_from (has_text label) (concurrents_are_named body) h f)
-generated_named sight label (t.if_holds d) body x h f q =
+generated_named sight label at (t.if_holds d) body x h f q =
     let a = mapped _ _ x q in
     subst (λ x. concurrent_is_named x ≡ true) a.is (and_from (has_text label) (concurrents_are_named body) h f)
 
@@ -123,7 +123,7 @@ mutual
       let body = comes (concurrents entities (sight_within sight scheme) cs) _ x b.1 in
       let c = right (spell_scheme at scheme) _ h.1.1 in
       let d = right (spell_word k.Begin word) _ c.1 in
-      generated_named sight label.text scheme body.value x h.0.some
+      generated_named sight label.text at scheme body.value x h.0.some
       (concurrents_named cs entities (sight_within sight scheme) body.value (left (spell_concurrents cs) _ d) body.is) body.rest
 
   pub concurrents_named : (cs : t.Concurrents) (entities : List EntityView) (sight : Sight) (xs : u.Concurrents) → AreWords (spell_concurrents cs) → concurrents entities sight cs ≡ Some xs

@@ -23,3 +23,4 @@ pub mod Spelled
 pub mod Texts
 pub mod given
 pub mod placed
+pub mod standing

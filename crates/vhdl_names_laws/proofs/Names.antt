@@ -120,8 +120,8 @@ module _ (i : Inside) (counts : Counts) where
       subst (TypedFits i counts) a.is
       (c a.value.0 ∙ ap (λ z. z >>= λ x. then_some (is_elements x) x) (part_fits f k s a.value h t a.from) ∙ ap (λ b. then_some b (kind_shape a.value.1)) (shape_elements a.value.1))
 
-  read_place : (z : Signal) (f : Form) → signal_form i z ≡ Some f → (p : Part) → vector_shape i (e.of_signal (place_of z p)) ≡ (part_shape i f p >>= λ x. then_some (is_elements x) x)
-  read_place z f h p = ap (λ w. (w >>= λ f. part_shape i f p) >>= λ x. then_some (is_elements x) x) h
+  read_place : (at : ℕ) (z : Signal) (f : Form) → signal_form i z ≡ Some f → (p : Part) → vector_shape i (e.of_signal (place_of at z p)) ≡ (part_shape i f p >>= λ x. then_some (is_elements x) x)
+  read_place at z f h p = ap (λ w. (w >>= λ f. part_shape i f p) >>= λ x. then_some (is_elements x) x) h
 
   pub port_form_is : (k : ℕ) (mode : Mode) (kind : ElementKind) (f : IsPort i.ports k mode kind) → signal_form i (e.port k) ≡ Some (port_form f.port)
   port_form_is k mode kind f = slice_get-map port_form i.ports k ∙ ap (option_map port_form) f.at
@@ -181,21 +181,21 @@ module _ (i : Inside) (counts : Counts) where
   counted_fits f c (n.arguments b (o.elements Unsigned x ∷ o.truth z ∷ zs)) y t g = absurd cc
   counted_fits f c (n.arguments b (o.elements Unsigned x ∷ o.integer s ∷ z ∷ zs)) y t g = absurd cc
 
-  encoding_fits : (s : Suffix) (y : Typed) → SuffixFits i counts s → encoding s ≡ Some y → TypedFits i counts y
-  encoding_fits n.plain y t g = absurd cc
-  encoding_fits (n.range r) y t g = absurd cc
-  encoding_fits (n.arguments b (o.integer s ∷ o.integer size ∷ [])) y t g =
-      subst (TypedFits i counts) (some_same (o.elements Unsigned (e.Vector.encoded s size)) y g)
+  encoding_fits : (at : ℕ) (s : Suffix) (y : Typed) → SuffixFits i counts s → encoding at s ≡ Some y → TypedFits i counts y
+  encoding_fits at n.plain y t g = absurd cc
+  encoding_fits at (n.range r) y t g = absurd cc
+  encoding_fits at (n.arguments b (o.integer s ∷ o.integer size ∷ [])) y t g =
+      subst (TypedFits i counts) (some_same (o.elements Unsigned (e.Vector.encoded at s size)) y g)
       (ap (λ b. then_some b vector) (and_from (static_fits i s) (static_fits i size) t.0 t.1.0))
-  encoding_fits (n.arguments b []) y t g = absurd cc
-  encoding_fits (n.arguments b (o.elements k x ∷ zs)) y t g = absurd cc
-  encoding_fits (n.arguments b (o.enumerated d m x ∷ zs)) y t g = absurd cc
-  encoding_fits (n.arguments b (o.truth x ∷ zs)) y t g = absurd cc
-  encoding_fits (n.arguments b (o.integer s ∷ [])) y t g = absurd cc
-  encoding_fits (n.arguments b (o.integer s ∷ o.elements k x ∷ zs)) y t g = absurd cc
-  encoding_fits (n.arguments b (o.integer s ∷ o.enumerated d m x ∷ zs)) y t g = absurd cc
-  encoding_fits (n.arguments b (o.integer s ∷ o.truth x ∷ zs)) y t g = absurd cc
-  encoding_fits (n.arguments b (o.integer s ∷ o.integer size ∷ z ∷ zs)) y t g = absurd cc
+  encoding_fits at (n.arguments b []) y t g = absurd cc
+  encoding_fits at (n.arguments b (o.elements k x ∷ zs)) y t g = absurd cc
+  encoding_fits at (n.arguments b (o.enumerated d m x ∷ zs)) y t g = absurd cc
+  encoding_fits at (n.arguments b (o.truth x ∷ zs)) y t g = absurd cc
+  encoding_fits at (n.arguments b (o.integer s ∷ [])) y t g = absurd cc
+  encoding_fits at (n.arguments b (o.integer s ∷ o.elements k x ∷ zs)) y t g = absurd cc
+  encoding_fits at (n.arguments b (o.integer s ∷ o.enumerated d m x ∷ zs)) y t g = absurd cc
+  encoding_fits at (n.arguments b (o.integer s ∷ o.truth x ∷ zs)) y t g = absurd cc
+  encoding_fits at (n.arguments b (o.integer s ∷ o.integer size ∷ z ∷ zs)) y t g = absurd cc
 
   -- ---- edges
 
@@ -206,8 +206,8 @@ module _ (i : Inside) (counts : Counts) where
   outside_loops (e.Static.constant k) h t = t
   outside_loops (e.generate_parameter k) h t = t
   outside_loops (e.loop_parameter k) h t = absurd cc
-  outside_loops (e.Static.negated s) h t = outside_loops s h t
-  outside_loops (e.Static.binary by s r) h t =
+  outside_loops (e.Static.negated at s) h t = outside_loops s h t
+  outside_loops (e.Static.binary at by s r) h t =
       let a = and_parts (is_static s) (is_static r) h in
       let b = and_parts (static_fits i s) (static_fits i r) t in
       and_from (static_fits (record i { loops = 0 }) s) (static_fits (record i { loops = 0 }) r) (outside_loops s a.0 b.0) (outside_loops r a.1 b.1)
@@ -246,17 +246,17 @@ module _ (i : Inside) (counts : Counts) where
           subst (λ p. edge_fits i p ≡ true) (some_same q p g)
           (fits_self one (place_shape (record i { loops = 0 }) q) (place_outside q h (c.is ∙ ap Some d.is)))
       by false h g = absurd cc
-  edge_place (o.elements Element (e.of_variable k q)) p t g = absurd cc
-  edge_place (o.elements Element (e.of_constant k q)) p t g = absurd cc
+  edge_place (o.elements Element (e.of_variable at k q)) p t g = absurd cc
+  edge_place (o.elements Element (e.of_constant at k q)) p t g = absurd cc
   edge_place (o.elements Element (e.character c)) p t g = absurd cc
   edge_place (o.elements Element (e.enclosed_character c)) p t g = absurd cc
-  edge_place (o.elements Element (e.Vector.literal vs)) p t g = absurd cc
+  edge_place (o.elements Element (e.Vector.literal at vs)) p t g = absurd cc
   edge_place (o.elements Element (e.Vector.inverse x)) p t g = absurd cc
-  edge_place (o.elements Element (e.Vector.binary c x y)) p t g = absurd cc
-  edge_place (o.elements Element (e.with_integer c x y)) p t g = absurd cc
-  edge_place (o.elements Element (e.integer_with c x y)) p t g = absurd cc
-  edge_place (o.elements Element (e.Vector.encoded x y)) p t g = absurd cc
-  edge_place (o.elements Element (e.counted c x y)) p t g = absurd cc
+  edge_place (o.elements Element (e.Vector.binary at c x y)) p t g = absurd cc
+  edge_place (o.elements Element (e.with_integer at c x y)) p t g = absurd cc
+  edge_place (o.elements Element (e.integer_with at c x y)) p t g = absurd cc
+  edge_place (o.elements Element (e.Vector.encoded at x y)) p t g = absurd cc
+  edge_place (o.elements Element (e.counted at c x y)) p t g = absurd cc
 
   edge_call_fits : (edge : Edge) (s : Suffix) (y : Typed) → SuffixFits i counts s → edge_of edge s ≡ Some y → TypedFits i counts y
   edge_call_fits edge n.plain y t g = absurd cc
@@ -268,46 +268,46 @@ module _ (i : Inside) (counts : Counts) where
       subst (TypedFits i counts) c.is (edge_place x c.value t.0 c.from)
   edge_call_fits edge (n.arguments true (x ∷ z ∷ zs)) y t g = absurd cc
 
-  called_fits : (f : Function) (s : Suffix) (y : Typed) → SuffixFits i counts s → called f s ≡ Some y → TypedFits i counts y
-  called_fits (EdgeCall edge) s y t g = edge_call_fits edge s y t g
-  called_fits (ByCount op) s y t g = counted_fits (e.counted op) (λ x s. refl) s y t g
-  called_fits ToUnsigned s y t g = encoding_fits s y t g
+  called_fits : (at : ℕ) (f : Function) (s : Suffix) (y : Typed) → SuffixFits i counts s → called at f s ≡ Some y → TypedFits i counts y
+  called_fits at (EdgeCall edge) s y t g = edge_call_fits edge s y t g
+  called_fits at (ByCount op) s y t g = counted_fits (e.counted at op) (λ x s. refl) s y t g
+  called_fits at ToUnsigned s y t g = encoding_fits at s y t g
 
   -- ---- all names
 
-  pub denoted_fits : (d : Meaning) (s : Suffix) (y : Typed) → MeaningFits i counts d → SuffixFits i counts s → denoted d s ≡ Some y → TypedFits i counts y
-  denoted_fits (visibility.generic k) s y h t g = plain_fits s (o.integer (e.generic k)) y h g
-  denoted_fits (visibility.integer_constant k) s y h t g = plain_fits s (o.integer (e.Static.constant k)) y h g
-  denoted_fits (visibility.generate_parameter k) s y h t g = plain_fits s (o.integer (e.generate_parameter k)) y h g
-  denoted_fits (visibility.loop_parameter k) s y h t g = plain_fits s (o.integer (e.loop_parameter k)) y h g
-  denoted_fits (visibility.port k mode kind) s y h t g =
-      read_fits (λ p. e.of_signal (place_of (e.port k) p)) (port_form h.port) (read_place (e.port k) (port_form h.port) (port_form_is k mode kind h)) kind h.shape s y t g
-  denoted_fits (visibility.signal k (Elements kind)) s y h t g =
+  pub denoted_fits : (at : ℕ) (d : Meaning) (s : Suffix) (y : Typed) → MeaningFits i counts d → SuffixFits i counts s → denoted at d s ≡ Some y → TypedFits i counts y
+  denoted_fits at (visibility.generic k) s y h t g = plain_fits s (o.integer (e.generic k)) y h g
+  denoted_fits at (visibility.integer_constant k) s y h t g = plain_fits s (o.integer (e.Static.constant k)) y h g
+  denoted_fits at (visibility.generate_parameter k) s y h t g = plain_fits s (o.integer (e.generate_parameter k)) y h g
+  denoted_fits at (visibility.loop_parameter k) s y h t g = plain_fits s (o.integer (e.loop_parameter k)) y h g
+  denoted_fits at (visibility.port k mode kind) s y h t g =
+      read_fits (λ p. e.of_signal (place_of at (e.port k) p)) (port_form h.port) (read_place at (e.port k) (port_form h.port) (port_form_is k mode kind h)) kind h.shape s y t g
+  denoted_fits at (visibility.signal k (Elements kind)) s y h t g =
       let f = the_form (Elements kind) (slice_get i.signals k) h in
-      read_fits (λ p. e.of_signal (place_of (e.Signal.signal k) p)) f.0 (read_place (e.Signal.signal k) f.0 f.1) kind f.2 s y t g
-  denoted_fits (visibility.signal k (Enumeration d count)) s y h t g =
+      read_fits (λ p. e.of_signal (place_of at (e.Signal.signal k) p)) f.0 (read_place at (e.Signal.signal k) f.0 f.1) kind f.2 s y t g
+  denoted_fits at (visibility.signal k (Enumeration d count)) s y h t g =
       let f = the_form (Enumeration d count) (slice_get i.signals k) h in
       plain_fits s (o.enumerated d count (e.state_of (e.Signal.signal k))) y
       (fits_self (state count) (value_shape i (e.state_of (e.Signal.signal k))) (ap (λ w. w >>= state_shape) f.1 ∙ state_is f.0 count f.2), h.counted) g
-  denoted_fits (visibility.variable k (Elements kind)) s y h t g =
+  denoted_fits at (visibility.variable k (Elements kind)) s y h t g =
       let f = the_form (Elements kind) (slice_get i.variables k) h in
-      read_fits (e.of_variable k) f.0 (λ p. ap (λ w. w >>= λ f. part_shape i f p >>= λ x. then_some (is_elements x) x) f.1) kind f.2 s y t g
-  denoted_fits (visibility.variable k (Enumeration d count)) s y h t g =
+      read_fits (e.of_variable at k) f.0 (λ p. ap (λ w. w >>= λ f. part_shape i f p >>= λ x. then_some (is_elements x) x) f.1) kind f.2 s y t g
+  denoted_fits at (visibility.variable k (Enumeration d count)) s y h t g =
       let f = the_form (Enumeration d count) (slice_get i.variables k) h in
       plain_fits s (o.enumerated d count (e.state_of_variable k)) y
       (fits_self (state count) (value_shape i (e.state_of_variable k)) (ap (λ w. w >>= state_shape) f.1 ∙ state_is f.0 count f.2), h.counted) g
-  denoted_fits (visibility.constant k kind values) s y h t g =
+  denoted_fits at (visibility.constant k kind values) s y h t g =
       let f = the_form (Elements kind) (slice_get i.constants k) h.0 in
-      read_fits (e.of_constant k) f.0 (λ p. ap (λ w. w >>= λ f. part_shape i f p >>= λ x. then_some (is_elements x) x) f.1) kind f.2 s y t g
-  denoted_fits (visibility.literal d count p) s y h t g = plain_fits s (o.enumerated d count (e.Value.position p)) y h g
-  denoted_fits (visibility.vector_type k r) s y h t g = converted_fits k s y h t g
-  denoted_fits (visibility.function f) s y h t g = called_fits f s y t g
-  denoted_fits (visibility.integer_type w) s y h t g = absurd cc
-  denoted_fits (visibility.element_type r) s y h t g = absurd cc
-  denoted_fits (visibility.enumeration_type d count) s y h t g = absurd cc
-  denoted_fits (visibility.component k) s y h t g = absurd cc
-  denoted_fits visibility.label s y h t g = absurd cc
-  denoted_fits visibility.unfinished s y h t g = absurd cc
+      read_fits (e.of_constant at k) f.0 (λ p. ap (λ w. w >>= λ f. part_shape i f p >>= λ x. then_some (is_elements x) x) f.1) kind f.2 s y t g
+  denoted_fits at (visibility.literal d count p) s y h t g = plain_fits s (o.enumerated d count (e.Value.position p)) y h g
+  denoted_fits at (visibility.vector_type k r) s y h t g = converted_fits k s y h t g
+  denoted_fits at (visibility.function f) s y h t g = called_fits at f s y t g
+  denoted_fits at (visibility.integer_type w) s y h t g = absurd cc
+  denoted_fits at (visibility.element_type r) s y h t g = absurd cc
+  denoted_fits at (visibility.enumeration_type d count) s y h t g = absurd cc
+  denoted_fits at (visibility.component k) s y h t g = absurd cc
+  denoted_fits at visibility.label s y h t g = absurd cc
+  denoted_fits at visibility.unfinished s y h t g = absurd cc
 
   pub attributed_fits : (a : Option Ident) (x y : Typed) → TypedFits i counts x → attributed a x ≡ Some y → TypedFits i counts y
   attributed_fits None x y t g = subst (TypedFits i counts) (some_same x y g) t

@@ -169,28 +169,28 @@ module _ (i : Inside) (counts : Counts) where
   with_static_is : (o : Option Shape) (n : Static) → o ≡ Some vector → static_fits i n ≡ true → with_static i o n ≡ Some vector
   with_static_is o n h t = ap (λ o. with_static i o n) h ∙ ap (λ b. then_some b vector) t
 
-  two : (x y : Vector) (op : VectorOperator) (a b : Shape) → vector_shape i x ≡ Some a → vector_shape i y ≡ Some b
-      → vector_shape i (e.Vector.binary op x y) ≡ operated_shape op a b
-  two x y op a b h t = ap (λ o. o >>= λ a. vector_shape i y >>= λ b. operated_shape op a b) h ∙ ap (λ o. o >>= λ b. operated_shape op a b) t
+  two : (at : ℕ) (x y : Vector) (op : VectorOperator) (a b : Shape) → vector_shape i x ≡ Some a → vector_shape i y ≡ Some b
+      → vector_shape i (e.Vector.binary at op x y) ≡ operated_shape op a b
+  two at x y op a b h t = ap (λ o. o >>= λ a. vector_shape i y >>= λ b. operated_shape op a b) h ∙ ap (λ o. o >>= λ b. operated_shape op a b) t
 
   pub both_fits : (op : Logic) (s t : Test) → test_fits i s ≡ true → test_fits i t ≡ true → test_fits i (both op s t) ≡ true
   both_fits op (e.Test.fixed s) (e.Test.fixed t) h k = and_from (static_test_fits i s) (static_test_fits i t) h k
   both_fits op (e.Test.fixed s) (e.holds x) h k = and_from (static_test_fits i s) _ h k
-  both_fits op (e.Test.fixed s) (e.alike x y) h k = and_from (static_test_fits i s) _ h k
-  both_fits op (e.Test.fixed s) (e.unlike x y) h k = and_from (static_test_fits i s) _ h k
-  both_fits op (e.Test.fixed s) (e.Test.compared c x y) h k = and_from (static_test_fits i s) _ h k
-  both_fits op (e.Test.fixed s) (e.compared_to c x y) h k = and_from (static_test_fits i s) _ h k
-  both_fits op (e.Test.fixed s) (e.compared_with c x y) h k = and_from (static_test_fits i s) _ h k
+  both_fits op (e.Test.fixed s) (e.alike at x y) h k = and_from (static_test_fits i s) _ h k
+  both_fits op (e.Test.fixed s) (e.unlike at x y) h k = and_from (static_test_fits i s) _ h k
+  both_fits op (e.Test.fixed s) (e.Test.compared at c x y) h k = and_from (static_test_fits i s) _ h k
+  both_fits op (e.Test.fixed s) (e.compared_to at c x y) h k = and_from (static_test_fits i s) _ h k
+  both_fits op (e.Test.fixed s) (e.compared_with at c x y) h k = and_from (static_test_fits i s) _ h k
   both_fits op (e.Test.fixed s) (e.edge c p) h k = and_from (static_test_fits i s) _ h k
   both_fits op (e.Test.fixed s) (e.event p) h k = and_from (static_test_fits i s) _ h k
   both_fits op (e.Test.fixed s) (e.Test.negated t) h k = and_from (static_test_fits i s) _ h k
   both_fits op (e.Test.fixed s) (e.Test.both c t r) h k = and_from (static_test_fits i s) _ h k
   both_fits op (e.holds x) t h k = and_from _ (test_fits i t) h k
-  both_fits op (e.alike x y) t h k = and_from _ (test_fits i t) h k
-  both_fits op (e.unlike x y) t h k = and_from _ (test_fits i t) h k
-  both_fits op (e.Test.compared c x y) t h k = and_from _ (test_fits i t) h k
-  both_fits op (e.compared_to c x y) t h k = and_from _ (test_fits i t) h k
-  both_fits op (e.compared_with c x y) t h k = and_from _ (test_fits i t) h k
+  both_fits op (e.alike at x y) t h k = and_from _ (test_fits i t) h k
+  both_fits op (e.unlike at x y) t h k = and_from _ (test_fits i t) h k
+  both_fits op (e.Test.compared at c x y) t h k = and_from _ (test_fits i t) h k
+  both_fits op (e.compared_to at c x y) t h k = and_from _ (test_fits i t) h k
+  both_fits op (e.compared_with at c x y) t h k = and_from _ (test_fits i t) h k
   both_fits op (e.edge c p) t h k = and_from _ (test_fits i t) h k
   both_fits op (e.event p) t h k = and_from _ (test_fits i t) h k
   both_fits op (e.Test.negated s) t h k = and_from _ (test_fits i t) h k
@@ -199,11 +199,11 @@ module _ (i : Inside) (counts : Counts) where
   negated_fits : (t : Test) → test_fits i t ≡ true → test_fits i (negated t) ≡ true
   negated_fits (e.Test.fixed t) h = h
   negated_fits (e.holds x) h = h
-  negated_fits (e.alike x y) h = h
-  negated_fits (e.unlike x y) h = h
-  negated_fits (e.Test.compared c x y) h = h
-  negated_fits (e.compared_to c x y) h = h
-  negated_fits (e.compared_with c x y) h = h
+  negated_fits (e.alike at x y) h = h
+  negated_fits (e.unlike at x y) h = h
+  negated_fits (e.Test.compared at c x y) h = h
+  negated_fits (e.compared_to at c x y) h = h
+  negated_fits (e.compared_with at c x y) h = h
   negated_fits (e.edge c p) h = h
   negated_fits (e.event p) h = h
   negated_fits (e.Test.negated t) h = h
@@ -218,69 +218,69 @@ module _ (i : Inside) (counts : Counts) where
   logical_shape : (op : Logic) (a : Shape) → is_elements a ≡ true → operated_shape (v.Logical op) a a ≡ Some a
   logical_shape op a h = ap (λ b. then_some b a) (and_from (same_shape a a) (is_elements a) (same_self a) h)
 
-  logical_fits : (op : Logic) (x y z : Typed) → TypedFits i counts x → TypedFits i counts y → logical op x y ≡ Some z → TypedFits i counts z
-  logical_fits op (o.elements j x) (o.elements k y) z h t g =
-      let c = mapped (binary (v.Logical op) x y) (common_kind j k) z g in
+  logical_fits : (at : ℕ) (op : Logic) (x y z : Typed) → TypedFits i counts x → TypedFits i counts y → logical at op x y ≡ Some z → TypedFits i counts z
+  logical_fits at op (o.elements j x) (o.elements k y) z h t g =
+      let c = mapped (binary at (v.Logical op) x y) (common_kind j k) z g in
       let s = common j k c.value c.from in
       subst (TypedFits i counts) c.is
-      (two x y (v.Logical op) (kind_shape c.value) (kind_shape c.value) (h ∙ ap Some s.left) (t ∙ ap Some s.right) ∙ logical_shape op (kind_shape c.value) (shape_elements c.value))
-  logical_fits op (o.truth s) (o.truth r) z h t g = known (o.truth (both op s r)) z g (both_fits op s r h t)
-  logical_fits op (o.integer s) y z h t g = absurd cc
-  logical_fits op (o.enumerated n c s) y z h t g = absurd cc
-  logical_fits op (o.elements j x) (o.integer s) z h t g = absurd cc
-  logical_fits op (o.elements j x) (o.enumerated n c s) z h t g = absurd cc
-  logical_fits op (o.elements j x) (o.truth s) z h t g = absurd cc
-  logical_fits op (o.truth s) (o.integer r) z h t g = absurd cc
-  logical_fits op (o.truth s) (o.elements k r) z h t g = absurd cc
-  logical_fits op (o.truth s) (o.enumerated n c r) z h t g = absurd cc
+      (two at x y (v.Logical op) (kind_shape c.value) (kind_shape c.value) (h ∙ ap Some s.left) (t ∙ ap Some s.right) ∙ logical_shape op (kind_shape c.value) (shape_elements c.value))
+  logical_fits at op (o.truth s) (o.truth r) z h t g = known (o.truth (both op s r)) z g (both_fits op s r h t)
+  logical_fits at op (o.integer s) y z h t g = absurd cc
+  logical_fits at op (o.enumerated n c s) y z h t g = absurd cc
+  logical_fits at op (o.elements j x) (o.integer s) z h t g = absurd cc
+  logical_fits at op (o.elements j x) (o.enumerated n c s) z h t g = absurd cc
+  logical_fits at op (o.elements j x) (o.truth s) z h t g = absurd cc
+  logical_fits at op (o.truth s) (o.integer r) z h t g = absurd cc
+  logical_fits at op (o.truth s) (o.elements k r) z h t g = absurd cc
+  logical_fits at op (o.truth s) (o.enumerated n c r) z h t g = absurd cc
 
-  concatenated_fits : (x y z : Typed) → TypedFits i counts x → TypedFits i counts y → concatenated x y ≡ Some z → TypedFits i counts z
-  concatenated_fits (o.elements j x) (o.elements k y) z h t g =
-      let c = mapped (binary v.Concatenate x y) (joined_kind j k) z g in
+  concatenated_fits : (at : ℕ) (x y z : Typed) → TypedFits i counts x → TypedFits i counts y → concatenated at x y ≡ Some z → TypedFits i counts z
+  concatenated_fits at (o.elements j x) (o.elements k y) z h t g =
+      let c = mapped (binary at v.Concatenate x y) (joined_kind j k) z g in
       subst (TypedFits i counts) c.is
-      (two x y v.Concatenate (kind_shape j) (kind_shape k) h t
+      (two at x y v.Concatenate (kind_shape j) (kind_shape k) h t
       ∙ ap (λ b. then_some b vector) (and_from (is_elements (kind_shape j)) (is_elements (kind_shape k)) (shape_elements j) (shape_elements k))
       ∙ ap Some (sym (joined j k c.value c.from)))
-  concatenated_fits (o.integer s) y z h t g = absurd cc
-  concatenated_fits (o.enumerated n c s) y z h t g = absurd cc
-  concatenated_fits (o.truth s) y z h t g = absurd cc
-  concatenated_fits (o.elements j x) (o.integer s) z h t g = absurd cc
-  concatenated_fits (o.elements j x) (o.enumerated n c s) z h t g = absurd cc
-  concatenated_fits (o.elements j x) (o.truth s) z h t g = absurd cc
+  concatenated_fits at (o.integer s) y z h t g = absurd cc
+  concatenated_fits at (o.enumerated n c s) y z h t g = absurd cc
+  concatenated_fits at (o.truth s) y z h t g = absurd cc
+  concatenated_fits at (o.elements j x) (o.integer s) z h t g = absurd cc
+  concatenated_fits at (o.elements j x) (o.enumerated n c s) z h t g = absurd cc
+  concatenated_fits at (o.elements j x) (o.truth s) z h t g = absurd cc
 
-  integral_fits : (op : Arithmetic) (x y z : Typed) → TypedFits i counts x → TypedFits i counts y → integral op x y ≡ Some z → TypedFits i counts z
-  integral_fits op (o.integer s) (o.integer r) z h t g = known (o.integer (e.Static.binary op s r)) z g (and_from (static_fits i s) (static_fits i r) h t)
-  integral_fits op (o.integer s) (o.elements k y) z h t g = absurd cc
-  integral_fits op (o.integer s) (o.enumerated n c y) z h t g = absurd cc
-  integral_fits op (o.integer s) (o.truth y) z h t g = absurd cc
-  integral_fits op (o.elements j x) y z h t g = absurd cc
-  integral_fits op (o.enumerated n c x) y z h t g = absurd cc
-  integral_fits op (o.truth x) y z h t g = absurd cc
+  integral_fits : (at : ℕ) (op : Arithmetic) (x y z : Typed) → TypedFits i counts x → TypedFits i counts y → integral at op x y ≡ Some z → TypedFits i counts z
+  integral_fits at op (o.integer s) (o.integer r) z h t g = known (o.integer (e.Static.binary at op s r)) z g (and_from (static_fits i s) (static_fits i r) h t)
+  integral_fits at op (o.integer s) (o.elements k y) z h t g = absurd cc
+  integral_fits at op (o.integer s) (o.enumerated n c y) z h t g = absurd cc
+  integral_fits at op (o.integer s) (o.truth y) z h t g = absurd cc
+  integral_fits at op (o.elements j x) y z h t g = absurd cc
+  integral_fits at op (o.enumerated n c x) y z h t g = absurd cc
+  integral_fits at op (o.truth x) y z h t g = absurd cc
 
   -- a result that is there where operators of numbers are in sight, and something holds
   ruled : (numbers b : Bool) (x y : Typed) → (met numbers >>= λ _. then_some b x) ≡ Some y → Given b x y
   ruled true b x y h = given b x y h
   ruled false b x y h = absurd cc
 
-  arithmetic_fits : (numbers : Bool) (op : Arithmetic) (by : Numeric) (x y z : Typed) → TypedFits i counts x → TypedFits i counts y
-      → arithmetic numbers op by x y ≡ Some z → TypedFits i counts z
-  arithmetic_fits numbers op by (o.integer s) (o.integer r) z h t g = known (o.integer (e.Static.binary op s r)) z g (and_from (static_fits i s) (static_fits i r) h t)
-  arithmetic_fits numbers op by (o.elements j x) (o.elements k y) z h t g =
-      let c = ruled numbers (are_numbers j k) (o.elements Unsigned (e.Vector.binary (v.Arithmetic by) x y)) z g in
+  arithmetic_fits : (numbers : Bool) (at : ℕ) (op : Arithmetic) (by : Numeric) (x y z : Typed) → TypedFits i counts x → TypedFits i counts y
+      → arithmetic numbers at op by x y ≡ Some z → TypedFits i counts z
+  arithmetic_fits numbers at op by (o.integer s) (o.integer r) z h t g = known (o.integer (e.Static.binary at op s r)) z g (and_from (static_fits i s) (static_fits i r) h t)
+  arithmetic_fits numbers at op by (o.elements j x) (o.elements k y) z h t g =
+      let c = ruled numbers (are_numbers j k) (o.elements Unsigned (e.Vector.binary at (v.Arithmetic by) x y)) z g in
       let s = numbers_shape j k c.holds in
-      subst (TypedFits i counts) c.is (two x y (v.Arithmetic by) vector vector (vector_is x j h s.0) (vector_is y k t s.1))
-  arithmetic_fits numbers op by (o.elements j x) (o.integer s) z h t g =
-      let c = ruled numbers (is_number j) (o.elements Unsigned (e.with_integer by x s)) z g in
+      subst (TypedFits i counts) c.is (two at x y (v.Arithmetic by) vector vector (vector_is x j h s.0) (vector_is y k t s.1))
+  arithmetic_fits numbers at op by (o.elements j x) (o.integer s) z h t g =
+      let c = ruled numbers (is_number j) (o.elements Unsigned (e.with_integer at by x s)) z g in
       subst (TypedFits i counts) c.is (with_static_is (vector_shape i x) s (vector_is x j h (number_shape j c.holds)) t)
-  arithmetic_fits numbers op by (o.integer s) (o.elements k y) z h t g =
-      let c = ruled numbers (is_number k) (o.elements Unsigned (e.integer_with by s y)) z g in
+  arithmetic_fits numbers at op by (o.integer s) (o.elements k y) z h t g =
+      let c = ruled numbers (is_number k) (o.elements Unsigned (e.integer_with at by s y)) z g in
       subst (TypedFits i counts) c.is (with_static_is (vector_shape i y) s (vector_is y k t (number_shape k c.holds)) h)
-  arithmetic_fits numbers op by (o.integer s) (o.enumerated n c y) z h t g = absurd cc
-  arithmetic_fits numbers op by (o.integer s) (o.truth y) z h t g = absurd cc
-  arithmetic_fits numbers op by (o.elements j x) (o.enumerated n c y) z h t g = absurd cc
-  arithmetic_fits numbers op by (o.elements j x) (o.truth y) z h t g = absurd cc
-  arithmetic_fits numbers op by (o.enumerated n c x) y z h t g = absurd cc
-  arithmetic_fits numbers op by (o.truth x) y z h t g = absurd cc
+  arithmetic_fits numbers at op by (o.integer s) (o.enumerated n c y) z h t g = absurd cc
+  arithmetic_fits numbers at op by (o.integer s) (o.truth y) z h t g = absurd cc
+  arithmetic_fits numbers at op by (o.elements j x) (o.enumerated n c y) z h t g = absurd cc
+  arithmetic_fits numbers at op by (o.elements j x) (o.truth y) z h t g = absurd cc
+  arithmetic_fits numbers at op by (o.enumerated n c x) y z h t g = absurd cc
+  arithmetic_fits numbers at op by (o.truth x) y z h t g = absurd cc
 
   -- ---- relations
 
@@ -292,85 +292,85 @@ module _ (i : Inside) (counts : Counts) where
       → (fits_shape vector (vector_shape i x) && fits_shape vector (vector_shape i y)) ≡ true
   compared_fits x y h t = and_from (fits_shape vector (vector_shape i x)) (fits_shape vector (vector_shape i y)) (fits_self vector (vector_shape i x) h) (fits_self vector (vector_shape i y) t)
 
-  equal_fits : (op : Cmp) (same : Value → Value → Test) → Compares same → (x y : Vector) (k : ElementKind) → vector_shape i x ≡ Some (kind_shape k) → vector_shape i y ≡ Some (kind_shape k)
-      → TypedFits i counts (equal_by op same x y k)
-  equal_fits op same c x y Unsigned h t = compared_fits x y h t
-  equal_fits op same c x y Element h t = c (e.Value.elements x) (e.Value.elements y) ∙ elements_fit i x y one h t
-  equal_fits op same c x y LogicVector h t = c (e.Value.elements x) (e.Value.elements y) ∙ elements_fit i x y vector h t
-  equal_fits op same c x y OpenVector h t = c (e.Value.elements x) (e.Value.elements y) ∙ elements_fit i x y vector h t
+  equal_fits : (at : ℕ) (op : Cmp) (same : Value → Value → Test) → Compares same → (x y : Vector) (k : ElementKind) → vector_shape i x ≡ Some (kind_shape k) → vector_shape i y ≡ Some (kind_shape k)
+      → TypedFits i counts (equal_by at op same x y k)
+  equal_fits at op same c x y Unsigned h t = compared_fits x y h t
+  equal_fits at op same c x y Element h t = c (e.Value.elements x) (e.Value.elements y) ∙ elements_fit i x y one h t
+  equal_fits at op same c x y LogicVector h t = c (e.Value.elements x) (e.Value.elements y) ∙ elements_fit i x y vector h t
+  equal_fits at op same c x y OpenVector h t = c (e.Value.elements x) (e.Value.elements y) ∙ elements_fit i x y vector h t
 
   -- enumerations of one number have one count
   counted : (d e m n : ℕ) → (d == e) ≡ true → slice_get counts d ≡ Some m → slice_get counts e ≡ Some n → m ≡ n
   counted d e m n h s t = some_same m n (sym s ∙ (ap (slice_get counts) (eqb-true d e h) ∙ t))
 
-  equality_fits : (op : Cmp) (same : Value → Value → Test) → Compares same → (x y z : Typed) → TypedFits i counts x → TypedFits i counts y
-      → equality op same x y ≡ Some z → TypedFits i counts z
-  equality_fits op same c (o.integer s) (o.integer r) z h t g = known (integers_compared op s r) z g (and_from (static_fits i s) (static_fits i r) h t)
-  equality_fits op same c (o.elements j x) (o.elements k y) z h t g =
-      let f = mapped (equal_by op same x y) (common_kind j k) z g in
+  equality_fits : (at : ℕ) (op : Cmp) (same : Value → Value → Test) → Compares same → (x y z : Typed) → TypedFits i counts x → TypedFits i counts y
+      → equality at op same x y ≡ Some z → TypedFits i counts z
+  equality_fits at op same c (o.integer s) (o.integer r) z h t g = known (integers_compared at op s r) z g (and_from (static_fits i s) (static_fits i r) h t)
+  equality_fits at op same c (o.elements j x) (o.elements k y) z h t g =
+      let f = mapped (equal_by at op same x y) (common_kind j k) z g in
       let s = common j k f.value f.from in
-      subst (TypedFits i counts) f.is (equal_fits op same c x y f.value (h ∙ ap Some s.left) (t ∙ ap Some s.right))
-  equality_fits op same c (o.elements Unsigned x) (o.integer s) z h t g =
-      known (o.truth (e.compared_to op x s)) z g (and_from (fits_shape vector (vector_shape i x)) (static_fits i s) (fits_self vector (vector_shape i x) h) t)
-  equality_fits op same c (o.elements Element x) (o.integer s) z h t g = absurd cc
-  equality_fits op same c (o.elements LogicVector x) (o.integer s) z h t g = absurd cc
-  equality_fits op same c (o.elements OpenVector x) (o.integer s) z h t g = absurd cc
-  equality_fits op same c (o.integer s) (o.elements Unsigned y) z h t g =
-      known (o.truth (e.compared_with op s y)) z g (and_from (static_fits i s) (fits_shape vector (vector_shape i y)) h (fits_self vector (vector_shape i y) t))
-  equality_fits op same c (o.integer s) (o.elements Element y) z h t g = absurd cc
-  equality_fits op same c (o.integer s) (o.elements LogicVector y) z h t g = absurd cc
-  equality_fits op same c (o.integer s) (o.elements OpenVector y) z h t g = absurd cc
-  equality_fits op same c (o.enumerated d m x) (o.enumerated e n y) z h t g =
+      subst (TypedFits i counts) f.is (equal_fits at op same c x y f.value (h ∙ ap Some s.left) (t ∙ ap Some s.right))
+  equality_fits at op same c (o.elements Unsigned x) (o.integer s) z h t g =
+      known (o.truth (e.compared_to at op x s)) z g (and_from (fits_shape vector (vector_shape i x)) (static_fits i s) (fits_self vector (vector_shape i x) h) t)
+  equality_fits at op same c (o.elements Element x) (o.integer s) z h t g = absurd cc
+  equality_fits at op same c (o.elements LogicVector x) (o.integer s) z h t g = absurd cc
+  equality_fits at op same c (o.elements OpenVector x) (o.integer s) z h t g = absurd cc
+  equality_fits at op same c (o.integer s) (o.elements Unsigned y) z h t g =
+      known (o.truth (e.compared_with at op s y)) z g (and_from (static_fits i s) (fits_shape vector (vector_shape i y)) h (fits_self vector (vector_shape i y) t))
+  equality_fits at op same c (o.integer s) (o.elements Element y) z h t g = absurd cc
+  equality_fits at op same c (o.integer s) (o.elements LogicVector y) z h t g = absurd cc
+  equality_fits at op same c (o.integer s) (o.elements OpenVector y) z h t g = absurd cc
+  equality_fits at op same c (o.enumerated d m x) (o.enumerated e n y) z h t g =
       let f = given (d == e) (o.truth (same x y)) z g in
       let s = counted d e m n f.holds h.1 t.1 in
       subst (TypedFits i counts) f.is (c x y ∙ states_fit i n x y (ap (λ m. value_fits i (state m) x) (sym s) ∙ h.0) t.0)
-  equality_fits op same c (o.integer s) (o.enumerated n d y) z h t g = absurd cc
-  equality_fits op same c (o.integer s) (o.truth y) z h t g = absurd cc
-  equality_fits op same c (o.elements j x) (o.enumerated n d y) z h t g = absurd cc
-  equality_fits op same c (o.elements j x) (o.truth y) z h t g = absurd cc
-  equality_fits op same c (o.enumerated n d x) (o.integer s) z h t g = absurd cc
-  equality_fits op same c (o.enumerated n d x) (o.elements k y) z h t g = absurd cc
-  equality_fits op same c (o.enumerated n d x) (o.truth y) z h t g = absurd cc
-  equality_fits op same c (o.truth x) y z h t g = absurd cc
+  equality_fits at op same c (o.integer s) (o.enumerated n d y) z h t g = absurd cc
+  equality_fits at op same c (o.integer s) (o.truth y) z h t g = absurd cc
+  equality_fits at op same c (o.elements j x) (o.enumerated n d y) z h t g = absurd cc
+  equality_fits at op same c (o.elements j x) (o.truth y) z h t g = absurd cc
+  equality_fits at op same c (o.enumerated n d x) (o.integer s) z h t g = absurd cc
+  equality_fits at op same c (o.enumerated n d x) (o.elements k y) z h t g = absurd cc
+  equality_fits at op same c (o.enumerated n d x) (o.truth y) z h t g = absurd cc
+  equality_fits at op same c (o.truth x) y z h t g = absurd cc
 
-  ordering_fits : (numbers : Bool) (op : Cmp) (x y z : Typed) → TypedFits i counts x → TypedFits i counts y → ordering numbers op x y ≡ Some z → TypedFits i counts z
-  ordering_fits numbers op (o.integer s) (o.integer r) z h t g = known (integers_compared op s r) z g (and_from (static_fits i s) (static_fits i r) h t)
-  ordering_fits numbers op (o.elements j x) (o.elements k y) z h t g =
-      let c = ruled numbers (are_numbers j k) (o.truth (e.Test.compared op x y)) z g in
+  ordering_fits : (numbers : Bool) (at : ℕ) (op : Cmp) (x y z : Typed) → TypedFits i counts x → TypedFits i counts y → ordering numbers at op x y ≡ Some z → TypedFits i counts z
+  ordering_fits numbers at op (o.integer s) (o.integer r) z h t g = known (integers_compared at op s r) z g (and_from (static_fits i s) (static_fits i r) h t)
+  ordering_fits numbers at op (o.elements j x) (o.elements k y) z h t g =
+      let c = ruled numbers (are_numbers j k) (o.truth (e.Test.compared at op x y)) z g in
       let s = numbers_shape j k c.holds in
       subst (TypedFits i counts) c.is (compared_fits x y (vector_is x j h s.0) (vector_is y k t s.1))
-  ordering_fits numbers op (o.elements j x) (o.integer s) z h t g =
-      let c = ruled numbers (is_number j) (o.truth (e.compared_to op x s)) z g in
+  ordering_fits numbers at op (o.elements j x) (o.integer s) z h t g =
+      let c = ruled numbers (is_number j) (o.truth (e.compared_to at op x s)) z g in
       subst (TypedFits i counts) c.is
       (and_from (fits_shape vector (vector_shape i x)) (static_fits i s) (fits_self vector (vector_shape i x) (vector_is x j h (number_shape j c.holds))) t)
-  ordering_fits numbers op (o.integer s) (o.elements k y) z h t g =
-      let c = ruled numbers (is_number k) (o.truth (e.compared_with op s y)) z g in
+  ordering_fits numbers at op (o.integer s) (o.elements k y) z h t g =
+      let c = ruled numbers (is_number k) (o.truth (e.compared_with at op s y)) z g in
       subst (TypedFits i counts) c.is
       (and_from (static_fits i s) (fits_shape vector (vector_shape i y)) h (fits_self vector (vector_shape i y) (vector_is y k t (number_shape k c.holds))))
-  ordering_fits numbers op (o.integer s) (o.enumerated n d y) z h t g = absurd cc
-  ordering_fits numbers op (o.integer s) (o.truth y) z h t g = absurd cc
-  ordering_fits numbers op (o.elements j x) (o.enumerated n d y) z h t g = absurd cc
-  ordering_fits numbers op (o.elements j x) (o.truth y) z h t g = absurd cc
-  ordering_fits numbers op (o.enumerated n d x) y z h t g = absurd cc
-  ordering_fits numbers op (o.truth x) y z h t g = absurd cc
+  ordering_fits numbers at op (o.integer s) (o.enumerated n d y) z h t g = absurd cc
+  ordering_fits numbers at op (o.integer s) (o.truth y) z h t g = absurd cc
+  ordering_fits numbers at op (o.elements j x) (o.enumerated n d y) z h t g = absurd cc
+  ordering_fits numbers at op (o.elements j x) (o.truth y) z h t g = absurd cc
+  ordering_fits numbers at op (o.enumerated n d x) y z h t g = absurd cc
+  ordering_fits numbers at op (o.truth x) y z h t g = absurd cc
 
-  pub operated_fits : (numbers : Bool) (by : Operator) (x y z : Typed) → TypedFits i counts x → TypedFits i counts y → operated numbers by x y ≡ Some z → TypedFits i counts z
-  operated_fits numbers op.And x y z h t g = logical_fits _ x y z h t g
-  operated_fits numbers op.Or x y z h t g = logical_fits _ x y z h t g
-  operated_fits numbers op.Xor x y z h t g = logical_fits _ x y z h t g
-  operated_fits numbers op.Xnor x y z h t g = logical_fits _ x y z h t g
-  operated_fits numbers op.Nand x y z h t g = logical_fits _ x y z h t g
-  operated_fits numbers op.Nor x y z h t g = logical_fits _ x y z h t g
-  operated_fits numbers op.Equal x y z h t g = equality_fits _ e.alike (λ x y. refl) x y z h t g
-  operated_fits numbers op.NotEqual x y z h t g = equality_fits _ e.unlike (λ x y. refl) x y z h t g
-  operated_fits numbers op.Less x y z h t g = ordering_fits numbers _ x y z h t g
-  operated_fits numbers op.LessEqual x y z h t g = ordering_fits numbers _ x y z h t g
-  operated_fits numbers op.Greater x y z h t g = ordering_fits numbers _ x y z h t g
-  operated_fits numbers op.GreaterEqual x y z h t g = ordering_fits numbers _ x y z h t g
-  operated_fits numbers op.Add x y z h t g = arithmetic_fits numbers _ _ x y z h t g
-  operated_fits numbers op.Subtract x y z h t g = arithmetic_fits numbers _ _ x y z h t g
-  operated_fits numbers op.Concatenate x y z h t g = concatenated_fits x y z h t g
-  operated_fits numbers op.Multiply x y z h t g = arithmetic_fits numbers _ _ x y z h t g
-  operated_fits numbers op.Divide x y z h t g = integral_fits _ x y z h t g
-  operated_fits numbers op.Modulo x y z h t g = integral_fits _ x y z h t g
-  operated_fits numbers op.Remainder x y z h t g = integral_fits _ x y z h t g
+  pub operated_fits : (numbers : Bool) (at : ℕ) (by : Operator) (x y z : Typed) → TypedFits i counts x → TypedFits i counts y → operated numbers at by x y ≡ Some z → TypedFits i counts z
+  operated_fits numbers at op.And x y z h t g = logical_fits at _ x y z h t g
+  operated_fits numbers at op.Or x y z h t g = logical_fits at _ x y z h t g
+  operated_fits numbers at op.Xor x y z h t g = logical_fits at _ x y z h t g
+  operated_fits numbers at op.Xnor x y z h t g = logical_fits at _ x y z h t g
+  operated_fits numbers at op.Nand x y z h t g = logical_fits at _ x y z h t g
+  operated_fits numbers at op.Nor x y z h t g = logical_fits at _ x y z h t g
+  operated_fits numbers at op.Equal x y z h t g = equality_fits at _ (e.alike at) (λ x y. refl) x y z h t g
+  operated_fits numbers at op.NotEqual x y z h t g = equality_fits at _ (e.unlike at) (λ x y. refl) x y z h t g
+  operated_fits numbers at op.Less x y z h t g = ordering_fits numbers at _ x y z h t g
+  operated_fits numbers at op.LessEqual x y z h t g = ordering_fits numbers at _ x y z h t g
+  operated_fits numbers at op.Greater x y z h t g = ordering_fits numbers at _ x y z h t g
+  operated_fits numbers at op.GreaterEqual x y z h t g = ordering_fits numbers at _ x y z h t g
+  operated_fits numbers at op.Add x y z h t g = arithmetic_fits numbers at _ _ x y z h t g
+  operated_fits numbers at op.Subtract x y z h t g = arithmetic_fits numbers at _ _ x y z h t g
+  operated_fits numbers at op.Concatenate x y z h t g = concatenated_fits at x y z h t g
+  operated_fits numbers at op.Multiply x y z h t g = arithmetic_fits numbers at _ _ x y z h t g
+  operated_fits numbers at op.Divide x y z h t g = integral_fits at _ x y z h t g
+  operated_fits numbers at op.Modulo x y z h t g = integral_fits at _ x y z h t g
+  operated_fits numbers at op.Remainder x y z h t g = integral_fits at _ x y z h t g

@@ -3,6 +3,7 @@ use Rattle.std.proofs.Common.{◌≡◌, suc, Bool, true, ◌&&◌, [], ◌∷�
 use Rattle.std.specs.List.{slice_get}
 use Rattle.std.proofs.lemmas.Bool.{and_from, lt-ltb}
 use Rattle.vhdl_tree.specs.Tree as t
+use Rattle.vhdl_tree.specs.Tree.{Ident}
 use Rattle.vhdl_tree.specs.declared.declaration.Mode.{Mode}
 use Rattle.vhdl_names_rules.specs.declared.kind.ElementKind.{ElementKind}
 use Rattle.vhdl_names_rules.specs.declared.kind.ObjectType.{ObjectType}
@@ -10,7 +11,7 @@ use Rattle.vhdl_names_rules.specs.declared.kind.ObjectType.TheVariants.{Elements
 use Rattle.vhdl_names_rules.specs.units.Units as u
 use Rattle.vhdl_names_rules.specs.Rules.{if_any}
 use Rattle.vhdl_names_rules.specs.Visibility as visibility
-use Rattle.vhdl_names_rules.specs.Visibility.{Name, Declared, declare, names_of, count_of, Sight, meaning, with_declared, Declares}
+use Rattle.vhdl_names_rules.specs.Visibility.{Name, Declared, declare, count_of, Sight, meaning, with_declared, Declares}
 use Rattle.vhdl_names_rules.specs.Expressions.{static}
 use Rattle.vhdl_names_rules.specs.Subtypes.{subtype, fixed_value, as_integer_type, object}
 use Rattle.vhdl_names_rules.specs.Declarations.{as_kind, mode_of, generic, port}
@@ -19,7 +20,7 @@ use Rattle.vhdl_names_rules.specs.sound.Units.{object_fits, port_fits, static_de
 use Rattle.vhdl_names_laws.specs.Meanings.{Counts, kind_shape, type_shape}
 use Rattle.vhdl_names_laws.proofs.Statics.{some_same, get_last, HasMore, keeps_all, keeps_before}
 use Rattle.vhdl_names_laws.proofs.Operators.{shape_elements}
-use Rattle.vhdl_names_laws.proofs.Subtypes.{object_more, static_default_more, subtype_fits, any_static_fits, object_is}
+use Rattle.vhdl_names_laws.proofs.Subtypes.{object_more, static_default_more, subtype_fits, any_static_fits, no_name, object_is}
 use Rattle.vhdl_names_laws.proofs.InOrder as r
 use Rattle.vhdl_names_laws.proofs.Formals.{same_names, same_formals, one_name, one_formal}
 use Rattle.vhdl_names_rules.proofs.laws.Rules.{comes}
@@ -50,15 +51,15 @@ generic_step i counts sight g x h q =
     let a = comes (meaning sight g.mark.text) _ x q in
     let b = comes (as_integer_type a.value) _ x a.rest in
     let c = comes (if_any (static sight) g.default) _ x b.rest in
-    let make : Name → u.Generic = λ n. record { type = b.value; default = c.value } in
+    let make : Ident → u.Generic = λ n. record { at = n.at; type = b.value; default = c.value } in
     subst (r.Step with_generic generic_fits with_declared IsKnown i sight) (some_same _ x c.rest)
     (r.names_step with_generic generic_fits with_declared IsKnown nothing_more more_twice visibility.generic (λ (s : Sight). count_of visibility.is_generic s.region) make
     (λ i counts. static_default_fits i c.value ≡ true)
-    (λ i counts sight n ok k. single i counts sight n k)
+    (λ i counts sight n ok k. single i counts sight n.text k)
     (λ i counts n ok. ok)
     (λ i counts n ok. static_default_more i (record i { generics = suc i.generics }) (more_generics i counts).numbers c.value ok)
-    (λ sight n. one_more visibility.is_generic sight.region (declare n (visibility.generic (count_of visibility.is_generic sight.region))) refl)
-    (names_of g.names) i counts sight (any_static_fits i counts sight g.default c.value h.inside c.is) h)
+    (λ sight n. one_more visibility.is_generic sight.region (declare n.text (visibility.generic (count_of visibility.is_generic sight.region))) refl)
+    g.names i counts sight (any_static_fits i counts sight g.default c.value h.inside c.is) h)
   where
     single : (i : Inside) (counts : Counts) (sight : Sight) (n : Name) → IsKnown i counts sight
         → IsKnown (record i { generics = suc i.generics }) counts (with_declared sight (declare n (visibility.generic (count_of visibility.is_generic sight.region)) ∷ []))
@@ -111,15 +112,15 @@ port_step i counts sight p x h q =
     let c = comes (if_any (fixed_value sight a.value.type) p.default) _ x b.rest in
     let f = subtype_fits i counts sight p.subtype a.value h.inside a.is in
     let shape = f.shape ∙ elements_kind a.value.type b.value b.is in
-    let make : Name → u.Port = λ n. record { mode = mode_of p.mode; object = object a.value c.value n } in
+    let make : Ident → u.Port = λ n. record { mode = mode_of p.mode; object = object a.value c.value n } in
     subst (r.Step with_port port_is with_declared IsKnown i sight) (some_same _ x c.rest)
     (r.names_step with_port port_is with_declared IsKnown nothing_more more_twice (λ k. visibility.port k (mode_of p.mode) b.value) (λ (s : Sight). count_of visibility.is_port s.region) make
-    (λ i counts. object_fits i (object a.value c.value []) ≡ true)
-    (λ i counts sight n ok k. single i counts sight n (make n) (mode_of p.mode) b.value refl refl shape k)
+    (λ i counts. object_fits i (object a.value c.value no_name) ≡ true)
+    (λ i counts sight n ok k. single i counts sight n.text (make n) (mode_of p.mode) b.value refl refl shape k)
     (λ i counts n ok. and_from (object_fits i (object a.value c.value n)) (is_elements (shape_of a.value.form)) ok (ap is_elements shape ∙ shape_elements b.value))
-    (λ i counts n ok. object_more i (with_port i (make n)) (more_ports i counts (make n)).numbers (keeps_all i.constants) (object a.value c.value []) ok)
-    (λ sight n. one_more visibility.is_port sight.region (declare n (visibility.port (count_of visibility.is_port sight.region) (mode_of p.mode) b.value)) refl)
-    (names_of p.names) i counts sight (object_is i counts sight a.value p.default c.value h.inside f c.is) h)
+    (λ i counts n ok. object_more i (with_port i (make n)) (more_ports i counts (make n)).numbers (keeps_all i.constants) (object a.value c.value no_name) ok)
+    (λ sight n. one_more visibility.is_port sight.region (declare n.text (visibility.port (count_of visibility.is_port sight.region) (mode_of p.mode) b.value)) refl)
+    p.names i counts sight (object_is i counts sight a.value p.default c.value h.inside f c.is) h)
   where
     single : (i : Inside) (counts : Counts) (sight : Sight) (n : Name) (p : u.Port) (mode : Mode) (kind : ElementKind) → p.object.name ≡ n → p.mode ≡ mode → shape_of p.object.form ≡ kind_shape kind → IsKnown i counts sight
         → IsKnown (with_port i p) counts (with_declared sight (declare n (visibility.port (count_of visibility.is_port sight.region) mode kind) ∷ []))

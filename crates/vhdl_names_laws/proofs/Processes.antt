@@ -1,5 +1,5 @@
 -- Each process fits: its variables, what it is sensitive to and its body (IEEE 1076-2008, 11.3 and 11.6).
-use Rattle.std.proofs.Common.{◌≡◌, suc, Bool, true, ◌&&◌, List, [], ◌∷◌, ◌++◌, length, map, Option, Some, None, refl, ap, sym, ◌∙◌, subst, arith, append_assoc, append-nil}
+use Rattle.std.proofs.Common.{◌≡◌, ℕ, suc, Bool, true, ◌&&◌, List, [], ◌∷◌, ◌++◌, length, map, Option, Some, None, refl, ap, sym, ◌∙◌, subst, arith, append_assoc, append-nil}
 use Rattle.std.specs.List.{list_all, AllByRecursion}
 use Rattle.std.specs.Option.{option_map, is_some}
 use Rattle.std.proofs.lemmas.Bool.{and_parts, and_from}
@@ -12,7 +12,7 @@ use Rattle.vhdl_names_rules.specs.units.Units as u
 use Rattle.vhdl_names_rules.specs.units.Units.{Form}
 use Rattle.vhdl_names_rules.specs.Rules.{each, if_any}
 use Rattle.vhdl_names_rules.specs.Visibility as visibility
-use Rattle.vhdl_names_rules.specs.Visibility.{Name, Declared, declare, names_of, count_of, are_distinct, label_ends, Sight, with_variables, Declares}
+use Rattle.vhdl_names_rules.specs.Visibility.{Name, Declared, declare, count_of, are_distinct, label_ends, Sight, with_variables, Declares}
 use Rattle.vhdl_names_rules.specs.Subtypes.{subtype, fixed_value, object}
 use Rattle.vhdl_names_rules.specs.Declarations.{in_order, within_variables, variables}
 use Rattle.vhdl_names_rules.specs.Interfaces.{declared_names}
@@ -31,7 +31,7 @@ use Rattle.vhdl_names_laws.proofs.Expressions.{typed_fits}
 use Rattle.vhdl_names_laws.proofs.Values.{given_is, condition_fits}
 use Rattle.vhdl_names_laws.proofs.Choices.{selector_is, each_all, covered_fits, arranged_fits}
 use Rattle.vhdl_names_laws.proofs.Statements.{signal_fits, TargetFits, target_fits, assigned_fits, statements_are}
-use Rattle.vhdl_names_laws.proofs.Subtypes.{object_more, subtype_fits, object_is}
+use Rattle.vhdl_names_laws.proofs.Subtypes.{object_more, subtype_fits, no_name, object_is}
 use Rattle.vhdl_names_laws.proofs.Known.{inside_more, inside_variables, inside_within_variables, one_more, one_longer, last_form}
 use Rattle.vhdl_names_laws.proofs.InOrder as r
 use Rattle.vhdl_names_rules.proofs.laws.Rules.{comes, kept}
@@ -72,12 +72,12 @@ variables_step i counts sight d x h q =
     let f = subtype_fits i counts (within_variables sight d.names) d.subtype a.value in' a.is in
     subst (r.Step with_variable object_fits with_variables HasVariables i sight) (some_same _ x c.rest)
     (r.names_step with_variable object_fits with_variables HasVariables no_more more_twice (λ k. visibility.variable k a.value.type) (λ (s : Sight). count_of visibility.is_variable s.variables) (object a.value c.value)
-    (λ i counts. (object_fits i (object a.value c.value []) ≡ true) × IsCounted counts a.value.type)
-    (λ i counts sight n ok k. single i counts sight n a.value.form a.value.type f.shape ok.1 k)
+    (λ i counts. (object_fits i (object a.value c.value no_name) ≡ true) × IsCounted counts a.value.type)
+    (λ i counts sight n ok k. single i counts sight n.text a.value.form a.value.type f.shape ok.1 k)
     (λ i counts n ok. ok.0)
-    (λ i counts n ok. (object_more i (record i { variables = i.variables ++ a.value.form ∷ [] }) (more_variables i counts a.value.form).numbers (keeps_all i.constants) (object a.value c.value []) ok.0, ok.1))
-    (λ sight n. one_more visibility.is_variable sight.variables (declare n (visibility.variable (count_of visibility.is_variable sight.variables) a.value.type)) refl)
-    (names_of d.names) i counts sight (object_is i counts (within_variables sight d.names) a.value d.default c.value in' f c.is, f.counted) h)
+    (λ i counts n ok. (object_more i (record i { variables = i.variables ++ a.value.form ∷ [] }) (more_variables i counts a.value.form).numbers (keeps_all i.constants) (object a.value c.value no_name) ok.0, ok.1))
+    (λ sight n. one_more visibility.is_variable sight.variables (declare n.text (visibility.variable (count_of visibility.is_variable sight.variables) a.value.type)) refl)
+    d.names i counts sight (object_is i counts (within_variables sight d.names) a.value d.default c.value in' f c.is, f.counted) h)
   where
     single : (i : Inside) (counts : Counts) (sight : Sight) (n : Name) (form : Form) (type : ObjectType) → shape_of form ≡ type_shape type → IsCounted counts type → HasVariables i counts sight
         → HasVariables (record i { variables = i.variables ++ form ∷ [] }) counts (with_variables sight (declare n (visibility.variable (count_of visibility.is_variable sight.variables) type) ∷ []))
@@ -173,9 +173,9 @@ process_is i counts sight label p x h q =
 -- ---- assignments
 
 -- a process of one statement
-assigning_fits : (units : Units) (i : Inside) (label : Option Ident) (x : s.Statement) → i.variables ≡ [] → statement_fits i x ≡ true → concurrent_fits units i (assigning label x) ≡ true
+assigning_fits : (units : Units) (i : Inside) (at : ℕ) (label : Option Ident) (x : s.Statement) → i.variables ≡ [] → statement_fits i x ≡ true → concurrent_fits units i (assigning at label x) ≡ true
 unfolding concurrent_fits statements_fit
-assigning_fits units i label x e h = body_alone i (s.step x s.done) e (and_from (statement_fits i x) true h refl)
+assigning_fits units i at label x e h = body_alone i (s.step x s.done) e (and_from (statement_fits i x) true h refl)
 
 assigned_is : (i : Inside) (counts : Counts) (sight : Sight) (x : SignalName) (v : t.Value) (y : s.Statement) → IsInside i counts sight → TargetFits i counts x → assigned sight x v ≡ Some y
     → statement_fits i y ≡ true
@@ -209,31 +209,31 @@ branches_are i counts sight x (b ∷ bs) o y h f q =
     (alone_is i a.value (assigned_is i counts sight x b.value a.value h f a.is)))
     (branches_are i counts sight x bs o d.value h f d.is))
 
-chosen_is : (i : Inside) (counts : Counts) (sight : Sight) (x : SignalName) (bs : List t.Branch) (o : Option t.Value) (y : s.Statement) → IsInside i counts sight → TargetFits i counts x
-    → option_map s.if_of (branches sight x bs o) ≡ Some y → statement_fits i y ≡ true
+chosen_is : (i : Inside) (counts : Counts) (sight : Sight) (at : ℕ) (x : SignalName) (bs : List t.Branch) (o : Option t.Value) (y : s.Statement) → IsInside i counts sight → TargetFits i counts x
+    → option_map (s.if_of at) (branches sight x bs o) ≡ Some y → statement_fits i y ≡ true
 unfolding statement_fits
-chosen_is i counts sight x bs o y h f q =
-    let a = mapped s.if_of (branches sight x bs o) y q in
+chosen_is i counts sight at x bs o y h f q =
+    let a = mapped (s.if_of at) (branches sight x bs o) y q in
     subst (λ y. statement_fits i y ≡ true) a.is (branches_are i counts sight x bs o a.value h f a.from)
 
-body_is : (i : Inside) (counts : Counts) (sight : Sight) (x : SignalName) (bs : List t.Branch) (o : Option t.Value) (y : s.Statement) → IsInside i counts sight → TargetFits i counts x
-    → assignment_body sight x bs o ≡ Some y → statement_fits i y ≡ true
-body_is i counts sight x [] (Some v) y h f q = assigned_is i counts sight x v y h f q
-body_is i counts sight x [] None y h f q = chosen_is i counts sight x [] None y h f q
-body_is i counts sight x (b ∷ bs) o y h f q = chosen_is i counts sight x (b ∷ bs) o y h f q
+body_is : (i : Inside) (counts : Counts) (sight : Sight) (at : ℕ) (x : SignalName) (bs : List t.Branch) (o : Option t.Value) (y : s.Statement) → IsInside i counts sight → TargetFits i counts x
+    → assignment_body sight at x bs o ≡ Some y → statement_fits i y ≡ true
+body_is i counts sight at x [] (Some v) y h f q = assigned_is i counts sight x v y h f q
+body_is i counts sight at x [] None y h f q = chosen_is i counts sight at x [] None y h f q
+body_is i counts sight at x (b ∷ bs) o y h f q = chosen_is i counts sight at x (b ∷ bs) o y h f q
 
 pub assignment_is : (units : Units) (i : Inside) (counts : Counts) (sight : Sight) (a : t.Assignment) (x : u.Concurrent) → IsOutside i counts sight → assignment sight a ≡ Some x
     → concurrent_fits units i x ≡ true
 unfolding assignment
 assignment_is units i counts sight a x h q =
     let b = comes (target sight a.target) _ x q in
-    let c = comes (assignment_body sight b.value a.branches a.otherwise) _ x b.rest in
+    let c = comes (assignment_body sight a.target.identifier.at b.value a.branches a.otherwise) _ x b.rest in
     subst (λ x. concurrent_fits units i x ≡ true) (some_same _ x c.rest)
-    (assigning_fits units i a.label c.value h.no_variables (body_is i counts sight b.value a.branches a.otherwise c.value h.inside (target_fits i counts sight a.target b.value h.inside b.is) c.is))
+    (assigning_fits units i a.target.identifier.at a.label c.value h.no_variables (body_is i counts sight a.target.identifier.at b.value a.branches a.otherwise c.value h.inside (target_fits i counts sight a.target b.value h.inside b.is) c.is))
 
-select_is : (i : Inside) (by : Value) (alts : s.Alternatives) → selector_fits i by ≡ true → alternatives_fit i (value_shape i by) alts ≡ true → statement_fits i (s.case_of by alts) ≡ true
+select_is : (i : Inside) (at : ℕ) (by : Value) (alts : s.Alternatives) → selector_fits i by ≡ true → alternatives_fit i (value_shape i by) alts ≡ true → statement_fits i (s.case_of at by alts) ≡ true
 unfolding statement_fits
-select_is i by alts h k = and_from (selector_fits i by) (alternatives_fit i (value_shape i by) alts) h k
+select_is i at by alts h k = and_from (selector_fits i by) (alternatives_fit i (value_shape i by) alts) h k
 
 pub selected_is : (units : Units) (i : Inside) (counts : Counts) (sight : Sight) (label : Option Ident) (a : t.SelectedAssignment) (x : u.Concurrent) → IsOutside i counts sight
     → selected sight label a ≡ Some x → concurrent_fits units i x ≡ true
@@ -248,8 +248,8 @@ selected_is units i counts sight label a x h q =
     let f = selector_is i counts e.value by.value (typed_fits a.selector i counts sight e.value h.inside e.is) by.is in
     let g = target_fits i counts sight a.target to.value h.inside to.is in
     subst (λ x. concurrent_fits units i x ≡ true) (some_same _ x all.rest)
-    (assigning_fits units i label (s.case_of by.value.1 all.value) h.no_variables
-    (select_is i by.value.1 all.value f.fits
+    (assigning_fits units i a.at label (s.case_of a.at by.value.1 all.value) h.no_variables
+    (select_is i a.at by.value.1 all.value f.fits
     (arranged_fits i (value_shape i by.value.1) css.value bodies.value all.value
     (covered_fits i counts sight h.inside (value_shape i by.value.1) by.value.0 f.selects f.counted (map (λ (w : t.Waveform). w.choices) a.waveforms) css.value css.is)
     (each_all (λ (w : t.Waveform). option_map alone (assigned sight to.value w.value)) (statements_fit i) (λ w y k.

@@ -45,18 +45,18 @@ out_port i k In kind h n = absurd cc
 out_port i k Out kind h n =
     ap is_out h.at ∙ ap (λ mode. is_out (Some (record { mode = mode; object = h.port.object }))) h.mode_is
 
-as_signal_fits : (i : Inside) (counts : Counts) (d : Meaning) (suffix : Suffix) (x : SignalName) → MeaningFits i counts d → SuffixFits i counts suffix
-    → as_signal d suffix ≡ Some x → SignalFits i counts x
-as_signal_fits i counts (visibility.port k mode kind) suffix x h f q =
-    let a = mapped (named_part (e.port k) (Some mode)) (part_of (Elements kind) suffix) x q in
+as_signal_fits : (i : Inside) (counts : Counts) (at : ℕ) (d : Meaning) (suffix : Suffix) (x : SignalName) → MeaningFits i counts d → SuffixFits i counts suffix
+    → as_signal at d suffix ≡ Some x → SignalFits i counts x
+as_signal_fits i counts at (visibility.port k mode kind) suffix x h f q =
+    let a = mapped (named_part at (e.port k) (Some mode)) (part_of (Elements kind) suffix) x q in
     let p = part_of_fits i counts (port_form h.port) (Elements kind) suffix a.value h.shape tt f a.from in
     subst (SignalFits i counts) a.is (record {
       shape = ap (λ w. w >>= λ f. part_shape i f a.value.0) (port_form_is i counts k mode kind h) ∙ p.0;
       counted = p.1;
       driven = λ n. out_port i k mode kind h n;
     })
-as_signal_fits i counts (visibility.signal k type) suffix x h f q =
-    let a = mapped (named_part (e.Signal.signal k) None) (part_of type suffix) x q in
+as_signal_fits i counts at (visibility.signal k type) suffix x h f q =
+    let a = mapped (named_part at (e.Signal.signal k) None) (part_of type suffix) x q in
     let g = the_form i counts type (slice_get i.signals k) h in
     let p = part_of_fits i counts g.0 type suffix a.value g.2 h.counted f a.from in
     subst (SignalFits i counts) a.is (record {
@@ -64,29 +64,29 @@ as_signal_fits i counts (visibility.signal k type) suffix x h f q =
       counted = p.1;
       driven = λ n. refl;
     })
-as_signal_fits i counts (visibility.generic k) suffix x h f q = absurd cc
-as_signal_fits i counts (visibility.integer_constant k) suffix x h f q = absurd cc
-as_signal_fits i counts (visibility.generate_parameter k) suffix x h f q = absurd cc
-as_signal_fits i counts (visibility.loop_parameter k) suffix x h f q = absurd cc
-as_signal_fits i counts (visibility.variable k type) suffix x h f q = absurd cc
-as_signal_fits i counts (visibility.constant k kind vs) suffix x h f q = absurd cc
-as_signal_fits i counts (visibility.literal n count p) suffix x h f q = absurd cc
-as_signal_fits i counts (visibility.integer_type y) suffix x h f q = absurd cc
-as_signal_fits i counts (visibility.element_type y) suffix x h f q = absurd cc
-as_signal_fits i counts (visibility.vector_type k y) suffix x h f q = absurd cc
-as_signal_fits i counts (visibility.enumeration_type n count) suffix x h f q = absurd cc
-as_signal_fits i counts (visibility.function y) suffix x h f q = absurd cc
-as_signal_fits i counts (visibility.component k) suffix x h f q = absurd cc
-as_signal_fits i counts visibility.label suffix x h f q = absurd cc
-as_signal_fits i counts visibility.unfinished suffix x h f q = absurd cc
+as_signal_fits i counts at (visibility.generic k) suffix x h f q = absurd cc
+as_signal_fits i counts at (visibility.integer_constant k) suffix x h f q = absurd cc
+as_signal_fits i counts at (visibility.generate_parameter k) suffix x h f q = absurd cc
+as_signal_fits i counts at (visibility.loop_parameter k) suffix x h f q = absurd cc
+as_signal_fits i counts at (visibility.variable k type) suffix x h f q = absurd cc
+as_signal_fits i counts at (visibility.constant k kind vs) suffix x h f q = absurd cc
+as_signal_fits i counts at (visibility.literal n count p) suffix x h f q = absurd cc
+as_signal_fits i counts at (visibility.integer_type y) suffix x h f q = absurd cc
+as_signal_fits i counts at (visibility.element_type y) suffix x h f q = absurd cc
+as_signal_fits i counts at (visibility.vector_type k y) suffix x h f q = absurd cc
+as_signal_fits i counts at (visibility.enumeration_type n count) suffix x h f q = absurd cc
+as_signal_fits i counts at (visibility.function y) suffix x h f q = absurd cc
+as_signal_fits i counts at (visibility.component k) suffix x h f q = absurd cc
+as_signal_fits i counts at visibility.label suffix x h f q = absurd cc
+as_signal_fits i counts at visibility.unfinished suffix x h f q = absurd cc
 
 pub signal_fits : (i : Inside) (counts : Counts) (sight : Sight) (n : t.Name) (x : SignalName) → IsInside i counts sight → signal sight n ≡ Some x → SignalFits i counts x
 unfolding signal
 signal_fits i counts sight n x h q =
     let a = kept (is_none n.attribute) _ x q in
     let b = comes (typed_suffix sight n.suffix) _ x a.1 in
-    let c = comes (meaning sight n.identifier.text) (λ d. as_signal d b.value) x b.rest in
-    as_signal_fits i counts c.value b.value x (meant i counts sight h n.identifier.text c.value c.is) (suffix_fits n.suffix i counts sight b.value h b.is) c.rest
+    let c = comes (meaning sight n.identifier.text) (λ d. as_signal n.identifier.at d b.value) x b.rest in
+    as_signal_fits i counts n.identifier.at c.value b.value x (meant i counts sight h n.identifier.text c.value c.is) (suffix_fits n.suffix i counts sight b.value h b.is) c.rest
 
 pub record TargetFits (i : Inside) (counts : Counts) (x : SignalName) : Type 0 where
   pub fits : SignalFits i counts x
@@ -104,38 +104,38 @@ pub record VariableFits (i : Inside) (counts : Counts) (x : VariableName) : Type
   pub shape : (slice_get i.variables x.number >>= λ f. part_shape i f x.part) ≡ Some (type_shape x.type)
   pub counted : IsCounted counts x.type
 
-as_variable_fits : (i : Inside) (counts : Counts) (d : Meaning) (suffix : Suffix) (x : VariableName) → MeaningFits i counts d → SuffixFits i counts suffix
-    → as_variable d suffix ≡ Some x → VariableFits i counts x
-as_variable_fits i counts (visibility.variable k type) suffix x h f q =
-    let make : Part × ObjectType → VariableName = λ p. record { number = k; part = p.0; type = p.1 } in
+as_variable_fits : (i : Inside) (counts : Counts) (at : ℕ) (d : Meaning) (suffix : Suffix) (x : VariableName) → MeaningFits i counts d → SuffixFits i counts suffix
+    → as_variable at d suffix ≡ Some x → VariableFits i counts x
+as_variable_fits i counts at (visibility.variable k type) suffix x h f q =
+    let make : Part × ObjectType → VariableName = λ p. record { at = at; number = k; part = p.0; type = p.1 } in
     let a = mapped make (part_of type suffix) x q in
     let g = the_form i counts type (slice_get i.variables k) h in
     let p = part_of_fits i counts g.0 type suffix a.value g.2 h.counted f a.from in
     subst (VariableFits i counts) a.is (record { shape = ap (λ w. w >>= λ f. part_shape i f a.value.0) g.1 ∙ p.0; counted = p.1 })
-as_variable_fits i counts (visibility.port k mode kind) suffix x h f q = absurd cc
-as_variable_fits i counts (visibility.signal k type) suffix x h f q = absurd cc
-as_variable_fits i counts (visibility.generic k) suffix x h f q = absurd cc
-as_variable_fits i counts (visibility.integer_constant k) suffix x h f q = absurd cc
-as_variable_fits i counts (visibility.generate_parameter k) suffix x h f q = absurd cc
-as_variable_fits i counts (visibility.loop_parameter k) suffix x h f q = absurd cc
-as_variable_fits i counts (visibility.constant k kind vs) suffix x h f q = absurd cc
-as_variable_fits i counts (visibility.literal n count p) suffix x h f q = absurd cc
-as_variable_fits i counts (visibility.integer_type y) suffix x h f q = absurd cc
-as_variable_fits i counts (visibility.element_type y) suffix x h f q = absurd cc
-as_variable_fits i counts (visibility.vector_type k y) suffix x h f q = absurd cc
-as_variable_fits i counts (visibility.enumeration_type n count) suffix x h f q = absurd cc
-as_variable_fits i counts (visibility.function y) suffix x h f q = absurd cc
-as_variable_fits i counts (visibility.component k) suffix x h f q = absurd cc
-as_variable_fits i counts visibility.label suffix x h f q = absurd cc
-as_variable_fits i counts visibility.unfinished suffix x h f q = absurd cc
+as_variable_fits i counts at (visibility.port k mode kind) suffix x h f q = absurd cc
+as_variable_fits i counts at (visibility.signal k type) suffix x h f q = absurd cc
+as_variable_fits i counts at (visibility.generic k) suffix x h f q = absurd cc
+as_variable_fits i counts at (visibility.integer_constant k) suffix x h f q = absurd cc
+as_variable_fits i counts at (visibility.generate_parameter k) suffix x h f q = absurd cc
+as_variable_fits i counts at (visibility.loop_parameter k) suffix x h f q = absurd cc
+as_variable_fits i counts at (visibility.constant k kind vs) suffix x h f q = absurd cc
+as_variable_fits i counts at (visibility.literal n count p) suffix x h f q = absurd cc
+as_variable_fits i counts at (visibility.integer_type y) suffix x h f q = absurd cc
+as_variable_fits i counts at (visibility.element_type y) suffix x h f q = absurd cc
+as_variable_fits i counts at (visibility.vector_type k y) suffix x h f q = absurd cc
+as_variable_fits i counts at (visibility.enumeration_type n count) suffix x h f q = absurd cc
+as_variable_fits i counts at (visibility.function y) suffix x h f q = absurd cc
+as_variable_fits i counts at (visibility.component k) suffix x h f q = absurd cc
+as_variable_fits i counts at visibility.label suffix x h f q = absurd cc
+as_variable_fits i counts at visibility.unfinished suffix x h f q = absurd cc
 
 pub variable_fits : (i : Inside) (counts : Counts) (sight : Sight) (n : t.Name) (x : VariableName) → IsInside i counts sight → variable sight n ≡ Some x → VariableFits i counts x
 unfolding variable
 variable_fits i counts sight n x h q =
     let a = kept (is_none n.attribute) _ x q in
     let b = comes (typed_suffix sight n.suffix) _ x a.1 in
-    let c = comes (meaning sight n.identifier.text) (λ d. as_variable d b.value) x b.rest in
-    as_variable_fits i counts c.value b.value x (meant i counts sight h n.identifier.text c.value c.is) (suffix_fits n.suffix i counts sight b.value h b.is) c.rest
+    let c = comes (meaning sight n.identifier.text) (λ d. as_variable n.identifier.at d b.value) x b.rest in
+    as_variable_fits i counts n.identifier.at c.value b.value x (meant i counts sight h n.identifier.text c.value c.is) (suffix_fits n.suffix i counts sight b.value h b.is) c.rest
 
 -- ---- loops
 

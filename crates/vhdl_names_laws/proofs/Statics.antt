@@ -71,8 +71,8 @@ static_more i j h (e.generic k) t = below k i.generics j.generics h.generics t
 static_more i j h (e.Static.constant k) t = below k i.integers j.integers h.integers t
 static_more i j h (e.generate_parameter k) t = below k i.generates j.generates h.generates t
 static_more i j h (e.loop_parameter k) t = below k i.loops j.loops h.loops t
-static_more i j h (e.Static.negated s) t = static_more i j h s t
-static_more i j h (e.Static.binary op x y) t =
+static_more i j h (e.Static.negated at s) t = static_more i j h s t
+static_more i j h (e.Static.binary at op x y) t =
     let b = and_parts (static_fits i x) (static_fits i y) t in
     and_from (static_fits j x) (static_fits j y) (static_more i j h x b.0) (static_more i j h y b.1)
 

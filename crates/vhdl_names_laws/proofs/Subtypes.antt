@@ -5,7 +5,7 @@ use Rattle.std.specs.List.{slice_get}
 use Rattle.std.specs.Option.{option_map}
 use Rattle.std.proofs.lemmas.Bool.{and_parts, and_from}
 use Rattle.vhdl_tree.specs.Tree as t
-use Rattle.vhdl_tree.specs.Tree.{Expr}
+use Rattle.vhdl_tree.specs.Tree.{Ident, Expr}
 use Rattle.vhdl_names_rules.specs.declared.kind.ElementKind.{ElementKind}
 use Rattle.vhdl_names_rules.specs.declared.kind.ElementKind.TheVariants.{Element, LogicVector, Unsigned, OpenVector}
 use Rattle.vhdl_names_rules.specs.declared.kind.ObjectType.{ObjectType}
@@ -343,6 +343,10 @@ any_static_fits i counts sight None v h q = subst (λ v. static_default_fits i v
 any_static_fits i counts sight (Some d) v h q =
     let a = comes (static sight d) _ v q in
     subst (λ v. static_default_fits i v ≡ true) (some_same (Some a.value) v a.rest) (static_integer_fits i counts sight d a.value h a.is)
+
+-- whether an object fits doesn't hang on its name
+abbrev pub no_name : Ident
+no_name = record { at = 0; text = [] }
 
 -- an object of a subtype with a default
 pub object_is : (i : Inside) (counts : Counts) (sight : Sight) (s : Subtype) (d : Option t.Value) (v : Option Fixed) → IsInside i counts sight → SubtypeFits i counts s

@@ -46,8 +46,8 @@ added_declarations (d ∷ ds) i = added_declarations ds (with_declaration i d)
 
 -- no variables are declared
 no_variables_with : (i : Inside) (d : u.Declaration) → i.variables ≡ [] → (with_declaration i d).variables ≡ []
-no_variables_with i (u.Declaration.integer type n) h = h
-no_variables_with i (u.Declaration.constant f x) h = h
+no_variables_with i (u.Declaration.integer at type n) h = h
+no_variables_with i (u.Declaration.constant at f x) h = h
 no_variables_with i (u.Declaration.signal o) h = h
 
 no_variables : (ds : List u.Declaration) (i : Inside) → i.variables ≡ [] → (with_declarations i ds).variables ≡ []

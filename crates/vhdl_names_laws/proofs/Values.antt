@@ -125,11 +125,11 @@ condition_fits i counts sight d r h q =
 pub static_condition_fits : (i : Inside) (counts : Counts) (y : Typed) (r : StaticTest) → TypedFits i counts y → as_static_test y ≡ Some r → static_test_fits i r ≡ true
 static_condition_fits i counts (o.truth (e.Test.fixed t)) r h q = subst (λ r. static_test_fits i r ≡ true) (some_same t r q) h
 static_condition_fits i counts (o.truth (e.holds y)) r h q = absurd cc
-static_condition_fits i counts (o.truth (e.alike y z)) r h q = absurd cc
-static_condition_fits i counts (o.truth (e.unlike y z)) r h q = absurd cc
-static_condition_fits i counts (o.truth (e.Test.compared c y z)) r h q = absurd cc
-static_condition_fits i counts (o.truth (e.compared_to c y z)) r h q = absurd cc
-static_condition_fits i counts (o.truth (e.compared_with c y z)) r h q = absurd cc
+static_condition_fits i counts (o.truth (e.alike at y z)) r h q = absurd cc
+static_condition_fits i counts (o.truth (e.unlike at y z)) r h q = absurd cc
+static_condition_fits i counts (o.truth (e.Test.compared at c y z)) r h q = absurd cc
+static_condition_fits i counts (o.truth (e.compared_to at c y z)) r h q = absurd cc
+static_condition_fits i counts (o.truth (e.compared_with at c y z)) r h q = absurd cc
 static_condition_fits i counts (o.truth (e.edge c z)) r h q = absurd cc
 static_condition_fits i counts (o.truth (e.event z)) r h q = absurd cc
 static_condition_fits i counts (o.truth (e.Test.negated z)) r h q = absurd cc

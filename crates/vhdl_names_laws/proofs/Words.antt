@@ -13,7 +13,7 @@ use Rattle.vhdl_tree.specs.grammar.Declarations.{spell_declaration}
 use Rattle.vhdl_names_rules.specs.declared.operator.IntegerType.{IntegerType}
 use Rattle.vhdl_names_rules.specs.units.Units as u
 use Rattle.vhdl_names_rules.specs.Rules.{if_any}
-use Rattle.vhdl_names_rules.specs.Visibility.{Name, Declared, names_of, ends, Sight, meaning, Declares}
+use Rattle.vhdl_names_rules.specs.Visibility.{Declared, ends, Sight, meaning, Declares}
 use Rattle.vhdl_names_rules.specs.Expressions.{static}
 use Rattle.vhdl_names_rules.specs.Subtypes.{subtype, fixed_value, as_integer_type}
 use Rattle.vhdl_names_rules.specs.Declarations.{in_order, within, within_variables, as_kind, single_expression, port, signals, variables, constants_by, constants, enumeration}
@@ -68,9 +68,9 @@ all_in_order {A} {B} with_more declares P Q each_is (a ∷ as') sight x h q =
     both [] ys h g = g
     both (x ∷ xs) ys h g = (h.0, both xs ys h.1 g)
 
-for_names : {B : Type 0} (f : Name → B) (Q : B → Type 0) → ((n : Name) → IsWord n → Q (f n)) → (ns : List Ident) → NamesAreWords ns → AllByRecursion Q (map f (names_of ns))
+for_names : {B : Type 0} (f : Ident → B) (Q : B → Type 0) → ((n : Ident) → IsWord n.text → Q (f n)) → (ns : List Ident) → NamesAreWords ns → AllByRecursion Q (map f ns)
 for_names f Q is [] h = tt
-for_names f Q is (n ∷ ns) h = (is n.text h.0, for_names f Q is ns h.1)
+for_names f Q is (n ∷ ns) h = (is n h.0, for_names f Q is ns h.1)
 
 abbrev pub ObjectIsWord : u.Object → Type 0
 ObjectIsWord o = IsWord o.name
@@ -104,7 +104,7 @@ signals_named sight d x h q =
     subst (λ x. AllByRecursion IsNamed x.analysed) (some_same _ x c.rest) (for_names _ IsNamed (λ n g. g.some) d.names h)
 
 -- constants have no names behind analysis
-all_of_names : (f : Name → u.Declaration) → ((n : Name) → IsNamed (f n)) → (ns : List Name) → AllByRecursion IsNamed (map f ns)
+all_of_names : (f : Ident → u.Declaration) → ((n : Ident) → IsNamed (f n)) → (ns : List Ident) → AllByRecursion IsNamed (map f ns)
 all_of_names f is [] = tt
 all_of_names f is (n ∷ ns) = (is n, all_of_names f is ns)
 
@@ -113,12 +113,12 @@ constants_by_named sight d (Some type) x q =
     let a = kept (is_none d.subtype.range) _ x q in
     let b = comes (single_expression d.value) _ x a.1 in
     let c = comes (static (within sight d.names) b.value) _ x b.rest in
-    subst (λ x. AllByRecursion IsNamed x.analysed) (some_same _ x c.rest) (all_of_names _ (λ n. refl) (names_of d.names))
+    subst (λ x. AllByRecursion IsNamed x.analysed) (some_same _ x c.rest) (all_of_names _ (λ n. refl) d.names)
 constants_by_named sight d None x q =
     let a = comes (subtype (within sight d.names) d.subtype) _ x q in
     let b = comes (as_kind a.value.type) _ x a.rest in
     let c = comes (fixed_value (within sight d.names) a.value.type d.value) _ x b.rest in
-    subst (λ x. AllByRecursion IsNamed x.analysed) (some_same _ x c.rest) (all_of_names _ (λ n. refl) (names_of d.names))
+    subst (λ x. AllByRecursion IsNamed x.analysed) (some_same _ x c.rest) (all_of_names _ (λ n. refl) d.names)
 
 constants_named : (sight : Sight) (d : t.Constants) (x : Declares u.Declaration) → constants sight d ≡ Some x → AllByRecursion IsNamed x.analysed
 unfolding constants

@@ -1,5 +1,5 @@
 -- What names give is sound: what elaboration may take for granted of units that a file has. And it has units just where it breaks no rule.
-use Rattle.std.specs.Prelude.{◌≡◌, ℕ, ◌<◌, Bool, List, [], length, map, Some, None, IsTrue, IfSome, Contains}
+use Rattle.std.specs.Prelude.{◌≡◌, ℕ, ◌<◌, All, Bool, List, [], length, map, Some, None, IsTrue, IfSome, Contains}
 use Rattle.std.specs.List.{list_all}
 use Rattle.vhdl_lexer.specs.declared.token.Token.{Token}
 use Rattle.vhdl_lexer.specs.Cut.{Cuts, AreWithin}
@@ -11,6 +11,7 @@ use Rattle.vhdl_tree.specs.grammar.Units.{spell_file, IsFile}
 use Rattle.vhdl_names_rules.specs.declared.fault.NameProblem.{NameProblem}
 use Rattle.vhdl_names_rules.specs.units.Units as u
 use Rattle.vhdl_names_rules.specs.units.Units.{Units}
+use Rattle.vhdl_names_rules.specs.units.Bytes.{units_bytes}
 use Rattle.vhdl_names_rules.specs.Visibility.{Sight, Declares, are_distinct}
 use Rattle.vhdl_names_rules.specs.Operators.{Typed}
 use Rattle.vhdl_names_rules.specs.Expressions.{typed}
@@ -87,3 +88,12 @@ FaultsStandAtTokens = (f : File) → IsFile f → IfSome (broken.file f) (λ tol
 abbrev pub FaultsLieInTheText : Type 0
 FaultsLieInTheText = (source : List ℕ) (tokens : List Token) (f : File) → Cuts None 0 source tokens → Spells (spell_file f) (lexemes source tokens) [] → IsFile f
     → IfSome (broken.file f) (λ told. told.1 < length source)
+
+-- Each byte of the units of a file is one at which a token of the file starts,
+abbrev pub UnitsStandAtTokens : Type 0
+UnitsStandAtTokens = (f : File) (units : Units) → units_of f ≡ Some units → All (Contains (bytes_of f)) (units_bytes units)
+
+-- and lies in the text whose tokens the file spells.
+abbrev pub UnitsLieInTheText : Type 0
+UnitsLieInTheText = (source : List ℕ) (tokens : List Token) (f : File) (units : Units) → Cuts None 0 source tokens → Spells (spell_file f) (lexemes source tokens) []
+    → units_of f ≡ Some units → All (λ at. at < length source) (units_bytes units)

@@ -1,6 +1,6 @@
 //! Laws of soundness (`specs/Laws`), each the contract of a function that does nothing.
 
-ghost use Rattle.vhdl_names_laws.specs.Laws.{ExpressionsFit, StatementsFit, UnitsAreSound, PortsAreDistinct, UnitsAreNamed, SmallPortsAreDistinct, SpelledFilesHaveWords, ComponentsAreTexts, WellTypedFilesBreakNoRule, IllTypedFilesBreakARule, FaultsStandAtTokens, FaultsLieInTheText};
+ghost use Rattle.vhdl_names_laws.specs.Laws.{ExpressionsFit, StatementsFit, UnitsAreSound, PortsAreDistinct, UnitsAreNamed, SmallPortsAreDistinct, SpelledFilesHaveWords, ComponentsAreTexts, WellTypedFilesBreakNoRule, IllTypedFilesBreakARule, FaultsStandAtTokens, FaultsLieInTheText, UnitsStandAtTokens, UnitsLieInTheText};
 
 /// Each expression is what its type says: integers are in range, vectors have the shape of their kind, literals of an
 /// enumeration are below its count, and tests compare values of one shape.
@@ -58,4 +58,10 @@ pub fn ill_typed_files_break_a_rule()
 pub fn faults_lie_in_the_text()
     ensures token { FaultsStandAtTokens }
     ensures text { FaultsLieInTheText }
+{}
+
+/// What the units of a file have starts at a byte at which a token of the file starts, and so inside its text.
+pub fn units_lie_in_the_text()
+    ensures token { UnitsStandAtTokens }
+    ensures text { UnitsLieInTheText }
 {}

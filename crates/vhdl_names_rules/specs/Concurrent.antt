@@ -1,5 +1,5 @@
 -- Concurrent statements (IEEE 1076-2008, clause 11), with the declarations in sight.
-use Rattle.std.specs.Prelude.{List, [], ◌∷◌, ◌++◌, map, Option, Some, None, option_map}
+use Rattle.std.specs.Prelude.{ℕ, List, [], ◌∷◌, ◌++◌, map, Option, Some, None, option_map}
 use Rattle.vhdl_tree.specs.Tree as t
 use Rattle.vhdl_tree.specs.Tree.{Ident}
 use Rattle.vhdl_names_rules.specs.units.Statements as s
@@ -17,10 +17,10 @@ use Rattle.vhdl_names_rules.specs.Statements.{SignalName, signal, target, statem
 abbrev pub label_of : Option Ident → Option Name
 label_of = option_map (λ l. l.text)
 
--- a concurrent assignment is a process that is sensitive to what it reads (11.6)
-abbrev pub assigning : Option Ident → s.Statement → u.Concurrent
-assigning label statement =
-    u.process (record { label = label_of label; variables = []; sensitivity = u.as_read; body = s.step statement s.done })
+-- a concurrent assignment is a process that is sensitive to what it reads, and starts where the assignment does behind its label (11.6)
+abbrev pub assigning : (at : ℕ) → Option Ident → s.Statement → u.Concurrent
+assigning at label statement =
+    u.process (record { at = at; label = label_of label; variables = []; sensitivity = u.as_read; body = s.step statement s.done })
 
 -- ---- conditional and selected assignments (11.6)
 
@@ -47,15 +47,15 @@ branches sight x (b ∷ bs) o = do
   Some (s.branch c (alone y) rest)
 
 -- a value alone is assigned as it is
-abbrev pub assignment_body : Sight → SignalName → List t.Branch → Option t.Value → Option s.Statement
-assignment_body sight x [] (Some v) = assigned sight x v
-assignment_body sight x bs o = option_map s.if_of (branches sight x bs o)
+abbrev pub assignment_body : Sight → (at : ℕ) → SignalName → List t.Branch → Option t.Value → Option s.Statement
+assignment_body sight at x [] (Some v) = assigned sight x v
+assignment_body sight at x bs o = option_map (s.if_of at) (branches sight x bs o)
 
 unfoldable pub assignment : Sight → t.Assignment → Option u.Concurrent
 assignment sight a = do
   x ← target sight a.target
-  body ← assignment_body sight x a.branches a.otherwise
-  Some (assigning a.label body)
+  body ← assignment_body sight a.target.identifier.at x a.branches a.otherwise
+  Some (assigning a.target.identifier.at a.label body)
 
 -- with selector select target <= value when choices, .., as a case
 unfoldable pub selected : Sight → Option Ident → t.SelectedAssignment → Option u.Concurrent
@@ -66,7 +66,7 @@ selected sight label a = do
   choices ← covered sight by.0 (map (λ w. w.choices) a.waveforms)
   bodies ← each (λ w. option_map alone (assigned sight x w.value)) a.waveforms
   all ← arranged choices bodies
-  Some (assigning label (s.case_of by.1 all))
+  Some (assigning a.at label (s.case_of a.at by.1 all))
 
 -- ---- processes (11.3)
 
@@ -85,7 +85,7 @@ process sight label p = do
   rule Twice (are_distinct (statement_labels (t.statements_of p.statements)))
   body ← statements (with_variables sight vs.declared) (t.statements_of p.statements)
   rule WrongKind (label_ends label p.end_label)
-  Some (record { label = label_of label; variables = vs.analysed; sensitivity = on; body = body })
+  Some (record { at = p.at; label = label_of label; variables = vs.analysed; sensitivity = on; body = body })
 
 -- ---- the labels that stand directly among concurrent statements
 
@@ -107,10 +107,10 @@ abbrev pub sight_within : Sight → t.Scheme → Sight
 sight_within sight (t.for_each n r) = within_generate sight n
 sight_within sight (t.if_holds e) = sight
 
-abbrev pub generated : Sight → Name → t.Scheme → u.Concurrents → Option u.Concurrent
-generated sight label (t.for_each n r) body = option_map (λ range. u.generate_for label range body) (static_range sight r)
-generated sight label (t.if_holds e) body =
-    option_map (λ test. u.generate_if label test body) (typed sight e >>= as_static_test)
+abbrev pub generated : Sight → Name → (at : ℕ) → t.Scheme → u.Concurrents → Option u.Concurrent
+generated sight label at (t.for_each n r) body = option_map (λ range. u.generate_for at label range body) (static_range sight r)
+generated sight label at (t.if_holds e) body =
+    option_map (λ test. u.generate_if at label test body) (typed sight e >>= as_static_test)
 
 module _ (entities : List EntityView) where
   unfoldable mutual
@@ -123,7 +123,7 @@ module _ (entities : List EntityView) where
       rule WrongKind (ends label.text end)
       rule Twice (are_distinct (concurrent_labels cs))
       body ← concurrents (sight_within sight scheme) cs
-      generated sight label.text scheme body
+      generated sight label.text at scheme body
 
     pub concurrents : Sight → t.Concurrents → Option u.Concurrents
     concurrents sight t.no_concurrents = Some u.no_concurrents

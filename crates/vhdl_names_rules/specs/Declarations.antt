@@ -41,8 +41,8 @@ abbrev pub declared_as : (Meaning → Bool) → (ℕ → Meaning) → List Decla
 declared_as class meaning region ns = numbered meaning (count_of class region) (names_of ns)
 
 -- one thing for each name
-abbrev pub for_each : {A : Type 0} → (Name → A) → List Ident → List A
-for_each f ns = map f (names_of ns)
+abbrev pub for_each : {A : Type 0} → (Ident → A) → List Ident → List A
+for_each f ns = map f ns
 
 -- ---- generics and ports (6.5.2, 6.5.6.2)
 
@@ -54,7 +54,7 @@ generic sight g = do
   default ← if_any (static sight) g.default
   Some (record {
     declared = declared_as visibility.is_generic visibility.generic sight.region g.names;
-    analysed = for_each (λ n. record { type = type; default = default }) g.names;
+    analysed = for_each (λ n. record { at = n.at; type = type; default = default }) g.names;
   })
 
 -- ports are of the nine values
@@ -109,7 +109,7 @@ integer_constants sight d type = do
   value ← static (within sight d.names) e
   Some (record {
     declared = declared_as visibility.is_integer_constant visibility.integer_constant sight.region d.names;
-    analysed = for_each (λ n. u.Declaration.integer type value) d.names;
+    analysed = for_each (λ n. u.Declaration.integer n.at type value) d.names;
   })
 
 -- any other constant is of the nine values
@@ -120,7 +120,7 @@ other_constants sight d = do
   value ← fixed_value (within sight d.names) s.type d.value
   Some (record {
     declared = declared_as visibility.is_constant (λ k. visibility.constant k kind (declaring_literal value)) sight.region d.names;
-    analysed = for_each (λ n. u.Declaration.constant s.form value) d.names;
+    analysed = for_each (λ n. u.Declaration.constant n.at s.form value) d.names;
   })
 
 abbrev pub constants_by : Sight → t.Constants → Option IntegerType → Option (Declares u.Declaration)

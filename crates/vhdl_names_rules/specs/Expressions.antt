@@ -1,6 +1,6 @@
 -- The types of expressions (IEEE 1076-2008, clause 9): what an expression is, given the declarations in sight; None where a rule
 -- is broken. No rule comes before another.
-use Rattle.std.specs.Prelude.{◌==◌, Bool, true, false, List, [], ◌∷◌, Option, Some, None, option_map}
+use Rattle.std.specs.Prelude.{ℕ, ◌==◌, Bool, true, false, List, [], ◌∷◌, Option, Some, None, option_map}
 use Rattle.vhdl_tree.specs.declared.operator.Sign.{Sign}
 use Rattle.vhdl_tree.specs.declared.operator.Sign.TheVariants.{Plus, Minus}
 use Rattle.vhdl_tree.specs.Tree as t
@@ -24,9 +24,9 @@ as_integer (integer s) = Some s
 as_integer _ = None
 
 -- a sign stands before integers alone (9.2.6)
-abbrev pub signed : Sign → Static → Static
-signed Plus s = s
-signed Minus s = u.Static.negated s
+abbrev pub signed : (at : ℕ) → Sign → Static → Static
+signed at Plus s = s
+signed at Minus s = u.Static.negated at s
 
 -- in parentheses a character literal is no part of an edge test
 abbrev pub enclosed : Typed → Typed
@@ -47,13 +47,13 @@ unfoldable mutual
   -- literals (9.3.2)
   typed sight (t.integer at text) = option_map (λ n. integer (u.number n)) (number_of text)
   typed sight (t.character at c) = option_map (λ v. elements Element (u.character v)) (nine_of c)
-  typed sight (t.string at text) = option_map (λ vs. elements OpenVector (u.Vector.literal vs)) (values_of_string text)
-  typed sight (t.bits at text) = option_map (λ vs. elements OpenVector (u.Vector.literal vs)) (values_of_bits text)
+  typed sight (t.string at text) = option_map (λ vs. elements OpenVector (u.Vector.literal at vs)) (values_of_string text)
+  typed sight (t.bits at text) = option_map (λ vs. elements OpenVector (u.Vector.literal at vs)) (values_of_bits text)
   -- names (8), conversions and calls (9.3.4, 9.3.6)
   typed sight (t.named n suffix attribute) = do
     s ← typed_suffix sight suffix
     d ← meaning sight n.text
-    x ← denoted d s
+    x ← denoted n.at d s
     attributed attribute x
   typed sight (t.parens at e) = option_map enclosed (typed sight e)
   -- operators (9.2)
@@ -61,11 +61,11 @@ unfoldable mutual
   typed sight (t.signed sign at e) = do
     x ← typed sight e
     s ← as_integer x
-    Some (integer (signed sign s))
+    Some (integer (signed at sign s))
   typed sight (t.binary begins op at d e) = do
     x ← typed sight d
     y ← typed sight e
-    operated sight.numbers op x (beside d y)
+    operated sight.numbers at op x (beside d y)
 
   pub typed_suffix : Sight → t.Suffix → Option Suffix
   typed_suffix sight t.plain = Some plain

@@ -88,7 +88,7 @@ architecture entities e items a = do
 unfoldable pub unit : List EntityView → List DesignUnit → EntityView → Option u.Entity
 unit entities ds e = do
   a ← if_any (λ p. architecture entities e p.0 p.1) (architecture_of e.name ds)
-  Some (record { name = e.name; generics = e.interface.generics; ports = e.interface.ports; architecture = a })
+  Some (record { at = e.at; name = e.name; generics = e.interface.generics; ports = e.interface.ports; architecture = a })
 
 -- No two entities have one name, no entity has two architectures, and each architecture stands after its entity; instances may
 -- be of any entity of the file.

@@ -152,4 +152,4 @@ instance entities sight label i = do
   generics ← each (if_any (static sight)) gs
   ps ← associated (map (λ f. f.name) (filter_map port_formal e.interface.declared)) (all_of i.ports)
   ports ← port_actuals sight (filter_map port_formal e.interface.declared) ps
-  Some (record { label = label.text; unit = k; generics = generics; ports = ports })
+  Some (record { at = label.at; label = label.text; unit = k; generics = generics; ports = ports })

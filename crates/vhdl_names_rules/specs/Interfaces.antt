@@ -35,6 +35,8 @@ interface sight gs ps = do
 
 -- an entity as its architecture and its instances see it
 pub record EntityView : Type 0 where
+  -- where its name starts
+  pub at : ℕ
   pub name : Name
   -- what its context clauses bring in sight
   pub context : Context
@@ -52,6 +54,7 @@ entity items e architecture = do
   i ← interface (sight_of c []) e.generics e.ports
   rule WrongKind (ends e.name.text e.end_name)
   Some (record {
+    at = e.name.at;
     name = e.name.text;
     context = c;
     interface = i;

@@ -1,6 +1,6 @@
 -- What names in expressions are (IEEE 1076-2008, clause 8): objects with their indexed and slice names, conversions and calls of
 -- the packages' functions (9.3.4, 9.3.6), and the attribute 'event (16.2.4).
-use Rattle.std.specs.Prelude.{Bool, true, false, ◌&&◌, if◌then◌else◌, List, [], ◌∷◌, Option, Some, None, option_map, bytes_eq, codes}
+use Rattle.std.specs.Prelude.{ℕ, Bool, true, false, ◌&&◌, if◌then◌else◌, List, [], ◌∷◌, Option, Some, None, option_map, bytes_eq, codes}
 use Rattle.vhdl_values.specs.declared.kinds.Edge.{Edge}
 use Rattle.vhdl_tree.specs.Tree.{Ident}
 use Rattle.vhdl_names_rules.specs.declared.kind.ElementKind.{ElementKind}
@@ -41,8 +41,9 @@ part_of (Elements k) s = option_map (λ p. (p.0, Elements p.1)) (part k s)
 part_of (Enumeration e count) plain = Some (u.whole, Enumeration e count)
 part_of (Enumeration e count) _ = None
 
-abbrev pub place_of : Signal → Part → SignalPart
-place_of s p = record { signal = s; part = p }
+-- by the byte at which its name starts
+abbrev pub place_of : (at : ℕ) → Signal → Part → SignalPart
+place_of at s p = record { at = at; signal = s; part = p }
 
 abbrev pub if_plain : Suffix → Typed → Option Typed
 if_plain plain t = Some t
@@ -52,8 +53,8 @@ if_plain _ t = None
 abbrev pub read_by : (Part → Vector) → ElementKind → Suffix → Option Typed
 read_by object k s = option_map (λ p. elements p.1 (object p.0)) (part k s)
 
-abbrev pub read_signal : Signal → ElementKind → Suffix → Option Typed
-read_signal x k s = read_by (λ p. u.of_signal (place_of x p)) k s
+abbrev pub read_signal : (at : ℕ) → Signal → ElementKind → Suffix → Option Typed
+read_signal at x k s = read_by (λ p. u.of_signal (place_of at x p)) k s
 
 -- ---- conversions and calls
 
@@ -67,8 +68,8 @@ converted _ _ = None
 -- no loop's parameter stands in it
 abbrev pub is_static : Static → Bool
 is_static (u.loop_parameter k) = false
-is_static (u.Static.negated s) = is_static s
-is_static (u.Static.binary op s t) = is_static s && is_static t
+is_static (u.Static.negated at s) = is_static s
+is_static (u.Static.binary at op s t) = is_static s && is_static t
 is_static _ = true
 
 -- a signal of one element, or an element of one at a static index (8.1)
@@ -92,33 +93,34 @@ abbrev pub counted : (Vector → Static → Vector) → Suffix → Option Typed
 counted f (arguments b (elements Unsigned x ∷ integer n ∷ [])) = Some (elements Unsigned (f x n))
 counted f _ = None
 
-abbrev pub encoding : Suffix → Option Typed
-encoding (arguments b (integer n ∷ integer size ∷ [])) = Some (elements Unsigned (u.encoded n size))
-encoding _ = None
+abbrev pub encoding : (at : ℕ) → Suffix → Option Typed
+encoding at (arguments b (integer n ∷ integer size ∷ [])) = Some (elements Unsigned (u.encoded at n size))
+encoding at _ = None
 
-abbrev pub called : Function → Suffix → Option Typed
-called (EdgeCall e) = edge_of e
-called (ByCount op) = counted (u.counted op)
-called ToUnsigned = encoding
+-- the name of the function starts at this byte
+abbrev pub called : (at : ℕ) → Function → Suffix → Option Typed
+called at (EdgeCall e) = edge_of e
+called at (ByCount op) = counted (u.counted at op)
+called at ToUnsigned = encoding at
 
 -- ---- all names
 
--- what a name of this meaning is, with what follows it; types, components and labels are no values
-abbrev pub denoted : Meaning → Suffix → Option Typed
-denoted (visibility.generic k) s = if_plain s (integer (u.generic k))
-denoted (visibility.integer_constant k) s = if_plain s (integer (u.Static.constant k))
-denoted (visibility.generate_parameter k) s = if_plain s (integer (u.generate_parameter k))
-denoted (visibility.loop_parameter k) s = if_plain s (integer (u.loop_parameter k))
-denoted (visibility.port k mode kind) s = read_signal (u.port k) kind s
-denoted (visibility.signal k (Elements kind)) s = read_signal (u.Signal.signal k) kind s
-denoted (visibility.signal k (Enumeration e count)) s = if_plain s (enumerated e count (u.state_of (u.Signal.signal k)))
-denoted (visibility.variable k (Elements kind)) s = read_by (u.of_variable k) kind s
-denoted (visibility.variable k (Enumeration e count)) s = if_plain s (enumerated e count (u.state_of_variable k))
-denoted (visibility.constant k kind values) s = read_by (u.of_constant k) kind s
-denoted (visibility.literal e count p) s = if_plain s (enumerated e count (u.position p))
-denoted (visibility.vector_type k is_resolved) s = converted k s
-denoted (visibility.function f) s = called f s
-denoted _ s = None
+-- what a name of this meaning is at this byte, with what follows it; types, components and labels are no values
+abbrev pub denoted : (at : ℕ) → Meaning → Suffix → Option Typed
+denoted at (visibility.generic k) s = if_plain s (integer (u.generic k))
+denoted at (visibility.integer_constant k) s = if_plain s (integer (u.Static.constant k))
+denoted at (visibility.generate_parameter k) s = if_plain s (integer (u.generate_parameter k))
+denoted at (visibility.loop_parameter k) s = if_plain s (integer (u.loop_parameter k))
+denoted at (visibility.port k mode kind) s = read_signal at (u.port k) kind s
+denoted at (visibility.signal k (Elements kind)) s = read_signal at (u.Signal.signal k) kind s
+denoted at (visibility.signal k (Enumeration e count)) s = if_plain s (enumerated e count (u.state_of (u.Signal.signal k)))
+denoted at (visibility.variable k (Elements kind)) s = read_by (u.of_variable at k) kind s
+denoted at (visibility.variable k (Enumeration e count)) s = if_plain s (enumerated e count (u.state_of_variable k))
+denoted at (visibility.constant k kind values) s = read_by (u.of_constant at k) kind s
+denoted at (visibility.literal e count p) s = if_plain s (enumerated e count (u.position p))
+denoted at (visibility.vector_type k is_resolved) s = converted k s
+denoted at (visibility.function f) s = called at f s
+denoted at _ s = None
 
 -- the attribute 'event; no other is offered
 abbrev pub attributed : Option Ident → Typed → Option Typed

@@ -56,10 +56,10 @@ is_number _ = false
 abbrev pub are_numbers : ElementKind → ElementKind → Bool
 are_numbers j k = if is_number j then is_number k else false
 
--- ---- logical operators (9.2.2)
+-- ---- logical operators (9.2.2). Each operator is told at the byte at which it starts.
 
-abbrev pub binary : VectorOperator → Vector → Vector → ElementKind → Typed
-binary op v w kind = elements kind (u.Vector.binary op v w)
+abbrev pub binary : (at : ℕ) → VectorOperator → Vector → Vector → ElementKind → Typed
+binary at op v w kind = elements kind (u.Vector.binary at op v w)
 
 -- truth over integers alone stays so
 abbrev pub both : Logic → Test → Test → Test
@@ -71,10 +71,10 @@ negated (u.fixed t) = u.fixed (u.StaticTest.negated t)
 negated t = u.Test.negated t
 
 -- and or nand nor xor xnor: elements, vectors of one kind, or truths
-abbrev pub logical : Logic → Typed → Typed → Option Typed
-logical op (elements j x) (elements k y) = option_map (binary (v.Logical op) x y) (common_kind j k)
-logical op (truth s) (truth t) = Some (truth (both op s t))
-logical _ _ _ = None
+abbrev pub logical : (at : ℕ) → Logic → Typed → Typed → Option Typed
+logical at op (elements j x) (elements k y) = option_map (binary at (v.Logical op) x y) (common_kind j k)
+logical at op (truth s) (truth t) = Some (truth (both op s t))
+logical at _ _ _ = None
 
 -- not: likewise
 abbrev pub inverse : Typed → Option Typed
@@ -84,83 +84,83 @@ inverse _ = None
 
 -- ---- concatenation (9.2.5)
 
-abbrev pub concatenated : Typed → Typed → Option Typed
-concatenated (elements j x) (elements k y) = option_map (binary v.Concatenate x y) (joined_kind j k)
-concatenated _ _ = None
+abbrev pub concatenated : (at : ℕ) → Typed → Typed → Option Typed
+concatenated at (elements j x) (elements k y) = option_map (binary at v.Concatenate x y) (joined_kind j k)
+concatenated at _ _ = None
 
 -- ---- arithmetic operators (9.2.5, 9.2.7)
 
 -- / mod rem: integers
-abbrev pub integral : Arithmetic → Typed → Typed → Option Typed
-integral op (integer s) (integer t) = Some (integer (u.Static.binary op s t))
-integral _ _ _ = None
+abbrev pub integral : (at : ℕ) → Arithmetic → Typed → Typed → Option Typed
+integral at op (integer s) (integer t) = Some (integer (u.Static.binary at op s t))
+integral at _ _ _ = None
 
 -- + - *: integers; numbers; a number and an integer. Numbers need the operators of numeric_std in sight
-abbrev pub arithmetic : (numbers : Bool) → Arithmetic → Numeric → Typed → Typed → Option Typed
-arithmetic numbers op by (integer s) (integer t) = Some (integer (u.Static.binary op s t))
-arithmetic numbers op by (elements j x) (elements k y) = do
+abbrev pub arithmetic : (numbers : Bool) → (at : ℕ) → Arithmetic → Numeric → Typed → Typed → Option Typed
+arithmetic numbers at op by (integer s) (integer t) = Some (integer (u.Static.binary at op s t))
+arithmetic numbers at op by (elements j x) (elements k y) = do
   rule NotVisible numbers
-  given_that TypeMismatch (are_numbers j k) (elements Unsigned (u.Vector.binary (v.Arithmetic by) x y))
-arithmetic numbers op by (elements j x) (integer t) = do
+  given_that TypeMismatch (are_numbers j k) (elements Unsigned (u.Vector.binary at (v.Arithmetic by) x y))
+arithmetic numbers at op by (elements j x) (integer t) = do
   rule NotVisible numbers
-  given_that TypeMismatch (is_number j) (elements Unsigned (u.with_integer by x t))
-arithmetic numbers op by (integer s) (elements k y) = do
+  given_that TypeMismatch (is_number j) (elements Unsigned (u.with_integer at by x t))
+arithmetic numbers at op by (integer s) (elements k y) = do
   rule NotVisible numbers
-  given_that TypeMismatch (is_number k) (elements Unsigned (u.integer_with by s y))
-arithmetic numbers op by _ _ = None
+  given_that TypeMismatch (is_number k) (elements Unsigned (u.integer_with at by s y))
+arithmetic numbers at op by _ _ = None
 
 -- ---- relations (9.2.3)
 
-abbrev pub integers_compared : Cmp → Static → Static → Typed
-integers_compared op s t = truth (u.fixed (u.StaticTest.compared op s t))
+abbrev pub integers_compared : (at : ℕ) → Cmp → Static → Static → Typed
+integers_compared at op s t = truth (u.fixed (u.StaticTest.compared at op s t))
 
 -- = and /= of one kind: numbers are compared as numbers, all else by its values
-abbrev pub equal_by : Cmp → (Value → Value → Test) → Vector → Vector → ElementKind → Typed
-equal_by op same x y Unsigned = truth (u.Test.compared op x y)
-equal_by op same x y _ = truth (same (u.elements x) (u.elements y))
+abbrev pub equal_by : (at : ℕ) → Cmp → (Value → Value → Test) → Vector → Vector → ElementKind → Typed
+equal_by at op same x y Unsigned = truth (u.Test.compared at op x y)
+equal_by at op same x y _ = truth (same (u.elements x) (u.elements y))
 
 -- = and /=: integers; one kind; a number and an integer; one enumeration
-abbrev pub equality : Cmp → (Value → Value → Test) → Typed → Typed → Option Typed
-equality op same (integer s) (integer t) = Some (integers_compared op s t)
-equality op same (elements j x) (elements k y) = option_map (equal_by op same x y) (common_kind j k)
-equality op same (elements Unsigned x) (integer t) = Some (truth (u.compared_to op x t))
-equality op same (integer s) (elements Unsigned y) = Some (truth (u.compared_with op s y))
-equality op same (enumerated d m x) (enumerated e n y) = given_that TypeMismatch (d == e) (truth (same x y))
-equality op same _ _ = None
+abbrev pub equality : (at : ℕ) → Cmp → (Value → Value → Test) → Typed → Typed → Option Typed
+equality at op same (integer s) (integer t) = Some (integers_compared at op s t)
+equality at op same (elements j x) (elements k y) = option_map (equal_by at op same x y) (common_kind j k)
+equality at op same (elements Unsigned x) (integer t) = Some (truth (u.compared_to at op x t))
+equality at op same (integer s) (elements Unsigned y) = Some (truth (u.compared_with at op s y))
+equality at op same (enumerated d m x) (enumerated e n y) = given_that TypeMismatch (d == e) (truth (same x y))
+equality at op same _ _ = None
 
 -- < <= > >=: integers; numbers; a number and an integer
-abbrev pub ordering : (numbers : Bool) → Cmp → Typed → Typed → Option Typed
-ordering numbers op (integer s) (integer t) = Some (integers_compared op s t)
-ordering numbers op (elements j x) (elements k y) = do
+abbrev pub ordering : (numbers : Bool) → (at : ℕ) → Cmp → Typed → Typed → Option Typed
+ordering numbers at op (integer s) (integer t) = Some (integers_compared at op s t)
+ordering numbers at op (elements j x) (elements k y) = do
   rule NotVisible numbers
-  given_that LeftOut (are_numbers j k) (truth (u.Test.compared op x y))
-ordering numbers op (elements j x) (integer t) = do
+  given_that LeftOut (are_numbers j k) (truth (u.Test.compared at op x y))
+ordering numbers at op (elements j x) (integer t) = do
   rule NotVisible numbers
-  given_that LeftOut (is_number j) (truth (u.compared_to op x t))
-ordering numbers op (integer s) (elements k y) = do
+  given_that LeftOut (is_number j) (truth (u.compared_to at op x t))
+ordering numbers at op (integer s) (elements k y) = do
   rule NotVisible numbers
-  given_that LeftOut (is_number k) (truth (u.compared_with op s y))
-ordering numbers op _ _ = None
+  given_that LeftOut (is_number k) (truth (u.compared_with at op s y))
+ordering numbers at op _ _ = None
 
 -- ---- all binary operators
 
-abbrev pub operated : (numbers : Bool) → Operator → Typed → Typed → Option Typed
-operated numbers o.And = logical l.And
-operated numbers o.Or = logical l.Or
-operated numbers o.Xor = logical l.Xor
-operated numbers o.Xnor = logical l.Xnor
-operated numbers o.Nand = logical l.Nand
-operated numbers o.Nor = logical l.Nor
-operated numbers o.Equal = equality c.Eq u.alike
-operated numbers o.NotEqual = equality c.Ne u.unlike
-operated numbers o.Less = ordering numbers c.Lt
-operated numbers o.LessEqual = ordering numbers c.Le
-operated numbers o.Greater = ordering numbers c.Gt
-operated numbers o.GreaterEqual = ordering numbers c.Ge
-operated numbers o.Add = arithmetic numbers a.Add n.Add
-operated numbers o.Subtract = arithmetic numbers a.Subtract n.Subtract
-operated numbers o.Concatenate = concatenated
-operated numbers o.Multiply = arithmetic numbers a.Multiply n.Multiply
-operated numbers o.Divide = integral a.Divide
-operated numbers o.Modulo = integral a.Modulo
-operated numbers o.Remainder = integral a.Remainder
+abbrev pub operated : (numbers : Bool) → (at : ℕ) → Operator → Typed → Typed → Option Typed
+operated numbers at o.And = logical at l.And
+operated numbers at o.Or = logical at l.Or
+operated numbers at o.Xor = logical at l.Xor
+operated numbers at o.Xnor = logical at l.Xnor
+operated numbers at o.Nand = logical at l.Nand
+operated numbers at o.Nor = logical at l.Nor
+operated numbers at o.Equal = equality at c.Eq (u.alike at)
+operated numbers at o.NotEqual = equality at c.Ne (u.unlike at)
+operated numbers at o.Less = ordering numbers at c.Lt
+operated numbers at o.LessEqual = ordering numbers at c.Le
+operated numbers at o.Greater = ordering numbers at c.Gt
+operated numbers at o.GreaterEqual = ordering numbers at c.Ge
+operated numbers at o.Add = arithmetic numbers at a.Add n.Add
+operated numbers at o.Subtract = arithmetic numbers at a.Subtract n.Subtract
+operated numbers at o.Concatenate = concatenated at
+operated numbers at o.Multiply = arithmetic numbers at a.Multiply n.Multiply
+operated numbers at o.Divide = integral at a.Divide
+operated numbers at o.Modulo = integral at a.Modulo
+operated numbers at o.Remainder = integral at a.Remainder

@@ -25,13 +25,13 @@ pub record SignalName : Type 0 where
   pub mode : Option Mode
   pub type : ObjectType
 
-abbrev pub named_part : Signal → Option Mode → Part × ObjectType → SignalName
-named_part x mode p = record { place = place_of x p.0; mode = mode; type = p.1 }
+abbrev pub named_part : (at : ℕ) → Signal → Option Mode → Part × ObjectType → SignalName
+named_part at x mode p = record { place = place_of at x p.0; mode = mode; type = p.1 }
 
-abbrev pub as_signal : Meaning → Suffix → Option SignalName
-as_signal (visibility.port k mode kind) suffix = option_map (named_part (u.port k) (Some mode)) (part_of (Elements kind) suffix)
-as_signal (visibility.signal k type) suffix = option_map (named_part (u.Signal.signal k) None) (part_of type suffix)
-as_signal _ suffix = None
+abbrev pub as_signal : (at : ℕ) → Meaning → Suffix → Option SignalName
+as_signal at (visibility.port k mode kind) suffix = option_map (named_part at (u.port k) (Some mode)) (part_of (Elements kind) suffix)
+as_signal at (visibility.signal k type) suffix = option_map (named_part at (u.Signal.signal k) None) (part_of type suffix)
+as_signal at _ suffix = None
 
 -- the signal that a name is
 unfoldable pub signal : Sight → t.Name → Option SignalName
@@ -39,7 +39,7 @@ signal sight n = do
   rule LeftOut (is_none n.attribute)
   suffix ← typed_suffix sight n.suffix
   d ← meaning sight n.identifier.text
-  as_signal d suffix
+  as_signal n.identifier.at d suffix
 
 -- an in port is never assigned (6.5.2)
 abbrev pub is_input : Option Mode → Bool
@@ -54,15 +54,17 @@ target sight n = do
   rule WriteOfIn (not (is_input x.mode))
   Some x
 
--- a variable, or part of one
+-- a variable, or part of one, and where its name starts
 pub record VariableName : Type 0 where
+  pub at : ℕ
   pub number : ℕ
   pub part : Part
   pub type : ObjectType
 
-abbrev pub as_variable : Meaning → Suffix → Option VariableName
-as_variable (visibility.variable k type) suffix = option_map (λ p. record { number = k; part = p.0; type = p.1 }) (part_of type suffix)
-as_variable _ suffix = None
+abbrev pub as_variable : (at : ℕ) → Meaning → Suffix → Option VariableName
+as_variable at (visibility.variable k type) suffix =
+    option_map (λ p. record { at = at; number = k; part = p.0; type = p.1 }) (part_of type suffix)
+as_variable at _ suffix = None
 
 -- the target of a variable assignment (10.6)
 unfoldable pub variable : Sight → t.Name → Option VariableName
@@ -70,7 +72,7 @@ variable sight n = do
   rule LeftOut (is_none n.attribute)
   suffix ← typed_suffix sight n.suffix
   d ← meaning sight n.identifier.text
-  as_variable d suffix
+  as_variable n.identifier.at d suffix
 
 -- ---- statements
 
@@ -92,13 +94,13 @@ unfoldable mutual
   statement sight label (t.variable_assigned n v) = do
     x ← variable sight n
     g ← value_given sight x.type v
-    Some (s.set x.number x.part g)
+    Some (s.set x.at x.number x.part g)
   -- if (10.8)
   statement sight label (t.if_of at bs o end) = do
     rule WrongKind (label_ends label end)
     last ← otherwise sight o
     branches ← conditionals sight last bs
-    Some (s.if_of branches)
+    Some (s.if_of at branches)
   -- case (10.9)
   statement sight label (t.case_of at e alts end) = do
     rule WrongKind (label_ends label end)
@@ -107,13 +109,13 @@ unfoldable mutual
     choices ← covered sight by.0 (choice_lists alts)
     bodies ← alternatives sight alts
     all ← arranged choices bodies
-    Some (s.case_of by.1 all)
+    Some (s.case_of at by.1 all)
   -- a for loop (10.10); its parameter's range has the outer names in sight
   statement sight label (t.for_of at n r body end) = do
     rule WrongKind (label_ends label end)
     range ← static_range sight r
     turn ← statements (within_loop sight n) body
-    Some (s.for_of range turn)
+    Some (s.for_of at range turn)
 
   pub statements : Sight → t.Statements → Option s.Statements
   statements sight t.done = Some s.done

@@ -2,7 +2,7 @@
 use Rattle.std.specs.Prelude.{◌==◌, Bool, false, List, [], ◌∷◌, Option, Some, None, option_map}
 use Rattle.vhdl_values.specs.declared.scalar.Nine.{Nine}
 use Rattle.vhdl_tree.specs.Tree as t
-use Rattle.vhdl_tree.specs.Tree.{Expr}
+use Rattle.vhdl_tree.specs.Tree.{Ident, Expr}
 use Rattle.vhdl_names_rules.specs.declared.kind.ElementKind.{ElementKind}
 use Rattle.vhdl_names_rules.specs.declared.kind.ElementKind.TheVariants.{Element, LogicVector, Unsigned}
 use Rattle.vhdl_names_rules.specs.declared.kind.ObjectType.{ObjectType}
@@ -15,7 +15,7 @@ use Rattle.vhdl_names_rules.specs.units.Units.{Form, Fixed, Object}
 use Rattle.vhdl_names_rules.specs.declared.fault.NameProblem.TheVariants.{TypeMismatch}
 use Rattle.vhdl_names_rules.specs.Rules.{◌>>=◌, ◌>>◌, rule, if_any, given_that}
 use Rattle.vhdl_names_rules.specs.Visibility as visibility
-use Rattle.vhdl_names_rules.specs.Visibility.{Name, Meaning, Sight, meaning}
+use Rattle.vhdl_names_rules.specs.Visibility.{Meaning, Sight, meaning}
 use Rattle.vhdl_names_rules.specs.Literals.{nine_of, values_of_string, values_of_bits}
 use Rattle.vhdl_names_rules.specs.Operators.{Typed, integer}
 use Rattle.vhdl_names_rules.specs.Expressions.{typed_each, static_range, is_vector}
@@ -106,5 +106,5 @@ declaring_literal _ = None
 
 -- ---- objects of one declaration: its names, with one type and one default
 
-abbrev pub object : Subtype → Option Fixed → Name → Object
-object s default n = record { name = n; form = s.form; is_resolved = s.is_resolved; default = default }
+abbrev pub object : Subtype → Option Fixed → Ident → Object
+object s default n = record { at = n.at; name = n.text; form = s.form; is_resolved = s.is_resolved; default = default }

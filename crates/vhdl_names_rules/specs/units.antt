@@ -2,3 +2,4 @@
 pub mod Expressions
 pub mod Statements
 pub mod Units
+pub mod Bytes

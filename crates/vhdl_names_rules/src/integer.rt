@@ -100,7 +100,7 @@ fn chain(start: Box<StaticStart>, links: Vec<StaticLink>) -> Static
 impl Static {
     /// `-operand`, whose sign starts at byte `at`. It takes the memory of a box.
     pub fn negated(alloc: Global, at: usize, operand: Static) -> Result<Static, AllocError>
-        ensures { IfOk result (λ s. static_view s ≡ units.Static.negated (static_view operand)) }
+        ensures { IfOk result (λ s. static_view s ≡ units.Static.negated at (static_view operand)) }
     {
         Ok(Static::Negated(at, Box::new(alloc, operand)?))
     }
@@ -114,7 +114,7 @@ impl Static {
         at: usize,
         operand: Static,
     ) -> Result<Static, AllocError>
-        ensures { IfOk result (λ s. static_view s ≡ units.Static.binary operator (static_view self) (static_view operand)) }
+        ensures { IfOk result (λ s. static_view s ≡ units.Static.binary at operator (static_view self) (static_view operand)) }
     {
         let link = StaticLink {
             operator,

@@ -237,7 +237,7 @@ impl StaticTest {
 impl Test {
     /// Equality of two values, by `=` at byte `at`. It takes the memory of two boxes, as `unlike` does.
     pub fn alike(alloc: Global, at: usize, left: Value, right: Value) -> Result<Test, AllocError>
-        ensures { IfOk result (λ t. test_view t ≡ units.alike (value_view left) (value_view right)) }
+        ensures { IfOk result (λ t. test_view t ≡ units.alike at (value_view left) (value_view right)) }
     {
         let left = Box::new(alloc, left)?;
         Ok(Test::Alike(at, left, Box::new(alloc, right)?))
@@ -245,7 +245,7 @@ impl Test {
 
     /// Its negation, by `/=` at byte `at`.
     pub fn unlike(alloc: Global, at: usize, left: Value, right: Value) -> Result<Test, AllocError>
-        ensures { IfOk result (λ t. test_view t ≡ units.unlike (value_view left) (value_view right)) }
+        ensures { IfOk result (λ t. test_view t ≡ units.unlike at (value_view left) (value_view right)) }
     {
         let left = Box::new(alloc, left)?;
         Ok(Test::Unlike(at, left, Box::new(alloc, right)?))
@@ -259,7 +259,7 @@ impl Test {
         left: Vector,
         right: Vector,
     ) -> Result<Test, AllocError>
-        ensures { IfOk result (λ t. test_view t ≡ units.Test.compared comparison (vector_view left) (vector_view right)) }
+        ensures { IfOk result (λ t. test_view t ≡ units.Test.compared at comparison (vector_view left) (vector_view right)) }
     {
         let left = Box::new(alloc, left)?;
         Ok(Test::Compared(comparison, at, left, Box::new(alloc, right)?))
@@ -273,7 +273,7 @@ impl Test {
         left: Vector,
         right: Static,
     ) -> Result<Test, AllocError>
-        ensures { IfOk result (λ t. test_view t ≡ units.compared_to comparison (vector_view left) (static_view right)) }
+        ensures { IfOk result (λ t. test_view t ≡ units.compared_to at comparison (vector_view left) (static_view right)) }
     {
         let left = Box::new(alloc, left)?;
         Ok(Test::ComparedTo(comparison, at, left, right))
@@ -287,7 +287,7 @@ impl Test {
         left: Static,
         right: Vector,
     ) -> Result<Test, AllocError>
-        ensures { IfOk result (λ t. test_view t ≡ units.compared_with comparison (static_view left) (vector_view right)) }
+        ensures { IfOk result (λ t. test_view t ≡ units.compared_with at comparison (static_view left) (vector_view right)) }
     {
         let right = Box::new(alloc, right)?;
         Ok(Test::ComparedWith(comparison, at, left, right))

@@ -193,7 +193,7 @@ impl Vector {
         integer: Static,
         number: Vector,
     ) -> Result<Vector, AllocError>
-        ensures { IfOk result (λ v. vector_view v ≡ units.integer_with operator (static_view integer) (vector_view number)) }
+        ensures { IfOk result (λ v. vector_view v ≡ units.integer_with at operator (static_view integer) (vector_view number)) }
     {
         Ok(Vector::IntegerWith(operator, at, integer, Box::new(alloc, number)?))
     }

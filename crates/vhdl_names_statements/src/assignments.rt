@@ -42,7 +42,7 @@ fn assigning(
     label: &Option<Identifier>,
     statement: Statement,
 ) -> Result<Process, AllocError>
-    ensures { IfOk result (λ p. one_process p ≡ rules.assigning (option_map tree.ident_view label.now) (views.statement_view statement)) }
+    ensures { IfOk result (λ p. one_process p ≡ rules.assigning at (option_map tree.ident_view label.now) (views.statement_view statement)) }
 {
     let statements = single(alloc, statement)?;
     let label = copied_label(alloc, label)?;

@@ -153,7 +153,7 @@ fn if_statement(
     conditional: &syntax::If,
 ) -> Result<Statement, NameFault>
     ensures given { Gives views.statement_view
-        (steps.conditional (sight_view sight.old) (option_map tree.ident_view label.now) (tree.conditionals_view (out-If conditional.now).branches)
+        (steps.conditional (sight_view sight.old) (option_map tree.ident_view label.now) (out-If conditional.now).at (tree.conditionals_view (out-If conditional.now).branches)
         (tree.option_sequentials_view (out-If conditional.now).otherwise) (tree.option_ident_view (out-If conditional.now).end_label)) result }
     ensures kept { sight_view sight.new ≡ sight_view sight.old }
     ensures told { IfErr result (Tells (broken.statement (sight_view sight.old) (option_map tree.ident_view label.now) (tree.if_view conditional.now))) }
@@ -223,7 +223,7 @@ fn case_statement(
     case: &syntax::Case,
 ) -> Result<Statement, NameFault>
     ensures given { Gives views.statement_view
-        (cases.selection (sight_view sight.old) (option_map tree.ident_view label.now) (tree.view (out-Case case.now).selector)
+        (cases.selection (sight_view sight.old) (option_map tree.ident_view label.now) (out-Case case.now).at (tree.view (out-Case case.now).selector)
         (tree.alternatives_view (out-Case case.now).alternatives) (tree.option_ident_view (out-Case case.now).end_label)) result }
     ensures kept { sight_view sight.new ≡ sight_view sight.old }
     ensures told { IfErr result (Tells (broken.statement (sight_view sight.old) (option_map tree.ident_view label.now) (tree.case_view case.now))) }
@@ -303,7 +303,7 @@ fn for_loop(
     repeated: &syntax::For,
 ) -> Result<Statement, NameFault>
     ensures given { Gives views.statement_view
-        (steps.repetition (sight_view sight.old) (option_map tree.ident_view label.now) (tree.ident_view (out-For repeated.now).parameter)
+        (steps.repetition (sight_view sight.old) (option_map tree.ident_view label.now) (out-For repeated.now).at (tree.ident_view (out-For repeated.now).parameter)
         (tree.range_view (out-For repeated.now).range) (tree.sequentials_view (out-For repeated.now).statements) (tree.option_ident_view (out-For repeated.now).end_label)) result }
     ensures kept { sight_view sight.new ≡ sight_view sight.old }
     ensures told { IfErr result (Tells (broken.statement (sight_view sight.old) (option_map tree.ident_view label.now) (tree.for_view repeated.now))) }

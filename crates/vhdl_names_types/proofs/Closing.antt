@@ -34,14 +34,14 @@ no_character (v.Counted' at op b x s) other = refl
 
 pub enclosed_element : (x : u.Vector) → expressions.enclosed (elements Element x) ≡ elements Element (closed x)
 enclosed_element (u.of_signal p) = refl
-enclosed_element (u.of_variable n p) = refl
-enclosed_element (u.of_constant n p) = refl
+enclosed_element (u.of_variable at n p) = refl
+enclosed_element (u.of_constant at n p) = refl
 enclosed_element (u.character c) = refl
 enclosed_element (u.enclosed_character c) = refl
-enclosed_element (u.Vector.literal cs) = refl
+enclosed_element (u.Vector.literal at cs) = refl
 enclosed_element (u.Vector.inverse y) = refl
-enclosed_element (u.Vector.binary op y z) = refl
-enclosed_element (u.with_integer op y s) = refl
-enclosed_element (u.integer_with op s y) = refl
-enclosed_element (u.Vector.encoded s t) = refl
-enclosed_element (u.counted op y s) = refl
+enclosed_element (u.Vector.binary at op y z) = refl
+enclosed_element (u.with_integer at op y s) = refl
+enclosed_element (u.integer_with at op s y) = refl
+enclosed_element (u.Vector.encoded at s t) = refl
+enclosed_element (u.counted at op y s) = refl

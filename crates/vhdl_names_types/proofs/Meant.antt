@@ -178,47 +178,47 @@ pub counted_two : (f : u.Vector → u.Static → u.Vector) (b : Bool) (xs : List
     rules.counted f (arguments b (map typed_view xs)) ≡ counted_by f (counting (option_map both_views (two xs)))
 counted_two f b xs = count_two f b (map typed_view xs) ∙ ap (λ p. counted_by f (counting p)) (two_map xs)
 
-encode_two : (b : Bool) (xs : List o.Typed) → rules.encoding (arguments b xs) ≡ encoded_by (two xs)
-encode_two b [] = refl
-encode_two b (integer s ∷ []) = refl
-encode_two b (integer s ∷ integer t ∷ []) = refl
-encode_two b (integer s ∷ integer t ∷ z ∷ zs) = refl
-encode_two b (integer s ∷ elements k y ∷ []) = refl
-encode_two b (integer s ∷ elements k y ∷ z ∷ zs) = refl
-encode_two b (integer s ∷ enumerated e n y ∷ []) = refl
-encode_two b (integer s ∷ enumerated e n y ∷ z ∷ zs) = refl
-encode_two b (integer s ∷ truth y ∷ []) = refl
-encode_two b (integer s ∷ truth y ∷ z ∷ zs) = refl
-encode_two b (elements j x ∷ []) = refl
-encode_two b (elements j x ∷ integer t ∷ []) = refl
-encode_two b (elements j x ∷ integer t ∷ z ∷ zs) = refl
-encode_two b (elements j x ∷ elements k y ∷ []) = refl
-encode_two b (elements j x ∷ elements k y ∷ z ∷ zs) = refl
-encode_two b (elements j x ∷ enumerated e n y ∷ []) = refl
-encode_two b (elements j x ∷ enumerated e n y ∷ z ∷ zs) = refl
-encode_two b (elements j x ∷ truth y ∷ []) = refl
-encode_two b (elements j x ∷ truth y ∷ z ∷ zs) = refl
-encode_two b (enumerated d m x ∷ []) = refl
-encode_two b (enumerated d m x ∷ integer t ∷ []) = refl
-encode_two b (enumerated d m x ∷ integer t ∷ z ∷ zs) = refl
-encode_two b (enumerated d m x ∷ elements k y ∷ []) = refl
-encode_two b (enumerated d m x ∷ elements k y ∷ z ∷ zs) = refl
-encode_two b (enumerated d m x ∷ enumerated e n y ∷ []) = refl
-encode_two b (enumerated d m x ∷ enumerated e n y ∷ z ∷ zs) = refl
-encode_two b (enumerated d m x ∷ truth y ∷ []) = refl
-encode_two b (enumerated d m x ∷ truth y ∷ z ∷ zs) = refl
-encode_two b (truth x ∷ []) = refl
-encode_two b (truth x ∷ integer t ∷ []) = refl
-encode_two b (truth x ∷ integer t ∷ z ∷ zs) = refl
-encode_two b (truth x ∷ elements k y ∷ []) = refl
-encode_two b (truth x ∷ elements k y ∷ z ∷ zs) = refl
-encode_two b (truth x ∷ enumerated e n y ∷ []) = refl
-encode_two b (truth x ∷ enumerated e n y ∷ z ∷ zs) = refl
-encode_two b (truth x ∷ truth y ∷ []) = refl
-encode_two b (truth x ∷ truth y ∷ z ∷ zs) = refl
+encode_two : (at : ℕ) (b : Bool) (xs : List o.Typed) → rules.encoding at (arguments b xs) ≡ encoded_by at (two xs)
+encode_two at b [] = refl
+encode_two at b (integer s ∷ []) = refl
+encode_two at b (integer s ∷ integer t ∷ []) = refl
+encode_two at b (integer s ∷ integer t ∷ z ∷ zs) = refl
+encode_two at b (integer s ∷ elements k y ∷ []) = refl
+encode_two at b (integer s ∷ elements k y ∷ z ∷ zs) = refl
+encode_two at b (integer s ∷ enumerated e n y ∷ []) = refl
+encode_two at b (integer s ∷ enumerated e n y ∷ z ∷ zs) = refl
+encode_two at b (integer s ∷ truth y ∷ []) = refl
+encode_two at b (integer s ∷ truth y ∷ z ∷ zs) = refl
+encode_two at b (elements j x ∷ []) = refl
+encode_two at b (elements j x ∷ integer t ∷ []) = refl
+encode_two at b (elements j x ∷ integer t ∷ z ∷ zs) = refl
+encode_two at b (elements j x ∷ elements k y ∷ []) = refl
+encode_two at b (elements j x ∷ elements k y ∷ z ∷ zs) = refl
+encode_two at b (elements j x ∷ enumerated e n y ∷ []) = refl
+encode_two at b (elements j x ∷ enumerated e n y ∷ z ∷ zs) = refl
+encode_two at b (elements j x ∷ truth y ∷ []) = refl
+encode_two at b (elements j x ∷ truth y ∷ z ∷ zs) = refl
+encode_two at b (enumerated d m x ∷ []) = refl
+encode_two at b (enumerated d m x ∷ integer t ∷ []) = refl
+encode_two at b (enumerated d m x ∷ integer t ∷ z ∷ zs) = refl
+encode_two at b (enumerated d m x ∷ elements k y ∷ []) = refl
+encode_two at b (enumerated d m x ∷ elements k y ∷ z ∷ zs) = refl
+encode_two at b (enumerated d m x ∷ enumerated e n y ∷ []) = refl
+encode_two at b (enumerated d m x ∷ enumerated e n y ∷ z ∷ zs) = refl
+encode_two at b (enumerated d m x ∷ truth y ∷ []) = refl
+encode_two at b (enumerated d m x ∷ truth y ∷ z ∷ zs) = refl
+encode_two at b (truth x ∷ []) = refl
+encode_two at b (truth x ∷ integer t ∷ []) = refl
+encode_two at b (truth x ∷ integer t ∷ z ∷ zs) = refl
+encode_two at b (truth x ∷ elements k y ∷ []) = refl
+encode_two at b (truth x ∷ elements k y ∷ z ∷ zs) = refl
+encode_two at b (truth x ∷ enumerated e n y ∷ []) = refl
+encode_two at b (truth x ∷ enumerated e n y ∷ z ∷ zs) = refl
+encode_two at b (truth x ∷ truth y ∷ []) = refl
+encode_two at b (truth x ∷ truth y ∷ z ∷ zs) = refl
 
-pub encoding_two : (b : Bool) (xs : List Typed) → rules.encoding (arguments b (map typed_view xs)) ≡ encoded_by (option_map both_views (two xs))
-encoding_two b xs = encode_two b (map typed_view xs) ∙ ap encoded_by (two_map xs)
+pub encoding_two : (at : ℕ) (b : Bool) (xs : List Typed) → rules.encoding at (arguments b (map typed_view xs)) ≡ encoded_by at (option_map both_views (two xs))
+encoding_two at b xs = encode_two at b (map typed_view xs) ∙ ap (encoded_by at) (two_map xs)
 
 -- ---- vectors that are no signals
 
@@ -243,17 +243,17 @@ no_signal (v.Counted' at op b x s) other = refl
 -- what is no signal's name has no edge
 pub no_edge : (k : ElementKind) (x : u.Vector) → is_signal x ≡ false → rules.edge_signal (elements k x) ≡ None
 no_edge Element (u.of_signal p) h = absurd (true≢false h)
-no_edge Element (u.of_variable n p) h = refl
-no_edge Element (u.of_constant n p) h = refl
+no_edge Element (u.of_variable at n p) h = refl
+no_edge Element (u.of_constant at n p) h = refl
 no_edge Element (u.character c) h = refl
 no_edge Element (u.enclosed_character c) h = refl
-no_edge Element (u.Vector.literal cs) h = refl
+no_edge Element (u.Vector.literal at cs) h = refl
 no_edge Element (u.Vector.inverse y) h = refl
-no_edge Element (u.Vector.binary op y z) h = refl
-no_edge Element (u.with_integer op y s) h = refl
-no_edge Element (u.integer_with op s y) h = refl
-no_edge Element (u.Vector.encoded s t) h = refl
-no_edge Element (u.counted op y s) h = refl
+no_edge Element (u.Vector.binary at op y z) h = refl
+no_edge Element (u.with_integer at op y s) h = refl
+no_edge Element (u.integer_with at op s y) h = refl
+no_edge Element (u.Vector.encoded at s t) h = refl
+no_edge Element (u.counted at op y s) h = refl
 no_edge LogicVector x h = refl
 no_edge Unsigned x h = refl
 no_edge OpenVector x h = refl
@@ -272,7 +272,7 @@ is_static_chained left [] = go (rules.is_static left)
     go true = refl
     go false = refl
 is_static_chained left (l ∷ ls) =
-    is_static_chained (u.Static.binary l.operator left (static_view l.operand)) ls
+    is_static_chained (u.Static.binary l.at l.operator left (static_view l.operand)) ls
     ∙ and-assoc (rules.is_static left) (rules.is_static (static_view l.operand)) (list_all (λ k. rules.is_static (static_view k.operand)) ls)
 
 pub is_static_chain : (x : Static) (start : Box StaticStart Global) (links : Vec StaticLink Global) → x ≡ s.Chain start links →

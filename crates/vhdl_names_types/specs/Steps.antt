@@ -22,9 +22,9 @@ use Rattle.vhdl_names_types.specs.declared.literals.Base.{Base}
 use Rattle.vhdl_names_types.specs.declared.literals.Base.TheVariants as b
 
 -- equality of the values, or its negation
-abbrev pub same_by : Cmp → Value → Value → Test
-same_by Ne = u.unlike
-same_by _ = u.alike
+abbrev pub same_by : (at : ℕ) → Cmp → Value → Value → Test
+same_by at Ne = u.unlike at
+same_by at _ = u.alike at
 
 -- the digits of a base
 abbrev pub class_of : Base → ByteClass
@@ -63,9 +63,9 @@ counting (Some (elements Unsigned x, integer n)) = Some (x, n)
 counting _ = None
 
 -- a number and a size
-abbrev pub encoded_by : Option (Typed × Typed) → Option Typed
-encoded_by (Some (integer n, integer size)) = Some (elements Unsigned (u.Vector.encoded n size))
-encoded_by _ = None
+abbrev pub encoded_by : (at : ℕ) → Option (Typed × Typed) → Option Typed
+encoded_by at (Some (integer n, integer size)) = Some (elements Unsigned (u.Vector.encoded at n size))
+encoded_by at _ = None
 
 abbrev pub is_signal : Vector → Bool
 is_signal (u.of_signal p) = true
@@ -93,5 +93,5 @@ abbrev pub integer_literal : List ℕ → Option Typed
 integer_literal text = option_map (λ n. integer (u.number n)) (number_of text)
 
 -- a sign before an operand
-abbrev pub signed_by : Sign → Typed → Option Typed
-signed_by sign x = as_integer x >>= λ s. Some (integer (signed sign s))
+abbrev pub signed_by : (at : ℕ) → Sign → Typed → Option Typed
+signed_by at sign x = as_integer x >>= λ s. Some (integer (signed at sign s))

@@ -35,7 +35,7 @@ fn read_signal(
     suffix: TypedSuffix,
     at: usize,
 ) -> Result<Typed, NameFault>
-    ensures given { Gives typed_view (rules.read_signal (signal_view signal) kind (typed_suffix_view suffix)) result }
+    ensures given { Gives typed_view (rules.read_signal at (signal_view signal) kind (typed_suffix_view suffix)) result }
     ensures told { IfErr result (Tells (refused TypeMismatch at)) }
 {
     let (part, kind) = part(kind, suffix, at)?;
@@ -49,7 +49,7 @@ fn read_variable(
     suffix: TypedSuffix,
     at: usize,
 ) -> Result<Typed, NameFault>
-    ensures given { Gives typed_view (rules.read_by (units.of_variable number) kind (typed_suffix_view suffix)) result }
+    ensures given { Gives typed_view (rules.read_by (units.of_variable at number) kind (typed_suffix_view suffix)) result }
     ensures told { IfErr result (Tells (refused TypeMismatch at)) }
 {
     let (part, kind) = part(kind, suffix, at)?;
@@ -63,7 +63,7 @@ fn read_constant(
     suffix: TypedSuffix,
     at: usize,
 ) -> Result<Typed, NameFault>
-    ensures given { Gives typed_view (rules.read_by (units.of_constant number) kind (typed_suffix_view suffix)) result }
+    ensures given { Gives typed_view (rules.read_by (units.of_constant at number) kind (typed_suffix_view suffix)) result }
     ensures told { IfErr result (Tells (refused TypeMismatch at)) }
 {
     let (part, kind) = part(kind, suffix, at)?;
@@ -118,7 +118,7 @@ fn number_and_count(arguments: Vec<Typed>, at: usize) -> Result<(Vector, Static)
 
 /// to_unsigned, whose name is at byte `at`, of a number and a size.
 fn encoded(arguments: Vec<Typed>, at: usize) -> Result<Typed, NameFault>
-    ensures given { Gives typed_view (encoded_by (option_map (λ p. (typed_view p.0, typed_view p.1)) (two arguments.items))) result }
+    ensures given { Gives typed_view (encoded_by at (option_map (λ p. (typed_view p.0, typed_view p.1)) (two arguments.items))) result }
     ensures told { IfErr result (Tells (refused TypeMismatch at)) }
 {
     let Some((first, second)) = two_arguments(arguments) else {
@@ -144,7 +144,7 @@ fn called(
     suffix: TypedSuffix,
     at: usize,
 ) -> Result<Typed, NameFault>
-    ensures given { Gives typed_view (rules.called function (typed_suffix_view suffix)) result }
+    ensures given { Gives typed_view (rules.called at function (typed_suffix_view suffix)) result }
     ensures told { IfErr result (Tells (refused (name_problem (visibility.function function) (typed_suffix_view suffix)) at)) }
 {
     if let Function::EdgeCall(edge) = function {
@@ -180,7 +180,7 @@ fn signal_of(
     suffix: TypedSuffix,
     at: usize,
 ) -> Result<Typed, NameFault>
-    ensures given { Gives typed_view (rules.denoted (visibility.signal number object_type) (typed_suffix_view suffix)) result }
+    ensures given { Gives typed_view (rules.denoted at (visibility.signal number object_type) (typed_suffix_view suffix)) result }
     ensures told { IfErr result (Tells (refused TypeMismatch at)) }
 {
     let signal = Signal::Signal(number);
@@ -203,7 +203,7 @@ fn variable_of(
     suffix: TypedSuffix,
     at: usize,
 ) -> Result<Typed, NameFault>
-    ensures given { Gives typed_view (rules.denoted (visibility.variable number object_type) (typed_suffix_view suffix)) result }
+    ensures given { Gives typed_view (rules.denoted at (visibility.variable number object_type) (typed_suffix_view suffix)) result }
     ensures told { IfErr result (Tells (refused TypeMismatch at)) }
 {
     match object_type {
@@ -225,8 +225,8 @@ pub fn denoted(
     suffix: TypedSuffix,
     at: usize,
 ) -> Result<Typed, NameFault>
-    ensures given { Gives typed_view (rules.denoted (meaning_view meaning.now) (typed_suffix_view suffix)) result }
-    ensures told { IfErr result (Tells (lacking (name_problem (meaning_view meaning.now) (typed_suffix_view suffix)) at (rules.denoted (meaning_view meaning.now) (typed_suffix_view suffix)))) }
+    ensures given { Gives typed_view (rules.denoted at (meaning_view meaning.now) (typed_suffix_view suffix)) result }
+    ensures told { IfErr result (Tells (lacking (name_problem (meaning_view meaning.now) (typed_suffix_view suffix)) at (rules.denoted at (meaning_view meaning.now) (typed_suffix_view suffix)))) }
 {
     match meaning {
         Meaning::Generic(k) => if_plain(suffix, Typed::Integer(Static::Generic(*k)), at),

@@ -28,7 +28,7 @@ fn logical(
     operator: Logic,
     operands: (Typed, Typed),
 ) -> Result<Typed, NameFault>
-    ensures given { Gives typed_view (table.logical operator (typed_view operands.0) (typed_view operands.1)) result }
+    ensures given { Gives typed_view (table.logical at operator (typed_view operands.0) (typed_view operands.1)) result }
     ensures told { IfErr result (Tells (refused TypeMismatch at)) }
 {
     let (left, right) = operands;
@@ -66,7 +66,7 @@ pub fn inverse(alloc: Global, at: usize, operand: Typed) -> Result<Typed, NameFa
 
 /// &, at byte `at`.
 fn concatenated(alloc: Global, at: usize, operands: (Typed, Typed)) -> Result<Typed, NameFault>
-    ensures given { Gives typed_view (table.concatenated (typed_view operands.0) (typed_view operands.1)) result }
+    ensures given { Gives typed_view (table.concatenated at (typed_view operands.0) (typed_view operands.1)) result }
     ensures told { IfErr result (Tells (refused TypeMismatch at)) }
 {
     let (left, right) = operands;
@@ -93,7 +93,7 @@ fn integral(
     operator: Arithmetic,
     operands: (Typed, Typed),
 ) -> Result<Typed, NameFault>
-    ensures given { Gives typed_view (table.integral operator (typed_view operands.0) (typed_view operands.1)) result }
+    ensures given { Gives typed_view (table.integral at operator (typed_view operands.0) (typed_view operands.1)) result }
     ensures told { IfErr result (Tells (refused TypeMismatch at)) }
 {
     let (left, right) = operands;
@@ -138,7 +138,7 @@ fn arithmetic(
     by: Numeric,
     operands: (Typed, Typed),
 ) -> Result<Typed, NameFault>
-    ensures given { Gives typed_view (table.arithmetic numbers operator by (typed_view operands.0) (typed_view operands.1)) result }
+    ensures given { Gives typed_view (table.arithmetic numbers at operator by (typed_view operands.0) (typed_view operands.1)) result }
     ensures told { IfErr result (Tells (refused (arithmetic_problem (typed_view operands.0) (typed_view operands.1)) at)) }
 {
     let (left, right) = operands;
@@ -172,7 +172,7 @@ fn arithmetic(
 
 /// A relation of two static integers.
 fn integers_compared(comparison: Cmp, at: usize, left: Static, right: Static) -> Typed
-    ensures { typed_view result ≡ table.integers_compared comparison (static_view left) (static_view right) }
+    ensures { typed_view result ≡ table.integers_compared at comparison (static_view left) (static_view right) }
 {
     Typed::Truth(Test::Fixed(StaticTest::Compared(comparison, at, left, right)))
 }
@@ -185,7 +185,7 @@ fn same(
     left: Value,
     right: Value,
 ) -> Result<Typed, AllocError>
-    ensures { IfOk result (λ t. typed_view t ≡ table.truth (same_by comparison (value_view left) (value_view right))) }
+    ensures { IfOk result (λ t. typed_view t ≡ table.truth (same_by at comparison (value_view left) (value_view right))) }
 {
     let test = match comparison {
         Cmp::Ne => Test::unlike(alloc, at, left, right)?,
@@ -201,7 +201,7 @@ fn equality(
     comparison: Cmp,
     operands: (Typed, Typed),
 ) -> Result<Typed, NameFault>
-    ensures given { Gives typed_view (table.equality comparison (same_by comparison) (typed_view operands.0) (typed_view operands.1)) result }
+    ensures given { Gives typed_view (table.equality at comparison (same_by at comparison) (typed_view operands.0) (typed_view operands.1)) result }
     ensures told { IfErr result (Tells (refused TypeMismatch at)) }
 {
     let (left, right) = operands;
@@ -279,7 +279,7 @@ fn ordered(
     problem: NameProblem,
     operands: (Typed, Typed),
 ) -> Result<Typed, NameFault>
-    ensures given { Gives typed_view (table.ordering numbers comparison (typed_view operands.0) (typed_view operands.1)) result }
+    ensures given { Gives typed_view (table.ordering numbers at comparison (typed_view operands.0) (typed_view operands.1)) result }
     ensures told { IfErr result (Tells (refused (if is_numeric (typed_view operands.0) && is_numeric (typed_view operands.1) then NotVisible else problem) at)) }
 {
     let (left, right) = operands;
@@ -315,7 +315,7 @@ fn ordering(
     comparison: Cmp,
     operands: (Typed, Typed),
 ) -> Result<Typed, NameFault>
-    ensures given { Gives typed_view (table.ordering numbers comparison (typed_view operands.0) (typed_view operands.1)) result }
+    ensures given { Gives typed_view (table.ordering numbers at comparison (typed_view operands.0) (typed_view operands.1)) result }
     ensures told { IfErr result (Tells (refused (order_problem (typed_view operands.0) (typed_view operands.1)) at)) }
 {
     let problem = unordered(&operands);
@@ -332,8 +332,8 @@ pub fn operated(
     left: Typed,
     right: Typed,
 ) -> Result<Typed, NameFault>
-    ensures given { Gives typed_view (table.operated numbers operator (typed_view left) (typed_view right)) result }
-    ensures told { IfErr result (Tells (lacking (operator_problem operator (typed_view left) (typed_view right)) at (table.operated numbers operator (typed_view left) (typed_view right)))) }
+    ensures given { Gives typed_view (table.operated numbers at operator (typed_view left) (typed_view right)) result }
+    ensures told { IfErr result (Tells (lacking (operator_problem operator (typed_view left) (typed_view right)) at (table.operated numbers at operator (typed_view left) (typed_view right)))) }
 {
     let operands = (left, right);
     match operator {

@@ -132,7 +132,7 @@ impl Concurrent {
         statements: Vec<Concurrent>,
     ) -> Concurrent
         ensures { views.concurrent_view result
-            ≡ views.generated label.text.items (views.concurrents_of (views.concurrents_view statements)) scheme }
+            ≡ views.generated label.text.items at (views.concurrents_of (views.concurrents_view statements)) scheme }
     {
         Concurrent::Generate(Generate {
             label,

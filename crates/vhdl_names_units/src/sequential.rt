@@ -181,7 +181,7 @@ impl Statement {
         otherwise: Option<Vec<Statement>>,
     ) -> Statement
         ensures { views.statement_view result
-            ≡ units.if_of (views.branches_of (views.branches_view branches) (views.last_of (views.option_statements_view otherwise))) }
+            ≡ units.if_of at (views.branches_of (views.branches_view branches) (views.last_of (views.option_statements_view otherwise))) }
     {
         Statement::If(If {
             at,
@@ -198,7 +198,7 @@ impl Statement {
         others: Vec<Statement>,
     ) -> Statement
         ensures { views.statement_view result
-            ≡ units.case_of (value_view selector) (views.alternatives_of (views.alternatives_view alternatives) (views.statements_of (views.statements_view others))) }
+            ≡ units.case_of at (value_view selector) (views.alternatives_of (views.alternatives_view alternatives) (views.statements_of (views.statements_view others))) }
     {
         Statement::Case(Case {
             at,
@@ -210,7 +210,7 @@ impl Statement {
 
     /// A for loop, which starts at byte `at`.
     pub fn repetition(at: usize, range: StaticRange, statements: Vec<Statement>) -> Statement
-        ensures { views.statement_view result ≡ units.for_of (range_view range) (views.statements_of (views.statements_view statements)) }
+        ensures { views.statement_view result ≡ units.for_of at (range_view range) (views.statements_of (views.statements_view statements)) }
     {
         Statement::Loop(Loop {
             at,

@@ -1,6 +1,7 @@
 -- From the tree of a source to its netlist.
-use Rattle.std.proofs.Common.{◌≡◌, ◌≢◌, ◌<◌, subst, ℕ, length, List, None, Some, Result, Ok, Err, arith}
-use Rattle.std.specs.Prelude.{IsTrue, IsErrAnd, IfOk, IfErr, IfSome}
+use Rattle.std.proofs.Common.{◌≡◌, ◌≢◌, ◌<◌, ◌≤◌, subst, ℕ, length, List, ◌∷◌, None, Some, Result, Ok, Err, All, arith}
+use Rattle.std.specs.Prelude.{IsTrue, IsErrAnd, IfOk, IfErr, IfSome, Contains}
+use Rattle.std.proofs.lemmas.List.Elements.{All-cons, All-contains, All-weaker}
 use Rattle.vhdl_lexer.proofs.Reached.{cut_within}
 use Rattle.vhdl_tree.specs.Tree.{File}
 use Rattle.vhdl_names_rules.specs.problems.Broken.{Tells}
@@ -11,24 +12,28 @@ use Rattle.vhdl_names_rules.specs.declared.fault.NameFault.TheVariants as names
 use Rattle.vhdl_names_rules.specs.sound.Named.{are_named}
 use Rattle.vhdl_names_rules.specs.sound.Units.{are_sound}
 use Rattle.vhdl_names_rules.specs.units.Units as u
+use Rattle.vhdl_names_rules.specs.units.Bytes.{units_bytes}
 use Rattle.vhdl_names_laws.specs.Words.{HasWords}
 use Rattle.vhdl_names_laws.proofs.Units.{units_are_sound}
 use Rattle.vhdl_names_laws.proofs.Named.{units_are_named, small_ports_distinct}
 use Rattle.vhdl_names_laws.proofs.Spelled.{spelled_files_have_words}
 use Rattle.vhdl_names_laws.proofs.placed.Laws.{faults_lie_in_the_text}
-use Rattle.vhdl_expand_rules.specs.Elab.{problem_told}
+use Rattle.vhdl_names_laws.proofs.standing.Laws.{units_lie_in_the_text}
+use Rattle.vhdl_expand_rules.specs.Elab.{fault_told}
 use Rattle.vhdl_expand_rules.specs.declared.fault.ElabFault.{ElabFault}
 use Rattle.vhdl_expand_rules.specs.declared.fault.ElabFault.TheVariants as elab
 use Rattle.vhdl_elab_rules.specs.Refused.{MayRefuse}
 use Rattle.vhdl_elab_rules.proofs.Nets.{each-has-its-names}
 use Rattle.vhdl_elab_rules.proofs.Ports.{each-has-own-ports}
+use Rattle.vhdl_elab_rules.proofs.laws.Standing.{refusals-stand}
 use Rattle.rtl_net.specs.Nets.{NetlistView}
 use Rattle.rtl_stim.specs.Ports.{HasOwnPorts}
 use Rattle.vhdl_source_rules.specs.Sources.{IsFileOf}
 use Rattle.vhdl_source_rules.specs.Designs.{IsNetOf}
 use Rattle.vhdl_source_rules.specs.Faults.{LiesIn, of_name, of_elab}
 use Rattle.vhdl_source_rules.specs.Refusals.{Refuses}
-use Rattle.vhdl_source.specs.Steps.{ShowsTop, HasNameFault, HasElabFault, GivesNet, elab_within}
+use Rattle.vhdl_source.specs.Steps.{ShowsTop, HasNameFault, HasElabFault, GivesNet}
+use Rattle.vhdl_source.specs.Laws.{EachRefusalLiesInItsSource}
 use Rattle.vhdl_source_rules.specs.declared.fault.SourceFault.{SourceFault}
 use Rattle.vhdl_source_rules.specs.declared.fault.SourceFault.TheVariants.{Lex, Syntax, Name, Elab, NoMemory}
 
@@ -85,10 +90,21 @@ untyped_lies source file (Lex fault) read h = absurd h
 untyped_lies source file (Syntax fault) read h = absurd h
 untyped_lies source file (Elab fault) read h = absurd h
 
-pub no_net : (units : u.Units) (top : List ℕ) (size : ℕ) (fault : ElabFault) → (fault ≢ elab.NoMemory → MayRefuse units top (problem_told fault))
-    → HasElabFault units top (of_elab (elab_within size fault))
-no_net units top size (elab.At problem at) h = h (λ e. absurd cc)
-no_net units top size elab.NoMemory h = tt
+pub no_net : (units : u.Units) (top : List ℕ) (fault : ElabFault) → (fault ≢ elab.NoMemory → MayRefuse units top (fault_told fault)) → HasElabFault units top (of_elab fault)
+no_net units top (elab.At problem at) h = h (λ e. absurd cc)
+no_net units top elab.NoMemory h = tt
+
+-- a byte of the units is one of the source, and 0 is one or its end
+in_source : (size : ℕ) (bytes : List ℕ) (at : ℕ) → All (λ b. b < size) bytes → Contains (0 ∷ bytes) at → at ≤ size
+in_source size bytes at inside c =
+    All-contains (λ b. b ≤ size) (0 ∷ bytes) at
+    (All-cons (λ b. b ≤ size) 0 bytes (omega arith) (All-weaker (λ b. b < size) (λ b. b ≤ size) (λ b h. omega (arith, h)) bytes inside)) c
+
+pub refusal_lies : EachRefusalLiesInItsSource
+refusal_lies source top problem at r =
+    let read = r.analysed.read in
+    in_source (length source) (units_bytes r.units) at (units_lie_in_the_text source read.tokens r.analysed.file r.units read.cut read.spelled r.analysed.well_typed)
+    (refusals-stand r.units top (problem, at) r.refused)
 
 -- ---- the whole
 
@@ -109,6 +125,16 @@ module _ (source top : List ℕ) (file : File) (units : u.Units) (read : IsFileO
   gives_refused (Err (Lex fault)) h = absurd h
   gives_refused (Err (Syntax fault)) h = absurd h
   gives_refused (Err (Name fault)) h = absurd h
+
+  pub gives_told : (answer : Result NetlistView SourceFault) → GivesNet units top answer → IfErr answer (LiesIn (length source))
+  gives_told (Ok net) h = tt
+  gives_told (Err (Elab (elab.At problem at))) h =
+      refusal_lies source top problem at (record { units = units; analysed = record { file = file; read = read; well_typed = typed }; refused = h })
+  gives_told (Err (Elab elab.NoMemory)) h = absurd h
+  gives_told (Err NoMemory) h = tt
+  gives_told (Err (Lex fault)) h = absurd h
+  gives_told (Err (Syntax fault)) h = absurd h
+  gives_told (Err (Name fault)) h = absurd h
 
 pub refuses_along : (source top : List ℕ) (answer : Result NetlistView SourceFault) (fault : SourceFault) → IsErrAnd answer (λ f. f ≡ fault) → Refuses source top fault → IfErr answer (Refuses source top)
 refuses_along source top (Ok net) fault is h = tt

@@ -1,5 +1,5 @@
 -- A source has one tree, and so one of each that follows from it.
-use Rattle.std.proofs.Common.{◌≡◌, ℕ, Bool, true, false, not, List, Some, Ok, Err, inl, inr, refl, true≢false, sym, ap, ◌∙◌, subst, arith}
+use Rattle.std.proofs.Common.{◌≡◌, ℕ, Bool, true, false, List, Some, Ok, Err, inl, inr, refl, true≢false, sym, ap, ◌∙◌, subst, arith}
 use Rattle.std.specs.Prelude.{IsErr}
 use Rattle.vhdl_lexer.specs.declared.token.Token.{Token}
 use Rattle.vhdl_parser.specs.Fault.{IsRefusal, IsTooDeep}
@@ -12,15 +12,14 @@ use Rattle.vhdl_names_rules.specs.Files.{units_of}
 use Rattle.vhdl_names_rules.specs.declared.fault.NameFault.TheVariants as names
 use Rattle.vhdl_names_rules.specs.declared.fault.NameProblem.{NameProblem}
 use Rattle.vhdl_names_rules.specs.units.Units.{Units}
-use Rattle.vhdl_expand_rules.specs.Elab.{Elab as Expanded, ◌>>=◌, ◌>>◌, unless}
+use Rattle.vhdl_expand_rules.specs.Elab.{Told, Elab as Expanded, ◌>>=◌, ◌>>◌, unless}
 use Rattle.vhdl_expand_rules.specs.Expansion.{Design, expanded_design}
 use Rattle.vhdl_expand_rules.specs.declared.fault.ElabFault.TheVariants as elab
 use Rattle.vhdl_expand_rules.specs.declared.fault.ElabProblem.{ElabProblem}
-use Rattle.vhdl_expand_rules.specs.declared.fault.ElabProblem.TheVariants.{TwoUnresolved, ReadOfShared, TooMany}
-use Rattle.vhdl_elab_rules.specs.Elaboration.{Elaborated, net_of, netlist_of, elaborated_net}
-use Rattle.vhdl_elab_rules.specs.Limits.{counts, is_within_limits, has_two_unresolved, has_read_of_shared}
+use Rattle.vhdl_expand_rules.specs.declared.fault.ElabProblem.TheVariants.{TooMany}
+use Rattle.vhdl_elab_rules.specs.Elaboration.{Elaborated, net_of, resolves, shares_unread, netlist_of, elaborated_net}
+use Rattle.vhdl_elab_rules.specs.Limits.{counts, is_within_limits}
 use Rattle.vhdl_elab_rules.specs.Numbering.{numbered_design}
-use Rattle.vhdl_elab_rules.specs.Wiring.{flat_net}
 use Rattle.vhdl_elab_rules.specs.Refused.{MayRefuse}
 use Rattle.vhdl_elab_rules.specs.Shown.{shown}
 use Rattle.vhdl_source_rules.specs.Sources.{SpellsTokens, IsFileOf, HasSyntaxFault}
@@ -68,29 +67,29 @@ untyped source units problem at r h =
 
 undesigned : (given : Expanded Elaborated) (design : Elaborated) → IsErr given → given ≡ Ok design → ⊥
 undesigned (Ok x) design h e = true≢false (sym h)
-undesigned (Err problem) design h e = absurd (cc)
+undesigned (Err told) design h e = absurd (cc)
 
 -- what may be refused has no design
-not_connected : (r : Expanded Design) → IsErr (r >>= λ d. unless TooMany (is_within_limits (counts (numbered_design d)))) → IsErr (r >>= λ d. netlist_of d)
+not_connected : (r : Expanded Design) → IsErr (r >>= λ d. unless TooMany 0 (is_within_limits (counts (numbered_design d)))) → IsErr (r >>= λ d. netlist_of d)
 unfolding netlist_of
 not_connected (Err p) h = refl
 not_connected (Ok d) h = by (is_within_limits (counts (numbered_design d))) h
   where
     rest : Expanded Elaborated
-    rest = unless TwoUnresolved (not (has_two_unresolved (numbered_design d))) >> (unless ReadOfShared (not (has_read_of_shared (numbered_design d) (flat_net (numbered_design d)))) >> Ok (net_of (numbered_design d)))
+    rest = resolves (numbered_design d) >> (shares_unread (numbered_design d) >> Ok (net_of (numbered_design d)))
 
-    by : (t : Bool) → IsErr (unless TooMany t) → IsErr (unless TooMany t >> rest)
+    by : (t : Bool) → IsErr (unless TooMany 0 t) → IsErr (unless TooMany 0 t >> rest)
     by true k = absurd (true≢false (sym k))
     by false k = refl
 
-is_refused : (units : Units) (top : List ℕ) (problem : ElabProblem) → MayRefuse units top problem → IsErr (elaborated_net units top)
+is_refused : (units : Units) (top : List ℕ) (told : Told) → MayRefuse units top told → IsErr (elaborated_net units top)
 unfolding elaborated_net
-is_refused units top problem (inl e) = subst (λ (r : Expanded Elaborated). IsErr r) (sym e) refl
-is_refused units top problem (inr (many, cut)) = not_connected (expanded_design units top) cut.refused
+is_refused units top told (inl (other, e)) = subst (λ (r : Expanded Elaborated). IsErr r) (sym e) refl
+is_refused units top told (inr (many, cut)) = not_connected (expanded_design units top) cut.refused
 
-no_design : (source top : List ℕ) (problem : ElabProblem) (design : Elaborated) → HasNoDesign source top problem → HasDesign source top design → ⊥
-no_design source top problem design r h =
-    undesigned (elaborated_net r.units top) design (is_refused r.units top problem r.refused)
+no_design : (source top : List ℕ) (problem : ElabProblem) (at : ℕ) (design : Elaborated) → HasNoDesign source top problem at → HasDesign source top design → ⊥
+no_design source top problem at design r h =
+    undesigned (elaborated_net r.units top) design (is_refused r.units top (problem, at) r.refused)
     (ap (λ (x : Units). elaborated_net x top) (one_units source r.units h.units r.analysed h.analysed) ∙ h.is)
 
 pub refused : EachRefusedHasNone
@@ -101,6 +100,6 @@ refused source top (Syntax (syntax.TooDeep at)) design behind r h = too_deep (sy
 refused source top (Syntax syntax.NoMemory) design behind r h = r
 refused source top (Name (names.At problem at)) design behind r h = untyped source h.units problem at r h.analysed
 refused source top (Name names.NoMemory) design behind r h = r
-refused source top (Elab (elab.At problem at)) design behind r h = no_design source top problem design r h
+refused source top (Elab (elab.At problem at)) design behind r h = no_design source top problem at design r h
 refused source top (Elab elab.NoMemory) design behind r h = r
 refused source top NoMemory design behind r h = behind

@@ -1,11 +1,12 @@
 -- A source has one design at most under a top, and is refused only where it has none.
-use Rattle.std.specs.Prelude.{◌≡◌, ℕ, List}
+use Rattle.std.specs.Prelude.{◌≡◌, ◌≤◌, ℕ, List, length}
 use Rattle.rtl_stim.specs.Ports.{HasOwnPorts}
 use Rattle.rtl_net.specs.Nets.{NetlistView}
 use Rattle.vhdl_elab_rules.specs.Elaboration.{Elaborated}
 use Rattle.vhdl_elab_rules.specs.Shown.{net_shown}
+use Rattle.vhdl_expand_rules.specs.declared.fault.ElabProblem.{ElabProblem}
 use Rattle.vhdl_source_rules.specs.Designs.{HasDesign, IsNetOf}
-use Rattle.vhdl_source_rules.specs.Refusals.{Refuses}
+use Rattle.vhdl_source_rules.specs.Refusals.{HasNoDesign, Refuses}
 use Rattle.vhdl_source_rules.specs.declared.fault.SourceFault.{SourceFault}
 use Rattle.vhdl_source_rules.specs.declared.fault.SourceFault.TheVariants.{Lex, NoMemory}
 
@@ -33,3 +34,7 @@ EachRefusedHasNone =
 -- A stimulus can speak of the netlist's ports.
 abbrev pub EachNetHasOwnPorts : Type 0
 EachNetHasOwnPorts = (source top : List ℕ) (net : NetlistView) → IsNetOf source top net → HasOwnPorts net
+
+-- What elaboration refuses of a source it tells at a byte of the source, and of an empty one at its end.
+abbrev pub EachRefusalLiesInItsSource : Type 0
+EachRefusalLiesInItsSource = (source top : List ℕ) (problem : ElabProblem) (at : ℕ) → HasNoDesign source top problem at → at ≤ length source

@@ -1,9 +1,8 @@
 -- What the code's own calls say.
-use Rattle.std.specs.Prelude.{◌≡◌, ℕ, min, List, None, Some, Result, Ok, Err}
+use Rattle.std.specs.Prelude.{◌≡◌, ℕ, List, None, Some, Result, Ok, Err}
 use Rattle.rtl_net.specs.Nets.{NetlistView}
 use Rattle.vhdl_elab_rules.specs.Elaboration.{Elaborated, elaborated_net}
 use Rattle.vhdl_elab_rules.specs.Refused.{MayRefuse}
-use Rattle.vhdl_expand_rules.specs.declared.fault.ElabFault.{ElabFault}
 use Rattle.vhdl_expand_rules.specs.declared.fault.ElabFault.TheVariants as elab
 use Rattle.vhdl_names_rules.specs.problems.Files as breaks
 use Rattle.vhdl_names_rules.specs.Files as rules
@@ -15,11 +14,6 @@ use Rattle.vhdl_names_units.specs.declared.unit.Units.{Units}
 use Rattle.vhdl_names_units.specs.views.Units.{units_view}
 use Rattle.vhdl_source_rules.specs.declared.fault.SourceFault.{SourceFault}
 use Rattle.vhdl_source_rules.specs.declared.fault.SourceFault.TheVariants.{Name, Elab, NoMemory}
-
--- the same fault, told at a byte that is not behind the given one
-abbrev pub elab_within : (most : ℕ) → ElabFault → ElabFault
-elab_within most (elab.At problem at) = elab.At problem (min at most)
-elab_within most elab.NoMemory = elab.NoMemory
 
 -- only a fault of names, only where the file has no units, and that of the first rule that it breaks
 abbrev pub HasNameFault : File → SourceFault → Type 0
@@ -38,10 +32,10 @@ pub record ShowsTop (units : u.Units) (top : List ℕ) (net : NetlistView) : Typ
   pub is : elaborated_net units top ≡ Ok design
   pub shows : Shows design net
 
--- only a fault of elaboration, only where the units have no design, and with the problem that may be told
+-- only a fault of elaboration, only where the units have no design, and with the problem and the byte that may be told
 abbrev pub HasElabFault : u.Units → (top : List ℕ) → SourceFault → Type 0
 HasElabFault units top (Elab elab.NoMemory) = ⊥
-HasElabFault units top (Elab (elab.At problem at)) = MayRefuse units top problem
+HasElabFault units top (Elab (elab.At problem at)) = MayRefuse units top (problem, at)
 HasElabFault units top NoMemory = Unit {0}
 HasElabFault units top _ = ⊥
 

@@ -8,7 +8,8 @@ mod laws;
 mod opening;
 
 pub use laws::{
-    a_source_has_one_design, nets_of_sources_have_own_ports, refused_sources_have_no_design,
+    a_source_has_one_design, nets_of_sources_have_own_ports, refusals_lie_in_their_sources,
+    refused_sources_have_no_design,
 };
 pub use opening::{Vhdl, open};
 pub use vhdl_source_rules::SourceFault;

@@ -8,14 +8,13 @@ ghost use Rattle.vhdl_source_rules.specs.Refusals.{Refuses};
 ghost use Rattle.vhdl_source_rules.specs.Sources.{IsFileOf};
 ghost use Rattle.vhdl_names_rules.specs.sound.Named.{are_named};
 ghost use Rattle.vhdl_names_rules.specs.sound.Units.{are_sound};
-ghost use Rattle.vhdl_source.specs.Steps.{GivesUnits, GivesNet, elab_within};
+ghost use Rattle.vhdl_source.specs.Steps.{GivesUnits, GivesNet};
 ghost use Rattle.vhdl_tree.specs.View.{file_view};
 ghost use Rattle.vhdl_names_units.specs.views.Units.{units_view};
 
 use rtl_net::Net;
 use std::alloc::Global;
 use vhdl_elab::elaborate;
-use vhdl_expand_rules::ElabFault;
 use vhdl_lexer::lex;
 use vhdl_names::analyse;
 use vhdl_names_units::Units;
@@ -30,8 +29,8 @@ use vhdl_tree::File;
 /// # Errors
 ///
 /// The first layer that refuses the source, with its fault: `Lex`, `Syntax`, `Name` or `Elab`, told at a byte of the source or at
-/// its end. `Name` is the first rule that the file breaks as it is read, with its byte; the problem of `Elab` is the first broken rule's,
-/// or `TooMany`. `NoMemory` where memory was refused.
+/// its end. `Name` is the first rule that the file breaks as it is read, with its byte; `Elab` is the first broken rule, with its byte, or
+/// `TooMany`. `NoMemory` where memory was refused.
 pub fn open(alloc: Global, source: &[u8], top: &[u8]) -> Result<Net, SourceFault>
     ensures net { IfOk result (λ net. IsNetOf source.now top.now net) }
     ensures ports { IfOk result (λ net. HasOwnPorts net) }
@@ -40,7 +39,7 @@ pub fn open(alloc: Global, source: &[u8], top: &[u8]) -> Result<Net, SourceFault
 {
     let file = read(alloc, source)?;
     let units = units_of(alloc, &file)?;
-    net_of(alloc, &units, top, source.len())
+    net_of(alloc, &units, top)
 }
 
 /// Sources in VHDL.
@@ -72,25 +71,14 @@ fn units_of(alloc: Global, file: &File) -> Result<Units, SourceFault>
     }
 }
 
-/// The netlist of a top of some units, whose source has `size` bytes.
-fn net_of(alloc: Global, units: &Units, top: &[u8], size: usize) -> Result<Net, SourceFault>
+/// The netlist of a top of some units.
+fn net_of(alloc: Global, units: &Units, top: &[u8]) -> Result<Net, SourceFault>
     requires sound { IsTrue (are_sound (units_view units.now)) }
     requires named { IsTrue (are_named (units_view units.now)) }
-    ensures given { GivesNet (units_view units.now) top.now result }
-    ensures told { IfErr result (LiesIn size) }
+    ensures { GivesNet (units_view units.now) top.now result }
 {
     match elaborate(alloc, units, top) {
         Ok(net) => Ok(net),
-        Err(fault) => Err(SourceFault::from(elab_fault_within(fault, size))),
-    }
-}
-
-/// The same fault, told at byte `most` where its byte lies behind that one.
-fn elab_fault_within(fault: ElabFault, most: usize) -> ElabFault
-    ensures { result ≡ elab_within most fault }
-{
-    match fault {
-        ElabFault::At { problem, at } => problem.at(at.min(most)),
-        ElabFault::NoMemory => ElabFault::NoMemory,
+        Err(fault) => Err(SourceFault::from(fault)),
     }
 }

@@ -25,12 +25,12 @@ pub record HasNoUnits (source : List ℕ) (problem : NameProblem) (at : ℕ) : T
   pub ill_typed : units_of file ≡ None
   pub broken : breaks.file file ≡ Some (problem, at)
 
--- The source's units have no design with this top, and this problem may be told: that of the first broken rule, or TooMany where the growth
--- of the design may be cut off before.
-pub record HasNoDesign (source top : List ℕ) (problem : ElabProblem) : Type 0 where
+-- The source's units have no design with this top, and this problem may be told at this byte: that of the first broken rule, or TooMany
+-- where the growth of the design may be cut off before.
+pub record HasNoDesign (source top : List ℕ) (problem : ElabProblem) (at : ℕ) : Type 0 where
   pub units : Units
   pub analysed : HasUnits source units
-  pub refused : MayRefuse units top problem
+  pub refused : MayRefuse units top (problem, at)
 
 -- A layer's want of memory is told as NoMemory alone. No definition says whether TooDeep or Unexpected is told of a source that has both.
 abbrev pub Refuses : (source top : List ℕ) → SourceFault → Type 0
@@ -41,5 +41,5 @@ Refuses source top (Syntax fault) = HasSyntaxFault fault source
 Refuses source top (Name names.NoMemory) = ⊥
 Refuses source top (Name (names.At problem at)) = HasNoUnits source problem at
 Refuses source top (Elab elab.NoMemory) = ⊥
-Refuses source top (Elab (elab.At problem at)) = HasNoDesign source top problem
+Refuses source top (Elab (elab.At problem at)) = HasNoDesign source top problem at
 Refuses source top NoMemory = Unit {0}

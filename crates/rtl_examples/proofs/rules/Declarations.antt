@@ -2,13 +2,13 @@
 use Rattle.std.proofs.Common.{refl}
 use Rattle.vhdl_names_rules.specs.Expressions.{typed, static}
 use Rattle.vhdl_names_rules.specs.Subtypes.{subtype, fixed_value}
-use Rattle.vhdl_names_rules.specs.Declarations.{generic, port, signals}
+use Rattle.vhdl_names_rules.specs.Declarations.{generic, port, constants, signals}
 use Rattle.vhdl_names_rules.specs.Interfaces.{interface}
 use Rattle.rtl_examples.specs.rules.Declarations.{DeclarationsDeclare, ValuesAreFixed, ChoicesCover}
 
 pub declarations_declare : DeclarationsDeclare
-unfolding typed static subtype fixed_value generic port signals interface
-declarations_declare = record { ports = refl; twice = refl; enumerated_port = refl; integer_port = refl; unconstrained = refl; not_visible = refl; self_hidden = refl; logic_generic = refl }
+unfolding typed static subtype fixed_value generic port constants signals interface
+declarations_declare = record { ports = refl; generics = refl; integers = refl; elements = refl; twice = refl; enumerated_port = refl; integer_port = refl; unconstrained = refl; not_visible = refl; self_hidden = refl; logic_generic = refl }
 
 pub values_are_fixed : ValuesAreFixed
 unfolding typed static subtype fixed_value generic port signals interface

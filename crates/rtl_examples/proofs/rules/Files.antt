@@ -17,7 +17,7 @@ units_are_once = record { buffer = refl; empty = refl; entity_twice = refl; seco
 
 pub formals_are_associated : FormalsAreAssociated
 unfolding same_kind typed static value_given subtype port signal target interface entity component associated port_actual instantiated instance assignment concurrent concurrents architecture unit units_of
-formals_are_associated = record { mixed = refl; named_first = refl; twice = refl; unknown = refl; too_many = refl; out_on_input = refl; enclosed_actual = refl; expression = refl; of_component = refl; other_component = refl; no_component = refl }
+formals_are_associated = record { mixed = refl; placed = refl; named_first = refl; twice = refl; unknown = refl; too_many = refl; out_on_input = refl; enclosed_actual = refl; expression = refl; of_component = refl; other_component = refl; no_component = refl }
 
 pub contexts_bring_names : ContextsBringNames
 unfolding same_kind typed static value_given subtype port signal target interface entity component associated port_actual instantiated instance assignment concurrent concurrents architecture unit units_of

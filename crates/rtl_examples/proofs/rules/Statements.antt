@@ -3,8 +3,8 @@ use Rattle.std.proofs.Common.{refl}
 use Rattle.vhdl_names_rules.specs.Expressions.{typed, static, condition, value_given}
 use Rattle.vhdl_names_rules.specs.Subtypes.{subtype}
 use Rattle.vhdl_names_rules.specs.Declarations.{variables}
-use Rattle.vhdl_names_rules.specs.Statements.{signal, target, variable, statement, statements}
-use Rattle.vhdl_names_rules.specs.Concurrent.{assignment, process, concurrent, concurrents}
+use Rattle.vhdl_names_rules.specs.Statements.{signal, target, variable, statement, statements, alternatives, conditionals, otherwise}
+use Rattle.vhdl_names_rules.specs.Concurrent.{assignment, selected, process, concurrent, concurrents}
 use Rattle.rtl_examples.specs.rules.Statements.{TargetsAreSignals, ProcessesAreRegions, TurnsHaveParameters, ConditionsBecomeIfs}
 
 pub targets_are_signals : TargetsAreSignals
@@ -20,5 +20,5 @@ unfolding typed static condition value_given subtype variables signal target var
 turns_have_parameters = record { for_loop = refl; generate_for = refl; undeclared = refl; static_condition = refl; signal_condition = refl }
 
 pub conditions_become_ifs : ConditionsBecomeIfs
-unfolding typed static condition value_given subtype variables signal target variable statement statements assignment process concurrent concurrents
-conditions_become_ifs = record { without_else = refl; vector = refl }
+unfolding typed static condition value_given subtype variables signal target variable statement statements alternatives conditionals otherwise assignment selected process concurrent concurrents
+conditions_become_ifs = record { without_else = refl; selecting = refl; sequential_if = refl; sequential_case = refl; vector = refl }

@@ -12,7 +12,7 @@ use Rattle.rtl_model.specs.bodies.Body as bodies
 use Rattle.rtl_model.specs.nets.FlatNetlist.{flat_sources}
 use Rattle.rtl_model.specs.simulation.Netlist.{Driver}
 use Rattle.vhdl_elab_rules.specs.Elaboration.{elaborated_net}
-use Rattle.rtl_examples.specs.designs.Words.{number, downto, to, port, signal, at, read, assigned, process, assignment, object, input, output, declared}
+use Rattle.rtl_examples.specs.designs.Words.{number, downto, to, port, signal, from, at, read, assigned, process, assignment, instance, object, input, output, declared}
 use Rattle.rtl_examples.specs.designs.Words.{entity, shown, Of}
 
 -- ---- a counter
@@ -21,11 +21,11 @@ use Rattle.rtl_examples.specs.designs.Words.{entity, shown, Of}
 -- process (clk) begin if rising_edge(clk) then q <= q + 1; end if; end process; y <= std_logic_vector(q);
 abbrev pub counter : Entity
 counter = entity (codes "cnt")
-    (input (codes "clk") u.element ∷ output (codes "y") (u.vector (downto 1 0)) ∷ [])
-    (u.signal (object (codes "q") (u.vector (downto 1 0)) (Some (u.Fixed.literal (Zero ∷ Zero ∷ [])))) ∷ [])
+    (input 10 (codes "clk") u.element ∷ output 11 (codes "y") (u.vector (downto 1 0)) ∷ [])
+    (u.signal (object 20 (codes "q") (u.vector (downto 1 0)) (Some (u.Fixed.literal (Zero ∷ Zero ∷ [])))) ∷ [])
     (process (u.listed (port 0 e.whole ∷ []))
-    (s.if_of (s.branch (e.edge Rising (port 0 e.whole))
-    (s.step (assigned (signal 0 e.whole) (e.elements (e.with_integer Add (e.of_signal (signal 0 e.whole)) (number 1)))) s.done)
+    (s.if_of 53 (s.branch (e.edge Rising (port 0 e.whole))
+    (s.step (assigned (signal 0 e.whole) (e.elements (e.with_integer 32 Add (e.of_signal (signal 0 e.whole)) (number 1)))) s.done)
     s.no_else) ∷ [])
     ∷ assignment (port 1 e.whole) (read (signal 0 e.whole)) ∷ [])
 
@@ -55,19 +55,16 @@ pub record CounterHasItsNet : Type 0 where
 
 -- a : in, y : out; y <= not a;
 abbrev pub inverter : Entity
-inverter = entity (codes "inv") (input (codes "a") u.element ∷ output (codes "y") u.element ∷ []) []
+inverter = entity (codes "inv") (input 12 (codes "a") u.element ∷ output 13 (codes "y") u.element ∷ []) []
     (assignment (port 1 e.whole) (e.elements (e.inverse (e.of_signal (port 0 e.whole)))) ∷ [])
 
 -- x : in, z : out, both (1 downto 0);
 -- g: for i in 0 to 1 generate u: entity work.inv port map (a => x(i), y => z(i)); end generate;
 abbrev pub two_inverters : Entity
-two_inverters = entity (codes "t") (input (codes "x") (u.vector (downto 1 0)) ∷ output (codes "z") (u.vector (downto 1 0)) ∷ []) []
-    (u.generate_for (codes "g") (to 0 1) (u.concurrent (u.instance (record {
-      label = codes "u";
-      unit = 0;
-      generics = [];
-      ports = Some (port 0 (at (e.generate_parameter 0))) ∷ Some (port 1 (at (e.generate_parameter 0))) ∷ [];
-    })) u.no_concurrents) ∷ [])
+two_inverters = entity (codes "t") (input 10 (codes "x") (u.vector (downto 1 0)) ∷ output 11 (codes "z") (u.vector (downto 1 0)) ∷ []) []
+    (u.generate_for 54 (codes "g") (to 0 1) (u.concurrent
+    (instance 0 (Some (from 41 (port 0 (at (e.generate_parameter 0)))) ∷ Some (from 42 (port 1 (at (e.generate_parameter 0)))) ∷ []))
+    u.no_concurrents) ∷ [])
 
 pub record InvertersAreJoined : Type 0 where
   pub net : shown (elaborated_net (inverter ∷ two_inverters ∷ []) (codes "t")) ≡ Ok (record {
@@ -85,11 +82,11 @@ pub record InvertersAreJoined : Type 0 where
 -- a : in, z : out := '0', with no statement; and an instance of it
 abbrev pub no_statement : Entity
 no_statement = entity (codes "k")
-    (input (codes "a") u.element ∷ record { mode = Out; object = object (codes "z") u.element (Some (u.Fixed.literal (Zero ∷ []))) } ∷ []) [] []
+    (input 12 (codes "a") u.element ∷ record { mode = Out; object = object 13 (codes "z") u.element (Some (u.Fixed.literal (Zero ∷ []))) } ∷ []) [] []
 
 abbrev pub around_idle : Entity
-around_idle = entity (codes "t") (input (codes "a") u.element ∷ output (codes "y") u.element ∷ []) []
-    (u.instance (record { label = codes "u"; unit = 0; generics = []; ports = Some (port 0 e.whole) ∷ Some (port 1 e.whole) ∷ [] }) ∷ [])
+around_idle = entity (codes "t") (input 10 (codes "a") u.element ∷ output 11 (codes "y") u.element ∷ []) []
+    (instance 0 (Some (from 41 (port 0 e.whole)) ∷ Some (from 42 (port 1 e.whole)) ∷ []) ∷ [])
 
 pub record IdlePortsHoldTheirDefaults : Type 0 where
   pub net : shown (elaborated_net (no_statement ∷ around_idle ∷ []) (codes "t")) ≡ Ok (record {
@@ -104,14 +101,14 @@ pub record IdlePortsHoldTheirDefaults : Type 0 where
 
 -- a : in; signal v (3 downto 0); process (a) begin for i in 0 to 1 loop v(i) <= a; end loop; end process;
 abbrev pub loop_drives : Entity
-loop_drives = entity (codes "lt") (input (codes "a") u.element ∷ []) (declared (codes "v") (u.vector (downto 3 0)) ∷ [])
+loop_drives = entity (codes "lt") (input 10 (codes "a") u.element ∷ []) (declared 20 (codes "v") (u.vector (downto 3 0)) ∷ [])
     (process (u.listed (port 0 e.whole ∷ []))
-    (s.for_of (to 0 1) (s.step (assigned (signal 0 (at (e.loop_parameter 0))) (read (port 0 e.whole))) s.done) ∷ []) ∷ [])
+    (s.for_of 51 (to 0 1) (s.step (assigned (signal 0 (at (e.loop_parameter 0))) (read (port 0 e.whole))) s.done) ∷ []) ∷ [])
 
 -- a : in (3 downto 0), y : out (1 downto 0); process (all) begin for i in 0 to 1 loop y(i) <= a(i); end loop; end process;
 abbrev pub loop_reads : Entity
-loop_reads = entity (codes "lp") (input (codes "a") (u.vector (downto 3 0)) ∷ output (codes "y") (u.vector (downto 1 0)) ∷ []) []
-    (process u.every (s.for_of (to 0 1)
+loop_reads = entity (codes "lp") (input 10 (codes "a") (u.vector (downto 3 0)) ∷ output 11 (codes "y") (u.vector (downto 1 0)) ∷ []) []
+    (process u.every (s.for_of 51 (to 0 1)
     (s.step (assigned (port 1 (at (e.loop_parameter 0))) (read (port 0 (at (e.loop_parameter 0))))) s.done) ∷ []) ∷ [])
 
 pub record LoopsAreUnrolled : Type 0 where

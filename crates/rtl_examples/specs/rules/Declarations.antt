@@ -6,6 +6,7 @@ use Rattle.vhdl_tree.specs.Tree as t
 use Rattle.vhdl_tree.specs.Tree.{Expr}
 use Rattle.vhdl_names_rules.specs.declared.kind.ElementKind.TheVariants.{Element, LogicVector, Unsigned}
 use Rattle.vhdl_names_rules.specs.declared.kind.ObjectType.TheVariants.{Elements, Enumeration}
+use Rattle.vhdl_names_rules.specs.declared.operator.IntegerType.TheVariants.{Natural}
 use Rattle.vhdl_names_rules.specs.units.Expressions as u
 use Rattle.vhdl_names_rules.specs.units.Statements as s
 use Rattle.vhdl_names_rules.specs.units.Units as u'
@@ -13,10 +14,10 @@ use Rattle.vhdl_names_rules.specs.Visibility as visibility
 use Rattle.vhdl_names_rules.specs.Visibility.{declare, Sight, Declares}
 use Rattle.vhdl_names_rules.specs.Packages.{sight_of}
 use Rattle.vhdl_names_rules.specs.Subtypes.{fixed_value}
-use Rattle.vhdl_names_rules.specs.Declarations.{generic, port, signals}
+use Rattle.vhdl_names_rules.specs.Declarations.{generic, port, constants, signals}
 use Rattle.vhdl_names_rules.specs.Choices.{covered}
 use Rattle.vhdl_names_rules.specs.Interfaces.{interface}
-use Rattle.rtl_examples.specs.rules.Words.{words, name, with_two, enclosed, number, character, string, plain_type, of_four, sight, both_packages, logic_alone}
+use Rattle.rtl_examples.specs.rules.Words.{word, words, name, with_two, enclosed, number, character, string, plain_type, of_four, sight, both_packages, logic_alone}
 
 -- ---- declarations
 
@@ -27,20 +28,37 @@ empty_sight = sight_of both_packages []
 abbrev pub ports_of : List (List ℕ) → t.Subtype → t.Port
 ports_of ns type = record { signal_word = false; names = words ns; mode = None; subtype = type; default = None }
 
-abbrev pub object_of : List ℕ → u'.Object
-object_of n = record { name = n; form = u'.element; is_resolved = true; default = None }
+abbrev pub object_of : (at : ℕ) → List ℕ → u'.Object
+object_of at n = record { at = at; name = n; form = u'.element; is_resolved = true; default = None }
 
 abbrev pub signals_of : List (List ℕ) → t.Subtype → t.Signals
 signals_of ns type = record { names = words ns; subtype = type; default = None }
 
 abbrev pub generics_of : List ℕ → t.Generic
-generics_of mark = record { constant_word = false; names = words (codes "w" ∷ []); in_word = false; mark = record { at = 0; text = mark }; default = None }
+generics_of mark = record { constant_word = false; names = words (codes "w" ∷ codes "x" ∷ []); in_word = false; mark = word mark; default = None }
+
+abbrev pub constants_of : t.Subtype → t.Value → t.Constants
+constants_of type value = record { names = words (codes "w" ∷ codes "x" ∷ []); subtype = type; value = value }
 
 pub record DeclarationsDeclare : Type 0 where
   -- a, b : std_logic, which are inputs
   pub ports : port empty_sight (ports_of (codes "a" ∷ codes "b" ∷ []) (plain_type (codes "std_logic"))) ≡ Some (record {
     declared = declare (codes "a") (visibility.port 0 In Element) ∷ declare (codes "b") (visibility.port 1 In Element) ∷ [];
-    analysed = record { mode = In; object = object_of (codes "a") } ∷ record { mode = In; object = object_of (codes "b") } ∷ [];
+    analysed = record { mode = In; object = object_of 10 (codes "a") } ∷ record { mode = In; object = object_of 11 (codes "b") } ∷ [];
+  })
+  -- w, x : natural, which are generics, and constants with the value 1
+  pub generics : generic empty_sight (generics_of (codes "natural")) ≡ Some (record {
+    declared = declare (codes "w") (visibility.generic 0) ∷ declare (codes "x") (visibility.generic 1) ∷ [];
+    analysed = record { at = 10; type = Natural; default = None } ∷ record { at = 11; type = Natural; default = None } ∷ [];
+  })
+  pub integers : constants empty_sight (constants_of (plain_type (codes "natural")) (t.single (number (codes "1")))) ≡ Some (record {
+    declared = declare (codes "w") (visibility.integer_constant 0) ∷ declare (codes "x") (visibility.integer_constant 1) ∷ [];
+    analysed = u'.Declaration.integer 10 Natural (u.number 1) ∷ u'.Declaration.integer 11 Natural (u.number 1) ∷ [];
+  })
+  -- w, x : std_logic with the value '1'
+  pub elements : constants empty_sight (constants_of (plain_type (codes "std_logic")) (t.single (character 49))) ≡ Some (record {
+    declared = declare (codes "w") (visibility.constant 0 Element (Some (One ∷ []))) ∷ declare (codes "x") (visibility.constant 1 Element (Some (One ∷ []))) ∷ [];
+    analysed = u'.Declaration.constant 10 u'.element (u'.Fixed.literal (One ∷ [])) ∷ u'.Declaration.constant 11 u'.element (u'.Fixed.literal (One ∷ [])) ∷ [];
   })
   -- a, a : std_logic
   pub twice : interface empty_sight None (Some (ports_of (codes "a" ∷ codes "a" ∷ []) (plain_type (codes "std_logic")) ∷ [])) ≡ None

@@ -8,7 +8,7 @@ use Rattle.vhdl_names_rules.specs.units.Expressions as u
 use Rattle.vhdl_names_rules.specs.units.Statements as s
 use Rattle.vhdl_names_rules.specs.units.Units as u'
 use Rattle.vhdl_names_rules.specs.Files.{units_of}
-use Rattle.rtl_examples.specs.rules.Words.{word, words, name, enclosed, character, target, plain_type}
+use Rattle.rtl_examples.specs.rules.Words.{word, word_at, words, name, enclosed, character, target, plain_type}
 
 -- ---- words to write files with
 
@@ -30,7 +30,7 @@ two_ports = Some (port_of In (codes "a") ∷ port_of Out (codes "y") ∷ [])
 abbrev pub entity_with : Option (List t.Port) → List ℕ → DesignUnit
 entity_with ports n = record {
   context = with_logic;
-  unit = t.LibraryUnit.entity (record { at = 0; name = word n; generics = None; ports = ports; end_word = false; end_name = None });
+  unit = t.LibraryUnit.entity (record { at = 26; name = word n; generics = None; ports = ports; end_word = false; end_name = None });
 }
 
 abbrev pub entity : List ℕ → DesignUnit
@@ -39,7 +39,7 @@ entity = entity_with two_ports
 abbrev pub architecture_with : List ContextItem → List t.Declaration → (of : List ℕ) → List t.Concurrent → DesignUnit
 architecture_with items ds n cs = record {
   context = items;
-  unit = t.architecture (record { at = 0; name = word (codes "rtl"); entity = word n; declarations = ds; statements = cs; end_word = false; end_name = None });
+  unit = t.architecture (record { at = 27; name = word (codes "rtl"); entity = word n; declarations = ds; statements = cs; end_word = false; end_name = None });
 }
 
 abbrev pub architecture : (of : List ℕ) → List t.Concurrent → DesignUnit
@@ -57,29 +57,35 @@ abbrev pub e : List ℕ
 e = codes "e"
 
 abbrev pub port_object : List ℕ → u'.Object
-port_object n = record { name = n; form = u'.element; is_resolved = true; default = None }
+port_object n = record { at = 10; name = n; form = u'.element; is_resolved = true; default = None }
 
-abbrev pub whole_port : ℕ → u.SignalPart
-whole_port k = record { signal = u.port k; part = u.whole }
+abbrev pub whole_port : (at : ℕ) → ℕ → u.SignalPart
+whole_port at k = record { at = at; signal = u.port k; part = u.whole }
+
+-- an entity with the two ports, as it is analysed
+abbrev pub analysed : List ℕ → u'.Entity
+analysed n = record {
+  at = 1;
+  name = n;
+  generics = [];
+  ports = record { mode = In; object = port_object (codes "a") } ∷ record { mode = Out; object = port_object (codes "y") } ∷ [];
+  architecture = None;
+}
+
+abbrev pub analysed_with : List ℕ → u'.Concurrent → u'.Entity
+analysed_with n c = record (analysed n) { architecture = Some (record { declarations = []; statements = u'.concurrent c u'.no_concurrents }) }
 
 -- ---- units
 
 pub record UnitsAreOnce : Type 0 where
   -- entity e with its architecture y <= a;
-  pub buffer : units_of (file (entity e ∷ architecture e (y_from_a None ∷ []) ∷ [])) ≡ Some (record {
-    name = e;
-    generics = [];
-    ports = record { mode = In; object = port_object (codes "a") } ∷ record { mode = Out; object = port_object (codes "y") } ∷ [];
-    architecture = Some (record {
-      declarations = [];
-      statements = u'.concurrent (u'.process (record {
-        label = None;
-        variables = [];
-        sensitivity = u'.as_read;
-        body = s.step (s.assign (whole_port 1) (s.single (u.elements (u.of_signal (whole_port 0))))) s.done;
-      })) u'.no_concurrents;
-    });
-  } ∷ [])
+  pub buffer : units_of (file (entity e ∷ architecture e (y_from_a None ∷ []) ∷ [])) ≡ Some (analysed_with e (u'.process (record {
+    at = 6;
+    label = None;
+    variables = [];
+    sensitivity = u'.as_read;
+    body = s.step (s.assign (whole_port 6 1) (s.single (u.elements (u.of_signal (whole_port 1 0))))) s.done;
+  })) ∷ [])
   pub empty : units_of (file []) ≡ Some []
   -- an entity twice, a second architecture, an architecture before its entity, and one of no entity
   pub entity_twice : units_of (file (entity e ∷ entity e ∷ [])) ≡ None
@@ -96,10 +102,10 @@ abbrev pub actual_named : List ℕ → t.Association
 actual_named n = record { formal = None; actual = t.actual (name n) }
 
 abbrev pub for_formal : List ℕ → Expr → t.Association
-for_formal f x = record { formal = Some (word f); actual = t.actual x }
+for_formal f x = record { formal = Some (word_at 29 f); actual = t.actual x }
 
 abbrev pub instance_of : t.Instantiated → List t.Association → t.Concurrent
-instance_of unit as' = t.instance (word (codes "u")) (record { unit = unit; generics = None; ports = Some as' })
+instance_of unit as' = t.instance (word_at 28 (codes "u")) (record { unit = unit; generics = None; ports = Some as' })
 
 abbrev pub k : List ℕ
 k = codes "k"
@@ -121,6 +127,14 @@ is_accepted f = is_some (units_of f)
 pub record FormalsAreAssociated : Type 0 where
   -- u : entity work.k port map (a, y => y)
   pub mixed : is_accepted (with_instance [] work_k (actual_named (codes "a") ∷ for_formal (codes "y") (name (codes "y")) ∷ [])) ≡ true
+  pub placed : units_of (with_instance [] work_k (actual_named (codes "a") ∷ for_formal (codes "y") (name (codes "y")) ∷ []))
+      ≡ Some (analysed k ∷ analysed_with e (u'.instance (record {
+        at = 28;
+        label = codes "u";
+        unit = 0;
+        generics = [];
+        ports = Some (whole_port 1 0) ∷ Some (whole_port 1 1) ∷ [];
+      })) ∷ [])
   -- y => y and then a by its position; a twice; an unknown formal; one actual too many
   pub named_first : is_accepted (with_instance [] work_k (for_formal (codes "y") (name (codes "y")) ∷ actual_named (codes "a") ∷ [])) ≡ false
   pub twice : is_accepted (with_instance [] work_k (actual_named (codes "a") ∷ for_formal (codes "a") (name (codes "a")) ∷ [])) ≡ false

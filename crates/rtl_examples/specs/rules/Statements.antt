@@ -1,5 +1,5 @@
 -- Sequential and concurrent statements, variables, loops and generates.
-use Rattle.std.specs.Prelude.{◌≡◌, true, false, List, [], ◌∷◌, Some, None, codes}
+use Rattle.std.specs.Prelude.{◌≡◌, ℕ, true, false, List, [], ◌∷◌, Some, None, codes}
 use Rattle.vhdl_values.specs.declared.scalar.Nine.TheVariants.{One}
 use Rattle.vhdl_values.specs.declared.kinds.Cmp.TheVariants.{Eq}
 use Rattle.vhdl_tree.specs.declared.operator.Operator.TheVariants as o
@@ -10,12 +10,12 @@ use Rattle.vhdl_names_rules.specs.units.Expressions as u
 use Rattle.vhdl_names_rules.specs.units.Statements as s
 use Rattle.vhdl_names_rules.specs.units.Units as u'
 use Rattle.vhdl_names_rules.specs.Statements.{statement}
-use Rattle.vhdl_names_rules.specs.Concurrent.{process, assignment, concurrent}
-use Rattle.rtl_examples.specs.rules.Words.{word, words, name, number, character, binary, target, plain_type, sight, a}
+use Rattle.vhdl_names_rules.specs.Concurrent.{process, assignment, selected, concurrent}
+use Rattle.rtl_examples.specs.rules.Words.{word, word_at, words, name, number, character, binary, target, plain_type, sight, a}
 
 -- y, as it is assigned
 abbrev pub at_y : u.SignalPart
-at_y = record { signal = u.port 3; part = u.whole }
+at_y = record { at = 6; signal = u.port 3; part = u.whole }
 
 abbrev pub named_a : Expr
 named_a = name (codes "a")
@@ -46,7 +46,7 @@ labelled x = record { label = Some (word (codes "l")); statement = x }
 
 -- process sensitivity variables begin statements end process;
 abbrev pub process_of : t.Sensitivity → List t.Variables → List t.Sequential → t.Process
-process_of on vs xs = record { at = 0; sensitivity = on; is_word = false; variables = vs; statements = xs; end_label = None }
+process_of on vs xs = record { at = 20; sensitivity = on; is_word = false; variables = vs; statements = xs; end_label = None }
 
 -- variable a : std_logic, which hides the port
 abbrev pub variable_a : t.Variables
@@ -64,10 +64,11 @@ null = t.Statement.null_of 0
 pub record ProcessesAreRegions : Type 0 where
   -- process (a) variable a : std_logic; begin a := '1'; y <= a; end process;  the list means the port, the statements the variable
   pub hiding : process sight None (process_of on_a (variable_a ∷ []) through_variable) ≡ Some (record {
+    at = 20;
     label = None;
-    variables = record { name = codes "a"; form = u'.element; is_resolved = true; default = None } ∷ [];
-    sensitivity = u'.listed (record { signal = u.port 0; part = u.whole } ∷ []);
-    body = s.step (s.set 0 u.whole (s.single (u.elements (u.character One)))) (s.step (s.assign at_y (s.single (u.elements (u.of_variable 0 u.whole)))) s.done);
+    variables = record { at = 10; name = codes "a"; form = u'.element; is_resolved = true; default = None } ∷ [];
+    sensitivity = u'.listed (record { at = 6; signal = u.port 0; part = u.whole } ∷ []);
+    body = s.step (s.set 6 0 u.whole (s.single (u.elements (u.character One)))) (s.step (s.assign at_y (s.single (u.elements (u.of_variable 1 0 u.whole)))) s.done);
   })
   -- without the variable, and with it twice
   pub no_variable : process sight None (process_of on_a [] through_variable) ≡ None
@@ -90,10 +91,10 @@ zero_to_three = record { left = u.number 0; direction = To; right = u.number 3 }
 
 -- y <= v(i)
 abbrev pub y_from_v : Ident → t.Value
-y_from_v i = t.single (t.named (word (codes "v")) (t.arguments (t.expr (t.named i t.plain None) t.no_exprs)) None)
+y_from_v i = t.single (t.named (word_at 2 (codes "v")) (t.arguments (t.expr (t.named i t.plain None) t.no_exprs)) None)
 
 abbrev pub element_of_v : u.Static → u.Vector
-element_of_v i = u.of_signal (record { signal = u.port 1; part = u.Part.element i })
+element_of_v i = u.of_signal (record { at = 2; signal = u.port 1; part = u.Part.element i })
 
 -- y <= v(i), alone
 abbrev pub assigning : t.Concurrent
@@ -101,36 +102,36 @@ assigning = t.assignment (record { label = None; target = target (codes "y"); br
 
 -- g : scheme generate y <= v(i); end generate;
 abbrev pub generate : t.Scheme → t.Concurrent
-generate scheme = t.generated (word (codes "g")) 0 scheme false (t.concurrent assigning t.no_concurrents) None
+generate scheme = t.generated (word (codes "g")) 22 scheme false (t.concurrent assigning t.no_concurrents) None
 
 -- g : if test generate end generate;
 abbrev pub empty_if : Expr → t.Concurrent
-empty_if test = t.generated (word (codes "g")) 0 (t.if_holds test) false t.no_concurrents None
+empty_if test = t.generated (word (codes "g")) 22 (t.if_holds test) false t.no_concurrents None
 
 -- for i in 0 to 3 loop y <= v(i); end loop;
 abbrev pub loop_over_v : t.Statement
 loop_over_v =
-    t.Statement.for_of 0 (word (codes "i")) to_three
+    t.Statement.for_of 21 (word (codes "i")) to_three
     (t.step None (t.assigned (target (codes "y")) (y_from_v (word (codes "i")))) t.done) None
 
 -- an assignment of an element of v to y, alone
 abbrev pub y_is_element : u.Static → s.Statements
 y_is_element i = s.step (s.assign at_y (s.single (u.elements (element_of_v i)))) s.done
 
--- a process that is sensitive to what it reads
-abbrev pub reading : s.Statements → u'.Concurrent
-reading body = u'.process (record { label = None; variables = []; sensitivity = u'.as_read; body = body })
+-- a process that starts at this byte and is sensitive to what it reads
+abbrev pub reading : (at : ℕ) → s.Statements → u'.Concurrent
+reading at body = u'.process (record { at = at; label = None; variables = []; sensitivity = u'.as_read; body = body })
 
 pub record TurnsHaveParameters : Type 0 where
-  pub for_loop : statement sight None loop_over_v ≡ Some (s.for_of zero_to_three (y_is_element (u.loop_parameter 0)))
+  pub for_loop : statement sight None loop_over_v ≡ Some (s.for_of 21 zero_to_three (y_is_element (u.loop_parameter 0)))
   -- g : for i in 0 to 3 generate y <= v(i); end generate;
   pub generate_for : concurrent [] sight (generate (t.for_each (word (codes "i")) to_three))
-      ≡ Some (u'.generate_for (codes "g") zero_to_three (u'.concurrent (reading (y_is_element (u.generate_parameter 0))) u'.no_concurrents))
+      ≡ Some (u'.generate_for 22 (codes "g") zero_to_three (u'.concurrent (reading 6 (y_is_element (u.generate_parameter 0))) u'.no_concurrents))
   -- with another parameter i isn't declared
   pub undeclared : concurrent [] sight (generate (t.for_each (word (codes "j")) to_three)) ≡ None
   -- g : if k = 2 generate, and with a signal in the condition
   pub static_condition : concurrent [] sight (empty_if (binary o.Equal (name (codes "k")) (number (codes "2"))))
-      ≡ Some (u'.generate_if (codes "g") (u.StaticTest.compared Eq (u.Static.constant 0) (u.number 2)) u'.no_concurrents)
+      ≡ Some (u'.generate_if 22 (codes "g") (u.StaticTest.compared 5 Eq (u.Static.constant 0) (u.number 2)) u'.no_concurrents)
   pub signal_condition : concurrent [] sight (empty_if (binary o.Equal named_a (character 49))) ≡ None
 
 -- ---- conditional assignments
@@ -144,11 +145,34 @@ y_when test = record {
   otherwise = None;
 }
 
+-- with a select y <= a when others;
+abbrev pub y_selected : t.SelectedAssignment
+y_selected = record {
+  at = 23;
+  selector = named_a;
+  target = target (codes "y");
+  waveforms = record { value = t.single named_a; choices = t.Choice.otherwise 0 ∷ [] } ∷ [];
+}
+
+abbrev pub assigning_a : t.Statements
+assigning_a = t.step None (t.assigned (target (codes "y")) (t.single named_a)) t.done
+
+abbrev pub if_a : t.Statement
+if_a = t.Statement.if_of 24 (t.guarded named_a assigning_a t.no_conditionals) t.no_else None
+
+abbrev pub case_a : t.Statement
+case_a = t.Statement.case_of 25 named_a (t.alternative (t.Choice.otherwise 0 ∷ []) assigning_a t.no_alternatives) None
+
 abbrev pub y_is_a : s.Statements
 y_is_a = s.step (s.assign at_y (s.single (u.elements a))) s.done
 
 pub record ConditionsBecomeIfs : Type 0 where
   -- y <= a when a; leaves the driver alone where a doesn't hold
-  pub without_else : assignment sight (y_when named_a) ≡ Some (reading (s.step (s.if_of (s.branch (u.holds a) y_is_a s.no_else)) s.done))
+  pub without_else : assignment sight (y_when named_a) ≡ Some (reading 6 (s.step (s.if_of 6 (s.branch (u.holds a) y_is_a s.no_else)) s.done))
+  -- with a select y <= a when others;
+  pub selecting : selected sight None y_selected ≡ Some (reading 23 (s.step (s.case_of 23 (u.elements a) (s.others y_is_a)) s.done))
+  -- if a then y <= a; end if; and case a is when others => y <= a; end case;
+  pub sequential_if : statement sight None if_a ≡ Some (s.if_of 24 (s.branch (u.holds a) y_is_a s.no_else))
+  pub sequential_case : statement sight None case_a ≡ Some (s.case_of 25 (u.elements a) (s.others y_is_a))
   -- a vector is no condition
   pub vector : assignment sight (y_when (name (codes "v"))) ≡ None

@@ -1,5 +1,7 @@
--- Words to write small trees with. Places don't count, and stand as 0.
-use Rattle.std.specs.Prelude.{ℕ, true, false, List, [], ◌∷◌, ◌++◌, map, Some, None, codes}
+-- Words to write small trees with. Each kind of thing that units have the byte of stands at one of its own: a name in an expression at 1, one
+-- with parentheses behind it at 2, a number at 3, a string at 4, an operator at 5, a target or a name of a list at 6, what is declared at 10, 11
+-- and so on, a process at 20 and other statements behind it.
+use Rattle.std.specs.Prelude.{ℕ, suc, true, false, List, [], ◌∷◌, ◌++◌, Some, None, codes}
 use Rattle.vhdl_values.specs.declared.scalar.Nine.TheVariants.{One}
 use Rattle.vhdl_tree.specs.declared.operator.Operator.{Operator}
 use Rattle.vhdl_tree.specs.declared.operator.Direction.TheVariants.{Downto}
@@ -17,10 +19,17 @@ use Rattle.vhdl_names_rules.specs.Packages.{Context, sight_of}
 -- ---- trees
 
 abbrev pub word : List ℕ → Ident
-word text = record { at = 0; text = text }
+word text = record { at = 1; text = text }
+
+abbrev pub word_at : (at : ℕ) → List ℕ → Ident
+word_at at text = record { at = at; text = text }
+
+abbrev pub words_from : (at : ℕ) → List (List ℕ) → List Ident
+words_from at [] = []
+words_from at (text ∷ rest) = word_at at text ∷ words_from (suc at) rest
 
 abbrev pub words : List (List ℕ) → List Ident
-words = map word
+words = words_from 10
 
 -- n
 abbrev pub name : List ℕ → Expr
@@ -28,37 +37,37 @@ name n = t.named (word n) t.plain None
 
 -- n ( e )
 abbrev pub with_one : List ℕ → Expr → Expr
-with_one n e = t.named (word n) (t.arguments (t.expr e t.no_exprs)) None
+with_one n e = t.named (word_at 2 n) (t.arguments (t.expr e t.no_exprs)) None
 
 -- n ( d , e )
 abbrev pub with_two : List ℕ → Expr → Expr → Expr
-with_two n d e = t.named (word n) (t.arguments (t.expr d (t.expr e t.no_exprs))) None
+with_two n d e = t.named (word_at 2 n) (t.arguments (t.expr d (t.expr e t.no_exprs))) None
 
 -- n'event
 abbrev pub event : List ℕ → Expr
-event n = t.named (word n) t.plain (Some (word (codes "event")))
+event n = t.named (word n) t.plain (Some (word_at 8 (codes "event")))
 
 -- ( e )
 abbrev pub enclosed : Expr → Expr
-enclosed = t.parens 0
+enclosed = t.parens 7
 
 -- a number, a character and a string of these characters
 abbrev pub number : List ℕ → Expr
-number = t.Expr.integer 0
+number = t.Expr.integer 3
 
 abbrev pub character : ℕ → Expr
-character = t.Expr.character 0
+character = t.Expr.character 4
 
 abbrev pub string : List ℕ → Expr
-string text = t.Expr.string 0 (34 ∷ (text ++ 34 ∷ []))
+string text = t.Expr.string 4 (34 ∷ (text ++ 34 ∷ []))
 
 -- an operator between two operands
 abbrev pub binary : Operator → Expr → Expr → Expr
-binary op d e = t.binary true op 0 d e
+binary op d e = t.binary true op 5 d e
 
 -- a target, or a name of a sensitivity list
 abbrev pub target : List ℕ → t.Name
-target n = record { identifier = word n; suffix = t.plain; attribute = None }
+target n = record { identifier = word_at 6 n; suffix = t.plain; attribute = None }
 
 -- a type without a range, and with ( 3 downto 0 )
 abbrev pub plain_type : List ℕ → t.Subtype
@@ -91,13 +100,13 @@ sight = sight_of both_packages region
 -- ---- what they are analysed to
 
 abbrev pub a : Vector
-a = u.of_signal (record { signal = u.port 0; part = u.whole })
+a = u.of_signal (record { at = 1; signal = u.port 0; part = u.whole })
 
 abbrev pub v : Vector
-v = u.of_signal (record { signal = u.port 1; part = u.whole })
+v = u.of_signal (record { at = 1; signal = u.port 1; part = u.whole })
 
 abbrev pub n : Vector
-n = u.of_signal (record { signal = u.port 2; part = u.whole })
+n = u.of_signal (record { at = 1; signal = u.port 2; part = u.whole })
 
 abbrev pub y : Vector
-y = u.of_signal (record { signal = u.port 3; part = u.whole })
+y = u.of_signal (record { at = 1; signal = u.port 3; part = u.whole })

@@ -21,7 +21,7 @@ use Rattle.rtl_model.proofs.nets.InRange.{type_at}
 use Rattle.rtl_model.proofs.nets.Sources.{source_is_driver, source_is_idle}
 use Rattle.vhdl_names_rules.specs.units.Units.{Units}
 use Rattle.vhdl_names_rules.specs.sound.Units.{are_sound}
-use Rattle.vhdl_expand_rules.specs.declared.fault.ElabProblem.TheVariants.{TwoUnresolved, ReadOfShared, TooMany}
+use Rattle.vhdl_expand_rules.specs.declared.fault.ElabProblem.TheVariants.{TwoUnresolved, TooMany}
 use Rattle.vhdl_expand_rules.specs.Elab.{unless}
 use Rattle.vhdl_expand_rules.specs.Expansion.{Design, expanded_design}
 use Rattle.vhdl_expand_rules.proofs.Steps.{ok, bound, kept}
@@ -31,9 +31,9 @@ use Rattle.vhdl_expand_rules.proofs.laws.Targets.{all_left, all_right}
 use Rattle.rtl_net.specs.Limits.{most_nets, most_processes, most_scopes}
 use Rattle.vhdl_elab_rules.specs.Numbering.{Placed, Numbered, nothing_numbered, above_top, numbered_design}
 use Rattle.vhdl_elab_rules.specs.Wiring.{Element, elements_of, with_defaults, start_by, start_of, flat_net}
-use Rattle.vhdl_elab_rules.specs.Limits.{elements, has_two_unresolved, has_read_of_shared, counts, is_within_limits}
+use Rattle.vhdl_elab_rules.specs.Limits.{elements, first_at, is_two_unresolved, has_two_unresolved, counts, is_within_limits}
 use Rattle.vhdl_elab_rules.specs.Names.{scope_of}
-use Rattle.vhdl_elab_rules.specs.Elaboration.{Elaborated, net_of, netlist_of, elaborated_net}
+use Rattle.vhdl_elab_rules.specs.Elaboration.{Elaborated, net_of, resolves, shares_unread, netlist_of, elaborated_net}
 use Rattle.vhdl_elab_rules.specs.laws.Processes.{ProcessesFit}
 use Rattle.vhdl_elab_rules.specs.laws.Shape.{HasShape}
 use Rattle.vhdl_elab_rules.specs.laws.Wiring.{IsWired}
@@ -182,12 +182,12 @@ pub accepted : (design : Design) (x : Elaborated) → netlist_of design ≡ Ok x
 unfolding netlist_of
 accepted design x e =
     let d : Numbered = numbered_design design in
-    let limits = bound (unless TooMany (is_within_limits (counts d))) _ x e in
-    let two = bound (unless TwoUnresolved (not (has_two_unresolved d))) _ x limits.then_gave in
-    let shared = bound (unless ReadOfShared (not (has_read_of_shared d (flat_net d)))) _ x two.then_gave in
+    let limits = bound (unless TooMany 0 (is_within_limits (counts d))) _ x e in
+    let two = bound (resolves d) _ x limits.then_gave in
+    let shared = bound (shares_unread d) _ x two.then_gave in
     record {
-      limits = kept TooMany (is_within_limits (counts d)) limits.x limits.gave;
-      no_two = not-true (has_two_unresolved d) (kept TwoUnresolved (not (has_two_unresolved d)) two.x two.gave);
+      limits = kept TooMany 0 (is_within_limits (counts d)) limits.x limits.gave;
+      no_two = not-true (has_two_unresolved d) (kept TwoUnresolved (first_at is_two_unresolved (elements d)) (not (has_two_unresolved d)) two.x two.gave);
       is = ok (net_of d) x shared.then_gave;
     }
 

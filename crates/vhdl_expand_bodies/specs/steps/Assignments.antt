@@ -7,15 +7,15 @@ use Rattle.vhdl_expand_rules.specs.Elab.{Elab, ◌>>=◌}
 use Rattle.vhdl_expand_rules.specs.Site.{Site, place_elements, variable_elements}
 use Rattle.vhdl_expand_rules.specs.Statements.{value_given}
 
-module _ (at : Site) where
+module _ (here : Site) where
   abbrev pub assign : SignalPart → Given → Elab bodies.Stmt
   assign p g = do
-    es ← place_elements at p
-    v ← value_given at (length es) g
+    es ← place_elements here p
+    v ← value_given here p.at (length es) g
     Ok (bodies.assign es v)
 
-  abbrev pub set : ℕ → Part → Given → Elab bodies.Stmt
-  set k part g = do
-    es ← variable_elements at k part
-    v ← value_given at (length es) g
+  abbrev pub set : (at : ℕ) → ℕ → Part → Given → Elab bodies.Stmt
+  set at k part g = do
+    es ← variable_elements here at k part
+    v ← value_given here at (length es) g
     Ok (bodies.set es v)

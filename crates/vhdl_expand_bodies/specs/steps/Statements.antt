@@ -35,37 +35,39 @@ alternatives_before last [] = bodies.others last
 alternatives_before last (x ∷ xs) = bodies.alternative x.choices x.statements (alternatives_before last xs)
 
 abbrev pub branch : Site → Guarded → Elab Branch
-branch at g = do
-  c ← test at g.condition
-  x ← statements at (statements_of g.statements)
+branch here g = do
+  c ← test here g.condition
+  x ← statements here (statements_of g.statements)
   Ok (record { test = c; statements = x })
 
 abbrev pub conditional : Site → List Guarded → u.Branches → Elab bodies.Stmt
-conditional at gs last = do
-  bs ← each (branch at) gs
-  y ← branches at last
+conditional here gs last = do
+  bs ← each (branch here) gs
+  y ← branches here last
   Ok (bodies.if_of (branches_before y bs))
 
-abbrev pub alternative : Site → (len : ℕ) → Chosen → Elab Alternative
-alternative at len g = do
-  cs ← each (choice len) g.choices
-  x ← statements at (statements_of g.statements)
+-- of a case that starts at this byte
+abbrev pub alternative : Site → (at : ℕ) → (len : ℕ) → Chosen → Elab Alternative
+alternative here at len g = do
+  cs ← each (choice at len) g.choices
+  x ← statements here (statements_of g.statements)
   Ok (record { choices = cs; statements = x })
 
-abbrev pub selection : Site → Value → List Chosen → u.Statements → Elab bodies.Stmt
-selection at v gs last = do
-  e ← value at v
-  bs ← each (alternative at (value_width e)) gs
-  y ← statements at last
+abbrev pub selection : Site → (at : ℕ) → Value → List Chosen → u.Statements → Elab bodies.Stmt
+selection here at v gs last = do
+  e ← value here at v
+  bs ← each (alternative here at (value_width e)) gs
+  y ← statements here last
   Ok (bodies.case_of e (alternatives_before y bs))
 
 -- the turns of a loop whose parameter has these values
 abbrev pub repeated : Site → u.Statements → List ℤ → Elab bodies.Stmts
-repeated at body is = do
-  ss ← each (λ i. statements (in_loop at i) body) is
+repeated here body is = do
+  ss ← each (λ i. statements (in_loop here i) body) is
   Ok (joined_bodies ss)
 
-abbrev pub turned : Site → Range → u.Statements → Elab bodies.Stmts
-turned at r body = do
-  is ← turns at.integers r
-  repeated at body is
+-- of a loop that starts at this byte
+abbrev pub turned : Site → (at : ℕ) → Range → u.Statements → Elab bodies.Stmts
+turned here at r body = do
+  is ← turns here.integers at r
+  repeated here body is

@@ -1,5 +1,5 @@
 -- Parts of conditions, as the code comes to them.
-use Rattle.std.specs.Prelude.{Bool, true, false, List, [], ◌∷◌, Option, Some, None, Ok}
+use Rattle.std.specs.Prelude.{ℕ, Bool, true, false, List, [], ◌∷◌, Option, Some, None, Ok}
 use Rattle.vhdl_values.specs.declared.scalar.Nine.{Nine}
 use Rattle.vhdl_values.specs.declared.kinds.Cmp.{Cmp}
 use Rattle.vhdl_names_rules.specs.declared.test.TestLink.{TestLink}
@@ -36,51 +36,52 @@ abbrev pub character_of : Value → Option Character
 character_of (u.Value.elements x) = character_in x
 character_of _ = None
 
-module _ (at : Site) where
+module _ (here : Site) where
   abbrev pub level : (plain : Bool) → SignalPart → Nine → Elab bodies.Test
   level plain p x = do
-    es ← place_elements at p
+    es ← place_elements here p
     Ok (level_test plain es x)
 
-  abbrev pub equal : Value → Value → Elab bodies.Test
-  equal v w = do
-    d ← value at v
-    e ← value at w
+  -- by an operator that starts at this byte
+  abbrev pub equal : (at : ℕ) → Value → Value → Elab bodies.Test
+  equal at v w = do
+    d ← value here at v
+    e ← value here at w
     Ok (bodies.equal d e)
 
-  abbrev pub unlike : Value → Value → Elab bodies.Test
-  unlike v w = do
-    d ← value at v
-    e ← value at w
+  abbrev pub unlike : (at : ℕ) → Value → Value → Elab bodies.Test
+  unlike at v w = do
+    d ← value here at v
+    e ← value here at w
     Ok (bodies.unequal d e)
 
   abbrev pub compared : Cmp → Vector → Vector → Elab bodies.Test
   compared op x y = do
-    d ← vector at x
-    e ← vector at y
+    d ← vector here x
+    e ← vector here y
     Ok (bodies.compared op d e)
 
-  abbrev pub compared_to : Cmp → Vector → Static → Elab bodies.Test
-  compared_to op x s = do
-    e ← vector at x
-    n ← natural at.integers s
+  abbrev pub compared_to : (at : ℕ) → Cmp → Vector → Static → Elab bodies.Test
+  compared_to at op x s = do
+    e ← vector here x
+    n ← natural here.integers at s
     Ok (bodies.compared_to op e n)
 
   -- a name and a character literal, in either order, or any other values
-  abbrev pub alike : Value → Value → Elab bodies.Test
-  alike v w = by (name_of v) (character_of w) (character_of v) (name_of w)
+  abbrev pub alike : (at : ℕ) → Value → Value → Elab bodies.Test
+  alike at v w = by (name_of v) (character_of w) (character_of v) (name_of w)
     where
       by : Option SignalPart → Option Character → Option Character → Option SignalPart → Elab bodies.Test
       by (Some p) (Some c) _ _ = level c.is_plain p c.literal
-      by (Some p) None _ _ = equal v w
+      by (Some p) None _ _ = equal at v w
       by None _ (Some c) (Some p) = level false p c.literal
-      by None _ (Some c) None = equal v w
-      by None _ None _ = equal v w
+      by None _ (Some c) None = equal at v w
+      by None _ None _ = equal at v w
 
   -- a logical operator with its right operand, after a condition
   abbrev pub linked : bodies.Test → TestLink → Elab bodies.Test
   linked c l = do
-    d ← test at (test_view l.operand)
+    d ← test here (test_view l.operand)
     Ok (bodies.combined l.operator c d)
 
   abbrev pub all_linked : bodies.Test → List TestLink → Elab bodies.Test
@@ -91,5 +92,5 @@ module _ (at : Site) where
 
   abbrev pub started : TestStart → Elab bodies.Test
   started s = do
-    c ← test at (test_view s.first)
+    c ← test here (test_view s.first)
     linked c s.link

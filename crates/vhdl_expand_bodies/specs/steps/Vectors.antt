@@ -18,48 +18,48 @@ use Rattle.vhdl_expand_rules.specs.Kinds.{as_size, size_of, count_of}
 use Rattle.vhdl_expand_rules.specs.Site.{Site, place_elements, variable_elements}
 use Rattle.vhdl_expand_rules.specs.Expressions.{operation_on, operator, numeric, vector}
 
-abbrev pub literal : List Nine → Elab bodies.Expr
-literal xs = do
-  as_size (length xs)
+abbrev pub literal : (at : ℕ) → List Nine → Elab bodies.Expr
+literal at xs = do
+  as_size at (length xs)
   Ok (bodies.constant xs)
 
-module _ (at : Site) where
+module _ (here : Site) where
   abbrev pub signal : SignalPart → Elab bodies.Expr
   signal p = do
-    es ← place_elements at p
+    es ← place_elements here p
     Ok (bodies.signal es)
 
-  abbrev pub variable : ℕ → Part → Elab bodies.Expr
-  variable k part = do
-    es ← variable_elements at k part
+  abbrev pub variable : (at : ℕ) → ℕ → Part → Elab bodies.Expr
+  variable at k part = do
+    es ← variable_elements here at k part
     Ok (bodies.variable es)
 
-  abbrev pub encoded : Static → Static → Elab bodies.Expr
-  encoded s t = do
-    n ← natural at.integers s
-    len ← size_of at.integers t
+  abbrev pub encoded : (at : ℕ) → Static → Static → Elab bodies.Expr
+  encoded at s t = do
+    n ← natural here.integers at s
+    len ← size_of here.integers at t
     Ok (bodies.constant (digits_of len n))
 
-  abbrev pub by_count : Counted → Vector → Static → Elab bodies.Expr
-  by_count op x s = do
-    e ← vector at x
-    n ← count_of op at.integers s
+  abbrev pub by_count : (at : ℕ) → Counted → Vector → Static → Elab bodies.Expr
+  by_count at op x s = do
+    e ← vector here x
+    n ← count_of op here.integers at s
     Ok (bodies.counted op n e)
 
-  abbrev pub integer_with : Numeric → Static → Vector → Elab bodies.Expr
-  integer_with op s x = do
-    n ← natural at.integers s
-    e ← vector at x
-    operation_on (numeric op) (bodies.constant (digits_of (width e) n)) e
+  abbrev pub integer_with : (at : ℕ) → Numeric → Static → Vector → Elab bodies.Expr
+  integer_with at op s x = do
+    n ← natural here.integers at s
+    e ← vector here x
+    operation_on at (numeric op) (bodies.constant (digits_of (width e) n)) e
 
   -- an operator with its right operand, after an expression
   abbrev pub linked : bodies.Expr → VectorLink → Elab bodies.Expr
-  linked d (l.Vector op pos x) = do
-    e ← vector at (vector_view x)
-    operation_on (operator op) d e
-  linked d (l.Integer op pos s) = do
-    n ← natural at.integers (static_view s)
-    operation_on (numeric op) d (bodies.constant (digits_of (width d) n))
+  linked d (l.Vector op at x) = do
+    e ← vector here (vector_view x)
+    operation_on at (operator op) d e
+  linked d (l.Integer op at s) = do
+    n ← natural here.integers at (static_view s)
+    operation_on at (numeric op) d (bodies.constant (digits_of (width d) n))
 
   abbrev pub all_linked : bodies.Expr → List VectorLink → Elab bodies.Expr
   all_linked d [] = Ok d
@@ -69,5 +69,5 @@ module _ (at : Site) where
 
   abbrev pub started : VectorStart → Elab bodies.Expr
   started s = do
-    d ← vector at (vector_view s.first)
+    d ← vector here (vector_view s.first)
     linked d s.link

@@ -39,18 +39,18 @@ pub record Plain (role : Role) (o : u.Object) (x : Object) : Type 0 where
   pub resolved : x.is_resolved ≡ true → element_type x.kind ≡ nine_valued
   pub none : x.actual ≡ None
 
-object-plain : (i : Inside) (at : Site) (role : Role) (o : u.Object) (x : Object) → object_fits i o ≡ true → object at role o ≡ Ok x → Plain role o x
+object-plain : (i : Inside) (here : Site) (role : Role) (o : u.Object) (x : Object) → object_fits i o ≡ true → object here role o ≡ Ok x → Plain role o x
 unfolding object
-object-plain i at role o x h e =
+object-plain i here role o x h e =
     let both = and_parts (form_fits i o.form && may_be_resolved o.form o.is_resolved) (default_fits i (shape_of o.form) o.default) h in
     let first = and_parts (form_fits i o.form) (may_be_resolved o.form o.is_resolved) both.0 in
-    let k = bound (kind_of at.integers o.form) _ x e in
-    let vs = bound (starts at k.x o.default) _ x k.then_gave in
-    let of = kind_is_of i at.integers o.form k.x first.0 k.gave in
+    let k = bound (kind_of here.integers o.at o.form) _ x e in
+    let vs = bound (starts here o.at k.x o.default) _ x k.then_gave in
+    let of = kind_is_of i here.integers o.at o.form k.x first.0 k.gave in
     subst (Plain role o) (ok _ x vs.then_gave) (record {
       kind = of;
       role_is = refl;
-      starts = starts_below i at o.form k.x o.default vs.x of both.1 vs.gave;
+      starts = starts_below i here o.at o.form k.x o.default vs.x of both.1 vs.gave;
       resolved = λ r. resolved_kind o.form k.x o.is_resolved of first.1 r;
       none = refl;
     })
@@ -81,9 +81,9 @@ pub record Interface (i : Inside) (done : List Port) (d : InstanceObjects) : Typ
 abbrev PortFits : Inside → Port → Type 0
 PortFits i p = (object_fits i p.object ≡ true) × (port_fits p ≡ true)
 
-port-object : (i : Inside) (at : Site) (p : Port) (o : Object) → PortFits i p → object at (role_of p.mode) p.object ≡ Ok o → PortObject p o
-port-object i at p o h e =
-    let w = object-plain i at (role_of p.mode) p.object o h.0 e in
+port-object : (i : Inside) (here : Site) (p : Port) (o : Object) → PortFits i p → object here (role_of p.mode) p.object ≡ Ok o → PortObject p o
+port-object i here p o h e =
+    let w = object-plain i here (role_of p.mode) p.object o h.0 e in
     record { plain = w; nine = elements_kind p.object.form o.kind w.kind h.1 }
 
 port-added : (i : Inside) (done : List Port) (d : InstanceObjects) (p : Port) (o : Object) → Interface i done d → PortObject p o → Interface i (done ++ p ∷ []) (with_port d o)
@@ -150,22 +150,22 @@ joined-driven : (i : Inside) (m : Mode) (p : SignalPart) → may_join i m p.sign
 joined-driven i Out p h e = h
 joined-driven i In p h e = absurd cc
 
-association-sound : (i : Inside) (at : Site) (ps ss : List Object) (p : Port) (actual : Option SignalPart) (o x : Object) → IsDeclared i at ps ss → PortObject p o → actual_fits i p actual ≡ true
-    → association at p actual o ≡ Ok x → (x.kind ≡ o.kind) × Joined (ps ++ ss) p x
+association-sound : (i : Inside) (here : Site) (at : ℕ) (ps ss : List Object) (p : Port) (actual : Option SignalPart) (o x : Object) → IsDeclared i here ps ss → PortObject p o → actual_fits i p actual ≡ true
+    → association here at p actual o ≡ Ok x → (x.kind ≡ o.kind) × Joined (ps ++ ss) p x
 unfolding association
-association-sound i at ps ss p None o x h w fit e =
-    let a = bound (unless Unassociated (not (is_input o.role) || is_some p.object.default)) _ x e in
+association-sound i here at ps ss p None o x h w fit e =
+    let a = bound (unless Unassociated at (not (is_input o.role) || is_some p.object.default)) _ x e in
     subst (λ (y : Object). (y.kind ≡ o.kind) × Joined (ps ++ ss) p y) (ok o x a.then_gave) (refl, port-sound (ps ++ ss) p o w)
-association-sound i at ps ss p (Some place) o x h w fit e =
+association-sound i here at ps ss p (Some place) o x h w fit e =
     let both = and_parts (fits_shape (shape_of p.object.form) (place_shape i place)) (may_join i p.mode place.signal) fit in
-    let es = bound (place_elements at place) _ x e in
-    let a = bound (same_length (length es.x) (size o.kind)) _ x es.then_gave in
-    let n = each-name-fits i at place (shape_of p.object.form) es.x h.site (has_shape (shape_of p.object.form) (place_shape i place) both.0) es.gave in
+    let es = bound (place_elements here place) _ x e in
+    let a = bound (same_length place.at (length es.x) (size o.kind)) _ x es.then_gave in
+    let n = each-name-fits i here place (shape_of p.object.form) es.x h.site (has_shape (shape_of p.object.form) (place_shape i place) both.0) es.gave in
     let type_is = (whole p.object.form o.kind w.plain.kind).type_is in
     let plain = (port-sound (ps ++ ss) p o w).sound in
     let typed : All (HasType (object_types (ps ++ ss)) (element_type o.kind)) es.x =
-    subst (λ (ts : List ElementType). All (HasType ts (element_type o.kind)) es.x) (site-types i at ps ss h)
-    (subst (λ (t : ElementType). All (HasType (scope_at at).nets t) es.x) type_is n.typed) in
+    subst (λ (ts : List ElementType). All (HasType ts (element_type o.kind)) es.x) (site-types i here ps ss h)
+    (subst (λ (t : ElementType). All (HasType (scope_at here).nets t) es.x) type_is n.typed) in
     subst (λ (y : Object). (y.kind ≡ o.kind) × Joined (ps ++ ss) p y) (ok (record o { actual = Some es.x }) x a.then_gave) (
       refl,
       record {
@@ -178,7 +178,7 @@ association-sound i at ps ss p (Some place) o x h w fit e =
           signals_have_none = λ r. absurd (port-is p.mode (ap is_port (sym w.plain.role_is) ∙ r));
           actual = λ fs q. subst (λ (gs : List ℕ). All (HasType (object_types (ps ++ ss)) (element_type o.kind)) gs) (same-list es.x fs q) typed;
           driven = λ fs q r. subst (λ (gs : List ℕ). All (MayBeDriven (ps ++ ss)) gs) (same-list es.x fs q)
-              (driven_elements i at ps ss place.signal place.part es.x h (joined-driven i p.mode place both.1 (ap is_input (sym w.plain.role_is) ∙ r)) es.gave);
+              (driven_elements i here place.at ps ss place.signal place.part es.x h (joined-driven i p.mode place both.1 (ap is_input (sym w.plain.role_is) ∙ r)) es.gave);
         };
       },
     )
@@ -191,20 +191,20 @@ pub record AllJoined (above : List Object) (fs : List Port) (os xs : List Object
   pub kinds : object_kinds xs ≡ object_kinds os
   pub joined : AllZip (Joined above) fs xs
 
-pub associations-sound : (i : Inside) (at : Site) (ps ss : List Object) (fs : List Port) (actuals : List (Option SignalPart)) (os xs : List Object) → IsDeclared i at ps ss → AllZip PortObject fs os
-    → actuals_fit i fs actuals ≡ true → associations at fs actuals os ≡ Ok xs → AllJoined (ps ++ ss) fs os xs
+pub associations-sound : (i : Inside) (here : Site) (at : ℕ) (ps ss : List Object) (fs : List Port) (actuals : List (Option SignalPart)) (os xs : List Object) → IsDeclared i here ps ss → AllZip PortObject fs os
+    → actuals_fit i fs actuals ≡ true → associations here at fs actuals os ≡ Ok xs → AllJoined (ps ++ ss) fs os xs
 unfolding associations
-associations-sound i at ps ss [] [] [] xs h w fit e = subst (AllJoined (ps ++ ss) [] []) (ok [] xs e) (record { kinds = refl; joined = tt })
-associations-sound i at ps ss [] (a ∷ as') os xs h w fit e = absurd cc
-associations-sound i at ps ss [] [] (o ∷ os) xs h w fit e = elim w [ ]
-associations-sound i at ps ss (f ∷ fs) [] os xs h w fit e = absurd cc
-associations-sound i at ps ss (f ∷ fs) (a ∷ as') [] xs h w fit e = elim w [ ]
-associations-sound i at ps ss (f ∷ fs) (a ∷ as') (o ∷ os) xs h w fit e =
+associations-sound i here at ps ss [] [] [] xs h w fit e = subst (AllJoined (ps ++ ss) [] []) (ok [] xs e) (record { kinds = refl; joined = tt })
+associations-sound i here at ps ss [] (a ∷ as') os xs h w fit e = absurd cc
+associations-sound i here at ps ss [] [] (o ∷ os) xs h w fit e = elim w [ ]
+associations-sound i here at ps ss (f ∷ fs) [] os xs h w fit e = absurd cc
+associations-sound i here at ps ss (f ∷ fs) (a ∷ as') [] xs h w fit e = elim w [ ]
+associations-sound i here at ps ss (f ∷ fs) (a ∷ as') (o ∷ os) xs h w fit e =
     let both = and_parts (actual_fits i f a) (actuals_fit i fs as') fit in
-    let y = bound (association at f a o) _ xs e in
-    let ys = bound (associations at fs as' os) _ xs y.then_gave in
-    let first = association-sound i at ps ss f a o y.x h w.0 both.0 y.gave in
-    let rest = associations-sound i at ps ss fs as' os ys.x h w.1 both.1 ys.gave in
+    let y = bound (association here at f a o) _ xs e in
+    let ys = bound (associations here at fs as' os) _ xs y.then_gave in
+    let first = association-sound i here at ps ss f a o y.x h w.0 both.0 y.gave in
+    let rest = associations-sound i here at ps ss fs as' os ys.x h w.1 both.1 ys.gave in
     subst (AllJoined (ps ++ ss) (f ∷ fs) (o ∷ os)) (ok (y.x ∷ ys.x) xs ys.then_gave) (record {
       kinds = ap (λ (k : ObjectKind). k ∷ object_kinds ys.x) first.0 ∙ ap (λ (ks : List ObjectKind). o.kind ∷ ks) rest.kinds;
       joined = (first.1, rest.joined);
@@ -224,10 +224,10 @@ Anywhere o = (above : List Object) → ObjectIsSound above o
 
 declaration-stands : (x : Declaration) (i : Inside) (d e : InstanceObjects) (ps : List Object) → declaration_fits i x ≡ true → Stands i d ps → declaration d x ≡ Ok e → Stands (with_declaration i x) e ps
 unfolding declaration
-declaration-stands (u.integer type s) i d e ps fit h k =
-    let j = bound (integer_of type d.site.integers s) _ e k in
+declaration-stands (u.integer at type s) i d e ps fit h k =
+    let j = bound (integer_of type d.site.integers at s) _ e k in
     let w = h.declared in
-    subst (λ (y : InstanceObjects). Stands (with_declaration i (u.integer type s)) y ps) (ok _ e j.then_gave) (record {
+    subst (λ (y : InstanceObjects). Stands (with_declaration i (u.integer at type s)) y ps) (ok _ e j.then_gave) (record {
       signals = h.signals;
       objects = h.objects;
       declared = record {
@@ -239,13 +239,13 @@ declaration-stands (u.integer type s) i d e ps fit h k =
       };
       sound = h.sound;
     })
-declaration-stands (u.Declaration.constant form f) i d e ps fit h k =
-    let c = bound (kind_of d.site.integers form) _ e k in
-    let vs = bound (fixed_values d.site (size c.x) f) _ e c.then_gave in
+declaration-stands (u.Declaration.constant at form f) i d e ps fit h k =
+    let c = bound (kind_of d.site.integers at form) _ e k in
+    let vs = bound (fixed_values d.site at (size c.x) f) _ e c.then_gave in
     let both = and_parts (form_fits i form) (fixed_fits i (shape_of form) f) fit in
-    let of = kind_is_of i d.site.integers form c.x both.0 c.gave in
+    let of = kind_is_of i d.site.integers at form c.x both.0 c.gave in
     let w = h.declared in
-    subst (λ (y : InstanceObjects). Stands (with_declaration i (u.Declaration.constant form f)) y ps) (ok _ e vs.then_gave) (record {
+    subst (λ (y : InstanceObjects). Stands (with_declaration i (u.Declaration.constant at form f)) y ps) (ok _ e vs.then_gave) (record {
       signals = h.signals;
       objects = h.objects;
       declared = record {

@@ -27,10 +27,10 @@ use Rattle.vhdl_expand_rules.proofs.laws.Names.{was_found, zip_at, get-past, get
 use Rattle.vhdl_expand_rules.proofs.laws.Prefixes.{places_below}
 
 -- What is known of a site, whose ports and signals are these objects.
-pub record IsDeclared (i : Inside) (at : Site) (ps ss : List Object) : Type 0 where
-  pub site : IsSite i at
-  pub ports : object_kinds ps ≡ at.ports
-  pub signals : object_kinds ss ≡ at.signals
+pub record IsDeclared (i : Inside) (here : Site) (ps ss : List Object) : Type 0 where
+  pub site : IsSite i here
+  pub ports : object_kinds ps ≡ here.ports
+  pub signals : object_kinds ss ≡ here.signals
   pub roles : AllZip (λ (p : Port) (o : Object). o.role ≡ role_of p.mode) i.ports ps
   pub internals : All (λ (o : Object). o.role ≡ internal) ss
 
@@ -56,9 +56,9 @@ role_at (q ∷ os) (suc n) o p h l =
     let front : List Role = replicate (size q.kind) q.role in
     let len : length front ≡ size q.kind = length-replicate (size q.kind) q.role in
     let c : ℕ = elements_count (take n (object_kinds os)) in
-    let at : elements_count (q.kind ∷ take n (object_kinds os)) + p ≡ length front + (c + p) =
+    let here : elements_count (q.kind ∷ take n (object_kinds os)) + p ≡ length front + (c + p) =
     ap (λ m. m + p) (count-cons q.kind (take n (object_kinds os))) ∙ plus-assoc (size q.kind) c p ∙ ap (λ m. m + (c + p)) (sym len) in
-    ap (slice_get (front ++ object_roles os)) at ∙ get-past front (object_roles os) (c + p) ∙ role_at os n o p h l
+    ap (slice_get (front ++ object_roles os)) here ∙ get-past front (object_roles os) (c + p) ∙ role_at os n o p h l
 
 pub roles-append : (ps ss : List Object) → object_roles (ps ++ ss) ≡ object_roles ps ++ object_roles ss
 roles-append [] ss = refl
@@ -71,9 +71,9 @@ types-of-append (k ∷ ks) js =
     ap (λ (ts : List ElementType). replicate (size k) (element_type k) ++ ts) (types-of-append ks js) ∙ sym (append_assoc (replicate (size k) (element_type k)) (kinds_types ks) (kinds_types js))
 
 -- the types of the elements of these objects are those that the site has
-pub site-types : (i : Inside) (at : Site) (ps ss : List Object) → IsDeclared i at ps ss → kinds_types at.ports ++ kinds_types at.signals ≡ object_types (ps ++ ss)
-site-types i at ps ss h =
-    ap (λ (ks : List ObjectKind). kinds_types ks ++ kinds_types at.signals) (sym h.ports) ∙ ap (λ (ks : List ObjectKind). kinds_types (object_kinds ps) ++ kinds_types ks) (sym h.signals)
+pub site-types : (i : Inside) (here : Site) (ps ss : List Object) → IsDeclared i here ps ss → kinds_types here.ports ++ kinds_types here.signals ≡ object_types (ps ++ ss)
+site-types i here ps ss h =
+    ap (λ (ks : List ObjectKind). kinds_types ks ++ kinds_types here.signals) (sym h.ports) ∙ ap (λ (ks : List ObjectKind). kinds_types (object_kinds ps) ++ kinds_types ks) (sym h.signals)
     ∙ sym (types-of-append (object_kinds ps) (object_kinds ss)) ∙ ap kinds_types (sym (map-append (λ (o : Object). o.kind) ps ss))
 
 count-append : (ks js : List ObjectKind) → elements_count (ks ++ js) ≡ elements_count ks + elements_count js
@@ -82,21 +82,21 @@ count-append (k ∷ ks) js =
     count-cons k (ks ++ js) ∙ ap (λ n. size k + n) (count-append ks js) ∙ sym (plus-assoc (size k) (elements_count ks) (elements_count js))
     ∙ ap (λ n. n + elements_count js) (sym (count-cons k ks))
 
-pub site-count : (i : Inside) (at : Site) (ps ss : List Object) → IsDeclared i at ps ss → elements_count at.ports + elements_count at.signals ≡ elements_count (object_kinds (ps ++ ss))
-site-count i at ps ss h =
-    ap (λ (ks : List ObjectKind). elements_count ks + elements_count at.signals) (sym h.ports) ∙ ap (λ (ks : List ObjectKind). elements_count (object_kinds ps) + elements_count ks) (sym h.signals)
+pub site-count : (i : Inside) (here : Site) (ps ss : List Object) → IsDeclared i here ps ss → elements_count here.ports + elements_count here.signals ≡ elements_count (object_kinds (ps ++ ss))
+site-count i here ps ss h =
+    ap (λ (ks : List ObjectKind). elements_count ks + elements_count here.signals) (sym h.ports) ∙ ap (λ (ks : List ObjectKind). elements_count (object_kinds ps) + elements_count ks) (sym h.signals)
     ∙ sym (count-append (object_kinds ps) (object_kinds ss)) ∙ ap elements_count (sym (map-append (λ (o : Object). o.kind) ps ss))
 
 -- ---- elements of a part
 
-part-all : (P : ℕ → Type 0) (at : Integers) (from : ℕ) (kinds : List ObjectKind) (n : ℕ) (part : Part) (es : List ℕ) → part_elements at from kinds n part ≡ Ok es
+part-all : (P : ℕ → Type 0) (here : Integers) (at from : ℕ) (kinds : List ObjectKind) (n : ℕ) (part : Part) (es : List ℕ) → part_elements here at from kinds n part ≡ Ok es
     → ((kind : ObjectKind) (p : ℕ) → slice_get kinds n ≡ Some kind → p < size kind → P (from + elements_count (take n kinds) + p)) → All P es
-part-all P at from kinds n part es h go =
-    let kind = bound (item_or Index (slice_get kinds n)) _ es h in
-    let ps = bound (places at kind.x part) _ es kind.then_gave in
+part-all P here at from kinds n part es h go =
+    let kind = bound (item_or Index at (slice_get kinds n)) _ es h in
+    let ps = bound (places here at kind.x part) _ es kind.then_gave in
     let f : ℕ → ℕ = λ p. from + elements_count (take n kinds) + p in
     subst (All P) (ok (map f ps.x) es ps.then_gave)
-    (All-map P f ps.x (All-weaker (λ p. p < size kind.x) (λ p. P (f p)) (λ p l. go kind.x p (was_found Index (slice_get kinds n) kind.x kind.gave) l) ps.x (places_below at kind.x part ps.x ps.gave)))
+    (All-map P f ps.x (All-weaker (λ p. p < size kind.x) (λ p. P (f p)) (λ p l. go kind.x p (was_found Index at (slice_get kinds n) kind.x kind.gave) l) ps.x (places_below here at kind.x part ps.x ps.gave)))
 
 -- the object of this number, where there is a kind
 record AnObject (os : List Object) (n : ℕ) (k : ObjectKind) : Type 0 where
@@ -133,13 +133,13 @@ out-port i n h = by (slice_get i.ports n) refl h
 none-plus : (n : ℕ) → 0 + n ≡ n
 none-plus n = omega arith
 
-pub driven_elements : (i : Inside) (at : Site) (ps ss : List Object) (x : Signal) (part : Part) (es : List ℕ) → IsDeclared i at ps ss → is_driven i x ≡ true → signal_elements at x part ≡ Ok es
+pub driven_elements : (i : Inside) (here : Site) (at : ℕ) (ps ss : List Object) (x : Signal) (part : Part) (es : List ℕ) → IsDeclared i here ps ss → is_driven i x ≡ true → signal_elements here at x part ≡ Ok es
     → All (MayBeDriven (ps ++ ss)) es
 unfolding signal_elements
-driven_elements i at ps ss (u.port n) part es h d e =
+driven_elements i here at ps ss (u.port n) part es h d e =
     let out = out-port i n d in
-    let there : part_elements at.integers 0 (object_kinds ps) n part ≡ Ok es = ap (λ (ks : List ObjectKind). part_elements at.integers 0 ks n part) h.ports ∙ e in
-    part-all (MayBeDriven (ps ++ ss)) at.integers 0 (object_kinds ps) n part es there (λ kind p k l.
+    let there : part_elements here.integers at 0 (object_kinds ps) n part ≡ Ok es = ap (λ (ks : List ObjectKind). part_elements here.integers at 0 ks n part) h.ports ∙ e in
+    part-all (MayBeDriven (ps ++ ss)) here.integers at 0 (object_kinds ps) n part es there (λ kind p k l.
     let a = an-object ps n kind k in
     let role : a.object.role ≡ output = zip_at (λ (q : Port) (o : Object). o.role ≡ role_of q.mode) i.ports ps n out.port a.object h.roles out.is a.is ∙ out.role in
     let c : ℕ = elements_count (take n (object_kinds ps)) in (
@@ -150,11 +150,11 @@ driven_elements i at ps ss (u.port n) part es h d e =
           ∙ role_at ps n a.object p a.is (subst (λ (q : ObjectKind). p < size q) (sym a.kind_is) l) ∙ ap Some role),
       refl,
     ))
-driven_elements i at ps ss (u.Signal.signal n) part es h d e =
+driven_elements i here at ps ss (u.Signal.signal n) part es h d e =
     let from : ℕ = elements_count (object_kinds ps) in
-    let there : part_elements at.integers from (object_kinds ss) n part ≡ Ok es =
-    ap (λ (ks : List ObjectKind). part_elements at.integers (elements_count ks) (object_kinds ss) n part) h.ports ∙ ap (λ (ks : List ObjectKind). part_elements at.integers (elements_count at.ports) ks n part) h.signals ∙ e in
-    part-all (MayBeDriven (ps ++ ss)) at.integers from (object_kinds ss) n part es there (λ kind p k l.
+    let there : part_elements here.integers at from (object_kinds ss) n part ≡ Ok es =
+    ap (λ (ks : List ObjectKind). part_elements here.integers at (elements_count ks) (object_kinds ss) n part) h.ports ∙ ap (λ (ks : List ObjectKind). part_elements here.integers at (elements_count here.ports) ks n part) h.signals ∙ e in
+    part-all (MayBeDriven (ps ++ ss)) here.integers at from (object_kinds ss) n part es there (λ kind p k l.
     let a = an-object ss n kind k in
     let role : a.object.role ≡ internal = all-at (λ (o : Object). o.role ≡ internal) ss n a.object h.internals a.is in
     let c : ℕ = elements_count (take n (object_kinds ss)) in (

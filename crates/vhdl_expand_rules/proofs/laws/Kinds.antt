@@ -33,43 +33,43 @@ some_extent d x y h = by (is_null d x y) (nat_abs (x -ℤ y)) h
     by true n h = absurd cc
     by false n h = omega arith
 
-natural_is : (x : ℤ) (n : ℕ) → as_natural x ≡ Ok n → x ≡ pos n
-natural_is (pos m) n h = ap pos (ok m n h)
-natural_is (negsuc m) n h = absurd cc
+natural_is : (at : ℕ) (x : ℤ) (n : ℕ) → as_natural at x ≡ Ok n → x ≡ pos n
+natural_is at (pos m) n h = ap pos (ok m n h)
+natural_is at (negsuc m) n h = absurd cc
 
-bounds_width : (at : Integers) (r : Range) (b : Bounds) → declared_bounds at r ≡ Ok b → IsWidth (bounds_size b)
+bounds_width : (here : Integers) (at : ℕ) (r : Range) (b : Bounds) → declared_bounds here at r ≡ Ok b → IsWidth (bounds_size b)
 unfolding declared_bounds
-bounds_width at r b h =
-    let x = bound (integer at r.left) _ b h in
-    let y = bound (integer at r.right) _ b x.then_gave in
-    let some = bound (unless Index (not (is_null r.direction x.x y.x))) _ b y.then_gave in
-    let left = bound (as_natural x.x) _ b some.then_gave in
-    let right = bound (as_natural y.x) _ b left.then_gave in
-    let most = bound (unless TooWide (nat_le (extent r.direction x.x y.x) 64)) _ b right.then_gave in
+bounds_width here at r b h =
+    let x = bound (integer here at r.left) _ b h in
+    let y = bound (integer here at r.right) _ b x.then_gave in
+    let some = bound (unless Index at (not (is_null r.direction x.x y.x))) _ b y.then_gave in
+    let left = bound (as_natural at x.x) _ b some.then_gave in
+    let right = bound (as_natural at y.x) _ b left.then_gave in
+    let most = bound (unless TooWide at (nat_le (extent r.direction x.x y.x) 64)) _ b right.then_gave in
     let w : IsWidth (extent r.direction x.x y.x) = (
-      some_extent r.direction x.x y.x (kept Index (not (is_null r.direction x.x y.x)) some.x some.gave),
-      leb-true (extent r.direction x.x y.x) 64 (kept TooWide (nat_le (extent r.direction x.x y.x) 64) most.x most.gave),
+      some_extent r.direction x.x y.x (kept Index at (not (is_null r.direction x.x y.x)) some.x some.gave),
+      leb-true (extent r.direction x.x y.x) 64 (kept TooWide at (nat_le (extent r.direction x.x y.x) 64) most.x most.gave),
     ) in
     subst (λ (c : Bounds). IsWidth (bounds_size c)) (ok (record { left = left.x; direction = r.direction; right = right.x }) b most.then_gave)
-    (subst (λ (z : ℤ). IsWidth (extent r.direction (pos left.x) z)) (natural_is y.x right.x right.gave)
-    (subst (λ (z : ℤ). IsWidth (extent r.direction z y.x)) (natural_is x.x left.x left.gave) w))
+    (subst (λ (z : ℤ). IsWidth (extent r.direction (pos left.x) z)) (natural_is at y.x right.x right.gave)
+    (subst (λ (z : ℤ). IsWidth (extent r.direction z y.x)) (natural_is at x.x left.x left.gave) w))
 
 -- what is declared has from 1 to 64 elements
-pub kind_width : (at : Integers) (f : Form) (k : ObjectKind) → kind_of at f ≡ Ok k → IsWidth (size k)
+pub kind_width : (here : Integers) (at : ℕ) (f : Form) (k : ObjectKind) → kind_of here at f ≡ Ok k → IsWidth (size k)
 unfolding kind_of
-kind_width at u.element k e = subst (λ (j : ObjectKind). IsWidth (size j)) (ok one k e) (omega arith, omega arith)
-kind_width at (u.vector r) k e =
-    let b = bound (declared_bounds at r) _ k e in
-    subst (λ (j : ObjectKind). IsWidth (size j)) (ok (vector b.x) k b.then_gave) (bounds_width at r b.x b.gave)
-kind_width at (u.enumeration count) k e = subst (λ (j : ObjectKind). IsWidth (size j)) (ok (enumeration count) k e) (omega arith, omega arith)
+kind_width here at u.element k e = subst (λ (j : ObjectKind). IsWidth (size j)) (ok one k e) (omega arith, omega arith)
+kind_width here at (u.vector r) k e =
+    let b = bound (declared_bounds here at r) _ k e in
+    subst (λ (j : ObjectKind). IsWidth (size j)) (ok (vector b.x) k b.then_gave) (bounds_width here at r b.x b.gave)
+kind_width here at (u.enumeration count) k e = subst (λ (j : ObjectKind). IsWidth (size j)) (ok (enumeration count) k e) (omega arith, omega arith)
 
-pub kind_is_of : (i : Inside) (at : Integers) (f : Form) (k : ObjectKind) → form_fits i f ≡ true → kind_of at f ≡ Ok k → IsOf f k
+pub kind_is_of : (i : Inside) (here : Integers) (at : ℕ) (f : Form) (k : ObjectKind) → form_fits i f ≡ true → kind_of here at f ≡ Ok k → IsOf f k
 unfolding kind_of
-kind_is_of i at u.element k h e = subst (IsOf u.element) (ok one k e) tt
-kind_is_of i at (u.vector r) k h e =
-    let b = bound (declared_bounds at r) _ k e in
-    subst (IsOf (u.vector r)) (ok (vector b.x) k b.then_gave) (bounds_width at r b.x b.gave)
-kind_is_of i at (u.enumeration count) k h e =
+kind_is_of i here at u.element k h e = subst (IsOf u.element) (ok one k e) tt
+kind_is_of i here at (u.vector r) k h e =
+    let b = bound (declared_bounds here at r) _ k e in
+    subst (IsOf (u.vector r)) (ok (vector b.x) k b.then_gave) (bounds_width here at r b.x b.gave)
+kind_is_of i here at (u.enumeration count) k h e =
     let both = and_parts (nat_lt 0 count) (nat_le count 256) h in
     subst (IsOf (u.enumeration count)) (ok (enumeration count) k e) (refl, ltb-true 0 count both.0, leb-true count 256 both.1)
 
@@ -114,25 +114,25 @@ some-value one h = omega arith
 some-value (vector b) h = omega arith
 some-value (enumeration n) h = h.0
 
-given-below : (i : Inside) (at : Site) (f : Form) (k : ObjectKind) (x : Fixed) (vs : List ℕ) → IsOf f k → fixed_fits i (shape_of f) x ≡ true → given_starts at k x ≡ Ok vs → Below k vs
-given-below i at f one x vs h e g =
-    let xs = bound (fixed_values at 1 x) _ vs g in
+given-below : (i : Inside) (here : Site) (at : ℕ) (f : Form) (k : ObjectKind) (x : Fixed) (vs : List ℕ) → IsOf f k → fixed_fits i (shape_of f) x ≡ true → given_starts here at k x ≡ Ok vs → Below k vs
+given-below i here at f one x vs h e g =
+    let xs = bound (fixed_values here at 1 x) _ vs g in
     subst (Below one) (ok (map code_of xs.x) vs xs.then_gave) (codes_below xs.x)
-given-below i at f (vector b) x vs h e g =
-    let xs = bound (fixed_values at (size (vector b)) x) _ vs g in
+given-below i here at f (vector b) x vs h e g =
+    let xs = bound (fixed_values here at (size (vector b)) x) _ vs g in
     subst (Below (vector b)) (ok (map code_of xs.x) vs xs.then_gave) (codes_below xs.x)
-given-below i at (u.enumeration m) (enumeration n) (u.Fixed.position p) vs h e g =
+given-below i here at (u.enumeration m) (enumeration n) (u.Fixed.position p) vs h e g =
     let p-below : p < n = subst (λ k. p < k) h.0 (ltb-true p m e) in
     subst (Below (enumeration n)) (ok (p ∷ []) vs g) (All-cons (λ v. v < n) p [] p-below (All-nil (λ v. v < n)))
-given-below i at (u.enumeration m) (enumeration n) (u.Fixed.literal xs) vs h e g = absurd cc
-given-below i at (u.enumeration m) (enumeration n) (u.Fixed.constant j) vs h e g = absurd cc
-given-below i at (u.enumeration m) (enumeration n) (u.Fixed.encoded s t) vs h e g = absurd cc
-given-below i at (u.enumeration m) (enumeration n) (u.Fixed.filled v) vs h e g = absurd cc
-given-below i at u.element (enumeration n) x vs h e g = elim h [ ]
-given-below i at (u.vector r) (enumeration n) x vs h e g = elim h [ ]
+given-below i here at (u.enumeration m) (enumeration n) (u.Fixed.literal xs) vs h e g = absurd cc
+given-below i here at (u.enumeration m) (enumeration n) (u.Fixed.constant j) vs h e g = absurd cc
+given-below i here at (u.enumeration m) (enumeration n) (u.Fixed.encoded s t) vs h e g = absurd cc
+given-below i here at (u.enumeration m) (enumeration n) (u.Fixed.filled v) vs h e g = absurd cc
+given-below i here at u.element (enumeration n) x vs h e g = elim h [ ]
+given-below i here at (u.vector r) (enumeration n) x vs h e g = elim h [ ]
 
-pub starts_below : (i : Inside) (at : Site) (f : Form) (k : ObjectKind) (d : Option Fixed) (vs : List ℕ) → IsOf f k → default_fits i (shape_of f) d ≡ true → starts at k d ≡ Ok vs → Below k vs
+pub starts_below : (i : Inside) (here : Site) (at : ℕ) (f : Form) (k : ObjectKind) (d : Option Fixed) (vs : List ℕ) → IsOf f k → default_fits i (shape_of f) d ≡ true → starts here at k d ≡ Ok vs → Below k vs
 unfolding starts
-starts_below i at f k None vs h e g =
+starts_below i here at f k None vs h e g =
     subst (Below k) (ok (replicate (size k) 0) vs g) (All-replicate (λ v. v < limit_of (element_type k)) (size k) 0 (some-value k (is_kind f k h)))
-starts_below i at f k (Some x) vs h e g = given-below i at f k x vs h e g
+starts_below i here at f k (Some x) vs h e g = given-below i here at f k x vs h e g

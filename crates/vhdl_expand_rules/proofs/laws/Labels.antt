@@ -41,11 +41,11 @@ HasName o = o.name ≢ []
 abbrev IsNamed : u.Object → Type 0
 IsNamed o = has_text o.name ≡ true
 
-object-named : (at : Site) (role : Role) (o : u.Object) (x : Object) → IsNamed o → object at role o ≡ Ok x → HasName x
+object-named : (here : Site) (role : Role) (o : u.Object) (x : Object) → IsNamed o → object here role o ≡ Ok x → HasName x
 unfolding object
-object-named at role o x h e =
-    let k = bound (kind_of at.integers o.form) _ x e in
-    let vs = bound (starts at k.x o.default) _ x k.then_gave in
+object-named here role o x h e =
+    let k = bound (kind_of here.integers o.at o.form) _ x e in
+    let vs = bound (starts here o.at k.x o.default) _ x k.then_gave in
     subst HasName (ok _ x vs.then_gave) (some-text o.name h)
 
 one-more : (os : List Object) (o : Object) → All HasName os → HasName o → All HasName (os ++ o ∷ [])
@@ -70,12 +70,12 @@ interface-named above actuals unit d n h =
 
 declaration-named : (x : Declaration) (d e : InstanceObjects) → declaration_is_named x ≡ true → All HasName d.objects → declaration d x ≡ Ok e → All HasName e.objects
 unfolding declaration
-declaration-named (u.integer type s) d e n h k =
-    let x = bound (integer_of type d.site.integers s) _ e k in
+declaration-named (u.integer at type s) d e n h k =
+    let x = bound (integer_of type d.site.integers at s) _ e k in
     subst (λ (y : InstanceObjects). All HasName y.objects) (ok _ e x.then_gave) h
-declaration-named (u.Declaration.constant form f) d e n h k =
-    let x = bound (kind_of d.site.integers form) _ e k in
-    let vs = bound (fixed_values d.site (size x.x) f) _ e x.then_gave in
+declaration-named (u.Declaration.constant at form f) d e n h k =
+    let x = bound (kind_of d.site.integers at form) _ e k in
+    let vs = bound (fixed_values d.site at (size x.x) f) _ e x.then_gave in
     subst (λ (y : InstanceObjects). All HasName y.objects) (ok _ e vs.then_gave) h
 declaration-named (u.Declaration.signal o) d e n h k =
     let x = bound (object d.site internal o) _ e k in
@@ -89,57 +89,57 @@ declarations-named (x ∷ xs) d e n h k =
     let y = bound (declaration d x) _ e k in
     declarations-named xs y.x e both.1 (declaration-named x d y.x both.0 h y.gave) y.then_gave
 
-association-named : (above : Site) (p : Port) (actual : Option SignalPart) (o x : Object) → HasName o → association above p actual o ≡ Ok x → HasName x
+association-named : (above : Site) (at : ℕ) (p : Port) (actual : Option SignalPart) (o x : Object) → HasName o → association above at p actual o ≡ Ok x → HasName x
 unfolding association
-association-named above p None o x h k =
-    let a = bound (unless Unassociated (not (is_input o.role) || is_some p.object.default)) _ x k in
+association-named above at p None o x h k =
+    let a = bound (unless Unassociated at (not (is_input o.role) || is_some p.object.default)) _ x k in
     subst HasName (ok o x a.then_gave) h
-association-named above p (Some place) o x h k =
+association-named above at p (Some place) o x h k =
     let es = bound (place_elements above place) _ x k in
-    let a = bound (same_length (length es.x) (size o.kind)) _ x es.then_gave in
+    let a = bound (same_length place.at (length es.x) (size o.kind)) _ x es.then_gave in
     subst HasName (ok (record o { actual = Some es.x }) x a.then_gave) h
 
-associations-named : (above : Site) (ps : List Port) (actuals : List (Option SignalPart)) (os xs : List Object) → All HasName os → associations above ps actuals os ≡ Ok xs → All HasName xs
+associations-named : (above : Site) (at : ℕ) (ps : List Port) (actuals : List (Option SignalPart)) (os xs : List Object) → All HasName os → associations above at ps actuals os ≡ Ok xs → All HasName xs
 unfolding associations
-associations-named above [] actuals os xs h k = subst (λ (ys : List Object). All HasName ys) (ok [] xs k) (All-nil HasName)
-associations-named above (p ∷ ps) actuals [] xs h k = subst (λ (ys : List Object). All HasName ys) (ok [] xs k) (All-nil HasName)
-associations-named above (p ∷ ps) actuals (o ∷ os) xs h k =
-    let y = bound (association above p (first_of actuals) o) _ xs k in
-    let ys = bound (associations above ps (rest_of actuals) os) _ xs y.then_gave in
+associations-named above at [] actuals os xs h k = subst (λ (ys : List Object). All HasName ys) (ok [] xs k) (All-nil HasName)
+associations-named above at (p ∷ ps) actuals [] xs h k = subst (λ (ys : List Object). All HasName ys) (ok [] xs k) (All-nil HasName)
+associations-named above at (p ∷ ps) actuals (o ∷ os) xs h k =
+    let y = bound (association above at p (first_of actuals) o) _ xs k in
+    let ys = bound (associations above at ps (rest_of actuals) os) _ xs y.then_gave in
     subst (λ (zs : List Object). All HasName zs) (ok (y.x ∷ ys.x) xs ys.then_gave)
-    (All-cons HasName y.x ys.x (association-named above p (first_of actuals) o y.x (All-head HasName o os h) y.gave) (associations-named above ps (rest_of actuals) os ys.x (All-tail HasName o os h) ys.gave))
+    (All-cons HasName y.x ys.x (association-named above at p (first_of actuals) o y.x (All-head HasName o os h) y.gave) (associations-named above at ps (rest_of actuals) os ys.x (All-tail HasName o os h) ys.gave))
 
 -- ---- processes
 
 abbrev HasVariableName : Variable → Type 0
 HasVariableName v = v.name ≢ []
 
-variables-named : (at : Site) (os : List u.Object) (vs : List Variable) → objects_are_named os ≡ true → each (variable at) os ≡ Ok vs → All HasVariableName vs
+variables-named : (here : Site) (os : List u.Object) (vs : List Variable) → objects_are_named os ≡ true → each (variable here) os ≡ Ok vs → All HasVariableName vs
 unfolding variable
-variables-named at [] vs n h = subst (All HasVariableName) (ok [] vs h) (All-nil HasVariableName)
-variables-named at (o ∷ os) vs n h =
+variables-named here [] vs n h = subst (All HasVariableName) (ok [] vs h) (All-nil HasVariableName)
+variables-named here (o ∷ os) vs n h =
     let both = and_parts (has_text o.name) (objects_are_named os) n in
-    let v = bound (variable at o) _ vs h in
-    let rest = bound (each (variable at) os) _ vs v.then_gave in
-    let k = bound (kind_of at.integers o.form) _ v.x v.gave in
-    let ss = bound (starts at k.x o.default) _ v.x k.then_gave in
+    let v = bound (variable here o) _ vs h in
+    let rest = bound (each (variable here) os) _ vs v.then_gave in
+    let k = bound (kind_of here.integers o.at o.form) _ v.x v.gave in
+    let ss = bound (starts here o.at k.x o.default) _ v.x k.then_gave in
     subst (All HasVariableName) (ok (v.x ∷ rest.x) vs rest.then_gave)
-    (All-cons HasVariableName v.x rest.x (subst HasVariableName (ok _ v.x ss.then_gave) (some-text o.name both.0)) (variables-named at os rest.x both.1 rest.gave))
+    (All-cons HasVariableName v.x rest.x (subst HasVariableName (ok _ v.x ss.then_gave) (some-text o.name both.0)) (variables-named here os rest.x both.1 rest.gave))
 
 label-named : (label : Option (List ℕ)) → label_is_named label ≡ true → IfSome label (λ l. l ≢ [])
 label-named None h = tt
 label-named (Some l) h = some-text l h
 
-process-named : (at : Spot) (p : u.Process) (q : t.Process) → (label_is_named p.label && objects_are_named p.variables) ≡ true → process at p ≡ Ok q → ProcessIsNamed q
+process-named : (here : Spot) (p : u.Process) (q : t.Process) → (label_is_named p.label && objects_are_named p.variables) ≡ true → process here p ≡ Ok q → ProcessIsNamed q
 unfolding process
-process-named at p q n g =
+process-named here p q n g =
     let both = and_parts (label_is_named p.label) (objects_are_named p.variables) n in
-    let vs = bound (each (variable at.site) p.variables) _ q g in
-    let ds = bound (prefixes_elements at.site (targets p.body)) _ q vs.then_gave in
-    let on = bound (sensitivity at.site p.sensitivity p.body) _ q ds.then_gave in
-    let m = bound (statements_turns at.site p.body) _ q on.then_gave in
-    let body = bound (statements (with_variables at.site vs.x) p.body) _ q m.then_gave in
-    subst ProcessIsNamed (ok _ q body.then_gave) (record { label = label-named p.label both.0; variables = variables-named at.site p.variables vs.x both.1 vs.gave })
+    let vs = bound (each (variable here.site) p.variables) _ q g in
+    let ds = bound (prefixes_elements here.site (targets p.body)) _ q vs.then_gave in
+    let on = bound (sensitivity here.site p.sensitivity p.body) _ q ds.then_gave in
+    let m = bound (statements_turns here.site p.body) _ q on.then_gave in
+    let body = bound (statements (with_variables here.site vs.x) p.body) _ q m.then_gave in
+    subst ProcessIsNamed (ok _ q body.then_gave) (record { label = label-named p.label both.0; variables = variables-named here.site p.variables vs.x both.1 vs.gave })
 
 -- ---- concurrent statements
 
@@ -168,17 +168,17 @@ entity-parts unit h =
     let b = and_parts (has_text unit.name) (objects_are_named (objects_of_ports unit.ports)) a.0 in
     record { name = b.0; ports = b.1; architecture = a.1 }
 
-module _ (units : Units) (named : list_all entity_is_named units ≡ true) (go : Entity → InstanceObjects → Elab Instance)
-    (go-named : (unit : Entity) (d : InstanceObjects) (i : Instance) → entity_is_named unit ≡ true → All HasName d.objects → go unit d ≡ Ok i → InstanceIsNamed i) where
-  instance-named : (at : Spot) (x : u.Instance) (i : Instance) → instance units go at x ≡ Ok i → InstanceIsNamed i
+module _ (units : Units) (named : list_all entity_is_named units ≡ true) (go : ℕ → Entity → InstanceObjects → Elab Instance)
+    (go-named : (at : ℕ) (unit : Entity) (d : InstanceObjects) (i : Instance) → entity_is_named unit ≡ true → All HasName d.objects → go at unit d ≡ Ok i → InstanceIsNamed i) where
+  instance-named : (here : Spot) (x : u.Instance) (i : Instance) → instance units go here x ≡ Ok i → InstanceIsNamed i
   unfolding instance
-  instance-named at x i h =
-      let unit = bound (item_or NoTop (slice_get units x.unit)) _ i h in
-      let d = bound (interface at.site.integers x.generics unit.x) _ i unit.then_gave in
-      let os = bound (associations at.site unit.x.ports x.ports d.x.objects) _ i d.then_gave in
-      let is : entity_is_named unit.x ≡ true = named-unit units x.unit unit.x named (was_found NoTop (slice_get units x.unit) unit.x unit.gave) in
-      go-named unit.x (record d.x { objects = os.x }) i is
-      (associations-named at.site unit.x.ports x.ports d.x.objects os.x (interface-named at.site.integers x.generics unit.x d.x (entity-parts unit.x is).ports d.gave) os.gave) os.then_gave
+  instance-named here x i h =
+      let unit = bound (item_or NoTop x.at (slice_get units x.unit)) _ i h in
+      let d = bound (interface here.site.integers x.generics unit.x) _ i unit.then_gave in
+      let os = bound (associations here.site x.at unit.x.ports x.ports d.x.objects) _ i d.then_gave in
+      let is : entity_is_named unit.x ≡ true = named-unit units x.unit unit.x named (was_found NoTop x.at (slice_get units x.unit) unit.x unit.gave) in
+      go-named x.at unit.x (record d.x { objects = os.x }) i is
+      (associations-named here.site x.at unit.x.ports x.ports d.x.objects os.x (interface-named here.site.integers x.generics unit.x d.x (entity-parts unit.x is).ports d.gave) os.gave) os.then_gave
 
   chosen-named : (b : Bool) (r : Elab Parts) (ps : Parts) → ((qs : Parts) → r ≡ Ok qs → PartsAreNamed qs) → cond b r (Ok no_parts) ≡ Ok ps → PartsAreNamed ps
   chosen-named true r ps h k = h ps k
@@ -187,45 +187,45 @@ module _ (units : Units) (named : list_all entity_is_named units ≡ true) (go :
   mutual
     unfolding concurrent concurrent_is_named
 
-    concurrent-named : (x : u.Concurrent) (at : Spot) (ps : Parts) → concurrent_is_named x ≡ true → concurrent units go at x ≡ Ok ps → PartsAreNamed ps
-    concurrent-named (u.process p) at ps n h =
-        let q = bound (process at p) _ ps h in
-        subst PartsAreNamed (ok (t.process q.x no_parts) ps q.then_gave) (process-named at p q.x n q.gave, tt)
-    concurrent-named (u.instance x) at ps n h =
-        let i = bound (instance units go at x) _ ps h in
-        subst PartsAreNamed (ok _ ps i.then_gave) (more-text at.prefix x.label (some-text x.label n), instance-named at x i.x i.gave, tt)
-    concurrent-named (u.generate_for label r body) at ps n h =
+    concurrent-named : (x : u.Concurrent) (here : Spot) (ps : Parts) → concurrent_is_named x ≡ true → concurrent units go here x ≡ Ok ps → PartsAreNamed ps
+    concurrent-named (u.process p) here ps n h =
+        let q = bound (process here p) _ ps h in
+        subst PartsAreNamed (ok (t.process q.x no_parts) ps q.then_gave) (process-named here p q.x n q.gave, tt)
+    concurrent-named (u.instance x) here ps n h =
+        let i = bound (instance units go here x) _ ps h in
+        subst PartsAreNamed (ok _ ps i.then_gave) (more-text here.prefix x.label (some-text x.label n), instance-named here x i.x i.gave, tt)
+    concurrent-named (u.generate_for at label r body) here ps n h =
         let both = and_parts (has_text label) (concurrents_are_named body) n in
-        let is = bound (turns at.site.integers r) _ ps h in
-        let qs = bound (each (λ i. concurrents units go (in_turn at label i) body) is.x) _ ps is.then_gave in
+        let is = bound (turns here.site.integers at r) _ ps h in
+        let qs = bound (each (λ i. concurrents units go (in_turn here label i) body) is.x) _ ps is.then_gave in
         subst PartsAreNamed (ok (joined_parts qs.x) ps qs.then_gave)
-        (joined-named qs.x (each-all PartsAreNamed (λ i. concurrents units go (in_turn at label i) body) is.x qs.x (λ i q. concurrents-named body (in_turn at label i) q both.1) qs.gave))
-    concurrent-named (u.generate_if label t body) at ps n h =
+        (joined-named qs.x (each-all PartsAreNamed (λ i. concurrents units go (in_turn here label i) body) is.x qs.x (λ i q. concurrents-named body (in_turn here label i) q both.1) qs.gave))
+    concurrent-named (u.generate_if at label t body) here ps n h =
         let both = and_parts (has_text label) (concurrents_are_named body) n in
-        let b = bound (decision at.site.integers t) _ ps h in
-        chosen-named b.x (concurrents units go (in_branch at label) body) ps (λ qs. concurrents-named body (in_branch at label) qs both.1) b.then_gave
+        let b = bound (decision here.site.integers t) _ ps h in
+        chosen-named b.x (concurrents units go (in_branch here label) body) ps (λ qs. concurrents-named body (in_branch here label) qs both.1) b.then_gave
 
-    concurrents-named : (xs : u.Concurrents) (at : Spot) (ps : Parts) → concurrents_are_named xs ≡ true → concurrents units go at xs ≡ Ok ps → PartsAreNamed ps
-    concurrents-named u.no_concurrents at ps n h = subst PartsAreNamed (ok no_parts ps h) tt
-    concurrents-named (u.concurrent x rest) at ps n h =
+    concurrents-named : (xs : u.Concurrents) (here : Spot) (ps : Parts) → concurrents_are_named xs ≡ true → concurrents units go here xs ≡ Ok ps → PartsAreNamed ps
+    concurrents-named u.no_concurrents here ps n h = subst PartsAreNamed (ok no_parts ps h) tt
+    concurrents-named (u.concurrent x rest) here ps n h =
         let both = and_parts (concurrent_is_named x) (concurrents_are_named rest) n in
-        let a = bound (concurrent units go at x) _ ps h in
-        let b = bound (concurrents units go at rest) _ ps a.then_gave in
-        subst PartsAreNamed (ok (followed_by a.x b.x) ps b.then_gave) (followed-named a.x b.x (concurrent-named x at a.x both.0 a.gave) (concurrents-named rest at b.x both.1 b.gave))
+        let a = bound (concurrent units go here x) _ ps h in
+        let b = bound (concurrents units go here rest) _ ps a.then_gave in
+        subst PartsAreNamed (ok (followed_by a.x b.x) ps b.then_gave) (followed-named a.x b.x (concurrent-named x here a.x both.0 a.gave) (concurrents-named rest here b.x both.1 b.gave))
 
 -- ---- instances and the top
 
-instance_of-named : (units : Units) (levels : ℕ) → list_all entity_is_named units ≡ true → (unit : Entity) (d : InstanceObjects) (i : Instance) → entity_is_named unit ≡ true → All HasName d.objects
-    → instance_of units levels unit d ≡ Ok i → InstanceIsNamed i
+instance_of-named : (units : Units) (levels : ℕ) → list_all entity_is_named units ≡ true → (at : ℕ) (unit : Entity) (d : InstanceObjects) (i : Instance) → entity_is_named unit ≡ true → All HasName d.objects
+    → instance_of units levels at unit d ≡ Ok i → InstanceIsNamed i
 unfolding instance_of
-instance_of-named units zero named unit d i n h k = absurd cc
-instance_of-named units (suc m) named unit d i n h k =
-    let a = bound (item_or NoTop unit.architecture) _ i k in
+instance_of-named units zero named at unit d i n h k = absurd cc
+instance_of-named units (suc m) named at unit d i n h k =
+    let a = bound (item_or NoTop at unit.architecture) _ i k in
     let e = bound (declarations d a.x.declarations) _ i a.then_gave in
     let spot : Spot = record { site = e.x.site; prefix = [] } in
     let ps = bound (concurrents units (instance_of units m) spot a.x.statements) _ i e.then_gave in
     let ts = bound (concurrents_turns spot a.x.statements) _ i ps.then_gave in
-    let whole : architecture_is_named (Some a.x) ≡ true = ap architecture_is_named (sym (was_found NoTop unit.architecture a.x a.gave)) ∙ (entity-parts unit n).architecture in
+    let whole : architecture_is_named (Some a.x) ≡ true = ap architecture_is_named (sym (was_found NoTop at unit.architecture a.x a.gave)) ∙ (entity-parts unit n).architecture in
     let both = and_parts (list_all declaration_is_named a.x.declarations) (concurrents_are_named a.x.statements) whole in
     subst InstanceIsNamed (ok (t.instance e.x.objects ts.x ps.x) i ts.then_gave) (
       declarations-named a.x.declarations d e.x both.0 h e.gave,
@@ -247,11 +247,11 @@ pub each-tree-is-named : EachTreeIsNamed
 unfolding expanded_design are_named
 each-tree-is-named units top design h e =
     let named : list_all entity_is_named units ≡ true = h in
-    let unit = bound (item_or NoTop (entity_named units top)) _ design e in
+    let unit = bound (item_or NoTop 0 (entity_named units top)) _ design e in
     let d = bound (interface no_integers [] unit.x) _ design unit.then_gave in
-    let i = bound (instance_of units 32 unit.x d.x) _ design d.then_gave in
+    let i = bound (instance_of units 32 unit.x.at unit.x d.x) _ design d.then_gave in
     let is : entity_is_named unit.x ≡ true =
-    found-named (λ (x : Entity). bytes_eq x.name (map to_ascii_lowercase top)) units unit.x named (was_found NoTop (entity_named units top) unit.x unit.gave) in
+    found-named (λ (x : Entity). bytes_eq x.name (map to_ascii_lowercase top)) units unit.x named (was_found NoTop 0 (entity_named units top) unit.x unit.gave) in
     let parts = entity-parts unit.x is in
     subst (λ (x : Design). (x.name ≢ []) × InstanceIsNamed x.top) (ok (record { name = unit.x.name; top = i.x }) design i.then_gave)
-    (some-text unit.x.name parts.name, instance_of-named units 32 named unit.x d.x i.x is (interface-named no_integers [] unit.x d.x parts.ports d.gave) i.gave)
+    (some-text unit.x.name parts.name, instance_of-named units 32 named unit.x.at unit.x d.x i.x is (interface-named no_integers [] unit.x d.x parts.ports d.gave) i.gave)

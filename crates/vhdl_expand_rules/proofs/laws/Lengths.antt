@@ -24,42 +24,42 @@ use Rattle.std.proofs.lemmas.List.{length-map, length-replicate}
 
 -- ---- values
 
-as_long : (len : ℕ) (vs ws : List Nine) → as_long_as len vs ≡ Ok ws → length ws ≡ len
-as_long len vs ws h =
-    let x = bound (same_length (length vs) len) _ ws h in
-    subst (λ (xs : List Nine). length xs ≡ len) (ok vs ws x.then_gave) (eqb-true (length vs) len (kept (Length (length vs) len) (length vs == len) x.x x.gave))
+as_long : (at len : ℕ) (vs ws : List Nine) → as_long_as at len vs ≡ Ok ws → length ws ≡ len
+as_long at len vs ws h =
+    let x = bound (same_length at (length vs) len) _ ws h in
+    subst (λ (xs : List Nine). length xs ≡ len) (ok vs ws x.then_gave) (eqb-true (length vs) len (kept (Length (length vs) len) at (length vs == len) x.x x.gave))
 
-fixed-length : (at : Site) (len : ℕ) (f : Fixed) (vs : List Nine) → fixed_values at len f ≡ Ok vs → length vs ≡ len
+fixed-length : (here : Site) (at len : ℕ) (f : Fixed) (vs : List Nine) → fixed_values here at len f ≡ Ok vs → length vs ≡ len
 unfolding fixed_values
-fixed-length at len (u.Fixed.literal xs) vs h = as_long len xs vs h
-fixed-length at len (u.Fixed.constant k) vs h =
-    let c = bound (item_or Index (slice_get at.constants k)) _ vs h in
-    as_long len c.x.values vs c.then_gave
-fixed-length at len (u.Fixed.encoded s t) vs h =
-    let n = bound (natural at.integers s) _ vs h in
-    let m = bound (size_of at.integers t) _ vs n.then_gave in
-    as_long len (digits_of m.x n.x) vs m.then_gave
-fixed-length at len (u.filled v) vs h = subst (λ (xs : List Nine). length xs ≡ len) (ok (replicate len v) vs h) (length-replicate len v)
-fixed-length at len (u.Fixed.position n) vs h = absurd cc
+fixed-length here at len (u.Fixed.literal xs) vs h = as_long at len xs vs h
+fixed-length here at len (u.Fixed.constant k) vs h =
+    let c = bound (item_or Index at (slice_get here.constants k)) _ vs h in
+    as_long at len c.x.values vs c.then_gave
+fixed-length here at len (u.Fixed.encoded s t) vs h =
+    let n = bound (natural here.integers at s) _ vs h in
+    let m = bound (size_of here.integers at t) _ vs n.then_gave in
+    as_long at len (digits_of m.x n.x) vs m.then_gave
+fixed-length here at len (u.filled v) vs h = subst (λ (xs : List Nine). length xs ≡ len) (ok (replicate len v) vs h) (length-replicate len v)
+fixed-length here at len (u.Fixed.position n) vs h = absurd cc
 
-codes-length : (at : Site) (len : ℕ) (f : Fixed) (vs : List ℕ) → (fixed_values at len f >>= λ xs. given (map code_of xs)) ≡ Ok vs → length vs ≡ len
-codes-length at len f vs h =
-    let x = bound (fixed_values at len f) _ vs h in
-    subst (λ (ns : List ℕ). length ns ≡ len) (ok (map code_of x.x) vs x.then_gave) (length-map x.x code_of ∙ fixed-length at len f x.x x.gave)
+codes-length : (here : Site) (at len : ℕ) (f : Fixed) (vs : List ℕ) → (fixed_values here at len f >>= λ xs. given (map code_of xs)) ≡ Ok vs → length vs ≡ len
+codes-length here at len f vs h =
+    let x = bound (fixed_values here at len f) _ vs h in
+    subst (λ (ns : List ℕ). length ns ≡ len) (ok (map code_of x.x) vs x.then_gave) (length-map x.x code_of ∙ fixed-length here at len f x.x x.gave)
 
-given-length : (at : Site) (kind : ObjectKind) (f : Fixed) (vs : List ℕ) → given_starts at kind f ≡ Ok vs → length vs ≡ size kind
-given-length at one f vs h = codes-length at 1 f vs h
-given-length at (vector b) f vs h = codes-length at (size (vector b)) f vs h
-given-length at (enumeration count) (u.Fixed.position n) vs h = ap length (sym (ok (n ∷ []) vs h))
-given-length at (enumeration count) (u.Fixed.literal xs) vs h = codes-length at 1 (u.Fixed.literal xs) vs h
-given-length at (enumeration count) (u.Fixed.constant k) vs h = codes-length at 1 (u.Fixed.constant k) vs h
-given-length at (enumeration count) (u.Fixed.encoded s t) vs h = codes-length at 1 (u.Fixed.encoded s t) vs h
-given-length at (enumeration count) (u.filled v) vs h = codes-length at 1 (u.filled v) vs h
+given-length : (here : Site) (at : ℕ) (kind : ObjectKind) (f : Fixed) (vs : List ℕ) → given_starts here at kind f ≡ Ok vs → length vs ≡ size kind
+given-length here at one f vs h = codes-length here at 1 f vs h
+given-length here at (vector b) f vs h = codes-length here at (size (vector b)) f vs h
+given-length here at (enumeration count) (u.Fixed.position n) vs h = ap length (sym (ok (n ∷ []) vs h))
+given-length here at (enumeration count) (u.Fixed.literal xs) vs h = codes-length here at 1 (u.Fixed.literal xs) vs h
+given-length here at (enumeration count) (u.Fixed.constant k) vs h = codes-length here at 1 (u.Fixed.constant k) vs h
+given-length here at (enumeration count) (u.Fixed.encoded s t) vs h = codes-length here at 1 (u.Fixed.encoded s t) vs h
+given-length here at (enumeration count) (u.filled v) vs h = codes-length here at 1 (u.filled v) vs h
 
-pub starts-length : (at : Site) (kind : ObjectKind) (d : Option Fixed) (vs : List ℕ) → starts at kind d ≡ Ok vs → length vs ≡ size kind
+pub starts-length : (here : Site) (at : ℕ) (kind : ObjectKind) (d : Option Fixed) (vs : List ℕ) → starts here at kind d ≡ Ok vs → length vs ≡ size kind
 unfolding starts
-starts-length at kind None vs h = subst (λ (ns : List ℕ). length ns ≡ size kind) (ok (replicate (size kind) 0) vs h) (length-replicate (size kind) 0)
-starts-length at kind (Some f) vs h = given-length at kind f vs h
+starts-length here at kind None vs h = subst (λ (ns : List ℕ). length ns ≡ size kind) (ok (replicate (size kind) 0) vs h) (length-replicate (size kind) 0)
+starts-length here at kind (Some f) vs h = given-length here at kind f vs h
 
 -- ---- objects
 
@@ -68,12 +68,12 @@ record IsDeclared (o : Object) : Type 0 where
   starts : length o.starts ≡ size o.kind
   none : o.actual ≡ None
 
-object-declared : (at : Site) (role : Role) (o : u.Object) (x : Object) → object at role o ≡ Ok x → IsDeclared x
+object-declared : (here : Site) (role : Role) (o : u.Object) (x : Object) → object here role o ≡ Ok x → IsDeclared x
 unfolding object
-object-declared at role o x h =
-    let k = bound (kind_of at.integers o.form) _ x h in
-    let vs = bound (starts at k.x o.default) _ x k.then_gave in
-    subst IsDeclared (ok _ x vs.then_gave) (record { starts = starts-length at k.x o.default vs.x vs.gave; none = refl })
+object-declared here role o x h =
+    let k = bound (kind_of here.integers o.at o.form) _ x h in
+    let vs = bound (starts here o.at k.x o.default) _ x k.then_gave in
+    subst IsDeclared (ok _ x vs.then_gave) (record { starts = starts-length here o.at k.x o.default vs.x vs.gave; none = refl })
 
 fits : (o : Object) → IsDeclared o → ObjectFits o
 fits o d = record { starts = d.starts; actual = λ es h. absurd (let e = d.none in cc) }
@@ -96,12 +96,12 @@ interface-fits above actuals unit d h =
 
 declaration-fits : (x : Declaration) (d e : InstanceObjects) → All ObjectFits d.objects → declaration d x ≡ Ok e → All ObjectFits e.objects
 unfolding declaration
-declaration-fits (u.integer type s) d e h k =
-    let x = bound (integer_of type d.site.integers s) _ e k in
+declaration-fits (u.integer at type s) d e h k =
+    let x = bound (integer_of type d.site.integers at s) _ e k in
     subst (λ (y : InstanceObjects). All ObjectFits y.objects) (ok _ e x.then_gave) h
-declaration-fits (u.Declaration.constant form f) d e h k =
-    let x = bound (kind_of d.site.integers form) _ e k in
-    let vs = bound (fixed_values d.site (size x.x) f) _ e x.then_gave in
+declaration-fits (u.Declaration.constant at form f) d e h k =
+    let x = bound (kind_of d.site.integers at form) _ e k in
+    let vs = bound (fixed_values d.site at (size x.x) f) _ e x.then_gave in
     subst (λ (y : InstanceObjects). All ObjectFits y.objects) (ok _ e vs.then_gave) h
 declaration-fits (u.Declaration.signal o) d e h k =
     let x = bound (object d.site internal o) _ e k in
@@ -114,31 +114,31 @@ declarations-fit (x ∷ xs) d e h k =
     let y = bound (declaration d x) _ e k in
     declarations-fit xs y.x e (declaration-fits x d y.x h y.gave) y.then_gave
 
-association-fits : (above : Site) (p : Port) (actual : Option SignalPart) (o x : Object) → ObjectFits o → association above p actual o ≡ Ok x → ObjectFits x
+association-fits : (above : Site) (at : ℕ) (p : Port) (actual : Option SignalPart) (o x : Object) → ObjectFits o → association above at p actual o ≡ Ok x → ObjectFits x
 unfolding association
-association-fits above p None o x h k =
-    let a = bound (unless Unassociated (not (is_input o.role) || is_some p.object.default)) _ x k in
+association-fits above at p None o x h k =
+    let a = bound (unless Unassociated at (not (is_input o.role) || is_some p.object.default)) _ x k in
     subst ObjectFits (ok o x a.then_gave) h
-association-fits above p (Some place) o x h k =
+association-fits above at p (Some place) o x h k =
     let es = bound (place_elements above place) _ x k in
-    let a = bound (same_length (length es.x) (size o.kind)) _ x es.then_gave in
+    let a = bound (same_length place.at (length es.x) (size o.kind)) _ x es.then_gave in
     subst ObjectFits (ok (record o { actual = Some es.x }) x a.then_gave) (record {
       starts = h.starts;
-      actual = λ fs e. ap length (some fs es.x e) ∙ eqb-true (length es.x) (size o.kind) (kept (Length (length es.x) (size o.kind)) (length es.x == size o.kind) a.x a.gave);
+      actual = λ fs e. ap length (some fs es.x e) ∙ eqb-true (length es.x) (size o.kind) (kept (Length (length es.x) (size o.kind)) place.at (length es.x == size o.kind) a.x a.gave);
     })
   where
     some : (fs es : List ℕ) → Some es ≡ Some fs → fs ≡ es
     some fs es e = cc
 
-associations-fit : (above : Site) (ps : List Port) (actuals : List (Option SignalPart)) (os xs : List Object) → All ObjectFits os → associations above ps actuals os ≡ Ok xs → All ObjectFits xs
+associations-fit : (above : Site) (at : ℕ) (ps : List Port) (actuals : List (Option SignalPart)) (os xs : List Object) → All ObjectFits os → associations above at ps actuals os ≡ Ok xs → All ObjectFits xs
 unfolding associations
-associations-fit above [] actuals os xs h k = subst (λ (ys : List Object). All ObjectFits ys) (ok [] xs k) (All-nil ObjectFits)
-associations-fit above (p ∷ ps) actuals [] xs h k = subst (λ (ys : List Object). All ObjectFits ys) (ok [] xs k) (All-nil ObjectFits)
-associations-fit above (p ∷ ps) actuals (o ∷ os) xs h k =
-    let y = bound (association above p (first_of actuals) o) _ xs k in
-    let ys = bound (associations above ps (rest_of actuals) os) _ xs y.then_gave in
+associations-fit above at [] actuals os xs h k = subst (λ (ys : List Object). All ObjectFits ys) (ok [] xs k) (All-nil ObjectFits)
+associations-fit above at (p ∷ ps) actuals [] xs h k = subst (λ (ys : List Object). All ObjectFits ys) (ok [] xs k) (All-nil ObjectFits)
+associations-fit above at (p ∷ ps) actuals (o ∷ os) xs h k =
+    let y = bound (association above at p (first_of actuals) o) _ xs k in
+    let ys = bound (associations above at ps (rest_of actuals) os) _ xs y.then_gave in
     subst (λ (zs : List Object). All ObjectFits zs) (ok (y.x ∷ ys.x) xs ys.then_gave)
-    (All-cons ObjectFits y.x ys.x (association-fits above p (first_of actuals) o y.x (All-head ObjectFits o os h) y.gave) (associations-fit above ps (rest_of actuals) os ys.x (All-tail ObjectFits o os h) ys.gave))
+    (All-cons ObjectFits y.x ys.x (association-fits above at p (first_of actuals) o y.x (All-head ObjectFits o os h) y.gave) (associations-fit above at ps (rest_of actuals) os ys.x (All-tail ObjectFits o os h) ys.gave))
 
 -- ---- concurrent statements
 
@@ -151,15 +151,15 @@ joined-fits : (ps : List Parts) → All PartsFit ps → PartsFit (joined_parts p
 joined-fits [] h = tt
 joined-fits (p ∷ ps) h = followed_by-fits p (joined_parts ps) (All-head PartsFit p ps h) (joined-fits ps (All-tail PartsFit p ps h))
 
-module _ (units : Units) (go : Entity → InstanceObjects → Elab Instance) (go-fits : (unit : Entity) (d : InstanceObjects) (i : Instance) → All ObjectFits d.objects → go unit d ≡ Ok i → InstanceFits i) where
-  instance-fits : (at : Spot) (x : u.Instance) (i : Instance) → instance units go at x ≡ Ok i → InstanceFits i
+module _ (units : Units) (go : ℕ → Entity → InstanceObjects → Elab Instance) (go-fits : (at : ℕ) (unit : Entity) (d : InstanceObjects) (i : Instance) → All ObjectFits d.objects → go at unit d ≡ Ok i → InstanceFits i) where
+  instance-fits : (here : Spot) (x : u.Instance) (i : Instance) → instance units go here x ≡ Ok i → InstanceFits i
   unfolding instance
-  instance-fits at x i h =
-      let unit = bound (item_or NoTop (slice_get units x.unit)) _ i h in
-      let d = bound (interface at.site.integers x.generics unit.x) _ i unit.then_gave in
-      let os = bound (associations at.site unit.x.ports x.ports d.x.objects) _ i d.then_gave in
-      go-fits unit.x (record d.x { objects = os.x }) i
-      (associations-fit at.site unit.x.ports x.ports d.x.objects os.x (interface-fits at.site.integers x.generics unit.x d.x d.gave) os.gave) os.then_gave
+  instance-fits here x i h =
+      let unit = bound (item_or NoTop x.at (slice_get units x.unit)) _ i h in
+      let d = bound (interface here.site.integers x.generics unit.x) _ i unit.then_gave in
+      let os = bound (associations here.site x.at unit.x.ports x.ports d.x.objects) _ i d.then_gave in
+      go-fits x.at unit.x (record d.x { objects = os.x }) i
+      (associations-fit here.site x.at unit.x.ports x.ports d.x.objects os.x (interface-fits here.site.integers x.generics unit.x d.x d.gave) os.gave) os.then_gave
 
   chosen-fits : (b : Bool) (r : Elab Parts) (ps : Parts) → ((qs : Parts) → r ≡ Ok qs → PartsFit qs) → cond b r (Ok no_parts) ≡ Ok ps → PartsFit ps
   chosen-fits true r ps h k = h ps k
@@ -168,36 +168,36 @@ module _ (units : Units) (go : Entity → InstanceObjects → Elab Instance) (go
   mutual
     unfolding concurrent
 
-    concurrent-fits : (x : u.Concurrent) (at : Spot) (ps : Parts) → concurrent units go at x ≡ Ok ps → PartsFit ps
-    concurrent-fits (u.process p) at ps h =
-        let q = bound (process at p) _ ps h in
+    concurrent-fits : (x : u.Concurrent) (here : Spot) (ps : Parts) → concurrent units go here x ≡ Ok ps → PartsFit ps
+    concurrent-fits (u.process p) here ps h =
+        let q = bound (process here p) _ ps h in
         subst PartsFit (ok (t.process q.x no_parts) ps q.then_gave) tt
-    concurrent-fits (u.instance x) at ps h =
-        let i = bound (instance units go at x) _ ps h in
-        subst PartsFit (ok _ ps i.then_gave) (instance-fits at x i.x i.gave, tt)
-    concurrent-fits (u.generate_for label r body) at ps h =
-        let is = bound (turns at.site.integers r) _ ps h in
-        let qs = bound (each (λ i. concurrents units go (in_turn at label i) body) is.x) _ ps is.then_gave in
+    concurrent-fits (u.instance x) here ps h =
+        let i = bound (instance units go here x) _ ps h in
+        subst PartsFit (ok _ ps i.then_gave) (instance-fits here x i.x i.gave, tt)
+    concurrent-fits (u.generate_for at label r body) here ps h =
+        let is = bound (turns here.site.integers at r) _ ps h in
+        let qs = bound (each (λ i. concurrents units go (in_turn here label i) body) is.x) _ ps is.then_gave in
         subst PartsFit (ok (joined_parts qs.x) ps qs.then_gave)
-        (joined-fits qs.x (each-all PartsFit (λ i. concurrents units go (in_turn at label i) body) is.x qs.x (λ i q. concurrents-fit body (in_turn at label i) q) qs.gave))
-    concurrent-fits (u.generate_if label t body) at ps h =
-        let b = bound (decision at.site.integers t) _ ps h in
-        chosen-fits b.x (concurrents units go (in_branch at label) body) ps (λ qs. concurrents-fit body (in_branch at label) qs) b.then_gave
+        (joined-fits qs.x (each-all PartsFit (λ i. concurrents units go (in_turn here label i) body) is.x qs.x (λ i q. concurrents-fit body (in_turn here label i) q) qs.gave))
+    concurrent-fits (u.generate_if at label t body) here ps h =
+        let b = bound (decision here.site.integers t) _ ps h in
+        chosen-fits b.x (concurrents units go (in_branch here label) body) ps (λ qs. concurrents-fit body (in_branch here label) qs) b.then_gave
 
-    concurrents-fit : (xs : u.Concurrents) (at : Spot) (ps : Parts) → concurrents units go at xs ≡ Ok ps → PartsFit ps
-    concurrents-fit u.no_concurrents at ps h = subst PartsFit (ok no_parts ps h) tt
-    concurrents-fit (u.concurrent x rest) at ps h =
-        let a = bound (concurrent units go at x) _ ps h in
-        let b = bound (concurrents units go at rest) _ ps a.then_gave in
-        subst PartsFit (ok (followed_by a.x b.x) ps b.then_gave) (followed_by-fits a.x b.x (concurrent-fits x at a.x a.gave) (concurrents-fit rest at b.x b.gave))
+    concurrents-fit : (xs : u.Concurrents) (here : Spot) (ps : Parts) → concurrents units go here xs ≡ Ok ps → PartsFit ps
+    concurrents-fit u.no_concurrents here ps h = subst PartsFit (ok no_parts ps h) tt
+    concurrents-fit (u.concurrent x rest) here ps h =
+        let a = bound (concurrent units go here x) _ ps h in
+        let b = bound (concurrents units go here rest) _ ps a.then_gave in
+        subst PartsFit (ok (followed_by a.x b.x) ps b.then_gave) (followed_by-fits a.x b.x (concurrent-fits x here a.x a.gave) (concurrents-fit rest here b.x b.gave))
 
 -- ---- instances
 
-instance_of-fits : (units : Units) (levels : ℕ) (unit : Entity) (d : InstanceObjects) (i : Instance) → All ObjectFits d.objects → instance_of units levels unit d ≡ Ok i → InstanceFits i
+instance_of-fits : (units : Units) (levels at : ℕ) (unit : Entity) (d : InstanceObjects) (i : Instance) → All ObjectFits d.objects → instance_of units levels at unit d ≡ Ok i → InstanceFits i
 unfolding instance_of
-instance_of-fits units zero unit d i h k = absurd cc
-instance_of-fits units (suc n) unit d i h k =
-    let a = bound (item_or NoTop unit.architecture) _ i k in
+instance_of-fits units zero at unit d i h k = absurd cc
+instance_of-fits units (suc n) at unit d i h k =
+    let a = bound (item_or NoTop at unit.architecture) _ i k in
     let e = bound (declarations d a.x.declarations) _ i a.then_gave in
     let spot : Spot = record { site = e.x.site; prefix = [] } in
     let ps = bound (concurrents units (instance_of units n) spot a.x.statements) _ i e.then_gave in
@@ -210,7 +210,7 @@ instance_of-fits units (suc n) unit d i h k =
 pub design-fits : EachDesignFits
 unfolding expanded_design
 design-fits units top design h =
-    let unit = bound (item_or NoTop (entity_named units top)) _ design h in
+    let unit = bound (item_or NoTop 0 (entity_named units top)) _ design h in
     let d = bound (interface no_integers [] unit.x) _ design unit.then_gave in
-    let i = bound (instance_of units 32 unit.x d.x) _ design d.then_gave in
-    subst (λ (x : Design). InstanceFits x.top) (ok _ design i.then_gave) (instance_of-fits units 32 unit.x d.x i.x (interface-fits no_integers [] unit.x d.x d.gave) i.gave)
+    let i = bound (instance_of units 32 unit.x.at unit.x d.x) _ design d.then_gave in
+    subst (λ (x : Design). InstanceFits x.top) (ok _ design i.then_gave) (instance_of-fits units 32 unit.x.at unit.x d.x i.x (interface-fits no_integers [] unit.x d.x d.gave) i.gave)

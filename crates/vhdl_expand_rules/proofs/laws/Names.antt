@@ -37,9 +37,9 @@ is_width (state count) n h = (omega (arith, h), omega (arith, h))
 pub width-le : (m n : ℕ) → 1 ≤ m → m ≤ n → IsWidth n → IsWidth m
 width-le m n a b h = let c : n ≤ 64 = h.1 in (a, omega (arith, b, c))
 
-pub was_found : {A : Type 0} (problem : ElabProblem) (o : Option A) (x : A) → item_or problem o ≡ given x → o ≡ Some x
-was_found problem None x h = absurd cc
-was_found problem (Some y) x h = ap Some (ok y x h)
+pub was_found : {A : Type 0} (problem : ElabProblem) (at : ℕ) (o : Option A) (x : A) → item_or problem at o ≡ given x → o ≡ Some x
+was_found problem at None x h = absurd cc
+was_found problem at (Some y) x h = ap Some (ok y x h)
 
 -- ---- places of a part
 
@@ -66,32 +66,32 @@ whole (units.enumeration m) (enumeration n) h = record { below = one-place 1 0 (
 whole (units.enumeration m) one h = elim h [ ]
 whole (units.enumeration m) (vector b) h = elim h [ ]
 
-pub part_places : (i : Inside) (at : Integers) (f : Form) (kind : ObjectKind) (part : Part) (s : Shape) (ps : List ℕ)
-    → IsOf f kind → part_shape i f part ≡ Some s → places at kind part ≡ Ok ps → PartPlaces kind s ps
+pub part_places : (i : Inside) (here : Integers) (at : ℕ) (f : Form) (kind : ObjectKind) (part : Part) (s : Shape) (ps : List ℕ)
+    → IsOf f kind → part_shape i f part ≡ Some s → places here at kind part ≡ Ok ps → PartPlaces kind s ps
 unfolding places
-part_places i at f kind u.whole s ps h e g =
+part_places i here at f kind u.whole s ps h e g =
     subst (PartPlaces kind s) (ok (range_with_len 0 (size kind)) ps g)
     (subst (λ (x : Shape). PartPlaces kind x (range_with_len 0 (size kind))) (same_Some (shape_of f) s e) (whole f kind h))
-part_places i at (units.vector r) (vector b) (u.Part.element x) s ps h e g =
-    let j = bound (integer at x) _ ps g in
-    let p = bound (place_of b j.x) _ ps j.then_gave in
+part_places i here at (units.vector r) (vector b) (u.Part.element x) s ps h e g =
+    let j = bound (integer here at x) _ ps g in
+    let p = bound (place_of b at j.x) _ ps j.then_gave in
     subst (PartPlaces (vector b) s) (ok (p.x ∷ []) ps p.then_gave)
     (subst (λ (y : Shape). PartPlaces (vector b) y (p.x ∷ [])) (given_some (static_fits i x) sound.one s e).1
-    (record { below = one-place (size (vector b)) p.x (place_below b j.x p.x p.gave); width = refl; type_is = refl }))
-part_places i at (units.vector r) (vector b) (u.slice x) s ps h e g =
-    let l = bound (integer at x.left) _ ps g in
-    let m = bound (integer at x.right) _ ps l.then_gave in
-    let w = slice_within b x.direction l.x m.x ps m.then_gave in
+    (record { below = one-place (size (vector b)) p.x (place_below b at j.x p.x p.gave); width = refl; type_is = refl }))
+part_places i here at (units.vector r) (vector b) (u.slice x) s ps h e g =
+    let l = bound (integer here at x.left) _ ps g in
+    let m = bound (integer here at x.right) _ ps l.then_gave in
+    let w = slice_within b at x.direction l.x m.x ps m.then_gave in
     subst (λ (y : Shape). PartPlaces (vector b) y ps) (given_some (range_fits i x) sound.vector s e).1
     (record { below = w.below; width = width-le (length ps) (size (vector b)) w.some w.most h; type_is = refl })
-part_places i at (units.vector r) one (u.Part.element x) s ps h e g = elim h [ ]
-part_places i at (units.vector r) one (u.slice x) s ps h e g = elim h [ ]
-part_places i at (units.vector r) (enumeration n) (u.Part.element x) s ps h e g = elim h [ ]
-part_places i at (units.vector r) (enumeration n) (u.slice x) s ps h e g = elim h [ ]
-part_places i at units.element kind (u.Part.element x) s ps h e g = absurd cc
-part_places i at units.element kind (u.slice x) s ps h e g = absurd cc
-part_places i at (units.enumeration m) kind (u.Part.element x) s ps h e g = absurd cc
-part_places i at (units.enumeration m) kind (u.slice x) s ps h e g = absurd cc
+part_places i here at (units.vector r) one (u.Part.element x) s ps h e g = elim h [ ]
+part_places i here at (units.vector r) one (u.slice x) s ps h e g = elim h [ ]
+part_places i here at (units.vector r) (enumeration n) (u.Part.element x) s ps h e g = elim h [ ]
+part_places i here at (units.vector r) (enumeration n) (u.slice x) s ps h e g = elim h [ ]
+part_places i here at units.element kind (u.Part.element x) s ps h e g = absurd cc
+part_places i here at units.element kind (u.slice x) s ps h e g = absurd cc
+part_places i here at (units.enumeration m) kind (u.Part.element x) s ps h e g = absurd cc
+part_places i here at (units.enumeration m) kind (u.slice x) s ps h e g = absurd cc
 
 -- ---- the types of elements
 
@@ -131,9 +131,9 @@ type_at (q ∷ kinds) (suc k) kind p h l =
     let front : List ElementType = replicate (size q) (element_type q) in
     let len : length front ≡ size q = length-replicate (size q) (element_type q) in
     let c : ℕ = elements_count (take k kinds) in
-    let at : elements_count (q ∷ take k kinds) + p ≡ length front + (c + p) =
+    let here : elements_count (q ∷ take k kinds) + p ≡ length front + (c + p) =
     ap (λ n. n + p) (count-cons q (take k kinds)) ∙ plus-assoc (size q) c p ∙ ap (λ n. n + (c + p)) (sym len) in
-    ap (slice_get (front ++ kinds_types kinds)) at ∙ get-past front (kinds_types kinds) (c + p) ∙ type_at kinds k kind p h l
+    ap (slice_get (front ++ kinds_types kinds)) here ∙ get-past front (kinds_types kinds) (c + p) ∙ type_at kinds k kind p h l
   where
     plus-assoc : (a b c : ℕ) → a + b + c ≡ a + (b + c)
     plus-assoc a b c = omega arith
@@ -160,14 +160,14 @@ record PartElements (types : List ElementType) (s : Shape) (es : List ℕ) : Typ
   width : HasShape s (length es)
   typed : All (HasType types (type_of s)) es
 
-part-elements : (types : List ElementType) (i : Inside) (at : Integers) (from : ℕ) (forms : List Form) (kinds : List ObjectKind) (n : ℕ) (part : Part) (f : Form) (s : Shape) (es : List ℕ)
-    → AllZip IsOf forms kinds → Stand types from kinds → slice_get forms n ≡ Some f → part_shape i f part ≡ Some s → part_elements at from kinds n part ≡ Ok es
+part-elements : (types : List ElementType) (i : Inside) (here : Integers) (at from : ℕ) (forms : List Form) (kinds : List ObjectKind) (n : ℕ) (part : Part) (f : Form) (s : Shape) (es : List ℕ)
+    → AllZip IsOf forms kinds → Stand types from kinds → slice_get forms n ≡ Some f → part_shape i f part ≡ Some s → part_elements here at from kinds n part ≡ Ok es
     → PartElements types s es
-part-elements types i at from forms kinds n part f s es h stand e g m =
-    let kind = bound (item_or Index (slice_get kinds n)) _ es m in
-    let ps = bound (places at kind.x part) _ es kind.then_gave in
-    let there : slice_get kinds n ≡ Some kind.x = was_found Index (slice_get kinds n) kind.x kind.gave in
-    let of : PartPlaces kind.x s ps.x = part_places i at f kind.x part s ps.x (zip_at IsOf forms kinds n f kind.x h e there) g ps.gave in
+part-elements types i here at from forms kinds n part f s es h stand e g m =
+    let kind = bound (item_or Index at (slice_get kinds n)) _ es m in
+    let ps = bound (places here at kind.x part) _ es kind.then_gave in
+    let there : slice_get kinds n ≡ Some kind.x = was_found Index at (slice_get kinds n) kind.x kind.gave in
+    let of : PartPlaces kind.x s ps.x = part_places i here at f kind.x part s ps.x (zip_at IsOf forms kinds n f kind.x h e there) g ps.gave in
     let c : ℕ = elements_count (take n kinds) in
     subst (PartElements types s) (ok (map (λ p. from + c + p) ps.x) es ps.then_gave) (record {
       width = subst (HasShape s) (sym (length-map ps.x (λ p. from + c + p))) of.width;
@@ -180,35 +180,35 @@ part-elements types i at from forms kinds n part f s es h stand e g m =
     plus-assoc : (a b c : ℕ) → a + (b + c) ≡ a + b + c
     plus-assoc a b c = omega arith
 
-pub name_fits : (i : Inside) (at : Site) (x : Signal) (part : Part) (s : Shape) (es : List ℕ) → IsSite i at → place_shape i (record { signal = x; part = part }) ≡ Some s → signal_elements at x part ≡ Ok es
-    → IsName at s es
+pub name_fits : (i : Inside) (here : Site) (at : ℕ) (x : Signal) (part : Part) (s : Shape) (es : List ℕ) → IsSite i here → place_shape i (record { at = at; signal = x; part = part }) ≡ Some s → signal_elements here at x part ≡ Ok es
+    → IsName here s es
 unfolding signal_elements
-name_fits i at (u.port n) part s es h e g =
+name_fits i here at (u.port n) part s es h e g =
     let f = step (slice_get (map port_form i.ports) n) _ s e in
-    let types : List ElementType = (scope_at at).nets in
-    let w = part-elements types i at.integers 0 (map port_form i.ports) at.ports n part f.x s es h.ports
-    (λ m t k. ap (slice_get types) (let z : 0 + m ≡ m = omega arith in z) ∙ get-before (kinds_types at.ports) (kinds_types at.signals) m t k) f.gave f.then_gave g in
+    let types : List ElementType = (scope_at here).nets in
+    let w = part-elements types i here.integers at 0 (map port_form i.ports) here.ports n part f.x s es h.ports
+    (λ m t k. ap (slice_get types) (let z : 0 + m ≡ m = omega arith in z) ∙ get-before (kinds_types here.ports) (kinds_types here.signals) m t k) f.gave f.then_gave g in
     record { width = w.width; typed = w.typed }
-name_fits i at (u.Signal.signal n) part s es h e g =
+name_fits i here at (u.Signal.signal n) part s es h e g =
     let f = step (slice_get i.signals n) _ s e in
-    let types : List ElementType = (scope_at at).nets in
-    let w = part-elements types i at.integers (elements_count at.ports) i.signals at.signals n part f.x s es h.signals
-    (λ m t k. ap (λ (c : ℕ). slice_get types (c + m)) (sym (length-types at.ports)) ∙ get-past (kinds_types at.ports) (kinds_types at.signals) m ∙ k) f.gave f.then_gave g in
+    let types : List ElementType = (scope_at here).nets in
+    let w = part-elements types i here.integers at (elements_count here.ports) i.signals here.signals n part f.x s es h.signals
+    (λ m t k. ap (λ (c : ℕ). slice_get types (c + m)) (sym (length-types here.ports)) ∙ get-past (kinds_types here.ports) (kinds_types here.signals) m ∙ k) f.gave f.then_gave g in
     record { width = w.width; typed = w.typed }
 
 pub each-name-fits : EachNameFits
-each-name-fits i at p s es h e g = name_fits i at p.signal p.part s es h e g
+each-name-fits i here p s es h e g = name_fits i here p.at p.signal p.part s es h e g
 
 -- of a variable
-pub record IsVariable (at : Site) (s : Shape) (es : List ℕ) : Type 0 where
+pub record IsVariable (here : Site) (s : Shape) (es : List ℕ) : Type 0 where
   pub width : HasShape s (length es)
-  pub typed : All (HasType (kinds_types at.variables) (type_of s)) es
+  pub typed : All (HasType (kinds_types here.variables) (type_of s)) es
 
-pub variable_fits : (i : Inside) (at : Site) (n : ℕ) (part : Part) (f : Form) (s : Shape) (es : List ℕ) → IsSite i at → slice_get i.variables n ≡ Some f → part_shape i f part ≡ Some s
-    → variable_elements at n part ≡ Ok es → IsVariable at s es
+pub variable_fits : (i : Inside) (here : Site) (at n : ℕ) (part : Part) (f : Form) (s : Shape) (es : List ℕ) → IsSite i here → slice_get i.variables n ≡ Some f → part_shape i f part ≡ Some s
+    → variable_elements here at n part ≡ Ok es → IsVariable here s es
 unfolding variable_elements
-variable_fits i at n part f s es h e g m =
-    let types : List ElementType = kinds_types at.variables in
-    let w = part-elements types i at.integers 0 i.variables at.variables n part f s es h.variables
+variable_fits i here at n part f s es h e g m =
+    let types : List ElementType = kinds_types here.variables in
+    let w = part-elements types i here.integers at 0 i.variables here.variables n part f s es h.variables
     (λ j t k. ap (slice_get types) (let z : 0 + j ≡ j = omega arith in z) ∙ k) e g m in
     record { width = w.width; typed = w.typed }

@@ -7,9 +7,8 @@ use Rattle.std.proofs.lemmas.Bool.{and_parts, leb-true, ltb-false, le-ltb, not-t
 use Rattle.std.proofs.lemmas.List.FromFn.{length-range_with_len, get_or-range_with_len}
 use Rattle.vhdl_tree.specs.declared.operator.Direction.{Direction}
 use Rattle.vhdl_tree.specs.declared.operator.Direction.TheVariants.{To, Downto}
-use Rattle.vhdl_expand_rules.specs.declared.fault.ElabProblem.{ElabProblem}
 use Rattle.vhdl_expand_rules.specs.declared.fault.ElabProblem.TheVariants.{Index}
-use Rattle.vhdl_expand_rules.specs.Elab.{unless}
+use Rattle.vhdl_expand_rules.specs.Elab.{Told, unless}
 use Rattle.vhdl_expand_rules.specs.Integers.{is_null, extent}
 use Rattle.vhdl_expand_rules.specs.Kinds.{Bounds, bounds_size, place_of, is_same_direction, slice_places}
 use Rattle.vhdl_expand_rules.proofs.Steps.{given, ok, bound, kept}
@@ -17,9 +16,9 @@ use Rattle.vhdl_expand_rules.proofs.Steps.{given, ok, bound, kept}
 abbrev bounds : (left : ℕ) → Direction → (right : ℕ) → Bounds
 bounds left d right = record { left = left; direction = d; right = right }
 
-when : {A : Type 0} (test : Bool) (x y : A) (problem : ElabProblem) → cond test (given x) (Err problem) ≡ given y → (test ≡ true) × (x ≡ y)
-when true x y problem h = (refl, ok x y h)
-when false x y problem h = absurd cc
+when : {A : Type 0} (test : Bool) (x y : A) (told : Told) → cond test (given x) (Err told) ≡ given y → (test ≡ true) × (x ≡ y)
+when true x y told h = (refl, ok x y h)
+when false x y told h = absurd cc
 
 -- ---- how far numbers are apart
 
@@ -46,18 +45,18 @@ extent-downto m n h =
 
 -- ---- one place
 
-place-to : (l r : ℕ) (i : ℤ) (p : ℕ) → place_of (bounds l To r) i ≡ Ok p → (n : ℕ) × (i ≡ pos n) × (l ≤ n) × (n ≤ r) × (p ≡ n - l)
-place-to l r (negsuc k) p h = absurd cc
-place-to l r (pos n) p h =
-    let w = when (int_le (pos l) (pos n) && int_le (pos n) (pos r)) (nat_abs (pos n -ℤ pos l)) p Index h in
+place-to : (at l r : ℕ) (i : ℤ) (p : ℕ) → place_of (bounds l To r) at i ≡ Ok p → (n : ℕ) × (i ≡ pos n) × (l ≤ n) × (n ≤ r) × (p ≡ n - l)
+place-to at l r (negsuc k) p h = absurd cc
+place-to at l r (pos n) p h =
+    let w = when (int_le (pos l) (pos n) && int_le (pos n) (pos r)) (nat_abs (pos n -ℤ pos l)) p (Index, at) h in
     let both = and_parts (int_le (pos l) (pos n)) (int_le (pos n) (pos r)) w.0 in
     let low : l ≤ n = leb-true l n both.0 in
     (n, refl, low, leb-true n r both.1, sym w.1 ∙ apart-down n l low)
 
-place-downto : (l r : ℕ) (i : ℤ) (p : ℕ) → place_of (bounds l Downto r) i ≡ Ok p → (n : ℕ) × (i ≡ pos n) × (r ≤ n) × (n ≤ l) × (p ≡ l - n)
-place-downto l r (negsuc k) p h = absurd cc
-place-downto l r (pos n) p h =
-    let w = when (int_le (pos r) (pos n) && int_le (pos n) (pos l)) (nat_abs (pos n -ℤ pos l)) p Index h in
+place-downto : (at l r : ℕ) (i : ℤ) (p : ℕ) → place_of (bounds l Downto r) at i ≡ Ok p → (n : ℕ) × (i ≡ pos n) × (r ≤ n) × (n ≤ l) × (p ≡ l - n)
+place-downto at l r (negsuc k) p h = absurd cc
+place-downto at l r (pos n) p h =
+    let w = when (int_le (pos r) (pos n) && int_le (pos n) (pos l)) (nat_abs (pos n -ℤ pos l)) p (Index, at) h in
     let both = and_parts (int_le (pos r) (pos n)) (int_le (pos n) (pos l)) w.0 in
     let high : n ≤ l = leb-true n l both.1 in
     (n, refl, leb-true r n both.0, high, sym w.1 ∙ apart-up n l high)
@@ -65,18 +64,18 @@ place-downto l r (pos n) p h =
 below_by : (p size k : ℕ) → size ≡ suc k → p ≤ k → p < size
 below_by p size k e h = omega (arith, e, h)
 
-place-below : (l : ℕ) (d : Direction) (r : ℕ) (i : ℤ) (p : ℕ) → place_of (bounds l d r) i ≡ Ok p → p < bounds_size (bounds l d r)
-place-below l To r i p h =
-    let w = place-to l r i p h in
+place-below : (at l : ℕ) (d : Direction) (r : ℕ) (i : ℤ) (p : ℕ) → place_of (bounds l d r) at i ≡ Ok p → p < bounds_size (bounds l d r)
+place-below at l To r i p h =
+    let w = place-to at l r i p h in
     let a : l ≤ w.0 = w.2 in let b : w.0 ≤ r = w.3 in let e : p ≡ w.0 - l = w.4 in
     below_by p (bounds_size (bounds l To r)) (r - l) (extent-to l r (omega (arith, a, b))) (omega (arith, a, b, e))
-place-below l Downto r i p h =
-    let w = place-downto l r i p h in
+place-below at l Downto r i p h =
+    let w = place-downto at l r i p h in
     let a : r ≤ w.0 = w.2 in let b : w.0 ≤ l = w.3 in let e : p ≡ l - w.0 = w.4 in
     below_by p (bounds_size (bounds l Downto r)) (l - r) (extent-downto l r (omega (arith, a, b))) (omega (arith, a, b, e))
 
-pub place_below : (b : Bounds) (i : ℤ) (p : ℕ) → place_of b i ≡ Ok p → p < bounds_size b
-place_below b i p h = place-below b.left b.direction b.right i p h
+pub place_below : (b : Bounds) (at : ℕ) (i : ℤ) (p : ℕ) → place_of b at i ≡ Ok p → p < bounds_size b
+place_below b at i p h = place-below at b.left b.direction b.right i p h
 
 -- ---- a run of places
 
@@ -113,24 +112,24 @@ slice-downto l r m n first x y p q high low e h =
     (ap (λ (z : ℤ). extent Downto z y) p ∙ ap (extent Downto (pos m)) q ∙ extent-downto m n le) (omega arith) (omega (arith, low, high, le, e))
 
 -- what a slice keeps to
-record Slice (b : Bounds) (d : Direction) (x y : ℤ) (ps : List ℕ) : Type 0 where
+record Slice (b : Bounds) (at : ℕ) (d : Direction) (x y : ℤ) (ps : List ℕ) : Type 0 where
   same : is_same_direction b.direction d ≡ true
   some : not (is_null d x y) ≡ true
   first : ℕ
-  begins : place_of b x ≡ Ok first
+  begins : place_of b at x ≡ Ok first
   last : ℕ
-  ends : place_of b y ≡ Ok last
+  ends : place_of b at y ≡ Ok last
   is : range_with_len first (extent d x y) ≡ ps
 
-slice-of : (b : Bounds) (d : Direction) (x y : ℤ) (ps : List ℕ) → slice_places b d x y ≡ Ok ps → Slice b d x y ps
-slice-of b d x y ps h =
-    let same = bound (unless Index (is_same_direction b.direction d)) _ ps h in
-    let some = bound (unless Index (not (is_null d x y))) _ ps same.then_gave in
-    let first = bound (place_of b x) _ ps some.then_gave in
-    let last = bound (place_of b y) _ ps first.then_gave in
+slice-of : (b : Bounds) (at : ℕ) (d : Direction) (x y : ℤ) (ps : List ℕ) → slice_places b at d x y ≡ Ok ps → Slice b at d x y ps
+slice-of b at d x y ps h =
+    let same = bound (unless Index at (is_same_direction b.direction d)) _ ps h in
+    let some = bound (unless Index at (not (is_null d x y))) _ ps same.then_gave in
+    let first = bound (place_of b at x) _ ps some.then_gave in
+    let last = bound (place_of b at y) _ ps first.then_gave in
     record {
-      same = kept Index (is_same_direction b.direction d) same.x same.gave;
-      some = kept Index (not (is_null d x y)) some.x some.gave;
+      same = kept Index at (is_same_direction b.direction d) same.x same.gave;
+      some = kept Index at (not (is_null d x y)) some.x some.gave;
       first = first.x;
       begins = first.gave;
       last = last.x;
@@ -138,17 +137,17 @@ slice-of b d x y ps h =
       is = ok (range_with_len first.x (extent d x y)) ps last.then_gave;
     }
 
-slice-within : (l : ℕ) (d : Direction) (r : ℕ) (e : Direction) (x y : ℤ) (ps : List ℕ) → Slice (bounds l d r) e x y ps → Within (bounds_size (bounds l d r)) ps
-slice-within l To r To x y ps s =
-    let m = place-to l r x s.first s.begins in
-    let n = place-to l r y s.last s.ends in
+slice-within : (at l : ℕ) (d : Direction) (r : ℕ) (e : Direction) (x y : ℤ) (ps : List ℕ) → Slice (bounds l d r) at e x y ps → Within (bounds_size (bounds l d r)) ps
+slice-within at l To r To x y ps s =
+    let m = place-to at l r x s.first s.begins in
+    let n = place-to at l r y s.last s.ends in
     subst (Within (bounds_size (bounds l To r))) s.is (slice-to l r m.0 n.0 s.first x y m.1 n.1 m.2 n.3 m.4 s.some)
-slice-within l Downto r Downto x y ps s =
-    let m = place-downto l r x s.first s.begins in
-    let n = place-downto l r y s.last s.ends in
+slice-within at l Downto r Downto x y ps s =
+    let m = place-downto at l r x s.first s.begins in
+    let n = place-downto at l r y s.last s.ends in
     subst (Within (bounds_size (bounds l Downto r))) s.is (slice-downto l r m.0 n.0 s.first x y m.1 n.1 m.3 n.2 m.4 s.some)
-slice-within l To r Downto x y ps s = absurd (let e = s.same in cc)
-slice-within l Downto r To x y ps s = absurd (let e = s.same in cc)
+slice-within at l To r Downto x y ps s = absurd (let e = s.same in cc)
+slice-within at l Downto r To x y ps s = absurd (let e = s.same in cc)
 
-pub slice_within : (b : Bounds) (d : Direction) (x y : ℤ) (ps : List ℕ) → slice_places b d x y ≡ Ok ps → Within (bounds_size b) ps
-slice_within b d x y ps h = slice-within b.left b.direction b.right d x y ps (slice-of b d x y ps h)
+pub slice_within : (b : Bounds) (at : ℕ) (d : Direction) (x y : ℤ) (ps : List ℕ) → slice_places b at d x y ≡ Ok ps → Within (bounds_size b) ps
+slice_within b at d x y ps h = slice-within at b.left b.direction b.right d x y ps (slice-of b at d x y ps h)

@@ -27,83 +27,83 @@ run-below n k d h =
     let is : slice_index_or (range_with_len 0 n) k d ≡ 0 + k = get_or-range_with_len 0 n k d (omega (arith, h, l)) in
     omega (arith, is, h, l)
 
-pub places_below : (at : Integers) (kind : ObjectKind) (part : Part) (ps : List ℕ) → places at kind part ≡ Ok ps → All (λ p. p < size kind) ps
+pub places_below : (here : Integers) (at : ℕ) (kind : ObjectKind) (part : Part) (ps : List ℕ) → places here at kind part ≡ Ok ps → All (λ p. p < size kind) ps
 unfolding places
-places_below at kind u.whole ps h = subst (All (λ p. p < size kind)) (ok (range_with_len 0 (size kind)) ps h) (run-below (size kind))
-places_below at (vector b) (u.Part.element x) ps h =
-    let j = bound (integer at x) _ ps h in
-    let p = bound (place_of b j.x) _ ps j.then_gave in
-    subst (All (λ q. q < size (vector b))) (ok (p.x ∷ []) ps p.then_gave) (one-place (size (vector b)) p.x (place_below b j.x p.x p.gave))
-places_below at (vector b) (u.slice x) ps h =
-    let l = bound (integer at x.left) _ ps h in
-    let m = bound (integer at x.right) _ ps l.then_gave in
-    (slice_within b x.direction l.x m.x ps m.then_gave).below
-places_below at one (u.Part.element x) ps h = absurd cc
-places_below at one (u.slice x) ps h = absurd cc
-places_below at (enumeration n) (u.Part.element x) ps h = absurd cc
-places_below at (enumeration n) (u.slice x) ps h = absurd cc
+places_below here at kind u.whole ps h = subst (All (λ p. p < size kind)) (ok (range_with_len 0 (size kind)) ps h) (run-below (size kind))
+places_below here at (vector b) (u.Part.element x) ps h =
+    let j = bound (integer here at x) _ ps h in
+    let p = bound (place_of b at j.x) _ ps j.then_gave in
+    subst (All (λ q. q < size (vector b))) (ok (p.x ∷ []) ps p.then_gave) (one-place (size (vector b)) p.x (place_below b at j.x p.x p.gave))
+places_below here at (vector b) (u.slice x) ps h =
+    let l = bound (integer here at x.left) _ ps h in
+    let m = bound (integer here at x.right) _ ps l.then_gave in
+    (slice_within b at x.direction l.x m.x ps m.then_gave).below
+places_below here at one (u.Part.element x) ps h = absurd cc
+places_below here at one (u.slice x) ps h = absurd cc
+places_below here at (enumeration n) (u.Part.element x) ps h = absurd cc
+places_below here at (enumeration n) (u.slice x) ps h = absurd cc
 
 -- ---- what is static is the same in each turn
 
 abbrev turned : Integers → List ℤ → Integers
-turned at loops = record at { loops = loops }
+turned here loops = record here { loops = loops }
 
 -- the site of a statement within loops, in a process with these variables
 abbrev pub within : Site → List ℤ → List ObjectKind → Site
-within at loops variables = record at { integers = turned at.integers loops; variables = variables }
+within here loops variables = record here { integers = turned here.integers loops; variables = variables }
 
-static-same : (at : Integers) (loops : List ℤ) (s : Static) → is_static s ≡ true → integer (turned at loops) s ≡ integer at s
+static-same : (here : Integers) (at : ℕ) (loops : List ℤ) (s : Static) → is_static s ≡ true → integer (turned here loops) at s ≡ integer here at s
 unfolding integer
-static-same at loops (u.number n) h = refl
-static-same at loops (u.generic k) h = refl
-static-same at loops (u.Static.constant k) h = refl
-static-same at loops (u.generate_parameter k) h = refl
-static-same at loops (u.loop_parameter k) h = absurd cc
-static-same at loops (u.Static.negated s) h = ap (λ (r : Elab ℤ). r >>= λ x. checked_integer (neg_ℤ x)) (static-same at loops s h)
-static-same at loops (u.Static.binary op s t) h =
+static-same here at loops (u.number n) h = refl
+static-same here at loops (u.generic k) h = refl
+static-same here at loops (u.Static.constant k) h = refl
+static-same here at loops (u.generate_parameter k) h = refl
+static-same here at loops (u.loop_parameter k) h = absurd cc
+static-same here at loops (u.Static.negated sign s) h = ap (λ (r : Elab ℤ). r >>= λ x. checked_integer sign (neg_ℤ x)) (static-same here sign loops s h)
+static-same here at loops (u.Static.binary sign op s t) h =
     let both = and_parts (is_static s) (is_static t) h in
-    ap (λ (r : Elab ℤ). r >>= λ x. integer (turned at loops) t >>= λ y. integer_operation op x y) (static-same at loops s both.0)
-    ∙ ap (λ (r : Elab ℤ). integer at s >>= λ x. r >>= λ y. integer_operation op x y) (static-same at loops t both.1)
+    ap (λ (r : Elab ℤ). r >>= λ x. integer (turned here loops) sign t >>= λ y. integer_operation sign op x y) (static-same here sign loops s both.0)
+    ∙ ap (λ (r : Elab ℤ). integer here sign s >>= λ x. r >>= λ y. integer_operation sign op x y) (static-same here sign loops t both.1)
 
-places-same : (at : Integers) (loops : List ℤ) (kind : ObjectKind) (part : Part) → is_static_part part ≡ true → places (turned at loops) kind part ≡ places at kind part
+places-same : (here : Integers) (at : ℕ) (loops : List ℤ) (kind : ObjectKind) (part : Part) → is_static_part part ≡ true → places (turned here loops) at kind part ≡ places here at kind part
 unfolding places
-places-same at loops kind u.whole h = refl
-places-same at loops (vector b) (u.Part.element s) h = ap (λ (r : Elab ℤ). r >>= λ i. place_of b i >>= λ p. given (p ∷ [])) (static-same at loops s h)
-places-same at loops (vector b) (u.slice r) h =
+places-same here at loops kind u.whole h = refl
+places-same here at loops (vector b) (u.Part.element s) h = ap (λ (r : Elab ℤ). r >>= λ i. place_of b at i >>= λ p. given (p ∷ [])) (static-same here at loops s h)
+places-same here at loops (vector b) (u.slice r) h =
     let both = and_parts (is_static r.left) (is_static r.right) h in
-    ap (λ (e : Elab ℤ). e >>= λ x. integer (turned at loops) r.right >>= λ y. slice_places b r.direction x y) (static-same at loops r.left both.0)
-    ∙ ap (λ (e : Elab ℤ). integer at r.left >>= λ x. e >>= λ y. slice_places b r.direction x y) (static-same at loops r.right both.1)
-places-same at loops one (u.Part.element s) h = refl
-places-same at loops one (u.slice r) h = refl
-places-same at loops (enumeration n) (u.Part.element s) h = refl
-places-same at loops (enumeration n) (u.slice r) h = refl
+    ap (λ (e : Elab ℤ). e >>= λ x. integer (turned here loops) at r.right >>= λ y. slice_places b at r.direction x y) (static-same here at loops r.left both.0)
+    ∙ ap (λ (e : Elab ℤ). integer here at r.left >>= λ x. e >>= λ y. slice_places b at r.direction x y) (static-same here at loops r.right both.1)
+places-same here at loops one (u.Part.element s) h = refl
+places-same here at loops one (u.slice r) h = refl
+places-same here at loops (enumeration n) (u.Part.element s) h = refl
+places-same here at loops (enumeration n) (u.slice r) h = refl
 
 -- ---- elements of a part, and of the whole
 
 same_result : {A : Type 0} (r : Elab A) (x y : A) → r ≡ Ok x → r ≡ Ok y → x ≡ y
 same_result r x y h g = ok x y (sym h ∙ g)
 
-in-static : (at : Integers) (loops : List ℤ) (from : ℕ) (kinds : List ObjectKind) (k : ℕ) (part : Part) (es ds : List ℕ) → is_static_part part ≡ true
-    → part_elements (turned at loops) from kinds k part ≡ Ok es → part_elements at from kinds k part ≡ Ok ds → All (Contains ds) es
-in-static at loops from kinds k part es ds s h g =
-    subst (λ (xs : List ℕ). All (Contains ds) xs) (sym (same_result (part_elements at from kinds k part) es ds (sym (by (item_or Index (slice_get kinds k))) ∙ h) g)) (All-contains_itself ds)
+in-static : (here : Integers) (at : ℕ) (loops : List ℤ) (from : ℕ) (kinds : List ObjectKind) (k : ℕ) (part : Part) (es ds : List ℕ) → is_static_part part ≡ true
+    → part_elements (turned here loops) at from kinds k part ≡ Ok es → part_elements here at from kinds k part ≡ Ok ds → All (Contains ds) es
+in-static here at loops from kinds k part es ds s h g =
+    subst (λ (xs : List ℕ). All (Contains ds) xs) (sym (same_result (part_elements here at from kinds k part) es ds (sym (by (item_or Index at (slice_get kinds k))) ∙ h) g)) (All-contains_itself ds)
   where
-    by : (r : Elab ObjectKind) → (r >>= λ kind. places (turned at loops) kind part >>= λ ps. given (map (λ p. from + elements_count (take k kinds) + p) ps))
-        ≡ (r >>= λ kind. places at kind part >>= λ ps. given (map (λ p. from + elements_count (take k kinds) + p) ps))
-    by (Ok kind) = ap (λ (e : Elab (List ℕ)). e >>= λ ps. given (map (λ p. from + elements_count (take k kinds) + p) ps)) (places-same at loops kind part s)
-    by (Err problem) = refl
+    by : (r : Elab ObjectKind) → (r >>= λ kind. places (turned here loops) at kind part >>= λ ps. given (map (λ p. from + elements_count (take k kinds) + p) ps))
+        ≡ (r >>= λ kind. places here at kind part >>= λ ps. given (map (λ p. from + elements_count (take k kinds) + p) ps))
+    by (Ok kind) = ap (λ (e : Elab (List ℕ)). e >>= λ ps. given (map (λ p. from + elements_count (take k kinds) + p) ps)) (places-same here at loops kind part s)
+    by (Err told) = refl
 
-in-whole : (at at' : Integers) (from : ℕ) (kinds : List ObjectKind) (k : ℕ) (part : Part) (es ds : List ℕ) → part_elements at' from kinds k part ≡ Ok es → part_elements at from kinds k u.whole ≡ Ok ds
+in-whole : (here here' : Integers) (at from : ℕ) (kinds : List ObjectKind) (k : ℕ) (part : Part) (es ds : List ℕ) → part_elements here' at from kinds k part ≡ Ok es → part_elements here at from kinds k u.whole ≡ Ok ds
     → All (Contains ds) es
 unfolding places
-in-whole at at' from kinds k part es ds h g =
+in-whole here here' at from kinds k part es ds h g =
     let f : ℕ → ℕ = λ p. from + elements_count (take k kinds) + p in
-    let kind = bound (item_or Index (slice_get kinds k)) _ es h in
-    let ps = bound (places at' kind.x part) _ es kind.then_gave in
-    let same = bound (item_or Index (slice_get kinds k)) _ ds g in
+    let kind = bound (item_or Index at (slice_get kinds k)) _ es h in
+    let ps = bound (places here' at kind.x part) _ es kind.then_gave in
+    let same = bound (item_or Index at (slice_get kinds k)) _ ds g in
     let n : ℕ = size same.x in
-    let is : kind.x ≡ same.x = same_result (item_or Index (slice_get kinds k)) kind.x same.x kind.gave same.gave in
-    let below : All (λ p. p < n) ps.x = subst (λ (x : ObjectKind). All (λ p. p < size x) ps.x) is (places_below at' kind.x part ps.x ps.gave) in
+    let is : kind.x ≡ same.x = same_result (item_or Index at (slice_get kinds k)) kind.x same.x kind.gave same.gave in
+    let below : All (λ p. p < n) ps.x = subst (λ (x : ObjectKind). All (λ p. p < size x) ps.x) is (places_below here' at kind.x part ps.x ps.gave) in
     subst (λ (xs : List ℕ). All (Contains xs) es) (ok (map f (range_with_len 0 n)) ds same.then_gave)
     (subst (λ (xs : List ℕ). All (Contains (map f (range_with_len 0 n))) xs) (ok (map f ps.x) es ps.then_gave)
     (All-map (Contains (map f (range_with_len 0 n))) f ps.x
@@ -112,21 +112,21 @@ in-whole at at' from kinds k part es ds h g =
     there : (f : ℕ → ℕ) (n p : ℕ) → p < n → Contains (map f (range_with_len 0 n)) (f p)
     there f n p l = (p, subst (λ m. p < m) (sym (length-map-range_with_len f 0 n)) l, get_or-map-range_with_len f 0 n p p (f p) l (let z : 0 + p ≡ p = omega arith in z))
 
-signal-in : (at : Site) (loops : List ℤ) (vs : List ObjectKind) (x : Signal) (part : Part) (t : Bool) (es ds : List ℕ) → is_static_part part ≡ t
-    → signal_elements (within at loops vs) x part ≡ Ok es → signal_elements at x (cond t part u.whole) ≡ Ok ds → All (Contains ds) es
+signal-in : (here : Site) (at : ℕ) (loops : List ℤ) (vs : List ObjectKind) (x : Signal) (part : Part) (t : Bool) (es ds : List ℕ) → is_static_part part ≡ t
+    → signal_elements (within here loops vs) at x part ≡ Ok es → signal_elements here at x (cond t part u.whole) ≡ Ok ds → All (Contains ds) es
 unfolding signal_elements
-signal-in at loops vs (u.port k) part true es ds s h g = in-static at.integers loops 0 at.ports k part es ds s h g
-signal-in at loops vs (u.Signal.signal k) part true es ds s h g = in-static at.integers loops (elements_count at.ports) at.signals k part es ds s h g
-signal-in at loops vs (u.port k) part false es ds s h g = in-whole at.integers (turned at.integers loops) 0 at.ports k part es ds h g
-signal-in at loops vs (u.Signal.signal k) part false es ds s h g = in-whole at.integers (turned at.integers loops) (elements_count at.ports) at.signals k part es ds h g
+signal-in here at loops vs (u.port k) part true es ds s h g = in-static here.integers at loops 0 here.ports k part es ds s h g
+signal-in here at loops vs (u.Signal.signal k) part true es ds s h g = in-static here.integers at loops (elements_count here.ports) here.signals k part es ds s h g
+signal-in here at loops vs (u.port k) part false es ds s h g = in-whole here.integers (turned here.integers loops) at 0 here.ports k part es ds h g
+signal-in here at loops vs (u.Signal.signal k) part false es ds s h g = in-whole here.integers (turned here.integers loops) at (elements_count here.ports) here.signals k part es ds h g
 
-prefix-is : (p : SignalPart) → prefix p ≡ record { signal = p.signal; part = cond (is_static_part p.part) p.part u.whole }
+prefix-is : (p : SignalPart) → prefix p ≡ record { at = p.at; signal = p.signal; part = cond (is_static_part p.part) p.part u.whole }
 prefix-is p = by (is_static_part p.part)
   where
-    by : (t : Bool) → cond t p (record p { part = u.whole }) ≡ record { signal = p.signal; part = cond t p.part u.whole }
+    by : (t : Bool) → cond t p (record p { part = u.whole }) ≡ record { at = p.at; signal = p.signal; part = cond t p.part u.whole }
     by true = refl
     by false = refl
 
-pub name_in_prefix : (at : Site) (loops : List ℤ) (vs : List ObjectKind) (p : SignalPart) (es ds : List ℕ) → place_elements (within at loops vs) p ≡ Ok es → place_elements at (prefix p) ≡ Ok ds → All (Contains ds) es
-name_in_prefix at loops vs p es ds h g =
-    signal-in at loops vs p.signal p.part (is_static_part p.part) es ds refl h (sym (ap (place_elements at) (prefix-is p)) ∙ g)
+pub name_in_prefix : (here : Site) (loops : List ℤ) (vs : List ObjectKind) (p : SignalPart) (es ds : List ℕ) → place_elements (within here loops vs) p ≡ Ok es → place_elements here (prefix p) ≡ Ok ds → All (Contains ds) es
+name_in_prefix here loops vs p es ds h g =
+    signal-in here p.at loops vs p.signal p.part (is_static_part p.part) es ds refl h (sym (ap (place_elements here) (prefix-is p)) ∙ g)

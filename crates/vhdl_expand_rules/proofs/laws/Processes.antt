@@ -42,20 +42,20 @@ record Declares (o : u.Object) (v : Variable) : Type 0 where
   kind : IsOf o.form v.kind
   sound : VariableIsSound v
 
-variable-declares : (i : Inside) (at : Site) (o : u.Object) (v : Variable) → object_fits i o ≡ true → variable at o ≡ Ok v → Declares o v
+variable-declares : (i : Inside) (here : Site) (o : u.Object) (v : Variable) → object_fits i o ≡ true → variable here o ≡ Ok v → Declares o v
 unfolding variable
-variable-declares i at o v h e =
+variable-declares i here o v h e =
     let both = and_parts (form_fits i o.form && may_be_resolved o.form o.is_resolved) (default_fits i (shape_of o.form) o.default) h in
     let first = and_parts (form_fits i o.form) (may_be_resolved o.form o.is_resolved) both.0 in
-    let k = bound (kind_of at.integers o.form) _ v e in
-    let vs = bound (starts at k.x o.default) _ v k.then_gave in
-    let of = kind_is_of i at.integers o.form k.x first.0 k.gave in
+    let k = bound (kind_of here.integers o.at o.form) _ v e in
+    let vs = bound (starts here o.at k.x o.default) _ v k.then_gave in
+    let of = kind_is_of i here.integers o.at o.form k.x first.0 k.gave in
     subst (Declares o) (ok _ v vs.then_gave) (record {
       kind = of;
       sound = record {
         kind = is_kind o.form k.x of;
-        as_declared = starts-length at k.x o.default vs.x vs.gave;
-        starts = starts_below i at o.form k.x o.default vs.x of both.1 vs.gave;
+        as_declared = starts-length here o.at k.x o.default vs.x vs.gave;
+        starts = starts_below i here o.at o.form k.x o.default vs.x of both.1 vs.gave;
       };
     })
 
@@ -66,14 +66,14 @@ record AllDeclare (os : List u.Object) (vs : List Variable) : Type 0 where
   kinds : AllZip IsOf (map (λ (o : u.Object). o.form) os) (kinds_of vs)
   sound : All VariableIsSound vs
 
-variables-declare : (i : Inside) (at : Site) (os : List u.Object) (vs : List Variable) → objects_fit i os ≡ true → each (variable at) os ≡ Ok vs → AllDeclare os vs
-variables-declare i at [] vs h e = subst (AllDeclare []) (ok [] vs e) (record { kinds = tt; sound = All-nil VariableIsSound })
-variables-declare i at (o ∷ os) vs h e =
+variables-declare : (i : Inside) (here : Site) (os : List u.Object) (vs : List Variable) → objects_fit i os ≡ true → each (variable here) os ≡ Ok vs → AllDeclare os vs
+variables-declare i here [] vs h e = subst (AllDeclare []) (ok [] vs e) (record { kinds = tt; sound = All-nil VariableIsSound })
+variables-declare i here (o ∷ os) vs h e =
     let both = and_parts (object_fits i o) (objects_fit i os) h in
-    let v = bound (variable at o) _ vs e in
-    let rest = bound (each (variable at) os) _ vs v.then_gave in
-    let first = variable-declares i at o v.x both.0 v.gave in
-    let more = variables-declare i at os rest.x both.1 rest.gave in
+    let v = bound (variable here o) _ vs e in
+    let rest = bound (each (variable here) os) _ vs v.then_gave in
+    let first = variable-declares i here o v.x both.0 v.gave in
+    let more = variables-declare i here os rest.x both.1 rest.gave in
     subst (AllDeclare (o ∷ os)) (ok (v.x ∷ rest.x) vs rest.then_gave)
     (record { kinds = (first.kind, more.kinds); sound = All-cons VariableIsSound v.x rest.x first.sound more.sound })
 
@@ -106,53 +106,53 @@ abbrev IsDriven : Inside → SignalPart → Type 0
 IsDriven i p = is_driven i p.signal ≡ true
 
 -- what the longest static prefixes of a body's targets gave
-record Prefixes (at : Site) (P : ℕ → Type 0) (ps : List SignalPart) (ds : List ℕ) : Type 0 where
+record Prefixes (here : Site) (P : ℕ → Type 0) (ps : List SignalPart) (ds : List ℕ) : Type 0 where
   driven : All P ds
-  among : All (λ (p : SignalPart). (es : List ℕ) × (place_elements at (prefix p) ≡ Ok es) × All (Contains ds) es) ps
+  among : All (λ (p : SignalPart). (es : List ℕ) × (place_elements here (prefix p) ≡ Ok es) × All (Contains ds) es) ps
 
-prefixes-driven : (i : Inside) (at : Site) (os ss : List Object) (ps : List SignalPart) (ds : List ℕ) → IsDeclared i at os ss → All (IsDriven i) ps → prefixes_elements at ps ≡ Ok ds
-    → Prefixes at (MayBeDriven (os ++ ss)) ps ds
+prefixes-driven : (i : Inside) (here : Site) (os ss : List Object) (ps : List SignalPart) (ds : List ℕ) → IsDeclared i here os ss → All (IsDriven i) ps → prefixes_elements here ps ≡ Ok ds
+    → Prefixes here (MayBeDriven (os ++ ss)) ps ds
 unfolding prefixes_elements
-prefixes-driven i at os ss ps ds h driven g =
-    let f : SignalPart → Elab (List ℕ) = λ p. place_elements at (prefix p) in
-    let ess = bound (each (λ p. place_elements at (prefix p)) ps) _ ds g in
-    subst (Prefixes at (MayBeDriven (os ++ ss)) ps) (ok (concatenation_of ess.x) ds ess.then_gave) (record {
+prefixes-driven i here os ss ps ds h driven g =
+    let f : SignalPart → Elab (List ℕ) = λ p. place_elements here (prefix p) in
+    let ess = bound (each (λ p. place_elements here (prefix p)) ps) _ ds g in
+    subst (Prefixes here (MayBeDriven (os ++ ss)) ps) (ok (concatenation_of ess.x) ds ess.then_gave) (record {
       driven = all_concatenated (MayBeDriven (os ++ ss)) ess.x
           (each_with (IsDriven i) (All (MayBeDriven (os ++ ss))) f ps ess.x
-          (λ p es d k. driven_elements i at os ss (prefix p).signal (prefix p).part es h (prefix-driven i p d) k) driven ess.gave);
-      among = among_prefixes at ps ess.x ess.gave;
+          (λ p es d k. driven_elements i here (prefix p).at os ss (prefix p).signal (prefix p).part es h (prefix-driven i p d) k) driven ess.gave);
+      among = among_prefixes here ps ess.x ess.gave;
     })
 
-with-variables : (i : Inside) (at : Site) (os : List u.Object) (vs : List Variable) → IsSite i at → AllZip IsOf (map (λ (o : u.Object). o.form) os) (kinds_of vs)
-    → IsSite (record i { variables = map (λ (o : u.Object). o.form) os }) (with_variables at vs)
-with-variables i at os vs h k = record { constants = h.constants; ports = h.ports; signals = h.signals; variables = k }
+with-variables : (i : Inside) (here : Site) (os : List u.Object) (vs : List Variable) → IsSite i here → AllZip IsOf (map (λ (o : u.Object). o.form) os) (kinds_of vs)
+    → IsSite (record i { variables = map (λ (o : u.Object). o.form) os }) (with_variables here vs)
+with-variables i here os vs h k = record { constants = h.constants; ports = h.ports; signals = h.signals; variables = k }
 
-pub process-sound : (i : Inside) (at : Spot) (os ss : List Object) (p : u.Process) (q : t.Process) → IsDeclared i at.site os ss → process_fits i p ≡ true → process at p ≡ Ok q → ProcessIsSound (os ++ ss) q
+pub process-sound : (i : Inside) (here : Spot) (os ss : List Object) (p : u.Process) (q : t.Process) → IsDeclared i here.site os ss → process_fits i p ≡ true → process here p ≡ Ok q → ProcessIsSound (os ++ ss) q
 unfolding process
-process-sound i at os ss p q h fit g =
+process-sound i here os ss p q h fit g =
     let fs : List Form = map (λ (o : u.Object). o.form) p.variables in
     let both = and_parts (sensitivity_fits i p.sensitivity && objects_fit i p.variables) (statements_fit (record i { variables = fs }) p.body) fit in
     let first = and_parts (sensitivity_fits i p.sensitivity) (objects_fit i p.variables) both.0 in
-    let vs = bound (each (variable at.site) p.variables) _ q g in
-    let ds = bound (prefixes_elements at.site (targets p.body)) _ q vs.then_gave in
-    let on = bound (sensitivity at.site p.sensitivity p.body) _ q ds.then_gave in
-    let n = bound (statements_turns at.site p.body) _ q on.then_gave in
-    let body = bound (statements (with_variables at.site vs.x) p.body) _ q n.then_gave in
+    let vs = bound (each (variable here.site) p.variables) _ q g in
+    let ds = bound (prefixes_elements here.site (targets p.body)) _ q vs.then_gave in
+    let on = bound (sensitivity here.site p.sensitivity p.body) _ q ds.then_gave in
+    let n = bound (statements_turns here.site p.body) _ q on.then_gave in
+    let body = bound (statements (with_variables here.site vs.x) p.body) _ q n.then_gave in
     let all : List Object = os ++ ss in
-    let count : ℕ = elements_count at.site.ports + elements_count at.site.signals in
+    let count : ℕ = elements_count here.site.ports + elements_count here.site.signals in
     let drives : List ℕ = in_order count ds.x in
-    let declared = variables-declare i at.site p.variables vs.x first.1 vs.gave in
+    let declared = variables-declare i here.site p.variables vs.x first.1 vs.gave in
     let driven : All (IsDriven i) (targets p.body) =
     All-weaker (IsDriven (record i { variables = fs })) (IsDriven i) (λ x k. same-driven i fs x.signal k) (targets p.body) (targets_are_driven p.body (record i { variables = fs }) both.1) in
-    let prefixes = prefixes-driven i at.site os ss (targets p.body) ds.x h driven ds.gave in
-    let fits = each-body-fits (record i { variables = fs }) (with_variables at.site vs.x) p.body body.x (with-variables i at.site p.variables vs.x h.site declared.kinds) both.1 body.gave in
+    let prefixes = prefixes-driven i here.site os ss (targets p.body) ds.x h driven ds.gave in
+    let fits = each-body-fits (record i { variables = fs }) (with_variables here.site vs.x) p.body body.x (with-variables i here.site p.variables vs.x h.site declared.kinds) both.1 body.gave in
     let kept : (e : ℕ) → Contains ds.x e → Contains drives e =
-    λ e c. in_order_has count ds.x e (is-below all count e (site-count i at.site os ss h) (All-contains (MayBeDriven all) ds.x e prefixes.driven c)) c in
+    λ e c. in_order_has count ds.x e (is-below all count e (site-count i here.site os ss h) (All-contains (MayBeDriven all) ds.x e prefixes.driven c)) c in
     subst (ProcessIsSound all) (ok _ q body.then_gave) (record {
-      body = body-stands (kinds_types at.site.ports ++ kinds_types at.site.signals) (object_types all) count (elements_count (object_kinds all)) (kinds_types (kinds_of vs.x)) body.x
-          (site-types i at.site os ss h) (site-count i at.site os ss h) fits;
-      assigned = body_assigns at.site (kinds_of vs.x) (Contains drives) p.body at.site.integers.loops body.x
-          (All-weaker (λ (x : SignalPart). (es : List ℕ) × (place_elements at.site (prefix x) ≡ Ok es) × All (Contains ds.x) es) (λ (x : SignalPart). (es : List ℕ) × (place_elements at.site (prefix x) ≡ Ok es) × All (Contains drives) es)
+      body = body-stands (kinds_types here.site.ports ++ kinds_types here.site.signals) (object_types all) count (elements_count (object_kinds all)) (kinds_types (kinds_of vs.x)) body.x
+          (site-types i here.site os ss h) (site-count i here.site os ss h) fits;
+      assigned = body_assigns here.site (kinds_of vs.x) (Contains drives) p.body here.site.integers.loops body.x
+          (All-weaker (λ (x : SignalPart). (es : List ℕ) × (place_elements here.site (prefix x) ≡ Ok es) × All (Contains ds.x) es) (λ (x : SignalPart). (es : List ℕ) × (place_elements here.site (prefix x) ≡ Ok es) × All (Contains drives) es)
           (λ x w. (w.0, w.1, All-weaker (Contains ds.x) (Contains drives) kept w.0 w.2)) (targets p.body) prefixes.among) body.gave;
       drives = in_order_all (MayBeDriven all) count ds.x prefixes.driven;
       drives_rise = in-order-rises count ds.x;

@@ -38,25 +38,25 @@ use Rattle.vhdl_expand_rules.proofs.laws.Tests.{has_shape, value_of_shape, each-
 -- ---- what is assigned
 
 -- a value for so many elements
-record IsGiven (at : Site) (z : Shape) (len : ℕ) (v : bodies.Value) : Type 0 where
-  fits : FitsAs (scope_at at) (type_of z) v
+record IsGiven (here : Site) (z : Shape) (len : ℕ) (v : bodies.Value) : Type 0 where
+  fits : FitsAs (scope_at here) (type_of z) v
   width : len ≡ value_width v
 
-given-fits : (i : Inside) (at : Site) (z : Shape) (len : ℕ) (g : s.Given) (v : bodies.Value) → IsSite i at → IsWidth len → given_fits i z g ≡ true → value_given at len g ≡ Ok v → IsGiven at z len v
+given-fits : (i : Inside) (here : Site) (at : ℕ) (z : Shape) (len : ℕ) (g : s.Given) (v : bodies.Value) → IsSite i here → IsWidth len → given_fits i z g ≡ true → value_given here at len g ≡ Ok v → IsGiven here z len v
 unfolding value_given
-given-fits i at z len (s.single y) v h w k m =
-    let e = bound (x.value at y) _ v m in
-    let same = bound (same_length (value_width e.x) len) _ v e.then_gave in
-    let q = each-value-fits i at y z e.x h k e.gave in
-    subst (IsGiven at z len) (ok e.x v same.then_gave)
-    (record { fits = q.fits; width = sym (eqb-true (value_width e.x) len (kept (Length (value_width e.x) len) (value_width e.x == len) same.x same.gave)) })
-given-fits i at vector len (s.filled y) v h w k m =
-    let e = bound (x.vector at y) _ v m in
-    let same = bound (same_length (width e.x) 1) _ v e.then_gave in
-    let q = each-vector-fits i at y sound.one e.x h (has_shape sound.one (vector_shape i y) k) e.gave in
-    subst (IsGiven at vector len) (ok (bodies.elements (bodies.filled len e.x)) v same.then_gave) (record { fits = (w, q.fits, q.width); width = refl })
-given-fits i at sound.one len (s.filled y) v h w k m = absurd cc
-given-fits i at (state count) len (s.filled y) v h w k m = absurd cc
+given-fits i here at z len (s.single y) v h w k m =
+    let e = bound (x.value here at y) _ v m in
+    let same = bound (same_length at (value_width e.x) len) _ v e.then_gave in
+    let q = each-value-fits i here at y z e.x h k e.gave in
+    subst (IsGiven here z len) (ok e.x v same.then_gave)
+    (record { fits = q.fits; width = sym (eqb-true (value_width e.x) len (kept (Length (value_width e.x) len) at (value_width e.x == len) same.x same.gave)) })
+given-fits i here at vector len (s.filled y) v h w k m =
+    let e = bound (x.vector here y) _ v m in
+    let same = bound (same_length at (width e.x) 1) _ v e.then_gave in
+    let q = each-vector-fits i here y sound.one e.x h (has_shape sound.one (vector_shape i y) k) e.gave in
+    subst (IsGiven here vector len) (ok (bodies.elements (bodies.filled len e.x)) v same.then_gave) (record { fits = (w, q.fits, q.width); width = refl })
+given-fits i here at sound.one len (s.filled y) v h w k m = absurd cc
+given-fits i here at (state count) len (s.filled y) v h w k m = absurd cc
 
 record Target (i : Inside) (o : Option Shape) (g : s.Given) : Type 0 where
   shape : Shape
@@ -68,210 +68,210 @@ target i None g h = absurd cc
 target i (Some z) g h = record { shape = z; is = refl; fits = h }
 
 -- each element is its own driver
-drives : (at : Site) (t : ElementType) (e : ℕ) → HasType (scope_at at).nets t e → DrivesType (scope_at at) t e
-drives at t e h =
-    let n : ℕ = elements_count at.ports + elements_count at.signals in
-    let len : length (kinds_types at.ports ++ kinds_types at.signals) ≡ n =
-    length-append (kinds_types at.ports) (kinds_types at.signals) ∙ ap (λ m. m + length (kinds_types at.signals)) (length-types at.ports) ∙ ap (λ m. elements_count at.ports + m) (length-types at.signals) in
-    let below : e < n = subst (λ m. e < m) len (slice_get_within (kinds_types at.ports ++ kinds_types at.signals) e t h) in
+drives : (here : Site) (t : ElementType) (e : ℕ) → HasType (scope_at here).nets t e → DrivesType (scope_at here) t e
+drives here t e h =
+    let n : ℕ = elements_count here.ports + elements_count here.signals in
+    let len : length (kinds_types here.ports ++ kinds_types here.signals) ≡ n =
+    length-append (kinds_types here.ports) (kinds_types here.signals) ∙ ap (λ m. m + length (kinds_types here.signals)) (length-types here.ports) ∙ ap (λ m. elements_count here.ports + m) (length-types here.signals) in
+    let below : e < n = subst (λ m. e < m) len (slice_get_within (kinds_types here.ports ++ kinds_types here.signals) e t h) in
     let there : e < length (range_with_len 0 n) = subst (λ m. e < m) (sym (length-range_with_len 0 n)) below in
     (e, slice_get-get_or (range_with_len 0 n) e 0 there ∙ ap Some (get_or-range_with_len 0 n e 0 below ∙ none e), h)
   where
     none : (e : ℕ) → 0 + e ≡ e
     none e = omega arith
 
-assign-fits : (i : Inside) (at : Site) (p : SignalPart) (g : s.Given) (es : List ℕ) (v : bodies.Value) → IsSite i at → given_fits_target i (place_shape i p) g ≡ true → place_elements at p ≡ Ok es
-    → value_given at (length es) g ≡ Ok v → FitsStmt (scope_at at) (bodies.assign es v)
-assign-fits i at p g es v h k m n =
+assign-fits : (i : Inside) (here : Site) (p : SignalPart) (g : s.Given) (es : List ℕ) (v : bodies.Value) → IsSite i here → given_fits_target i (place_shape i p) g ≡ true → place_elements here p ≡ Ok es
+    → value_given here p.at (length es) g ≡ Ok v → FitsStmt (scope_at here) (bodies.assign es v)
+assign-fits i here p g es v h k m n =
     let z = target i (place_shape i p) g k in
-    let q = each-name-fits i at p z.shape es h z.is m in
-    let w = given-fits i at z.shape (length es) g v h (is_width z.shape (length es) q.width) z.fits n in
-    (type_of z.shape, w.fits, w.width, All-weaker (HasType (scope_at at).nets (type_of z.shape)) (DrivesType (scope_at at) (type_of z.shape)) (drives at (type_of z.shape)) es q.typed)
+    let q = each-name-fits i here p z.shape es h z.is m in
+    let w = given-fits i here p.at z.shape (length es) g v h (is_width z.shape (length es) q.width) z.fits n in
+    (type_of z.shape, w.fits, w.width, All-weaker (HasType (scope_at here).nets (type_of z.shape)) (DrivesType (scope_at here) (type_of z.shape)) (drives here (type_of z.shape)) es q.typed)
 
-set-fits : (i : Inside) (at : Site) (n : ℕ) (part : Part) (g : s.Given) (z : Shape) (f : Form) (es : List ℕ) (v : bodies.Value) → IsSite i at → slice_get i.variables n ≡ Some f → part_shape i f part ≡ Some z
-    → given_fits i z g ≡ true → variable_elements at n part ≡ Ok es → value_given at (length es) g ≡ Ok v → FitsStmt (scope_at at) (bodies.set es v)
-set-fits i at n part g z f es v h a c k m e =
-    let q = variable_fits i at n part f z es h a c m in
-    let w = given-fits i at z (length es) g v h (is_width z (length es) q.width) k e in
+set-fits : (i : Inside) (here : Site) (at n : ℕ) (part : Part) (g : s.Given) (z : Shape) (f : Form) (es : List ℕ) (v : bodies.Value) → IsSite i here → slice_get i.variables n ≡ Some f → part_shape i f part ≡ Some z
+    → given_fits i z g ≡ true → variable_elements here at n part ≡ Ok es → value_given here at (length es) g ≡ Ok v → FitsStmt (scope_at here) (bodies.set es v)
+set-fits i here at n part g z f es v h a c k m e =
+    let q = variable_fits i here at n part f z es h a c m in
+    let w = given-fits i here at z (length es) g v h (is_width z (length es) q.width) k e in
     (type_of z, w.fits, w.width, q.typed)
 
 -- ---- choices
 
-module _ (at : Site) where
-  values-fit : (len : ℕ) (vs : List Nine) (ns : List ℕ) → choice len (s.values vs) ≡ Ok ns → FitsChoice (scope_at at) nine_valued len ns
+module _ (here : Site) (at : ℕ) where
+  values-fit : (len : ℕ) (vs : List Nine) (ns : List ℕ) → choice at len (s.values vs) ≡ Ok ns → FitsChoice (scope_at here) nine_valued len ns
   unfolding choice
   values-fit len vs ns h =
-      let same = bound (same_length (length vs) len) _ ns h in
-      subst (FitsChoice (scope_at at) nine_valued len) (ok (map code_of vs) ns same.then_gave)
-      (length-map vs code_of ∙ eqb-true (length vs) len (kept (Length (length vs) len) (length vs == len) same.x same.gave), codes_below vs)
+      let same = bound (same_length at (length vs) len) _ ns h in
+      subst (FitsChoice (scope_at here) nine_valued len) (ok (map code_of vs) ns same.then_gave)
+      (length-map vs code_of ∙ eqb-true (length vs) len (kept (Length (length vs) len) at (length vs == len) same.x same.gave), codes_below vs)
 
-  one-fits : (n p len : ℕ) → p < n → len ≡ 1 → FitsChoice (scope_at at) (enumeration n) len (p ∷ [])
+  one-fits : (n p len : ℕ) → p < n → len ≡ 1 → FitsChoice (scope_at here) (enumeration n) len (p ∷ [])
   one-fits n p len h e = (sym e, All-cons (λ m. m < n) p [] h (All-nil (λ m. m < n)))
 
-  choice-fits : (z : Shape) (len : ℕ) (c : s.Choice) (ns : List ℕ) → HasShape z len → choice_fits (Some z) c ≡ true → choice len c ≡ Ok ns → FitsChoice (scope_at at) (type_of z) len ns
+  choice-fits : (z : Shape) (len : ℕ) (c : s.Choice) (ns : List ℕ) → HasShape z len → choice_fits (Some z) c ≡ true → choice at len c ≡ Ok ns → FitsChoice (scope_at here) (type_of z) len ns
   unfolding choice
-  choice-fits (state count) len (s.Choice.position p) ns w h k = subst (FitsChoice (scope_at at) (enumeration count) len) (ok (p ∷ []) ns k) (one-fits count p len (ltb-true p count h) w)
+  choice-fits (state count) len (s.Choice.position p) ns w h k = subst (FitsChoice (scope_at here) (enumeration count) len) (ok (p ∷ []) ns k) (one-fits count p len (ltb-true p count h) w)
   choice-fits sound.one len (s.values (v ∷ [])) ns w h k = values-fit len (v ∷ []) ns k
   choice-fits vector len (s.values (v ∷ vs)) ns w h k = values-fit len (v ∷ vs) ns k
   choice-fits z len c ns w h k = absurd cc
 
-  choices-fit : (z : Shape) (len : ℕ) (cs : List s.Choice) (nss : List (List ℕ)) → HasShape z len → list_all (choice_fits (Some z)) cs ≡ true → each (choice len) cs ≡ Ok nss
-      → All (FitsChoice (scope_at at) (type_of z) len) nss
-  choices-fit z len [] nss w h k = subst (All (FitsChoice (scope_at at) (type_of z) len)) (ok [] nss k) (All-nil (FitsChoice (scope_at at) (type_of z) len))
+  choices-fit : (z : Shape) (len : ℕ) (cs : List s.Choice) (nss : List (List ℕ)) → HasShape z len → list_all (choice_fits (Some z)) cs ≡ true → each (choice at len) cs ≡ Ok nss
+      → All (FitsChoice (scope_at here) (type_of z) len) nss
+  choices-fit z len [] nss w h k = subst (All (FitsChoice (scope_at here) (type_of z) len)) (ok [] nss k) (All-nil (FitsChoice (scope_at here) (type_of z) len))
   choices-fit z len (c ∷ cs) nss w h k =
       let both = and_parts (choice_fits (Some z) c) (list_all (choice_fits (Some z)) cs) h in
-      let ns = bound (choice len c) _ nss k in
-      let rest = bound (each (choice len) cs) _ nss ns.then_gave in
-      subst (All (FitsChoice (scope_at at) (type_of z) len)) (ok (ns.x ∷ rest.x) nss rest.then_gave)
-      (All-cons (FitsChoice (scope_at at) (type_of z) len) ns.x rest.x (choice-fits z len c ns.x w both.0 ns.gave) (choices-fit z len cs rest.x w both.1 rest.gave))
+      let ns = bound (choice at len c) _ nss k in
+      let rest = bound (each (choice at len) cs) _ nss ns.then_gave in
+      subst (All (FitsChoice (scope_at here) (type_of z) len)) (ok (ns.x ∷ rest.x) nss rest.then_gave)
+      (All-cons (FitsChoice (scope_at here) (type_of z) len) ns.x rest.x (choice-fits z len c ns.x w both.0 ns.gave) (choices-fit z len cs rest.x w both.1 rest.gave))
 
   -- Of a case on an enumeration's literal the choices are positions: they are all below some number, and so of an enumeration.
   record Positions (nss : List (List ℕ)) : Type 0 where
     count : ℕ
-    fit : (n : ℕ) → count ≤ n → All (FitsChoice (scope_at at) (enumeration n) 1) nss
+    fit : (n : ℕ) → count ≤ n → All (FitsChoice (scope_at here) (enumeration n) 1) nss
 
-  positions : (cs : List s.Choice) (nss : List (List ℕ)) → list_all (choice_fits None) cs ≡ true → each (choice 1) cs ≡ Ok nss → Positions nss
+  positions : (cs : List s.Choice) (nss : List (List ℕ)) → list_all (choice_fits None) cs ≡ true → each (choice at 1) cs ≡ Ok nss → Positions nss
   unfolding choice
-  positions [] nss h k = subst Positions (ok [] nss k) (record { count = 0; fit = λ n l. All-nil (FitsChoice (scope_at at) (enumeration n) 1) })
+  positions [] nss h k = subst Positions (ok [] nss k) (record { count = 0; fit = λ n l. All-nil (FitsChoice (scope_at here) (enumeration n) 1) })
   positions (s.values vs ∷ cs) nss h k = absurd cc
   positions (s.Choice.position p ∷ cs) nss h k =
-      let rest = bound (each (choice 1) cs) _ nss k in
+      let rest = bound (each (choice at 1) cs) _ nss k in
       let w = positions cs rest.x h rest.gave in
       subst Positions (ok ((p ∷ []) ∷ rest.x) nss rest.then_gave) (record {
         count = suc p + w.count;
-        fit = λ n l. All-cons (FitsChoice (scope_at at) (enumeration n) 1) (p ∷ []) rest.x (one-fits n p 1 (omega (arith, l)) refl) (w.fit n (omega (arith, l)));
+        fit = λ n l. All-cons (FitsChoice (scope_at here) (enumeration n) 1) (p ∷ []) rest.x (one-fits n p 1 (omega (arith, l)) refl) (w.fit n (omega (arith, l)));
       })
 
 -- ---- statements
 
-module _ (at : Site) where
-  followed-fits : (a c : bodies.Stmts) → Fits (scope_at at) a → Fits (scope_at at) c → Fits (scope_at at) (bodies.followed_by a c)
+module _ (here : Site) where
+  followed-fits : (a c : bodies.Stmts) → Fits (scope_at here) a → Fits (scope_at here) c → Fits (scope_at here) (bodies.followed_by a c)
   followed-fits bodies.done c h k = k
   followed-fits (bodies.step y a) c h k = (h.0, followed-fits a c h.1 k)
 
-  joined-fits : (ss : List bodies.Stmts) → All (Fits (scope_at at)) ss → Fits (scope_at at) (joined_bodies ss)
+  joined-fits : (ss : List bodies.Stmts) → All (Fits (scope_at here)) ss → Fits (scope_at here) (joined_bodies ss)
   joined-fits [] h = tt
-  joined-fits (y ∷ ss) h = followed-fits y (joined_bodies ss) (All-head (Fits (scope_at at)) y ss h) (joined-fits ss (All-tail (Fits (scope_at at)) y ss h))
+  joined-fits (y ∷ ss) h = followed-fits y (joined_bodies ss) (All-head (Fits (scope_at here)) y ss h) (joined-fits ss (All-tail (Fits (scope_at here)) y ss h))
 
-in-loop : (i : Inside) (at : Site) (j : ℤ) → IsSite i at → IsSite (within_loop i) (in_loop at j)
-in-loop i at j h = record { constants = h.constants; ports = h.ports; signals = h.signals; variables = h.variables }
+in-loop : (i : Inside) (here : Site) (j : ℤ) → IsSite i here → IsSite (within_loop i) (in_loop here j)
+in-loop i here j h = record { constants = h.constants; ports = h.ports; signals = h.signals; variables = h.variables }
 
 -- the alternatives of a case on an enumeration's literal
-record OfPosition (at : Site) (alts : bodies.Alternatives) : Type 0 where
+record OfPosition (here : Site) (alts : bodies.Alternatives) : Type 0 where
   count : ℕ
-  fit : (n : ℕ) → count ≤ n → FitsAlternatives (scope_at at) (enumeration n) 1 alts
+  fit : (n : ℕ) → count ≤ n → FitsAlternatives (scope_at here) (enumeration n) 1 alts
 
 some-shape : (o : Option Shape) → is_some o ≡ true → (z : Shape) × (o ≡ Some z)
 some-shape None h = absurd cc
 some-shape (Some z) h = (z, refl)
 
 -- a case on what has a shape, whose alternatives fit
-selected-fits : (alts : s.Alternatives) (i : Inside) (at : Site) (v : Value) (body : bodies.Stmts) → IsSite i at → (is_some (value_shape i v) && alternatives_fit i (value_shape i v) alts) ≡ true
-    → ((z : Shape) (len : ℕ) (cs : bodies.Alternatives) → HasShape z len → alternatives_fit i (Some z) alts ≡ true → alternatives at len alts ≡ Ok cs → FitsAlternatives (scope_at at) (type_of z) len cs)
-    → statement at (s.case_of v alts) ≡ Ok body → Fits (scope_at at) body
+selected-fits : (alts : s.Alternatives) (i : Inside) (here : Site) (at : ℕ) (v : Value) (body : bodies.Stmts) → IsSite i here → (is_some (value_shape i v) && alternatives_fit i (value_shape i v) alts) ≡ true
+    → ((z : Shape) (len : ℕ) (cs : bodies.Alternatives) → HasShape z len → alternatives_fit i (Some z) alts ≡ true → alternatives here at len alts ≡ Ok cs → FitsAlternatives (scope_at here) (type_of z) len cs)
+    → statement here (s.case_of at v alts) ≡ Ok body → Fits (scope_at here) body
 unfolding statement
-selected-fits alts i at v body h k go m =
+selected-fits alts i here at v body h k go m =
     let both = and_parts (is_some (value_shape i v)) (alternatives_fit i (value_shape i v) alts) k in
     let z = some-shape (value_shape i v) both.0 in
-    let e = bound (x.value at v) _ body m in
-    let cs = bound (alternatives at (value_width e.x) alts) _ body e.then_gave in
-    let w = value_of_shape i at v z.0 e.x h z.1 e.gave in
+    let e = bound (x.value here at v) _ body m in
+    let cs = bound (alternatives here at (value_width e.x) alts) _ body e.then_gave in
+    let w = value_of_shape i here at v z.0 e.x h z.1 e.gave in
     let sound : alternatives_fit i (Some z.0) alts ≡ true = ap (λ (o : Option Shape). alternatives_fit i o alts) (sym z.1) ∙ both.1 in
-    subst (Fits (scope_at at)) (ok (one (bodies.case_of e.x cs.x)) body cs.then_gave)
+    subst (Fits (scope_at here)) (ok (one (bodies.case_of e.x cs.x)) body cs.then_gave)
     ((type_of z.0, w.fits, go z.0 (value_width e.x) cs.x w.width sound cs.gave), tt)
 
 mutual
   unfolding statement statement_fits x.value
 
-  statement-fits : (y : s.Statement) (i : Inside) (at : Site) (body : bodies.Stmts) → IsSite i at → statement_fits i y ≡ true → statement at y ≡ Ok body → Fits (scope_at at) body
-  statement-fits s.null_of i at body h k m = subst (Fits (scope_at at)) (ok (one bodies.null_of) body m) (tt, tt)
-  statement-fits (s.assign p g) i at body h k m =
+  statement-fits : (y : s.Statement) (i : Inside) (here : Site) (body : bodies.Stmts) → IsSite i here → statement_fits i y ≡ true → statement here y ≡ Ok body → Fits (scope_at here) body
+  statement-fits s.null_of i here body h k m = subst (Fits (scope_at here)) (ok (one bodies.null_of) body m) (tt, tt)
+  statement-fits (s.assign p g) i here body h k m =
       let both = and_parts (is_driven i p.signal) (given_fits_target i (place_shape i p) g) k in
-      let es = bound (place_elements at p) _ body m in
-      let v = bound (value_given at (length es.x) g) _ body es.then_gave in
-      subst (Fits (scope_at at)) (ok (one (bodies.assign es.x v.x)) body v.then_gave) (assign-fits i at p g es.x v.x h both.1 es.gave v.gave, tt)
-  statement-fits (s.set n part g) i at body h k m =
+      let es = bound (place_elements here p) _ body m in
+      let v = bound (value_given here p.at (length es.x) g) _ body es.then_gave in
+      subst (Fits (scope_at here)) (ok (one (bodies.assign es.x v.x)) body v.then_gave) (assign-fits i here p g es.x v.x h both.1 es.gave v.gave, tt)
+  statement-fits (s.set at n part g) i here body h k m =
       let z = target i _ g k in
       let f = step (slice_get i.variables n) _ z.shape z.is in
-      let es = bound (variable_elements at n part) _ body m in
-      let v = bound (value_given at (length es.x) g) _ body es.then_gave in
-      subst (Fits (scope_at at)) (ok (one (bodies.set es.x v.x)) body v.then_gave)
-      (set-fits i at n part g z.shape f.x es.x v.x h f.gave f.then_gave z.fits es.gave v.gave, tt)
-  statement-fits (s.if_of bs) i at body h k m =
-      let cs = bound (branches at bs) _ body m in
-      subst (Fits (scope_at at)) (ok (one (bodies.if_of cs.x)) body cs.then_gave) (branches-fit bs i at cs.x h k cs.gave, tt)
-  statement-fits (s.case_of (u.Value.position p) alts) i at body h k m =
-      let cs = bound (alternatives at 1 alts) _ body m in
-      let w = positions-fit alts i at cs.x h k cs.gave in
+      let es = bound (variable_elements here at n part) _ body m in
+      let v = bound (value_given here at (length es.x) g) _ body es.then_gave in
+      subst (Fits (scope_at here)) (ok (one (bodies.set es.x v.x)) body v.then_gave)
+      (set-fits i here at n part g z.shape f.x es.x v.x h f.gave f.then_gave z.fits es.gave v.gave, tt)
+  statement-fits (s.if_of at bs) i here body h k m =
+      let cs = bound (branches here bs) _ body m in
+      subst (Fits (scope_at here)) (ok (one (bodies.if_of cs.x)) body cs.then_gave) (branches-fit bs i here cs.x h k cs.gave, tt)
+  statement-fits (s.case_of at (u.Value.position p) alts) i here body h k m =
+      let cs = bound (alternatives here at 1 alts) _ body m in
+      let w = positions-fit alts i here at cs.x h k cs.gave in
       let n : ℕ = suc p + w.count in
-      subst (Fits (scope_at at)) (ok (one (bodies.case_of (bodies.position p) cs.x)) body cs.then_gave) ((enumeration n, omega arith, w.fit n (omega arith)), tt)
-  statement-fits (s.case_of (u.Value.elements y) alts) i at body h k m =
-      selected-fits alts i at (u.Value.elements y) body h k (λ z len cs w a c. alternatives-fit alts i at z len cs h w a c) m
-  statement-fits (s.case_of (u.state_of y) alts) i at body h k m =
-      selected-fits alts i at (u.state_of y) body h k (λ z len cs w a c. alternatives-fit alts i at z len cs h w a c) m
-  statement-fits (s.case_of (u.state_of_variable y) alts) i at body h k m =
-      selected-fits alts i at (u.state_of_variable y) body h k (λ z len cs w a c. alternatives-fit alts i at z len cs h w a c) m
-  statement-fits (s.for_of r inner) i at body h k m =
+      subst (Fits (scope_at here)) (ok (one (bodies.case_of (bodies.position p) cs.x)) body cs.then_gave) ((enumeration n, omega arith, w.fit n (omega arith)), tt)
+  statement-fits (s.case_of at (u.Value.elements y) alts) i here body h k m =
+      selected-fits alts i here at (u.Value.elements y) body h k (λ z len cs w a c. alternatives-fit alts i here at z len cs h w a c) m
+  statement-fits (s.case_of at (u.state_of y) alts) i here body h k m =
+      selected-fits alts i here at (u.state_of y) body h k (λ z len cs w a c. alternatives-fit alts i here at z len cs h w a c) m
+  statement-fits (s.case_of at (u.state_of_variable y) alts) i here body h k m =
+      selected-fits alts i here at (u.state_of_variable y) body h k (λ z len cs w a c. alternatives-fit alts i here at z len cs h w a c) m
+  statement-fits (s.for_of at r inner) i here body h k m =
       let both = and_parts (range_fits i r) (statements_fit (within_loop i) inner) k in
-      let is = bound (turns at.integers r) _ body m in
-      let ss = bound (each (λ j. statements (in_loop at j) inner) is.x) _ body is.then_gave in
-      subst (Fits (scope_at at)) (ok (joined_bodies ss.x) body ss.then_gave)
-      (joined-fits at ss.x (each-all (Fits (scope_at at)) (λ j. statements (in_loop at j) inner) is.x ss.x
-      (λ j y e. statements-fit inner (within_loop i) (in_loop at j) y (in-loop i at j h) both.1 e) ss.gave))
+      let is = bound (turns here.integers at r) _ body m in
+      let ss = bound (each (λ j. statements (in_loop here j) inner) is.x) _ body is.then_gave in
+      subst (Fits (scope_at here)) (ok (joined_bodies ss.x) body ss.then_gave)
+      (joined-fits here ss.x (each-all (Fits (scope_at here)) (λ j. statements (in_loop here j) inner) is.x ss.x
+      (λ j y e. statements-fit inner (within_loop i) (in_loop here j) y (in-loop i here j h) both.1 e) ss.gave))
 
-  statements-fit : (ys : s.Statements) (i : Inside) (at : Site) (body : bodies.Stmts) → IsSite i at → statements_fit i ys ≡ true → statements at ys ≡ Ok body → Fits (scope_at at) body
-  statements-fit s.done i at body h k m = subst (Fits (scope_at at)) (ok bodies.done body m) tt
-  statements-fit (s.step y ys) i at body h k m =
+  statements-fit : (ys : s.Statements) (i : Inside) (here : Site) (body : bodies.Stmts) → IsSite i here → statements_fit i ys ≡ true → statements here ys ≡ Ok body → Fits (scope_at here) body
+  statements-fit s.done i here body h k m = subst (Fits (scope_at here)) (ok bodies.done body m) tt
+  statements-fit (s.step y ys) i here body h k m =
       let both = and_parts (statement_fits i y) (statements_fit i ys) k in
-      let a = bound (statement at y) _ body m in
-      let c = bound (statements at ys) _ body a.then_gave in
-      subst (Fits (scope_at at)) (ok (bodies.followed_by a.x c.x) body c.then_gave)
-      (followed-fits at a.x c.x (statement-fits y i at a.x h both.0 a.gave) (statements-fit ys i at c.x h both.1 c.gave))
+      let a = bound (statement here y) _ body m in
+      let c = bound (statements here ys) _ body a.then_gave in
+      subst (Fits (scope_at here)) (ok (bodies.followed_by a.x c.x) body c.then_gave)
+      (followed-fits here a.x c.x (statement-fits y i here a.x h both.0 a.gave) (statements-fit ys i here c.x h both.1 c.gave))
 
-  branches-fit : (bs : s.Branches) (i : Inside) (at : Site) (cs : bodies.Branches) → IsSite i at → branches_fit i bs ≡ true → branches at bs ≡ Ok cs → FitsBranches (scope_at at) cs
-  branches-fit s.no_else i at cs h k m = subst (FitsBranches (scope_at at)) (ok bodies.no_else cs m) tt
-  branches-fit (s.otherwise ys) i at cs h k m =
-      let a = bound (statements at ys) _ cs m in
-      subst (FitsBranches (scope_at at)) (ok (bodies.otherwise a.x) cs a.then_gave) (statements-fit ys i at a.x h k a.gave)
-  branches-fit (s.branch t ys bs) i at cs h k m =
+  branches-fit : (bs : s.Branches) (i : Inside) (here : Site) (cs : bodies.Branches) → IsSite i here → branches_fit i bs ≡ true → branches here bs ≡ Ok cs → FitsBranches (scope_at here) cs
+  branches-fit s.no_else i here cs h k m = subst (FitsBranches (scope_at here)) (ok bodies.no_else cs m) tt
+  branches-fit (s.otherwise ys) i here cs h k m =
+      let a = bound (statements here ys) _ cs m in
+      subst (FitsBranches (scope_at here)) (ok (bodies.otherwise a.x) cs a.then_gave) (statements-fit ys i here a.x h k a.gave)
+  branches-fit (s.branch t ys bs) i here cs h k m =
       let both = and_parts (test_fits i t && statements_fit i ys) (branches_fit i bs) k in
       let first = and_parts (test_fits i t) (statements_fit i ys) both.0 in
-      let c = bound (x.test at t) _ cs m in
-      let a = bound (statements at ys) _ cs c.then_gave in
-      let rest = bound (branches at bs) _ cs a.then_gave in
-      subst (FitsBranches (scope_at at)) (ok (bodies.branch c.x a.x rest.x) cs rest.then_gave)
-      (each-test-fits i at t c.x h first.0 c.gave, statements-fit ys i at a.x h first.1 a.gave, branches-fit bs i at rest.x h both.1 rest.gave)
+      let c = bound (x.test here t) _ cs m in
+      let a = bound (statements here ys) _ cs c.then_gave in
+      let rest = bound (branches here bs) _ cs a.then_gave in
+      subst (FitsBranches (scope_at here)) (ok (bodies.branch c.x a.x rest.x) cs rest.then_gave)
+      (each-test-fits i here t c.x h first.0 c.gave, statements-fit ys i here a.x h first.1 a.gave, branches-fit bs i here rest.x h both.1 rest.gave)
 
-  alternatives-fit : (alts : s.Alternatives) (i : Inside) (at : Site) (z : Shape) (len : ℕ) (cs : bodies.Alternatives) → IsSite i at → HasShape z len → alternatives_fit i (Some z) alts ≡ true
-      → alternatives at len alts ≡ Ok cs → FitsAlternatives (scope_at at) (type_of z) len cs
-  alternatives-fit (s.others ys) i at z len cs h w k m =
-      let a = bound (statements at ys) _ cs m in
-      subst (FitsAlternatives (scope_at at) (type_of z) len) (ok (bodies.others a.x) cs a.then_gave) (statements-fit ys i at a.x h k a.gave)
-  alternatives-fit (s.alternative choices ys alts) i at z len cs h w k m =
+  alternatives-fit : (alts : s.Alternatives) (i : Inside) (here : Site) (at : ℕ) (z : Shape) (len : ℕ) (cs : bodies.Alternatives) → IsSite i here → HasShape z len → alternatives_fit i (Some z) alts ≡ true
+      → alternatives here at len alts ≡ Ok cs → FitsAlternatives (scope_at here) (type_of z) len cs
+  alternatives-fit (s.others ys) i here at z len cs h w k m =
+      let a = bound (statements here ys) _ cs m in
+      subst (FitsAlternatives (scope_at here) (type_of z) len) (ok (bodies.others a.x) cs a.then_gave) (statements-fit ys i here a.x h k a.gave)
+  alternatives-fit (s.alternative choices ys alts) i here at z len cs h w k m =
       let both = and_parts (list_all (choice_fits (Some z)) choices && statements_fit i ys) (alternatives_fit i (Some z) alts) k in
       let first = and_parts (list_all (choice_fits (Some z)) choices) (statements_fit i ys) both.0 in
-      let c = bound (each (choice len) choices) _ cs m in
-      let a = bound (statements at ys) _ cs c.then_gave in
-      let rest = bound (alternatives at len alts) _ cs a.then_gave in
-      subst (FitsAlternatives (scope_at at) (type_of z) len) (ok (bodies.alternative c.x a.x rest.x) cs rest.then_gave)
-      (choices-fit at z len choices c.x w first.0 c.gave, statements-fit ys i at a.x h first.1 a.gave, alternatives-fit alts i at z len rest.x h w both.1 rest.gave)
+      let c = bound (each (choice at len) choices) _ cs m in
+      let a = bound (statements here ys) _ cs c.then_gave in
+      let rest = bound (alternatives here at len alts) _ cs a.then_gave in
+      subst (FitsAlternatives (scope_at here) (type_of z) len) (ok (bodies.alternative c.x a.x rest.x) cs rest.then_gave)
+      (choices-fit here at z len choices c.x w first.0 c.gave, statements-fit ys i here a.x h first.1 a.gave, alternatives-fit alts i here at z len rest.x h w both.1 rest.gave)
 
-  positions-fit : (alts : s.Alternatives) (i : Inside) (at : Site) (cs : bodies.Alternatives) → IsSite i at → alternatives_fit i None alts ≡ true → alternatives at 1 alts ≡ Ok cs → OfPosition at cs
-  positions-fit (s.others ys) i at cs h k m =
-      let a = bound (statements at ys) _ cs m in
-      let w = statements-fit ys i at a.x h k a.gave in
-      subst (OfPosition at) (ok (bodies.others a.x) cs a.then_gave) (record { count = 0; fit = λ n l. w })
-  positions-fit (s.alternative choices ys alts) i at cs h k m =
+  positions-fit : (alts : s.Alternatives) (i : Inside) (here : Site) (at : ℕ) (cs : bodies.Alternatives) → IsSite i here → alternatives_fit i None alts ≡ true → alternatives here at 1 alts ≡ Ok cs → OfPosition here cs
+  positions-fit (s.others ys) i here at cs h k m =
+      let a = bound (statements here ys) _ cs m in
+      let w = statements-fit ys i here a.x h k a.gave in
+      subst (OfPosition here) (ok (bodies.others a.x) cs a.then_gave) (record { count = 0; fit = λ n l. w })
+  positions-fit (s.alternative choices ys alts) i here at cs h k m =
       let both = and_parts (list_all (choice_fits None) choices && statements_fit i ys) (alternatives_fit i None alts) k in
       let first = and_parts (list_all (choice_fits None) choices) (statements_fit i ys) both.0 in
-      let c = bound (each (choice 1) choices) _ cs m in
-      let a = bound (statements at ys) _ cs c.then_gave in
-      let rest = bound (alternatives at 1 alts) _ cs a.then_gave in
-      let p = positions at choices c.x first.0 c.gave in
-      let w = statements-fit ys i at a.x h first.1 a.gave in
-      let q = positions-fit alts i at rest.x h both.1 rest.gave in
-      subst (OfPosition at) (ok (bodies.alternative c.x a.x rest.x) cs rest.then_gave)
+      let c = bound (each (choice at 1) choices) _ cs m in
+      let a = bound (statements here ys) _ cs c.then_gave in
+      let rest = bound (alternatives here at 1 alts) _ cs a.then_gave in
+      let p = positions here at choices c.x first.0 c.gave in
+      let w = statements-fit ys i here a.x h first.1 a.gave in
+      let q = positions-fit alts i here at rest.x h both.1 rest.gave in
+      subst (OfPosition here) (ok (bodies.alternative c.x a.x rest.x) cs rest.then_gave)
       (record { count = p.count + q.count; fit = λ n l. (p.fit n (omega (arith, l)), w, q.fit n (omega (arith, l))) })
 
 pub each-body-fits : EachBodyFits
-each-body-fits i at y body h k m = statements-fit y i at body h k m
+each-body-fits i here y body h k m = statements-fit y i here body h k m

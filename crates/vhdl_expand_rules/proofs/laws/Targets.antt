@@ -102,19 +102,19 @@ each-among {A} f (x ∷ xs) ess h =
     (All-weaker (GaveAmong f (concatenation_of rest.x)) (GaveAmong f all)
     (λ y g. (g.0, g.1, All-weaker (Contains (concatenation_of rest.x)) (Contains all) (λ e c. Contains-append_right es.x (concatenation_of rest.x) e c) g.0 g.2)) xs (each-among f xs rest.x rest.gave)))
 
-pub among_prefixes : (at : Site) (ps : List SignalPart) (ess : List (List ℕ)) → each (λ p. place_elements at (prefix p)) ps ≡ Ok ess
-    → All (GaveAmong (λ p. place_elements at (prefix p)) (concatenation_of ess)) ps
-among_prefixes at ps ess h = each-among (λ p. place_elements at (prefix p)) ps ess h
+pub among_prefixes : (here : Site) (ps : List SignalPart) (ess : List (List ℕ)) → each (λ p. place_elements here (prefix p)) ps ≡ Ok ess
+    → All (GaveAmong (λ p. place_elements here (prefix p)) (concatenation_of ess)) ps
+among_prefixes here ps ess h = each-among (λ p. place_elements here (prefix p)) ps ess h
 
 -- ---- what a body assigns
 
-module _ (at : Site) (vs : List ObjectKind) (P : ℕ → Type 0) where
+module _ (here : Site) (vs : List ObjectKind) (P : ℕ → Type 0) where
   -- the longest static prefix of a name has only such elements
   abbrev Driven : SignalPart → Type 0
-  Driven p = (ds : List ℕ) × (place_elements at (prefix p) ≡ Ok ds) × All P ds
+  Driven p = (ds : List ℕ) × (place_elements here (prefix p) ≡ Ok ds) × All P ds
 
-  name-assigned : (loops : List ℤ) (p : SignalPart) (es : List ℕ) → Driven p → place_elements (within at loops vs) p ≡ Ok es → All P es
-  name-assigned loops p es h g = All-weaker (Contains h.0) P (λ e c. All-contains P h.0 e h.2 c) es (name_in_prefix at loops vs p es h.0 g h.1)
+  name-assigned : (loops : List ℤ) (p : SignalPart) (es : List ℕ) → Driven p → place_elements (within here loops vs) p ≡ Ok es → All P es
+  name-assigned loops p es h g = All-weaker (Contains h.0) P (λ e c. All-contains P h.0 e h.2 c) es (name_in_prefix here loops vs p es h.0 g h.1)
 
   followed-assigns : (a c : bodies.Stmts) → Assigns P a → Assigns P c → Assigns P (bodies.followed_by a c)
   followed-assigns bodies.done c h k = k
@@ -127,66 +127,66 @@ module _ (at : Site) (vs : List ObjectKind) (P : ℕ → Type 0) where
   mutual
     unfolding statement
 
-    statement-assigns : (y : s.Statement) (loops : List ℤ) (body : bodies.Stmts) → All Driven (statement_targets y) → statement (within at loops vs) y ≡ Ok body → Assigns P body
+    statement-assigns : (y : s.Statement) (loops : List ℤ) (body : bodies.Stmts) → All Driven (statement_targets y) → statement (within here loops vs) y ≡ Ok body → Assigns P body
     statement-assigns s.null_of loops body h m = subst (Assigns P) (ok (one bodies.null_of) body m) (tt, tt)
     statement-assigns (s.assign p g) loops body h m =
-        let es = bound (place_elements (within at loops vs) p) _ body m in
-        let v = bound (value_given (within at loops vs) (length es.x) g) _ body es.then_gave in
+        let es = bound (place_elements (within here loops vs) p) _ body m in
+        let v = bound (value_given (within here loops vs) p.at (length es.x) g) _ body es.then_gave in
         subst (Assigns P) (ok (one (bodies.assign es.x v.x)) body v.then_gave) (name-assigned loops p es.x (All-head Driven p [] h) es.gave, tt)
-    statement-assigns (s.set n part g) loops body h m =
-        let es = bound (variable_elements (within at loops vs) n part) _ body m in
-        let v = bound (value_given (within at loops vs) (length es.x) g) _ body es.then_gave in
+    statement-assigns (s.set at n part g) loops body h m =
+        let es = bound (variable_elements (within here loops vs) at n part) _ body m in
+        let v = bound (value_given (within here loops vs) at (length es.x) g) _ body es.then_gave in
         subst (Assigns P) (ok (one (bodies.set es.x v.x)) body v.then_gave) (tt, tt)
-    statement-assigns (s.if_of bs) loops body h m =
-        let cs = bound (branches (within at loops vs) bs) _ body m in
+    statement-assigns (s.if_of at bs) loops body h m =
+        let cs = bound (branches (within here loops vs) bs) _ body m in
         subst (Assigns P) (ok (one (bodies.if_of cs.x)) body cs.then_gave) (branches-assign bs loops cs.x h cs.gave, tt)
-    statement-assigns (s.case_of v alts) loops body h m =
-        let e = bound (x.value (within at loops vs) v) _ body m in
-        let cs = bound (alternatives (within at loops vs) (value_width e.x) alts) _ body e.then_gave in
-        subst (Assigns P) (ok (one (bodies.case_of e.x cs.x)) body cs.then_gave) (alternatives-assign alts loops (value_width e.x) cs.x h cs.gave, tt)
-    statement-assigns (s.for_of r inner) loops body h m =
-        let is = bound (turns (within at loops vs).integers r) _ body m in
-        let ss = bound (each (λ j. statements (in_loop (within at loops vs) j) inner) is.x) _ body is.then_gave in
+    statement-assigns (s.case_of at v alts) loops body h m =
+        let e = bound (x.value (within here loops vs) at v) _ body m in
+        let cs = bound (alternatives (within here loops vs) at (value_width e.x) alts) _ body e.then_gave in
+        subst (Assigns P) (ok (one (bodies.case_of e.x cs.x)) body cs.then_gave) (alternatives-assign alts loops at (value_width e.x) cs.x h cs.gave, tt)
+    statement-assigns (s.for_of at r inner) loops body h m =
+        let is = bound (turns (within here loops vs).integers at r) _ body m in
+        let ss = bound (each (λ j. statements (in_loop (within here loops vs) j) inner) is.x) _ body is.then_gave in
         subst (Assigns P) (ok (joined_bodies ss.x) body ss.then_gave)
-        (joined-assigns ss.x (each-all (Assigns P) (λ j. statements (in_loop (within at loops vs) j) inner) is.x ss.x
+        (joined-assigns ss.x (each-all (Assigns P) (λ j. statements (in_loop (within here loops vs) j) inner) is.x ss.x
         (λ j y e. statements-assign inner (loops ++ j ∷ []) y h e) ss.gave))
 
-    statements-assign : (ys : s.Statements) (loops : List ℤ) (body : bodies.Stmts) → All Driven (targets ys) → statements (within at loops vs) ys ≡ Ok body → Assigns P body
+    statements-assign : (ys : s.Statements) (loops : List ℤ) (body : bodies.Stmts) → All Driven (targets ys) → statements (within here loops vs) ys ≡ Ok body → Assigns P body
     statements-assign s.done loops body h m = subst (Assigns P) (ok bodies.done body m) tt
     statements-assign (s.step y ys) loops body h m =
-        let a = bound (statement (within at loops vs) y) _ body m in
-        let c = bound (statements (within at loops vs) ys) _ body a.then_gave in
+        let a = bound (statement (within here loops vs) y) _ body m in
+        let c = bound (statements (within here loops vs) ys) _ body a.then_gave in
         subst (Assigns P) (ok (bodies.followed_by a.x c.x) body c.then_gave)
         (followed-assigns a.x c.x (statement-assigns y loops a.x (all_left Driven (statement_targets y) (targets ys) h) a.gave)
         (statements-assign ys loops c.x (all_right Driven (statement_targets y) (targets ys) h) c.gave))
 
-    branches-assign : (bs : s.Branches) (loops : List ℤ) (cs : bodies.Branches) → All Driven (branches_targets bs) → branches (within at loops vs) bs ≡ Ok cs → BranchesAssign P cs
+    branches-assign : (bs : s.Branches) (loops : List ℤ) (cs : bodies.Branches) → All Driven (branches_targets bs) → branches (within here loops vs) bs ≡ Ok cs → BranchesAssign P cs
     branches-assign s.no_else loops cs h m = subst (BranchesAssign P) (ok bodies.no_else cs m) tt
     branches-assign (s.otherwise ys) loops cs h m =
-        let a = bound (statements (within at loops vs) ys) _ cs m in
+        let a = bound (statements (within here loops vs) ys) _ cs m in
         subst (BranchesAssign P) (ok (bodies.otherwise a.x) cs a.then_gave) (statements-assign ys loops a.x h a.gave)
     branches-assign (s.branch t ys bs) loops cs h m =
-        let c = bound (x.test (within at loops vs) t) _ cs m in
-        let a = bound (statements (within at loops vs) ys) _ cs c.then_gave in
-        let rest = bound (branches (within at loops vs) bs) _ cs a.then_gave in
+        let c = bound (x.test (within here loops vs) t) _ cs m in
+        let a = bound (statements (within here loops vs) ys) _ cs c.then_gave in
+        let rest = bound (branches (within here loops vs) bs) _ cs a.then_gave in
         subst (BranchesAssign P) (ok (bodies.branch c.x a.x rest.x) cs rest.then_gave)
         (statements-assign ys loops a.x (all_left Driven (targets ys) (branches_targets bs) h) a.gave, branches-assign bs loops rest.x (all_right Driven (targets ys) (branches_targets bs) h) rest.gave)
 
-    alternatives-assign : (alts : s.Alternatives) (loops : List ℤ) (len : ℕ) (cs : bodies.Alternatives) → All Driven (alternatives_targets alts)
-        → alternatives (within at loops vs) len alts ≡ Ok cs → AlternativesAssign P cs
-    alternatives-assign (s.others ys) loops len cs h m =
-        let a = bound (statements (within at loops vs) ys) _ cs m in
+    alternatives-assign : (alts : s.Alternatives) (loops : List ℤ) (at len : ℕ) (cs : bodies.Alternatives) → All Driven (alternatives_targets alts)
+        → alternatives (within here loops vs) at len alts ≡ Ok cs → AlternativesAssign P cs
+    alternatives-assign (s.others ys) loops at len cs h m =
+        let a = bound (statements (within here loops vs) ys) _ cs m in
         subst (AlternativesAssign P) (ok (bodies.others a.x) cs a.then_gave) (statements-assign ys loops a.x h a.gave)
-    alternatives-assign (s.alternative choices ys alts) loops len cs h m =
-        let c = bound (each (choice len) choices) _ cs m in
-        let a = bound (statements (within at loops vs) ys) _ cs c.then_gave in
-        let rest = bound (alternatives (within at loops vs) len alts) _ cs a.then_gave in
+    alternatives-assign (s.alternative choices ys alts) loops at len cs h m =
+        let c = bound (each (choice at len) choices) _ cs m in
+        let a = bound (statements (within here loops vs) ys) _ cs c.then_gave in
+        let rest = bound (alternatives (within here loops vs) at len alts) _ cs a.then_gave in
         subst (AlternativesAssign P) (ok (bodies.alternative c.x a.x rest.x) cs rest.then_gave)
-        (statements-assign ys loops a.x (all_left Driven (targets ys) (alternatives_targets alts) h) a.gave, alternatives-assign alts loops len rest.x (all_right Driven (targets ys) (alternatives_targets alts) h) rest.gave)
+        (statements-assign ys loops a.x (all_left Driven (targets ys) (alternatives_targets alts) h) a.gave, alternatives-assign alts loops at len rest.x (all_right Driven (targets ys) (alternatives_targets alts) h) rest.gave)
 
-pub body_assigns : (at : Site) (vs : List ObjectKind) (P : ℕ → Type 0) (ys : s.Statements) (loops : List ℤ) (body : bodies.Stmts)
-    → All (λ (p : SignalPart). (ds : List ℕ) × (place_elements at (prefix p) ≡ Ok ds) × All P ds) (targets ys) → statements (within at loops vs) ys ≡ Ok body → Assigns P body
-body_assigns at vs P ys loops body h m = statements-assign at vs P ys loops body h m
+pub body_assigns : (here : Site) (vs : List ObjectKind) (P : ℕ → Type 0) (ys : s.Statements) (loops : List ℤ) (body : bodies.Stmts)
+    → All (λ (p : SignalPart). (ds : List ℕ) × (place_elements here (prefix p) ≡ Ok ds) × All P ds) (targets ys) → statements (within here loops vs) ys ≡ Ok body → Assigns P body
+body_assigns here vs P ys loops body h m = statements-assign here vs P ys loops body h m
 
 -- ---- no target is an in port
 
@@ -199,10 +199,10 @@ mutual
   statement-targets : (y : s.Statement) (i : Inside) → statement_fits i y ≡ true → All (IsDriven i) (statement_targets y)
   statement-targets s.null_of i k = All-nil (IsDriven i)
   statement-targets (s.assign p g) i k = All-cons (IsDriven i) p [] (and_parts (is_driven i p.signal) (given_fits_target i (place_shape i p) g) k).0 (All-nil (IsDriven i))
-  statement-targets (s.set n part g) i k = All-nil (IsDriven i)
-  statement-targets (s.if_of bs) i k = branches-targets bs i k
-  statement-targets (s.case_of v alts) i k = alternatives-targets alts i (value_shape i v) (and_parts (selector_fits i v) (alternatives_fit i (value_shape i v) alts) k).1
-  statement-targets (s.for_of r inner) i k = statements-targets inner (within_loop i) (and_parts (range_fits i r) (statements_fit (within_loop i) inner) k).1
+  statement-targets (s.set at n part g) i k = All-nil (IsDriven i)
+  statement-targets (s.if_of at bs) i k = branches-targets bs i k
+  statement-targets (s.case_of at v alts) i k = alternatives-targets alts i (value_shape i v) (and_parts (selector_fits i v) (alternatives_fit i (value_shape i v) alts) k).1
+  statement-targets (s.for_of at r inner) i k = statements-targets inner (within_loop i) (and_parts (range_fits i r) (statements_fit (within_loop i) inner) k).1
 
   statements-targets : (ys : s.Statements) (i : Inside) → statements_fit i ys ≡ true → All (IsDriven i) (targets ys)
   statements-targets s.done i k = All-nil (IsDriven i)

@@ -57,64 +57,64 @@ record TheElement (r : Elab (List ℕ)) (e : ℕ) : Type 0 where
   gave : r ≡ Ok es
   first : slice_get es 0 ≡ Some e
 
-the-element : (r : Elab (List ℕ)) (e : ℕ) → the_element r ≡ Ok e → TheElement r e
-the-element r e h =
+the-element : (at : ℕ) (r : Elab (List ℕ)) (e : ℕ) → the_element at r ≡ Ok e → TheElement r e
+the-element at r e h =
     let es = bound r _ e h in
-    record { es = es.x; gave = es.gave; first = was_found Index (slice_get es.x 0) e es.then_gave }
+    record { es = es.x; gave = es.gave; first = was_found Index at (slice_get es.x 0) e es.then_gave }
 
 -- ---- values
 
-vector-value : (at : Site) (s : Shape) (e : bodies.Expr) → IsVector at s e → IsValue at s (bodies.elements e)
-vector-value at one e h = record { fits = h.fits; width = h.width }
-vector-value at vector e h = record { fits = h.fits; width = h.width }
-vector-value at (state count) e h = absurd (let k = h.of_elements in cc)
+vector-value : (here : Site) (s : Shape) (e : bodies.Expr) → IsVector here s e → IsValue here s (bodies.elements e)
+vector-value here one e h = record { fits = h.fits; width = h.width }
+vector-value here vector e h = record { fits = h.fits; width = h.width }
+vector-value here (state count) e h = absurd (let k = h.of_elements in cc)
 
-state-of : (at : Site) (s : Shape) (e : ℕ) → is_elements s ≡ false → HasType (scope_at at).nets (type_of s) e → IsValue at s (bodies.position_of e)
-state-of at (state count) e h g = record { fits = g; width = refl }
-state-of at one e h g = absurd cc
-state-of at vector e h g = absurd cc
+state-of : (here : Site) (s : Shape) (e : ℕ) → is_elements s ≡ false → HasType (scope_at here).nets (type_of s) e → IsValue here s (bodies.position_of e)
+state-of here (state count) e h g = record { fits = g; width = refl }
+state-of here one e h g = absurd cc
+state-of here vector e h g = absurd cc
 
-state-in : (at : Site) (s : Shape) (e : ℕ) → is_elements s ≡ false → HasType (kinds_types at.variables) (type_of s) e → IsValue at s (bodies.position_in e)
-state-in at (state count) e h g = record { fits = g; width = refl }
-state-in at one e h g = absurd cc
-state-in at vector e h g = absurd cc
+state-in : (here : Site) (s : Shape) (e : ℕ) → is_elements s ≡ false → HasType (kinds_types here.variables) (type_of s) e → IsValue here s (bodies.position_in e)
+state-in here (state count) e h g = record { fits = g; width = refl }
+state-in here one e h g = absurd cc
+state-in here vector e h g = absurd cc
 
-pub value_of_shape : (i : Inside) (at : Site) (v : Value) (s : Shape) (e : bodies.Value) → IsSite i at → value_shape i v ≡ Some s → x.value at v ≡ Ok e → IsValue at s e
+pub value_of_shape : (i : Inside) (here : Site) (at : ℕ) (v : Value) (s : Shape) (e : bodies.Value) → IsSite i here → value_shape i v ≡ Some s → x.value here at v ≡ Ok e → IsValue here s e
 unfolding x.value
-value_of_shape i at (u.Value.elements y) s e h k m =
-    let d = bound (x.vector at y) _ e m in
-    subst (IsValue at s) (ok (bodies.elements d.x) e d.then_gave) (vector-value at s d.x (each-vector-fits i at y s d.x h k d.gave))
-value_of_shape i at (u.Value.position n) s e h k m = absurd cc
-value_of_shape i at (u.state_of y) s e h k m =
+value_of_shape i here at (u.Value.elements y) s e h k m =
+    let d = bound (x.vector here y) _ e m in
+    subst (IsValue here s) (ok (bodies.elements d.x) e d.then_gave) (vector-value here s d.x (each-vector-fits i here y s d.x h k d.gave))
+value_of_shape i here at (u.Value.position n) s e h k m = absurd cc
+value_of_shape i here at (u.state_of y) s e h k m =
     let f = step (signal_form i y) state_shape s k in
     let g = given_some (not (is_elements (shape_of f.x))) (shape_of f.x) s f.then_gave in
-    let d = bound (the_element (signal_elements at y u.whole)) _ e m in
-    let q = the-element (signal_elements at y u.whole) d.x d.gave in
-    let w = name_fits i at y u.whole (shape_of f.x) q.es h (ap (λ (o : Option Form). o >>= λ z. part_shape i z u.whole) f.gave) q.gave in
-    subst (IsValue at s) (ok (bodies.position_of d.x) e d.then_gave)
-    (subst (λ (z : Shape). IsValue at z (bodies.position_of d.x)) g.1
-    (state-of at (shape_of f.x) d.x (not-true (is_elements (shape_of f.x)) g.0) (first_is (HasType (scope_at at).nets (type_of (shape_of f.x))) q.es d.x w.typed q.first)))
-value_of_shape i at (u.state_of_variable n) s e h k m =
+    let d = bound (the_element at (signal_elements here at y u.whole)) _ e m in
+    let q = the-element at (signal_elements here at y u.whole) d.x d.gave in
+    let w = name_fits i here at y u.whole (shape_of f.x) q.es h (ap (λ (o : Option Form). o >>= λ z. part_shape i z u.whole) f.gave) q.gave in
+    subst (IsValue here s) (ok (bodies.position_of d.x) e d.then_gave)
+    (subst (λ (z : Shape). IsValue here z (bodies.position_of d.x)) g.1
+    (state-of here (shape_of f.x) d.x (not-true (is_elements (shape_of f.x)) g.0) (first_is (HasType (scope_at here).nets (type_of (shape_of f.x))) q.es d.x w.typed q.first)))
+value_of_shape i here at (u.state_of_variable n) s e h k m =
     let f = step (slice_get i.variables n) state_shape s k in
     let g = given_some (not (is_elements (shape_of f.x))) (shape_of f.x) s f.then_gave in
-    let d = bound (the_element (variable_elements at n u.whole)) _ e m in
-    let q = the-element (variable_elements at n u.whole) d.x d.gave in
-    let w = variable_fits i at n u.whole f.x (shape_of f.x) q.es h f.gave refl q.gave in
-    subst (IsValue at s) (ok (bodies.position_in d.x) e d.then_gave)
-    (subst (λ (z : Shape). IsValue at z (bodies.position_in d.x)) g.1
-    (state-in at (shape_of f.x) d.x (not-true (is_elements (shape_of f.x)) g.0) (first_is (HasType (kinds_types at.variables) (type_of (shape_of f.x))) q.es d.x w.typed q.first)))
+    let d = bound (the_element at (variable_elements here at n u.whole)) _ e m in
+    let q = the-element at (variable_elements here at n u.whole) d.x d.gave in
+    let w = variable_fits i here at n u.whole f.x (shape_of f.x) q.es h f.gave refl q.gave in
+    subst (IsValue here s) (ok (bodies.position_in d.x) e d.then_gave)
+    (subst (λ (z : Shape). IsValue here z (bodies.position_in d.x)) g.1
+    (state-in here (shape_of f.x) d.x (not-true (is_elements (shape_of f.x)) g.0) (first_is (HasType (kinds_types here.variables) (type_of (shape_of f.x))) q.es d.x w.typed q.first)))
 
-position-value : (at : Site) (s : Shape) (n : ℕ) → position_fits s n ≡ true → IsValue at s (bodies.position n)
-position-value at (state count) n h = record { fits = ltb-true n count h; width = refl }
-position-value at one n h = absurd cc
-position-value at vector n h = absurd cc
+position-value : (here : Site) (s : Shape) (n : ℕ) → position_fits s n ≡ true → IsValue here s (bodies.position n)
+position-value here (state count) n h = record { fits = ltb-true n count h; width = refl }
+position-value here one n h = absurd cc
+position-value here vector n h = absurd cc
 
 pub each-value-fits : EachValueFits
 unfolding x.value
-each-value-fits i at (u.Value.position n) s e h k m = subst (IsValue at s) (ok (bodies.position n) e m) (position-value at s n k)
-each-value-fits i at (u.Value.elements y) s e h k m = value_of_shape i at (u.Value.elements y) s e h (has_shape s (value_shape i (u.Value.elements y)) k) m
-each-value-fits i at (u.state_of y) s e h k m = value_of_shape i at (u.state_of y) s e h (has_shape s (value_shape i (u.state_of y)) k) m
-each-value-fits i at (u.state_of_variable n) s e h k m = value_of_shape i at (u.state_of_variable n) s e h (has_shape s (value_shape i (u.state_of_variable n)) k) m
+each-value-fits i here at (u.Value.position n) s e h k m = subst (IsValue here s) (ok (bodies.position n) e m) (position-value here s n k)
+each-value-fits i here at (u.Value.elements y) s e h k m = value_of_shape i here at (u.Value.elements y) s e h (has_shape s (value_shape i (u.Value.elements y)) k) m
+each-value-fits i here at (u.state_of y) s e h k m = value_of_shape i here at (u.state_of y) s e h (has_shape s (value_shape i (u.state_of y)) k) m
+each-value-fits i here at (u.state_of_variable n) s e h k m = value_of_shape i here at (u.state_of_variable n) s e h (has_shape s (value_shape i (u.state_of_variable n)) k) m
 
 -- ---- two values of one type
 
@@ -127,134 +127,134 @@ beside : (i : Inside) (o : Option Shape) (y : Value) → value_fits_beside i o y
 beside i None y h = absurd cc
 beside i (Some s) y h = record { shape = s; is = refl; fits = h }
 
-left-first : (i : Inside) (at : Site) (v w : Value) (d e : bodies.Value) → IsSite i at → value_fits_beside i (value_shape i v) w ≡ true → x.value at v ≡ Ok d → x.value at w ≡ Ok e
-    → FitBoth (scope_at at) d e
-left-first i at v w d e h k m n =
+left-first : (i : Inside) (here : Site) (at : ℕ) (v w : Value) (d e : bodies.Value) → IsSite i here → value_fits_beside i (value_shape i v) w ≡ true → x.value here at v ≡ Ok d → x.value here at w ≡ Ok e
+    → FitBoth (scope_at here) d e
+left-first i here at v w d e h k m n =
     let z = beside i (value_shape i v) w k in
-    (type_of z.shape, (value_of_shape i at v z.shape d h z.is m).fits, (each-value-fits i at w z.shape e h z.fits n).fits)
+    (type_of z.shape, (value_of_shape i here at v z.shape d h z.is m).fits, (each-value-fits i here at w z.shape e h z.fits n).fits)
 
-right-first : (i : Inside) (at : Site) (v w : Value) (d e : bodies.Value) → IsSite i at → value_fits_beside i (value_shape i w) v ≡ true → x.value at v ≡ Ok d → x.value at w ≡ Ok e
-    → FitBoth (scope_at at) d e
-right-first i at v w d e h k m n =
+right-first : (i : Inside) (here : Site) (at : ℕ) (v w : Value) (d e : bodies.Value) → IsSite i here → value_fits_beside i (value_shape i w) v ≡ true → x.value here at v ≡ Ok d → x.value here at w ≡ Ok e
+    → FitBoth (scope_at here) d e
+right-first i here at v w d e h k m n =
     let z = beside i (value_shape i w) v k in
-    (type_of z.shape, (each-value-fits i at v z.shape d h z.fits m).fits, (value_of_shape i at w z.shape e h z.is n).fits)
+    (type_of z.shape, (each-value-fits i here at v z.shape d h z.fits m).fits, (value_of_shape i here at w z.shape e h z.is n).fits)
 
-both_fit : (i : Inside) (at : Site) (v w : Value) (d e : bodies.Value) → IsSite i at → values_fit i v w ≡ true → x.value at v ≡ Ok d → x.value at w ≡ Ok e → FitBoth (scope_at at) d e
+both_fit : (i : Inside) (here : Site) (at : ℕ) (v w : Value) (d e : bodies.Value) → IsSite i here → values_fit i v w ≡ true → x.value here at v ≡ Ok d → x.value here at w ≡ Ok e → FitBoth (scope_at here) d e
 unfolding x.value
-both_fit i at (u.Value.position p) (u.Value.position q) d e h k m n =
-    subst (λ (y : bodies.Value). FitBoth (scope_at at) y e) (ok (bodies.position p) d m)
-    (subst (λ (y : bodies.Value). FitBoth (scope_at at) (bodies.position p) y) (ok (bodies.position q) e n) (enumeration (suc (p + q)), omega arith, omega arith))
-both_fit i at (u.Value.position p) (u.Value.elements y) d e h k m n = right-first i at (u.Value.position p) (u.Value.elements y) d e h k m n
-both_fit i at (u.Value.position p) (u.state_of y) d e h k m n = right-first i at (u.Value.position p) (u.state_of y) d e h k m n
-both_fit i at (u.Value.position p) (u.state_of_variable y) d e h k m n = right-first i at (u.Value.position p) (u.state_of_variable y) d e h k m n
-both_fit i at (u.Value.elements y) w d e h k m n = left-first i at (u.Value.elements y) w d e h k m n
-both_fit i at (u.state_of y) w d e h k m n = left-first i at (u.state_of y) w d e h k m n
-both_fit i at (u.state_of_variable y) w d e h k m n = left-first i at (u.state_of_variable y) w d e h k m n
+both_fit i here at (u.Value.position p) (u.Value.position q) d e h k m n =
+    subst (λ (y : bodies.Value). FitBoth (scope_at here) y e) (ok (bodies.position p) d m)
+    (subst (λ (y : bodies.Value). FitBoth (scope_at here) (bodies.position p) y) (ok (bodies.position q) e n) (enumeration (suc (p + q)), omega arith, omega arith))
+both_fit i here at (u.Value.position p) (u.Value.elements y) d e h k m n = right-first i here at (u.Value.position p) (u.Value.elements y) d e h k m n
+both_fit i here at (u.Value.position p) (u.state_of y) d e h k m n = right-first i here at (u.Value.position p) (u.state_of y) d e h k m n
+both_fit i here at (u.Value.position p) (u.state_of_variable y) d e h k m n = right-first i here at (u.Value.position p) (u.state_of_variable y) d e h k m n
+both_fit i here at (u.Value.elements y) w d e h k m n = left-first i here at (u.Value.elements y) w d e h k m n
+both_fit i here at (u.state_of y) w d e h k m n = left-first i here at (u.state_of y) w d e h k m n
+both_fit i here at (u.state_of_variable y) w d e h k m n = left-first i here at (u.state_of_variable y) w d e h k m n
 
 -- ---- equality
 
 -- an element and a character literal
-level-fits : (at : Site) (s : Shape) (es : List ℕ) (plain : Bool) (y : Nine) → is_elements s ≡ true → IsName at s es → FitsTest (scope_at at) (level_test plain es y)
-level-fits at s [] plain y h n = absurd (let l : 1 ≤ 0 = (is_width s 0 n.width).0 in omega (arith, l))
-level-fits at s (e ∷ []) plain y h n = subst (λ (t : ElementType). HasType (scope_at at).nets t e) (elements_are_nine s h) (All-head (HasType (scope_at at).nets (type_of s)) e [] n.typed)
-level-fits at s (d ∷ e ∷ es) plain y h n = (nine_valued, (named at s (d ∷ e ∷ es) h n).fits, (one_character at y).fits)
+level-fits : (here : Site) (s : Shape) (es : List ℕ) (plain : Bool) (y : Nine) → is_elements s ≡ true → IsName here s es → FitsTest (scope_at here) (level_test plain es y)
+level-fits here s [] plain y h n = absurd (let l : 1 ≤ 0 = (is_width s 0 n.width).0 in omega (arith, l))
+level-fits here s (e ∷ []) plain y h n = subst (λ (t : ElementType). HasType (scope_at here).nets t e) (elements_are_nine s h) (All-head (HasType (scope_at here).nets (type_of s)) e [] n.typed)
+level-fits here s (d ∷ e ∷ es) plain y h n = (nine_valued, (named here s (d ∷ e ∷ es) h n).fits, (one_character here y).fits)
 
-place-level : (i : Inside) (at : Site) (p : SignalPart) (s : Shape) (plain : Bool) (y : Nine) (c : bodies.Test) (es : List ℕ) → IsSite i at → vector_shape i (u.of_signal p) ≡ Some s
-    → place_elements at p ≡ Ok es → level_test plain es y ≡ c → FitsTest (scope_at at) c
-place-level i at p s plain y c es h k m g =
+place-level : (i : Inside) (here : Site) (p : SignalPart) (s : Shape) (plain : Bool) (y : Nine) (c : bodies.Test) (es : List ℕ) → IsSite i here → vector_shape i (u.of_signal p) ≡ Some s
+    → place_elements here p ≡ Ok es → level_test plain es y ≡ c → FitsTest (scope_at here) c
+place-level i here p s plain y c es h k m g =
     let z = step (place_shape i p) _ s k in
     let w = given_some (is_elements z.x) z.x s z.then_gave in
-    subst (FitsTest (scope_at at)) g (level-fits at z.x es plain y w.0 (each-name-fits i at p z.x es h z.gave m))
+    subst (FitsTest (scope_at here)) g (level-fits here z.x es plain y w.0 (each-name-fits i here p z.x es h z.gave m))
 
-abbrev equals : Site → Value → Value → bodies.Test → Type 0
-equals at v w c = (d : bodies.Value) × (e : bodies.Value) × (x.value at v ≡ Ok d) × (x.value at w ≡ Ok e) × (bodies.equal d e ≡ c)
+abbrev equals : Site → ℕ → Value → Value → bodies.Test → Type 0
+equals here at v w c = (d : bodies.Value) × (e : bodies.Value) × (x.value here at v ≡ Ok d) × (x.value here at w ≡ Ok e) × (bodies.equal d e ≡ c)
 
-equal-fits : (i : Inside) (at : Site) (v w : Value) (c : bodies.Test) → IsSite i at → values_fit i v w ≡ true → equals at v w c → FitsTest (scope_at at) c
-equal-fits i at v w c h k m = subst (FitsTest (scope_at at)) m.4 (both_fit i at v w m.0 m.1 h k m.2 m.3)
+equal-fits : (i : Inside) (here : Site) (at : ℕ) (v w : Value) (c : bodies.Test) → IsSite i here → values_fit i v w ≡ true → equals here at v w c → FitsTest (scope_at here) c
+equal-fits i here at v w c h k m = subst (FitsTest (scope_at here)) m.4 (both_fit i here at v w m.0 m.1 h k m.2 m.3)
 
-alike-fits : (i : Inside) (at : Site) (v w : Value) (c : bodies.Test) → IsSite i at → values_fit i v w ≡ true → alike at v w ≡ Ok c → FitsTest (scope_at at) c
-alike-fits i at (u.Value.elements (u.of_signal p)) (u.Value.elements (u.character y)) c h k m =
+alike-fits : (i : Inside) (here : Site) (at : ℕ) (v w : Value) (c : bodies.Test) → IsSite i here → values_fit i v w ≡ true → alike here at v w ≡ Ok c → FitsTest (scope_at here) c
+alike-fits i here at (u.Value.elements (u.of_signal p)) (u.Value.elements (u.character y)) c h k m =
     let z = beside i (vector_shape i (u.of_signal p)) (u.Value.elements (u.character y)) k in
-    let es = bound (place_elements at p) _ c m in
-    place-level i at p z.shape true y c es.x h z.is es.gave (ok (level_test true es.x y) c es.then_gave)
-alike-fits i at (u.Value.elements (u.of_signal p)) (u.Value.elements (u.enclosed_character y)) c h k m =
+    let es = bound (place_elements here p) _ c m in
+    place-level i here p z.shape true y c es.x h z.is es.gave (ok (level_test true es.x y) c es.then_gave)
+alike-fits i here at (u.Value.elements (u.of_signal p)) (u.Value.elements (u.enclosed_character y)) c h k m =
     let z = beside i (vector_shape i (u.of_signal p)) (u.Value.elements (u.enclosed_character y)) k in
-    let es = bound (place_elements at p) _ c m in
-    place-level i at p z.shape false y c es.x h z.is es.gave (ok (level_test false es.x y) c es.then_gave)
-alike-fits i at (u.Value.elements (u.character y)) (u.Value.elements (u.of_signal p)) c h k m =
-    let es = bound (place_elements at p) _ c m in
-    place-level i at p one false y c es.x h (has_shape one (vector_shape i (u.of_signal p)) k) es.gave (ok (level_test false es.x y) c es.then_gave)
-alike-fits i at (u.Value.elements (u.enclosed_character y)) (u.Value.elements (u.of_signal p)) c h k m =
-    let es = bound (place_elements at p) _ c m in
-    place-level i at p one false y c es.x h (has_shape one (vector_shape i (u.of_signal p)) k) es.gave (ok (level_test false es.x y) c es.then_gave)
-alike-fits i at v w c h k m =
-    let d = bound (x.value at v) _ c m in
-    let e = bound (x.value at w) _ c d.then_gave in
-    equal-fits i at v w c h k (d.x, e.x, d.gave, e.gave, ok (bodies.equal d.x e.x) c e.then_gave)
+    let es = bound (place_elements here p) _ c m in
+    place-level i here p z.shape false y c es.x h z.is es.gave (ok (level_test false es.x y) c es.then_gave)
+alike-fits i here at (u.Value.elements (u.character y)) (u.Value.elements (u.of_signal p)) c h k m =
+    let es = bound (place_elements here p) _ c m in
+    place-level i here p one false y c es.x h (has_shape one (vector_shape i (u.of_signal p)) k) es.gave (ok (level_test false es.x y) c es.then_gave)
+alike-fits i here at (u.Value.elements (u.enclosed_character y)) (u.Value.elements (u.of_signal p)) c h k m =
+    let es = bound (place_elements here p) _ c m in
+    place-level i here p one false y c es.x h (has_shape one (vector_shape i (u.of_signal p)) k) es.gave (ok (level_test false es.x y) c es.then_gave)
+alike-fits i here at v w c h k m =
+    let d = bound (x.value here at v) _ c m in
+    let e = bound (x.value here at w) _ c d.then_gave in
+    equal-fits i here at v w c h k (d.x, e.x, d.gave, e.gave, ok (bodies.equal d.x e.x) c e.then_gave)
 
 -- ---- edges
 
-without-loops : (i : Inside) (at : Site) → IsSite i at → IsSite (record i { loops = 0 }) at
-without-loops i at h = record { constants = h.constants; ports = h.ports; signals = h.signals; variables = h.variables }
+without-loops : (i : Inside) (here : Site) → IsSite i here → IsSite (record i { loops = 0 }) here
+without-loops i here h = record { constants = h.constants; ports = h.ports; signals = h.signals; variables = h.variables }
 
-edge-element : (i : Inside) (at : Site) (p : SignalPart) (e : ℕ) → IsSite i at → edge_fits i p ≡ true → the_element (place_elements at p) ≡ Ok e → HasType (scope_at at).nets nine_valued e
-edge-element i at p e h k m =
+edge-element : (i : Inside) (here : Site) (p : SignalPart) (e : ℕ) → IsSite i here → edge_fits i p ≡ true → the_element p.at (place_elements here p) ≡ Ok e → HasType (scope_at here).nets nine_valued e
+edge-element i here p e h k m =
     let j : Inside = record i { loops = 0 } in
-    let q = the-element (place_elements at p) e m in
-    let w = each-name-fits j at p one q.es (without-loops i at h) (has_shape one (place_shape j p) k) q.gave in
-    first_is (HasType (scope_at at).nets nine_valued) q.es e w.typed q.first
+    let q = the-element p.at (place_elements here p) e m in
+    let w = each-name-fits j here p one q.es (without-loops i here h) (has_shape one (place_shape j p) k) q.gave in
+    first_is (HasType (scope_at here).nets nine_valued) q.es e w.typed q.first
 
-edge-fits : (at : Site) (kind : Edge) (e : ℕ) → HasType (scope_at at).nets nine_valued e → FitsTest (scope_at at) (edge_test kind e)
-edge-fits at Rising e h = h
-edge-fits at Falling e h = h
-edge-fits at To1 e h = (h, h)
-edge-fits at To0 e h = (h, h)
+edge-fits : (here : Site) (kind : Edge) (e : ℕ) → HasType (scope_at here).nets nine_valued e → FitsTest (scope_at here) (edge_test kind e)
+edge-fits here Rising e h = h
+edge-fits here Falling e h = h
+edge-fits here To1 e h = (h, h)
+edge-fits here To0 e h = (h, h)
 
 -- ---- all tests
 
 pub each-test-fits : EachTestFits
 unfolding x.test
-each-test-fits i at (u.holds v) c h k m =
-    let e = bound (x.vector at v) _ c m in
-    let w = each-vector-fits i at v one e.x h (has_shape one (vector_shape i v) k) e.gave in
-    subst (FitsTest (scope_at at)) (ok (bodies.condition e.x) c e.then_gave) (w.fits, w.width)
-each-test-fits i at (u.Test.fixed t) c h k m =
-    let d = bound (decision at.integers t) _ c m in
-    subst (FitsTest (scope_at at)) (ok (bodies.decided d.x) c d.then_gave) tt
-each-test-fits i at (u.alike v w) c h k m = alike-fits i at v w c h k m
-each-test-fits i at (u.unlike v w) c h k m =
-    let d = bound (x.value at v) _ c m in
-    let e = bound (x.value at w) _ c d.then_gave in
-    subst (FitsTest (scope_at at)) (ok (bodies.unequal d.x e.x) c e.then_gave) (both_fit i at v w d.x e.x h k d.gave e.gave)
-each-test-fits i at (u.Test.compared op v w) c h k m =
+each-test-fits i here (u.holds v) c h k m =
+    let e = bound (x.vector here v) _ c m in
+    let w = each-vector-fits i here v one e.x h (has_shape one (vector_shape i v) k) e.gave in
+    subst (FitsTest (scope_at here)) (ok (bodies.condition e.x) c e.then_gave) (w.fits, w.width)
+each-test-fits i here (u.Test.fixed t) c h k m =
+    let d = bound (decision here.integers t) _ c m in
+    subst (FitsTest (scope_at here)) (ok (bodies.decided d.x) c d.then_gave) tt
+each-test-fits i here (u.alike at v w) c h k m = alike-fits i here at v w c h k m
+each-test-fits i here (u.unlike at v w) c h k m =
+    let d = bound (x.value here at v) _ c m in
+    let e = bound (x.value here at w) _ c d.then_gave in
+    subst (FitsTest (scope_at here)) (ok (bodies.unequal d.x e.x) c e.then_gave) (both_fit i here at v w d.x e.x h k d.gave e.gave)
+each-test-fits i here (u.Test.compared at op v w) c h k m =
     let both = and_parts (fits_shape vector (vector_shape i v)) (fits_shape vector (vector_shape i w)) k in
-    let d = bound (x.vector at v) _ c m in
-    let e = bound (x.vector at w) _ c d.then_gave in
-    subst (FitsTest (scope_at at)) (ok (bodies.compared op d.x e.x) c e.then_gave) (
-      (each-vector-fits i at v vector d.x h (has_shape vector (vector_shape i v) both.0) d.gave).fits,
-      (each-vector-fits i at w vector e.x h (has_shape vector (vector_shape i w) both.1) e.gave).fits,
+    let d = bound (x.vector here v) _ c m in
+    let e = bound (x.vector here w) _ c d.then_gave in
+    subst (FitsTest (scope_at here)) (ok (bodies.compared op d.x e.x) c e.then_gave) (
+      (each-vector-fits i here v vector d.x h (has_shape vector (vector_shape i v) both.0) d.gave).fits,
+      (each-vector-fits i here w vector e.x h (has_shape vector (vector_shape i w) both.1) e.gave).fits,
     )
-each-test-fits i at (u.compared_to op v n) c h k m =
+each-test-fits i here (u.compared_to at op v n) c h k m =
     let both = and_parts (fits_shape vector (vector_shape i v)) (static_fits i n) k in
-    let d = bound (x.vector at v) _ c m in
-    let j = bound (natural at.integers n) _ c d.then_gave in
-    subst (FitsTest (scope_at at)) (ok (bodies.compared_to op d.x j.x) c j.then_gave) (each-vector-fits i at v vector d.x h (has_shape vector (vector_shape i v) both.0) d.gave).fits
-each-test-fits i at (u.compared_with op n v) c h k m =
+    let d = bound (x.vector here v) _ c m in
+    let j = bound (natural here.integers at n) _ c d.then_gave in
+    subst (FitsTest (scope_at here)) (ok (bodies.compared_to op d.x j.x) c j.then_gave) (each-vector-fits i here v vector d.x h (has_shape vector (vector_shape i v) both.0) d.gave).fits
+each-test-fits i here (u.compared_with at op n v) c h k m =
     let both = and_parts (static_fits i n) (fits_shape vector (vector_shape i v)) k in
-    let j = bound (natural at.integers n) _ c m in
-    let d = bound (x.vector at v) _ c j.then_gave in
-    subst (FitsTest (scope_at at)) (ok (bodies.compared_to (x.converse_of op) d.x j.x) c d.then_gave) (each-vector-fits i at v vector d.x h (has_shape vector (vector_shape i v) both.1) d.gave).fits
-each-test-fits i at (u.edge kind p) c h k m =
-    let e = bound (the_element (place_elements at p)) _ c m in
-    subst (FitsTest (scope_at at)) (ok (edge_test kind e.x) c e.then_gave) (edge-fits at kind e.x (edge-element i at p e.x h k e.gave))
-each-test-fits i at (u.event p) c h k m =
-    let e = bound (the_element (place_elements at p)) _ c m in
-    subst (FitsTest (scope_at at)) (ok (bodies.event e.x) c e.then_gave) (edge-element i at p e.x h k e.gave)
-each-test-fits i at (u.Test.negated t) c h k m =
-    let d = bound (x.test at t) _ c m in
-    subst (FitsTest (scope_at at)) (ok (bodies.negated d.x) c d.then_gave) (each-test-fits i at t d.x h k d.gave)
-each-test-fits i at (u.Test.both op t r) c h k m =
+    let j = bound (natural here.integers at n) _ c m in
+    let d = bound (x.vector here v) _ c j.then_gave in
+    subst (FitsTest (scope_at here)) (ok (bodies.compared_to (x.converse_of op) d.x j.x) c d.then_gave) (each-vector-fits i here v vector d.x h (has_shape vector (vector_shape i v) both.1) d.gave).fits
+each-test-fits i here (u.edge kind p) c h k m =
+    let e = bound (the_element p.at (place_elements here p)) _ c m in
+    subst (FitsTest (scope_at here)) (ok (edge_test kind e.x) c e.then_gave) (edge-fits here kind e.x (edge-element i here p e.x h k e.gave))
+each-test-fits i here (u.event p) c h k m =
+    let e = bound (the_element p.at (place_elements here p)) _ c m in
+    subst (FitsTest (scope_at here)) (ok (bodies.event e.x) c e.then_gave) (edge-element i here p e.x h k e.gave)
+each-test-fits i here (u.Test.negated t) c h k m =
+    let d = bound (x.test here t) _ c m in
+    subst (FitsTest (scope_at here)) (ok (bodies.negated d.x) c d.then_gave) (each-test-fits i here t d.x h k d.gave)
+each-test-fits i here (u.Test.both op t r) c h k m =
     let both = and_parts (test_fits i t) (test_fits i r) k in
-    let d = bound (x.test at t) _ c m in
-    let e = bound (x.test at r) _ c d.then_gave in
-    subst (FitsTest (scope_at at)) (ok (bodies.combined op d.x e.x) c e.then_gave) (each-test-fits i at t d.x h both.0 d.gave, each-test-fits i at r e.x h both.1 e.gave)
+    let d = bound (x.test here t) _ c m in
+    let e = bound (x.test here r) _ c d.then_gave in
+    subst (FitsTest (scope_at here)) (ok (bodies.combined op d.x e.x) c e.then_gave) (each-test-fits i here t d.x h both.0 d.gave, each-test-fits i here r e.x h both.1 e.gave)

@@ -39,8 +39,8 @@ module _ (os : List Object) where
   joined-sound (p ∷ ps) h = followed-sound p (joined_parts ps) (All-head (PartsAreSound os) p ps h) (joined-sound ps (All-tail (PartsAreSound os) p ps h))
 
 -- in a turn of a generate, and in a branch
-in-generate : (i : Inside) (at : Site) (j : ℤ) (ps ss : List Object) → IsDeclared i at ps ss → IsDeclared (within_generate i) (in_generate at j) ps ss
-in-generate i at j ps ss h = record {
+in-generate : (i : Inside) (here : Site) (j : ℤ) (ps ss : List Object) → IsDeclared i here ps ss → IsDeclared (within_generate i) (in_generate here j) ps ss
+in-generate i here j ps ss h = record {
   site = record { constants = h.site.constants; ports = h.site.ports; signals = h.site.signals; variables = h.site.variables };
   ports = h.ports;
   signals = h.signals;
@@ -115,25 +115,25 @@ unit-begins : (units : Units) (above : List Object) (integers : Integers) (actua
     → Interface (before_ports unit) unit.ports d
 unit-begins units above integers actuals unit d fit e = interface-stands (before_ports unit) integers actuals unit d refl refl refl fit.objects fit.ports e
 
-module _ (units : Units) (sound : list_all (entity_fits units) units ≡ true) (go : Entity → InstanceObjects → Elab Instance)
-    (go-sound : (above : List Object) (unit : Entity) (d : InstanceObjects) (i : Instance) → entity_fits units unit ≡ true → Begins above unit d → go unit d ≡ Ok i → InstanceIsSound above i) where
+module _ (units : Units) (sound : list_all (entity_fits units) units ≡ true) (go : ℕ → Entity → InstanceObjects → Elab Instance)
+    (go-sound : (above : List Object) (at : ℕ) (unit : Entity) (d : InstanceObjects) (i : Instance) → entity_fits units unit ≡ true → Begins above unit d → go at unit d ≡ Ok i → InstanceIsSound above i) where
   fitting : (i : Inside) (x : u.Instance) (unit : Entity) → slice_get units x.unit ≡ Some unit → instance_fits i x (slice_get units x.unit) ≡ true → actuals_fit i unit.ports x.ports ≡ true
   fitting i x unit e h =
       let k : instance_fits i x (Some unit) ≡ true = ap (instance_fits i x) (sym e) ∙ h in
       (and_parts ((length x.generics == length unit.generics) && list_all (static_default_fits i) x.generics) (actuals_fit i unit.ports x.ports) k).1
 
-  instance-sound : (i : Inside) (at : Spot) (os ss : List Object) (x : u.Instance) (y : Instance) → IsDeclared i at.site os ss → instance_fits i x (slice_get units x.unit) ≡ true
-      → instance units go at x ≡ Ok y → InstanceIsSound (os ++ ss) y
+  instance-sound : (i : Inside) (here : Spot) (os ss : List Object) (x : u.Instance) (y : Instance) → IsDeclared i here.site os ss → instance_fits i x (slice_get units x.unit) ≡ true
+      → instance units go here x ≡ Ok y → InstanceIsSound (os ++ ss) y
   unfolding instance
-  instance-sound i at os ss x y h fit e =
-      let unit = bound (item_or NoTop (slice_get units x.unit)) _ y e in
-      let d = bound (interface at.site.integers x.generics unit.x) _ y unit.then_gave in
-      let js = bound (associations at.site unit.x.ports x.ports d.x.objects) _ y d.then_gave in
-      let there : slice_get units x.unit ≡ Some unit.x = was_found NoTop (slice_get units x.unit) unit.x unit.gave in
+  instance-sound i here os ss x y h fit e =
+      let unit = bound (item_or NoTop x.at (slice_get units x.unit)) _ y e in
+      let d = bound (interface here.site.integers x.generics unit.x) _ y unit.then_gave in
+      let js = bound (associations here.site x.at unit.x.ports x.ports d.x.objects) _ y d.then_gave in
+      let there : slice_get units x.unit ≡ Some unit.x = was_found NoTop x.at (slice_get units x.unit) unit.x unit.gave in
       let fits : entity_fits units unit.x ≡ true = sound-unit units units x.unit unit.x sound there in
-      let begun = unit-begins units (os ++ ss) at.site.integers x.generics unit.x d.x (entity-parts units unit.x fits) d.gave in
-      let joined = associations-sound i at.site os ss unit.x.ports x.ports d.x.objects js.x h begun.objects (fitting i x unit.x there fit) js.gave in
-      go-sound (os ++ ss) unit.x (record d.x { objects = js.x }) y fits (begins (os ++ ss) unit.x d.x js.x begun joined.kinds joined.joined) js.then_gave
+      let begun = unit-begins units (os ++ ss) here.site.integers x.generics unit.x d.x (entity-parts units unit.x fits) d.gave in
+      let joined = associations-sound i here.site x.at os ss unit.x.ports x.ports d.x.objects js.x h begun.objects (fitting i x unit.x there fit) js.gave in
+      go-sound (os ++ ss) x.at unit.x (record d.x { objects = js.x }) y fits (begins (os ++ ss) unit.x d.x js.x begun joined.kinds joined.joined) js.then_gave
 
   chosen-sound : (all : List Object) (b : Bool) (r : Elab Parts) (ps : Parts) → ((qs : Parts) → r ≡ Ok qs → PartsAreSound all qs) → cond b r (Ok no_parts) ≡ Ok ps → PartsAreSound all ps
   chosen-sound all true r ps h k = h ps k
@@ -142,49 +142,49 @@ module _ (units : Units) (sound : list_all (entity_fits units) units ≡ true) (
   mutual
     unfolding concurrent concurrent_fits
 
-    concurrent-sound : (x : u.Concurrent) (i : Inside) (at : Spot) (os ss : List Object) (ps : Parts) → IsDeclared i at.site os ss → concurrent_fits units i x ≡ true → concurrent units go at x ≡ Ok ps
+    concurrent-sound : (x : u.Concurrent) (i : Inside) (here : Spot) (os ss : List Object) (ps : Parts) → IsDeclared i here.site os ss → concurrent_fits units i x ≡ true → concurrent units go here x ≡ Ok ps
         → PartsAreSound (os ++ ss) ps
-    concurrent-sound (u.process p) i at os ss ps h fit e =
-        let q = bound (process at p) _ ps e in
-        subst (PartsAreSound (os ++ ss)) (ok (t.process q.x no_parts) ps q.then_gave) (process-sound i at os ss p q.x h fit q.gave, tt)
-    concurrent-sound (u.instance x) i at os ss ps h fit e =
-        let y = bound (instance units go at x) _ ps e in
-        subst (PartsAreSound (os ++ ss)) (ok _ ps y.then_gave) (instance-sound i at os ss x y.x h fit y.gave, tt)
-    concurrent-sound (u.generate_for label r body) i at os ss ps h fit e =
+    concurrent-sound (u.process p) i here os ss ps h fit e =
+        let q = bound (process here p) _ ps e in
+        subst (PartsAreSound (os ++ ss)) (ok (t.process q.x no_parts) ps q.then_gave) (process-sound i here os ss p q.x h fit q.gave, tt)
+    concurrent-sound (u.instance x) i here os ss ps h fit e =
+        let y = bound (instance units go here x) _ ps e in
+        subst (PartsAreSound (os ++ ss)) (ok _ ps y.then_gave) (instance-sound i here os ss x y.x h fit y.gave, tt)
+    concurrent-sound (u.generate_for at label r body) i here os ss ps h fit e =
         let both = and_parts (range_fits i r) (concurrents_fit units (within_generate i) body) fit in
-        let js = bound (turns at.site.integers r) _ ps e in
-        let qs = bound (each (λ j. concurrents units go (in_turn at label j) body) js.x) _ ps js.then_gave in
+        let js = bound (turns here.site.integers at r) _ ps e in
+        let qs = bound (each (λ j. concurrents units go (in_turn here label j) body) js.x) _ ps js.then_gave in
         subst (PartsAreSound (os ++ ss)) (ok (joined_parts qs.x) ps qs.then_gave)
-        (joined-sound (os ++ ss) qs.x (each-all (PartsAreSound (os ++ ss)) (λ j. concurrents units go (in_turn at label j) body) js.x qs.x
-        (λ j q g. concurrents-sound body (within_generate i) (in_turn at label j) os ss q (in-generate i at.site j os ss h) both.1 g) qs.gave))
-    concurrent-sound (u.generate_if label t body) i at os ss ps h fit e =
+        (joined-sound (os ++ ss) qs.x (each-all (PartsAreSound (os ++ ss)) (λ j. concurrents units go (in_turn here label j) body) js.x qs.x
+        (λ j q g. concurrents-sound body (within_generate i) (in_turn here label j) os ss q (in-generate i here.site j os ss h) both.1 g) qs.gave))
+    concurrent-sound (u.generate_if at label t body) i here os ss ps h fit e =
         let both = and_parts (static_test_fits i t) (concurrents_fit units i body) fit in
-        let holds = bound (decision at.site.integers t) _ ps e in
-        chosen-sound (os ++ ss) holds.x (concurrents units go (in_branch at label) body) ps (λ qs g. concurrents-sound body i (in_branch at label) os ss qs h both.1 g) holds.then_gave
+        let holds = bound (decision here.site.integers t) _ ps e in
+        chosen-sound (os ++ ss) holds.x (concurrents units go (in_branch here label) body) ps (λ qs g. concurrents-sound body i (in_branch here label) os ss qs h both.1 g) holds.then_gave
 
-    concurrents-sound : (xs : u.Concurrents) (i : Inside) (at : Spot) (os ss : List Object) (ps : Parts) → IsDeclared i at.site os ss → concurrents_fit units i xs ≡ true → concurrents units go at xs ≡ Ok ps
+    concurrents-sound : (xs : u.Concurrents) (i : Inside) (here : Spot) (os ss : List Object) (ps : Parts) → IsDeclared i here.site os ss → concurrents_fit units i xs ≡ true → concurrents units go here xs ≡ Ok ps
         → PartsAreSound (os ++ ss) ps
-    concurrents-sound u.no_concurrents i at os ss ps h fit e = subst (PartsAreSound (os ++ ss)) (ok no_parts ps e) tt
-    concurrents-sound (u.concurrent x rest) i at os ss ps h fit e =
+    concurrents-sound u.no_concurrents i here os ss ps h fit e = subst (PartsAreSound (os ++ ss)) (ok no_parts ps e) tt
+    concurrents-sound (u.concurrent x rest) i here os ss ps h fit e =
         let both = and_parts (concurrent_fits units i x) (concurrents_fit units i rest) fit in
-        let a = bound (concurrent units go at x) _ ps e in
-        let c = bound (concurrents units go at rest) _ ps a.then_gave in
+        let a = bound (concurrent units go here x) _ ps e in
+        let c = bound (concurrents units go here rest) _ ps a.then_gave in
         subst (PartsAreSound (os ++ ss)) (ok (followed_by a.x c.x) ps c.then_gave)
-        (followed-sound (os ++ ss) a.x c.x (concurrent-sound x i at os ss a.x h both.0 a.gave) (concurrents-sound rest i at os ss c.x h both.1 c.gave))
+        (followed-sound (os ++ ss) a.x c.x (concurrent-sound x i here os ss a.x h both.0 a.gave) (concurrents-sound rest i here os ss c.x h both.1 c.gave))
 
 -- ---- instances
 
-instance_of-sound : (units : Units) (levels : ℕ) → list_all (entity_fits units) units ≡ true → (above : List Object) (unit : Entity) (d : InstanceObjects) (i : Instance) → entity_fits units unit ≡ true → Begins above unit d
-    → instance_of units levels unit d ≡ Ok i → InstanceIsSound above i
+instance_of-sound : (units : Units) (levels : ℕ) → list_all (entity_fits units) units ≡ true → (above : List Object) (at : ℕ) (unit : Entity) (d : InstanceObjects) (i : Instance) → entity_fits units unit ≡ true → Begins above unit d
+    → instance_of units levels at unit d ≡ Ok i → InstanceIsSound above i
 unfolding instance_of
-instance_of-sound units zero sound above unit d i fit h e = absurd cc
-instance_of-sound units (suc n) sound above unit d i fit h e =
-    let a = bound (item_or NoTop unit.architecture) _ i e in
+instance_of-sound units zero sound above at unit d i fit h e = absurd cc
+instance_of-sound units (suc n) sound above at unit d i fit h e =
+    let a = bound (item_or NoTop at unit.architecture) _ i e in
     let c = bound (declarations d a.x.declarations) _ i a.then_gave in
     let spot : Spot = record { site = c.x.site; prefix = [] } in
     let ps = bound (concurrents units (instance_of units n) spot a.x.statements) _ i c.then_gave in
     let ts = bound (concurrents_turns spot a.x.statements) _ i ps.then_gave in
-    let there : unit.architecture ≡ Some a.x = was_found NoTop unit.architecture a.x a.gave in
+    let there : unit.architecture ≡ Some a.x = was_found NoTop at unit.architecture a.x a.gave in
     let whole : architecture_fits units (inside unit) (Some a.x) ≡ true = ap (architecture_fits units (inside unit)) (sym there) ∙ (entity-parts units unit fit).architecture in
     let both = and_parts (declarations_fit (inside unit) a.x.declarations) (concurrents_fit units (with_declarations (inside unit) a.x.declarations) a.x.statements) whole in
     let start : Stands (inside unit) d d.objects = record { signals = []; objects = sym (append-nil d.objects); declared = h.declared; sound = All-nil Anywhere } in
@@ -209,17 +209,17 @@ signals-alone (o ∷ os) h k =
     All-cons (λ (x : Object). x.actual ≡ None) o os ((All-head Anywhere o os h []).signals_have_none (ap is_port (All-head (λ (x : Object). x.role ≡ internal) o os k)))
     (signals-alone os (All-tail Anywhere o os h) (All-tail (λ (x : Object). x.role ≡ internal) o os k))
 
-top-alone : (units : Units) (n : ℕ) (unit : Entity) (d : InstanceObjects) (i : Instance) → entity_fits units unit ≡ true → Begins [] unit d → All (λ (o : Object). o.actual ≡ None) d.objects
-    → instance_of units n unit d ≡ Ok i → All (λ (o : Object). o.actual ≡ None) (objects_of i)
+top-alone : (units : Units) (n at : ℕ) (unit : Entity) (d : InstanceObjects) (i : Instance) → entity_fits units unit ≡ true → Begins [] unit d → All (λ (o : Object). o.actual ≡ None) d.objects
+    → instance_of units n at unit d ≡ Ok i → All (λ (o : Object). o.actual ≡ None) (objects_of i)
 unfolding instance_of
-top-alone units zero unit d i fit h none e = absurd cc
-top-alone units (suc n) unit d i fit h none e =
-    let a = bound (item_or NoTop unit.architecture) _ i e in
+top-alone units zero at unit d i fit h none e = absurd cc
+top-alone units (suc n) at unit d i fit h none e =
+    let a = bound (item_or NoTop at unit.architecture) _ i e in
     let c = bound (declarations d a.x.declarations) _ i a.then_gave in
     let spot : Spot = record { site = c.x.site; prefix = [] } in
     let ps = bound (concurrents units (instance_of units n) spot a.x.statements) _ i c.then_gave in
     let ts = bound (concurrents_turns spot a.x.statements) _ i ps.then_gave in
-    let there : unit.architecture ≡ Some a.x = was_found NoTop unit.architecture a.x a.gave in
+    let there : unit.architecture ≡ Some a.x = was_found NoTop at unit.architecture a.x a.gave in
     let whole : architecture_fits units (inside unit) (Some a.x) ≡ true = ap (architecture_fits units (inside unit)) (sym there) ∙ (entity-parts units unit fit).architecture in
     let both = and_parts (declarations_fit (inside unit) a.x.declarations) (concurrents_fit units (with_declarations (inside unit) a.x.declarations) a.x.statements) whole in
     let start : Stands (inside unit) d d.objects = record { signals = []; objects = sym (append-nil d.objects); declared = h.declared; sound = All-nil Anywhere } in
@@ -243,14 +243,14 @@ pub each-tree-is-sound : EachTreeIsSound
 unfolding expanded_design are_sound
 each-tree-is-sound units top design h e =
     let sound : list_all (entity_fits units) units ≡ true = h in
-    let unit = bound (item_or NoTop (entity_named units top)) _ design e in
+    let unit = bound (item_or NoTop 0 (entity_named units top)) _ design e in
     let d = bound (interface no_integers [] unit.x) _ design unit.then_gave in
-    let i = bound (instance_of units 32 unit.x d.x) _ design d.then_gave in
+    let i = bound (instance_of units 32 unit.x.at unit.x d.x) _ design d.then_gave in
     let fit : entity_fits units unit.x ≡ true =
-    found-fits (λ (x : Entity). bytes_eq x.name (map to_ascii_lowercase top)) (entity_fits units) units unit.x sound (was_found NoTop (entity_named units top) unit.x unit.gave) in
+    found-fits (λ (x : Entity). bytes_eq x.name (map to_ascii_lowercase top)) (entity_fits units) units unit.x sound (was_found NoTop 0 (entity_named units top) unit.x unit.gave) in
     let begun = unit-begins units [] no_integers [] unit.x d.x (entity-parts units unit.x fit) d.gave in
     let start = begins [] unit.x d.x d.x.objects begun refl (not-joined [] unit.x.ports d.x.objects begun.objects) in
     subst DesignIsSound (ok (record { name = unit.x.name; top = i.x }) design i.then_gave) (record {
-      top = instance_of-sound units 32 sound [] unit.x d.x i.x fit start i.gave;
-      not_joined = top-alone units 32 unit.x d.x i.x fit start (none-joined unit.x.ports d.x.objects begun.objects) i.gave;
+      top = instance_of-sound units 32 sound [] unit.x.at unit.x d.x i.x fit start i.gave;
+      not_joined = top-alone units 32 unit.x.at unit.x d.x i.x fit start (none-joined unit.x.ports d.x.objects begun.objects) i.gave;
     })

@@ -41,38 +41,38 @@ elements_are_nine one h = refl
 elements_are_nine vector h = refl
 elements_are_nine (state count) h = absurd cc
 
-pub vector_width : (at : Site) (s : Shape) (e : bodies.Expr) → IsVector at s e → IsWidth (width e)
-vector_width at s e h = is_width s (width e) h.width
+pub vector_width : (here : Site) (s : Shape) (e : bodies.Expr) → IsVector here s e → IsWidth (width e)
+vector_width here s e h = is_width s (width e) h.width
 
 one-is_width : IsWidth 1
 one-is_width = (omega arith, omega arith)
 
-pub one_character : (at : Site) (x : Nine) → IsVector at one (bodies.constant (x ∷ []))
-one_character at x = record { of_elements = refl; fits = one-is_width; width = refl }
+pub one_character : (here : Site) (x : Nine) → IsVector here one (bodies.constant (x ∷ []))
+one_character here x = record { of_elements = refl; fits = one-is_width; width = refl }
 
-constant_vector : (at : Site) (vs : List Nine) → IsWidth (length vs) → IsVector at vector (bodies.constant vs)
-constant_vector at vs h = record { of_elements = refl; fits = h; width = h }
+constant_vector : (here : Site) (vs : List Nine) → IsWidth (length vs) → IsVector here vector (bodies.constant vs)
+constant_vector here vs h = record { of_elements = refl; fits = h; width = h }
 
 -- ---- sizes
 
-asked : (n m : ℕ) → as_size n ≡ Ok m → IsWidth n × (n ≡ m)
-asked n m h =
-    let low = bound (unless Index (nat_le 1 n)) _ m h in
-    let high = bound (unless TooWide (nat_le n 64)) _ m low.then_gave in
-    ((leb-true 1 n (kept Index (nat_le 1 n) low.x low.gave), leb-true n 64 (kept TooWide (nat_le n 64) high.x high.gave)), ok n m high.then_gave)
+asked : (at n m : ℕ) → as_size at n ≡ Ok m → IsWidth n × (n ≡ m)
+asked at n m h =
+    let low = bound (unless Index at (nat_le 1 n)) _ m h in
+    let high = bound (unless TooWide at (nat_le n 64)) _ m low.then_gave in
+    ((leb-true 1 n (kept Index at (nat_le 1 n) low.x low.gave), leb-true n 64 (kept TooWide at (nat_le n 64) high.x high.gave)), ok n m high.then_gave)
 
-pub size_is_width : (at : Integers) (s : Static) (n : ℕ) → size_of at s ≡ Ok n → IsWidth n
+pub size_is_width : (here : Integers) (at : ℕ) (s : Static) (n : ℕ) → size_of here at s ≡ Ok n → IsWidth n
 unfolding size_of
-size_is_width at s n h =
-    let m = bound (natural at s) _ n h in
-    let a = asked m.x n m.then_gave in
+size_is_width here at s n h =
+    let m = bound (natural here at s) _ n h in
+    let a = asked at m.x n m.then_gave in
     subst IsWidth a.1 a.0
 
-pub count_is_count : (op : Counted) (at : Integers) (s : Static) (n : ℕ) → count_of op at s ≡ Ok n → IsCount op n
+pub count_is_count : (op : Counted) (here : Integers) (at : ℕ) (s : Static) (n : ℕ) → count_of op here at s ≡ Ok n → IsCount op n
 unfolding count_of
-count_is_count Resize at s n h = size_is_width at s n h
-count_is_count ShiftLeft at s n h = tt
-count_is_count ShiftRight at s n h = tt
+count_is_count Resize here at s n h = size_is_width here at s n h
+count_is_count ShiftLeft here at s n h = tt
+count_is_count ShiftRight here at s n h = tt
 
 -- ---- operators
 
@@ -85,37 +85,37 @@ sum-is_width : (m n : ℕ) → IsWidth m → nat_le (m + n) 64 ≡ true → IsWi
 sum-is_width m n h g = let a : 1 ≤ m = h.0 in (omega (arith, a), leb-true (m + n) 64 g)
 
 -- an operator but the logical ones
-arithmetic : (at : Site) (op : Numeric) (s t : Shape) (d e r : bodies.Expr) → IsVector at s d → IsVector at t e → operation_on (numeric op) d e ≡ Ok r → IsVector at vector r
-arithmetic at Add s t d e r h g m =
-    let w = max-is_width (width d) (width e) (vector_width at s d h) (vector_width at t e g) in
-    subst (IsVector at vector) (ok (bodies.binary bodies.plus d e) r m) (record { of_elements = refl; fits = (w, h.fits, g.fits, tt); width = w })
-arithmetic at Subtract s t d e r h g m =
-    let w = max-is_width (width d) (width e) (vector_width at s d h) (vector_width at t e g) in
-    subst (IsVector at vector) (ok (bodies.binary bodies.minus d e) r m) (record { of_elements = refl; fits = (w, h.fits, g.fits, tt); width = w })
-arithmetic at Multiply s t d e r h g m =
-    let fit = bound (operands_fit bodies.times (width d) (width e)) _ r m in
-    let w = sum-is_width (width d) (width e) (vector_width at s d h) (kept TooWide (nat_le (width d + width e) 64) fit.x fit.gave) in
-    subst (IsVector at vector) (ok (bodies.binary bodies.times d e) r fit.then_gave) (record { of_elements = refl; fits = (w, h.fits, g.fits, tt); width = w })
+arithmetic : (here : Site) (at : ℕ) (op : Numeric) (s t : Shape) (d e r : bodies.Expr) → IsVector here s d → IsVector here t e → operation_on at (numeric op) d e ≡ Ok r → IsVector here vector r
+arithmetic here at Add s t d e r h g m =
+    let w = max-is_width (width d) (width e) (vector_width here s d h) (vector_width here t e g) in
+    subst (IsVector here vector) (ok (bodies.binary bodies.plus d e) r m) (record { of_elements = refl; fits = (w, h.fits, g.fits, tt); width = w })
+arithmetic here at Subtract s t d e r h g m =
+    let w = max-is_width (width d) (width e) (vector_width here s d h) (vector_width here t e g) in
+    subst (IsVector here vector) (ok (bodies.binary bodies.minus d e) r m) (record { of_elements = refl; fits = (w, h.fits, g.fits, tt); width = w })
+arithmetic here at Multiply s t d e r h g m =
+    let fit = bound (operands_fit at bodies.times (width d) (width e)) _ r m in
+    let w = sum-is_width (width d) (width e) (vector_width here s d h) (kept TooWide at (nat_le (width d + width e) 64) fit.x fit.gave) in
+    subst (IsVector here vector) (ok (bodies.binary bodies.times d e) r fit.then_gave) (record { of_elements = refl; fits = (w, h.fits, g.fits, tt); width = w })
 
-operated-fits : (at : Site) (op : VectorOperator) (s t z : Shape) (d e r : bodies.Expr) → IsVector at s d → IsVector at t e → operated_shape op s t ≡ Some z → operation_on (operator op) d e ≡ Ok r
-    → IsVector at z r
-operated-fits at (v.Logical op) s t z d e r h g k m =
-    let fit = bound (operands_fit (bodies.logical op) (width d) (width e)) _ r m in
-    let same : width d ≡ width e = eqb-true (width d) (width e) (kept (Length (width d) (width e)) (width d == width e) fit.x fit.gave) in
-    subst (λ (y : Shape). IsVector at y r) (given_some (same_shape s t && is_elements s) s z k).1
-    (subst (IsVector at s) (ok (bodies.binary (bodies.logical op) d e) r fit.then_gave)
-    (record { of_elements = h.of_elements; fits = (vector_width at s d h, h.fits, g.fits, same); width = h.width }))
-operated-fits at v.Concatenate s t z d e r h g k m =
-    let fit = bound (operands_fit bodies.joined (width d) (width e)) _ r m in
-    let w = sum-is_width (width d) (width e) (vector_width at s d h) (kept TooWide (nat_le (width d + width e) 64) fit.x fit.gave) in
-    subst (λ (y : Shape). IsVector at y r) (given_some (is_elements s && is_elements t) vector z k).1
-    (subst (IsVector at vector) (ok (bodies.binary bodies.joined d e) r fit.then_gave) (record { of_elements = refl; fits = (w, h.fits, g.fits, tt); width = w }))
-operated-fits at (v.Arithmetic op) s t z d e r h g k m =
-    subst (λ (y : Shape). IsVector at y r) (given_some (is_vector s && is_vector t) vector z k).1 (arithmetic at op s t d e r h g m)
+operated-fits : (here : Site) (at : ℕ) (op : VectorOperator) (s t z : Shape) (d e r : bodies.Expr) → IsVector here s d → IsVector here t e → operated_shape op s t ≡ Some z → operation_on at (operator op) d e ≡ Ok r
+    → IsVector here z r
+operated-fits here at (v.Logical op) s t z d e r h g k m =
+    let fit = bound (operands_fit at (bodies.logical op) (width d) (width e)) _ r m in
+    let same : width d ≡ width e = eqb-true (width d) (width e) (kept (Length (width d) (width e)) at (width d == width e) fit.x fit.gave) in
+    subst (λ (y : Shape). IsVector here y r) (given_some (same_shape s t && is_elements s) s z k).1
+    (subst (IsVector here s) (ok (bodies.binary (bodies.logical op) d e) r fit.then_gave)
+    (record { of_elements = h.of_elements; fits = (vector_width here s d h, h.fits, g.fits, same); width = h.width }))
+operated-fits here at v.Concatenate s t z d e r h g k m =
+    let fit = bound (operands_fit at bodies.joined (width d) (width e)) _ r m in
+    let w = sum-is_width (width d) (width e) (vector_width here s d h) (kept TooWide at (nat_le (width d + width e) 64) fit.x fit.gave) in
+    subst (λ (y : Shape). IsVector here y r) (given_some (is_elements s && is_elements t) vector z k).1
+    (subst (IsVector here vector) (ok (bodies.binary bodies.joined d e) r fit.then_gave) (record { of_elements = refl; fits = (w, h.fits, g.fits, tt); width = w }))
+operated-fits here at (v.Arithmetic op) s t z d e r h g k m =
+    subst (λ (y : Shape). IsVector here y r) (given_some (is_vector s && is_vector t) vector z k).1 (arithmetic here at op s t d e r h g m)
 
 -- a number with as many digits as what stands beside it
-beside : (at : Site) (s : Shape) (e : bodies.Expr) (n : ℕ) → IsVector at s e → IsVector at vector (bodies.constant (digits_of (width e) n))
-beside at s e n h = constant_vector at (digits_of (width e) n) (subst IsWidth (sym (length-digits_of (width e) n)) (vector_width at s e h))
+beside : (here : Site) (s : Shape) (e : bodies.Expr) (n : ℕ) → IsVector here s e → IsVector here vector (bodies.constant (digits_of (width e) n))
+beside here s e n h = constant_vector here (digits_of (width e) n) (subst IsWidth (sym (length-digits_of (width e) n)) (vector_width here s e h))
 
 -- with a static integer: a vector's shape, and what comes of it
 record WithStatic (i : Inside) (v : Vector) (z : Shape) : Type 0 where
@@ -130,24 +130,24 @@ static-shape i v s z h =
 
 -- ---- names
 
-pub named : (at : Site) (s : Shape) (es : List ℕ) → is_elements s ≡ true → IsName at s es → IsVector at s (bodies.signal es)
-named at s es h n = record {
+pub named : (here : Site) (s : Shape) (es : List ℕ) → is_elements s ≡ true → IsName here s es → IsVector here s (bodies.signal es)
+named here s es h n = record {
   of_elements = h;
   fits = (is_width s (length es) n.width, subst (λ (t : ElementType). Typed t) (elements_are_nine s h) n.typed);
   width = n.width;
 }
   where
     Typed : ElementType → Type 0
-    Typed t = All (HasType (scope_at at).nets t) es
+    Typed t = All (HasType (scope_at here).nets t) es
 
-constant-values : (i : Inside) (at : Site) (n : ℕ) (part : Part) (f : Form) (s : Shape) (vs : List Nine) → IsSite i at → slice_get i.constants n ≡ Some f → part_shape i f part ≡ Some s
-    → constant_values at n part ≡ Ok vs → HasShape s (length vs)
+constant-values : (i : Inside) (here : Site) (at n : ℕ) (part : Part) (f : Form) (s : Shape) (vs : List Nine) → IsSite i here → slice_get i.constants n ≡ Some f → part_shape i f part ≡ Some s
+    → constant_values here at n part ≡ Ok vs → HasShape s (length vs)
 unfolding constant_values
-constant-values i at n part f s vs h e g m =
-    let c = bound (item_or Index (slice_get at.constants n)) _ vs m in
-    let ps = bound (places at.integers c.x.kind part) _ vs c.then_gave in
-    let is = zip_at IsConstant i.constants at.constants n f c.x h.constants e (was_found Index (slice_get at.constants n) c.x c.gave) in
-    let w = part_places i at.integers f c.x.kind part s ps.x is g ps.gave in
+constant-values i here at n part f s vs h e g m =
+    let c = bound (item_or Index at (slice_get here.constants n)) _ vs m in
+    let ps = bound (places here.integers at c.x.kind part) _ vs c.then_gave in
+    let is = zip_at IsConstant i.constants here.constants n f c.x h.constants e (was_found Index at (slice_get here.constants n) c.x c.gave) in
+    let w = part_places i here.integers at f c.x.kind part s ps.x is g ps.gave in
     subst (λ (ws : List Nine). HasShape s (length ws)) (ok (map (λ p. slice_index_or c.x.values p X) ps.x) vs ps.then_gave)
     (subst (HasShape s) (sym (length-map ps.x (λ p. slice_index_or c.x.values p X))) w.width)
 
@@ -155,79 +155,79 @@ constant-values i at n part f s vs h e g m =
 
 pub each-vector-fits : EachVectorFits
 unfolding x.vector
-each-vector-fits i at (u.of_signal p) s e h k m =
+each-vector-fits i here (u.of_signal p) s e h k m =
     let z = step (place_shape i p) _ s k in
     let w = given_some (is_elements z.x) z.x s z.then_gave in
-    let es = bound (place_elements at p) _ e m in
-    subst (λ (y : Shape). IsVector at y e) w.1
-    (subst (IsVector at z.x) (ok (bodies.signal es.x) e es.then_gave) (named at z.x es.x w.0 (each-name-fits i at p z.x es.x h z.gave es.gave)))
-each-vector-fits i at (u.of_variable n part) s e h k m =
+    let es = bound (place_elements here p) _ e m in
+    subst (λ (y : Shape). IsVector here y e) w.1
+    (subst (IsVector here z.x) (ok (bodies.signal es.x) e es.then_gave) (named here z.x es.x w.0 (each-name-fits i here p z.x es.x h z.gave es.gave)))
+each-vector-fits i here (u.of_variable at n part) s e h k m =
     let f = step (slice_get i.variables n) _ s k in
     let z = step (part_shape i f.x part) _ s f.then_gave in
     let w = given_some (is_elements z.x) z.x s z.then_gave in
-    let es = bound (variable_elements at n part) _ e m in
-    let q = variable_fits i at n part f.x z.x es.x h f.gave z.gave es.gave in
-    subst (λ (y : Shape). IsVector at y e) w.1
-    (subst (IsVector at z.x) (ok (bodies.variable es.x) e es.then_gave) (record {
+    let es = bound (variable_elements here at n part) _ e m in
+    let q = variable_fits i here at n part f.x z.x es.x h f.gave z.gave es.gave in
+    subst (λ (y : Shape). IsVector here y e) w.1
+    (subst (IsVector here z.x) (ok (bodies.variable es.x) e es.then_gave) (record {
       of_elements = w.0;
-      fits = (is_width z.x (length es.x) q.width, subst (λ (t : ElementType). All (HasType (kinds_types at.variables) t) es.x) (elements_are_nine z.x w.0) q.typed);
+      fits = (is_width z.x (length es.x) q.width, subst (λ (t : ElementType). All (HasType (kinds_types here.variables) t) es.x) (elements_are_nine z.x w.0) q.typed);
       width = q.width;
     }))
-each-vector-fits i at (u.of_constant n part) s e h k m =
+each-vector-fits i here (u.of_constant at n part) s e h k m =
     let f = step (slice_get i.constants n) _ s k in
     let z = step (part_shape i f.x part) _ s f.then_gave in
     let w = given_some (is_elements z.x) z.x s z.then_gave in
-    let vs = bound (constant_values at n part) _ e m in
-    let q = constant-values i at n part f.x z.x vs.x h f.gave z.gave vs.gave in
-    subst (λ (y : Shape). IsVector at y e) w.1
-    (subst (IsVector at z.x) (ok (bodies.constant vs.x) e vs.then_gave) (record { of_elements = w.0; fits = is_width z.x (length vs.x) q; width = q }))
-each-vector-fits i at (u.character x) s e h k m =
-    subst (λ (y : Shape). IsVector at y e) (same_Some one s k) (subst (IsVector at one) (ok (bodies.constant (x ∷ [])) e m) (one_character at x))
-each-vector-fits i at (u.enclosed_character x) s e h k m =
-    subst (λ (y : Shape). IsVector at y e) (same_Some one s k) (subst (IsVector at one) (ok (bodies.constant (x ∷ [])) e m) (one_character at x))
-each-vector-fits i at (u.Vector.literal xs) s e h k m =
-    let n = bound (as_size (length xs)) _ e m in
-    subst (λ (y : Shape). IsVector at y e) (same_Some vector s k)
-    (subst (IsVector at vector) (ok (bodies.constant xs) e n.then_gave) (constant_vector at xs (asked (length xs) n.x n.gave).0))
-each-vector-fits i at (u.Vector.inverse v) s e h k m =
-    let d = bound (x.vector at v) _ e m in
-    let w = each-vector-fits i at v s d.x h k d.gave in
-    subst (IsVector at s) (ok (bodies.inverse d.x) e d.then_gave) (record { of_elements = w.of_elements; fits = w.fits; width = w.width })
-each-vector-fits i at (u.Vector.binary op v w) s e h k m =
+    let vs = bound (constant_values here at n part) _ e m in
+    let q = constant-values i here at n part f.x z.x vs.x h f.gave z.gave vs.gave in
+    subst (λ (y : Shape). IsVector here y e) w.1
+    (subst (IsVector here z.x) (ok (bodies.constant vs.x) e vs.then_gave) (record { of_elements = w.0; fits = is_width z.x (length vs.x) q; width = q }))
+each-vector-fits i here (u.character x) s e h k m =
+    subst (λ (y : Shape). IsVector here y e) (same_Some one s k) (subst (IsVector here one) (ok (bodies.constant (x ∷ [])) e m) (one_character here x))
+each-vector-fits i here (u.enclosed_character x) s e h k m =
+    subst (λ (y : Shape). IsVector here y e) (same_Some one s k) (subst (IsVector here one) (ok (bodies.constant (x ∷ [])) e m) (one_character here x))
+each-vector-fits i here (u.Vector.literal at xs) s e h k m =
+    let n = bound (as_size at (length xs)) _ e m in
+    subst (λ (y : Shape). IsVector here y e) (same_Some vector s k)
+    (subst (IsVector here vector) (ok (bodies.constant xs) e n.then_gave) (constant_vector here xs (asked at (length xs) n.x n.gave).0))
+each-vector-fits i here (u.Vector.inverse v) s e h k m =
+    let d = bound (x.vector here v) _ e m in
+    let w = each-vector-fits i here v s d.x h k d.gave in
+    subst (IsVector here s) (ok (bodies.inverse d.x) e d.then_gave) (record { of_elements = w.of_elements; fits = w.fits; width = w.width })
+each-vector-fits i here (u.Vector.binary at op v w) s e h k m =
     let y = step (vector_shape i v) _ s k in
     let z = step (vector_shape i w) _ s y.then_gave in
-    let c = bound (x.vector at v) _ e m in
-    let d = bound (x.vector at w) _ e c.then_gave in
-    operated-fits at op y.x z.x s c.x d.x e (each-vector-fits i at v y.x c.x h y.gave c.gave) (each-vector-fits i at w z.x d.x h z.gave d.gave) z.then_gave d.then_gave
-each-vector-fits i at (u.with_integer op v n) s e h k m =
+    let c = bound (x.vector here v) _ e m in
+    let d = bound (x.vector here w) _ e c.then_gave in
+    operated-fits here at op y.x z.x s c.x d.x e (each-vector-fits i here v y.x c.x h y.gave c.gave) (each-vector-fits i here w z.x d.x h z.gave d.gave) z.then_gave d.then_gave
+each-vector-fits i here (u.with_integer at op v n) s e h k m =
     let y = static-shape i v n s k in
-    let c = bound (x.vector at v) _ e m in
-    let j = bound (natural at.integers n) _ e c.then_gave in
-    let w = each-vector-fits i at v y.shape c.x h y.is c.gave in
-    subst (λ (q : Shape). IsVector at q e) y.result
-    (arithmetic at op y.shape vector c.x (bodies.constant (digits_of (width c.x) j.x)) e w (beside at y.shape c.x j.x w) j.then_gave)
-each-vector-fits i at (u.integer_with op n v) s e h k m =
+    let c = bound (x.vector here v) _ e m in
+    let j = bound (natural here.integers at n) _ e c.then_gave in
+    let w = each-vector-fits i here v y.shape c.x h y.is c.gave in
+    subst (λ (q : Shape). IsVector here q e) y.result
+    (arithmetic here at op y.shape vector c.x (bodies.constant (digits_of (width c.x) j.x)) e w (beside here y.shape c.x j.x w) j.then_gave)
+each-vector-fits i here (u.integer_with at op n v) s e h k m =
     let y = static-shape i v n s k in
-    let j = bound (natural at.integers n) _ e m in
-    let c = bound (x.vector at v) _ e j.then_gave in
-    let w = each-vector-fits i at v y.shape c.x h y.is c.gave in
-    subst (λ (q : Shape). IsVector at q e) y.result
-    (arithmetic at op vector y.shape (bodies.constant (digits_of (width c.x) j.x)) c.x e (beside at y.shape c.x j.x w) w c.then_gave)
-each-vector-fits i at (u.Vector.encoded n size) s e h k m =
-    let j = bound (natural at.integers n) _ e m in
-    let len = bound (size_of at.integers size) _ e j.then_gave in
-    subst (λ (q : Shape). IsVector at q e) (given_some (static_fits i n && static_fits i size) vector s k).1
-    (subst (IsVector at vector) (ok (bodies.constant (digits_of len.x j.x)) e len.then_gave)
-    (constant_vector at (digits_of len.x j.x) (subst IsWidth (sym (length-digits_of len.x j.x)) (size_is_width at.integers size len.x len.gave))))
-each-vector-fits i at (u.counted op v n) s e h k m =
+    let j = bound (natural here.integers at n) _ e m in
+    let c = bound (x.vector here v) _ e j.then_gave in
+    let w = each-vector-fits i here v y.shape c.x h y.is c.gave in
+    subst (λ (q : Shape). IsVector here q e) y.result
+    (arithmetic here at op vector y.shape (bodies.constant (digits_of (width c.x) j.x)) c.x e (beside here y.shape c.x j.x w) w c.then_gave)
+each-vector-fits i here (u.Vector.encoded at n size) s e h k m =
+    let j = bound (natural here.integers at n) _ e m in
+    let len = bound (size_of here.integers at size) _ e j.then_gave in
+    subst (λ (q : Shape). IsVector here q e) (given_some (static_fits i n && static_fits i size) vector s k).1
+    (subst (IsVector here vector) (ok (bodies.constant (digits_of len.x j.x)) e len.then_gave)
+    (constant_vector here (digits_of len.x j.x) (subst IsWidth (sym (length-digits_of len.x j.x)) (size_is_width here.integers at size len.x len.gave))))
+each-vector-fits i here (u.counted at op v n) s e h k m =
     let y = static-shape i v n s k in
-    let c = bound (x.vector at v) _ e m in
-    let j = bound (count_of op at.integers n) _ e c.then_gave in
-    let w = each-vector-fits i at v y.shape c.x h y.is c.gave in
-    let q = count_is_count op at.integers n j.x j.gave in
-    subst (λ (z : Shape). IsVector at z e) y.result
-    (subst (IsVector at vector) (ok (bodies.counted op j.x c.x) e j.then_gave) (record {
+    let c = bound (x.vector here v) _ e m in
+    let j = bound (count_of op here.integers at n) _ e c.then_gave in
+    let w = each-vector-fits i here v y.shape c.x h y.is c.gave in
+    let q = count_is_count op here.integers at n j.x j.gave in
+    subst (λ (z : Shape). IsVector here z e) y.result
+    (subst (IsVector here vector) (ok (bodies.counted op j.x c.x) e j.then_gave) (record {
       of_elements = refl;
       fits = (q, w.fits);
-      width = counted_within op j.x (width c.x) q (vector_width at y.shape c.x w);
+      width = counted_within op j.x (width c.x) q (vector_width here y.shape c.x w);
     }))

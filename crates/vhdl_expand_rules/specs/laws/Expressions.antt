@@ -48,7 +48,7 @@ pub record IsValue (here : Site) (s : Shape) (v : bodies.Value) : Type 0 where
 -- where a value of this shape is asked for
 abbrev pub EachValueFits : Type 0
 EachValueFits =
-    (i : Inside) (here : Site) (v : Value) (s : Shape) (e : bodies.Value) → IsSite i here → value_fits i s v ≡ true → x.value here v ≡ Ok e
+    (i : Inside) (here : Site) (at : ℕ) (v : Value) (s : Shape) (e : bodies.Value) → IsSite i here → value_fits i s v ≡ true → x.value here at v ≡ Ok e
     → IsValue here s e
 
 abbrev pub EachTestFits : Type 0

@@ -1,5 +1,5 @@
 -- Concurrent statements in the order in which the code comes to their parts.
-use Rattle.std.specs.Prelude.{List, ◌∷◌, Option, Some, option_map, Vec}
+use Rattle.std.specs.Prelude.{ℕ, List, ◌∷◌, Option, Some, option_map, Vec}
 use Rattle.std.specs.Global.{Global}
 use Rattle.vhdl_tree.specs.Tree as t
 use Rattle.vhdl_tree.specs.Tree.{Ident}
@@ -30,7 +30,7 @@ module _ (instance : Sight → Ident → t.Instance → Option u.Instance) where
       rule WrongKind (ends label.text end)
       rule Twice (are_distinct (concurrent_labels cs))
       body ← concurrents (sight_within sight scheme) cs
-      generated sight label.text scheme body
+      generated sight label.text at scheme body
 
     pub concurrents : Sight → t.Concurrents → Option u.Concurrents
     concurrents sight t.no_concurrents = Some u.no_concurrents
@@ -46,8 +46,9 @@ module _ (instance : Sight → Ident → t.Instance → Option u.Instance) where
   abbrev pub labelled : Sight → List t.Concurrent → Option (List u.Concurrent)
   labelled sight cs = rule Twice (are_distinct (concurrent_labels (t.concurrents_of cs))) >> all sight cs
 
-  abbrev pub generate : Sight → Ident → t.Scheme → List t.Concurrent → Option Ident → Option u.Concurrent
-  generate sight label scheme cs end = do
+  -- a generate whose scheme starts at this byte
+  abbrev pub generate : Sight → Ident → (at : ℕ) → t.Scheme → List t.Concurrent → Option Ident → Option u.Concurrent
+  generate sight label at scheme cs end = do
     xs ← labelled (sight_within sight scheme) cs
     rule WrongKind (ends label.text end)
-    generated sight label.text scheme (concurrents_of xs)
+    generated sight label.text at scheme (concurrents_of xs)

@@ -29,4 +29,4 @@ process sight label p = do
   w ← variables_in sight p.variables
   b ← body w.0 p.statements
   rule WrongKind (label_ends label p.end_label)
-  Some (record { label = label_of label; variables = w.1; sensitivity = on; body = b })
+  Some (record { at = p.at; label = label_of label; variables = w.1; sensitivity = on; body = b })

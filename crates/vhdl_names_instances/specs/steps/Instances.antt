@@ -36,7 +36,7 @@ with_formals sight label k e as' bs = do
   generics ← each (if_any (static sight)) gs
   ps ← associated e.ports bs
   ports ← port_actuals sight e.port_types ps
-  Some (record { label = label.text; unit = k; generics = generics; ports = ports })
+  Some (record { at = label.at; label = label.text; unit = k; generics = generics; ports = ports })
 
 abbrev pub instance : List Name → List Seen → Sight → Ident → t.Instance → Option u.Instance
 instance names seens sight label i = do

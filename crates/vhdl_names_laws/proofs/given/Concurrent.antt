@@ -1,5 +1,5 @@
 -- Concurrent statements that break no rule are given (IEEE 1076-2008, clause 11).
-use Rattle.std.proofs.Common.{◌≡◌, true, List, [], ◌∷◌, ◌++◌, map, Option, Some, None, refl, ap, sym, ◌∙◌}
+use Rattle.std.proofs.Common.{◌≡◌, ℕ, true, List, [], ◌∷◌, ◌++◌, map, Option, Some, None, refl, ap, sym, ◌∙◌}
 use Rattle.std.specs.Prelude.{option_map}
 use Rattle.std.proofs.lemmas.List.{length-map}
 use Rattle.vhdl_tree.specs.Tree as t
@@ -58,10 +58,10 @@ module _ (sight : Sight) (n : t.Name) (x : SignalName) (is : target sight n ≡ 
       (bound (are.branches sight x bs o) (λ rest. Some (s.branch e.value (alone y.value) rest)) rest.value rest.is (this (s.branch e.value (alone y.value) rest.value))))
 
   body_given : (bs : List t.Branch) (o : Option t.Value) → IsKept (any_of (broken.branch sight n) bs) → IsKept (of_any (sequential.assigned sight n) o)
-      → IsGiven (are.assignment_body sight x bs o)
+      → IsGiven (are.assignment_body sight n.identifier.at x bs o)
   body_given [] (Some v) h l = value_is sight n x v is l
-  body_given [] None h l = mapped_given s.if_of (are.branches sight x [] None) (branches_given [] None h l)
-  body_given (b ∷ bs) o h l = mapped_given s.if_of (are.branches sight x (b ∷ bs) o) (branches_given (b ∷ bs) o h l)
+  body_given [] None h l = mapped_given (s.if_of n.identifier.at) (are.branches sight x [] None) (branches_given [] None h l)
+  body_given (b ∷ bs) o h l = mapped_given (s.if_of n.identifier.at) (are.branches sight x (b ∷ bs) o) (branches_given (b ∷ bs) o h l)
 
   waveforms_given : (type : ObjectType) (ws : List t.Waveform) → IsKept (any_of (broken.waveform sight type n) ws)
       → IsGiven (each (λ (w : t.Waveform). option_map alone (are.assigned sight x w.value)) ws)
@@ -81,7 +81,8 @@ assignment_given sight a h =
     let x = target_given sight a.target k.0 in
     let body = body_given sight a.target x.value x.is a.branches a.otherwise l.0 l.1 in
     bound (target sight a.target) _ x.value x.is
-    (bound (are.assignment_body sight x.value a.branches a.otherwise) (λ body. Some (assigning a.label body)) body.value body.is (this (assigning a.label body.value)))
+    (bound (are.assignment_body sight a.target.identifier.at x.value a.branches a.otherwise) (λ body. Some (assigning a.target.identifier.at a.label body)) body.value body.is
+    (this (assigning a.target.identifier.at a.label body.value)))
 
 -- the choices of waveforms
 choices_of_waveforms : (sight : Sight) (type : ObjectType) (n : t.Name) (ws : List t.Waveform) → IsKept (any_of (broken.waveform sight type n) ws)
@@ -114,7 +115,7 @@ selected_is sight label a h =
     (bound (target sight a.target) _ x.value x.is
     (bound (covered sight type lists) _ cs.value (covered_is sight type a.at lists (any_of (broken.waveform sight type a.target) a.waveforms) cs.value cs.is l.0)
     (bound (each (λ (w : t.Waveform). option_map alone (are.assigned sight x.value w.value)) a.waveforms) _ bodies.value bodies.is
-    (bound (arranged cs.value bodies.value) (λ all. Some (assigning label (s.case_of c.by.1 all))) all.value all.is (this (assigning label (s.case_of c.by.1 all.value))))))))
+    (bound (arranged cs.value bodies.value) (λ all. Some (assigning a.at label (s.case_of a.at c.by.1 all))) all.value all.is (this (assigning a.at label (s.case_of a.at c.by.1 all.value))))))))
 
 -- ---- processes
 
@@ -154,10 +155,10 @@ process_given sight label p none h =
 
 -- ---- all statements
 
-generated_given : (sight : Sight) (label : Name) (o : t.Scheme) (body : u.Concurrents) → IsKept (broken.scheme sight o) → IsGiven (are.generated sight label o body)
-generated_given sight label (t.for_each n r) body h = mapped_given (λ range. u.generate_for label range body) (static_range sight r) (static_range_given sight r h)
-generated_given sight label (t.if_holds e) body h =
-    mapped_given (λ test. u.generate_if label test body) (typed sight e >>= as_static_test) (static_condition_given sight e h)
+generated_given : (sight : Sight) (label : Name) (at : ℕ) (o : t.Scheme) (body : u.Concurrents) → IsKept (broken.scheme sight o) → IsGiven (are.generated sight label at o body)
+generated_given sight label at (t.for_each n r) body h = mapped_given (λ range. u.generate_for at label range body) (static_range sight r) (static_range_given sight r h)
+generated_given sight label at (t.if_holds e) body h =
+    mapped_given (λ test. u.generate_if at label test body) (typed sight e >>= as_static_test) (static_condition_given sight e h)
 
 -- a generate has no variables in sight
 variables_within : (sight : Sight) (s : t.Scheme) → sight.variables ≡ [] → (sight_within sight s).variables ≡ []
@@ -180,8 +181,8 @@ mutual
       let body = concurrents_given cs entities inner (variables_within sight scheme none) (among_right (twice [] (labels.labels_of cs)) (broken.concurrents entities inner cs) l.0) in
       ruled (ends label.text end) _ (end_name_given label end l.1)
       (ruled (are_distinct (concurrent_labels cs)) _ (labels_distinct cs (among_left (twice [] (labels.labels_of cs)) (broken.concurrents entities inner cs) l.0))
-      (bound (are.concurrents entities inner cs) (are.generated sight label.text scheme) body.value body.is
-      (generated_given sight label.text scheme body.value k.0)))
+      (bound (are.concurrents entities inner cs) (are.generated sight label.text at scheme) body.value body.is
+      (generated_given sight label.text at scheme body.value k.0)))
 
   pub concurrents_given : (cs : t.Concurrents) (entities : List EntityView) (sight : Sight) → sight.variables ≡ [] → IsKept (broken.concurrents entities sight cs)
       → IsGiven (are.concurrents entities sight cs)

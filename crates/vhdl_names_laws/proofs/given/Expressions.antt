@@ -39,16 +39,16 @@ attributed_given at (Some a) x h =
     (bound (edge_signal x) (λ p. Some (o.truth (u.event p))) g.value g.is (this (o.truth (u.event g.value))))
 
 named_given : (sight : Sight) (n : Ident) (a : Option Ident) (q : Option Suffix) (s : Suffix) → q ≡ Some s → IsKept (broken.meaning sight n) → IsKept (broken.named sight n q a)
-    → IsGiven (visibility.meaning sight n.text >>= λ d. denoted d s >>= attributed a)
+    → IsGiven (visibility.meaning sight n.text >>= λ d. denoted n.at d s >>= attributed a)
 named_given sight n a q s e m h =
     let d = meaning_given sight n m in
     let w = of_given (broken.with_suffix n.at a d.value) q s e
     (of_given (λ d. where_given q (broken.with_suffix n.at a d)) (visibility.meaning sight n.text) d.value d.is h) in
     let k = parts _ _ w in
-    let l = parts (lacking (name_problem d.value s) n.at (denoted d.value s)) (where_given (denoted d.value s) (broken.attributed n.at a)) k.1 in
-    let x = given (name_problem d.value s) n.at (denoted d.value s) l.0 in
-    let y = attributed_given n.at a x.value (of_given (broken.attributed n.at a) (denoted d.value s) x.value x.is l.1) in
-    bound (visibility.meaning sight n.text) (λ d. denoted d s >>= attributed a) d.value d.is (bound (denoted d.value s) (attributed a) x.value x.is y)
+    let l = parts (lacking (name_problem d.value s) n.at (denoted n.at d.value s)) (where_given (denoted n.at d.value s) (broken.attributed n.at a)) k.1 in
+    let x = given (name_problem d.value s) n.at (denoted n.at d.value s) l.0 in
+    let y = attributed_given n.at a x.value (of_given (broken.attributed n.at a) (denoted n.at d.value s) x.value x.is l.1) in
+    bound (visibility.meaning sight n.text) (λ d. denoted n.at d s >>= attributed a) d.value d.is (bound (denoted n.at d.value s) (attributed a) x.value x.is y)
 
 -- ---- expressions
 
@@ -62,14 +62,14 @@ mutual
   typed_given (t.integer at text) sight h = mapped_given (λ n. o.integer (u.number n)) (number_of text) (given LeftOut at (number_of text) h)
   typed_given (t.character at c) sight h = mapped_given (λ v. o.elements Element (u.character v)) (nine_of c) (given TypeMismatch at (nine_of c) h)
   typed_given (t.string at text) sight h =
-      mapped_given (λ vs. o.elements OpenVector (u.Vector.literal vs)) (values_of_string text) (given (string_problem text) at (values_of_string text) h)
+      mapped_given (λ vs. o.elements OpenVector (u.Vector.literal at vs)) (values_of_string text) (given (string_problem text) at (values_of_string text) h)
   typed_given (t.bits at text) sight h =
-      mapped_given (λ vs. o.elements OpenVector (u.Vector.literal vs)) (values_of_bits text) (given LeftOut at (values_of_bits text) h)
+      mapped_given (λ vs. o.elements OpenVector (u.Vector.literal at vs)) (values_of_bits text) (given LeftOut at (values_of_bits text) h)
   typed_given (t.named n suffix a) sight h =
       let k = parts _ _ h in
       let l = parts _ _ k.1 in
       let s = suffix_given suffix sight l.0 in
-      bound (are.typed_suffix sight suffix) (λ s. visibility.meaning sight n.text >>= λ d. denoted d s >>= attributed a) s.value s.is
+      bound (are.typed_suffix sight suffix) (λ s. visibility.meaning sight n.text >>= λ d. denoted n.at d s >>= attributed a) s.value s.is
       (named_given sight n a (are.typed_suffix sight suffix) s.value s.is k.0 l.1)
   typed_given (t.parens at e) sight h = mapped_given enclosed (are.typed sight e) (typed_given e sight h)
   typed_given (t.negation at e) sight h =
@@ -80,18 +80,18 @@ mutual
       let k = parts _ _ h in
       let x = typed_given e sight k.0 in
       let s = wanted_given at (are.typed sight e) x.value x.is k.1 in
-      bound (are.typed sight e) (λ x. as_integer x >>= λ s. Some (o.integer (signed sign s))) x.value x.is
-      (bound (as_integer x.value) (λ s. Some (o.integer (signed sign s))) s.value s.is (this (o.integer (signed sign s.value))))
+      bound (are.typed sight e) (λ x. as_integer x >>= λ s. Some (o.integer (signed at sign s))) x.value x.is
+      (bound (as_integer x.value) (λ s. Some (o.integer (signed at sign s))) s.value s.is (this (o.integer (signed at sign s.value))))
   typed_given (t.binary begins op at d e) sight h =
       let k = parts _ _ h in
       let l = parts _ _ k.1 in
       let x = typed_given d sight k.0 in
       let y = typed_given e sight l.0 in
-      let w = of_given (λ y. lacking (operator_problem op x.value (beside d y)) at (operated sight.numbers op x.value (beside d y))) (are.typed sight e) y.value y.is
-      (of_given (λ x. where_given (are.typed sight e) (λ y. lacking (operator_problem op x (beside d y)) at (operated sight.numbers op x (beside d y)))) (are.typed sight d) x.value x.is l.1) in
-      bound (are.typed sight d) (λ x. are.typed sight e >>= λ y. operated sight.numbers op x (beside d y)) x.value x.is
-      (bound (are.typed sight e) (λ y. operated sight.numbers op x.value (beside d y)) y.value y.is
-      (given (operator_problem op x.value (beside d y.value)) at (operated sight.numbers op x.value (beside d y.value)) w))
+      let w = of_given (λ y. lacking (operator_problem op x.value (beside d y)) at (operated sight.numbers at op x.value (beside d y))) (are.typed sight e) y.value y.is
+      (of_given (λ x. where_given (are.typed sight e) (λ y. lacking (operator_problem op x (beside d y)) at (operated sight.numbers at op x (beside d y)))) (are.typed sight d) x.value x.is l.1) in
+      bound (are.typed sight d) (λ x. are.typed sight e >>= λ y. operated sight.numbers at op x (beside d y)) x.value x.is
+      (bound (are.typed sight e) (λ y. operated sight.numbers at op x.value (beside d y)) y.value y.is
+      (given (operator_problem op x.value (beside d y.value)) at (operated sight.numbers at op x.value (beside d y.value)) w))
 
   pub suffix_given : (s : t.Suffix) (sight : Sight) → IsKept (broken.typed_suffix sight s) → IsGiven (are.typed_suffix sight s)
   suffix_given t.plain sight h = this names.plain

@@ -50,7 +50,7 @@ object_given problem f sight n h =
 
 pub signal_given : (sight : Sight) (n : t.Name) → IsKept (broken.signal sight n) → IsGiven (are.signal sight n)
 unfolding are.signal
-signal_given sight n h = object_given signal_problem as_signal sight n h
+signal_given sight n h = object_given signal_problem (as_signal n.identifier.at) sight n h
 
 pub target_given : (sight : Sight) (n : t.Name) → IsKept (broken.target sight n) → IsGiven (are.target sight n)
 unfolding are.target
@@ -62,7 +62,7 @@ target_given sight n h =
 
 pub variable_given : (sight : Sight) (n : t.Name) → IsKept (broken.variable sight n) → IsGiven (are.variable sight n)
 unfolding are.variable
-variable_given sight n h = object_given variable_problem as_variable sight n h
+variable_given sight n h = object_given variable_problem (as_variable n.identifier.at) sight n h
 
 -- ---- assignments
 
@@ -114,16 +114,16 @@ mutual
       let k = parts _ _ h in
       let x = variable_given sight n k.0 in
       let g = value_given_given sight x.value.type v (of_given (λ x. expressions.value_given sight x.type v) (are.variable sight n) x.value x.is k.1) in
-      bound (are.variable sight n) (λ x. value_given sight x.type v >>= λ g. Some (s.set x.number x.part g)) x.value x.is
-      (bound (value_given sight x.value.type v) (λ g. Some (s.set x.value.number x.value.part g)) g.value g.is (this (s.set x.value.number x.value.part g.value)))
+      bound (are.variable sight n) (λ x. value_given sight x.type v >>= λ g. Some (s.set x.at x.number x.part g)) x.value x.is
+      (bound (value_given sight x.value.type v) (λ g. Some (s.set x.value.at x.value.number x.value.part g)) g.value g.is (this (s.set x.value.at x.value.number x.value.part g.value)))
   statement_given (t.if_of at bs o end) sight label h =
       let k = parts _ _ h in
       let l = parts _ _ k.1 in
       let last = otherwise_given o sight l.0 in
       let branches = conditionals_given bs sight last.value k.0 in
       ruled (label_ends label end) _ (end_label_given label end l.1)
-      (bound (are.otherwise sight o) (λ last. are.conditionals sight last bs >>= λ branches. Some (s.if_of branches)) last.value last.is
-      (bound (are.conditionals sight last.value bs) (λ branches. Some (s.if_of branches)) branches.value branches.is (this (s.if_of branches.value))))
+      (bound (are.otherwise sight o) (λ last. are.conditionals sight last bs >>= λ branches. Some (s.if_of at branches)) last.value last.is
+      (bound (are.conditionals sight last.value bs) (λ branches. Some (s.if_of at branches)) branches.value branches.is (this (s.if_of at branches.value))))
   statement_given (t.case_of at e alts end) sight label h =
       let k = parts _ _ h in
       let l = parts _ _ k.1 in
@@ -138,15 +138,15 @@ mutual
       (bound (covered sight type (choice_lists alts)) _ all.chosen.value
       (covered_is sight type at (choice_lists alts) (broken.alternatives sight type alts) all.chosen.value all.chosen.is c.rest)
       (bound (are.alternatives sight alts) _ all.bodies.value all.bodies.is
-      (bound (arranged all.chosen.value all.bodies.value) (λ all. Some (s.case_of c.by.1 all)) done.value done.is (this (s.case_of c.by.1 done.value)))))))
+      (bound (arranged all.chosen.value all.bodies.value) (λ all. Some (s.case_of at c.by.1 all)) done.value done.is (this (s.case_of at c.by.1 done.value)))))))
   statement_given (t.for_of at n r body end) sight label h =
       let k = parts _ _ h in
       let l = parts _ _ k.1 in
       let range = static_range_given sight r k.0 in
       let turn = statements_given body (within_loop sight n) l.0 in
       ruled (label_ends label end) _ (end_label_given label end l.1)
-      (bound (static_range sight r) (λ range. are.statements (within_loop sight n) body >>= λ turn. Some (s.for_of range turn)) range.value range.is
-      (bound (are.statements (within_loop sight n) body) (λ turn. Some (s.for_of range.value turn)) turn.value turn.is (this (s.for_of range.value turn.value))))
+      (bound (static_range sight r) (λ range. are.statements (within_loop sight n) body >>= λ turn. Some (s.for_of at range turn)) range.value range.is
+      (bound (are.statements (within_loop sight n) body) (λ turn. Some (s.for_of at range.value turn)) turn.value turn.is (this (s.for_of at range.value turn.value))))
 
   pub statements_given : (ys : t.Statements) (sight : Sight) → IsKept (broken.statements sight ys) → IsGiven (are.statements sight ys)
   statements_given t.done sight h = this s.done

@@ -31,9 +31,9 @@ use Rattle.vhdl_names_laws.proofs.placed.Labels.{labels_stand, statements_stand}
 -- ---- conditional assignments
 
 -- the branches and the last value
-record BranchesStand (P : ℕ → Type 0) (bs : List t.Branch) (o : Option t.Value) : Type 0 where
-  branches : EachStands P spell_branch bs
-  last : Stand P (spell_option spell_value o)
+pub record BranchesStand (P : ℕ → Type 0) (bs : List t.Branch) (o : Option t.Value) : Type 0 where
+  pub branches : EachStands P spell_branch bs
+  pub last : Stand P (spell_option spell_value o)
 
 otherwise_stand : (P : ℕ → Type 0) (bs : List t.Branch) (o : Option t.Value) → Stand P (spell_otherwise bs o) → BranchesStand P bs o
 otherwise_stand P [] None h = record { branches = tt; last = tt }
@@ -42,7 +42,7 @@ otherwise_stand P (b ∷ more) o h =
     let rest = otherwise_stand P more o (behind P (spell_branch b) (spell_otherwise more o) h.1) in
     record { branches = (first P (spell_branch b) (spell_otherwise more o) h.1, rest.branches); last = rest.last }
 
-waveforms_stand : (P : ℕ → Type 0) (bs : List t.Branch) (o : Option t.Value) → Stand P (spell_waveforms bs o) → BranchesStand P bs o
+pub waveforms_stand : (P : ℕ → Type 0) (bs : List t.Branch) (o : Option t.Value) → Stand P (spell_waveforms bs o) → BranchesStand P bs o
 waveforms_stand P [] None h = record { branches = tt; last = tt }
 waveforms_stand P [] (Some v) h = record { branches = tt; last = h }
 waveforms_stand P (b ∷ more) o h =

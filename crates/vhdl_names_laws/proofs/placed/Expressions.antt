@@ -74,7 +74,7 @@ no_value_told P d (range r) a h = told_nothing
 with_suffix_told : (P : ℕ → Type 0) (at : ℕ) (a : Option Ident) (d : Meaning) (s : Suffix) → P at → Stand P (spell_attribute a) → Told P (broken.with_suffix at a d s)
 with_suffix_told P at a d s h g =
     told_behind (no_value_told P d s a g)
-    (told_behind (told_lacking (name_problem d s) at (denoted d s) h) (told_given (denoted d s) (broken.attributed at a) (λ x. attributed_told P at a x h g)))
+    (told_behind (told_lacking (name_problem d s) at (denoted at d s) h) (told_given (denoted at d s) (broken.attributed at a) (λ x. attributed_told P at a x h g)))
 
 named_told : (P : ℕ → Type 0) (sight : Sight) (n : Ident) (suffix : Option Suffix) (a : Option Ident) → P n.at → Stand P (spell_attribute a) → Told P (broken.named sight n suffix a)
 named_told P sight n suffix a h g =
@@ -106,9 +106,9 @@ mutual
       let g = behind P (spell d) _ h in
       told_behind (typed_told d P sight (first P (spell d) _ h))
       (told_behind (typed_told e P sight g.1)
-      (told_given (are.typed sight d) (λ x. where_given (are.typed sight e) (λ y. lacking (operator_problem op x (beside d y)) at (operated sight.numbers op x (beside d y))))
-      (λ x. told_given (are.typed sight e) (λ y. lacking (operator_problem op x (beside d y)) at (operated sight.numbers op x (beside d y)))
-      (λ y. told_lacking (operator_problem op x (beside d y)) at (operated sight.numbers op x (beside d y)) g.0))))
+      (told_given (are.typed sight d) (λ x. where_given (are.typed sight e) (λ y. lacking (operator_problem op x (beside d y)) at (operated sight.numbers at op x (beside d y))))
+      (λ x. told_given (are.typed sight e) (λ y. lacking (operator_problem op x (beside d y)) at (operated sight.numbers at op x (beside d y)))
+      (λ y. told_lacking (operator_problem op x (beside d y)) at (operated sight.numbers at op x (beside d y)) g.0))))
 
   pub typed_suffix_told : (s : t.Suffix) (P : ℕ → Type 0) (sight : Sight) → Stand P (spell_suffix s) → Told P (broken.typed_suffix sight s)
   typed_suffix_told t.plain P sight h = told_nothing

@@ -95,7 +95,7 @@ any_port_told : (P : ℕ → Type 0) (sight : Sight) (e : Expr) → Stand P (spe
 any_port_told P sight e h [] = told_nothing
 any_port_told P sight e h (f ∷ fs) = told_behind (port_actual_told P sight f e h) (any_port_told P sight e h fs)
 
-map_stands : (P : ℕ → Type 0) (word : TokenKind) (o : Option (List Association)) → Stand P (spell_option (spell_map word) o) → EachStands P spell_association (all_of o)
+pub map_stands : (P : ℕ → Type 0) (word : TokenKind) (o : Option (List Association)) → Stand P (spell_option (spell_map word) o) → EachStands P spell_association (all_of o)
 map_stands P word None h = tt
 map_stands P word (Some as') h = list_stands P k.Comma spell_association as' (first P (spell_associations as') _ h.1.1.1)
 

@@ -20,11 +20,11 @@ use Rattle.vhdl_names_rules.specs.problems.Interfaces as broken
 use Rattle.vhdl_names_laws.proofs.placed.Told.{Stand, EachStands, first, behind, Told, told_unless, told_lacking, told_given, told_behind, list_stands}
 use Rattle.vhdl_names_laws.proofs.placed.Declarations.{ItemsStand, standing_told, end_name_told, context_told, in_order_told, generic_told, port_told}
 
-generics_stand : (P : ℕ → Type 0) (gs : Option (List t.Generic)) → Stand P (spell_option spell_generics gs) → EachStands P spell_generic (all_of gs)
+pub generics_stand : (P : ℕ → Type 0) (gs : Option (List t.Generic)) → Stand P (spell_option spell_generics gs) → EachStands P spell_generic (all_of gs)
 generics_stand P None h = tt
 generics_stand P (Some gs) h = list_stands P k.Semicolon spell_generic gs (first P (spell_list k.Semicolon spell_generic gs) _ h.1.1)
 
-ports_stand : (P : ℕ → Type 0) (ps : Option (List t.Port)) → Stand P (spell_option spell_ports ps) → EachStands P spell_port (all_of ps)
+pub ports_stand : (P : ℕ → Type 0) (ps : Option (List t.Port)) → Stand P (spell_option spell_ports ps) → EachStands P spell_port (all_of ps)
 ports_stand P None h = tt
 ports_stand P (Some ps) h = list_stands P k.Semicolon spell_port ps (first P (spell_list k.Semicolon spell_port ps) _ h.1.1)
 

@@ -41,7 +41,7 @@ more_stand : (P Q : ℕ → Type 0) → ((at : ℕ) → P at → Q at) → (ps :
 more_stand P Q more [] h = tt
 more_stand P Q more (x ∷ ps) h = (piece_more P Q more x h.0, more_stand P Q more ps h.1)
 
-all_at : (ps : List Piece) → Stand (Contains (flat_map byte_of ps)) ps
+pub all_at : (ps : List Piece) → Stand (Contains (flat_map byte_of ps)) ps
 all_at [] = tt
 all_at (x ∷ ps) = (
   piece_at x (flat_map byte_of ps),
@@ -63,7 +63,7 @@ piece_lies n (p.word_at at text) l h g = subst (λ at. at < n) g.1 h
 piece_lies n (p.literal_at at code) l h g = subst (λ at. at < n) g.1 h
 piece_lies n (p.text_at kind at text) l h g = subst (λ at. at < n) g.1 h
 
-pieces_lie : (n : ℕ) (ps : List Piece) (ls : List Lexeme) → AllByRecursion (LiesBelow n) ls → Spells ps ls [] → Stand (λ at. at < n) ps
+pub pieces_lie : (n : ℕ) (ps : List Piece) (ls : List Lexeme) → AllByRecursion (LiesBelow n) ls → Spells ps ls [] → Stand (λ at. at < n) ps
 pieces_lie n [] ls h g = tt
 pieces_lie n (x ∷ ps) [] h g = absurd g
 pieces_lie n (x ∷ ps) (l ∷ ls) h g = (piece_lies n x l h.0 g.0, pieces_lie n ps ls h.1 g.1)
@@ -77,7 +77,7 @@ led_shorter (piece ∷ pieces) text ahead (after, is, form, more) =
     omega (arith, e, l)
 
 -- each token starts before the end of the text
-tokens_lie : (ts : List Token) (source : List ℕ) (n : ℕ) (before : Option TokenKind) (at : ℕ) (text : List ℕ) → at + length text ≡ n → Cuts before at text ts
+pub tokens_lie : (ts : List Token) (source : List ℕ) (n : ℕ) (before : Option TokenKind) (at : ℕ) (text : List ℕ) → at + length text ≡ n → Cuts before at text ts
     → AllByRecursion (LiesBelow n) (lexemes source ts)
 unfolding lexeme
 tokens_lie [] source n before at text e c = tt

@@ -42,7 +42,7 @@ object_told P problem f sight n h =
     (λ d. told_given (typed_suffix sight n.suffix) (λ s. lacking (problem d) n.identifier.at (f d s)) (λ s. told_lacking (problem d) n.identifier.at (f d s) h.0)))
 
 pub signal_told : (P : ℕ → Type 0) (sight : Sight) (n : t.Name) → Stand P (spell_name n) → Told P (broken.signal sight n)
-signal_told P sight n h = object_told P signal_problem as_signal sight n h
+signal_told P sight n h = object_told P signal_problem (as_signal n.identifier.at) sight n h
 
 pub target_told : (P : ℕ → Type 0) (sight : Sight) (n : t.Name) → Stand P (spell_name n) → Told P (broken.target sight n)
 target_told P sight n h =
@@ -50,7 +50,7 @@ target_told P sight n h =
     (told_given (are.signal sight n) (λ x. unless WriteOfIn n.identifier.at (not (is_input x.mode))) (λ x. told_unless WriteOfIn n.identifier.at (not (is_input x.mode)) h.0))
 
 variable_told : (P : ℕ → Type 0) (sight : Sight) (n : t.Name) → Stand P (spell_name n) → Told P (broken.variable sight n)
-variable_told P sight n h = object_told P variable_problem as_variable sight n h
+variable_told P sight n h = object_told P variable_problem (as_variable n.identifier.at) sight n h
 
 -- ---- statements
 

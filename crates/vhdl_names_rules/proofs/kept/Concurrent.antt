@@ -63,18 +63,18 @@ branches_kept sight n x (b ∷ bs) o y is h =
       last = more.last;
     }
 
-pub body_kept : (sight : Sight) (n : t.Name) (x : SignalName) (bs : List t.Branch) (o : Option t.Value) (y : s.Statement) → target sight n ≡ Some x
-    → are.assignment_body sight x bs o ≡ Some y → BranchesKept sight n bs o
-body_kept sight n x [] (Some v) y is h = record { branches = nothing_kept; last = value_kept sight n x v y is h }
-body_kept sight n x [] None y is h = let m = mapped s.if_of (are.branches sight x [] None) y h in branches_kept sight n x [] None m.value is m.from
-body_kept sight n x (b ∷ bs) o y is h = let m = mapped s.if_of (are.branches sight x (b ∷ bs) o) y h in branches_kept sight n x (b ∷ bs) o m.value is m.from
+pub body_kept : (sight : Sight) (at : ℕ) (n : t.Name) (x : SignalName) (bs : List t.Branch) (o : Option t.Value) (y : s.Statement) → target sight n ≡ Some x
+    → are.assignment_body sight at x bs o ≡ Some y → BranchesKept sight n bs o
+body_kept sight at n x [] (Some v) y is h = record { branches = nothing_kept; last = value_kept sight n x v y is h }
+body_kept sight at n x [] None y is h = let m = mapped (s.if_of at) (are.branches sight x [] None) y h in branches_kept sight n x [] None m.value is m.from
+body_kept sight at n x (b ∷ bs) o y is h = let m = mapped (s.if_of at) (are.branches sight x (b ∷ bs) o) y h in branches_kept sight n x (b ∷ bs) o m.value is m.from
 
 pub assignment_kept : (sight : Sight) (a : t.Assignment) (y : u.Concurrent) → are.assignment sight a ≡ Some y → IsKept (broken.assignment sight a)
 unfolding are.assignment
 assignment_kept sight a y h =
     let x = comes (target sight a.target) _ y h in
-    let body = comes (are.assignment_body sight x.value a.branches a.otherwise) _ y x.rest in
-    let all = body_kept sight a.target x.value a.branches a.otherwise body.value x.is body.is in
+    let body = comes (are.assignment_body sight a.target.identifier.at x.value a.branches a.otherwise) _ y x.rest in
+    let all = body_kept sight a.target.identifier.at a.target x.value a.branches a.otherwise body.value x.is body.is in
     both_kept _ _ (target_kept sight a.target x.value x.is) (both_kept _ _ all.branches all.last)
 
 pub waveforms_kept : (sight : Sight) (type : ObjectType) (n : t.Name) (x : SignalName) (ws : List t.Waveform) (css : List (List s.Choice)) (ys : List s.Statements)
@@ -152,13 +152,13 @@ process_kept sight label p y none h =
 
 -- ---- all statements
 
-pub scheme_kept : (sight : Sight) (label : Name) (o : t.Scheme) (body : u.Concurrents) (y : u.Concurrent) → are.generated sight label o body ≡ Some y
+pub scheme_kept : (sight : Sight) (label : Name) (at : ℕ) (o : t.Scheme) (body : u.Concurrents) (y : u.Concurrent) → are.generated sight label at o body ≡ Some y
     → IsKept (broken.scheme sight o)
-scheme_kept sight label (t.for_each n r) body y h =
-    let m = mapped (λ range. u.generate_for label range body) (static_range sight r) y h in
+scheme_kept sight label at (t.for_each n r) body y h =
+    let m = mapped (λ range. u.generate_for at label range body) (static_range sight r) y h in
     static_range_kept sight r m.value m.from
-scheme_kept sight label (t.if_holds e) body y h =
-    let m = mapped (λ test. u.generate_if label test body) (typed sight e >>= as_static_test) y h in
+scheme_kept sight label at (t.if_holds e) body y h =
+    let m = mapped (λ test. u.generate_if at label test body) (typed sight e >>= as_static_test) y h in
     static_condition_kept sight e m.value m.from
 
 variables_within : (sight : Sight) (s : t.Scheme) → sight.variables ≡ [] → (sight_within sight s).variables ≡ []
@@ -182,7 +182,7 @@ mutual
       let a = kept (ends label.text end) _ x h in
       let b = kept (are_distinct (concurrent_labels cs)) _ x a.1 in
       let body = comes (are.concurrents entities (sight_within sight s) cs) _ x b.1 in
-      both_kept _ _ (scheme_kept sight label.text s body.value x body.rest)
+      both_kept _ _ (scheme_kept sight label.text at s body.value x body.rest)
       (both_kept _ _
       (among_kept _ _ (labels_kept cs b.0) (concurrents_kept cs entities (sight_within sight s) body.value (variables_within sight s none) body.is))
       (end_name_kept label end a.0))

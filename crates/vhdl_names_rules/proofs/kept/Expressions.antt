@@ -53,15 +53,15 @@ no_value_kept d plain a h = go (is_no_value d) h
 no_value_kept d (arguments b xs) a h = nothing_kept
 no_value_kept d (range r) a h = nothing_kept
 
-pub with_suffix_kept : (at : ℕ) (a : Option Ident) (d : Meaning) (s : Suffix) (x y : Typed) → denoted d s ≡ Some x → attributed a x ≡ Some y
+pub with_suffix_kept : (at : ℕ) (a : Option Ident) (d : Meaning) (s : Suffix) (x y : Typed) → denoted at d s ≡ Some x → attributed a x ≡ Some y
     → IsKept (broken.with_suffix at a d s)
 with_suffix_kept at a d s x y denoted_is attributed_is =
     both_kept _ _ (no_value_kept d s a (attribute_kept a x y attributed_is))
-    (both_kept _ _ (lacking_kept (name_problem d s) at (denoted d s) x denoted_is)
-    (given_kept (broken.attributed at a) (denoted d s) x denoted_is (attributed_kept at a x y attributed_is)))
+    (both_kept _ _ (lacking_kept (name_problem d s) at (denoted at d s) x denoted_is)
+    (given_kept (broken.attributed at a) (denoted at d s) x denoted_is (attributed_kept at a x y attributed_is)))
 
 named_kept : (sight : Sight) (n : Ident) (a : Option Ident) (o : Option Suffix) (s : Suffix) (d : Meaning) (x y : Typed) → o ≡ Some s
-    → visibility.meaning sight n.text ≡ Some d → denoted d s ≡ Some x → attributed a x ≡ Some y → IsKept (broken.named sight n o a)
+    → visibility.meaning sight n.text ≡ Some d → denoted n.at d s ≡ Some x → attributed a x ≡ Some y → IsKept (broken.named sight n o a)
 named_kept sight n a o s d x y given meant denoted_is attributed_is =
     given_kept (λ d. where_given o (broken.with_suffix n.at a d)) (visibility.meaning sight n.text) d meant
     (given_kept (broken.with_suffix n.at a d) o s given (with_suffix_kept n.at a d s x y denoted_is attributed_is))
@@ -82,15 +82,15 @@ mutual
       let a = mapped (λ v. o.elements Element (u.character v)) (nine_of c) x h in
       lacking_kept TypeMismatch at (nine_of c) a.value a.from
   typed_kept (t.string at text) sight x h =
-      let a = mapped (λ vs. o.elements OpenVector (u.Vector.literal vs)) (values_of_string text) x h in
+      let a = mapped (λ vs. o.elements OpenVector (u.Vector.literal at vs)) (values_of_string text) x h in
       lacking_kept (string_problem text) at (values_of_string text) a.value a.from
   typed_kept (t.bits at text) sight x h =
-      let a = mapped (λ vs. o.elements OpenVector (u.Vector.literal vs)) (values_of_bits text) x h in
+      let a = mapped (λ vs. o.elements OpenVector (u.Vector.literal at vs)) (values_of_bits text) x h in
       lacking_kept LeftOut at (values_of_bits text) a.value a.from
   typed_kept (t.named n suffix a) sight x h =
       let s = comes (are.typed_suffix sight suffix) _ x h in
       let d = comes (visibility.meaning sight n.text) _ x s.rest in
-      let y = comes (denoted d.value s.value) _ x d.rest in
+      let y = comes (denoted n.at d.value s.value) _ x d.rest in
       both_kept _ _ (meaning_kept sight n d.value d.is)
       (both_kept _ _ (typed_suffix_kept suffix sight s.value s.is)
       (named_kept sight n a (are.typed_suffix sight suffix) s.value d.value y.value x s.is d.is y.is y.rest))
@@ -110,10 +110,10 @@ mutual
       let b = comes (are.typed sight e) _ x a.rest in
       both_kept _ _ (typed_kept d sight a.value a.is)
       (both_kept _ _ (typed_kept e sight b.value b.is)
-      (given_kept (λ x. where_given (are.typed sight e) (λ y. lacking (operator_problem op x (beside d y)) at (operated sight.numbers op x (beside d y))))
+      (given_kept (λ x. where_given (are.typed sight e) (λ y. lacking (operator_problem op x (beside d y)) at (operated sight.numbers at op x (beside d y))))
       (are.typed sight d) a.value a.is
-      (given_kept (λ y. lacking (operator_problem op a.value (beside d y)) at (operated sight.numbers op a.value (beside d y))) (are.typed sight e) b.value b.is
-      (lacking_kept (operator_problem op a.value (beside d b.value)) at (operated sight.numbers op a.value (beside d b.value)) x b.rest))))
+      (given_kept (λ y. lacking (operator_problem op a.value (beside d y)) at (operated sight.numbers at op a.value (beside d y))) (are.typed sight e) b.value b.is
+      (lacking_kept (operator_problem op a.value (beside d b.value)) at (operated sight.numbers at op a.value (beside d b.value)) x b.rest))))
 
   pub typed_suffix_kept : (s : t.Suffix) (sight : Sight) (x : Suffix) → are.typed_suffix sight s ≡ Some x → IsKept (broken.typed_suffix sight s)
   typed_suffix_kept t.plain sight x h = nothing_kept

@@ -69,10 +69,10 @@ generic_map_kept sight formals as' es xs h g =
 -- ---- ports
 
 -- the name of a signal is no value's
-not_value : (d : Meaning) (s : Suffix) (suffix : t.Suffix) (x : SignalName) → as_signal d s ≡ Some x → is_value d suffix ≡ false
-not_value (visibility.port k mode kind) s suffix x h = refl
-not_value (visibility.signal k type) s suffix x h = refl
-not_value _ s suffix x h = absurd cc
+not_value : (at : ℕ) (d : Meaning) (s : Suffix) (suffix : t.Suffix) (x : SignalName) → as_signal at d s ≡ Some x → is_value d suffix ≡ false
+not_value at (visibility.port k mode kind) s suffix x h = refl
+not_value at (visibility.signal k type) s suffix x h = refl
+not_value at _ s suffix x h = absurd cc
 
 pub names_no_value : (sight : Sight) (n : t.Name) (x : SignalName) → statements.signal sight n ≡ Some x → names_value (meaning sight n.identifier.text) n.suffix ≡ false
 unfolding statements.signal
@@ -80,7 +80,7 @@ names_no_value sight n x h =
     let a = kept (is_none n.attribute) _ x h in
     let b = comes (typed_suffix sight n.suffix) _ x a.1 in
     let d = comes (meaning sight n.identifier.text) _ x b.rest in
-    ap (λ o. names_value o n.suffix) d.is ∙ not_value d.value b.value n.suffix x d.rest
+    ap (λ o. names_value o n.suffix) d.is ∙ not_value n.identifier.at d.value b.value n.suffix x d.rest
 
 pub actual_signal_kept : (sight : Sight) (n : t.Name) (x : SignalName) → statements.signal sight n ≡ Some x → IsKept (actual_signal sight n)
 actual_signal_kept sight n x h =

@@ -60,7 +60,7 @@ object_kept problem f sight n x h =
 
 pub signal_kept : (sight : Sight) (n : t.Name) (x : SignalName) → are.signal sight n ≡ Some x → IsKept (broken.signal sight n)
 unfolding are.signal
-signal_kept sight n x h = object_kept signal_problem as_signal sight n x h
+signal_kept sight n x h = object_kept signal_problem (as_signal n.identifier.at) sight n x h
 
 pub target_kept : (sight : Sight) (n : t.Name) (x : SignalName) → are.target sight n ≡ Some x → IsKept (broken.target sight n)
 unfolding are.target
@@ -73,7 +73,7 @@ target_kept sight n x h =
 
 pub variable_kept : (sight : Sight) (n : t.Name) (x : VariableName) → are.variable sight n ≡ Some x → IsKept (broken.variable sight n)
 unfolding are.variable
-variable_kept sight n x h = object_kept variable_problem as_variable sight n x h
+variable_kept sight n x h = object_kept variable_problem (as_variable n.identifier.at) sight n x h
 
 -- ---- assignments
 

@@ -4,7 +4,7 @@ use Rattle.std.specs.List.{slice_get, filter_map, cons_option}
 use Rattle.std.specs.Option.{is_some}
 use Rattle.std.proofs.lemmas.List.{length-map, length-append}
 use Rattle.vhdl_tree.specs.Tree as t
-use Rattle.vhdl_tree.specs.Tree.{Expr, Association, ContextItem}
+use Rattle.vhdl_tree.specs.Tree.{Ident, Expr, Association, ContextItem}
 use Rattle.vhdl_names_rules.specs.units.Expressions.{SignalPart}
 use Rattle.vhdl_names_rules.specs.units.Units as u
 use Rattle.vhdl_names_rules.specs.Rules.{◌>>=◌, each, if_any, all_of}
@@ -58,13 +58,13 @@ kinds_in_order {A} {B} times none sum pick declares one (a ∷ as') sight x e =
     ∙ ap times (sym (length-append c.value.analysed d.value.analysed))
     ∙ ap (λ (x : Declares B). times (length x.analysed)) h
 
-all_numbered : {B C : Type 0} (pick : Declared → Option C) (f : ℕ → Meaning) (g : Name → B)
-    → ((n : Name) (k : ℕ) → is_some (pick (declare n (f k))) ≡ true) → (k : ℕ) (ns : List Name) → kinds pick (numbered f k ns) ≡ length (map g ns)
+all_numbered : {B C : Type 0} (pick : Declared → Option C) (f : ℕ → Meaning) (g : Ident → B)
+    → ((n : Name) (k : ℕ) → is_some (pick (declare n (f k))) ≡ true) → (k : ℕ) (is : List Ident) → kinds pick (numbered f k (names_of is)) ≡ length (map g is)
 all_numbered pick f g picks k [] = refl
-all_numbered {B} {C} pick f g picks k (n ∷ ns) = go (pick (declare n (f k))) (picks n k) (all_numbered pick f g picks (suc k) ns)
+all_numbered {B} {C} pick f g picks k (i ∷ is) = go (pick (declare i.text (f k))) (picks i.text k) (all_numbered pick f g picks (suc k) is)
   where
-    go : (o : Option C) → is_some o ≡ true → kinds pick (numbered f (suc k) ns) ≡ length (map g ns)
-        → length (cons_option o (filter_map pick (numbered f (suc k) ns))) ≡ suc (length (map g ns))
+    go : (o : Option C) → is_some o ≡ true → kinds pick (numbered f (suc k) (names_of is)) ≡ length (map g is)
+        → length (cons_option o (filter_map pick (numbered f (suc k) (names_of is)))) ≡ suc (length (map g is))
     go None y h = absurd (cc)
     go (Some c) y h = ap suc h
 
@@ -90,7 +90,7 @@ of_generic sight g x e =
     let c = comes (if_any (static sight) g.default) _ x b.rest in
     let P : Declares u.Generic → Type 0 = λ x. Kinds (length x.analysed) 0 x in
     subst P (some_is _ x c.rest) (record {
-      generics_are = all_numbered generic_name visibility.generic _ (λ n k. refl) _ (names_of g.names);
+      generics_are = all_numbered generic_name visibility.generic _ (λ n k. refl) _ g.names;
       ports_are = none_numbered port_formal visibility.generic (λ n k. refl) _ (names_of g.names);
     })
 
@@ -103,7 +103,7 @@ of_port sight p x e =
     let P : Declares u.Port → Type 0 = λ x. Kinds 0 (length x.analysed) x in
     subst P (some_is _ x c.rest) (record {
       generics_are = none_numbered generic_name (λ k. visibility.port k (mode_of p.mode) b.value) (λ n k. refl) _ (names_of p.names);
-      ports_are = all_numbered port_formal (λ k. visibility.port k (mode_of p.mode) b.value) _ (λ n k. refl) _ (names_of p.names);
+      ports_are = all_numbered port_formal (λ k. visibility.port k (mode_of p.mode) b.value) _ (λ n k. refl) _ p.names;
     })
 
 -- as many formals as generics and ports

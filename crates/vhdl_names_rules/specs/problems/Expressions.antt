@@ -58,7 +58,7 @@ of_no_value d _ a = nothing
 
 -- a name of this meaning at this byte, with what follows it
 abbrev pub with_suffix : ℕ → Option Ident → Meaning → Suffix → Broken
-with_suffix at a d s = of_no_value d s a ▸ lacking (name_problem d s) at (denoted d s) ▸ where_given (denoted d s) (attributed at a)
+with_suffix at a d s = of_no_value d s a ▸ lacking (name_problem d s) at (denoted at d s) ▸ where_given (denoted at d s) (attributed at a)
 
 -- what a name is, by its meaning and what stands in its parentheses
 abbrev pub named : Sight → Ident → Option Suffix → Option Ident → Broken
@@ -83,7 +83,7 @@ unfoldable mutual
   typed sight (t.binary begins op at d e) =
       typed sight d ▸ typed sight e
       ▸ where_given (are.typed sight d) (λ x. where_given (are.typed sight e) (λ y.
-      lacking (operator_problem op x (beside d y)) at (operated sight.numbers op x (beside d y))))
+      lacking (operator_problem op x (beside d y)) at (operated sight.numbers at op x (beside d y))))
 
   pub typed_suffix : Sight → t.Suffix → Broken
   typed_suffix sight t.plain = nothing

@@ -62,8 +62,8 @@ operator_problem _ = λ x y. TypeMismatch
 -- an integer, a variable or a constant is of another kind than a signal; anything else is no signal of one element by a static name
 abbrev pub edge_problem : Typed → NameProblem
 edge_problem (integer s) = WrongKind
-edge_problem (elements Element (u.of_variable k p)) = WrongKind
-edge_problem (elements Element (u.of_constant k p)) = WrongKind
+edge_problem (elements Element (u.of_variable at k p)) = WrongKind
+edge_problem (elements Element (u.of_constant at k p)) = WrongKind
 edge_problem _ = TypeMismatch
 
 -- ---- names

@@ -33,7 +33,7 @@ abbrev pub signal : Sight → t.Name → Broken
 signal sight n =
     named sight n
     ▸ where_given (visibility.meaning sight n.identifier.text)
-    (λ d. where_given (expressions.typed_suffix sight n.suffix) (λ s. lacking (signal_problem d) n.identifier.at (as_signal d s)))
+    (λ d. where_given (expressions.typed_suffix sight n.suffix) (λ s. lacking (signal_problem d) n.identifier.at (as_signal n.identifier.at d s)))
 
 abbrev pub target : Sight → t.Name → Broken
 target sight n = signal sight n ▸ where_given (are.signal sight n) (λ x. unless WriteOfIn n.identifier.at (not (is_input x.mode)))
@@ -47,7 +47,7 @@ abbrev pub variable : Sight → t.Name → Broken
 variable sight n =
     named sight n
     ▸ where_given (visibility.meaning sight n.identifier.text)
-    (λ d. where_given (expressions.typed_suffix sight n.suffix) (λ s. lacking (variable_problem d) n.identifier.at (as_variable d s)))
+    (λ d. where_given (expressions.typed_suffix sight n.suffix) (λ s. lacking (variable_problem d) n.identifier.at (as_variable n.identifier.at d s)))
 
 -- ---- statements
 

@@ -30,14 +30,14 @@ static_fits i (e.generic k) = nat_lt k i.generics
 static_fits i (e.Static.constant k) = nat_lt k i.integers
 static_fits i (e.generate_parameter k) = nat_lt k i.generates
 static_fits i (e.loop_parameter k) = nat_lt k i.loops
-static_fits i (e.Static.negated x) = static_fits i x
-static_fits i (e.Static.binary op x y) = static_fits i x && static_fits i y
+static_fits i (e.Static.negated at x) = static_fits i x
+static_fits i (e.Static.binary at op x y) = static_fits i x && static_fits i y
 
 abbrev pub range_fits : Inside → Range → Bool
 range_fits i r = static_fits i r.left && static_fits i r.right
 
 abbrev pub static_test_fits : Inside → StaticTest → Bool
-static_test_fits i (e.StaticTest.compared op x y) = static_fits i x && static_fits i y
+static_test_fits i (e.StaticTest.compared at op x y) = static_fits i x && static_fits i y
 static_test_fits i (e.StaticTest.negated t) = static_test_fits i t
 static_test_fits i (e.StaticTest.both op t r) = static_test_fits i t && static_test_fits i r
 
@@ -104,26 +104,26 @@ abbrev pub vector_shape : Inside → Vector → Option Shape
 vector_shape i (e.of_signal p) = do
   x ← place_shape i p
   then_some (is_elements x) x
-vector_shape i (e.of_variable k p) = do
+vector_shape i (e.of_variable at k p) = do
   f ← slice_get i.variables k
   x ← part_shape i f p
   then_some (is_elements x) x
-vector_shape i (e.of_constant k p) = do
+vector_shape i (e.of_constant at k p) = do
   f ← slice_get i.constants k
   x ← part_shape i f p
   then_some (is_elements x) x
 vector_shape i (e.character x) = Some one
 vector_shape i (e.enclosed_character x) = Some one
-vector_shape i (e.Vector.literal xs) = Some vector
+vector_shape i (e.Vector.literal at xs) = Some vector
 vector_shape i (e.Vector.inverse x) = vector_shape i x
-vector_shape i (e.Vector.binary op x y) = do
+vector_shape i (e.Vector.binary at op x y) = do
   a ← vector_shape i x
   b ← vector_shape i y
   operated_shape op a b
-vector_shape i (e.with_integer op x n) = with_static i (vector_shape i x) n
-vector_shape i (e.integer_with op n x) = with_static i (vector_shape i x) n
-vector_shape i (e.Vector.encoded n size) = then_some (static_fits i n && static_fits i size) vector
-vector_shape i (e.counted op x n) = with_static i (vector_shape i x) n
+vector_shape i (e.with_integer at op x n) = with_static i (vector_shape i x) n
+vector_shape i (e.integer_with at op n x) = with_static i (vector_shape i x) n
+vector_shape i (e.Vector.encoded at n size) = then_some (static_fits i n && static_fits i size) vector
+vector_shape i (e.counted at op x n) = with_static i (vector_shape i x) n
 
 -- ---- values
 
@@ -169,11 +169,11 @@ edge_fits i p = fits_shape one (place_shape (record i { loops = 0 }) p)
 abbrev pub test_fits : Inside → Test → Bool
 test_fits i (e.holds x) = fits_shape one (vector_shape i x)
 test_fits i (e.Test.fixed t) = static_test_fits i t
-test_fits i (e.alike x y) = values_fit i x y
-test_fits i (e.unlike x y) = values_fit i x y
-test_fits i (e.Test.compared op x y) = fits_shape vector (vector_shape i x) && fits_shape vector (vector_shape i y)
-test_fits i (e.compared_to op x n) = fits_shape vector (vector_shape i x) && static_fits i n
-test_fits i (e.compared_with op n x) = static_fits i n && fits_shape vector (vector_shape i x)
+test_fits i (e.alike at x y) = values_fit i x y
+test_fits i (e.unlike at x y) = values_fit i x y
+test_fits i (e.Test.compared at op x y) = fits_shape vector (vector_shape i x) && fits_shape vector (vector_shape i y)
+test_fits i (e.compared_to at op x n) = fits_shape vector (vector_shape i x) && static_fits i n
+test_fits i (e.compared_with at op n x) = static_fits i n && fits_shape vector (vector_shape i x)
 test_fits i (e.edge kind p) = edge_fits i p
 test_fits i (e.event p) = edge_fits i p
 test_fits i (e.Test.negated t) = test_fits i t

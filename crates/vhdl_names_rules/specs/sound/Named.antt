@@ -23,8 +23,8 @@ unfoldable mutual
   pub concurrent_is_named : u.Concurrent → Bool
   concurrent_is_named (u.process p) = label_is_named p.label && objects_are_named p.variables
   concurrent_is_named (u.instance x) = has_text x.label
-  concurrent_is_named (u.generate_for label r body) = has_text label && concurrents_are_named body
-  concurrent_is_named (u.generate_if label t body) = has_text label && concurrents_are_named body
+  concurrent_is_named (u.generate_for at label r body) = has_text label && concurrents_are_named body
+  concurrent_is_named (u.generate_if at label t body) = has_text label && concurrents_are_named body
 
   pub concurrents_are_named : u.Concurrents → Bool
   concurrents_are_named u.no_concurrents = true

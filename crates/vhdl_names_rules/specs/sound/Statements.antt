@@ -53,10 +53,10 @@ unfoldable mutual
   pub statement_fits : Inside → s.Statement → Bool
   statement_fits i s.null_of = true
   statement_fits i (s.assign p g) = is_driven i p.signal && given_fits_target i (place_shape i p) g
-  statement_fits i (s.set k p g) = given_fits_target i (slice_get i.variables k >>= λ f. part_shape i f p) g
-  statement_fits i (s.if_of bs) = branches_fit i bs
-  statement_fits i (s.case_of x alts) = selector_fits i x && alternatives_fit i (value_shape i x) alts
-  statement_fits i (s.for_of r body) = range_fits i r && statements_fit (within_loop i) body
+  statement_fits i (s.set at k p g) = given_fits_target i (slice_get i.variables k >>= λ f. part_shape i f p) g
+  statement_fits i (s.if_of at bs) = branches_fit i bs
+  statement_fits i (s.case_of at x alts) = selector_fits i x && alternatives_fit i (value_shape i x) alts
+  statement_fits i (s.for_of at r body) = range_fits i r && statements_fit (within_loop i) body
 
   pub statements_fit : Inside → s.Statements → Bool
   statements_fit i s.done = true

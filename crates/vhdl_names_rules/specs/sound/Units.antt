@@ -55,13 +55,13 @@ generics_fit i (g ∷ gs) = static_default_fits i g.default && generics_fit (rec
 
 -- each declaration has those before it
 abbrev pub declaration_fits : Inside → u.Declaration → Bool
-declaration_fits i (u.Declaration.integer type n) = static_fits i n
-declaration_fits i (u.Declaration.constant f x) = form_fits i f && fixed_fits i (shape_of f) x
+declaration_fits i (u.Declaration.integer at type n) = static_fits i n
+declaration_fits i (u.Declaration.constant at f x) = form_fits i f && fixed_fits i (shape_of f) x
 declaration_fits i (u.Declaration.signal o) = object_fits i o
 
 abbrev pub with_declaration : Inside → u.Declaration → Inside
-with_declaration i (u.Declaration.integer type n) = record i { integers = suc i.integers }
-with_declaration i (u.Declaration.constant f x) = record i { constants = i.constants ++ f ∷ [] }
+with_declaration i (u.Declaration.integer at type n) = record i { integers = suc i.integers }
+with_declaration i (u.Declaration.constant at f x) = record i { constants = i.constants ++ f ∷ [] }
 with_declaration i (u.Declaration.signal o) = record i { signals = i.signals ++ o.form ∷ [] }
 
 abbrev pub declarations_fit : Inside → List u.Declaration → Bool
@@ -110,8 +110,8 @@ module _ (units : Units) where
     pub concurrent_fits : Inside → u.Concurrent → Bool
     concurrent_fits i (u.process p) = process_fits i p
     concurrent_fits i (u.instance x) = instance_fits i x (slice_get units x.unit)
-    concurrent_fits i (u.generate_for label r body) = range_fits i r && concurrents_fit (within_generate i) body
-    concurrent_fits i (u.generate_if label t body) = static_test_fits i t && concurrents_fit i body
+    concurrent_fits i (u.generate_for at label r body) = range_fits i r && concurrents_fit (within_generate i) body
+    concurrent_fits i (u.generate_if at label t body) = static_test_fits i t && concurrents_fit i body
 
     pub concurrents_fit : Inside → u.Concurrents → Bool
     concurrents_fit i u.no_concurrents = true

@@ -1,6 +1,6 @@
 -- Analysed expressions (IEEE 1076-2008, clause 9): each name is the number of its declaration, each operator its kind, each
--- literal its values. Integers, vectors and truths are three types of tree, so that no type is left to be looked up. Where an
--- expression stands in the text, contracts leave out.
+-- literal its values. Integers, vectors and truths are three types of tree, so that no type is left to be looked up. Of the text
+-- there are the bytes at which elaboration tells what is wrong: where a name, a literal, a call or an operator starts.
 use Rattle.std.specs.Prelude.{ℕ, List}
 use Rattle.vhdl_values.specs.declared.scalar.Nine.{Nine}
 use Rattle.vhdl_values.specs.declared.kinds.Logic.{Logic}
@@ -23,8 +23,9 @@ pub data Static : Type 0 where
   -- the parameter of the generate, or of the loop, that has so many of its kind round it
   generate_parameter : ℕ → Static
   loop_parameter : ℕ → Static
-  negated : Static → Static
-  binary : Arithmetic → Static → Static → Static
+  -- a minus sign, and an operator, each with where it starts
+  negated : (at : ℕ) → Static → Static
+  binary : (at : ℕ) → Arithmetic → Static → Static → Static
 
 pub record Range : Type 0 where
   pub left : Static
@@ -33,7 +34,7 @@ pub record Range : Type 0 where
 
 -- truth over static integers alone
 pub data StaticTest : Type 0 where
-  compared : Cmp → Static → Static → StaticTest
+  compared : (at : ℕ) → Cmp → Static → Static → StaticTest
   negated : StaticTest → StaticTest
   both : Logic → StaticTest → StaticTest → StaticTest
 
@@ -50,7 +51,9 @@ pub data Part : Type 0 where
   element : Static → Part
   slice : Range → Part
 
+-- and where its name starts
 pub record SignalPart : Type 0 where
+  pub at : ℕ
   pub signal : Signal
   pub part : Part
 
@@ -58,24 +61,24 @@ pub record SignalPart : Type 0 where
 
 pub data Vector : Type 0 where
   of_signal : SignalPart → Vector
-  of_variable : ℕ → Part → Vector
-  of_constant : ℕ → Part → Vector
+  of_variable : (at : ℕ) → ℕ → Part → Vector
+  of_constant : (at : ℕ) → ℕ → Part → Vector
   -- A character literal with no parentheses round it, nor round the operand on its left: an edge test is `event p` with
   -- `alike (elements (of_signal p)) (elements (character v))`, v being '0' or '1'.
   character : Nine → Vector
   -- any other character literal
   enclosed_character : Nine → Vector
   -- a string or bit string
-  literal : List Nine → Vector
+  literal : (at : ℕ) → List Nine → Vector
   inverse : Vector → Vector
-  binary : VectorOperator → Vector → Vector → Vector
+  binary : (at : ℕ) → VectorOperator → Vector → Vector → Vector
   -- of a number and a static integer, and of a static integer and a number
-  with_integer : Numeric → Vector → Static → Vector
-  integer_with : Numeric → Static → Vector → Vector
+  with_integer : (at : ℕ) → Numeric → Vector → Static → Vector
+  integer_with : (at : ℕ) → Numeric → Static → Vector → Vector
   -- to_unsigned, of a number and a size
-  encoded : Static → Static → Vector
+  encoded : (at : ℕ) → Static → Static → Vector
   -- an operator, a number and a count
-  counted : Counted → Vector → Static → Vector
+  counted : (at : ℕ) → Counted → Vector → Static → Vector
 
 -- what is assigned, compared or selected by: elements of the nine values, or a value of an enumeration
 pub data Value : Type 0 where
@@ -93,12 +96,12 @@ pub data Test : Type 0 where
   holds : Vector → Test
   fixed : StaticTest → Test
   -- equality of the values, and its negation
-  alike : Value → Value → Test
-  unlike : Value → Value → Test
+  alike : (at : ℕ) → Value → Value → Test
+  unlike : (at : ℕ) → Value → Value → Test
   -- of two numbers; of a number and a static integer, and of a static integer and a number
-  compared : Cmp → Vector → Vector → Test
-  compared_to : Cmp → Vector → Static → Test
-  compared_with : Cmp → Static → Vector → Test
+  compared : (at : ℕ) → Cmp → Vector → Vector → Test
+  compared_to : (at : ℕ) → Cmp → Vector → Static → Test
+  compared_with : (at : ℕ) → Cmp → Static → Vector → Test
   -- rising_edge and falling_edge
   edge : Edge → SignalPart → Test
   event : SignalPart → Test

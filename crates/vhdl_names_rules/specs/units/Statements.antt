@@ -1,4 +1,5 @@
--- Analysed sequential statements (IEEE 1076-2008, clause 10).
+-- Analysed sequential statements (IEEE 1076-2008, clause 10): a variable assignment with where its target's name starts, an if, a case
+-- and a loop with where they start themselves.
 use Rattle.std.specs.Prelude.{ℕ, List}
 use Rattle.vhdl_values.specs.declared.scalar.Nine.{Nine}
 use Rattle.vhdl_names_rules.specs.units.Expressions.{Range, Part, SignalPart, Vector, Value, Test}
@@ -18,11 +19,11 @@ mutual
     null_of : Statement
     -- to a signal, and to the variable of this number
     assign : SignalPart → Given → Statement
-    set : ℕ → Part → Given → Statement
-    if_of : Branches → Statement
-    case_of : Value → Alternatives → Statement
+    set : (at : ℕ) → ℕ → Part → Given → Statement
+    if_of : (at : ℕ) → Branches → Statement
+    case_of : (at : ℕ) → Value → Alternatives → Statement
     -- its parameter is the loop parameter with as many others round it as it has loops
-    for_of : Range → Statements → Statement
+    for_of : (at : ℕ) → Range → Statements → Statement
 
   pub data Statements : Type 0 where
     done : Statements

@@ -1,4 +1,6 @@
--- The units of a file: entities in order of the text, each with its architecture (IEEE 1076-2008, clauses 3, 6 and 11).
+-- The units of a file: entities in order of the text, each with its architecture (IEEE 1076-2008, clauses 3, 6 and 11). What is
+-- declared has the byte at which its name starts, a process that at which it starts itself, an instance that of its label, and a
+-- generate that of its scheme.
 use Rattle.std.specs.Prelude.{ℕ, Bool, List, Option}
 use Rattle.vhdl_values.specs.declared.scalar.Nine.{Nine}
 use Rattle.vhdl_tree.specs.declared.declaration.Mode.{Mode}
@@ -28,11 +30,13 @@ pub data Fixed : Type 0 where
   filled : Nine → Fixed
 
 pub record Generic : Type 0 where
+  pub at : ℕ
   pub type : IntegerType
   pub default : Option Static
 
 -- a port, signal or variable
 pub record Object : Type 0 where
+  pub at : ℕ
   pub name : List ℕ
   pub form : Form
   -- whether several sources of an element are resolved; a variable has none
@@ -45,8 +49,8 @@ pub record Port : Type 0 where
 
 -- in order of the text; each kind is numbered by itself
 pub data Declaration : Type 0 where
-  integer : IntegerType → Static → Declaration
-  constant : Form → Fixed → Declaration
+  integer : (at : ℕ) → IntegerType → Static → Declaration
+  constant : (at : ℕ) → Form → Fixed → Declaration
   signal : Object → Declaration
 
 -- ---- concurrent statements
@@ -59,6 +63,7 @@ pub data Sensitivity : Type 0 where
   as_read : Sensitivity
 
 pub record Process : Type 0 where
+  pub at : ℕ
   pub label : Option (List ℕ)
   pub variables : List Object
   pub sensitivity : Sensitivity
@@ -66,6 +71,7 @@ pub record Process : Type 0 where
 
 -- of the unit of this number: each generic's actual, and each port's, None where it is open or not associated
 pub record Instance : Type 0 where
+  pub at : ℕ
   pub label : List ℕ
   pub unit : ℕ
   pub generics : List (Option Static)
@@ -75,8 +81,8 @@ mutual
   pub data Concurrent : Type 0 where
     process : Process → Concurrent
     instance : Instance → Concurrent
-    generate_for : (label : List ℕ) → Range → Concurrents → Concurrent
-    generate_if : (label : List ℕ) → StaticTest → Concurrents → Concurrent
+    generate_for : (at : ℕ) → (label : List ℕ) → Range → Concurrents → Concurrent
+    generate_if : (at : ℕ) → (label : List ℕ) → StaticTest → Concurrents → Concurrent
 
   pub data Concurrents : Type 0 where
     no_concurrents : Concurrents
@@ -90,6 +96,7 @@ pub record Architecture : Type 0 where
 
 -- an entity, and its architecture if the file has one
 pub record Entity : Type 0 where
+  pub at : ℕ
   pub name : List ℕ
   pub generics : List Generic
   pub ports : List Port

@@ -1,4 +1,4 @@
--- Static integers of the code, without places in the text, and with a chain of operators grouped from the left.
+-- Static integers of the code, with a chain of operators grouped from the left.
 use Rattle.std.specs.Prelude.{List, [], ◌∷◌}
 use Rattle.vhdl_names_rules.specs.declared.integer.Static.{Static}
 use Rattle.vhdl_names_rules.specs.declared.integer.Static.TheVariants as s
@@ -15,20 +15,20 @@ abbrev mutual
   static_view (s.Constant k) = u.Static.constant k
   static_view (s.GenerateParameter k) = u.generate_parameter k
   static_view (s.LoopParameter k) = u.loop_parameter k
-  static_view (s.Negated' at p x) = u.Static.negated (static_view x)
+  static_view (s.Negated' at p x) = u.Static.negated at (static_view x)
   static_view (s.Chain' p first operator at operand shape rest) =
-      links_view (u.Static.binary operator (static_view first) (static_view operand)) rest
+      links_view (u.Static.binary at operator (static_view first) (static_view operand)) rest
 
   pub links_view : {m : _} → u.Static → Row_of-StaticLink m → u.Static
   links_view left end_of-StaticLink = left
-  links_view left (more_of-StaticLink operator at operand rest) = links_view (u.Static.binary operator left (static_view operand)) rest
+  links_view left (more_of-StaticLink operator at operand rest) = links_view (u.Static.binary at operator left (static_view operand)) rest
 
 abbrev pub start_view : StaticStart → u.Static
-start_view s = u.Static.binary s.link.operator (static_view s.first) (static_view s.link.operand)
+start_view s = u.Static.binary s.link.at s.link.operator (static_view s.first) (static_view s.link.operand)
 
 abbrev pub static_chained : u.Static → List StaticLink → u.Static
 static_chained left [] = left
-static_chained left (l ∷ ls) = static_chained (u.Static.binary l.operator left (static_view l.operand)) ls
+static_chained left (l ∷ ls) = static_chained (u.Static.binary l.at l.operator left (static_view l.operand)) ls
 
 abbrev pub range_view : StaticRange → u.Range
 range_view r = record { left = static_view r.left; direction = r.direction; right = static_view r.right }

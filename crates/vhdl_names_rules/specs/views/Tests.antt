@@ -1,4 +1,4 @@
--- Truths of the code, without places in the text, and with a chain of operators grouped from the left.
+-- Truths of the code, with a chain of operators grouped from the left.
 use Rattle.std.specs.Prelude.{Bool, true, false, List, [], ◌∷◌}
 use Rattle.vhdl_names_rules.specs.declared.test.StaticTest.{StaticTest}
 use Rattle.vhdl_names_rules.specs.declared.test.StaticTest.TheVariants as s
@@ -18,7 +18,7 @@ use Rattle.vhdl_names_rules.specs.views.Vectors.{place_view, vector_view, value_
 
 abbrev mutual
   pub static_test_view : StaticTest → u.StaticTest
-  static_test_view (s.Compared op at x y) = u.StaticTest.compared op (static_view x) (static_view y)
+  static_test_view (s.Compared op at x y) = u.StaticTest.compared at op (static_view x) (static_view y)
   static_test_view (s.Not' b x) = u.StaticTest.negated (static_test_view x)
   static_test_view (s.Chain' b first operator operand shape rest) =
       static_links_view (u.StaticTest.both operator (static_test_view first) (static_test_view operand)) rest
@@ -41,11 +41,11 @@ abbrev mutual
   pub test_view : Test → u.Test
   test_view (t.Holds x) = u.holds (vector_view x)
   test_view (t.Fixed x) = u.Test.fixed (static_test_view x)
-  test_view (t.Alike at x y) = u.alike (value_view x.value) (value_view y.value)
-  test_view (t.Unlike at x y) = u.unlike (value_view x.value) (value_view y.value)
-  test_view (t.Compared op at x y) = u.Test.compared op (vector_view x.value) (vector_view y.value)
-  test_view (t.ComparedTo op at x s) = u.compared_to op (vector_view x.value) (static_view s)
-  test_view (t.ComparedWith op at s x) = u.compared_with op (static_view s) (vector_view x.value)
+  test_view (t.Alike at x y) = u.alike at (value_view x.value) (value_view y.value)
+  test_view (t.Unlike at x y) = u.unlike at (value_view x.value) (value_view y.value)
+  test_view (t.Compared op at x y) = u.Test.compared at op (vector_view x.value) (vector_view y.value)
+  test_view (t.ComparedTo op at x s) = u.compared_to at op (vector_view x.value) (static_view s)
+  test_view (t.ComparedWith op at s x) = u.compared_with at op (static_view s) (vector_view x.value)
   test_view (t.Edge e p) = u.edge e (place_view p)
   test_view (t.Event p) = u.event (place_view p)
   test_view (t.Not' b x) = u.Test.negated (test_view x)

@@ -1,4 +1,4 @@
--- Elements and vectors of the code, without places in the text, and with a chain of operators grouped from the left.
+-- Elements and vectors of the code, with a chain of operators grouped from the left, and without where a character literal or `not` stands.
 use Rattle.std.specs.Prelude.{List, [], ◌∷◌}
 use Rattle.vhdl_names_rules.specs.declared.vector.Signal.{Signal}
 use Rattle.vhdl_names_rules.specs.declared.vector.Signal.TheVariants as g
@@ -26,21 +26,21 @@ part_view (p.Element s) = u.Part.element (static_view s)
 part_view (p.Slice r) = u.slice (range_view r.value)
 
 abbrev pub place_view : SignalPart → u.SignalPart
-place_view x = record { signal = signal_view x.signal; part = part_view x.part }
+place_view x = record { at = x.at; signal = signal_view x.signal; part = part_view x.part }
 
 abbrev mutual
   pub vector_view : Vector → u.Vector
   vector_view (v.Signal x) = u.of_signal (place_view x)
-  vector_view (v.Variable at k x) = u.of_variable k (part_view x)
-  vector_view (v.Constant at k x) = u.of_constant k (part_view x)
+  vector_view (v.Variable at k x) = u.of_variable at k (part_view x)
+  vector_view (v.Constant at k x) = u.of_constant at k (part_view x)
   vector_view (v.Character at x) = u.Vector.character x
   vector_view (v.EnclosedCharacter at x) = u.Vector.enclosed_character x
-  vector_view (v.Literal at xs) = u.Vector.literal xs.items
+  vector_view (v.Literal at xs) = u.Vector.literal at xs.items
   vector_view (v.Not' at b x) = u.Vector.inverse (vector_view x)
   vector_view (v.Chain' b first x shape rest) = links_view (linked (vector_view first) x) rest
-  vector_view (v.IntegerWith' op at s b x) = u.integer_with op (static_view s) (vector_view x)
-  vector_view (v.Encoded at s t) = u.Vector.encoded (static_view s) (static_view t)
-  vector_view (v.Counted' at op b x s) = u.counted op (vector_view x) (static_view s)
+  vector_view (v.IntegerWith' op at s b x) = u.integer_with at op (static_view s) (vector_view x)
+  vector_view (v.Encoded at s t) = u.Vector.encoded at (static_view s) (static_view t)
+  vector_view (v.Counted' at op b x s) = u.counted at op (vector_view x) (static_view s)
 
   pub links_view : {m : _} → u.Vector → Row_of-VectorLink m → u.Vector
   links_view left end_of-VectorLink = left
@@ -48,8 +48,8 @@ abbrev mutual
 
   -- an operator with its right operand, after what stands before it
   pub linked : u.Vector → VectorLink → u.Vector
-  linked left (l.Vector op at x) = u.Vector.binary op left (vector_view x)
-  linked left (l.Integer op at s) = u.with_integer op left (static_view s)
+  linked left (l.Vector op at x) = u.Vector.binary at op left (vector_view x)
+  linked left (l.Integer op at s) = u.with_integer at op left (static_view s)
 
 abbrev pub start_view : VectorStart → u.Vector
 start_view s = linked (vector_view s.first) s.link

@@ -100,7 +100,7 @@ flat_each (a ∷ all) = ap (λ cs. a.choices ++ cs) (flat_each all)
 
 -- ---- the whole
 
-module _ (sight : Sight) (type : ObjectType) (value : Value) (l : Bool) (lists : List (List t.Choice)) where
+module _ (sight : Sight) (at : ℕ) (type : ObjectType) (value : Value) (l : Bool) (lists : List (List t.Choice)) where
   abbrev pub by_rules : Option (List (List s.Choice)) → Option (List s.Statements) → Option s.Statement
   by_rules f g = do
     cs ← (do
@@ -111,7 +111,7 @@ module _ (sight : Sight) (type : ObjectType) (value : Value) (l : Bool) (lists :
       Some css)
     bodies ← g
     all ← arranged cs bodies
-    Some (s.case_of value all)
+    Some (s.case_of at value all)
 
   abbrev pub by_steps : Option (List Chosen) → Option s.Statement
   by_steps h = do
@@ -119,33 +119,33 @@ module _ (sight : Sight) (type : ObjectType) (value : Value) (l : Bool) (lists :
     cover type lists (all_choices all)
     met l
     d ← but_last all
-    Some (s.case_of value (put_together d))
+    Some (s.case_of at value (put_together d))
 
   -- the last alternative apart
   apart : (h : Option (List Chosen)) → by_steps h
-      ≡ ((h >>= λ all. cover type lists (all_choices all) >>= λ _. met l >> but_last all) >>= λ d. Some (s.case_of value (put_together d)))
+      ≡ ((h >>= λ all. cover type lists (all_choices all) >>= λ _. met l >> but_last all) >>= λ d. Some (s.case_of at value (put_together d)))
   apart None = refl
   apart (Some all) = go (cover type lists (all_choices all)) l (but_last all)
     where
-      go : (c : Option (Unit {0})) (b : Bool) (u : Option Divided) → (c >>= λ _. met b >> (u >>= λ d. Some (s.case_of value (put_together d))))
-          ≡ ((c >>= λ _. met b >> u) >>= λ d. Some (s.case_of value (put_together d)))
+      go : (c : Option (Unit {0})) (b : Bool) (u : Option Divided) → (c >>= λ _. met b >> (u >>= λ d. Some (s.case_of at value (put_together d))))
+          ≡ ((c >>= λ _. met b >> u) >>= λ d. Some (s.case_of at value (put_together d)))
       go None b u = refl
       go (Some _) true u = refl
       go (Some _) false u = refl
 
   fits : (o d n : Bool) (css : List (List s.Choice)) (bs : List s.Statements) (u : Option Divided) → arranged css bs ≡ option_map put_together u
-      → (met l >> ((met o >> (met d >> (met n >> Some css))) >>= λ cs. arranged cs bs >>= λ all. Some (s.case_of value all)))
-      ≡ ((met o >> (met d >> met n)) >>= λ _. met l >> (u >>= λ d. Some (s.case_of value (put_together d))))
+      → (met l >> ((met o >> (met d >> (met n >> Some css))) >>= λ cs. arranged cs bs >>= λ all. Some (s.case_of at value all)))
+      ≡ ((met o >> (met d >> met n)) >>= λ _. met l >> (u >>= λ d. Some (s.case_of at value (put_together d))))
   fits o d n css bs u e = go l o d n u e
     where
-      done : (u : Option Divided) → (option_map put_together u >>= λ all. Some (s.case_of value all)) ≡ (u >>= λ d. Some (s.case_of value (put_together d)))
+      done : (u : Option Divided) → (option_map put_together u >>= λ all. Some (s.case_of at value all)) ≡ (u >>= λ d. Some (s.case_of at value (put_together d)))
       done None = refl
       done (Some d) = refl
 
       go : (l o d n : Bool) (u : Option Divided) → arranged css bs ≡ option_map put_together u
-          → (met l >> ((met o >> (met d >> (met n >> Some css))) >>= λ cs. arranged cs bs >>= λ all. Some (s.case_of value all)))
-          ≡ ((met o >> (met d >> met n)) >>= λ _. met l >> (u >>= λ d. Some (s.case_of value (put_together d))))
-      go true true true true u e = ap (λ o. o >>= λ all. Some (s.case_of value all)) e ∙ done u
+          → (met l >> ((met o >> (met d >> (met n >> Some css))) >>= λ cs. arranged cs bs >>= λ all. Some (s.case_of at value all)))
+          ≡ ((met o >> (met d >> met n)) >>= λ _. met l >> (u >>= λ d. Some (s.case_of at value (put_together d))))
+      go true true true true u e = ap (λ o. o >>= λ all. Some (s.case_of at value all)) e ∙ done u
       go false true true true u e = refl
       go true false d n u e = refl
       go false false d n u e = refl
@@ -158,7 +158,7 @@ module _ (sight : Sight) (type : ObjectType) (value : Value) (l : Bool) (lists :
   same f g h (no_choices p r) = ap (λ f. met l >> by_rules f g) p ∙ none l (only_last_others lists) ∙ ap by_steps (sym r)
     where
       none : (l o : Bool) → (met l >> ((met o >> (None >>= λ css. met (are_distinct_choices (flat_map (λ cs. cs) css)) >> (met (is_last_others lists || names_all type (flat_map (λ cs. cs) css)) >> Some css)))
-          >>= λ cs. g >>= λ bodies. arranged cs bodies >>= λ all. Some (s.case_of value all))) ≡ None
+          >>= λ cs. g >>= λ bodies. arranged cs bodies >>= λ all. Some (s.case_of at value all))) ≡ None
       none true true = refl
       none true false = refl
       none false true = refl
@@ -173,9 +173,9 @@ module _ (sight : Sight) (type : ObjectType) (value : Value) (l : Bool) (lists :
       ∙ fits (only_last_others lists) (are_distinct_choices (flat_map (λ cs. cs) (choices_of all)))
       (is_last_others lists || names_all type (flat_map (λ cs. cs) (choices_of all))) (choices_of all) (bodies_of all) (but_last all) (arranged_by all)
       ∙ ap (λ cs. (met (only_last_others lists) >> (met (are_distinct_choices cs) >> met (is_last_others lists || names_all type cs)))
-      >>= λ _. met l >> (but_last all >>= λ d. Some (s.case_of value (put_together d)))) (flat_each all)
+      >>= λ _. met l >> (but_last all >>= λ d. Some (s.case_of at value (put_together d)))) (flat_each all)
       ∙ ap (λ b. (met (only_last_others lists) >> (met b >> met (is_last_others lists || names_all type (all_choices all))))
-      >>= λ _. met l >> (but_last all >>= λ d. Some (s.case_of value (put_together d)))) (sym (distinct_keys (all_choices all)))
+      >>= λ _. met l >> (but_last all >>= λ d. Some (s.case_of at value (put_together d)))) (sym (distinct_keys (all_choices all)))
       ∙ ap by_steps (sym r)
 
 -- a case by the steps, where the alternatives are covered before the label is looked at
@@ -189,28 +189,28 @@ covered_first type lists l (Some all) = go (cover type lists (all_choices all))
     go (Some u) = refl
 
 selection_by : (sight : Sight) (label : Option Ident) (at : ℕ) (e : t.Expr) (alts : List t.Alternative) (end : Option Ident)
-    → statement sight label (t.case_of at e (t.alternatives_of alts) end) ≡ selection sight label e alts end
+    → statement sight label (t.case_of at e (t.alternatives_of alts) end) ≡ selection sight label at e alts end
 unfolding statement
 selection_by sight label at e alts end =
     ap (λ lists. met (label_ends label end) >> (typed sight e >>= λ x. selector x >>= λ by. covered sight by.0 lists >>= λ cs. alternatives sight (t.alternatives_of alts)
-    >>= λ bodies. arranged cs bodies >>= λ all. Some (s.case_of by.1 all))) (lists_each alts)
+    >>= λ bodies. arranged cs bodies >>= λ all. Some (s.case_of at by.1 all))) (lists_each alts)
     ∙ ap (λ o. met (label_ends label end) >> o) (inner (typed sight e) selector body)
     ∙ late (label_ends label end) (selected_by sight e) body
     ∙ bound (selected_by sight e) (λ by. met (label_ends label end) >> body by)
-    (λ by. steps.parts sight by.0 label alts end >>= λ d. Some (s.case_of by.1 (put_together d)))
-    (λ by. same sight by.0 by.1 (label_ends label end) (steps.choice_lists alts) _ _ _ (pairs sight by.0 alts)
-    ∙ apart sight by.0 by.1 (label_ends label end) (steps.choice_lists alts) (each (chosen sight by.0) alts)
-    ∙ ap (λ o. o >>= λ d. Some (s.case_of by.1 (put_together d))) (covered_first by.0 (steps.choice_lists alts) (label_ends label end) (each (chosen sight by.0) alts)))
+    (λ by. steps.parts sight by.0 label alts end >>= λ d. Some (s.case_of at by.1 (put_together d)))
+    (λ by. same sight at by.0 by.1 (label_ends label end) (steps.choice_lists alts) _ _ _ (pairs sight by.0 alts)
+    ∙ apart sight at by.0 by.1 (label_ends label end) (steps.choice_lists alts) (each (chosen sight by.0) alts)
+    ∙ ap (λ o. o >>= λ d. Some (s.case_of at by.1 (put_together d))) (covered_first by.0 (steps.choice_lists alts) (label_ends label end) (each (chosen sight by.0) alts)))
   where
     body : ObjectType × Value → Option s.Statement
-    body by = by_rules sight by.0 by.1 (label_ends label end) (steps.choice_lists alts) (each (choices sight by.0) (steps.choice_lists alts)) (alternatives sight (t.alternatives_of alts))
+    body by = by_rules sight at by.0 by.1 (label_ends label end) (steps.choice_lists alts) (each (choices sight by.0) (steps.choice_lists alts)) (alternatives sight (t.alternatives_of alts))
 
 pub case_is : (c : Case) → tree.case_view c
     ≡ t.case_of (out-Case c).at (tree.view (out-Case c).selector) (t.alternatives_of (tree.alternatives_view (out-Case c).alternatives)) (tree.option_ident_view (out-Case c).end_label)
 case_is c = ap tree.case_view (sym (roll-out-Case c)) ∙ view_case (out-Case c).at (out-Case c).selector (out-Case c).alternatives (out-Case c).end_label
 
 pub case_gives : (sight : Sight) (label : Option Ident) (c : Case) → statement sight label (tree.case_view c)
-    ≡ selection sight label (tree.view (out-Case c).selector) (tree.alternatives_view (out-Case c).alternatives) (tree.option_ident_view (out-Case c).end_label)
+    ≡ selection sight label (out-Case c).at (tree.view (out-Case c).selector) (tree.alternatives_view (out-Case c).alternatives) (tree.option_ident_view (out-Case c).end_label)
 case_gives sight label c =
     ap (statement sight label) (case_is c)
     ∙ selection_by sight label _ (tree.view (out-Case c).selector) (tree.alternatives_view (out-Case c).alternatives) (tree.option_ident_view (out-Case c).end_label)

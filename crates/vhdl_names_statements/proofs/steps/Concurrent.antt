@@ -56,16 +56,16 @@ module _ (sight : Sight) (n : t.Name) (x : SignalName) (found : target sight n �
       go (Some y) None r e l h = refl
       go (Some y) (Some c) r e l h = end y c r e l h
 
-  chosen_by_all : (bs : List t.Branch) (o : Option t.Value) → option_map s.if_of (rules.branches sight x bs o) ≡ steps.conditional sight n bs o
-  chosen_by_all bs o = ap (option_map s.if_of) (branches_by bs o) ∙ go (each (steps.waveform sight n) bs) (if_any (steps.alone sight n) o)
+  chosen_by_all : (bs : List t.Branch) (o : Option t.Value) → option_map (s.if_of n.identifier.at) (rules.branches sight x bs o) ≡ steps.conditional sight n bs o
+  chosen_by_all bs o = ap (option_map (s.if_of n.identifier.at)) (branches_by bs o) ∙ go (each (steps.waveform sight n) bs) (if_any (steps.alone sight n) o)
     where
-      go : (e : Option (List Guarded)) (l : Option (Option (List s.Statement))) → option_map s.if_of (e >>= λ gs. l >>= λ last. Some (branches_of gs (last_of last)))
-          ≡ (e >>= λ gs. l >>= λ last. Some (s.if_of (branches_of gs (last_of last))))
+      go : (e : Option (List Guarded)) (l : Option (Option (List s.Statement))) → option_map (s.if_of n.identifier.at) (e >>= λ gs. l >>= λ last. Some (branches_of gs (last_of last)))
+          ≡ (e >>= λ gs. l >>= λ last. Some (s.if_of n.identifier.at (branches_of gs (last_of last))))
       go None l = refl
       go (Some gs) None = refl
       go (Some gs) (Some last) = refl
 
-  pub body_by : (bs : List t.Branch) (o : Option t.Value) → rules.assignment_body sight x bs o ≡ steps.body sight n bs o
+  pub body_by : (bs : List t.Branch) (o : Option t.Value) → rules.assignment_body sight n.identifier.at x bs o ≡ steps.body sight n bs o
   body_by [] (Some v) = assigned_by v
   body_by [] None = chosen_by_all [] None
   body_by (b ∷ bs) o = chosen_by_all (b ∷ bs) o
@@ -101,10 +101,10 @@ unfolding rules.assignment
 assignment_gives sight a = go (target sight a.target) refl
   where
     go : (o : Option SignalName) → target sight a.target ≡ o
-        → (o >>= λ x. rules.assignment_body sight x a.branches a.otherwise >>= λ body. Some (assigning a.label body))
-        ≡ (o >>= λ _. steps.body sight a.target a.branches a.otherwise >>= λ y. Some (assigning a.label y))
+        → (o >>= λ x. rules.assignment_body sight a.target.identifier.at x a.branches a.otherwise >>= λ body. Some (assigning a.target.identifier.at a.label body))
+        ≡ (o >>= λ _. steps.body sight a.target a.branches a.otherwise >>= λ y. Some (assigning a.target.identifier.at a.label y))
     go None e = refl
-    go (Some x) e = ap (λ m. m >>= λ y. Some (assigning a.label y)) (body_by sight a.target x e a.branches a.otherwise)
+    go (Some x) e = ap (λ m. m >>= λ y. Some (assigning a.target.identifier.at a.label y)) (body_by sight a.target x e a.branches a.otherwise)
 
 pub selected_gives : (sight : Sight) (label : Option Ident) (a : t.SelectedAssignment) → rules.selected sight label a ≡ steps.selected sight label a
 unfolding rules.selected
@@ -116,48 +116,48 @@ selected_gives sight label a =
     rest : ObjectType × Value → Option u.Concurrent
     rest by = target sight a.target >>= λ x. covered sight by.0 (steps.choice_lists a.waveforms)
         >>= λ cs. each (λ (w : t.Waveform). option_map rules.alone (rules.assigned sight x w.value)) a.waveforms
-        >>= λ bodies. arranged cs bodies >>= λ all. Some (assigning label (s.case_of by.1 all))
+        >>= λ bodies. arranged cs bodies >>= λ all. Some (assigning a.at label (s.case_of a.at by.1 all))
 
     steps_rest : ObjectType × Value → Option u.Concurrent
     steps_rest by = target sight a.target >>= λ _. each (steps.chosen sight by.0 a.target) a.waveforms
-        >>= λ all. cover by.0 (steps.choice_lists a.waveforms) (all_choices all) >>= λ _. but_last all >>= λ d. Some (assigning label (s.case_of by.1 (put_together d)))
+        >>= λ all. cover by.0 (steps.choice_lists a.waveforms) (all_choices all) >>= λ _. but_last all >>= λ d. Some (assigning a.at label (s.case_of a.at by.1 (put_together d)))
 
     by_parts : ObjectType × Value → Option u.Concurrent
-    by_parts by = steps.parts sight by.0 a >>= λ d. Some (assigning label (s.case_of by.1 (put_together d)))
+    by_parts by = steps.parts sight by.0 a >>= λ d. Some (assigning a.at label (s.case_of a.at by.1 (put_together d)))
 
     apart : (by : ObjectType × Value) (o : Option SignalName) (h : Option (List Chosen))
-        → (o >>= λ _. h >>= λ all. cover by.0 (steps.choice_lists a.waveforms) (all_choices all) >>= λ _. but_last all >>= λ d. Some (assigning label (s.case_of by.1 (put_together d))))
-        ≡ ((o >>= λ _. covering by.0 (steps.choice_lists a.waveforms) h >>= λ all. but_last all) >>= λ d. Some (assigning label (s.case_of by.1 (put_together d))))
+        → (o >>= λ _. h >>= λ all. cover by.0 (steps.choice_lists a.waveforms) (all_choices all) >>= λ _. but_last all >>= λ d. Some (assigning a.at label (s.case_of a.at by.1 (put_together d))))
+        ≡ ((o >>= λ _. covering by.0 (steps.choice_lists a.waveforms) h >>= λ all. but_last all) >>= λ d. Some (assigning a.at label (s.case_of a.at by.1 (put_together d))))
     apart by None h = refl
     apart by (Some x) None = refl
     apart by (Some x) (Some all) = end (cover by.0 (steps.choice_lists a.waveforms) (all_choices all))
       where
         end : (c : Option (Unit {0}))
-            → (c >>= λ _. but_last all >>= λ d. Some (assigning label (s.case_of by.1 (put_together d))))
-            ≡ (((c >>= λ _. Some all) >>= λ all. but_last all) >>= λ d. Some (assigning label (s.case_of by.1 (put_together d))))
+            → (c >>= λ _. but_last all >>= λ d. Some (assigning a.at label (s.case_of a.at by.1 (put_together d))))
+            ≡ (((c >>= λ _. Some all) >>= λ all. but_last all) >>= λ d. Some (assigning a.at label (s.case_of a.at by.1 (put_together d))))
         end None = refl
         end (Some u) = refl
 
     outer_rules : (f : Option (List (List s.Choice))) (g : Option (List s.Statements)) (value : Value)
-        → (f >>= λ cs. g >>= λ bodies. arranged cs bodies >>= λ all. Some (assigning label (s.case_of value all)))
-        ≡ option_map (assigning label) (f >>= λ cs. g >>= λ bodies. arranged cs bodies >>= λ all. Some (s.case_of value all))
+        → (f >>= λ cs. g >>= λ bodies. arranged cs bodies >>= λ all. Some (assigning a.at label (s.case_of a.at value all)))
+        ≡ option_map (assigning a.at label) (f >>= λ cs. g >>= λ bodies. arranged cs bodies >>= λ all. Some (s.case_of a.at value all))
     outer_rules None g value = refl
     outer_rules (Some cs) None value = refl
     outer_rules (Some cs) (Some bodies) value = last (arranged cs bodies)
       where
-        last : (o : Option s.Alternatives) → (o >>= λ all. Some (assigning label (s.case_of value all))) ≡ option_map (assigning label) (o >>= λ all. Some (s.case_of value all))
+        last : (o : Option s.Alternatives) → (o >>= λ all. Some (assigning a.at label (s.case_of a.at value all))) ≡ option_map (assigning a.at label) (o >>= λ all. Some (s.case_of a.at value all))
         last None = refl
         last (Some all) = refl
 
     outer_steps : (h : Option (List Chosen)) (by : ObjectType × Value)
-        → option_map (assigning label) (by_steps sight by.0 by.1 true (steps.choice_lists a.waveforms) h)
-        ≡ (h >>= λ all. cover by.0 (steps.choice_lists a.waveforms) (all_choices all) >>= λ _. but_last all >>= λ d. Some (assigning label (s.case_of by.1 (put_together d))))
+        → option_map (assigning a.at label) (by_steps sight a.at by.0 by.1 true (steps.choice_lists a.waveforms) h)
+        ≡ (h >>= λ all. cover by.0 (steps.choice_lists a.waveforms) (all_choices all) >>= λ _. but_last all >>= λ d. Some (assigning a.at label (s.case_of a.at by.1 (put_together d))))
     outer_steps None by = refl
     outer_steps (Some all) by = asked (cover by.0 (steps.choice_lists a.waveforms) (all_choices all)) (but_last all)
       where
         asked : (c : Option (Unit {0})) (d : Option Divided)
-            → option_map (assigning label) (c >>= λ _. met true >> (d >>= λ d. Some (s.case_of by.1 (put_together d))))
-            ≡ (c >>= λ _. d >>= λ d. Some (assigning label (s.case_of by.1 (put_together d))))
+            → option_map (assigning a.at label) (c >>= λ _. met true >> (d >>= λ d. Some (s.case_of a.at by.1 (put_together d))))
+            ≡ (c >>= λ _. d >>= λ d. Some (assigning a.at label (s.case_of a.at by.1 (put_together d))))
         asked None d = refl
         asked (Some u) None = refl
         asked (Some u) (Some d) = refl
@@ -165,12 +165,12 @@ selected_gives sight label a =
     go : (by : ObjectType × Value) (o : Option SignalName) → target sight a.target ≡ o
         → (o >>= λ x. covered sight by.0 (steps.choice_lists a.waveforms)
         >>= λ cs. each (λ (w : t.Waveform). option_map rules.alone (rules.assigned sight x w.value)) a.waveforms
-        >>= λ bodies. arranged cs bodies >>= λ all. Some (assigning label (s.case_of by.1 all)))
+        >>= λ bodies. arranged cs bodies >>= λ all. Some (assigning a.at label (s.case_of a.at by.1 all)))
         ≡ (o >>= λ _. each (steps.chosen sight by.0 a.target) a.waveforms
-        >>= λ all. cover by.0 (steps.choice_lists a.waveforms) (all_choices all) >>= λ _. but_last all >>= λ d. Some (assigning label (s.case_of by.1 (put_together d))))
+        >>= λ all. cover by.0 (steps.choice_lists a.waveforms) (all_choices all) >>= λ _. but_last all >>= λ d. Some (assigning a.at label (s.case_of a.at by.1 (put_together d))))
     go by None e = refl
     go by (Some x) e =
         outer_rules (covered sight by.0 (steps.choice_lists a.waveforms)) (each (λ (w : t.Waveform). option_map rules.alone (rules.assigned sight x w.value)) a.waveforms) by.1
-        ∙ ap (option_map (assigning label))
-        (same sight by.0 by.1 true (steps.choice_lists a.waveforms) _ _ _ (pairs sight a.target x e by.0 a.waveforms))
+        ∙ ap (option_map (assigning a.at label))
+        (same sight a.at by.0 by.1 true (steps.choice_lists a.waveforms) _ _ _ (pairs sight a.target x e by.0 a.waveforms))
         ∙ outer_steps (each (steps.chosen sight by.0 a.target) a.waveforms) by

@@ -1,5 +1,5 @@
 -- The rules of sequential statements, in the order in which the code comes to their parts.
-use Rattle.std.proofs.Common.{◌≡◌, Bool, true, false, List, [], ◌∷◌, Option, Some, None, refl, ap, sym, ◌∙◌}
+use Rattle.std.proofs.Common.{◌≡◌, ℕ, Bool, true, false, List, [], ◌∷◌, Option, Some, None, refl, ap, sym, ◌∙◌}
 use Rattle.std.specs.Prelude.{option_map}
 use Rattle.vhdl_tree.specs.Tree as t
 use Rattle.vhdl_tree.specs.Tree.{Ident}
@@ -70,36 +70,36 @@ for_is f = ap tree.for_view (sym (roll-out-For f)) ∙ view_for (out-For f).at (
 
 -- ---- if statements and loops, by their parts
 
-conditional_by : (sight : Sight) (label : Option Ident) (at : _) (bs : List t.Conditional) (o : Option (List t.Sequential)) (end : Option Ident)
-    → statement sight label (t.if_of at (t.conditionals_of bs) (t.otherwise_of o) end) ≡ steps.conditional sight label bs o end
+conditional_by : (sight : Sight) (label : Option Ident) (at : ℕ) (bs : List t.Conditional) (o : Option (List t.Sequential)) (end : Option Ident)
+    → statement sight label (t.if_of at (t.conditionals_of bs) (t.otherwise_of o) end) ≡ steps.conditional sight label at bs o end
 unfolding statement
 conditional_by sight label at bs o end =
-    ap (λ x. met (label_ends label end) >> (x >>= λ last. conditionals sight last (t.conditionals_of bs) >>= λ ys. Some (s.if_of ys))) (otherwise_each sight o)
+    ap (λ x. met (label_ends label end) >> (x >>= λ last. conditionals sight last (t.conditionals_of bs) >>= λ ys. Some (s.if_of at ys))) (otherwise_each sight o)
     ∙ go (label_ends label end) (if_any (all_labelled sight) o) (each (guarded sight) bs) (λ last. conditionals sight last (t.conditionals_of bs)) (λ last. conditionals_each sight last bs)
   where
     go : (b : Bool) (x : Option (Option (List s.Statement))) (k : Option (List Guarded)) (r : s.Branches → Option s.Branches)
         → ((last : s.Branches) → r last ≡ option_map (λ gs. branches_of gs last) k)
-        → (met b >> (option_map last_of x >>= λ last. r last >>= λ ys. Some (s.if_of ys)))
-        ≡ (k >>= λ gs. x >>= λ last. met b >> Some (s.if_of (branches_of gs (last_of last))))
+        → (met b >> (option_map last_of x >>= λ last. r last >>= λ ys. Some (s.if_of at ys)))
+        ≡ (k >>= λ gs. x >>= λ last. met b >> Some (s.if_of at (branches_of gs (last_of last))))
     go false None None r h = refl
     go false None (Some gs) r h = refl
     go false (Some last) None r h = refl
     go false (Some last) (Some gs) r h = refl
     go true None None r h = refl
     go true None (Some gs) r h = refl
-    go true (Some last) None r h = ap (λ r. r >>= λ ys. Some (s.if_of ys)) (h (last_of last))
-    go true (Some last) (Some gs) r h = ap (λ r. r >>= λ ys. Some (s.if_of ys)) (h (last_of last))
+    go true (Some last) None r h = ap (λ r. r >>= λ ys. Some (s.if_of at ys)) (h (last_of last))
+    go true (Some last) (Some gs) r h = ap (λ r. r >>= λ ys. Some (s.if_of at ys)) (h (last_of last))
 
-loop_by : (sight : Sight) (label : Option Ident) (at : _) (n : Ident) (r : t.Range) (qs : List t.Sequential) (end : Option Ident)
-    → statement sight label (t.for_of at n r (t.statements_of qs) end) ≡ steps.repetition sight label n r qs end
+loop_by : (sight : Sight) (label : Option Ident) (at : ℕ) (n : Ident) (r : t.Range) (qs : List t.Sequential) (end : Option Ident)
+    → statement sight label (t.for_of at n r (t.statements_of qs) end) ≡ steps.repetition sight label at n r qs end
 unfolding statement
 loop_by sight label at n r qs end =
-    ap (λ m. met (label_ends label end) >> (static_range sight r >>= λ range. m >>= λ turn. Some (s.for_of range turn))) (statements_each (within_loop sight n) qs)
+    ap (λ m. met (label_ends label end) >> (static_range sight r >>= λ range. m >>= λ turn. Some (s.for_of at range turn))) (statements_each (within_loop sight n) qs)
     ∙ go (label_ends label end) (static_range sight r) (all_labelled (within_loop sight n) qs)
   where
     go : (b : Bool) (x : Option Range) (l : Option (List s.Statement))
-        → (met b >> (x >>= λ range. option_map statements_of l >>= λ turn. Some (s.for_of range turn)))
-        ≡ (x >>= λ range. l >>= λ turn. met b >> Some (s.for_of range (statements_of turn)))
+        → (met b >> (x >>= λ range. option_map statements_of l >>= λ turn. Some (s.for_of at range turn)))
+        ≡ (x >>= λ range. l >>= λ turn. met b >> Some (s.for_of at range (statements_of turn)))
     go false None l = refl
     go false (Some r) None = refl
     go false (Some r) (Some ys) = refl
@@ -108,13 +108,13 @@ loop_by sight label at n r qs end =
     go true (Some r) (Some ys) = refl
 
 pub if_gives : (sight : Sight) (label : Option Ident) (i : If) → statement sight label (tree.if_view i)
-    ≡ steps.conditional sight label (tree.conditionals_view (out-If i).branches) (tree.option_sequentials_view (out-If i).otherwise) (tree.option_ident_view (out-If i).end_label)
+    ≡ steps.conditional sight label (out-If i).at (tree.conditionals_view (out-If i).branches) (tree.option_sequentials_view (out-If i).otherwise) (tree.option_ident_view (out-If i).end_label)
 if_gives sight label i =
     ap (statement sight label) (if_is i)
     ∙ conditional_by sight label _ (tree.conditionals_view (out-If i).branches) (tree.option_sequentials_view (out-If i).otherwise) (tree.option_ident_view (out-If i).end_label)
 
 pub loop_gives : (sight : Sight) (label : Option Ident) (f : For) → statement sight label (tree.for_view f)
-    ≡ steps.repetition sight label (tree.ident_view (out-For f).parameter) (tree.range_view (out-For f).range) (tree.sequentials_view (out-For f).statements)
+    ≡ steps.repetition sight label (out-For f).at (tree.ident_view (out-For f).parameter) (tree.range_view (out-For f).range) (tree.sequentials_view (out-For f).statements)
     (tree.option_ident_view (out-For f).end_label)
 loop_gives sight label f =
     ap (statement sight label) (for_is f)

@@ -1,5 +1,5 @@
 -- Case statements and selected assignments in the order in which the code comes to their parts.
-use Rattle.std.specs.Prelude.{Bool, false, List, [], ◌∷◌, map, flat_map, Option, Some, None, ◌||◌}
+use Rattle.std.specs.Prelude.{ℕ, Bool, false, List, [], ◌∷◌, map, flat_map, Option, Some, None, ◌||◌}
 use Rattle.std.specs.List.{list_all, range_with_len}
 use Rattle.std.specs.Borrow.{Bor}
 use Rattle.vhdl_tree.specs.declared.expression.Choice.{Choice}
@@ -62,11 +62,12 @@ parts sight type label alts end = do
   rule WrongKind (label_ends label end)
   but_last all
 
-abbrev pub selection : Sight → Option Ident → t.Expr → List t.Alternative → Option Ident → Option s.Statement
-selection sight label e alts end = do
+-- a case that starts at this byte
+abbrev pub selection : Sight → Option Ident → (at : ℕ) → t.Expr → List t.Alternative → Option Ident → Option s.Statement
+selection sight label at e alts end = do
   by ← selected_by sight e
   d ← parts sight by.0 label alts end
-  Some (s.case_of by.1 (alternatives_of d.alternatives (statements_of d.last)))
+  Some (s.case_of at by.1 (alternatives_of d.alternatives (statements_of d.last)))
 
 -- ---- tables of choices
 

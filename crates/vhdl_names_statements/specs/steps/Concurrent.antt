@@ -31,7 +31,7 @@ abbrev pub conditional : Sight → t.Name → List t.Branch → Option t.Value �
 conditional sight n bs o = do
   gs ← each (waveform sight n) bs
   last ← if_any (alone sight n) o
-  Some (s.if_of (branches_of gs (last_of last)))
+  Some (s.if_of n.identifier.at (branches_of gs (last_of last)))
 
 abbrev pub body : Sight → t.Name → List t.Branch → Option t.Value → Option s.Statement
 body sight n [] (Some v) = assigned sight n v
@@ -42,7 +42,7 @@ abbrev pub assignment : Sight → t.Assignment → Option u.Concurrent
 assignment sight a = do
   target sight a.target
   y ← body sight a.target a.branches a.otherwise
-  Some (assigning a.label y)
+  Some (assigning a.target.identifier.at a.label y)
 
 -- value when choices
 abbrev pub chosen : Sight → ObjectType → t.Name → t.Waveform → Option Chosen
@@ -65,4 +65,4 @@ abbrev pub selected : Sight → Option Ident → t.SelectedAssignment → Option
 selected sight label a = do
   by ← selected_by sight a.selector
   d ← parts sight by.0 a
-  Some (assigning label (s.case_of by.1 (alternatives_of d.alternatives (statements_of d.last))))
+  Some (assigning a.at label (s.case_of a.at by.1 (alternatives_of d.alternatives (statements_of d.last))))

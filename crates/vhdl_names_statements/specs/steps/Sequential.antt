@@ -1,5 +1,5 @@
 -- Sequential statements in the order in which the code comes to their parts.
-use Rattle.std.specs.Prelude.{List, ◌∷◌, Option, Some}
+use Rattle.std.specs.Prelude.{ℕ, List, ◌∷◌, Option, Some}
 use Rattle.vhdl_tree.specs.Tree as t
 use Rattle.vhdl_tree.specs.Tree.{Ident}
 use Rattle.vhdl_names_rules.specs.units.Statements as s
@@ -22,7 +22,7 @@ abbrev pub set : Sight → t.Name → t.Value → Option s.Statement
 set sight n v = do
   x ← variable sight n
   g ← value_given sight x.type v
-  Some (s.set x.number x.part g)
+  Some (s.set x.at x.number x.part g)
 
 -- ---- lists of statements
 
@@ -40,23 +40,25 @@ guarded sight b = do
   xs ← all_labelled sight b.statements
   Some (guarded_by c xs)
 
-abbrev pub conditional : Sight → Option Ident → List t.Conditional → Option (List t.Sequential) → Option Ident → Option s.Statement
-conditional sight label bs o end = do
+-- an if that starts at this byte
+abbrev pub conditional : Sight → Option Ident → (at : ℕ) → List t.Conditional → Option (List t.Sequential) → Option Ident → Option s.Statement
+conditional sight label at bs o end = do
   gs ← each (guarded sight) bs
   last ← if_any (all_labelled sight) o
   rule WrongKind (label_ends label end)
-  Some (s.if_of (branches_of gs (last_of last)))
+  Some (s.if_of at (branches_of gs (last_of last)))
 
 -- what a loop over this parameter does in a turn
 abbrev pub turn : Sight → Ident → List t.Sequential → Option (List s.Statement)
 turn sight n body = all_labelled (within_loop sight n) body
 
-abbrev pub repetition : Sight → Option Ident → Ident → t.Range → List t.Sequential → Option Ident → Option s.Statement
-repetition sight label n r body end = do
+-- a loop that starts at this byte
+abbrev pub repetition : Sight → Option Ident → (at : ℕ) → Ident → t.Range → List t.Sequential → Option Ident → Option s.Statement
+repetition sight label at n r body end = do
   range ← static_range sight r
   found ← turn sight n body
   rule WrongKind (label_ends label end)
-  Some (s.for_of range (statements_of found))
+  Some (s.for_of at range (statements_of found))
 
 -- with one more parameter, the innermost
 abbrev pub in_loop : Sight → Declared → Sight

@@ -15,7 +15,7 @@ rows n (more_of-Concurrent x rest) = ap (u.concurrent (concurrent_view x)) (rows
 
 pub view_generate : (label : Identifier) (at : ℕ) (scheme : Scheme) (statements : Vec Concurrent Global) →
     concurrent_view (c.Generate (record { label = label; at = at; scheme = scheme; statements = statements }))
-    ≡ generated label.text.items (concurrents_of (concurrents_view statements)) scheme
+    ≡ generated label.text.items at (concurrents_of (concurrents_view statements)) scheme
 view_generate label at scheme statements =
-    ap (λ xs. generated label.text.items xs scheme)
+    ap (λ xs. generated label.text.items at xs scheme)
     (rows _ (hidden-the_row-Concurrent-0 statements) ∙ ap (λ xs. concurrents_of (map concurrent_view xs)) (items_hidden-the_row-Concurrent-0 statements))

@@ -49,22 +49,22 @@ alternatives_hidden : (v : Vec Alternative Global) (last : s.Statements) → alt
 alternatives_hidden v last = alternatives_rows _ (hidden-the_row-Alternative-1 v) last ∙ ap (λ xs. alternatives_of (map alternative_view xs) last) (items_hidden-the_row-Alternative-1 v)
 
 pub view_loop : (at : ℕ) (range : StaticRange) (statements : Vec Statement Global) →
-    statement_view (t.Loop (record { at = at; range = range; statements = statements })) ≡ s.for_of (range_view range) (statements_of (statements_view statements))
-view_loop at range statements = ap (s.for_of (range_view range)) (statements_hidden statements)
+    statement_view (t.Loop (record { at = at; range = range; statements = statements })) ≡ s.for_of at (range_view range) (statements_of (statements_view statements))
+view_loop at range statements = ap (s.for_of at (range_view range)) (statements_hidden statements)
 
 pub view_if : (at : ℕ) (branches : Vec Branch Global) (otherwise : Option (Vec Statement Global)) →
     statement_view (t.If (roll-If (record { at = at; branches = branches; otherwise = otherwise })))
-    ≡ s.if_of (branches_of (branches_view branches) (last_of (option_statements_view otherwise)))
+    ≡ s.if_of at (branches_of (branches_view branches) (last_of (option_statements_view otherwise)))
 unfolding roll-If denote.Hole.Carrier.roll
-view_if at branches None = ap s.if_of (branches_hidden branches s.no_else)
+view_if at branches None = ap (s.if_of at) (branches_hidden branches s.no_else)
 view_if at branches (Some xs) =
-    ap s.if_of (branches_hidden branches (s.otherwise (statements_row (hidden-the_row-Statement-0 xs))))
-    ∙ ap (λ ys. s.if_of (branches_of (branches_view branches) (s.otherwise ys))) (statements_hidden xs)
+    ap (s.if_of at) (branches_hidden branches (s.otherwise (statements_row (hidden-the_row-Statement-0 xs))))
+    ∙ ap (λ ys. s.if_of at (branches_of (branches_view branches) (s.otherwise ys))) (statements_hidden xs)
 
 pub view_case : (at : ℕ) (selector : Value) (alternatives : Vec Alternative Global) (others : Vec Statement Global) →
     statement_view (t.Case (roll-Case (record { at = at; selector = selector; alternatives = alternatives; others = others })))
-    ≡ s.case_of (value_view selector) (alternatives_of (alternatives_view alternatives) (statements_of (statements_view others)))
+    ≡ s.case_of at (value_view selector) (alternatives_of (alternatives_view alternatives) (statements_of (statements_view others)))
 unfolding roll-Case denote.Hole.Carrier.roll
 view_case at selector alternatives others =
-    ap (s.case_of (value_view selector)) (alternatives_hidden alternatives (statements_row (hidden-the_row-Statement-0 others)))
-    ∙ ap (λ ys. s.case_of (value_view selector) (alternatives_of (alternatives_view alternatives) ys)) (statements_hidden others)
+    ap (s.case_of at (value_view selector)) (alternatives_hidden alternatives (statements_row (hidden-the_row-Statement-0 others)))
+    ∙ ap (λ ys. s.case_of at (value_view selector) (alternatives_of (alternatives_view alternatives) ys)) (statements_hidden others)

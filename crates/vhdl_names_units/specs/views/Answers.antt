@@ -1,4 +1,4 @@
--- Names, values, choices and subtype indications of the code, without places in the text.
+-- Names, values, choices and subtype indications of the code.
 use Rattle.std.specs.Prelude.{List, map, Vec}
 use Rattle.std.specs.Global.{Global}
 use Rattle.vhdl_names_rules.specs.views.Integers.{static_view, range_view}
@@ -37,7 +37,7 @@ abbrev pub signal_name_view : SignalName → q.SignalName
 signal_name_view x = record { place = place_view x.place; mode = x.mode; type = x.object_type }
 
 abbrev pub variable_name_view : VariableName → q.VariableName
-variable_name_view x = record { number = x.number; part = part_view x.part; type = x.object_type }
+variable_name_view x = record { at = x.at; number = x.number; part = part_view x.part; type = x.object_type }
 
 abbrev pub form_view : Form → u.Form
 form_view f.Element = u.element

@@ -1,4 +1,4 @@
--- Concurrent statements of the code, without places in the text.
+-- Concurrent statements of the code.
 use Rattle.std.specs.Prelude.{ℕ, List, [], ◌∷◌, map, option_map, Vec}
 use Rattle.std.specs.Global.{Global}
 use Rattle.vhdl_tree.specs.declared.expression.Identifier.{Identifier}
@@ -28,6 +28,7 @@ sensitivity_view e.AsRead = u.as_read
 
 abbrev pub process_view : Process → u.Process
 process_view p = record {
+  at = p.at;
   label = option_map text_of p.label;
   variables = objects_view p.variables;
   sensitivity = sensitivity_view p.sensitivity;
@@ -36,22 +37,23 @@ process_view p = record {
 
 abbrev pub instance_view : Instance → u.Instance
 instance_view i = record {
+  at = i.label.at;
   label = i.label.text.items;
   unit = i.unit;
   generics = map (option_map static_view) i.generics.items;
   ports = map (option_map place_view) i.ports.items;
 }
 
--- a generate of this label and body
-abbrev pub generated : List ℕ → u.Concurrents → Scheme → u.Concurrent
-generated label body (k.For r) = u.generate_for label (range_view r) body
-generated label body (k.If t) = u.generate_if label (static_test_view t) body
+-- a generate of this label and body, whose scheme starts at this byte
+abbrev pub generated : List ℕ → (at : ℕ) → u.Concurrents → Scheme → u.Concurrent
+generated label at body (k.For r) = u.generate_for at label (range_view r) body
+generated label at body (k.If t) = u.generate_if at label (static_test_view t) body
 
 abbrev mutual
   pub concurrent_view : Concurrent → u.Concurrent
   concurrent_view (c.Process p) = u.process (process_view p)
   concurrent_view (c.Instance i) = u.instance (instance_view i)
-  concurrent_view (c.Generate' label at scheme shape statements) = generated label.text.items (concurrents_row statements) scheme
+  concurrent_view (c.Generate' label at scheme shape statements) = generated label.text.items at (concurrents_row statements) scheme
 
   pub concurrents_row : {m : _} → Row_of-Concurrent m → u.Concurrents
   concurrents_row end_of-Concurrent = u.no_concurrents

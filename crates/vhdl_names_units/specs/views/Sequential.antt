@@ -1,4 +1,4 @@
--- Sequential statements of the code, without places in the text.
+-- Sequential statements of the code.
 use Rattle.std.specs.Prelude.{List, [], ◌∷◌, map, Option, Some, None, option_map, Vec}
 use Rattle.std.specs.Global.{Global}
 use Rattle.vhdl_names_rules.specs.units.Expressions.{Test}
@@ -19,17 +19,17 @@ abbrev mutual
   pub statement_view : Statement → s.Statement
   statement_view t.Null = s.null_of
   statement_view (t.Assign target value) = s.assign (place_view target) (given_view value)
-  statement_view (t.Set at number part value) = s.set number (part_view part) (given_view value)
+  statement_view (t.Set at number part value) = s.set at number (part_view part) (given_view value)
   statement_view (t.If x) = if_view x
   statement_view (t.Case x) = case_view x
-  statement_view (t.Loop' at range shape statements) = s.for_of (range_view range) (statements_row statements)
+  statement_view (t.Loop' at range shape statements) = s.for_of at (range_view range) (statements_row statements)
 
   pub if_view : If → s.Statement
-  if_view (If' at shape branches otherwise) = s.if_of (branches_row branches (last_row otherwise))
+  if_view (If' at shape branches otherwise) = s.if_of at (branches_row branches (last_row otherwise))
 
   pub case_view : Case → s.Statement
   case_view (Case' at selector shape alternatives shape' others) =
-      s.case_of (value_view selector) (alternatives_row alternatives (statements_row others))
+      s.case_of at (value_view selector) (alternatives_row alternatives (statements_row others))
 
   pub statements_row : {m : _} → Row_of-Statement m → s.Statements
   statements_row end_of-Statement = s.done

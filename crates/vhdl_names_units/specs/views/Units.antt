@@ -1,4 +1,4 @@
--- Units of the code, without places in the text.
+-- Units of the code.
 use Rattle.std.specs.Prelude.{map, option_map}
 use Rattle.vhdl_names_rules.specs.units.Units as u
 use Rattle.vhdl_names_units.specs.views.Declarations.{all_generics_view, all_ports_view, declarations_view}
@@ -12,6 +12,7 @@ architecture_view a = record { declarations = declarations_view a.declarations; 
 
 abbrev pub entity_view : Entity → u.Entity
 entity_view e = record {
+  at = e.name.at;
   name = e.name.text.items;
   generics = all_generics_view e.generics;
   ports = all_ports_view e.ports;

@@ -18,7 +18,7 @@ use Rattle.vhdl_elab.proofs.connection.connect.Goals as goal
 -- within the limits connection is wiring
 is-wired : (design : Design) → is_within_limits (counts (numbered_design design)) ≡ true → netlist_of design ≡ wired (numbered_design design)
 unfolding netlist_of
-is-wired design h = ap (λ t. unless TooMany t >> wired (numbered_design design)) h
+is-wired design h = ap (λ t. unless TooMany 0 t >> wired (numbered_design design)) h
 
 -- what is within has at most as many nets
 nets-within : (counts most : Counts) → is_within counts most ≡ true → counts.nets ≤ most.nets

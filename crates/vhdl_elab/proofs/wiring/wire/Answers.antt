@@ -32,7 +32,7 @@ returns-in_err-wires-clause-given c =
     λ d made there.
     let m = now c.args.made c.settle.new.processes in
     let told : IsTold d m = as-told d c.args.made c.settle.new.processes c.deref_mut.result.now c.len-nets.result made there c.settle.auto.processes c.deref_mut.ensures.len c.deref_mut.ensures.value (c.len-nets.ensures ∙ c.args.made.kinds.ok.0) c.settle.ensures in
-    let stopped : c.in_err-wires.field-0.0 ≢ NoMemory → as_shown (wired d) ≡ Err (elab.problem_told c.in_err-wires.field-0.0) =
+    let stopped : c.in_err-wires.field-0.0 ≢ NoMemory → as_shown (wired d) ≡ Err (elab.fault_told c.in_err-wires.field-0.0) =
     λ n. is-refused d m told c.requires.defaults _ there (c.in_err-wires.ensures.refused n) in
     first_of (search rules, grind common_steps)
 

@@ -9,7 +9,7 @@ use Rattle.vhdl_expand.proofs.actuals.associate_all.Given as goal
 -- the ports so far, and those that are left
 abbrev pub invariant-loop-name : goal.invariant-loop-name
 invariant-loop-name l = record {
-  rest : stepwise (next_associated (site_view l.above) (places_view l.actuals)) (associated_to l.before l.fn.ports.items) (ports_view l.declaration)
-      ≡ stepwise (next_associated (site_view l.above) (places_view l.actuals)) (associated_to l.count l.ports.items) (map (λ (n : Identifier). any_port l.declaration) (drop l._name-index l.names));
+  rest : stepwise (next_associated (site_view l.above) l.fn.at (places_view l.actuals)) (associated_to l.before l.fn.ports.items) (ports_view l.declaration)
+      ≡ stepwise (next_associated (site_view l.above) l.fn.at (places_view l.actuals)) (associated_to l.count l.ports.items) (map (λ (n : Identifier). any_port l.declaration) (drop l._name-index l.names));
   within : l.count ≤ length l.ports.items;
 }

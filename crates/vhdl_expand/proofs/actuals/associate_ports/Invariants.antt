@@ -9,7 +9,7 @@ use Rattle.vhdl_expand.proofs.actuals.associate_ports.Given as goal
 -- the ports so far, and those of the declarations that are left
 abbrev pub invariant-loop-declaration : goal.invariant-loop-declaration
 invariant-loop-declaration l = record {
-  rest : stepwise (next_associated (site_view l.above) (places_view l.actuals)) (associated_to 0 l.fn.ports.items) (flat_map ports_view l.declarations)
-      ≡ stepwise (next_associated (site_view l.above) (places_view l.actuals)) (associated_to l.count l.ports.items) (flat_map ports_view (drop l.declaration-index l.declarations));
+  rest : stepwise (next_associated (site_view l.above) l.fn.at (places_view l.actuals)) (associated_to 0 l.fn.ports.items) (flat_map ports_view l.declarations)
+      ≡ stepwise (next_associated (site_view l.above) l.fn.at (places_view l.actuals)) (associated_to l.count l.ports.items) (flat_map ports_view (drop l.declaration-index l.declarations));
   within : l.count ≤ length l.ports.items;
 }

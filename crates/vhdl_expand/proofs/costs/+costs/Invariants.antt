@@ -28,6 +28,6 @@ invariant-of_alternatives-loop-alternative l =
 -- the turns that are left
 abbrev pub invariant-of_loop-loop-turn : goal.invariant-of_loop-loop-turn
 invariant-of_loop-loop-turn l =
-    Alike (paid (budget_view l.fn.budget) (statement_costs (integers_view l.integers) (units.for_of (range_view l.repeated.range) (analysed.statements_of (analysed.statements_view l.repeated.statements)))))
+    Alike (paid (budget_view l.fn.budget) (statement_costs (integers_view l.integers) (units.for_of l.repeated.at (range_view l.repeated.range) (analysed.statements_of (analysed.statements_view l.repeated.statements)))))
     (paid (budget_view l.budget) (together (λ i. statements_costs (in_turn (integers_view l.integers) i) (analysed.statements_of (analysed.statements_view l.repeated.statements)))
     (drop l.turn (numbers_from l.turns.direction l.turns.first l.turns.count))))

@@ -14,19 +14,19 @@ use Rattle.vhdl_expand.proofs.declarative.declare.Goals as goal
 pub returns-in-Integers : goal.returns-in-Integers
 returns-in-Integers c =
     let d = declared_view c.args.declared.now in
-    let x = u.Declaration.integer c.in-Integers.integer_type (static_view c.in-Integers.value) in
+    let v = λ (n : Identifier). u.Declaration.integer n.at c.in-Integers.integer_type (static_view c.in-Integers.value) in
     expands_along _ _ _ _
     (ap (λ y. definition.declarations d (units.declaration_view y)) c.in-Integers.is
-    ∙ ap (definition.declarations d) (named (λ n. x) c.in-Integers.names.items ∙ ap (map (λ (n : Identifier). x)) (sym c.deref.ensures.value)))
+    ∙ ap (definition.declarations d) (named (λ n. u.Declaration.integer n.at c.in-Integers.integer_type (static_view c.in-Integers.value)) c.in-Integers.names.items ∙ ap (map v) (sym c.deref.ensures.value)))
     c.add_integers.ensures
 
 pub returns-in-Constants : goal.returns-in-Constants
 returns-in-Constants c =
     let d = declared_view c.args.declared.now in
-    let x = u.Declaration.constant (form_view c.in-Constants.form) (fixed_view c.in-Constants.value) in
+    let v = λ (n : Identifier). u.Declaration.constant n.at (form_view c.in-Constants.form) (fixed_view c.in-Constants.value) in
     expands_along _ _ _ _
     (ap (λ y. definition.declarations d (units.declaration_view y)) c.in-Constants.is
-    ∙ ap (definition.declarations d) (named (λ n. x) c.in-Constants.names.items ∙ ap (map (λ (n : Identifier). x)) (sym c.deref-in-Constants.ensures.value)))
+    ∙ ap (definition.declarations d) (named (λ n. u.Declaration.constant n.at (form_view c.in-Constants.form) (fixed_view c.in-Constants.value)) c.in-Constants.names.items ∙ ap (map v) (sym c.deref-in-Constants.ensures.value)))
     c.add_constants.ensures
 
 pub returns-in-Signals : goal.returns-in-Signals

@@ -1,9 +1,13 @@
-use Rattle.std.proofs.Common.{◌≡◌, map, None, Err, inl, inr, ap, ◌∙◌, sym, arith, rules}
+use Rattle.std.proofs.Common.{◌≡◌, List, map, None, Err, inl, inr, ap, ◌∙◌, sym, arith, rules}
 use Rattle.std.specs.Prelude.{◌≢◌, ◌⊎◌, find, bytes_eq}
+use Rattle.std.specs.Char.{to_ascii_lowercase}
 use Rattle.std.proofs.lemmas.Grind.{common_steps}
 use Rattle.vhdl_names_rules.specs.units.Units.{Entity}
+use Rattle.vhdl_names_rules.specs.units.Bytes.{units_bytes}
+use Rattle.vhdl_names_units.specs.declared.unit.Entity as analysed
 use Rattle.vhdl_names_units.specs.views.Units.{entity_view, units_view}
 use Rattle.vhdl_expand_rules.specs.declared.fault.ElabFault.TheVariants.{NoMemory}
+use Rattle.vhdl_expand_rules.specs.declared.fault.ElabProblem.TheVariants.{NoTop}
 use Rattle.vhdl_expand_rules.specs.Expansion.{expanded_design, instance_of}
 use Rattle.vhdl_expand_rules.proofs.Steps.{given}
 use Rattle.vhdl_expand_tree.specs.Costs.{charged, instance_costs}
@@ -12,10 +16,12 @@ use Rattle.vhdl_expand.specs.Limits.{within_limits}
 use Rattle.vhdl_expand.specs.Views.{declared_view}
 use Rattle.vhdl_expand.proofs.Nested.{no_top, no_top_interface, no_instance, design_made}
 use Rattle.vhdl_elab_rules.specs.Refused.{HasInterface}
-use Rattle.vhdl_expand.proofs.Told.{told_at, same_at, has_interface}
+use Rattle.vhdl_expand.proofs.Among.{same_among, then_among}
+use Rattle.vhdl_expand.proofs.Standing.{instance_list, top_places, top_among}
+use Rattle.vhdl_expand.proofs.Told.{told_at, other_told, no_top_other, same_at, has_interface}
 use Rattle.vhdl_expand.proofs.Heavier.{found_among}
-use Rattle.vhdl_expand_rules.specs.Elab.{problem_told, MayTell}
-use Rattle.vhdl_expand_tree.proofs.Alike.{tells, tells_same}
+use Rattle.vhdl_expand_rules.specs.Elab.{fault_told}
+use Rattle.vhdl_expand_tree.proofs.Alike.{tells, tells_same, tells_among}
 use Rattle.vhdl_expand.proofs.Passing.{passed_told, passed_err}
 use Rattle.vhdl_expand.proofs.expansion.expand.Goals as goal
 
@@ -25,16 +31,17 @@ returns-in_default-clause-given c =
     let named = ap (λ n. find (λ (e : Entity). bytes_eq e.name n) us) (sym (c.deref-2.ensures.value ∙ c.in_ok-name.ensures))
     ∙ ap (λ es. find (λ (e : Entity). bytes_eq e.name c.deref-2.result.now) (map entity_view es)) (sym c.deref.ensures.value) ∙ c.in_default.ensures in
     let none : c.named.result ≡ None = first_of (search rules, grind (arith, common_steps)) in
-    λ _. told_at c.at.ensures (tells (no_top us c.args.top.now named))
+    λ _. told_at c.at.ensures (other_told NoTop 0 no_top_other (no_top us c.args.top.now named))
 
 pub returns-in_err-declared-clause-given : goal.returns-in_err-declared-clause-given
 returns-in_err-declared-clause-given c =
     let us = units_view c.args.units.now in
     let named = ap (λ n. find (λ (e : Entity). bytes_eq e.name n) us) (sym (c.deref-2.ensures.value ∙ c.in_ok-name.ensures))
     ∙ ap (λ es. find (λ (e : Entity). bytes_eq e.name c.deref-2.result.now) (map entity_view es)) (sym c.deref.ensures.value) ∙ c.in-Some.ensures in
-    let stopped : c.in_err-declared.field-0.0 ≢ NoMemory → MayTell (within_limits (expanded_design us c.args.top.now)) (problem_told c.in_err-declared.field-0.0) =
-    λ n. tells (no_top_interface us c.args.top.now (entity_view c.in-Some.unit.now) named (c.in_err-declared.ensures n)) in
-    passed_told _ _ c.in_err-declared.field-0.0 _ c.from_residual-in_err-declared.result c.from_residual-in_err-declared.ensures.1 (λ e p. p) stopped
+    let e = entity_view c.in-Some.unit.now in
+    let among = found_among (λ (x : Entity). bytes_eq x.name (map to_ascii_lowercase c.args.top.now)) us e named in
+    passed_told _ _ c.in_err-declared.field-0.0 _ c.from_residual-in_err-declared.result c.from_residual-in_err-declared.ensures.1 (λ e p. p)
+    (λ n. tells ((top_places us e among).placed _ (c.in_err-declared.ensures n)) (no_top_interface us c.args.top.now e named (c.in_err-declared.ensures n)))
 
 pub instance-requires : goal.instance-requires
 instance-requires c =
@@ -48,11 +55,13 @@ returns-in_err-top-clause-given c =
     let d = declared_view c.in_ok-declared.declared in
     let named = ap (λ n. find (λ (e : Entity). bytes_eq e.name n) us) (sym (c.deref-2.ensures.value ∙ c.in_ok-name.ensures))
     ∙ ap (λ es. find (λ (e : Entity). bytes_eq e.name c.deref-2.result.now) (map entity_view es)) (sym c.deref.ensures.value) ∙ c.in-Some.ensures in
-    let same = ap (λ b. charged b instance_costs (instance_of us 32 e d)) (sym c.whole-left.ensures)
-    ∙ ap (λ es. charged (budget_view c.whole-left.result) instance_costs (instance_of (map entity_view es) 32 e d)) (sym c.deref-3.ensures.value) in
-    let stopped : c.in_err-top.field-0.0 ≢ NoMemory → MayTell (within_limits (expanded_design us c.args.top.now)) (problem_told c.in_err-top.field-0.0) =
-    λ n. no_instance us c.args.top.now e d named c.in_ok-declared.ensures (tells_same same (c.in_err-top.ensures n)) in
-    passed_told _ _ c.in_err-top.field-0.0 _ c.from_residual-in_err-top.result c.from_residual-in_err-top.ensures.1 (λ e p. p) stopped
+    let same = ap (λ b. charged b instance_costs (instance_of us 32 e.at e d)) (sym c.whole-left.ensures)
+    ∙ ap (λ es. charged (budget_view c.whole-left.result) instance_costs (instance_of (map entity_view es) 32 e.at e d)) (sym c.deref-3.ensures.value) in
+    let among = found_among (λ (x : Entity). bytes_eq x.name (map to_ascii_lowercase c.args.top.now)) us e named in
+    let listed = λ (es : List analysed.Entity). instance_list (map entity_view es) e.at d.objects in
+    let there = then_among (listed c.deref-3.result.now) (instance_list us e.at d.objects) (units_bytes us) (same_among listed _ _ c.deref-3.ensures.value) (top_among us e among d c.in_ok-declared.ensures) in
+    passed_told _ _ c.in_err-top.field-0.0 _ c.from_residual-in_err-top.result c.from_residual-in_err-top.ensures.1 (λ e p. p)
+    (λ n. no_instance us c.args.top.now e d named c.in_ok-declared.ensures (tells_same same (tells_among there (c.in_err-top.ensures n))))
 
 pub returns-clause-given : goal.returns-clause-given
 returns-clause-given c =
@@ -61,8 +70,8 @@ returns-clause-given c =
     let d = declared_view c.in_ok-declared.declared in
     let named = ap (λ n. find (λ (e : Entity). bytes_eq e.name n) us) (sym (c.deref-2.ensures.value ∙ c.in_ok-name.ensures))
     ∙ ap (λ es. find (λ (e : Entity). bytes_eq e.name c.deref-2.result.now) (map entity_view es)) (sym c.deref.ensures.value) ∙ c.in-Some.ensures in
-    let same = ap (λ b. charged b instance_costs (instance_of us 32 e d)) (sym c.whole-left.ensures)
-    ∙ ap (λ es. charged (budget_view c.whole-left.result) instance_costs (instance_of (map entity_view es) 32 e d)) (sym c.deref-3.ensures.value) in
+    let same = ap (λ b. charged b instance_costs (instance_of us 32 e.at e d)) (sym c.whole-left.ensures)
+    ∙ ap (λ es. charged (budget_view c.whole-left.result) instance_costs (instance_of (map entity_view es) 32 e.at e d)) (sym c.deref-3.ensures.value) in
     let name : c.in-Some.unit.now.name.text.items ≡ c.in_ok-name-2.name.items = first_of (search rules, grind (arith, common_steps)) in
     design_made us c.args.top.now e d named c.in_ok-declared.ensures (instance_view c.in_ok-top.top) (budget_view c.instance.new.left) (same ∙ c.in_ok-top.ensures)
     ∙ ap (λ n. given (record { name = n; top = instance_view c.in_ok-top.top })) name
@@ -80,7 +89,7 @@ returns-in_err-declared-clause-begun c =
     let us = units_view c.args.units.now in
     let named = ap (λ n. find (λ (e : Entity). bytes_eq e.name n) us) (sym (c.deref-2.ensures.value ∙ c.in_ok-name.ensures))
     ∙ ap (λ es. find (λ (e : Entity). bytes_eq e.name c.deref-2.result.now) (map entity_view es)) (sym c.deref.ensures.value) ∙ c.in-Some.ensures in
-    let stopped : c.in_err-declared.field-0.0 ≢ NoMemory → (within_limits (expanded_design us c.args.top.now) ≡ Err (problem_told c.in_err-declared.field-0.0)) ⊎ HasInterface us c.args.top.now =
+    let stopped : c.in_err-declared.field-0.0 ≢ NoMemory → (within_limits (expanded_design us c.args.top.now) ≡ Err (fault_told c.in_err-declared.field-0.0)) ⊎ HasInterface us c.args.top.now =
     λ n. inl (no_top_interface us c.args.top.now (entity_view c.in-Some.unit.now) named (c.in_err-declared.ensures n)) in
     passed_err _ c.in_err-declared.field-0.0 _ c.from_residual-in_err-declared.result c.from_residual-in_err-declared.ensures.1 (λ e p. p) stopped
 
@@ -89,6 +98,6 @@ returns-in_err-top-clause-begun c =
     let us = units_view c.args.units.now in
     let named = ap (λ n. find (λ (e : Entity). bytes_eq e.name n) us) (sym (c.deref-2.ensures.value ∙ c.in_ok-name.ensures))
     ∙ ap (λ es. find (λ (e : Entity). bytes_eq e.name c.deref-2.result.now) (map entity_view es)) (sym c.deref.ensures.value) ∙ c.in-Some.ensures in
-    let stopped : c.in_err-top.field-0.0 ≢ NoMemory → (within_limits (expanded_design us c.args.top.now) ≡ Err (problem_told c.in_err-top.field-0.0)) ⊎ HasInterface us c.args.top.now =
+    let stopped : c.in_err-top.field-0.0 ≢ NoMemory → (within_limits (expanded_design us c.args.top.now) ≡ Err (fault_told c.in_err-top.field-0.0)) ⊎ HasInterface us c.args.top.now =
     λ n. inr (has_interface us c.args.top.now (entity_view c.in-Some.unit.now) (declared_view c.in_ok-declared.declared) named c.in_ok-declared.ensures) in
     passed_err _ c.in_err-top.field-0.0 _ c.from_residual-in_err-top.result c.from_residual-in_err-top.ensures.1 (λ e p. p) stopped

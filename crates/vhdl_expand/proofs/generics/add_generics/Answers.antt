@@ -13,7 +13,7 @@ use Rattle.vhdl_expand.proofs.Names.{named, actual_seen}
 use Rattle.vhdl_expand.specs.Stepwise.{stepwise}
 use Rattle.vhdl_expand.proofs.Walks.{one_goes, one_stops, one_ends}
 use Rattle.vhdl_expand.proofs.Given.{step, stepped, stopped, all_stepped, all_stopped}
-use Rattle.vhdl_expand_rules.specs.Elab.{problem_told}
+use Rattle.vhdl_expand_rules.specs.Elab.{fault_told}
 use Rattle.vhdl_expand_bodies.proofs.Passing.{passed_on}
 use Rattle.vhdl_expand.proofs.generics.add_generics.Goals as goal
 
@@ -21,42 +21,42 @@ pub loop-name-init : goal.loop-name-init
 loop-name-init c =
     let above = integers_view c.args.above.now in
     let actuals = actuals_view c.args.actuals.now in
-    let d = generic_view c.args.declaration.now in
-    ap (stepwise (step above actuals) c.args.values.now.items) (named (λ n. d) c.args.declaration.now.names.items ∙ ap (map (λ (n : Identifier). d)) (sym c.deref-name-items.ensures.value))
+    let v = λ (n : Identifier). generic_view n.at c.args.declaration.now in
+    ap (stepwise (step above actuals) c.args.values.now.items) (named (λ n. generic_view n.at c.args.declaration.now) c.args.declaration.now.names.items ∙ ap (map v) (sym c.deref-name-items.ensures.value))
 
 pub loop-name-preserved : goal.loop-name-preserved
 loop-name-preserved c =
     let above = integers_view c.args.above.now in
     let actuals = actuals_view c.args.actuals.now in
-    let d = generic_view c.args.declaration.now in
+    let v = λ (n : Identifier). generic_view n.at c.args.declaration.now in
     let values = c.loop-name.values.items in
     let fixed : to_z w32 (of_z w32 c.in_ok-value.value) ≡ c.in_ok-value.value = omega (arith, ints) in
     let pushed = c.in_ok-push.ensures.items ∙ ap (λ (x : ℤ). values ++ x ∷ []) fixed in
     let count : c.len.result ≡ length values = first_of (search rules, omega arith) in
     let actual = actual_seen static_view c.len.result c.args.actuals.now c.actual_of-actual.result c.actual_of-actual.ensures in
-    let h = subst (λ (vs : List ℤ). definition.generic above (generics_alone vs) (option_map (λ v. static_view v.now) c.actual_of-actual.result) d ≡ Ok c.in_ok-value.value) c.deref.ensures.value c.in_ok-value.ensures in
-    one_goes (step above actuals) (λ (n : Identifier). d) _ values c.push.new.self.items c.deref-name-items.result.now c.loop-name.name-index c.name-item.result
+    let h = subst (λ (vs : List ℤ). definition.generic above (generics_alone vs) (option_map (λ v. static_view v.now) c.actual_of-actual.result) (v c.name-item.result) ≡ Ok c.in_ok-value.value) c.deref.ensures.value c.in_ok-value.ensures in
+    one_goes (step above actuals) v _ values c.push.new.self.items c.deref-name-items.result.now c.loop-name.name-index c.name-item.result
     c.loop-name-test.true c.name-item.is c.loop-name.invariant
-    (stepped above actuals values c.push.new.self.items c.in_ok-value.value _ c.len.result d count actual h pushed)
+    (stepped above actuals values c.push.new.self.items c.in_ok-value.value _ c.len.result (v c.name-item.result) count actual h pushed)
 
 pub returns : goal.returns
 returns c =
     let above = integers_view c.args.above.now in
     let actuals = actuals_view c.args.actuals.now in
     all_stepped above actuals c.args.values.now.items c.loop-name.values.items _
-    (one_ends (step above actuals) (λ (n : Identifier). generic_view c.args.declaration.now) _ _ c.deref-name-items.result.now c.loop-name.name-index c.loop-name-test.false c.loop-name.invariant)
+    (one_ends (step above actuals) (λ (n : Identifier). generic_view n.at c.args.declaration.now) _ _ c.deref-name-items.result.now c.loop-name.name-index c.loop-name-test.false c.loop-name.invariant)
 
 pub returns-in_err-value : goal.returns-in_err-value
 returns-in_err-value c =
     let above = integers_view c.args.above.now in
     let actuals = actuals_view c.args.actuals.now in
-    let d = generic_view c.args.declaration.now in
+    let v = λ (n : Identifier). generic_view n.at c.args.declaration.now in
     let values = c.loop-name.values.items in
     let count : c.len.result ≡ length values = first_of (search rules, omega arith) in
     let actual = actual_seen static_view c.len.result c.args.actuals.now c.actual_of-actual.result c.actual_of-actual.ensures in
-    let h = subst (λ (vs : List ℤ). (definition.generic above (generics_alone vs) (option_map (λ v. static_view v.now) c.actual_of-actual.result) d) ≡ Err (problem_told c.in_err-value.field-0.0)) c.deref.ensures.value c.in_err-value.ensures in
-    let total : (further_generics above actuals c.args.values.now.items (generics_view c.args.declaration.now)) ≡ Err (problem_told c.in_err-value.field-0.0) =
+    let h = subst (λ (vs : List ℤ). (definition.generic above (generics_alone vs) (option_map (λ v. static_view v.now) c.actual_of-actual.result) (v c.name-item.result)) ≡ Err (fault_told c.in_err-value.field-0.0)) c.deref.ensures.value c.in_err-value.ensures in
+    let total : (further_generics above actuals c.args.values.now.items (generics_view c.args.declaration.now)) ≡ Err (fault_told c.in_err-value.field-0.0) =
     all_stopped above actuals c.args.values.now.items _
-    (one_stops (step above actuals) (λ (n : Identifier). d) _ values c.deref-name-items.result.now c.loop-name.name-index c.name-item.result
-    c.loop-name-test.true c.name-item.is c.loop-name.invariant (stopped above actuals values _ c.len.result d count actual h)) in
+    (one_stops (step above actuals) v _ values c.deref-name-items.result.now c.loop-name.name-index c.name-item.result
+    c.loop-name-test.true c.name-item.is c.loop-name.invariant (stopped above actuals values _ c.len.result (v c.name-item.result) count actual h)) in
     passed_on _ _ c.in_err-value.field-0.0 _ c.from_residual.result c.from_residual.ensures.1 (λ e p. p) (λ _. total)

@@ -11,4 +11,4 @@ use Rattle.vhdl_expand.proofs.generics.add_generics.Given as goal
 abbrev pub invariant-loop-name : goal.invariant-loop-name
 invariant-loop-name l =
     stepwise (step (integers_view l.above) (actuals_view l.actuals)) l.fn.values.items (generics_view l.declaration)
-    ≡ stepwise (step (integers_view l.above) (actuals_view l.actuals)) l.values.items (map (λ (n : Identifier). generic_view l.declaration) (drop l.name-index l.name-items))
+    ≡ stepwise (step (integers_view l.above) (actuals_view l.actuals)) l.values.items (map (λ (n : Identifier). generic_view n.at l.declaration) (drop l.name-index l.name-items))

@@ -8,7 +8,7 @@ use Rattle.vhdl_expand_rules.specs.Site.{no_integers}
 use Rattle.vhdl_expand.specs.Generics.{actuals_view}
 use Rattle.vhdl_expand.proofs.Walks.{all_go, all_stop, all_end}
 use Rattle.vhdl_expand.proofs.Given.{step, all_stepped, all_stopped, steps_of, stop_of}
-use Rattle.vhdl_expand_rules.specs.Elab.{problem_told}
+use Rattle.vhdl_expand_rules.specs.Elab.{fault_told}
 use Rattle.vhdl_expand_bodies.proofs.Passing.{passed_on}
 use Rattle.vhdl_expand.proofs.generics.generics.Goals as goal
 
@@ -33,7 +33,7 @@ returns-in_err-add_generics c =
     let above = integers_view c.args.above.now in
     let actuals = actuals_view c.args.actuals.now in
     let below : c.loop-declaration.declaration-index < length c.args.declarations.now = first_of (search rules, omega arith) in
-    let stopped : c.in_err-add_generics.field-0.0 ≢ NoMemory → (definition.generics above no_integers actuals (flat_map generics_view c.args.declarations.now)) ≡ Err (problem_told c.in_err-add_generics.field-0.0) =
+    let stopped : c.in_err-add_generics.field-0.0 ≢ NoMemory → (definition.generics above no_integers actuals (flat_map generics_view c.args.declarations.now)) ≡ Err (fault_told c.in_err-add_generics.field-0.0) =
     λ n. all_stopped above actuals [] _
     (all_stop (step above actuals) generics_view _ c.loop-declaration.values.items c.args.declarations.now c.loop-declaration.declaration-index c.declaration-item.result
     below c.declaration-item.is c.loop-declaration.invariant

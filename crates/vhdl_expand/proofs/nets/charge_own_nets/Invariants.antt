@@ -6,4 +6,4 @@ use Rattle.vhdl_expand.proofs.nets.charge_own_nets.Given as goal
 
 -- what is taken so far, and the nets of the objects that are left
 abbrev pub invariant-loop-object : goal.invariant-loop-object
-invariant-loop-object l = spent (budget_view l.fn.budget) (own l.objects) ≡ spent (budget_view l.budget) (own (drop l.object-index l.objects))
+invariant-loop-object l = spent 0 (budget_view l.fn.budget) (own l.objects) ≡ spent 0 (budget_view l.budget) (own (drop l.object-index l.objects))

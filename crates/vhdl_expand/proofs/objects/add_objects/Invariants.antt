@@ -1,5 +1,6 @@
-use Rattle.std.proofs.Common.{◌≡◌, map, drop, Ok, option_map}
+use Rattle.std.proofs.Common.{◌≡◌, ℕ, map, drop, Ok, option_map}
 use Rattle.vhdl_tree.specs.declared.expression.Identifier.{Identifier}
+use Rattle.vhdl_tree.specs.View.{ident_view}
 use Rattle.vhdl_expand_tree.specs.Views.{role_view}
 use Rattle.vhdl_names_units.specs.views.Answers.{fixed_view, form_view}
 use Rattle.vhdl_names_units.specs.views.Declarations as units
@@ -9,10 +10,10 @@ use Rattle.vhdl_expand.specs.Views.{declared_view}
 use Rattle.vhdl_expand.specs.Stepwise.{stepwise}
 use Rattle.vhdl_expand.proofs.objects.add_objects.Given as goal
 
--- what is declared so far, and the names that are left, where the same is computed as at first
+-- what is declared so far, and the names that are left, where the same is computed as at first, whatever byte it is told at
 abbrev pub invariant-loop-name : goal.invariant-loop-name
 invariant-loop-name l = record {
   rest : stepwise (next_object (role_view l.role)) (declared_view l.fn.declared) (units.object_view l.objects)
-      ≡ stepwise (next_object (role_view l.role)) (declared_view l.declared) (map (λ (n : Identifier). named_object l.objects n.text.items) (drop l.name-index l.names));
-  there : shape_of (declared_view l.declared).site (form_view l.objects.form) (option_map fixed_view l.objects.default) ≡ Ok (kind_view l.shape.kind, l.shape.starts.items);
+      ≡ stepwise (next_object (role_view l.role)) (declared_view l.declared) (map (λ (n : Identifier). named_object l.objects (ident_view n)) (drop l.name-index l.names));
+  there : (at : ℕ) → shape_of (declared_view l.declared).site at (form_view l.objects.form) (option_map fixed_view l.objects.default) ≡ Ok (kind_view l.shape.kind, l.shape.starts.items);
 }

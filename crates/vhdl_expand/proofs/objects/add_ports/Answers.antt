@@ -8,7 +8,7 @@ use Rattle.vhdl_expand.specs.Views.{declared_view}
 use Rattle.vhdl_expand.specs.Stepwise.{stepwise}
 use Rattle.vhdl_expand.proofs.ObjectSteps.{next_port, ports_walk, port_objects}
 use Rattle.vhdl_expand.proofs.Walks.{all_go, all_stop, all_end}
-use Rattle.vhdl_expand_rules.specs.Elab.{problem_told}
+use Rattle.vhdl_expand_rules.specs.Elab.{fault_told}
 use Rattle.vhdl_expand_bodies.proofs.Passing.{passed_on}
 use Rattle.vhdl_expand.proofs.objects.add_ports.Goals as goal
 
@@ -32,8 +32,8 @@ returns-in_err-add_objects c =
     let item = c.declaration-item.result in
     let below : c.loop-declaration.declaration-index < length c.args.declarations.now = first_of (search rules, omega arith) in
     let same = port_objects item.mode d (units.object_view item.objects) ∙ ap (λ r. stepwise (next_object r) d (units.object_view item.objects)) (sym c.role_of.ensures) in
-    let stopped : c.in_err-add_objects.field-0.0 ≢ NoMemory → (definition.ports (declared_view c.args.declared.now) (flat_map units.ports_view c.args.declarations.now)) ≡ Err (problem_told c.in_err-add_objects.field-0.0) =
-    λ n. subst (λ r. r ≡ Err (problem_told c.in_err-add_objects.field-0.0)) (sym (ports_walk (declared_view c.args.declared.now) (flat_map units.ports_view c.args.declarations.now)))
+    let stopped : c.in_err-add_objects.field-0.0 ≢ NoMemory → (definition.ports (declared_view c.args.declared.now) (flat_map units.ports_view c.args.declarations.now)) ≡ Err (fault_told c.in_err-add_objects.field-0.0) =
+    λ n. subst (λ r. r ≡ Err (fault_told c.in_err-add_objects.field-0.0)) (sym (ports_walk (declared_view c.args.declared.now) (flat_map units.ports_view c.args.declarations.now)))
     (all_stop next_port units.ports_view _ d c.args.declarations.now c.loop-declaration.declaration-index item below c.declaration-item.is c.loop-declaration.invariant
-    (subst (λ r. r ≡ Err (problem_told c.in_err-add_objects.field-0.0)) (sym same) (c.in_err-add_objects.ensures n))) in
+    (subst (λ r. r ≡ Err (fault_told c.in_err-add_objects.field-0.0)) (sym same) (c.in_err-add_objects.ensures n))) in
     passed_on _ _ c.in_err-add_objects.field-0.0 _ c.from_residual.result c.from_residual.ensures.1 (λ e p. p) stopped

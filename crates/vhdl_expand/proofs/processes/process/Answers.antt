@@ -7,4 +7,4 @@ use Rattle.vhdl_expand.proofs.processes.process.Goals as goal
 
 pub returns : goal.returns
 returns c =
-    charges_alike _ _ _ _ (process_alike (budget_view c.args.budget.now) (site_view c.args.site.now) c.args.prefix.now (analysed.process_view c.args.process.now)) c.parts_of.ensures
+    charges_alike _ _ _ _ _ (process_alike (budget_view c.args.budget.now) (site_view c.args.site.now) c.args.prefix.now (analysed.process_view c.args.process.now)) c.parts_of.ensures

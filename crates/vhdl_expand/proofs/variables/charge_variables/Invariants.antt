@@ -9,5 +9,5 @@ use Rattle.vhdl_expand.proofs.variables.charge_variables.Given as goal
 -- those that are left, paid from what is left, are all that were there
 abbrev pub invariant-loop-variable : goal.invariant-loop-variable
 invariant-loop-variable l =
-    Alike (spent (budget_view l.fn.budget) (variables_costs (map variable_view l.variables)))
+    Alike (spent l.at (budget_view l.fn.budget) (variables_costs (map variable_view l.variables)))
     (paid (budget_view l.budget) (together elements_costs (map variable_view (drop l.variable-index l.variables))))

@@ -3,7 +3,7 @@ use Rattle.std.specs.Prelude.{◌≢◌}
 use Rattle.vhdl_names_units.specs.views.Declarations.{object_view}
 use Rattle.vhdl_expand_rules.specs.declared.fault.ElabFault.TheVariants.{NoMemory}
 use Rattle.vhdl_expand_rules.specs.Declarations.{variable}
-use Rattle.vhdl_expand_rules.specs.Elab.{each, problem_told}
+use Rattle.vhdl_expand_rules.specs.Elab.{each, fault_told}
 use Rattle.vhdl_expand_bodies.specs.Sites.{site_view}
 use Rattle.vhdl_expand.proofs.Declaring.{groups_go, groups_stop, groups_end, same_names}
 use Rattle.vhdl_expand.proofs.Paying.{none_left}
@@ -25,7 +25,7 @@ pub returns-in_err-add_named : goal.returns-in_err-add_named
 returns-in_err-add_named c =
     let below : c.loop-objects.objects-index < length c.args.declarations.now = first_of (search rules, omega arith) in
     let f = variable (site_view c.args.site.now) in
-    let stopped : c.in_err-add_named.field-0.0 ≢ NoMemory → (each f (flat_map object_view c.args.declarations.now)) ≡ Err (problem_told c.in_err-add_named.field-0.0) =
+    let stopped : c.in_err-add_named.field-0.0 ≢ NoMemory → (each f (flat_map object_view c.args.declarations.now)) ≡ Err (fault_told c.in_err-add_named.field-0.0) =
     λ n. groups_stop f object_view _ _ c.args.declarations.now c.loop-objects.objects-index c.objects-item.result below c.objects-item.is
-    c.loop-objects.invariant (subst (λ r. r ≡ Err (problem_told c.in_err-add_named.field-0.0)) (sym (same_names f _ c.objects-item.result _ c.deref.ensures.value)) (c.in_err-add_named.ensures n)) in
+    c.loop-objects.invariant (subst (λ r. r ≡ Err (fault_told c.in_err-add_named.field-0.0)) (sym (same_names f _ c.objects-item.result _ c.deref.ensures.value)) (c.in_err-add_named.ensures n)) in
     passed_on _ _ c.in_err-add_named.field-0.0 _ c.from_residual.result c.from_residual.ensures.1 (λ e p. p) stopped

@@ -9,5 +9,5 @@ use Rattle.vhdl_expand_bodies.proofs.statements.choices.Given as goal
 -- those so far, and those that are left
 abbrev pub invariant-loop-item : goal.invariant-loop-item
 invariant-loop-item l =
-    each (definition.choice l.width.len) (map answers.choice_view l.list)
-    ≡ behind (map choice_view l.choices.items) (each (definition.choice l.width.len) (map answers.choice_view (drop l.item-index l.list)))
+    each (definition.choice l.fn.at l.width.len) (map answers.choice_view l.list)
+    ≡ behind (map choice_view l.choices.items) (each (definition.choice l.fn.at l.width.len) (map answers.choice_view (drop l.item-index l.list)))

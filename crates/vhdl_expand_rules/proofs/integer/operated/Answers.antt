@@ -23,7 +23,7 @@ returns-in-Add c =
     let fy : SFits w32 y = search rules in
     let ex : to_z w32 (of_z w32 x) ≡ x = omega (arith, ints) in
     let ey : to_z w32 (of_z w32 y) ≡ y = omega (arith, ints) in
-    given_by (λ a b. checked_integer (a +ℤ b)) x _ y _ c.sum.result _ ex ey (ap (λ o. integer_operation o x y) c.in-Add.is) c.sum.ensures
+    given_by (λ a b. checked_integer c.args.at (a +ℤ b)) x _ y _ c.sum.result _ ex ey (ap (λ o. integer_operation c.args.at o x y) c.in-Add.is) c.sum.ensures
 
 pub returns-in-Modulo : goal.returns-in-Modulo
 returns-in-Modulo c =
@@ -33,7 +33,7 @@ returns-in-Modulo c =
     let fy : SFits w32 y = search rules in
     let ex : to_z w32 (of_z w32 x) ≡ x = omega (arith, ints) in
     let ey : to_z w32 (of_z w32 y) ≡ y = omega (arith, ints) in
-    given_by (integer_operation Modulo) x _ y _ c.modulus.result _ ex ey (ap (λ o. integer_operation o x y) c.in-Modulo.is) c.modulus.ensures
+    given_by (integer_operation c.args.at Modulo) x _ y _ c.modulus.result _ ex ey (ap (λ o. integer_operation c.args.at o x y) c.in-Modulo.is) c.modulus.ensures
 
 pub returns-in-Remainder : goal.returns-in-Remainder
 returns-in-Remainder c =
@@ -43,19 +43,19 @@ returns-in-Remainder c =
     let fy : SFits w32 y = search rules in
     let ex : to_z w32 (of_z w32 x) ≡ x = omega (arith, ints) in
     let ey : to_z w32 (of_z w32 y) ≡ y = omega (arith, ints) in
-    given_by (integer_operation Remainder) x _ y _ c.remainder.result _ ex ey (ap (λ o. integer_operation o x y) c.in-Remainder.is) c.remainder.ensures
+    given_by (integer_operation c.args.at Remainder) x _ y _ c.remainder.result _ ex ey (ap (λ o. integer_operation c.args.at o x y) c.in-Remainder.is) c.remainder.ensures
 
 pub returns-in-Subtract : goal.returns-in-Subtract
 returns-in-Subtract c =
-    let h : Computes (integer_operation Subtract c.args.left c.args.right) c.within.result = first_of (search rules, grind (arith, common_steps)) in
-    subst (λ o. Computes (integer_operation o c.args.left c.args.right) c.within.result) (sym c.in-Subtract.is) h
+    let h : Computes (integer_operation c.args.at Subtract c.args.left c.args.right) c.within.result = first_of (search rules, grind (arith, common_steps)) in
+    subst (λ o. Computes (integer_operation c.args.at o c.args.left c.args.right) c.within.result) (sym c.in-Subtract.is) h
 
 pub returns-in-Multiply : goal.returns-in-Multiply
 returns-in-Multiply c =
-    let h : Computes (integer_operation Multiply c.args.left c.args.right) c.within-in-Multiply.result = first_of (search rules, grind (arith, common_steps)) in
-    subst (λ o. Computes (integer_operation o c.args.left c.args.right) c.within-in-Multiply.result) (sym c.in-Multiply.is) h
+    let h : Computes (integer_operation c.args.at Multiply c.args.left c.args.right) c.within-in-Multiply.result = first_of (search rules, grind (arith, common_steps)) in
+    subst (λ o. Computes (integer_operation c.args.at o c.args.left c.args.right) c.within-in-Multiply.result) (sym c.in-Multiply.is) h
 
 pub returns-in-Divide : goal.returns-in-Divide
 returns-in-Divide c =
-    let h : Computes (integer_operation Divide c.args.left c.args.right) c.within-in-Divide.result = first_of (search rules, grind (arith, common_steps)) in
-    subst (λ o. Computes (integer_operation o c.args.left c.args.right) c.within-in-Divide.result) (sym c.in-Divide.is) h
+    let h : Computes (integer_operation c.args.at Divide c.args.left c.args.right) c.within-in-Divide.result = first_of (search rules, grind (arith, common_steps)) in
+    subst (λ o. Computes (integer_operation c.args.at o c.args.left c.args.right) c.within-in-Divide.result) (sym c.in-Divide.is) h

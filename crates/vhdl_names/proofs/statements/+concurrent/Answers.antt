@@ -41,8 +41,9 @@ generate-returns-in_err-by-clause-given m c =
     let k = tree.scheme_view c.args.written.now.scheme in
     let cs = tree.concurrents_view c.args.written.now.statements in
     let end = tree.option_ident_view c.args.written.now.end_label in
-    let none : c.in_err-by.field-0.0 ≢ NoMemory → steps.generate f s label k cs end ≡ None =
-    λ n. no_scheme f s label k cs end (λ b. c.in_err-by.ensures.given label.text b n) in
+    let at = c.args.written.now.at in
+    let none : c.in_err-by.field-0.0 ≢ NoMemory → steps.generate f s label at k cs end ≡ None =
+    λ n. no_scheme f s label at k cs end (λ b. c.in_err-by.ensures.given label.text at b n) in
     passed_on _ _ c.in_err-by.field-0.0 _ c.from_residual.result c.from_residual.ensures.1 (λ e p. p) none
 
 pub statement-returns-in-Generate-clause-given : goal.statement-returns-in-Generate-clause-given
@@ -63,7 +64,7 @@ generate-returns-in_err-body-clause-given m c =
     let end = tree.option_ident_view c.args.written.now.end_label in
     let within = sight_view c.enter_generate.new.sight in
     passed_on _ _ c.in_err-body.field-0.0 _ c.from_residual-in_err-body.result c.from_residual-in_err-body.ensures.1 (λ e p. p)
-    (λ n. no_body g s label k cs end within c.in_ok-enter_generate.ensures.given
+    (λ n. no_body g s label c.args.written.now.at k cs end within c.in_ok-enter_generate.ensures.given
     (ap (λ xs. steps.labelled g within (map tree.concurrent_view xs)) (sym c.deref.ensures.value) ∙ c.in_err-body.ensures.given n))
 
 pub generate-returns-in_err-ends-clause-given : goal.generate-returns-in_err-ends-clause-given
@@ -76,7 +77,7 @@ generate-returns-in_err-ends-clause-given m c =
     let cs = tree.concurrents_view c.args.written.now.statements in
     let end = tree.option_ident_view c.args.written.now.end_label in
     passed_on _ _ c.in_err-ends.field-0.0 _ c.from_residual-in_err-ends.result c.from_residual-in_err-ends.ensures.1 (λ e p. p)
-    (λ n. no_end g s label k cs end (c.in_err-ends.ensures.given n))
+    (λ n. no_end g s label c.args.written.now.at k cs end (c.in_err-ends.ensures.given n))
 
 pub generate-returns-in_err-enter_generate-clause-given : goal.generate-returns-in_err-enter_generate-clause-given
 generate-returns-in_err-enter_generate-clause-given m c =
@@ -239,7 +240,7 @@ generate-returns-in_err-body-clause-told m c = λ es are.
     let end = tree.option_ident_view c.args.written.now.end_label in
     let f = c.in_err-body.field-0.0 in
     let h : Tells (told.generate es s label k cs end) c.in_err-body.field-0.0 =
-    by.generate_inside es s label k cs end f _ (c.in_ok-by.ensures.given [] u.no_concurrents) (sight_view c.enter_generate.new.sight) c.in_ok-enter_generate.ensures.given
+    by.generate_inside es s label k cs end f _ (c.in_ok-by.ensures.given [] 0 u.no_concurrents) (sight_view c.enter_generate.new.sight) c.in_ok-enter_generate.ensures.given
     (told_same _ _ f (ap (λ xs. told.labelled es (sight_view c.enter_generate.new.sight) (map tree.concurrent_view xs)) c.deref.ensures.value) (c.in_err-body.ensures.told es are)) in
     passed_err _ c.in_err-body.field-0.0 _ c.from_residual-in_err-body.result c.from_residual-in_err-body.ensures.1 (λ e p. p) h
 
@@ -255,7 +256,7 @@ generate-returns-in_err-ends-clause-told m c = λ es are.
     let within = sight_view c.enter_generate.new.sight in
     let g = instance (names_view e.names) (seens_view e.formals) in
     let h : Tells (told.generate es s label k cs end) c.in_err-ends.field-0.0 =
-    by.generate_ends es s label k cs end f _ (c.in_ok-by.ensures.given [] u.no_concurrents) within c.in_ok-enter_generate.ensures.given
+    by.generate_ends es s label k cs end f _ (c.in_ok-by.ensures.given [] 0 u.no_concurrents) within c.in_ok-enter_generate.ensures.given
     (by.labelled_kept es within g (instance_gives e es are) (by.within_is s within k c.requires.outside c.in_ok-enter_generate.ensures.given) cs _
     (ap (λ xs. steps.labelled g within (map tree.concurrent_view xs)) (sym c.deref.ensures.value) ∙ c.in_ok-body.ensures.given))
     c.in_err-ends.ensures.told in

@@ -64,7 +64,7 @@ returns-clause-given c =
     generic_is s g c.args.number c.requires
     ∙ known (λ s. s.region) with_declared s (names_of g.names) (λ x. c.args.number) (λ x. visibility.generic) (generics_of g) (region_view c.hide.new.region) hid (typed_generic s g) x c.in_ok-integer_type.ensures.given
     ∙ ap (λ r. Some (record s { region = r }, generics_of g x)) (settled_region visibility.generic c.args.number c.len-first.result s.region (region_view c.hide.new.region) (region_view c.settle.new.region) (names_of g.names) size hid c.in_ok-settle.ensures)
-    ∙ ap (λ l. Some (record s { region = region_view c.settle.new.region }, for_each (λ n. record { type = x.0; default = x.1 }) l))
+    ∙ ap (λ l. Some (record s { region = region_view c.settle.new.region }, for_each (λ n. record { at = n.at; type = x.0; default = x.1 }) l))
     (sym (c.in_ok-names.ensures ∙ ap (map ident_view) c.deref-2.ensures.value))
 
 pub returns-in_err-hide-clause-told : goal.returns-in_err-hide-clause-told

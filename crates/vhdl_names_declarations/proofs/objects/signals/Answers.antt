@@ -61,7 +61,7 @@ returns-clause-given c =
     ∙ known (λ s. s.region) with_declared s (names_of g.names) (λ x. c.args.number) signal_class (signals_of g) (region_view c.hide.new.region) hid (typed_object (within s g.names) g.subtype g.default) x (sym along ∙ c.in_ok-subtype.ensures.given)
     ∙ ap (λ r. Some (record s { region = r }, (signals_of g) x)) (settled_region (signal_class x) c.args.number c.len-first.result s.region (region_view c.hide.new.region) (region_view c.settle.new.region) (names_of g.names) size hid c.in_ok-settle.ensures)
     ∙ ap (λ l. Some (record s { region = region_view c.settle.new.region }, l))
-    (sym (ap (map u.signal) (c.in_ok-objects.ensures ∙ ap (λ l. for_each (object x.0 x.1) (map ident_view l)) c.deref-2.ensures.value) ∙ map-map u.signal (object x.0 x.1) (names_of g.names)))
+    (sym (ap (map u.signal) (c.in_ok-objects.ensures ∙ ap (λ l. for_each (object x.0 x.1) (map ident_view l)) c.deref-2.ensures.value) ∙ map-map u.signal (object x.0 x.1) g.names))
 
 pub returns-in_err-hide-clause-told : goal.returns-in_err-hide-clause-told
 returns-in_err-hide-clause-told c =

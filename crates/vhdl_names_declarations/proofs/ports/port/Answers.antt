@@ -61,9 +61,9 @@ returns-clause-given c =
     ∙ ap (λ r. Some (record s { region = r }, (ports_of g) x)) (settled_region (port_class g x) c.args.number c.len-first.result s.region (region_view c.hide.new.region) (region_view c.settle.new.region) (names_of g.names) size hid
     (c.in_ok-settle.ensures ∙ ap (λ w. settled (λ k. visibility.port k w x.1) c.args.number c.len-first.result (region_view c.hide.new.region)) c.mode_of-mode.ensures))
     ∙ ap (λ l. Some (record s { region = region_view c.settle.new.region }, l))
-    (ap (λ w. map (λ n. port_with w (object x.0 x.2 n)) (names_of g.names)) (sym c.mode_of-mode.ensures)
+    (ap (λ w. map (λ n. port_with w (object x.0 x.2 n)) g.names) (sym c.mode_of-mode.ensures)
     ∙ sym (ap (map (port_with c.mode_of-mode.result)) (c.in_ok-objects.ensures ∙ ap (λ l. for_each (object x.0 x.2) (map ident_view l)) c.deref-2.ensures.value)
-    ∙ map-map (port_with c.mode_of-mode.result) (object x.0 x.2) (names_of g.names)))
+    ∙ map-map (port_with c.mode_of-mode.result) (object x.0 x.2) g.names))
 
 pub returns-in_err-hide-clause-told : goal.returns-in_err-hide-clause-told
 returns-in_err-hide-clause-told c =

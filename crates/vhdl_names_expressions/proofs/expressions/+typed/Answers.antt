@@ -131,8 +131,8 @@ link-returns-clause-given t c =
     let l = c.args.link.now in
     let v = typed_view c.args.first in
     gives_along typed_view _ _ _
-    (ap (λ o. o >>= λ y. operated s.numbers l.operator v (enclosed_if c.args.after_parens y)) c.in_ok-operand.ensures.given
-    ∙ ap (operated s.numbers l.operator v) (sym c.beside-operand.ensures))
+    (ap (λ o. o >>= λ y. operated s.numbers l.at l.operator v (enclosed_if c.args.after_parens y)) c.in_ok-operand.ensures.given
+    ∙ ap (operated s.numbers l.at l.operator v) (sym c.beside-operand.ensures))
     c.operated.ensures.given
 
 pub typed-returns-in-Integer-clause-given : goal.typed-returns-in-Integer-clause-given
@@ -383,13 +383,13 @@ pub typed-returns-in_err-operand-in-Signed-clause-given : goal.typed-returns-in_
 typed-returns-in_err-operand-in-Signed-clause-given t c =
     passed_on typed_view _ c.in_err-operand-in-Signed.field-0.0 _ c.from_residual-in_err-operand-in-Signed.result c.from_residual-in_err-operand-in-Signed.ensures.1 (λ e p. p)
     (λ n. sign_gives (sight_view c.args.sight.now) c.args.e.now c.deref-in-Signed.result.now c.in-Signed.at c.in-Signed.operand c.in-Signed.sign c.in-Signed.is c.deref-in-Signed.ensures
-    ∙ ap (λ o. o >>= λ y. as_integer y >>= λ k. Some (integer (signed c.in-Signed.sign k))) (c.in_err-operand-in-Signed.ensures.given n))
+    ∙ ap (λ o. o >>= λ y. as_integer y >>= λ k. Some (integer (signed c.in-Signed.at c.in-Signed.sign k))) (c.in_err-operand-in-Signed.ensures.given n))
 
 pub typed-returns-in_ok-operand-in-Signed-clause-given : goal.typed-returns-in_ok-operand-in-Signed-clause-given
 typed-returns-in_ok-operand-in-Signed-clause-given t c =
     gives_along typed_view _ _ _
     (sign_gives (sight_view c.args.sight.now) c.args.e.now c.deref-in-Signed.result.now c.in-Signed.at c.in-Signed.operand c.in-Signed.sign c.in-Signed.is c.deref-in-Signed.ensures
-    ∙ ap (λ o. o >>= λ y. as_integer y >>= λ k. Some (integer (signed c.in-Signed.sign k))) c.in_ok-operand-in-Signed.ensures.given) c.signed.ensures.given
+    ∙ ap (λ o. o >>= λ y. as_integer y >>= λ k. Some (integer (signed c.in-Signed.at c.in-Signed.sign k))) c.in_ok-operand-in-Signed.ensures.given) c.signed.ensures.given
 
 pub named-returns-in_err-meaning-clause-given : goal.named-returns-in_err-meaning-clause-given
 named-returns-in_err-meaning-clause-given t c =
@@ -404,7 +404,7 @@ named-returns-in_err-suffix-clause-given t c =
 pub named-returns-in_err-of_no_value-clause-given : goal.named-returns-in_err-of_no_value-clause-given
 named-returns-in_err-of_no_value-clause-given t c =
     passed_on typed_view _ c.in_err-of_no_value.field-0.0 _ c.from_residual-in_err-of_no_value.result c.from_residual-in_err-of_no_value.ensures.1 (λ e p. p)
-    (λ n. with_value (sight_view c.args.sight.now) (ident_view c.args.name.now.identifier) (suffix_view c.args.name.now.suffix) (option_map ident_view c.args.name.now.attribute) (meaning_view c.in_ok-meaning.meaning.now) (typed_suffix_view c.in_ok-suffix.suffix) _ c.in_ok-meaning.ensures.meant c.in_ok-suffix.ensures.given c.in_err-of_no_value.ensures.none)
+    (λ n. with_value (sight_view c.args.sight.now) (ident_view c.args.name.now.identifier) (suffix_view c.args.name.now.suffix) (option_map ident_view c.args.name.now.attribute) (meaning_view c.in_ok-meaning.meaning.now) (typed_suffix_view c.in_ok-suffix.suffix) _ c.in_ok-meaning.ensures.meant c.in_ok-suffix.ensures.given (c.in_err-of_no_value.ensures.none c.args.name.now.identifier.at))
 
 pub named-returns-in_err-value-clause-given : goal.named-returns-in_err-value-clause-given
 named-returns-in_err-value-clause-given t c =

@@ -20,8 +20,8 @@ returns-in_err-meaning-clause-told c =
     let s = sight_view c.args.sight.now in
     let n = name_view c.args.name.now in
     let f : Tells (broken.variable s n) c.in_err-meaning.field-0.0 =
-    object_told s n (λ d x. lacking (variable_problem d) n.identifier.at (as_variable d x)) c.in_err-meaning.field-0.0
-    (name_meaning s n.identifier n.suffix n.attribute (λ d x. lacking (variable_problem d) n.identifier.at (as_variable d x)) c.in_err-meaning.field-0.0 c.in_err-meaning.ensures.told) in
+    object_told s n (λ d x. lacking (variable_problem d) n.identifier.at (as_variable n.identifier.at d x)) c.in_err-meaning.field-0.0
+    (name_meaning s n.identifier n.suffix n.attribute (λ d x. lacking (variable_problem d) n.identifier.at (as_variable n.identifier.at d x)) c.in_err-meaning.field-0.0 c.in_err-meaning.ensures.told) in
     told_by _ c.in_err-meaning.field-0.0 _ c.from_residual.result c.from_residual.ensures.1 (λ e p. p) f
 
 pub returns-in_err-suffix-clause-told : goal.returns-in_err-suffix-clause-told
@@ -29,8 +29,8 @@ returns-in_err-suffix-clause-told c =
     let s = sight_view c.args.sight.now in
     let n = name_view c.args.name.now in
     let f : Tells (broken.variable s n) c.in_err-suffix.field-0.0 =
-    object_told s n (λ d x. lacking (variable_problem d) n.identifier.at (as_variable d x)) c.in_err-suffix.field-0.0
-    (name_suffix s n.identifier n.suffix n.attribute (λ d x. lacking (variable_problem d) n.identifier.at (as_variable d x)) (meaning_view c.in_ok-meaning.meaning.now) c.in_err-suffix.field-0.0 c.in_ok-meaning.ensures.meant
+    object_told s n (λ d x. lacking (variable_problem d) n.identifier.at (as_variable n.identifier.at d x)) c.in_err-suffix.field-0.0
+    (name_suffix s n.identifier n.suffix n.attribute (λ d x. lacking (variable_problem d) n.identifier.at (as_variable n.identifier.at d x)) (meaning_view c.in_ok-meaning.meaning.now) c.in_err-suffix.field-0.0 c.in_ok-meaning.ensures.meant
     c.in_err-suffix.ensures.told) in
     told_by _ c.in_err-suffix.field-0.0 _ c.from_residual-in_err-suffix.result c.from_residual-in_err-suffix.ensures.1 (λ e p. p) f
 
@@ -38,8 +38,8 @@ pub returns-in-Some-clause-told : goal.returns-in-Some-clause-told
 returns-in-Some-clause-told c =
     let s = sight_view c.args.sight.now in
     let n = name_view c.args.name.now in
-    object_told s n (λ d x. lacking (variable_problem d) n.identifier.at (as_variable d x)) c.at.result
-    (name_attribute s n.identifier n.suffix n.attribute (λ d x. lacking (variable_problem d) n.identifier.at (as_variable d x)) (meaning_view c.in_ok-meaning.meaning.now) (typed_suffix_view c.in_ok-suffix.suffix)
+    object_told s n (λ d x. lacking (variable_problem d) n.identifier.at (as_variable n.identifier.at d x)) c.at.result
+    (name_attribute s n.identifier n.suffix n.attribute (λ d x. lacking (variable_problem d) n.identifier.at (as_variable n.identifier.at d x)) (meaning_view c.in_ok-meaning.meaning.now) (typed_suffix_view c.in_ok-suffix.suffix)
     c.in_ok-meaning.ensures.meant c.in_ok-suffix.ensures.given (ident_view c.in-Some.attribute) c.at.result (ap (option_map ident_view) c.in-Some.is)
     (told_fault (refused LeftOut c.in-Some.attribute.at) (At LeftOut c.in-Some.attribute.at) c.at.result c.at.ensures refl))
 
@@ -49,7 +49,7 @@ returns-clause-told c =
     let n = name_view c.args.name.now in
     let d = meaning_view c.in_ok-meaning.meaning.now in
     let x = typed_suffix_view c.in_ok-suffix.suffix in
-    told_on _ _ _ (object_told s n (λ d x. lacking (variable_problem d) n.identifier.at (as_variable d x)))
-    (name_more s n.identifier n.suffix n.attribute (λ d x. lacking (variable_problem d) n.identifier.at (as_variable d x)) d x c.in_ok-meaning.ensures.meant c.in_ok-suffix.ensures.given _
+    told_on _ _ _ (object_told s n (λ d x. lacking (variable_problem d) n.identifier.at (as_variable n.identifier.at d x)))
+    (name_more s n.identifier n.suffix n.attribute (λ d x. lacking (variable_problem d) n.identifier.at (as_variable n.identifier.at d x)) d x c.in_ok-meaning.ensures.meant c.in_ok-suffix.ensures.given _
     (first_of (search rules, grind (arith, common_steps)))
-    (refused_told variable_name_view (variable_problem d) n.identifier.at n.identifier.at (as_variable d x) _ refl c.as_variable.ensures.given c.as_variable.ensures.told))
+    (refused_told variable_name_view (variable_problem d) n.identifier.at n.identifier.at (as_variable n.identifier.at d x) _ refl c.as_variable.ensures.given c.as_variable.ensures.told))

@@ -23,26 +23,26 @@ use Rattle.vhdl_names_types.proofs.operators.arithmetic.Goals as goal
 
 -- ---- operands that are neither integers nor elements
 
-behind_integer : (numbers : Bool) (op : Arithmetic) (by : Numeric) (s : u.Static) (y : Typed) → ((r : Static) → y ≡ t.Integer r → ⊥) → ((k : ElementKind) (v : Vector) → y ≡ t.Elements k v → ⊥)
-    → o.arithmetic numbers op by (o.integer s) (typed_view y) ≡ None
-behind_integer numbers op by s (t.Integer r) not_integer not_elements = absurd (not_integer r refl)
-behind_integer numbers op by s (t.Elements k v) not_integer not_elements = absurd (not_elements k v refl)
-behind_integer numbers op by s (t.Enumerated number count v) not_integer not_elements = refl
-behind_integer numbers op by s (t.Truth v) not_integer not_elements = refl
+behind_integer : (numbers : Bool) (at : ℕ) (op : Arithmetic) (by : Numeric) (s : u.Static) (y : Typed) → ((r : Static) → y ≡ t.Integer r → ⊥) → ((k : ElementKind) (v : Vector) → y ≡ t.Elements k v → ⊥)
+    → o.arithmetic numbers at op by (o.integer s) (typed_view y) ≡ None
+behind_integer numbers at op by s (t.Integer r) not_integer not_elements = absurd (not_integer r refl)
+behind_integer numbers at op by s (t.Elements k v) not_integer not_elements = absurd (not_elements k v refl)
+behind_integer numbers at op by s (t.Enumerated number count v) not_integer not_elements = refl
+behind_integer numbers at op by s (t.Truth v) not_integer not_elements = refl
 
-behind_elements : (numbers : Bool) (op : Arithmetic) (by : Numeric) (j : ElementKind) (x : u.Vector) (y : Typed) → ((r : Static) → y ≡ t.Integer r → ⊥) → ((k : ElementKind) (v : Vector) → y ≡ t.Elements k v → ⊥)
-    → o.arithmetic numbers op by (o.elements j x) (typed_view y) ≡ None
-behind_elements numbers op by j x (t.Integer r) not_integer not_elements = absurd (not_integer r refl)
-behind_elements numbers op by j x (t.Elements k v) not_integer not_elements = absurd (not_elements k v refl)
-behind_elements numbers op by j x (t.Enumerated number count v) not_integer not_elements = refl
-behind_elements numbers op by j x (t.Truth v) not_integer not_elements = refl
+behind_elements : (numbers : Bool) (at : ℕ) (op : Arithmetic) (by : Numeric) (j : ElementKind) (x : u.Vector) (y : Typed) → ((r : Static) → y ≡ t.Integer r → ⊥) → ((k : ElementKind) (v : Vector) → y ≡ t.Elements k v → ⊥)
+    → o.arithmetic numbers at op by (o.elements j x) (typed_view y) ≡ None
+behind_elements numbers at op by j x (t.Integer r) not_integer not_elements = absurd (not_integer r refl)
+behind_elements numbers at op by j x (t.Elements k v) not_integer not_elements = absurd (not_elements k v refl)
+behind_elements numbers at op by j x (t.Enumerated number count v) not_integer not_elements = refl
+behind_elements numbers at op by j x (t.Truth v) not_integer not_elements = refl
 
-before_any : (numbers : Bool) (op : Arithmetic) (by : Numeric) (x : Typed) (y : o.Typed) → ((r : Static) → x ≡ t.Integer r → ⊥) → ((k : ElementKind) (v : Vector) → x ≡ t.Elements k v → ⊥)
-    → o.arithmetic numbers op by (typed_view x) y ≡ None
-before_any numbers op by (t.Integer r) y not_integer not_elements = absurd (not_integer r refl)
-before_any numbers op by (t.Elements k v) y not_integer not_elements = absurd (not_elements k v refl)
-before_any numbers op by (t.Enumerated number count v) y not_integer not_elements = refl
-before_any numbers op by (t.Truth v) y not_integer not_elements = refl
+before_any : (numbers : Bool) (at : ℕ) (op : Arithmetic) (by : Numeric) (x : Typed) (y : o.Typed) → ((r : Static) → x ≡ t.Integer r → ⊥) → ((k : ElementKind) (v : Vector) → x ≡ t.Elements k v → ⊥)
+    → o.arithmetic numbers at op by (typed_view x) y ≡ None
+before_any numbers at op by (t.Integer r) y not_integer not_elements = absurd (not_integer r refl)
+before_any numbers at op by (t.Elements k v) y not_integer not_elements = absurd (not_elements k v refl)
+before_any numbers at op by (t.Enumerated number count v) y not_integer not_elements = refl
+before_any numbers at op by (t.Truth v) y not_integer not_elements = refl
 
 no_number : (x : Typed) → ((r : Static) → x ≡ t.Integer r → ⊥) → ((k : ElementKind) (v : Vector) → x ≡ t.Elements k v → ⊥) → is_numeric (typed_view x) ≡ false
 no_number (t.Integer r) not_integer not_elements = absurd (not_integer r refl)
@@ -63,13 +63,13 @@ none_given : {A : Type 0} (b : Bool) (x : A) → b ≡ false → then_some b x �
 none_given true x e = absurd cc
 none_given false x e = refl
 
-integer_refused : (numbers : Bool) (op : Arithmetic) (by : Numeric) (s : u.Static) (k : ElementKind) (y : u.Vector) → (numbers && o.is_number k) ≡ false → o.arithmetic numbers op by (o.integer s) (o.elements k y) ≡ None
-integer_refused true op by s k y e = none_given (o.is_number k) _ e
-integer_refused false op by s k y e = refl
+integer_refused : (numbers : Bool) (at : ℕ) (op : Arithmetic) (by : Numeric) (s : u.Static) (k : ElementKind) (y : u.Vector) → (numbers && o.is_number k) ≡ false → o.arithmetic numbers at op by (o.integer s) (o.elements k y) ≡ None
+integer_refused true at op by s k y e = none_given (o.is_number k) _ e
+integer_refused false at op by s k y e = refl
 
-elements_refused : (numbers : Bool) (op : Arithmetic) (by : Numeric) (j : ElementKind) (x : u.Vector) (s : u.Static) → (numbers && o.is_number j) ≡ false → o.arithmetic numbers op by (o.elements j x) (o.integer s) ≡ None
-elements_refused true op by j x s e = none_given (o.is_number j) _ e
-elements_refused false op by j x s e = refl
+elements_refused : (numbers : Bool) (at : ℕ) (op : Arithmetic) (by : Numeric) (j : ElementKind) (x : u.Vector) (s : u.Static) → (numbers && o.is_number j) ≡ false → o.arithmetic numbers at op by (o.elements j x) (o.integer s) ≡ None
+elements_refused true at op by j x s e = none_given (o.is_number j) _ e
+elements_refused false at op by j x s e = refl
 
 gives_none : {X Y : Type 0} (view : X → Y) (given : Option Y) (P : NameFault → Type 0) (r : Result X NameFault) → IsErrAnd r P → given ≡ None → Gives view given r
 gives_none view given P (Ok x) h none = absurd h
@@ -81,8 +81,8 @@ told_on b fault P (Err e) h same told = subst (Tells b) (sym (same e h)) told
 
 pub returns-in_default-right-clause-given : goal.returns-in_default-right-clause-given
 returns-in_default-right-clause-given c =
-    λ n. ap (λ x. o.arithmetic c.args.numbers c.args.operator c.args.by (typed_view x) (typed_view c.args.operands.1)) c.in-Integer.is
-    ∙ behind_integer c.args.numbers c.args.operator c.args.by _ c.args.operands.1 c.in_default-right.not-Integer c.in_default-right.not-Elements
+    λ n. ap (λ x. o.arithmetic c.args.numbers c.args.at c.args.operator c.args.by (typed_view x) (typed_view c.args.operands.1)) c.in-Integer.is
+    ∙ behind_integer c.args.numbers c.args.at c.args.operator c.args.by _ c.args.operands.1 c.in_default-right.not-Integer c.in_default-right.not-Elements
 
 pub returns-in_default-right-clause-told : goal.returns-in_default-right-clause-told
 returns-in_default-right-clause-told c =
@@ -91,8 +91,8 @@ returns-in_default-right-clause-told c =
 
 pub returns-in_default-right-2-clause-given : goal.returns-in_default-right-2-clause-given
 returns-in_default-right-2-clause-given c =
-    λ n. ap (λ x. o.arithmetic c.args.numbers c.args.operator c.args.by (typed_view x) (typed_view c.args.operands.1)) c.in-Elements.is
-    ∙ behind_elements c.args.numbers c.args.operator c.args.by _ _ c.args.operands.1 c.in_default-right-2.not-Integer c.in_default-right-2.not-Elements
+    λ n. ap (λ x. o.arithmetic c.args.numbers c.args.at c.args.operator c.args.by (typed_view x) (typed_view c.args.operands.1)) c.in-Elements.is
+    ∙ behind_elements c.args.numbers c.args.at c.args.operator c.args.by _ _ c.args.operands.1 c.in_default-right-2.not-Integer c.in_default-right-2.not-Elements
 
 pub returns-in_default-right-2-clause-told : goal.returns-in_default-right-2-clause-told
 returns-in_default-right-2-clause-told c =
@@ -100,7 +100,7 @@ returns-in_default-right-2-clause-told c =
     (ap (λ b. is_numeric (typed_view c.args.operands.0) && b) (no_number c.args.operands.1 c.in_default-right-2.not-Integer c.in_default-right-2.not-Elements) ∙ and_false (is_numeric (typed_view c.args.operands.0))) c.at-in_default-right-2.ensures
 
 pub returns-in_default-clause-given : goal.returns-in_default-clause-given
-returns-in_default-clause-given c = λ n. before_any c.args.numbers c.args.operator c.args.by c.args.operands.0 _ c.in_default.not-Integer c.in_default.not-Elements
+returns-in_default-clause-given c = λ n. before_any c.args.numbers c.args.at c.args.operator c.args.by c.args.operands.0 _ c.in_default.not-Integer c.in_default.not-Elements
 
 pub returns-in_default-clause-told : goal.returns-in_default-clause-told
 returns-in_default-clause-told c =
@@ -108,9 +108,9 @@ returns-in_default-clause-told c =
 
 pub returns-in_err-numeric-in-Elements-right-clause-given : goal.returns-in_err-numeric-in-Elements-right-clause-given
 returns-in_err-numeric-in-Elements-right-clause-given c = gives_none typed_view _ _ c.from_residual-in_err-numeric-in-Elements-right.result c.from_residual-in_err-numeric-in-Elements-right.ensures.1
-    (ap (λ x. o.arithmetic c.args.numbers c.args.operator c.args.by (typed_view x) (typed_view c.args.operands.1)) c.in-Integer.is
-    ∙ (ap (λ y. o.arithmetic c.args.numbers c.args.operator c.args.by (typed_view (t.Integer c.in-Integer.s)) (typed_view y)) c.in-Elements-right.is
-    ∙ integer_refused c.args.numbers c.args.operator c.args.by _ c.in-Elements-right.k _ (ap (λ b. c.args.numbers && b) (sym c.is_number.ensures) ∙ c.in_err-numeric-in-Elements-right.ensures.lacks)))
+    (ap (λ x. o.arithmetic c.args.numbers c.args.at c.args.operator c.args.by (typed_view x) (typed_view c.args.operands.1)) c.in-Integer.is
+    ∙ (ap (λ y. o.arithmetic c.args.numbers c.args.at c.args.operator c.args.by (typed_view (t.Integer c.in-Integer.s)) (typed_view y)) c.in-Elements-right.is
+    ∙ integer_refused c.args.numbers c.args.at c.args.operator c.args.by _ c.in-Elements-right.k _ (ap (λ b. c.args.numbers && b) (sym c.is_number.ensures) ∙ c.in_err-numeric-in-Elements-right.ensures.lacks)))
 
 pub returns-in_err-numeric-in-Elements-right-clause-told : goal.returns-in_err-numeric-in-Elements-right-clause-told
 returns-in_err-numeric-in-Elements-right-clause-told c = told_on _ c.in_err-numeric-in-Elements-right.field-0.0 _ c.from_residual-in_err-numeric-in-Elements-right.result c.from_residual-in_err-numeric-in-Elements-right.ensures.1 (λ e p. p)
@@ -120,9 +120,9 @@ returns-in_err-numeric-in-Elements-right-clause-told c = told_on _ c.in_err-nume
 
 pub returns-in_err-numeric-in-Integer-right-2-clause-given : goal.returns-in_err-numeric-in-Integer-right-2-clause-given
 returns-in_err-numeric-in-Integer-right-2-clause-given c = gives_none typed_view _ _ c.from_residual-in_err-numeric-in-Integer-right-2.result c.from_residual-in_err-numeric-in-Integer-right-2.ensures.1
-    (ap (λ x. o.arithmetic c.args.numbers c.args.operator c.args.by (typed_view x) (typed_view c.args.operands.1)) c.in-Elements.is
-    ∙ (ap (λ y. o.arithmetic c.args.numbers c.args.operator c.args.by (typed_view (t.Elements c.in-Elements.j c.in-Elements.x)) (typed_view y)) c.in-Integer-right-2.is
-    ∙ elements_refused c.args.numbers c.args.operator c.args.by c.in-Elements.j _ _ (ap (λ b. c.args.numbers && b) (sym c.is_number-in-Integer-right-2.ensures) ∙ c.in_err-numeric-in-Integer-right-2.ensures.lacks)))
+    (ap (λ x. o.arithmetic c.args.numbers c.args.at c.args.operator c.args.by (typed_view x) (typed_view c.args.operands.1)) c.in-Elements.is
+    ∙ (ap (λ y. o.arithmetic c.args.numbers c.args.at c.args.operator c.args.by (typed_view (t.Elements c.in-Elements.j c.in-Elements.x)) (typed_view y)) c.in-Integer-right-2.is
+    ∙ elements_refused c.args.numbers c.args.at c.args.operator c.args.by c.in-Elements.j _ _ (ap (λ b. c.args.numbers && b) (sym c.is_number-in-Integer-right-2.ensures) ∙ c.in_err-numeric-in-Integer-right-2.ensures.lacks)))
 
 pub returns-in_err-binary-in-Integer-right-clause-given : goal.returns-in_err-binary-in-Integer-right-clause-given
 returns-in_err-binary-in-Integer-right-clause-given c = memory_gives typed_view _ _ c.from_residual.result c.from_residual.ensures.1 (λ e p. p)

@@ -1,12 +1,11 @@
-use Rattle.std.proofs.Common.{sym, ap, ◌∙◌, subst}
+use Rattle.std.proofs.Common.{sym, subst}
 use Rattle.vhdl_names_units.specs.views.Units.{units_view}
-use Rattle.vhdl_source_rules.specs.Faults.{of_elab}
 use Rattle.vhdl_source_rules.specs.declared.fault.SourceFault.{SourceFault}
 use Rattle.vhdl_source.specs.Steps.{HasElabFault}
 use Rattle.vhdl_source.proofs.Layers.{no_net}
 use Rattle.vhdl_source.proofs.opening.net_of.Goals as goal
 
-pub returns-in-Err-clause-given : goal.returns-in-Err-clause-given
-returns-in-Err-clause-given c =
-    subst (λ (f : SourceFault). HasElabFault (units_view c.args.units.now) c.args.top.now f) (sym (c.from.ensures ∙ ap of_elab c.elab_fault_within.ensures))
-    (no_net (units_view c.args.units.now) c.args.top.now c.args.size c.in-Err.fault c.in-Err.ensures.refused)
+pub returns-in-Err : goal.returns-in-Err
+returns-in-Err c =
+    subst (λ (f : SourceFault). HasElabFault (units_view c.args.units.now) c.args.top.now f) (sym c.from.ensures)
+    (no_net (units_view c.args.units.now) c.args.top.now c.in-Err.fault c.in-Err.ensures.refused)

@@ -17,5 +17,5 @@ loop-k-preserved c =
       made =
           ap (map element_view) c.in_ok-push.ensures.items ∙ map-append element_view c.loop-k.elements.items (_ ∷ [])
           ∙ run_more (static_at c.args.self.now.is_top c.args.self.now.nets.now o c.args.first) c.loop-k.k _ _ _ c.loop-k.invariant.made
-          (λ i. record { role = o.role; is_resolved = o.is_resolved; start = start i; net = c.net_at.ensures i; is_own = own i; is_top = c.args.self.now.is_top });
+          (λ i. record { at = o.at; role = c.of.ensures.role i; is_resolved = o.is_resolved; start = start i; net = c.net_at.ensures i; is_own = own i; is_top = c.of.ensures.top i });
     }

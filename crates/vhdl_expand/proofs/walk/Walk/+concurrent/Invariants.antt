@@ -22,8 +22,8 @@ invariant-concurrents-loop-item l = record {
 -- the turns that are left, behind what is made so far
 abbrev pub invariant-turns-loop-turn : goal.invariant-turns-loop-turn
 invariant-turns-loop-turn l = record {
-  leads : Alike (adding (progress_view l.fn.so_far) (for_each (units_of l.self) l.self.levels (spot_view l.spot) l.written.label.text.items (units.concurrents_of (units.concurrents_view l.written.statements)) (range_view l.range)))
-      (adding (progress_view l.so_far) (all_turned (units_of l.self) l.self.levels (spot_view l.spot) l.written.label.text.items (units.concurrents_of (units.concurrents_view l.written.statements))
+  leads : Alike (adding (progress_view l.fn.so_far) (for_each (units_of l.self) l.self.levels (spot_view l.spot) l.written.at l.written.label.text.items (units.concurrents_of (units.concurrents_view l.written.statements)) (range_view l.range)))
+      (adding (progress_view l.so_far) (all_turned (units_of l.self) l.self.levels (spot_view l.spot) l.written.at l.written.label.text.items (units.concurrents_of (units.concurrents_view l.written.statements))
       (drop l.turn (numbers_from l.turns.direction l.turns.first l.turns.count))));
   fits : TurnsFit l.so_far;
 }

@@ -18,6 +18,6 @@ invariant_of-self-2 c =
 pub returns : goal.returns
 returns c =
     let s = c.args.self.now in
-    operated_gives (operator_view c.args.operator) (links_of (expr_view s.first.value) s.rest.items) (expr_view c.args.right.expr) _ _ _
+    operated_gives c.args.at (operator_view c.args.operator) (links_of (expr_view s.first.value) s.rest.items) (expr_view c.args.right.expr) _ _ _
     s.counted c.args.right.counted c.in_ok-width.ensures.given
     (links_push (expr_view s.first.value) s.rest.items c.push.new.self.items _ c.in_ok-push.ensures.items)

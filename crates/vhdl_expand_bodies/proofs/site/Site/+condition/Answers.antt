@@ -1,4 +1,4 @@
-use Rattle.std.proofs.Common.{◌≡◌, Err, ◌<◌, length, refl, sym, ap, ◌∙◌, arith}
+use Rattle.std.proofs.Common.{◌≡◌, ℕ, Err, ◌<◌, length, refl, sym, ap, ◌∙◌, arith}
 use Rattle.std.specs.Prelude.{◌≢◌}
 use Rattle.rtl_net.specs.Bodies as net
 use Rattle.rtl_model.specs.bodies.Body as bodies
@@ -17,18 +17,18 @@ use Rattle.vhdl_expand_bodies.specs.steps.Tests as steps
 use Rattle.vhdl_expand_bodies.proofs.Links.{expands_along}
 use Rattle.vhdl_expand_bodies.proofs.Passing.{passed_on, on}
 use Rattle.vhdl_expand_bodies.proofs.TestChains.{chain_goes, chain_stops, more_stops, next_goes, next_stops, link_given}
-use Rattle.vhdl_expand_rules.specs.Elab.{◌>>=◌, problem_told}
+use Rattle.vhdl_expand_rules.specs.Elab.{◌>>=◌, fault_told}
 use Rattle.vhdl_expand_bodies.proofs.site.Site.+condition.Goals as goal
 
 pub expanded_test-returns-in_err-chain-in-Chain : goal.expanded_test-returns-in_err-chain-in-Chain
 expanded_test-returns-in_err-chain-in-Chain t c =
-    let stopped : c.in_err-chain-in-Chain.field-0.0 ≢ NoMemory → (definition.test (site_view c.args.self.now) (test_view c.args.test.now)) ≡ Err (problem_told c.in_err-chain-in-Chain.field-0.0) =
+    let stopped : c.in_err-chain-in-Chain.field-0.0 ≢ NoMemory → (definition.test (site_view c.args.self.now) (test_view c.args.test.now)) ≡ Err (fault_told c.in_err-chain-in-Chain.field-0.0) =
     λ n. chain_stops (site_view c.args.self.now) c.args.test.now c.in-Chain.start c.in-Chain.links _ c.in-Chain.is c.deref-in-Chain.ensures (c.in_err-chain-in-Chain.ensures n) in
     passed_on _ _ c.in_err-chain-in-Chain.field-0.0 _ c.from_residual-in_err-chain-in-Chain.result c.from_residual-in_err-chain-in-Chain.ensures.1 (λ e p. p) stopped
 
 pub expanded_test-returns-in_err-add_tests-in-Chain : goal.expanded_test-returns-in_err-add_tests-in-Chain
 expanded_test-returns-in_err-add_tests-in-Chain t c =
-    let stopped : c.in_err-add_tests-in-Chain.field-0.0 ≢ NoMemory → (definition.test (site_view c.args.self.now) (test_view c.args.test.now)) ≡ Err (problem_told c.in_err-add_tests-in-Chain.field-0.0) =
+    let stopped : c.in_err-add_tests-in-Chain.field-0.0 ≢ NoMemory → (definition.test (site_view c.args.self.now) (test_view c.args.test.now)) ≡ Err (fault_told c.in_err-add_tests-in-Chain.field-0.0) =
     λ n. more_stops (site_view c.args.self.now) c.args.test.now c.in-Chain.start c.in-Chain.links _ _ _ c.in-Chain.is c.deref-in-Chain.ensures c.deref-in-Chain-2.ensures.value
     c.in_ok-chain-in-Chain.ensures (c.in_err-add_tests-in-Chain.ensures n) in
     passed_on _ _ c.in_err-add_tests-in-Chain.field-0.0 _ c.from_residual-in_err-add_tests-in-Chain.result c.from_residual-in_err-add_tests-in-Chain.ensures.1 (λ e p. p) stopped
@@ -50,7 +50,7 @@ pub add_tests-returns-in_err-add_test : goal.add_tests-returns-in_err-add_test
 add_tests-returns-in_err-add_test t c =
     let i = c.loop-link.link-index in
     let below : i < length c.args.links.now = omega arith in
-    let stopped : c.in_err-add_test.field-0.0 ≢ NoMemory → (steps.all_linked (site_view c.args.self.now) (chain_view c.args.chain.now) c.args.links.now) ≡ Err (problem_told c.in_err-add_test.field-0.0) =
+    let stopped : c.in_err-add_test.field-0.0 ≢ NoMemory → (steps.all_linked (site_view c.args.self.now) (chain_view c.args.chain.now) c.args.links.now) ≡ Err (fault_told c.in_err-add_test.field-0.0) =
     λ n. next_stops (site_view c.args.self.now) (chain_view c.args.chain.now) _ c.args.links.now i c.link-item.result below c.link-item.is
     c.loop-link.invariant (c.in_err-add_test.ensures n) in
     passed_on _ _ c.in_err-add_test.field-0.0 _ c.from_residual.result c.from_residual.ensures.1 (λ e p. p) stopped
@@ -89,76 +89,76 @@ expanded_test-returns-in_err-holds-in-Fixed t c =
     ∙ on (λ e. given (bodies.decided e)) _ _ c.in_err-holds-in-Fixed.ensures)
 
 -- equality of two values, as the code comes to it, is equality as it is defined
-module _ (here : Site) where
+module _ (here : Site) (at : ℕ) where
   -- a name and any value
-  of_name : (p : SignalPart) (w : Value) → steps.alike here (u.Value.elements (u.of_signal p)) w ≡ definition.alike here (u.Value.elements (u.of_signal p)) w
+  of_name : (p : SignalPart) (w : Value) → steps.alike here at (u.Value.elements (u.of_signal p)) w ≡ definition.alike here at (u.Value.elements (u.of_signal p)) w
   of_name p (u.Value.elements (u.of_signal q)) = refl
-  of_name p (u.Value.elements (u.of_variable k r)) = refl
-  of_name p (u.Value.elements (u.of_constant k r)) = refl
+  of_name p (u.Value.elements (u.of_variable b k r)) = refl
+  of_name p (u.Value.elements (u.of_constant b k r)) = refl
   of_name p (u.Value.elements (u.character y)) = refl
   of_name p (u.Value.elements (u.enclosed_character y)) = refl
-  of_name p (u.Value.elements (u.Vector.literal ys)) = refl
+  of_name p (u.Value.elements (u.Vector.literal b ys)) = refl
   of_name p (u.Value.elements (u.Vector.inverse y)) = refl
-  of_name p (u.Value.elements (u.Vector.binary op y z)) = refl
-  of_name p (u.Value.elements (u.with_integer op y s)) = refl
-  of_name p (u.Value.elements (u.integer_with op s y)) = refl
-  of_name p (u.Value.elements (u.Vector.encoded s t)) = refl
-  of_name p (u.Value.elements (u.counted op y s)) = refl
+  of_name p (u.Value.elements (u.Vector.binary b op y z)) = refl
+  of_name p (u.Value.elements (u.with_integer b op y s)) = refl
+  of_name p (u.Value.elements (u.integer_with b op s y)) = refl
+  of_name p (u.Value.elements (u.Vector.encoded b s t)) = refl
+  of_name p (u.Value.elements (u.counted b op y s)) = refl
   of_name p (u.Value.position n) = refl
   of_name p (u.state_of s) = refl
   of_name p (u.state_of_variable k) = refl
 
   -- a character literal and any value
-  of_character : (x : Nine) (w : Value) → steps.alike here (u.Value.elements (u.character x)) w ≡ definition.alike here (u.Value.elements (u.character x)) w
+  of_character : (x : Nine) (w : Value) → steps.alike here at (u.Value.elements (u.character x)) w ≡ definition.alike here at (u.Value.elements (u.character x)) w
   of_character x (u.Value.elements (u.of_signal q)) = refl
-  of_character x (u.Value.elements (u.of_variable k r)) = refl
-  of_character x (u.Value.elements (u.of_constant k r)) = refl
+  of_character x (u.Value.elements (u.of_variable b k r)) = refl
+  of_character x (u.Value.elements (u.of_constant b k r)) = refl
   of_character x (u.Value.elements (u.character y)) = refl
   of_character x (u.Value.elements (u.enclosed_character y)) = refl
-  of_character x (u.Value.elements (u.Vector.literal ys)) = refl
+  of_character x (u.Value.elements (u.Vector.literal b ys)) = refl
   of_character x (u.Value.elements (u.Vector.inverse y)) = refl
-  of_character x (u.Value.elements (u.Vector.binary op y z)) = refl
-  of_character x (u.Value.elements (u.with_integer op y s)) = refl
-  of_character x (u.Value.elements (u.integer_with op s y)) = refl
-  of_character x (u.Value.elements (u.Vector.encoded s t)) = refl
-  of_character x (u.Value.elements (u.counted op y s)) = refl
+  of_character x (u.Value.elements (u.Vector.binary b op y z)) = refl
+  of_character x (u.Value.elements (u.with_integer b op y s)) = refl
+  of_character x (u.Value.elements (u.integer_with b op s y)) = refl
+  of_character x (u.Value.elements (u.Vector.encoded b s t)) = refl
+  of_character x (u.Value.elements (u.counted b op y s)) = refl
   of_character x (u.Value.position n) = refl
   of_character x (u.state_of s) = refl
   of_character x (u.state_of_variable k) = refl
 
   -- an enclosed one and any value
-  of_enclosed : (x : Nine) (w : Value) → steps.alike here (u.Value.elements (u.enclosed_character x)) w ≡ definition.alike here (u.Value.elements (u.enclosed_character x)) w
+  of_enclosed : (x : Nine) (w : Value) → steps.alike here at (u.Value.elements (u.enclosed_character x)) w ≡ definition.alike here at (u.Value.elements (u.enclosed_character x)) w
   of_enclosed x (u.Value.elements (u.of_signal q)) = refl
-  of_enclosed x (u.Value.elements (u.of_variable k r)) = refl
-  of_enclosed x (u.Value.elements (u.of_constant k r)) = refl
+  of_enclosed x (u.Value.elements (u.of_variable b k r)) = refl
+  of_enclosed x (u.Value.elements (u.of_constant b k r)) = refl
   of_enclosed x (u.Value.elements (u.character y)) = refl
   of_enclosed x (u.Value.elements (u.enclosed_character y)) = refl
-  of_enclosed x (u.Value.elements (u.Vector.literal ys)) = refl
+  of_enclosed x (u.Value.elements (u.Vector.literal b ys)) = refl
   of_enclosed x (u.Value.elements (u.Vector.inverse y)) = refl
-  of_enclosed x (u.Value.elements (u.Vector.binary op y z)) = refl
-  of_enclosed x (u.Value.elements (u.with_integer op y s)) = refl
-  of_enclosed x (u.Value.elements (u.integer_with op s y)) = refl
-  of_enclosed x (u.Value.elements (u.Vector.encoded s t)) = refl
-  of_enclosed x (u.Value.elements (u.counted op y s)) = refl
+  of_enclosed x (u.Value.elements (u.Vector.binary b op y z)) = refl
+  of_enclosed x (u.Value.elements (u.with_integer b op y s)) = refl
+  of_enclosed x (u.Value.elements (u.integer_with b op s y)) = refl
+  of_enclosed x (u.Value.elements (u.Vector.encoded b s t)) = refl
+  of_enclosed x (u.Value.elements (u.counted b op y s)) = refl
   of_enclosed x (u.Value.position n) = refl
   of_enclosed x (u.state_of s) = refl
   of_enclosed x (u.state_of_variable k) = refl
 
-  of_vector : (x : Vector) (w : Value) → steps.alike here (u.Value.elements x) w ≡ definition.alike here (u.Value.elements x) w
+  of_vector : (x : Vector) (w : Value) → steps.alike here at (u.Value.elements x) w ≡ definition.alike here at (u.Value.elements x) w
   of_vector (u.of_signal q) w = of_name q w
-  of_vector (u.of_variable k r) w = refl
-  of_vector (u.of_constant k r) w = refl
+  of_vector (u.of_variable b k r) w = refl
+  of_vector (u.of_constant b k r) w = refl
   of_vector (u.character y) w = of_character y w
   of_vector (u.enclosed_character y) w = of_enclosed y w
-  of_vector (u.Vector.literal ys) w = refl
+  of_vector (u.Vector.literal b ys) w = refl
   of_vector (u.Vector.inverse y) w = refl
-  of_vector (u.Vector.binary op y z) w = refl
-  of_vector (u.with_integer op y s) w = refl
-  of_vector (u.integer_with op s y) w = refl
-  of_vector (u.Vector.encoded s t) w = refl
-  of_vector (u.counted op y s) w = refl
+  of_vector (u.Vector.binary b op y z) w = refl
+  of_vector (u.with_integer b op y s) w = refl
+  of_vector (u.integer_with b op s y) w = refl
+  of_vector (u.Vector.encoded b s t) w = refl
+  of_vector (u.counted b op y s) w = refl
 
-  same_alike : (v w : Value) → steps.alike here v w ≡ definition.alike here v w
+  same_alike : (v w : Value) → steps.alike here at v w ≡ definition.alike here at v w
   same_alike (u.Value.elements x) w = of_vector x w
   same_alike (u.Value.position n) w = refl
   same_alike (u.state_of s) w = refl
@@ -168,7 +168,7 @@ pub expanded_test-returns-in-Alike : goal.expanded_test-returns-in-Alike
 unfolding definition.test
 expanded_test-returns-in-Alike t c =
     expands_along net.test_view _ _ _ (ap (λ x. definition.test (site_view c.args.self.now) (test_view x)) c.in-Alike.is
-    ∙ sym (same_alike (site_view c.args.self.now) (value_view c.in-Alike.left.value) (value_view c.in-Alike.right.value)))
+    ∙ sym (same_alike (site_view c.args.self.now) _ (value_view c.in-Alike.left.value) (value_view c.in-Alike.right.value)))
     (rw (c.deref.ensures, c.deref-in-Alike.ensures) at c.alike.ensures)
 
 pub expanded_test-returns-in-Unlike : goal.expanded_test-returns-in-Unlike

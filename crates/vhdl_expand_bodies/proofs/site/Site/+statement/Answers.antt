@@ -27,51 +27,51 @@ use Rattle.vhdl_expand_bodies.proofs.Links.{expands_along}
 use Rattle.vhdl_expand_bodies.proofs.Parts.{branch_of, alternative_of, added_gives, none_left, null_one, assign_by, set_by, if_made, if_by, case_made, case_by, loop_is, same_turn, turned_goes}
 use Rattle.vhdl_expand_bodies.proofs.Passing.{passed_on, none_behind, made_by, refused_by, on}
 use Rattle.vhdl_expand_bodies.proofs.Sequences.{list_goes, list_stops, list_ends, turns_go, turns_stop, turns_end, each_adds, each_refuses, each_ends}
-use Rattle.vhdl_expand_rules.specs.Elab.{Elab, ◌>>=◌, each, problem_told}
+use Rattle.vhdl_expand_rules.specs.Elab.{Elab, ◌>>=◌, each, fault_told}
 use Rattle.vhdl_expand_bodies.proofs.site.Site.+statement.Goals as goal
 
 pub add_statement-returns-in-Null : goal.add_statement-returns-in-Null
 add_statement-returns-in-Null t c =
-    let at = site_view c.args.self.now in
-    let h = ap (λ x. definition.statement at (analysed.statement_view x)) c.in-Null.is ∙ null_one at in
+    let here = site_view c.args.self.now in
+    let h = ap (λ x. definition.statement here (analysed.statement_view x)) c.in-Null.is ∙ null_one here in
     added_gives c.args.body.now.items c.add.new.list.items (Ok bodies.null_of) _ (Ok s.Null) c.add.result h refl c.add.ensures
 
 pub add_statement-returns-in-Assign : goal.add_statement-returns-in-Assign
 add_statement-returns-in-Assign t c =
-    let at = site_view c.args.self.now in
-    let h = ap (λ x. definition.statement at (analysed.statement_view x)) c.in-Assign.is ∙ assign_by at _ _ in
+    let here = site_view c.args.self.now in
+    let h = ap (λ x. definition.statement here (analysed.statement_view x)) c.in-Assign.is ∙ assign_by here _ _ in
     added_gives c.args.body.now.items c.add-in-Assign.new.list.items _ _ c.assign.result c.add-in-Assign.result h c.assign.ensures c.add-in-Assign.ensures
 
 pub add_statement-returns-in-Set : goal.add_statement-returns-in-Set
 add_statement-returns-in-Set t c =
-    let at = site_view c.args.self.now in
-    let h = ap (λ x. definition.statement at (analysed.statement_view x)) c.in-Set.is ∙ set_by at _ _ _ in
+    let here = site_view c.args.self.now in
+    let h = ap (λ x. definition.statement here (analysed.statement_view x)) c.in-Set.is ∙ set_by here _ _ _ _ in
     added_gives c.args.body.now.items c.add-in-Set.new.list.items _ _ c.set.result c.add-in-Set.result h c.set.ensures c.add-in-Set.ensures
 
 pub add_statement-returns-in-If : goal.add_statement-returns-in-If
 add_statement-returns-in-If t c =
-    let at = site_view c.args.self.now in
-    let h = ap (λ x. definition.statement at (analysed.statement_view x)) c.in-If.is ∙ if_by at c.in-If.conditional in
+    let here = site_view c.args.self.now in
+    let h = ap (λ x. definition.statement here (analysed.statement_view x)) c.in-If.is ∙ if_by here c.in-If.conditional in
     added_gives c.args.body.now.items c.add-in-If.new.list.items _ _ c.conditional.result c.add-in-If.result h c.conditional.ensures c.add-in-If.ensures
 
 pub add_statement-returns-in-Case : goal.add_statement-returns-in-Case
 add_statement-returns-in-Case t c =
-    let at = site_view c.args.self.now in
-    let h = ap (λ x. definition.statement at (analysed.statement_view x)) c.in-Case.is ∙ case_by at c.in-Case.selection in
+    let here = site_view c.args.self.now in
+    let h = ap (λ x. definition.statement here (analysed.statement_view x)) c.in-Case.is ∙ case_by here c.in-Case.selection in
     added_gives c.args.body.now.items c.add-in-Case.new.list.items _ _ c.selection.result c.add-in-Case.result h c.selection.ensures c.add-in-Case.ensures
 
 pub add_statement-returns-in-Loop : goal.add_statement-returns-in-Loop
 add_statement-returns-in-Loop t c =
-    let at = site_view c.args.self.now in
-    let h = ap (λ x. definition.statement at (analysed.statement_view x)) c.in-Loop.is
-    ∙ loop_is at c.in-Loop.repeated in
+    let here = site_view c.args.self.now in
+    let h = ap (λ x. definition.statement here (analysed.statement_view x)) c.in-Loop.is
+    ∙ loop_is here c.in-Loop.repeated in
     expands_along _ _ _ _ (ap (after _) h) c.add_turns.ensures
 
 pub conditional-returns : goal.conditional-returns
 conditional-returns t c =
     let made = c.in_ok-branches-2 in
-    let at = site_view c.args.self.now in
-    let is : steps.conditional at (analysed.branches_view (out-If c.args.conditional.now).branches)
+    let here = site_view c.args.self.now in
+    let is : steps.conditional here (analysed.branches_view (out-If c.args.conditional.now).branches)
     (analysed.last_of (analysed.option_statements_view (out-If c.args.conditional.now).otherwise))
     ≡ Ok (bodies.if_of (steps.branches_before (otherwise_view made.otherwise) (branches_view made.branches))) = first_of (search rules, grind (arith, common_steps)) in
     is ∙ ap Ok (sym (if_made c.byte.result made.branches made.otherwise))
@@ -79,8 +79,8 @@ conditional-returns t c =
 pub selection-returns : goal.selection-returns
 selection-returns t c =
     let made = c.in_ok-selector-3 in
-    let at = site_view c.args.self.now in
-    let is : steps.selection at (value_view (out-Case c.args.selection.now).selector) (analysed.alternatives_view (out-Case c.args.selection.now).alternatives)
+    let here = site_view c.args.self.now in
+    let is : steps.selection here (out-Case c.args.selection.now).at (value_view (out-Case c.args.selection.now).selector) (analysed.alternatives_view (out-Case c.args.selection.now).alternatives)
     (analysed.statements_of (analysed.statements_view (out-Case c.args.selection.now).others))
     ≡ Ok (bodies.case_of (net.value_view made.selector.value) (steps.alternatives_before (statements_of made.others.items) (alternatives_view made.alternatives)))
     = first_of (search rules, grind (arith, common_steps)) in
@@ -99,44 +99,44 @@ add_statements-returns t c =
 
 pub add_statements-returns-in_err-add_statement : goal.add_statements-returns-in_err-add_statement
 add_statements-returns-in_err-add_statement t c =
-    let at = site_view c.args.self.now in
+    let here = site_view c.args.self.now in
     let i = c.loop-statement.statement-index in
     let below : i < length c.args.list.now = omega arith in
     let stopped : c.in_err-add_statement.field-0.0 ≢ NoMemory
-    → (after (statements_of c.args.body.now.items) (definition.statements at (analysed.statements_of (map analysed.statement_view c.args.list.now)))) ≡ Err (problem_told c.in_err-add_statement.field-0.0) =
-    λ n. list_stops at analysed.statement_view _ _ c.args.list.now i c.statement-item.result below c.statement-item.is c.loop-statement.invariant (c.in_err-add_statement.ensures n) in
+    → (after (statements_of c.args.body.now.items) (definition.statements here (analysed.statements_of (map analysed.statement_view c.args.list.now)))) ≡ Err (fault_told c.in_err-add_statement.field-0.0) =
+    λ n. list_stops here analysed.statement_view _ _ c.args.list.now i c.statement-item.result below c.statement-item.is c.loop-statement.invariant (c.in_err-add_statement.ensures n) in
     passed_on _ _ c.in_err-add_statement.field-0.0 _ c.from_residual.result c.from_residual.ensures.1 (λ e p. p) stopped
 
 pub add_turns-returns-in_err-add_turn : goal.add_turns-returns-in_err-add_turn
 add_turns-returns-in_err-add_turn t c =
-    let at = site_view c.args.self.now in
+    let here = site_view c.args.self.now in
     let body = analysed.statements_of (analysed.statements_view c.args.repeated.now.statements) in
     let same = c.parameter-value.ensures in
     let f : SFits w32 c.parameter-value.result = search rules in
     let fixed : to_z w32 (of_z w32 c.parameter-value.result) ≡ c.parameter-value.result = omega (arith, ints) in
     let stopped : c.in_err-add_turn.field-0.0 ≢ NoMemory
-    → (after (statements_of c.args.body.now.items) (steps.turned at (range_view c.args.repeated.now.range) body)) ≡ Err (problem_told c.in_err-add_turn.field-0.0) =
-    λ n. subst (λ (r : Elab bodies.Stmts). r ≡ Err (problem_told c.in_err-add_turn.field-0.0)) (sym (turned_goes at (range_view c.args.repeated.now.range) body _ (statements_of c.args.body.now.items) c.in_ok-turns.ensures))
-    (turns_stop at body _ (statements_of c.loop-turn.body.items) c.in_ok-turns.turns.direction c.in_ok-turns.turns.first c.parameter-value.result c.in_ok-turns.turns.count c.loop-turn.turn c.loop-turn-test.true c.loop-turn.invariant same
-    (subst (λ (r : Elab bodies.Stmts). r ≡ Err (problem_told c.in_err-add_turn.field-0.0)) (sym (same_turn at (statements_of c.loop-turn.body.items) _ _ _ _ fixed c.deref.ensures.value)) (c.in_err-add_turn.ensures n))) in
+    → (after (statements_of c.args.body.now.items) (steps.turned here c.args.repeated.now.at (range_view c.args.repeated.now.range) body)) ≡ Err (fault_told c.in_err-add_turn.field-0.0) =
+    λ n. subst (λ (r : Elab bodies.Stmts). r ≡ Err (fault_told c.in_err-add_turn.field-0.0)) (sym (turned_goes here c.args.repeated.now.at (range_view c.args.repeated.now.range) body _ (statements_of c.args.body.now.items) c.in_ok-turns.ensures))
+    (turns_stop here body _ (statements_of c.loop-turn.body.items) c.in_ok-turns.turns.direction c.in_ok-turns.turns.first c.parameter-value.result c.in_ok-turns.turns.count c.loop-turn.turn c.loop-turn-test.true c.loop-turn.invariant same
+    (subst (λ (r : Elab bodies.Stmts). r ≡ Err (fault_told c.in_err-add_turn.field-0.0)) (sym (same_turn here (statements_of c.loop-turn.body.items) _ _ _ _ fixed c.deref.ensures.value)) (c.in_err-add_turn.ensures n))) in
     passed_on _ _ c.in_err-add_turn.field-0.0 _ c.from_residual-in_err-add_turn.result c.from_residual-in_err-add_turn.ensures.1 (λ e p. p) stopped
 
 pub add_turns-loop-turn-preserved : goal.add_turns-loop-turn-preserved
 add_turns-loop-turn-preserved t c =
-    let at = site_view c.args.self.now in
+    let here = site_view c.args.self.now in
     let body = analysed.statements_of (analysed.statements_view c.args.repeated.now.statements) in
     let same = c.parameter-value.ensures in
     let f : SFits w32 c.parameter-value.result = search rules in
     let fixed : to_z w32 (of_z w32 c.parameter-value.result) ≡ c.parameter-value.result = omega (arith, ints) in
-    turns_go at body _ (statements_of c.loop-turn.body.items) _ c.in_ok-turns.turns.direction c.in_ok-turns.turns.first c.parameter-value.result c.in_ok-turns.turns.count c.loop-turn.turn c.loop-turn-test.true c.loop-turn.invariant same
-    (same_turn at (statements_of c.loop-turn.body.items) _ _ _ _ fixed c.deref.ensures.value ∙ c.in_ok-add_turn.ensures)
+    turns_go here body _ (statements_of c.loop-turn.body.items) _ c.in_ok-turns.turns.direction c.in_ok-turns.turns.first c.parameter-value.result c.in_ok-turns.turns.count c.loop-turn.turn c.loop-turn-test.true c.loop-turn.invariant same
+    (same_turn here (statements_of c.loop-turn.body.items) _ _ _ _ fixed c.deref.ensures.value ∙ c.in_ok-add_turn.ensures)
 
 pub add_turns-returns : goal.add_turns-returns
 add_turns-returns t c =
-    let at = site_view c.args.self.now in
+    let here = site_view c.args.self.now in
     let body = analysed.statements_of (analysed.statements_view c.args.repeated.now.statements) in
-    turned_goes at (range_view c.args.repeated.now.range) body _ (statements_of c.args.body.now.items) c.in_ok-turns.ensures
-    ∙ turns_end at body _ _ c.in_ok-turns.turns.direction c.in_ok-turns.turns.first c.in_ok-turns.turns.count c.loop-turn.turn (omega arith) c.loop-turn.invariant
+    turned_goes here c.args.repeated.now.at (range_view c.args.repeated.now.range) body _ (statements_of c.args.body.now.items) c.in_ok-turns.ensures
+    ∙ turns_end here body _ _ c.in_ok-turns.turns.direction c.in_ok-turns.turns.first c.in_ok-turns.turns.count c.loop-turn.turn (omega arith) c.loop-turn.invariant
 
 -- ---- branches and alternatives
 
@@ -154,7 +154,7 @@ pub branches-returns-in_err-add : goal.branches-returns-in_err-add
 branches-returns-in_err-add t c =
     let i = c.loop-item.item-index in
     let below : i < length c.args.list.now = omega arith in
-    let stopped : c.in_err-add.field-0.0 ≢ NoMemory → each (steps.branch (site_view c.args.self.now)) (map analysed.branch_view c.args.list.now) ≡ Err (problem_told c.in_err-add.field-0.0) =
+    let stopped : c.in_err-add.field-0.0 ≢ NoMemory → each (steps.branch (site_view c.args.self.now)) (map analysed.branch_view c.args.list.now) ≡ Err (fault_told c.in_err-add.field-0.0) =
     each_refuses (steps.branch (site_view c.args.self.now)) analysed.branch_view branch_view _ c.loop-item.branches.items c.add.new.list.items c.args.list.now i c.item-item.result c.branch-self.result c.in_err-add.field-0.0 below c.item-item.is c.loop-item.invariant c.branch-self.ensures c.in_err-add.ensures in
     passed_on _ _ c.in_err-add.field-0.0 _ c.from_residual.result c.from_residual.ensures.1 (λ e p. p) stopped
 
@@ -164,25 +164,25 @@ branches-returns t c =
 
 pub alternatives-loop-item-init : goal.alternatives-loop-item-init
 alternatives-loop-item-init t c =
-    none_behind _ (each (steps.alternative (site_view c.args.self.now) c.args.width.len) (map analysed.alternative_view c.args.list.now)) (ap (map alternative_view) c.new-alternatives.ensures.items)
+    none_behind _ (each (steps.alternative (site_view c.args.self.now) c.args.at c.args.width.len) (map analysed.alternative_view c.args.list.now)) (ap (map alternative_view) c.new-alternatives.ensures.items)
 
 pub alternatives-loop-item-preserved : goal.alternatives-loop-item-preserved
 alternatives-loop-item-preserved t c =
     let i = c.loop-item.item-index in
     let below : i < length c.args.list.now = omega arith in
-    each_adds (steps.alternative (site_view c.args.self.now) c.args.width.len) analysed.alternative_view alternative_view _ c.loop-item.alternatives.items c.add.new.list.items c.args.list.now i c.item-item.result c.alternative.result below c.item-item.is c.loop-item.invariant c.alternative.ensures c.in_ok-add.ensures
+    each_adds (steps.alternative (site_view c.args.self.now) c.args.at c.args.width.len) analysed.alternative_view alternative_view _ c.loop-item.alternatives.items c.add.new.list.items c.args.list.now i c.item-item.result c.alternative.result below c.item-item.is c.loop-item.invariant c.alternative.ensures c.in_ok-add.ensures
 
 pub alternatives-returns-in_err-add : goal.alternatives-returns-in_err-add
 alternatives-returns-in_err-add t c =
     let i = c.loop-item.item-index in
     let below : i < length c.args.list.now = omega arith in
-    let stopped : c.in_err-add.field-0.0 ≢ NoMemory → each (steps.alternative (site_view c.args.self.now) c.args.width.len) (map analysed.alternative_view c.args.list.now) ≡ Err (problem_told c.in_err-add.field-0.0) =
-    each_refuses (steps.alternative (site_view c.args.self.now) c.args.width.len) analysed.alternative_view alternative_view _ c.loop-item.alternatives.items c.add.new.list.items c.args.list.now i c.item-item.result c.alternative.result c.in_err-add.field-0.0 below c.item-item.is c.loop-item.invariant c.alternative.ensures c.in_err-add.ensures in
+    let stopped : c.in_err-add.field-0.0 ≢ NoMemory → each (steps.alternative (site_view c.args.self.now) c.args.at c.args.width.len) (map analysed.alternative_view c.args.list.now) ≡ Err (fault_told c.in_err-add.field-0.0) =
+    each_refuses (steps.alternative (site_view c.args.self.now) c.args.at c.args.width.len) analysed.alternative_view alternative_view _ c.loop-item.alternatives.items c.add.new.list.items c.args.list.now i c.item-item.result c.alternative.result c.in_err-add.field-0.0 below c.item-item.is c.loop-item.invariant c.alternative.ensures c.in_err-add.ensures in
     passed_on _ _ c.in_err-add.field-0.0 _ c.from_residual.result c.from_residual.ensures.1 (λ e p. p) stopped
 
 pub alternatives-returns : goal.alternatives-returns
 alternatives-returns t c =
-    each_ends (steps.alternative (site_view c.args.self.now) c.args.width.len) analysed.alternative_view _ (map alternative_view c.loop-item.alternatives.items) _ (none_left c.args.list.now c.loop-item.item-index (omega arith)) c.loop-item.invariant
+    each_ends (steps.alternative (site_view c.args.self.now) c.args.at c.args.width.len) analysed.alternative_view _ (map alternative_view c.loop-item.alternatives.items) _ (none_left c.args.list.now c.loop-item.item-index (omega arith)) c.loop-item.invariant
 
 -- ---- two parts, one after the other
 
@@ -206,16 +206,16 @@ branch-returns t c =
 pub alternative-returns-in_err-choices : goal.alternative-returns-in_err-choices
 alternative-returns-in_err-choices t c =
     passed_on _ _ c.in_err-choices.field-0.0 _ c.from_residual.result c.from_residual.ensures.1 (λ e p. p)
-    (λ n. on (λ l. definition.statements (site_view c.args.self.now) (analysed.statements_of (analysed.alternative_view c.args.alternative.now).statements) >>= λ x. alternative_of l x) _ _ (ap (λ xs. each (definition.choice c.args.width.len) (map answers.choice_view xs)) (sym c.deref.ensures.value) ∙ c.in_err-choices.ensures n))
+    (λ n. on (λ l. definition.statements (site_view c.args.self.now) (analysed.statements_of (analysed.alternative_view c.args.alternative.now).statements) >>= λ x. alternative_of l x) _ _ (ap (λ xs. each (definition.choice c.args.at c.args.width.len) (map answers.choice_view xs)) (sym c.deref.ensures.value) ∙ c.in_err-choices.ensures n))
 
 pub alternative-returns-in_err-choices-2 : goal.alternative-returns-in_err-choices-2
 alternative-returns-in_err-choices-2 t c =
     passed_on _ _ c.in_err-choices-2.field-0.0 _ c.from_residual-in_err-choices-2.result c.from_residual-in_err-choices-2.ensures.1 (λ e p. p)
-    (λ n. on (λ l. definition.statements (site_view c.args.self.now) (analysed.statements_of (analysed.alternative_view c.args.alternative.now).statements) >>= λ x. alternative_of l x) _ _ (ap (λ xs. each (definition.choice c.args.width.len) (map answers.choice_view xs)) (sym c.deref.ensures.value) ∙ c.in_ok-choices.ensures)
+    (λ n. on (λ l. definition.statements (site_view c.args.self.now) (analysed.statements_of (analysed.alternative_view c.args.alternative.now).statements) >>= λ x. alternative_of l x) _ _ (ap (λ xs. each (definition.choice c.args.at c.args.width.len) (map answers.choice_view xs)) (sym c.deref.ensures.value) ∙ c.in_ok-choices.ensures)
     ∙ on (λ x. alternative_of (map net.choice_view c.in_ok-choices.choices.items) x) _ _ (ap (λ (xs : List analysed_statement.Statement). definition.statements (site_view c.args.self.now) (analysed.statements_of (map analysed.statement_view xs))) (sym c.deref-2.ensures.value) ∙ refused_by _ _ _ _ c.in_err-choices-2.ensures.fault c.body-statements.ensures n))
 
 pub alternative-returns : goal.alternative-returns
 alternative-returns t c =
-    on (λ l. definition.statements (site_view c.args.self.now) (analysed.statements_of (analysed.alternative_view c.args.alternative.now).statements) >>= λ x. alternative_of l x) _ _ (ap (λ xs. each (definition.choice c.args.width.len) (map answers.choice_view xs)) (sym c.deref.ensures.value) ∙ c.in_ok-choices.ensures)
+    on (λ l. definition.statements (site_view c.args.self.now) (analysed.statements_of (analysed.alternative_view c.args.alternative.now).statements) >>= λ x. alternative_of l x) _ _ (ap (λ xs. each (definition.choice c.args.at c.args.width.len) (map answers.choice_view xs)) (sym c.deref.ensures.value) ∙ c.in_ok-choices.ensures)
     ∙ on (λ x. alternative_of (map net.choice_view c.in_ok-choices.choices.items) x) _ _ (ap (λ (xs : List analysed_statement.Statement). definition.statements (site_view c.args.self.now) (analysed.statements_of (map analysed.statement_view xs))) (sym c.deref-2.ensures.value) ∙ made_by (λ v. statements_of v.items) _ _ _ c.in_ok-choices-2.ensures.both.0 c.body-statements.ensures)
     ∙ ap (λ (v : Vec Choice Global). alternative_of (map net.choice_view v.items) (statements_of c.in_ok-choices-2.statements.items)) c.in_ok-choices-2.ensures.both.1

@@ -19,9 +19,9 @@ invariant-branches-loop-item l =
 
 abbrev pub invariant-alternatives-loop-item : goal.invariant-alternatives-loop-item
 invariant-alternatives-loop-item l =
-    each (steps.alternative (site_view l.self) l.width.len) (map analysed.alternative_view l.list)
+    each (steps.alternative (site_view l.self) l.fn.at l.width.len) (map analysed.alternative_view l.list)
     ≡ behind (map alternative_view l.alternatives.items)
-    (each (steps.alternative (site_view l.self) l.width.len) (map analysed.alternative_view (drop l.item-index l.list)))
+    (each (steps.alternative (site_view l.self) l.fn.at l.width.len) (map analysed.alternative_view (drop l.item-index l.list)))
 
 -- the statements so far, and those that are left behind them
 abbrev pub invariant-add_statements-loop-statement : goal.invariant-add_statements-loop-statement

@@ -10,18 +10,18 @@ use Rattle.vhdl_expand_bodies.specs.Sites.{site_view}
 use Rattle.vhdl_expand_bodies.specs.steps.Vectors as steps
 use Rattle.vhdl_expand_bodies.proofs.Links.{expands_along, chain_goes, chain_stops, more_stops, next_goes, next_stops}
 use Rattle.vhdl_expand_bodies.proofs.Passing.{passed_on, on}
-use Rattle.vhdl_expand_rules.specs.Elab.{problem_told}
+use Rattle.vhdl_expand_rules.specs.Elab.{fault_told}
 use Rattle.vhdl_expand_bodies.proofs.site.Site.+vector.Goals as goal
 
 pub expanded-returns-in_err-chain-in-Chain : goal.expanded-returns-in_err-chain-in-Chain
 expanded-returns-in_err-chain-in-Chain t c =
-    let stopped : c.in_err-chain-in-Chain.field-0.0 ≢ NoMemory → (definition.vector (site_view c.args.self.now) (vector_view c.args.vector.now)) ≡ Err (problem_told c.in_err-chain-in-Chain.field-0.0) =
+    let stopped : c.in_err-chain-in-Chain.field-0.0 ≢ NoMemory → (definition.vector (site_view c.args.self.now) (vector_view c.args.vector.now)) ≡ Err (fault_told c.in_err-chain-in-Chain.field-0.0) =
     λ n. chain_stops (site_view c.args.self.now) c.args.vector.now c.in-Chain.start c.in-Chain.links _ c.in-Chain.is c.deref-in-Chain.ensures (c.in_err-chain-in-Chain.ensures n) in
     passed_on _ _ c.in_err-chain-in-Chain.field-0.0 _ c.from_residual-in_err-chain-in-Chain.result c.from_residual-in_err-chain-in-Chain.ensures.1 (λ e p. p) stopped
 
 pub expanded-returns-in_err-add_links-in-Chain : goal.expanded-returns-in_err-add_links-in-Chain
 expanded-returns-in_err-add_links-in-Chain t c =
-    let stopped : c.in_err-add_links-in-Chain.field-0.0 ≢ NoMemory → (definition.vector (site_view c.args.self.now) (vector_view c.args.vector.now)) ≡ Err (problem_told c.in_err-add_links-in-Chain.field-0.0) =
+    let stopped : c.in_err-add_links-in-Chain.field-0.0 ≢ NoMemory → (definition.vector (site_view c.args.self.now) (vector_view c.args.vector.now)) ≡ Err (fault_told c.in_err-add_links-in-Chain.field-0.0) =
     λ n. more_stops (site_view c.args.self.now) c.args.vector.now c.in-Chain.start c.in-Chain.links _ _ _ c.in-Chain.is c.deref-in-Chain.ensures c.deref-in-Chain-2.ensures.value
     c.in_ok-chain-in-Chain.ensures (c.in_err-add_links-in-Chain.ensures n) in
     passed_on _ _ c.in_err-add_links-in-Chain.field-0.0 _ c.from_residual-in_err-add_links-in-Chain.result c.from_residual-in_err-add_links-in-Chain.ensures.1 (λ e p. p) stopped
@@ -43,7 +43,7 @@ pub add_links-returns-in_err-add_link : goal.add_links-returns-in_err-add_link
 add_links-returns-in_err-add_link t c =
     let i = c.loop-link.link-index in
     let below : i < length c.args.links.now = omega arith in
-    let stopped : c.in_err-add_link.field-0.0 ≢ NoMemory → (steps.all_linked (site_view c.args.self.now) (chain_view c.args.chain.now) c.args.links.now) ≡ Err (problem_told c.in_err-add_link.field-0.0) =
+    let stopped : c.in_err-add_link.field-0.0 ≢ NoMemory → (steps.all_linked (site_view c.args.self.now) (chain_view c.args.chain.now) c.args.links.now) ≡ Err (fault_told c.in_err-add_link.field-0.0) =
     λ n. next_stops (site_view c.args.self.now) (chain_view c.args.chain.now) _ c.args.links.now i c.link-item.result below c.link-item.is
     c.loop-link.invariant (c.in_err-add_link.ensures n) in
     passed_on _ _ c.in_err-add_link.field-0.0 _ c.from_residual.result c.from_residual.ensures.1 (λ e p. p) stopped

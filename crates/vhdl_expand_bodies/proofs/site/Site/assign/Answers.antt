@@ -9,7 +9,7 @@ use Rattle.vhdl_expand_rules.specs.declared.fault.ElabFault.TheVariants.{NoMemor
 use Rattle.vhdl_expand_bodies.specs.Sites.{site_view}
 use Rattle.vhdl_expand_bodies.specs.steps.Assignments as steps
 use Rattle.vhdl_expand_bodies.proofs.Assigned.{assign_gives, assign_stops}
-use Rattle.vhdl_expand_rules.specs.Elab.{problem_told}
+use Rattle.vhdl_expand_rules.specs.Elab.{fault_told}
 use Rattle.vhdl_expand_rules.proofs.Steps.{given}
 use Rattle.vhdl_expand_bodies.proofs.site.Site.assign.Goals as goal
 
@@ -20,7 +20,7 @@ returns c =
 
 pub returns-in_err-value : goal.returns-in_err-value
 returns-in_err-value c =
-    let stopped : c.in_err-value.field-0.0 ≢ NoMemory → (steps.assign (site_view c.args.self.now) (place_view c.args.target.now) (given_view c.args.value.now)) ≡ Err (problem_told c.in_err-value.field-0.0) =
+    let stopped : c.in_err-value.field-0.0 ≢ NoMemory → (steps.assign (site_view c.args.self.now) (place_view c.args.target.now) (given_view c.args.value.now)) ≡ Err (fault_told c.in_err-value.field-0.0) =
     λ n. assign_stops (site_view c.args.self.now) (place_view c.args.target.now) (given_view c.args.value.now)
     c.in_ok-run.run'.first c.in_ok-run.run'.len c.in_ok-run.ensures.given (c.in_err-value.ensures n) in
     first_of (search rules, grind (arith, common_steps))

@@ -9,18 +9,18 @@ use Rattle.vhdl_expand_rules.specs.declared.fault.ElabFault.TheVariants.{NoMemor
 use Rattle.vhdl_expand_bodies.specs.Sites.{site_view}
 use Rattle.vhdl_expand_bodies.specs.steps.Assignments as steps
 use Rattle.vhdl_expand_bodies.proofs.Assigned.{set_gives, set_stops}
-use Rattle.vhdl_expand_rules.specs.Elab.{problem_told}
+use Rattle.vhdl_expand_rules.specs.Elab.{fault_told}
 use Rattle.vhdl_expand_rules.proofs.Steps.{given}
 use Rattle.vhdl_expand_bodies.proofs.site.Site.set.Goals as goal
 
 pub returns : goal.returns
 returns c =
-    set_gives (site_view c.args.self.now) c.args.variable (part_view c.args.part.now) (given_view c.args.value.now)
+    set_gives (site_view c.args.self.now) c.args.at c.args.variable (part_view c.args.part.now) (given_view c.args.value.now)
     c.in_ok-run.run'.first c.in_ok-run.run'.len (value_view c.in_ok-value.value) (numbers c.elements-elements.result) c.in_ok-run.ensures.given c.in_ok-value.ensures (ap given (sym c.elements-elements.ensures))
 
 pub returns-in_err-value : goal.returns-in_err-value
 returns-in_err-value c =
-    let stopped : c.in_err-value.field-0.0 ≢ NoMemory → (steps.set (site_view c.args.self.now) c.args.variable (part_view c.args.part.now) (given_view c.args.value.now)) ≡ Err (problem_told c.in_err-value.field-0.0) =
-    λ n. set_stops (site_view c.args.self.now) c.args.variable (part_view c.args.part.now) (given_view c.args.value.now)
+    let stopped : c.in_err-value.field-0.0 ≢ NoMemory → (steps.set (site_view c.args.self.now) c.args.at c.args.variable (part_view c.args.part.now) (given_view c.args.value.now)) ≡ Err (fault_told c.in_err-value.field-0.0) =
+    λ n. set_stops (site_view c.args.self.now) c.args.at c.args.variable (part_view c.args.part.now) (given_view c.args.value.now)
     c.in_ok-run.run'.first c.in_ok-run.run'.len c.in_ok-run.ensures.given (c.in_err-value.ensures n) in
     first_of (search rules, grind (arith, common_steps))

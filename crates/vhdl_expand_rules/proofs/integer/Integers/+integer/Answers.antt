@@ -7,8 +7,7 @@ use Rattle.std.proofs.lemmas.List.{at_drop_more, at_drop_all}
 use Rattle.std.proofs.lemmas.Grind.{common_steps}
 use Rattle.vhdl_names_rules.specs.views.Integers.{static_view}
 use Rattle.vhdl_names_rules.specs.declared.integer.StaticLink.{StaticLink}
-use Rattle.vhdl_expand_rules.specs.declared.fault.ElabProblem.{ElabProblem}
-use Rattle.vhdl_expand_rules.specs.Elab.{◌>>=◌, problem_told}
+use Rattle.vhdl_expand_rules.specs.Elab.{◌>>=◌, Told, fault_told}
 use Rattle.vhdl_expand_rules.specs.Integers as definition
 use Rattle.vhdl_expand_rules.specs.views.Integers.{integers_view, all_operated}
 use Rattle.vhdl_expand_rules.proofs.Chains.{computes_along, computes_err, chain-value, chain-err}
@@ -16,56 +15,56 @@ use Rattle.vhdl_expand_rules.proofs.integer.Integers.+integer.Goals as goal
 
 pub integer-returns-in_err-first-in-Chain : goal.integer-returns-in_err-first-in-Chain
 integer-returns-in_err-first-in-Chain t c =
-    let refused : definition.integer (integers_view c.args.self.now) (static_view c.args.value.now) ≡ Err (problem_told c.in_err-first-in-Chain.field-0.0) =
-    chain-err (integers_view c.args.self.now) c.args.value.now c.in-Chain.start c.in-Chain.links _ _ c.in-Chain.is c.deref-in-Chain.ensures c.in_err-first-in-Chain.ensures in
+    let refused : definition.integer (integers_view c.args.self.now) c.args.at (static_view c.args.value.now) ≡ Err (fault_told c.in_err-first-in-Chain.field-0.0) =
+    chain-err (integers_view c.args.self.now) c.args.at c.args.value.now c.in-Chain.start c.in-Chain.links _ _ c.in-Chain.is c.deref-in-Chain.ensures c.in_err-first-in-Chain.ensures in
     computes_err _ c.in_err-first-in-Chain.field-0.0 _ c.from_residual-in_err-first-in-Chain.result c.from_residual-in_err-first-in-Chain.ensures.1 (λ e p. p) refused
 
 pub integer-returns-in_ok-first-in-Chain : goal.integer-returns-in_ok-first-in-Chain
 integer-returns-in_ok-first-in-Chain t c =
     computes_along _ (all_operated (integers_view c.args.self.now) c.in_ok-first-in-Chain.first c.deref-in-Chain-2.result.now) _
-    (chain-value (integers_view c.args.self.now) c.args.value.now c.in-Chain.start c.in-Chain.links _ _ _ c.in-Chain.is c.deref-in-Chain.ensures c.deref-in-Chain-2.ensures.value c.in_ok-first-in-Chain.ensures)
+    (chain-value (integers_view c.args.self.now) c.args.at c.args.value.now c.in-Chain.start c.in-Chain.links _ _ _ c.in-Chain.is c.deref-in-Chain.ensures c.deref-in-Chain-2.ensures.value c.in_ok-first-in-Chain.ensures)
     (first_of (search rules, grind (arith, common_steps)))
 
 pub integer-returns-in-Number : goal.integer-returns-in-Number
 unfolding definition.integer
-integer-returns-in-Number t c = computes_along _ _ _ (ap (λ v. definition.integer (integers_view c.args.self.now) (static_view v)) c.in-Number.is) c.literal.ensures
+integer-returns-in-Number t c = computes_along _ _ _ (ap (λ v. definition.integer (integers_view c.args.self.now) c.args.at (static_view v)) c.in-Number.is) c.literal.ensures
 
 pub integer-returns-in-Generic : goal.integer-returns-in-Generic
 unfolding definition.integer
-integer-returns-in-Generic t c = computes_along _ _ _ (ap (λ v. definition.integer (integers_view c.args.self.now) (static_view v)) c.in-Generic.is) c.known.ensures
+integer-returns-in-Generic t c = computes_along _ _ _ (ap (λ v. definition.integer (integers_view c.args.self.now) c.args.at (static_view v)) c.in-Generic.is) c.known.ensures
 
 pub integer-returns-in-Constant : goal.integer-returns-in-Constant
 unfolding definition.integer
-integer-returns-in-Constant t c = computes_along _ _ _ (ap (λ v. definition.integer (integers_view c.args.self.now) (static_view v)) c.in-Constant.is) c.known-in-Constant.ensures
+integer-returns-in-Constant t c = computes_along _ _ _ (ap (λ v. definition.integer (integers_view c.args.self.now) c.args.at (static_view v)) c.in-Constant.is) c.known-in-Constant.ensures
 
 pub integer-returns-in-GenerateParameter : goal.integer-returns-in-GenerateParameter
 unfolding definition.integer
-integer-returns-in-GenerateParameter t c = computes_along _ _ _ (ap (λ v. definition.integer (integers_view c.args.self.now) (static_view v)) c.in-GenerateParameter.is) c.known-in-GenerateParameter.ensures
+integer-returns-in-GenerateParameter t c = computes_along _ _ _ (ap (λ v. definition.integer (integers_view c.args.self.now) c.args.at (static_view v)) c.in-GenerateParameter.is) c.known-in-GenerateParameter.ensures
 
 pub integer-returns-in-LoopParameter : goal.integer-returns-in-LoopParameter
 unfolding definition.integer
-integer-returns-in-LoopParameter t c = computes_along _ _ _ (ap (λ v. definition.integer (integers_view c.args.self.now) (static_view v)) c.in-LoopParameter.is) c.known-in-LoopParameter.ensures
+integer-returns-in-LoopParameter t c = computes_along _ _ _ (ap (λ v. definition.integer (integers_view c.args.self.now) c.args.at (static_view v)) c.in-LoopParameter.is) c.known-in-LoopParameter.ensures
 
 pub integer-returns-in_err-x-in-Negated : goal.integer-returns-in_err-x-in-Negated
 unfolding definition.integer
 integer-returns-in_err-x-in-Negated t c =
     computes_err _ c.in_err-x-in-Negated.field-0.0 _ c.from_residual.result c.from_residual.ensures.1 (λ e p. p)
-    (ap (λ v. definition.integer (integers_view c.args.self.now) (static_view v)) c.in-Negated.is ∙ ap (λ r. r >>= λ x. definition.checked_integer (neg_ℤ x)) (rw c.deref.ensures at c.in_err-x-in-Negated.ensures))
+    (ap (λ v. definition.integer (integers_view c.args.self.now) c.args.at (static_view v)) c.in-Negated.is ∙ ap (λ r. r >>= λ x. definition.checked_integer c.in-Negated.sign (neg_ℤ x)) (rw c.deref.ensures at c.in_err-x-in-Negated.ensures))
 
 pub started-returns-in_err-left : goal.started-returns-in_err-left
 unfolding definition.integer
 started-returns-in_err-left t c =
     let l = c.args.start.now.link in
     computes_err _ c.in_err-left.field-0.0 _ c.from_residual.result c.from_residual.ensures.1 (λ e p. p)
-    (ap (λ r. r >>= λ x. definition.integer (integers_view c.args.self.now) (static_view l.operand) >>= λ y. definition.integer_operation l.operator x y) c.in_err-left.ensures)
+    (ap (λ r. r >>= λ x. definition.integer (integers_view c.args.self.now) l.at (static_view l.operand) >>= λ y. definition.integer_operation l.at l.operator x y) c.in_err-left.ensures)
 
 pub started-returns-in_err-right : goal.started-returns-in_err-right
 unfolding definition.integer
 started-returns-in_err-right t c =
     let l = c.args.start.now.link in
     computes_err _ c.in_err-right.field-0.0 _ c.from_residual-in_err-right.result c.from_residual-in_err-right.ensures.1 (λ e p. p)
-    (ap (λ r. r >>= λ x. definition.integer (integers_view c.args.self.now) (static_view l.operand) >>= λ y. definition.integer_operation l.operator x y) c.in_ok-left.ensures
-    ∙ ap (λ r. r >>= λ y. definition.integer_operation l.operator c.in_ok-left.left y) c.in_err-right.ensures)
+    (ap (λ r. r >>= λ x. definition.integer (integers_view c.args.self.now) l.at (static_view l.operand) >>= λ y. definition.integer_operation l.at l.operator x y) c.in_ok-left.ensures
+    ∙ ap (λ r. r >>= λ y. definition.integer_operation l.at l.operator c.in_ok-left.left y) c.in_err-right.ensures)
 
 pub started-returns : goal.started-returns
 unfolding definition.integer
@@ -77,10 +76,10 @@ started-returns t c =
     let fy : SFits w32 y = search rules in
     let ex : to_z w32 (of_z w32 x) ≡ x = omega (arith, ints) in
     let ey : to_z w32 (of_z w32 y) ≡ y = omega (arith, ints) in
-    computes_along _ (definition.integer_operation l.operator (to_z w32 (of_z w32 x)) (to_z w32 (of_z w32 y))) _
-    (ap (λ r. r >>= λ a. definition.integer (integers_view c.args.self.now) (static_view l.operand) >>= λ b. definition.integer_operation l.operator a b) c.in_ok-left.ensures
-    ∙ (ap (λ r. r >>= λ b. definition.integer_operation l.operator x b) c.in_ok-right.ensures
-    ∙ (ap (λ a. definition.integer_operation l.operator a y) (sym ex) ∙ ap (λ b. definition.integer_operation l.operator (to_z w32 (of_z w32 x)) b) (sym ey))))
+    computes_along _ (definition.integer_operation l.at l.operator (to_z w32 (of_z w32 x)) (to_z w32 (of_z w32 y))) _
+    (ap (λ r. r >>= λ a. definition.integer (integers_view c.args.self.now) l.at (static_view l.operand) >>= λ b. definition.integer_operation l.at l.operator a b) c.in_ok-left.ensures
+    ∙ (ap (λ r. r >>= λ b. definition.integer_operation l.at l.operator x b) c.in_ok-right.ensures
+    ∙ (ap (λ a. definition.integer_operation l.at l.operator a y) (sym ex) ∙ ap (λ b. definition.integer_operation l.at l.operator (to_z w32 (of_z w32 x)) b) (sym ey))))
     c.operated.ensures
 
 -- ---- one more operator of a chain
@@ -88,24 +87,24 @@ started-returns t c =
 module _ (here : definition.Integers) (first value : ℤ) (links : List StaticLink) (i : ℕ) (x : StaticLink) (within : i < length links) (is : x ≡ get_or links i x)
     (so_far : all_operated here first links ≡ all_operated here value (drop i links)) where
   ahead : all_operated here first links
-      ≡ (definition.integer here (static_view x.operand) >>= λ y. definition.integer_operation x.operator value y >>= λ z. all_operated here z (drop (i + 1) links))
+      ≡ (definition.integer here x.at (static_view x.operand) >>= λ y. definition.integer_operation x.at x.operator value y >>= λ z. all_operated here z (drop (i + 1) links))
   ahead = so_far ∙ (at_drop_more (all_operated here value) links i x within ∙ ap (λ y. all_operated here value (y ∷ drop (i + 1) links)) (sym is))
 
-  operand_stops : (problem : ElabProblem) → definition.integer here (static_view x.operand) ≡ Err problem → all_operated here first links ≡ Err problem
-  operand_stops problem h = ahead ∙ ap (λ r. r >>= λ y. definition.integer_operation x.operator value y >>= λ z. all_operated here z (drop (i + 1) links)) h
+  operand_stops : (told : Told) → definition.integer here x.at (static_view x.operand) ≡ Err told → all_operated here first links ≡ Err told
+  operand_stops told h = ahead ∙ ap (λ r. r >>= λ y. definition.integer_operation x.at x.operator value y >>= λ z. all_operated here z (drop (i + 1) links)) h
 
-  operator_gives : (operand operand' : ℤ) → operand' ≡ operand → definition.integer here (static_view x.operand) ≡ Ok operand
-      → all_operated here first links ≡ (definition.integer_operation x.operator value operand' >>= λ z. all_operated here z (drop (i + 1) links))
+  operator_gives : (operand operand' : ℤ) → operand' ≡ operand → definition.integer here x.at (static_view x.operand) ≡ Ok operand
+      → all_operated here first links ≡ (definition.integer_operation x.at x.operator value operand' >>= λ z. all_operated here z (drop (i + 1) links))
   operator_gives operand operand' e h = ahead
-      ∙ (ap (λ r. r >>= λ y. definition.integer_operation x.operator value y >>= λ z. all_operated here z (drop (i + 1) links)) h
-      ∙ ap (λ y. definition.integer_operation x.operator value y >>= λ z. all_operated here z (drop (i + 1) links)) (sym e))
+      ∙ (ap (λ r. r >>= λ y. definition.integer_operation x.at x.operator value y >>= λ z. all_operated here z (drop (i + 1) links)) h
+      ∙ ap (λ y. definition.integer_operation x.at x.operator value y >>= λ z. all_operated here z (drop (i + 1) links)) (sym e))
 
-  operator_stops : (operand operand' : ℤ) (problem : ElabProblem) → operand' ≡ operand → definition.integer here (static_view x.operand) ≡ Ok operand
-      → definition.integer_operation x.operator value operand' ≡ Err problem → all_operated here first links ≡ Err problem
-  operator_stops operand operand' problem e h k = operator_gives operand operand' e h ∙ ap (λ r. r >>= λ z. all_operated here z (drop (i + 1) links)) k
+  operator_stops : (operand operand' : ℤ) (told : Told) → operand' ≡ operand → definition.integer here x.at (static_view x.operand) ≡ Ok operand
+      → definition.integer_operation x.at x.operator value operand' ≡ Err told → all_operated here first links ≡ Err told
+  operator_stops operand operand' told e h k = operator_gives operand operand' e h ∙ ap (λ r. r >>= λ z. all_operated here z (drop (i + 1) links)) k
 
-  operator_goes : (operand operand' next next' : ℤ) → operand' ≡ operand → next' ≡ next → definition.integer here (static_view x.operand) ≡ Ok operand
-      → definition.integer_operation x.operator value operand' ≡ Ok next → all_operated here first links ≡ all_operated here next' (drop (i + 1) links)
+  operator_goes : (operand operand' next next' : ℤ) → operand' ≡ operand → next' ≡ next → definition.integer here x.at (static_view x.operand) ≡ Ok operand
+      → definition.integer_operation x.at x.operator value operand' ≡ Ok next → all_operated here first links ≡ all_operated here next' (drop (i + 1) links)
   operator_goes operand operand' next next' e e' h k = operator_gives operand operand' e h
       ∙ (ap (λ r. r >>= λ z. all_operated here z (drop (i + 1) links)) k ∙ ap (λ z. all_operated here z (drop (i + 1) links)) (sym e'))
 

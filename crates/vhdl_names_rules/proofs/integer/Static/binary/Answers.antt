@@ -9,4 +9,4 @@ returns-in_ok-push-in-Chain c =
     let e = ap static_view c.in-Chain.is ∙ view_chain c.in-Chain.start c.in-Chain.links in
     c.chain.ensures
     ∙ chained-after (start_view c.in-Chain.start.value) c.in-Chain.links.items _ _ c.in_ok-push-in-Chain.ensures.items
-    ∙ ap (λ x. units.Static.binary c.args.operator x (static_view c.args.operand)) (sym e)
+    ∙ ap (λ x. units.Static.binary c.args.at c.args.operator x (static_view c.args.operand)) (sym e)

@@ -1,0 +1,13 @@
+//! Bytes of a source as words.
+
+ghost use Rattle.std.specs.Prelude.{◌≡◌, ◌-◌, ◌^◌, min};
+
+/// A byte of the source as a word; those beyond it are all the last.
+pub fn byte(at: usize) -> u32
+    ensures { result ≡ min at (2 ^ 32 - 1) }
+{
+    match u32::try_from(at) {
+        Ok(at) => at,
+        Err(_) => u32::MAX,
+    }
+}

@@ -1,0 +1,6 @@
+pub mod Static
+pub mod Expressions
+pub mod Statements
+pub mod Names
+pub mod Declarations
+pub mod Designs

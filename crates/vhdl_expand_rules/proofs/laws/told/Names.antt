@@ -1,0 +1,152 @@
+-- The names that a body assigns or reads have bytes of the body, or 0, and what is refused of them is told there.
+use Rattle.std.proofs.Common.{ℕ, Bool, true, false, cond, List, [], ◌∷◌, ◌++◌, All}
+use Rattle.std.proofs.lemmas.List.Elements.{All-cons, All-nil, All-head, All-tail, All-append}
+use Rattle.vhdl_names_rules.specs.units.Expressions as e
+use Rattle.vhdl_names_rules.specs.units.Expressions.{SignalPart, Vector, Value, Test}
+use Rattle.vhdl_names_rules.specs.units.Statements as s
+use Rattle.vhdl_names_rules.specs.units.Bytes.{static_bytes, range_bytes, part_bytes, place_bytes, vector_bytes, value_bytes, test_bytes, given_bytes, statement_bytes, statements_bytes, branches_bytes, alternatives_bytes}
+use Rattle.vhdl_expand_rules.specs.Elab.{each}
+use Rattle.vhdl_expand_rules.specs.Site.{Site, place_elements}
+use Rattle.vhdl_expand_rules.specs.Prefixes.{is_static_part, prefix, statement_targets, targets, branches_targets, alternatives_targets, vector_names, whole_of, value_names, test_names, given_names, statement_names, names, branches_names, alternatives_names, names_elements, prefixes_elements}
+use Rattle.vhdl_expand_rules.proofs.Tells.{Tells, tells_none, tells_then, tells_each}
+use Rattle.vhdl_expand_rules.proofs.laws.Targets.{all_left, all_right}
+use Rattle.vhdl_expand_rules.proofs.laws.told.Static.{place_tells}
+
+module _ (P : ℕ → Type 0) where
+  -- the bytes of a name are such
+  abbrev pub Stands : SignalPart → Type 0
+  Stands p = All P (place_bytes p)
+
+  one-name : (p : SignalPart) → Stands p → All Stands (p ∷ [])
+  one-name p h = All-cons Stands p [] h (All-nil Stands)
+
+  -- ---- what is assigned
+
+  mutual
+    statement-targets : (y : s.Statement) → All P (statement_bytes y) → All Stands (statement_targets y)
+    statement-targets s.null_of k = All-nil Stands
+    statement-targets (s.assign p g) k = one-name p (all_left P (place_bytes p) (given_bytes g) k)
+    statement-targets (s.set at n part g) k = All-nil Stands
+    statement-targets (s.if_of at bs) k = branches-targets bs (All-tail P at (branches_bytes bs) k)
+    statement-targets (s.case_of at v alts) k = alternatives-targets alts (all_right P (value_bytes v) (alternatives_bytes alts) (All-tail P at (value_bytes v ++ alternatives_bytes alts) k))
+    statement-targets (s.for_of at r body) k = targets_stand body (all_right P (range_bytes r) (statements_bytes body) (All-tail P at (range_bytes r ++ statements_bytes body) k))
+
+    pub targets_stand : (ys : s.Statements) → All P (statements_bytes ys) → All Stands (targets ys)
+    targets_stand s.done k = All-nil Stands
+    targets_stand (s.step y ys) k =
+        All-append Stands (statement_targets y) (targets ys) (statement-targets y (all_left P (statement_bytes y) (statements_bytes ys) k))
+        (targets_stand ys (all_right P (statement_bytes y) (statements_bytes ys) k))
+
+    branches-targets : (bs : s.Branches) → All P (branches_bytes bs) → All Stands (branches_targets bs)
+    branches-targets s.no_else k = All-nil Stands
+    branches-targets (s.otherwise ys) k = targets_stand ys k
+    branches-targets (s.branch t ys bs) k =
+        let rest : All P (statements_bytes ys ++ branches_bytes bs) = all_right P (test_bytes t) (statements_bytes ys ++ branches_bytes bs) k in
+        All-append Stands (targets ys) (branches_targets bs) (targets_stand ys (all_left P (statements_bytes ys) (branches_bytes bs) rest))
+        (branches-targets bs (all_right P (statements_bytes ys) (branches_bytes bs) rest))
+
+    alternatives-targets : (alts : s.Alternatives) → All P (alternatives_bytes alts) → All Stands (alternatives_targets alts)
+    alternatives-targets (s.others ys) k = targets_stand ys k
+    alternatives-targets (s.alternative cs ys alts) k =
+        All-append Stands (targets ys) (alternatives_targets alts) (targets_stand ys (all_left P (statements_bytes ys) (alternatives_bytes alts) k))
+        (alternatives-targets alts (all_right P (statements_bytes ys) (alternatives_bytes alts) k))
+
+  -- ---- what is read: a signal of an enumeration has no byte, and is looked up at 0
+
+  vector-names : (v : Vector) → All P (vector_bytes v) → All Stands (vector_names v)
+  vector-names (e.of_signal p) k = one-name p k
+  vector-names (e.of_variable at n part) k = All-nil Stands
+  vector-names (e.of_constant at n part) k = All-nil Stands
+  vector-names (e.character y) k = All-nil Stands
+  vector-names (e.enclosed_character y) k = All-nil Stands
+  vector-names (e.Vector.literal at ys) k = All-nil Stands
+  vector-names (e.Vector.inverse v) k = vector-names v k
+  vector-names (e.Vector.binary at op v w) k =
+      let rest : All P (vector_bytes v ++ vector_bytes w) = All-tail P at (vector_bytes v ++ vector_bytes w) k in
+      All-append Stands (vector_names v) (vector_names w) (vector-names v (all_left P (vector_bytes v) (vector_bytes w) rest)) (vector-names w (all_right P (vector_bytes v) (vector_bytes w) rest))
+  vector-names (e.with_integer at op v n) k = vector-names v (all_left P (vector_bytes v) (static_bytes n) (All-tail P at (vector_bytes v ++ static_bytes n) k))
+  vector-names (e.integer_with at op n v) k = vector-names v (all_right P (static_bytes n) (vector_bytes v) (All-tail P at (static_bytes n ++ vector_bytes v) k))
+  vector-names (e.Vector.encoded at n size) k = All-nil Stands
+  vector-names (e.counted at op v n) k = vector-names v (all_left P (vector_bytes v) (static_bytes n) (All-tail P at (vector_bytes v ++ static_bytes n) k))
+
+  module _ (zero-stands : P 0) where
+    value-names : (v : Value) → All P (value_bytes v) → All Stands (value_names v)
+    value-names (e.Value.elements v) k = vector-names v k
+    value-names (e.Value.position n) k = All-nil Stands
+    value-names (e.state_of x) k = one-name (whole_of x) (All-cons P 0 [] zero-stands (All-nil P))
+    value-names (e.state_of_variable n) k = All-nil Stands
+
+    two-values : (v w : Value) → All P (value_bytes v ++ value_bytes w) → All Stands (value_names v ++ value_names w)
+    two-values v w k =
+        All-append Stands (value_names v) (value_names w) (value-names v (all_left P (value_bytes v) (value_bytes w) k)) (value-names w (all_right P (value_bytes v) (value_bytes w) k))
+
+    test-names : (t : Test) → All P (test_bytes t) → All Stands (test_names t)
+    test-names (e.holds v) k = vector-names v k
+    test-names (e.Test.fixed t) k = All-nil Stands
+    test-names (e.alike at v w) k = two-values v w (All-tail P at (value_bytes v ++ value_bytes w) k)
+    test-names (e.unlike at v w) k = two-values v w (All-tail P at (value_bytes v ++ value_bytes w) k)
+    test-names (e.Test.compared at op v w) k =
+        let rest : All P (vector_bytes v ++ vector_bytes w) = All-tail P at (vector_bytes v ++ vector_bytes w) k in
+        All-append Stands (vector_names v) (vector_names w) (vector-names v (all_left P (vector_bytes v) (vector_bytes w) rest)) (vector-names w (all_right P (vector_bytes v) (vector_bytes w) rest))
+    test-names (e.compared_to at op v n) k = vector-names v (all_left P (vector_bytes v) (static_bytes n) (All-tail P at (vector_bytes v ++ static_bytes n) k))
+    test-names (e.compared_with at op n v) k = vector-names v (all_right P (static_bytes n) (vector_bytes v) (All-tail P at (static_bytes n ++ vector_bytes v) k))
+    test-names (e.edge kind p) k = one-name p k
+    test-names (e.event p) k = one-name p k
+    test-names (e.Test.negated t) k = test-names t k
+    test-names (e.Test.both op t r) k =
+        All-append Stands (test_names t) (test_names r) (test-names t (all_left P (test_bytes t) (test_bytes r) k)) (test-names r (all_right P (test_bytes t) (test_bytes r) k))
+
+    given-names : (g : s.Given) → All P (given_bytes g) → All Stands (given_names g)
+    given-names (s.single v) k = value-names v k
+    given-names (s.filled v) k = vector-names v k
+
+    mutual
+      statement-names : (y : s.Statement) → All P (statement_bytes y) → All Stands (statement_names y)
+      statement-names s.null_of k = All-nil Stands
+      statement-names (s.assign p g) k = given-names g (all_right P (place_bytes p) (given_bytes g) k)
+      statement-names (s.set at n part g) k = given-names g (all_right P (part_bytes part) (given_bytes g) (All-tail P at (part_bytes part ++ given_bytes g) k))
+      statement-names (s.if_of at bs) k = branches-names bs (All-tail P at (branches_bytes bs) k)
+      statement-names (s.case_of at v alts) k =
+          let rest : All P (value_bytes v ++ alternatives_bytes alts) = All-tail P at (value_bytes v ++ alternatives_bytes alts) k in
+          All-append Stands (value_names v) (alternatives_names alts) (value-names v (all_left P (value_bytes v) (alternatives_bytes alts) rest))
+          (alternatives-names alts (all_right P (value_bytes v) (alternatives_bytes alts) rest))
+      statement-names (s.for_of at r body) k = names_stand body (all_right P (range_bytes r) (statements_bytes body) (All-tail P at (range_bytes r ++ statements_bytes body) k))
+
+      pub names_stand : (ys : s.Statements) → All P (statements_bytes ys) → All Stands (names ys)
+      names_stand s.done k = All-nil Stands
+      names_stand (s.step y ys) k =
+          All-append Stands (statement_names y) (names ys) (statement-names y (all_left P (statement_bytes y) (statements_bytes ys) k)) (names_stand ys (all_right P (statement_bytes y) (statements_bytes ys) k))
+
+      branches-names : (bs : s.Branches) → All P (branches_bytes bs) → All Stands (branches_names bs)
+      branches-names s.no_else k = All-nil Stands
+      branches-names (s.otherwise ys) k = names_stand ys k
+      branches-names (s.branch t ys bs) k =
+          let rest : All P (statements_bytes ys ++ branches_bytes bs) = all_right P (test_bytes t) (statements_bytes ys ++ branches_bytes bs) k in
+          All-append Stands (test_names t) (names ys ++ branches_names bs) (test-names t (all_left P (test_bytes t) (statements_bytes ys ++ branches_bytes bs) k))
+          (All-append Stands (names ys) (branches_names bs) (names_stand ys (all_left P (statements_bytes ys) (branches_bytes bs) rest))
+          (branches-names bs (all_right P (statements_bytes ys) (branches_bytes bs) rest)))
+
+      alternatives-names : (alts : s.Alternatives) → All P (alternatives_bytes alts) → All Stands (alternatives_names alts)
+      alternatives-names (s.others ys) k = names_stand ys k
+      alternatives-names (s.alternative cs ys alts) k =
+          All-append Stands (names ys) (alternatives_names alts) (names_stand ys (all_left P (statements_bytes ys) (alternatives_bytes alts) k))
+          (alternatives-names alts (all_right P (statements_bytes ys) (alternatives_bytes alts) k))
+
+  -- ---- their elements
+
+  prefix-stands : (p : SignalPart) → Stands p → Stands (prefix p)
+  prefix-stands p h = by (is_static_part p.part)
+    where
+      by : (t : Bool) → Stands (cond t p (record p { part = e.whole }))
+      by true = h
+      by false = All-cons P p.at [] (All-head P p.at (part_bytes p.part) h) (All-nil P)
+
+  pub names_tell : (here : Site) (ps : List SignalPart) → All Stands ps → Tells P (names_elements here ps)
+  unfolding names_elements
+  names_tell here ps h = tells_then P (each (place_elements here) ps) _ (tells_each P Stands (place_elements here) ps (λ p k. place_tells P here p k) h) (λ es. tells_none P _)
+
+  pub prefixes_tell : (here : Site) (ps : List SignalPart) → All Stands ps → Tells P (prefixes_elements here ps)
+  unfolding prefixes_elements
+  prefixes_tell here ps h =
+      tells_then P (each (λ p. place_elements here (prefix p)) ps) _
+      (tells_each P Stands (λ p. place_elements here (prefix p)) ps (λ p k. place_tells P here (prefix p) (prefix-stands p k)) h) (λ es. tells_none P _)

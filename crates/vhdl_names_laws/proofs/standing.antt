@@ -1,0 +1,10 @@
+pub mod Holding
+pub mod Operators
+pub mod Names
+pub mod Expressions
+pub mod Statements
+pub mod Declarations
+pub mod Instances
+pub mod Concurrent
+pub mod Files
+pub mod Laws

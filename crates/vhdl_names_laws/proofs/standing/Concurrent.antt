@@ -1,0 +1,229 @@
+-- The bytes of an analysed concurrent statement are those of pieces of the statement.
+use Rattle.std.proofs.Common.{◌≡◌, ℕ, List, [], ◌∷◌, ◌++◌, map, Option, Some, None, subst}
+use Rattle.std.specs.List.{flat_map}
+use Rattle.std.specs.Option.{option_map}
+use Rattle.vhdl_lexer.specs.declared.token.TokenKind.TheVariants as k
+use Rattle.vhdl_tree.specs.Tree as t
+use Rattle.vhdl_tree.specs.Tree.{Ident}
+use Rattle.vhdl_tree.specs.Pieces.{spell_option, spell_word, spell_each, spell_list}
+use Rattle.vhdl_tree.specs.grammar.Expressions.{spell, spell_name, spell_value}
+use Rattle.vhdl_tree.specs.grammar.Sequential.{spell_label, spell_statements}
+use Rattle.vhdl_tree.specs.grammar.Process.{spell_sensitivity, spell_variables, spell_process, spell_waveform, spell_selected}
+use Rattle.vhdl_tree.specs.grammar.Concurrent.{spell_branch, spell_waveforms, spell_assignment, spell_scheme, spell_concurrent, spell_concurrents}
+use Rattle.vhdl_names_rules.specs.units.Expressions.{SignalPart}
+use Rattle.vhdl_names_rules.specs.units.Statements as s
+use Rattle.vhdl_names_rules.specs.units.Units as u
+use Rattle.vhdl_names_rules.specs.units.Bytes.{range_bytes, static_test_bytes, place_bytes, value_bytes, test_bytes, given_bytes, statement_bytes, statements_bytes, branches_bytes, alternatives_bytes, object_bytes, sensitivity_bytes, process_bytes, concurrent_bytes, concurrents_bytes}
+use Rattle.vhdl_names_rules.specs.Rules.{◌>>=◌, each}
+use Rattle.vhdl_names_rules.specs.Visibility.{Name, Sight, with_variables, are_distinct, label_ends, ends}
+use Rattle.vhdl_names_rules.specs.Expressions.{typed, static_range, condition, as_static_test, value_given}
+use Rattle.vhdl_names_rules.specs.Choices.{covered, selector, arranged}
+use Rattle.vhdl_names_rules.specs.Declarations.{in_order, variables}
+use Rattle.vhdl_names_rules.specs.Interfaces.{EntityView, declared_names}
+use Rattle.vhdl_names_rules.specs.Instances.{instance}
+use Rattle.vhdl_names_rules.specs.Statements.{SignalName, signal, target, statements, statement_labels}
+use Rattle.vhdl_names_rules.specs.Concurrent.{assigning, assigned, alone, last_branch, branches, assignment_body, assignment, selected, sensitivity, process, concurrent_labels, sight_within, generated, concurrent, concurrents}
+use Rattle.vhdl_names_rules.proofs.laws.Rules.{comes, kept}
+use Rattle.vhdl_names_laws.proofs.Statics.{some_same}
+use Rattle.vhdl_names_laws.proofs.Operators.{mapped}
+use Rattle.vhdl_names_laws.proofs.Words.{all_in_order}
+use Rattle.vhdl_names_laws.proofs.placed.Told.{Stand, EachStands, first, behind, each_stands, list_stands}
+use Rattle.vhdl_names_laws.proofs.placed.Concurrent.{BranchesStand, waveforms_stand}
+use Rattle.vhdl_names_laws.proofs.standing.Holding.{Hold, hold_both, hold_each}
+use Rattle.vhdl_names_laws.proofs.standing.Expressions.{typed_holds, static_range_holds, condition_holds, static_condition_holds, value_given_holds}
+use Rattle.vhdl_names_laws.proofs.standing.Statements.{signal_holds, target_holds, selector_holds, BodiesHold, arranged_holds, statements_hold}
+use Rattle.vhdl_names_laws.proofs.standing.Declarations.{EachHolds, variables_hold}
+use Rattle.vhdl_names_laws.proofs.standing.Instances.{instance_holds}
+
+-- ---- conditional assignments
+
+-- a statement alone
+alone_holds : (P : ℕ → Type 0) (y : s.Statement) → Hold P (statement_bytes y) → Hold P (statements_bytes (alone y))
+alone_holds P y h = hold_both P (statement_bytes y) [] h tt
+
+-- a process of one statement
+assigning_holds : (P : ℕ → Type 0) (at : ℕ) (label : Option Ident) (y : s.Statement) → P at → Hold P (statement_bytes y) → Hold P (concurrent_bytes (assigning at label y))
+assigning_holds P at label y h g = (h, alone_holds P y g)
+
+assigned_holds : (P : ℕ → Type 0) (sight : Sight) (x : SignalName) (v : t.Value) (y : s.Statement) → Hold P (place_bytes x.place) → Stand P (spell_value v) → assigned sight x v ≡ Some y
+    → Hold P (statement_bytes y)
+assigned_holds P sight x v y h w q =
+    let g = comes (value_given sight x.type v) _ y q in
+    subst (λ y. Hold P (statement_bytes y)) (some_same _ y g.rest)
+    (hold_both P (place_bytes x.place) (given_bytes g.value) h (value_given_holds P sight x.type v g.value w g.is))
+
+last_holds : (P : ℕ → Type 0) (sight : Sight) (x : SignalName) (o : Option t.Value) (y : s.Branches) → Hold P (place_bytes x.place) → Stand P (spell_option spell_value o)
+    → last_branch sight x o ≡ Some y → Hold P (branches_bytes y)
+last_holds P sight x None y h w q = subst (λ y. Hold P (branches_bytes y)) (some_same s.no_else y q) tt
+last_holds P sight x (Some v) y h w q =
+    let a = mapped (λ y. s.otherwise (alone y)) (assigned sight x v) y q in
+    subst (λ y. Hold P (branches_bytes y)) a.is (alone_holds P a.value (assigned_holds P sight x v a.value h w a.from))
+
+branches_hold : (P : ℕ → Type 0) (sight : Sight) (x : SignalName) (bs : List t.Branch) (o : Option t.Value) (y : s.Branches) → Hold P (place_bytes x.place)
+    → EachStands P spell_branch bs → Stand P (spell_option spell_value o) → branches sight x bs o ≡ Some y → Hold P (branches_bytes y)
+branches_hold P sight x [] o y h f w q = last_holds P sight x o y h w q
+branches_hold P sight x (b ∷ bs) o y h f w q =
+    let a = comes (assigned sight x b.value) _ y q in
+    let c = comes (condition sight b.condition) _ y a.rest in
+    let d = comes (branches sight x bs o) _ y c.rest in
+    subst (λ y. Hold P (branches_bytes y)) (some_same _ y d.rest)
+    (hold_both P (test_bytes c.value) (statements_bytes (alone a.value) ++ branches_bytes d.value)
+    (condition_holds P sight b.condition c.value (behind P (spell_value b.value) _ f.0).1 c.is)
+    (hold_both P (statements_bytes (alone a.value)) (branches_bytes d.value)
+    (alone_holds P a.value (assigned_holds P sight x b.value a.value h (first P (spell_value b.value) _ f.0) a.is))
+    (branches_hold P sight x bs o d.value h f.1 w d.is)))
+
+chosen_holds : (P : ℕ → Type 0) (sight : Sight) (at : ℕ) (x : SignalName) (bs : List t.Branch) (o : Option t.Value) (y : s.Statement) → P at → Hold P (place_bytes x.place)
+    → BranchesStand P bs o → option_map (s.if_of at) (branches sight x bs o) ≡ Some y → Hold P (statement_bytes y)
+chosen_holds P sight at x bs o y w h f q =
+    let a = mapped (s.if_of at) (branches sight x bs o) y q in
+    subst (λ y. Hold P (statement_bytes y)) a.is (w, branches_hold P sight x bs o a.value h f.branches f.last a.from)
+
+body_holds : (P : ℕ → Type 0) (sight : Sight) (at : ℕ) (x : SignalName) (bs : List t.Branch) (o : Option t.Value) (y : s.Statement) → P at → Hold P (place_bytes x.place)
+    → BranchesStand P bs o → assignment_body sight at x bs o ≡ Some y → Hold P (statement_bytes y)
+body_holds P sight at x [] (Some v) y w h f q = assigned_holds P sight x v y h f.last q
+body_holds P sight at x [] None y w h f q = chosen_holds P sight at x [] None y w h f q
+body_holds P sight at x (b ∷ bs) o y w h f q = chosen_holds P sight at x (b ∷ bs) o y w h f q
+
+assignment_holds : (P : ℕ → Type 0) (sight : Sight) (a : t.Assignment) (x : u.Concurrent) → Stand P (spell_assignment a) → assignment sight a ≡ Some x → Hold P (concurrent_bytes x)
+unfolding assignment
+assignment_holds P sight a x h q =
+    let all = behind P (spell_option spell_label a.label) _ h in
+    let n = first P (spell_name a.target) _ all in
+    let values = waveforms_stand P a.branches a.otherwise (first P (spell_waveforms a.branches a.otherwise) _ (behind P (spell_name a.target) _ all).1) in
+    let b = comes (target sight a.target) _ x q in
+    let c = comes (assignment_body sight a.target.identifier.at b.value a.branches a.otherwise) _ x b.rest in
+    subst (λ x. Hold P (concurrent_bytes x)) (some_same _ x c.rest)
+    (assigning_holds P a.target.identifier.at a.label c.value n.0
+    (body_holds P sight a.target.identifier.at b.value a.branches a.otherwise c.value n.0 (target_holds P sight a.target b.value n b.is) values c.is))
+
+-- ---- selected assignments
+
+waveforms_hold : (P : ℕ → Type 0) (sight : Sight) (x : SignalName) (ws : List t.Waveform) (ys : List s.Statements) → Hold P (place_bytes x.place) → EachStands P spell_waveform ws
+    → each (λ (w : t.Waveform). option_map alone (assigned sight x w.value)) ws ≡ Some ys → BodiesHold P ys
+waveforms_hold P sight x [] ys h f q = subst (BodiesHold P) (some_same [] ys q) tt
+waveforms_hold P sight x (w ∷ ws) ys h f q =
+    let a = comes (option_map alone (assigned sight x w.value)) _ ys q in
+    let b = comes (each (λ (w : t.Waveform). option_map alone (assigned sight x w.value)) ws) _ ys a.rest in
+    let c = mapped alone (assigned sight x w.value) a.value a.is in
+    subst (BodiesHold P) (some_same (a.value ∷ b.value) ys b.rest) (
+      subst (λ y. Hold P (statements_bytes y)) c.is (alone_holds P c.value (assigned_holds P sight x w.value c.value h (first P (spell_value w.value) _ f.0) c.from)),
+      waveforms_hold P sight x ws b.value h f.1 b.is,
+    )
+
+selected_holds : (P : ℕ → Type 0) (sight : Sight) (label : Option Ident) (a : t.SelectedAssignment) (x : u.Concurrent) → Stand P (spell_selected a) → selected sight label a ≡ Some x
+    → Hold P (concurrent_bytes x)
+unfolding selected
+selected_holds P sight label a x h q =
+    let all = (behind P (spell a.selector) _ h.1).1 in
+    let n = first P (spell_name a.target) _ all in
+    let ws = list_stands P k.Comma spell_waveform a.waveforms (first P (spell_list k.Comma spell_waveform a.waveforms) _ (behind P (spell_name a.target) _ all).1) in
+    let e = comes (typed sight a.selector) _ x q in
+    let by = comes (selector e.value) _ x e.rest in
+    let to = comes (target sight a.target) _ x by.rest in
+    let css = comes (covered sight by.value.0 (map (λ (w : t.Waveform). w.choices) a.waveforms)) _ x to.rest in
+    let bodies = comes (each (λ (w : t.Waveform). option_map alone (assigned sight to.value w.value)) a.waveforms) _ x css.rest in
+    let alts = comes (arranged css.value bodies.value) _ x bodies.rest in
+    subst (λ x. Hold P (concurrent_bytes x)) (some_same _ x alts.rest)
+    (assigning_holds P a.at label (s.case_of a.at by.value.1 alts.value) h.0 (
+      h.0,
+      hold_both P (value_bytes by.value.1) (alternatives_bytes alts.value)
+          (selector_holds P e.value by.value (typed_holds a.selector P sight e.value (first P (spell a.selector) _ h.1) e.is) by.is)
+          (arranged_holds P css.value bodies.value alts.value
+          (waveforms_hold P sight to.value a.waveforms bodies.value (target_holds P sight a.target to.value n to.is) ws bodies.is) alts.is),
+    ))
+
+-- ---- processes
+
+abbrev place : SignalName → SignalPart
+place x = x.place
+
+signals_hold : (P : ℕ → Type 0) (sight : Sight) (ns : List t.Name) (xs : List SignalName) → EachStands P spell_name ns → each (signal sight) ns ≡ Some xs
+    → EachHolds P place_bytes (map place xs)
+signals_hold P sight [] xs h q = subst (λ xs. EachHolds P place_bytes (map place xs)) (some_same [] xs q) tt
+signals_hold P sight (n ∷ ns) xs h q =
+    let a = comes (signal sight n) _ xs q in
+    let b = comes (each (signal sight) ns) _ xs a.rest in
+    subst (λ xs. EachHolds P place_bytes (map place xs)) (some_same (a.value ∷ b.value) xs b.rest)
+    (signal_holds P sight n a.value h.0 a.is, signals_hold P sight ns b.value h.1 b.is)
+
+sensitivity_holds : (P : ℕ → Type 0) (sight : Sight) (w : t.Sensitivity) (x : u.Sensitivity) → Stand P (spell_sensitivity w) → sensitivity sight w ≡ Some x → Hold P (sensitivity_bytes x)
+sensitivity_holds P sight t.absent x h q = absurd cc
+sensitivity_holds P sight t.every x h q = subst (λ x. Hold P (sensitivity_bytes x)) (some_same u.every x q) tt
+sensitivity_holds P sight (t.listed ns) x h q =
+    let a = mapped (λ xs. u.listed (map place xs)) (each (signal sight) ns) x q in
+    let names = list_stands P k.Comma spell_name ns (first P (spell_list k.Comma spell_name ns) _ h.1) in
+    subst (λ x. Hold P (sensitivity_bytes x)) a.is (hold_each P place_bytes (map place a.value) (signals_hold P sight ns a.value names a.from))
+
+process_holds : (P : ℕ → Type 0) (sight : Sight) (label : Option Ident) (p : t.Process) (x : u.Process) → Stand P (spell_process p) → process sight label p ≡ Some x
+    → Hold P (process_bytes x)
+unfolding process
+process_holds P sight label p x h q =
+    let word = behind P (spell_sensitivity p.sensitivity) _ h.1 in
+    let declared = behind P (spell_word k.Is p.is_word) _ word in
+    let ds = each_stands P spell_variables p.variables (first P (spell_each spell_variables p.variables) _ declared) in
+    let xs = t.statements_of p.statements in
+    let inner = first P (spell_statements xs) _ (behind P (spell_each spell_variables p.variables) _ declared).1 in
+    let on = comes (sensitivity sight p.sensitivity) _ x q in
+    let vs = comes (in_order with_variables variables sight p.variables) _ x on.rest in
+    let a = kept (are_distinct (declared_names vs.value.declared)) _ x vs.rest in
+    let b = kept (are_distinct (statement_labels (t.statements_of p.statements))) _ x a.1 in
+    let body = comes (statements (with_variables sight vs.value.declared) (t.statements_of p.statements)) _ x b.1 in
+    let c = kept (label_ends label p.end_label) _ x body.rest in
+    subst (λ (x : u.Process). Hold P (process_bytes x)) (some_same _ x c.1) (
+      h.0,
+      hold_both P (flat_map object_bytes vs.value.analysed) (sensitivity_bytes on.value ++ statements_bytes body.value)
+          (hold_each P object_bytes vs.value.analysed
+          (all_in_order with_variables variables (λ (d : t.Variables). Stand P (spell_variables d)) (λ (o : u.Object). Hold P (object_bytes o)) (λ sight d y g e. variables_hold P sight d y g e)
+          p.variables sight vs.value ds vs.is))
+          (hold_both P (sensitivity_bytes on.value) (statements_bytes body.value)
+          (sensitivity_holds P sight p.sensitivity on.value (first P (spell_sensitivity p.sensitivity) _ h.1) on.is)
+          (statements_hold xs P (with_variables sight vs.value.declared) body.value inner body.is)),
+    )
+
+-- ---- all statements
+
+generated_holds : (P : ℕ → Type 0) (sight : Sight) (label : Name) (at : ℕ) (o : t.Scheme) (body : u.Concurrents) (x : u.Concurrent) → Stand P (spell_scheme at o)
+    → Hold P (concurrents_bytes body) → generated sight label at o body ≡ Some x → Hold P (concurrent_bytes x)
+generated_holds P sight label at (t.for_each n r) body x h g q =
+    let a = mapped (λ range. u.generate_for at label range body) (static_range sight r) x q in
+    subst (λ x. Hold P (concurrent_bytes x)) a.is
+    (h.0, hold_both P (range_bytes a.value) (concurrents_bytes body) (static_range_holds P sight r a.value h.1.1.1 a.from) g)
+generated_holds P sight label at (t.if_holds d) body x h g q =
+    let a = mapped (λ test. u.generate_if at label test body) (typed sight d >>= as_static_test) x q in
+    let b = comes (typed sight d) as_static_test a.value a.from in
+    subst (λ x. Hold P (concurrent_bytes x)) a.is
+    (h.0, hold_both P (static_test_bytes a.value) (concurrents_bytes body) (static_condition_holds P b.value a.value (typed_holds d P sight b.value h.1 b.is) b.rest) g)
+
+mutual
+  unfolding concurrent
+
+  concurrent_holds : (c : t.Concurrent) (P : ℕ → Type 0) (entities : List EntityView) (sight : Sight) (x : u.Concurrent) → Stand P (spell_concurrent c)
+      → concurrent entities sight c ≡ Some x → Hold P (concurrent_bytes x)
+  concurrent_holds (t.assignment a) P entities sight x h q = assignment_holds P sight a x h q
+  concurrent_holds (t.selected label a) P entities sight x h q = selected_holds P sight label a x (behind P (spell_option spell_label label) (spell_selected a) h) q
+  concurrent_holds (t.process label p) P entities sight x h q =
+      let a = mapped u.process (process sight label p) x q in
+      subst (λ x. Hold P (concurrent_bytes x)) a.is (process_holds P sight label p a.value (behind P (spell_option spell_label label) (spell_process p) h) a.from)
+  concurrent_holds (t.instance label i) P entities sight x h q =
+      let a = mapped u.instance (instance entities sight label i) x q in
+      subst (λ x. Hold P (concurrent_bytes x)) a.is (instance_holds P entities sight label i a.value h.0 h.1.1 a.from)
+  concurrent_holds (t.generated label at scheme word cs end) P entities sight x h q =
+      let g = (behind P (spell_scheme at scheme) _ h.1.1).1 in
+      let inner = first P (spell_concurrents cs) _ (behind P (spell_word k.Begin word) _ g) in
+      let a = kept (ends label.text end) _ x q in
+      let b = kept (are_distinct (concurrent_labels cs)) _ x a.1 in
+      let body = comes (concurrents entities (sight_within sight scheme) cs) _ x b.1 in
+      generated_holds P sight label.text at scheme body.value x (first P (spell_scheme at scheme) _ h.1.1)
+      (concurrents_hold cs P entities (sight_within sight scheme) body.value inner body.is) body.rest
+
+  pub concurrents_hold : (cs : t.Concurrents) (P : ℕ → Type 0) (entities : List EntityView) (sight : Sight) (xs : u.Concurrents) → Stand P (spell_concurrents cs)
+      → concurrents entities sight cs ≡ Some xs → Hold P (concurrents_bytes xs)
+  concurrents_hold t.no_concurrents P entities sight xs h q = subst (λ xs. Hold P (concurrents_bytes xs)) (some_same u.no_concurrents xs q) tt
+  concurrents_hold (t.concurrent c cs) P entities sight xs h q =
+      let a = comes (concurrent entities sight c) _ xs q in
+      let b = comes (concurrents entities sight cs) _ xs a.rest in
+      subst (λ xs. Hold P (concurrents_bytes xs)) (some_same _ xs b.rest)
+      (hold_both P (concurrent_bytes a.value) (concurrents_bytes b.value)
+      (concurrent_holds c P entities sight a.value (first P (spell_concurrent c) (spell_concurrents cs) h) a.is)
+      (concurrents_hold cs P entities sight b.value (behind P (spell_concurrent c) (spell_concurrents cs) h) b.is))

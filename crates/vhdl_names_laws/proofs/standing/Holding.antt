@@ -1,0 +1,32 @@
+-- Bytes of which something holds, and types whose bytes are such.
+use Rattle.std.proofs.Common.{ℕ, List, [], ◌∷◌, ◌++◌}
+use Rattle.std.specs.List.{AllByRecursion, flat_map}
+use Rattle.vhdl_names_rules.specs.units.Bytes.{static_bytes, range_bytes, vector_bytes, value_bytes, test_bytes}
+use Rattle.vhdl_names_rules.specs.Operators as o
+use Rattle.vhdl_names_rules.specs.Operators.{Typed}
+use Rattle.vhdl_names_rules.specs.Names as n
+use Rattle.vhdl_names_rules.specs.Names.{Suffix}
+use Rattle.vhdl_names_laws.proofs.placed.Told.{all_of_both}
+
+abbrev pub Hold : (ℕ → Type 0) → List ℕ → Type 0
+Hold P = AllByRecursion P
+
+pub hold_both : (P : ℕ → Type 0) (xs ys : List ℕ) → Hold P xs → Hold P ys → Hold P (xs ++ ys)
+hold_both P xs ys h g = all_of_both P xs ys h g
+
+pub hold_each : {A : Type 0} (P : ℕ → Type 0) (f : A → List ℕ) (xs : List A) → AllByRecursion (λ x. Hold P (f x)) xs → Hold P (flat_map f xs)
+hold_each P f [] h = tt
+hold_each P f (x ∷ xs) h = hold_both P (f x) (flat_map f xs) h.0 (hold_each P f xs h.1)
+
+-- ---- expressions and what follows names
+
+abbrev pub TypedHolds : (ℕ → Type 0) → Typed → Type 0
+TypedHolds P (o.integer s) = Hold P (static_bytes s)
+TypedHolds P (o.elements k x) = Hold P (vector_bytes x)
+TypedHolds P (o.enumerated e count x) = Hold P (value_bytes x)
+TypedHolds P (o.truth t) = Hold P (test_bytes t)
+
+abbrev pub SuffixHolds : (ℕ → Type 0) → Suffix → Type 0
+SuffixHolds P n.plain = Unit {0}
+SuffixHolds P (n.arguments b xs) = AllByRecursion (TypedHolds P) xs
+SuffixHolds P (n.range r) = Hold P (range_bytes r)
