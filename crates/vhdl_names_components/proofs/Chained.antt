@@ -1,8 +1,8 @@
 -- Chains of operators, compared operand by operand: a chain is as long as one that is the same text.
-use Rattle.std.proofs.Common.{◌≡◌, suc, ◌+◌, Bool, true, false, ◌&&◌, List, [], ◌∷◌, map, length, Vec, Global, refl, sym, ap, ◌∙◌, arith}
+use Rattle.std.proofs.Common.{◌≡◌, suc, ◌+◌, Bool, true, false, ◌&&◌, List, [], ◌∷◌, map, length, Vec, Box, Global, refl, sym, ap, ◌∙◌, arith}
 use Rattle.vhdl_tree.specs.declared.expression.Chain.{Chain, out-Chain}
 use Rattle.vhdl_tree.specs.declared.expression.Expr.{Expr as CodeExpr}
-use Rattle.vhdl_tree.specs.declared.operator.Direction.{Direction}
+use Rattle.vhdl_tree.specs.declared.expression.Range.{Range}
 use Rattle.vhdl_tree.specs.declared.expression.Suffix.{Suffix}
 use Rattle.vhdl_tree.specs.declared.expression.Suffix.TheVariants as f
 use Rattle.vhdl_tree.specs.Tree as t
@@ -101,11 +101,28 @@ arguments_same a b v w e h =
     ∙ ap (λ z. same_suffix z (suffix_view (f.Arguments w))) (view_arguments v) ∙ ap (same_suffix (t.arguments (exprs_of (exprs_view v)))) (view_arguments w)
     ∙ same_arguments (map view v.items) (map view w.items)
 
-pub arguments_not_plain : (a : Suffix) (v : Vec CodeExpr Global) → a ≡ f.Arguments v → same_suffix (suffix_view a) t.plain ≡ false
-arguments_not_plain a v e = ap (λ z. same_suffix (suffix_view z) t.plain) e ∙ ap (λ z. same_suffix z t.plain) (view_arguments v)
+-- suffixes of two kinds
+module _ (a b : Suffix) where
+  pub plain_arguments : (w : Vec CodeExpr Global) → a ≡ f.Plain → b ≡ f.Arguments w → false ≡ same_suffix (suffix_view a) (suffix_view b)
+  plain_arguments w e h =
+      sym (ap (λ z. same_suffix (suffix_view z) (suffix_view b)) e ∙ ap (λ z. same_suffix t.plain (suffix_view z)) h ∙ ap (same_suffix t.plain) (view_arguments w))
 
-pub arguments_not_sliced : (a : Suffix) (v : Vec CodeExpr Global) (l : Expr) (d : Direction) (r : Expr) → a ≡ f.Arguments v → same_suffix (suffix_view a) (t.sliced l d r) ≡ false
-arguments_not_sliced a v l d r e = ap (λ z. same_suffix (suffix_view z) (t.sliced l d r)) e ∙ ap (λ z. same_suffix z (t.sliced l d r)) (view_arguments v)
+  pub plain_range : (r : Box Range Global) → a ≡ f.Plain → b ≡ f.Range r → false ≡ same_suffix (suffix_view a) (suffix_view b)
+  plain_range r e h = sym (ap (λ z. same_suffix (suffix_view z) (suffix_view b)) e ∙ ap (λ z. same_suffix t.plain (suffix_view z)) h)
 
-pub not_arguments : (b : Suffix) (w : Vec CodeExpr Global) (l : Expr) (d : Direction) (r : Expr) → b ≡ f.Arguments w → same_suffix (t.sliced l d r) (suffix_view b) ≡ false
-not_arguments b w l d r e = ap (λ z. same_suffix (t.sliced l d r) (suffix_view z)) e ∙ ap (same_suffix (t.sliced l d r)) (view_arguments w)
+  pub arguments_plain : (v : Vec CodeExpr Global) → a ≡ f.Arguments v → b ≡ f.Plain → false ≡ same_suffix (suffix_view a) (suffix_view b)
+  arguments_plain v e h =
+      sym (ap (λ z. same_suffix (suffix_view a) (suffix_view z)) h ∙ ap (λ z. same_suffix (suffix_view z) t.plain) e ∙ ap (λ z. same_suffix z t.plain) (view_arguments v))
+
+  pub arguments_range : (v : Vec CodeExpr Global) (r : Box Range Global) → a ≡ f.Arguments v → b ≡ f.Range r → false ≡ same_suffix (suffix_view a) (suffix_view b)
+  arguments_range v r e h =
+      sym (ap (λ z. same_suffix (suffix_view a) (suffix_view z)) h ∙ ap (λ z. same_suffix (suffix_view z) (suffix_view (f.Range r))) e
+      ∙ ap (λ z. same_suffix z (suffix_view (f.Range r))) (view_arguments v))
+
+  pub range_plain : (r : Box Range Global) → a ≡ f.Range r → b ≡ f.Plain → false ≡ same_suffix (suffix_view a) (suffix_view b)
+  range_plain r e h = sym (ap (λ z. same_suffix (suffix_view z) (suffix_view b)) e ∙ ap (λ z. same_suffix (suffix_view (f.Range r)) (suffix_view z)) h)
+
+  pub range_arguments : (r : Box Range Global) (w : Vec CodeExpr Global) → a ≡ f.Range r → b ≡ f.Arguments w → false ≡ same_suffix (suffix_view a) (suffix_view b)
+  range_arguments r w e h =
+      sym (ap (λ z. same_suffix (suffix_view z) (suffix_view b)) e ∙ ap (λ z. same_suffix (suffix_view (f.Range r)) (suffix_view z)) h
+      ∙ ap (same_suffix (suffix_view (f.Range r))) (view_arguments w))

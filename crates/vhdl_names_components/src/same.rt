@@ -180,7 +180,6 @@ fn same_links(a: &[Link], b: &[Link]) -> bool
 
 /// Whether the same stands in parentheses after two names.
 #[cycle(same)]
-#[tactic(auto, using(crate::proofs::Chained::arguments_not_plain, crate::proofs::Chained::arguments_not_sliced, crate::proofs::Chained::not_arguments))]
 fn same_suffix(a: &Suffix, b: &Suffix) -> bool
     ensures { result ≡ rules.same_suffix (suffix_view a.now) (suffix_view b.now) }
 {

@@ -46,6 +46,11 @@ use Rattle.vhdl_names_expressions.proofs.Fixing.{filled_as}
 
 -- ---- names with what follows them, where no attribute is offered
 
+-- none stands there
+pub none_there : {A B : Type 0} (view : A → B) (o : Option A) → ((x : A) → o ≡ Some x → ⊥) → option_map view o ≡ None
+none_there view None other = refl
+none_there view (Some x) other = absurd (other x refl)
+
 module _ (sight : Sight) (n : t.Ident) (y : t.Suffix) (a : Option t.Ident) (more : Meaning → Suffix → Broken) where
   abbrev behind : Broken
   behind = where_given (visibility.meaning sight n.text) (λ d. where_given (are.typed_suffix sight y) (more d))

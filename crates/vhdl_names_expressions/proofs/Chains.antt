@@ -105,6 +105,10 @@ abbrev pub front : List Typed → Option (List Typed) → Option (List Typed)
 front xs None = None
 front xs (Some ys) = Some (xs ++ ys)
 
+pub none_before : (o : Option (List Typed)) → o ≡ front [] o
+none_before None = refl
+none_before (Some xs) = refl
+
 abbrev taken : Option Typed → Option (List Typed) → Option (List Typed)
 taken o p = o >>= λ x. (p >>= λ xs. Some (x ∷ xs))
 

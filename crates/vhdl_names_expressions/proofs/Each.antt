@@ -8,6 +8,10 @@ abbrev pub behind : {B : Type 0} → List B → Option (List B) → Option (List
 behind ys None = None
 behind ys (Some zs) = Some (ys ++ zs)
 
+pub none_behind : {B : Type 0} (o : Option (List B)) → o ≡ behind [] o
+none_behind None = refl
+none_behind (Some zs) = refl
+
 abbrev taken : {B : Type 0} → Option B → Option (List B) → Option (List B)
 taken o p = o >>= λ y. (p >>= λ ys. Some (y ∷ ys))
 

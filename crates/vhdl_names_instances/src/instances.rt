@@ -32,7 +32,6 @@ use vhdl_tree::{Association, Identifier, Instantiated};
 
 /// What instances see of an entity: the name of its architecture, if the file has one, its
 /// generics, and its ports with their types.
-#[derive(Drop)]
 pub struct Formals {
     pub architecture: Option<Vec<u8>>,
     pub generics: Names,
@@ -40,11 +39,30 @@ pub struct Formals {
     pub port_types: Vec<PortType>,
 }
 
+impl Drop for Formals {
+    fn drop(self) {
+        let Formals {
+            architecture: _,
+            generics: _,
+            ports: _,
+            port_types: _,
+        } = self;
+    }
+}
+
 /// The entities of a file in order of the text, by their names.
-#[derive(Drop)]
 pub struct InstanceEntities {
     pub names: Names,
     pub formals: Vec<Formals>,
+}
+
+impl Drop for InstanceEntities {
+    fn drop(self) {
+        let InstanceEntities {
+            names: _,
+            formals: _,
+        } = self;
+    }
 }
 
 /// The associations of a map, none where it is absent.
@@ -185,10 +203,17 @@ fn by_formals(
     ensures { Gives instance_view (steps.with_formals (sight_view sight.now) (tree.ident_view label.now) unit (seen_view formals.now)
         (all_of (option_map tree.associations_view instance.now.generics)) (all_of (option_map tree.associations_view instance.now.ports))) result }
 {
-    let of_generics = associated(alloc, &formals.generics, listed(&instance.generics))?;
-    let generics = generic_actuals(alloc, sight, &of_generics)?;
-    let of_ports = associated(alloc, &formals.ports, listed(&instance.ports))?;
-    let ports = port_actuals(alloc, sight, &formals.port_types, &of_ports)?;
+    let generics = generic_actuals(
+        alloc,
+        sight,
+        &associated(alloc, &formals.generics, listed(&instance.generics))?,
+    )?;
+    let ports = port_actuals(
+        alloc,
+        sight,
+        &formals.port_types,
+        &associated(alloc, &formals.ports, listed(&instance.ports))?,
+    )?;
     let label = copied(alloc, label)?;
     Ok(Instance {
         label,

@@ -3,6 +3,7 @@ pub mod Operators
 pub mod Names
 pub mod Expressions
 pub mod Statements
+pub mod Values
 pub mod Declarations
 pub mod Instances
 pub mod Concurrent

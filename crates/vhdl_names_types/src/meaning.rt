@@ -5,7 +5,6 @@ use vhdl_tree::Mode;
 use vhdl_values::Nine;
 
 /// What a name is declared to be. Objects are numbered from 0 within their class.
-#[derive(Drop)]
 pub enum Meaning {
     Generic(usize),
     IntegerConstant(usize),
@@ -40,9 +39,48 @@ pub enum Meaning {
     Unfinished,
 }
 
+impl Drop for Meaning {
+    fn drop(self) {
+        match self {
+            Meaning::Generic(_) => {}
+            Meaning::IntegerConstant(_) => {}
+            Meaning::GenerateParameter(_) => {}
+            Meaning::LoopParameter(_) => {}
+            Meaning::Port(_, _, _) => {}
+            Meaning::Signal(_, _) => {}
+            Meaning::Variable(_, _) => {}
+            Meaning::Constant(_, _, _) => {}
+            Meaning::Literal {
+                number: _,
+                count: _,
+                position: _,
+            } => {}
+            Meaning::IntegerType(_) => {}
+            Meaning::ElementType { is_resolved: _ } => {}
+            Meaning::VectorType(_, _) => {}
+            Meaning::EnumerationType {
+                number: _,
+                count: _,
+            } => {}
+            Meaning::Function(_) => {}
+            Meaning::Component(_) => {}
+            Meaning::Label => {}
+            Meaning::Unfinished => {}
+        }
+    }
+}
+
 /// A name, and what it is declared to be.
-#[derive(Drop)]
 pub struct Declared {
     pub name: Vec<u8>,
     pub meaning: Meaning,
+}
+
+impl Drop for Declared {
+    fn drop(self) {
+        let Declared {
+            name: _,
+            meaning: _,
+        } = self;
+    }
 }

@@ -28,7 +28,6 @@ pub fn names_are_apart<T>(names: &IndexMap<Vec<u8>, T>)
 }
 
 /// The declarations in sight of a place. What stands further up hides what stands below it.
-#[derive(Drop)]
 pub struct Sight {
     /// The parameters of the loops round the place, the outermost first.
     pub loops: Vec<Declared>,
@@ -44,6 +43,20 @@ pub struct Sight {
     pub packages: Region,
     /// Whether the operators of numeric_std are in sight.
     pub has_numbers: bool,
+}
+
+impl Drop for Sight {
+    fn drop(self) {
+        let Sight {
+            loops: _,
+            variables: _,
+            generates: _,
+            region: _,
+            enclosing: _,
+            packages: _,
+            has_numbers: _,
+        } = self;
+    }
 }
 
 /// What a name means among parameters of which the last is the innermost.

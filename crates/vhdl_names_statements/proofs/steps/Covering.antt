@@ -8,6 +8,7 @@ use Rattle.vhdl_tree.specs.Tree.{Ident}
 use Rattle.vhdl_tree.specs.View as tree
 use Rattle.vhdl_tree.specs.declared.expression.Choice.{Choice}
 use Rattle.vhdl_tree.specs.declared.sequential.Alternative as syntax
+use Rattle.vhdl_tree.specs.declared.sequential.Case.{Case, out-Case}
 use Rattle.vhdl_names_rules.specs.declared.kind.ObjectType.{ObjectType}
 use Rattle.vhdl_names_rules.specs.declared.fault.NameFault.{NameFault}
 use Rattle.vhdl_names_rules.specs.declared.fault.NameProblem.TheVariants.{WrongKind}
@@ -188,6 +189,38 @@ module _ (sight : Sight) (type : ObjectType) (xs : List syntax.Alternative) wher
         let told : IfErr r (Tells b) = on_along _ b r (ap (λ l. broken'.alternatives sight type (t.alternatives_of (map tree.alternative_view l))) e) wrong in
         let fine : IfOk r (λ _. b ≡ nothing) = on_given alternatives_view (λ _. b ≡ nothing) read_alternatives r is.1 (λ x e. alternatives_kept sight type written (alternatives_view x) e) in
         told_same _ _ f (ap (λ o. broken.covered o type at lists b) k ∙ ap (λ l. broken.covered sight type at l b) is.0) (h b told fine is.2)
+
+-- ---- the parts of a case statement whose alternatives were read
+
+module _ (sight : Sight) (type : ObjectType) (label : Option Ident) (c : Case) (now : Sight) (lists : List (List t.Choice)) (r : Result (Vec Alternative Global) NameFault)
+    (is : Read sight type (out-Case c).alternatives.items now lists r) where
+  abbrev stands : List t.Alternative
+  stands = tree.alternatives_view (out-Case c).alternatives
+
+  abbrev ends : Option Ident
+  ends = tree.option_ident_view (out-Case c).end_label
+
+  abbrev Covers : Option (List Chosen) → Type 0
+  Covers o = (found : Option (List Chosen)) → Gives alternatives_view found r → IfOk r (told.HasChoices now type lists) → covering type lists found ≡ o
+
+  covers : (o : Option (List Chosen)) → Covers o → covering type (cases.choice_lists stands) (each (cases.chosen sight type) stands) ≡ o
+  covers o h = read_covering sight type (out-Case c).alternatives.items now lists r is o h
+
+  -- where they aren't given or aren't covered
+  pub parts_uncovered : Covers None → cases.parts sight type label stands ends ≡ None
+  parts_uncovered h = case_by sight type stands label ends None (covers None h)
+
+  module _ (all : List Chosen) (given : Covers (Some all)) where
+    pub parts_covered : cases.parts sight type label stands ends ≡ (rule WrongKind (label_ends label ends) >> cases.but_last all)
+    parts_covered = case_by sight type stands label ends (Some all) (covers (Some all) given)
+
+    -- what is told behind them
+    pub told_ends : (f : NameFault) → Tells (end_label label ends) f → Tells (told.parts sight type label (out-Case c).at stands ends) f
+    told_ends f h = parts_ends sight type stands label ends (out-Case c).at f all (covers (Some all) given) h
+
+    pub told_none : (f : NameFault) → rule WrongKind (label_ends label ends) ≡ Some tt → Tells (any_alternative (out-Case c).at all) f
+        → Tells (told.parts sight type label (out-Case c).at stands ends) f
+    told_none f h k = parts_none sight type stands label ends (out-Case c).at f all (covers (Some all) given) h k
 
 -- ---- what a selected assignment does by a value
 

@@ -33,7 +33,7 @@ use Rattle.vhdl_names_rules.proofs.kept.Expressions.{condition_kept, static_rang
 use Rattle.vhdl_names_rules.proofs.kept.Choices.{choices_kept, selected_by_kept}
 use Rattle.vhdl_names_rules.proofs.kept.Statements.{statement_kept, statements_kept}
 use Rattle.vhdl_names_units.specs.Lists.{in_turn, one_more}
-use Rattle.vhdl_names_units.proofs.Behind.{next}
+use Rattle.vhdl_names_units.proofs.Behind.{next, next_told, next_left}
 use Rattle.vhdl_names_statements.specs.steps.Cases as cases
 use Rattle.vhdl_names_statements.specs.steps.Sequential as steps
 use Rattle.vhdl_names_statements.specs.steps.Told as told
@@ -71,6 +71,37 @@ module _ {A B : Type 0} (view : A → B) (xs : List A) (i : ℕ) (x : A) (lt : i
   none_more {C} g done all inv h =
       inv ∙ ap (λ l. in_turn (one_more g) done (map view l)) (next xs i x lt is)
       ∙ ap (λ (o : Option C). (o >>= λ y. Some (done ++ y ∷ [])) >>= λ z. in_turn (one_more g) z (map view (drop (i + 1) xs))) h
+
+-- ---- a turn over one of a list, in a sight that is as it was
+
+module _ {A B C : Type 0} (view : A → B) (g : Sight → B → Option C) (b : Sight → B → Broken) (sight now : Sight) (same : now ≡ sight)
+    (xs : List A) (i : ℕ) (x : A) (lt : i < length xs) (is : x ≡ get_or xs i x) where
+  abbrev whole : Broken
+  whole = any_of (b sight) (map view xs)
+
+  abbrev left : ℕ → Broken
+  left k = any_of (b sight) (map view (drop k xs))
+
+  abbrev given_left : List C → ℕ → Option (List C)
+  given_left done k = in_turn (one_more (g sight)) done (map view (drop k xs))
+
+  -- what is told of it is told of the whole
+  pub turn_told : (all : Broken) (f : NameFault) → whole ≡ all → whole ≡ left i → Tells (b now (view x)) f → Tells all f
+  turn_told all f e inv h = told_same whole all f e (next_told view xs i x lt is (b sight) f inv (told_same _ _ f (ap (λ o. b o (view x)) same) h))
+
+  -- where it is refused, the whole is
+  pub turn_none : (done : List C) (all : Option (List C)) → all ≡ given_left done i → g now (view x) ≡ None → all ≡ None
+  turn_none done all inv h = none_more view xs i x lt is (g sight) done all inv (sym (ap (λ o. g o (view x)) same) ∙ h)
+
+  -- where it goes well, what is left goes on
+  pub turn_done : (after : Sight) (done new : List C) (y : C) (all : Option (List C)) → all ≡ given_left done i → whole ≡ left i → after ≡ now → g now (view x) ≡ Some y
+      → new ≡ done ++ y ∷ [] → ((z : B) (w : C) → g sight z ≡ Some w → IsKept (b sight z)) → (after ≡ sight) × (all ≡ given_left new (i + 1)) × (whole ≡ left (i + 1))
+  turn_done after done new y all inv told kept h e fine =
+      let given : g sight (view x) ≡ Some y = sym (ap (λ o. g o (view x)) same) ∙ h in (
+        kept ∙ same,
+        more_done view xs i x lt is (g sight) done new y all inv given e,
+        next_left view xs i x lt is (b sight) told (fine (view x) y given),
+      )
 
 -- ---- lists of statements, branches and alternatives
 

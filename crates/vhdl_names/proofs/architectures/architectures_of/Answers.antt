@@ -1,4 +1,4 @@
-use Rattle.std.proofs.Common.{◌≡◌, ◌+◌, ◌<◌, length, map, get_or, arith, ap, sym, ◌∙◌}
+use Rattle.std.proofs.Common.{◌≡◌, ◌+◌, ◌<◌, ◌≤◌, length, map, get_or, arith, ap, sym, ◌∙◌}
 use Rattle.std.specs.Prelude.{option_map}
 use Rattle.std.proofs.lemmas.List.{with_items_is}
 use Rattle.vhdl_names_units.specs.Lists.{in_turn}
@@ -9,10 +9,10 @@ use Rattle.vhdl_tree.specs.View as view
 use Rattle.vhdl_names_rules.specs.Files.{architectures_of}
 use Rattle.vhdl_names_rules.specs.problems.Broken.{any_of}
 use Rattle.vhdl_names_rules.specs.problems.Files.{described}
-use Rattle.vhdl_names.specs.steps.Architectures.{with_unit}
+use Rattle.vhdl_names.specs.steps.Architectures.{options_view, with_unit}
 use Rattle.vhdl_names.proofs.Finding.{passed_told}
 use Rattle.vhdl_names.proofs.InTurn.{told_here, told_behind, given_behind}
-use Rattle.vhdl_names.proofs.Passing.{left_at}
+use Rattle.vhdl_names.proofs.Passing.{left_at, none_left}
 use Rattle.vhdl_names.proofs.architectures.architectures_of.Goals as goal
 
 pub returns-in_err-add_unit-clause-told : goal.returns-in_err-add_unit-clause-told
@@ -50,3 +50,17 @@ loop-unit-preserved c =
             ∙ ap (λ l. in_turn (with_unit es) (map (option_map architecture_view) l) (left_at us (i + 1))) (sym w),
       ),
     )
+
+pub returns-clause-told : goal.returns-clause-told
+returns-clause-told c =
+    let same : length c.deref-unit-items.result.now ≡ length c.args.file.now.units.items = ap length c.deref-unit-items.ensures.value in
+    let past : length c.args.file.now.units.items ≤ c.loop-unit.unit-index = omega (arith, same) in
+    let b = described (names_view c.args.given.now.names.now) (entities_view c.args.given.now.entities.now) in
+    c.loop-unit.invariant.1.0 ∙ ap (λ l. any_of b (architectures_of l)) (none_left c.args.file.now.units.items c.loop-unit.unit-index past)
+
+pub returns-clause-given : goal.returns-clause-given
+returns-clause-given c = λ h.
+    let same : length c.deref-unit-items.result.now ≡ length c.args.file.now.units.items = ap length c.deref-unit-items.ensures.value in
+    let past : length c.args.file.now.units.items ≤ c.loop-unit.unit-index = omega (arith, same) in
+    c.loop-unit.invariant.1.1 h
+    ∙ ap (in_turn (with_unit (entities_view c.args.given.now.entities.now)) (options_view c.loop-unit.all)) (none_left c.args.file.now.units.items c.loop-unit.unit-index past)

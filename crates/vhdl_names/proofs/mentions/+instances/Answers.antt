@@ -1,5 +1,4 @@
-use Rattle.std.proofs.Common.{rules, arith, length, ◌<◌, ◌≡◌, true, false, ap, sym, ◌∙◌}
-use Rattle.std.proofs.lemmas.Grind.{common_steps}
+use Rattle.std.proofs.Common.{arith, length, ◌<◌, ap, sym, ◌∙◌}
 use Rattle.vhdl_tree.specs.View as view
 use Rattle.vhdl_names_rules.specs.problems.Files as broken
 use Rattle.vhdl_names.specs.Views.{one_is_hidden}
@@ -13,16 +12,14 @@ is_within-returns-in-Generate t c =
 pub is_among-loop-statement-preserved : goal.is_among-loop-statement-preserved
 is_among-loop-statement-preserved t c =
     let lt : c.loop-statement.statement-index < length c.args.statements.now = omega arith in
-    let q : c.is_within.result ≡ false = first_of (search rules, grind (arith, common_steps)) in
     c.loop-statement.invariant
-    ∙ statement_skipped c.args.given.now c.args.at c.args.statements.now c.loop-statement.statement-index c.statement-item.result lt c.statement-item.is (sym c.is_within.ensures ∙ q)
+    ∙ statement_skipped c.args.given.now c.args.at c.args.statements.now c.loop-statement.statement-index c.statement-item.result lt c.statement-item.is (sym c.is_within.ensures ∙ c.if-is_within.false)
 
 pub is_among-returns-then-is_within : goal.is_among-returns-then-is_within
 is_among-returns-then-is_within t c =
     let lt : c.loop-statement.statement-index < length c.args.statements.now = omega arith in
-    let q : c.is_within.result ≡ true = first_of (search rules, grind (arith, common_steps)) in
     sym (c.loop-statement.invariant
-    ∙ statement_stopped c.args.given.now c.args.at c.args.statements.now c.loop-statement.statement-index c.statement-item.result lt c.statement-item.is (sym c.is_within.ensures ∙ q))
+    ∙ statement_stopped c.args.given.now c.args.at c.args.statements.now c.loop-statement.statement-index c.statement-item.result lt c.statement-item.is (sym c.is_within.ensures ∙ c.if-is_within.true))
 
 pub is_among-returns : goal.is_among-returns
 is_among-returns t c = sym (c.loop-statement.invariant ∙ none_named c.args.given.now c.args.at c.args.statements.now c.loop-statement.statement-index (omega arith))

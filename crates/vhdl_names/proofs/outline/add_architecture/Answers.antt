@@ -1,5 +1,4 @@
-use Rattle.std.proofs.Common.{rules, arith, ◌≡◌, true, false, not, ap, sym, ◌∙◌}
-use Rattle.std.proofs.lemmas.Grind.{common_steps}
+use Rattle.std.proofs.Common.{not, ap, sym, ◌∙◌}
 use Rattle.vhdl_tree.specs.Tree as t
 use Rattle.vhdl_tree.specs.View as view
 use Rattle.vhdl_names_rules.specs.declared.fault.NameProblem.TheVariants.{Undeclared, SecondArchitecture}
@@ -17,9 +16,8 @@ returns-then-not-has_name-clause-told c =
     let o = outline_view c.args.outline.now in
     let n = c.args.tree.now.entity.text.items in
     let at = c.args.tree.now.entity.at in
-    let q : c.has_name.result ≡ false = first_of (search rules, grind (arith, common_steps)) in
     told_left (unless Undeclared at (is_among n o.entities)) (unless SecondArchitecture at (not (is_among n (names_of o.architectures)))) c.at.result
-    (told_unless Undeclared at (is_among n o.entities) c.at.result (λ _. ap (λ m. is_among m o.entities) (sym c.deref.ensures.value) ∙ sym c.has_name.ensures ∙ q)
+    (told_unless Undeclared at (is_among n o.entities) c.at.result (λ _. ap (λ m. is_among m o.entities) (sym c.deref.ensures.value) ∙ sym c.has_name.ensures ∙ c.if-not-has_name.true)
     (tells_at Undeclared at c.at.result c.at.ensures))
 
 pub returns-clause-told : goal.returns-clause-told
@@ -27,7 +25,6 @@ returns-clause-told c =
     let o = outline_view c.args.outline.now in
     let a = view.architecture_view c.args.tree.now in
     let second = unless SecondArchitecture a.entity.at (not (is_among a.entity.text (names_of o.architectures))) in
-    let q : c.has_name.result ≡ true = first_of (search rules, grind (arith, common_steps)) in
     told_on second (one_unit o (t.architecture a)) c.add_described.result
     (λ f w. told_right (unless Undeclared a.entity.at (is_among a.entity.text o.entities)) second f
-    (unless_kept Undeclared a.entity.at (is_among a.entity.text o.entities) (ap (λ m. is_among m o.entities) (sym c.deref.ensures.value) ∙ sym c.has_name.ensures ∙ q)) w) c.add_described.ensures.told
+    (unless_kept Undeclared a.entity.at (is_among a.entity.text o.entities) (ap (λ m. is_among m o.entities) (sym c.deref.ensures.value) ∙ sym c.has_name.ensures ∙ c.if-not-has_name.false)) w) c.add_described.ensures.told

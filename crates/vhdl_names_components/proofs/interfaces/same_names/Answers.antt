@@ -1,8 +1,11 @@
 use Rattle.std.proofs.Common.{arith, ◌<◌, ◌≤◌, length, refl, sym, ◌∙◌}
 use Rattle.vhdl_tree.specs.View.{ident_view}
 use Rattle.vhdl_names_rules.specs.SameText.{same_name}
-use Rattle.vhdl_names_components.proofs.Alike.{goes, stops, ends}
+use Rattle.vhdl_names_components.proofs.Alike.{goes, stops, ends, unlike}
 use Rattle.vhdl_names_components.proofs.interfaces.same_names.Goals as goal
+
+pub returns-then-a-b : goal.returns-then-a-b
+returns-then-a-b c = sym (unlike ident_view same_name c.args.a.now c.args.b.now c.if-a-b.true)
 
 pub loop-place-init : goal.loop-place-init
 loop-place-init c = refl

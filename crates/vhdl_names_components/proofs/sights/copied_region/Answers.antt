@@ -25,6 +25,9 @@ returns-in_err-copy_one-clause-given c =
     (ap (λ t. more (region_view c.loop-place.copy) (declare t (meaning_view c.unwrap.result.1.now) ∷ [])) (sym c.as_slice.ensures.value) ∙ c.in_err-copy_one.ensures.given n) in
     passed_on region_view _ c.in_err-copy_one.field-0.0 _ c.from_residual.result c.from_residual.ensures.1 (λ e p. p) f
 
+pub loop-place-init : goal.loop-place-init
+loop-place-init c = ap (λ es. more (map entry_view es) (region_view c.args.region.now)) (sym c.new-copy.ensures.empty)
+
 pub loop-place-preserved : goal.loop-place-preserved
 loop-place-preserved c =
     let es = c.args.region.now.entries in

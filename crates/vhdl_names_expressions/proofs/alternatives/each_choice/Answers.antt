@@ -1,12 +1,13 @@
-use Rattle.std.proofs.Common.{arith, ◌≡◌, ◌≢◌, suc, ◌+◌, ◌<◌, ◌∷◌, [], map, length, drop, None, ap, sym, ◌∙◌}
+use Rattle.std.proofs.Common.{arith, ◌≡◌, ◌≢◌, suc, ◌+◌, ◌<◌, ◌∷◌, [], map, length, drop, None, refl, ap, sym, ◌∙◌}
 use Rattle.std.proofs.lemmas.List.{map-append}
 use Rattle.vhdl_names_rules.specs.declared.fault.NameFault.TheVariants.{NoMemory}
 use Rattle.vhdl_names_rules.specs.Choices.{choice}
 use Rattle.vhdl_names_rules.specs.Rules.{each}
 use Rattle.vhdl_tree.specs.View.{choice_view as tree_choice_view}
 use Rattle.vhdl_names_types.specs.Views.{sight_view}
+use Rattle.vhdl_names_types.proofs.Memory.{memory_gives, memory_told}
 use Rattle.vhdl_names_units.specs.views.Answers.{choice_view, choices_view}
-use Rattle.vhdl_names_expressions.proofs.Each.{behind, each_fails, each_goes, each_ends}
+use Rattle.vhdl_names_expressions.proofs.Each.{behind, none_behind, each_fails, each_goes, each_ends}
 use Rattle.vhdl_names_rules.specs.problems.Broken.{Tells, any_of}
 use Rattle.vhdl_names_rules.specs.problems.Choices as broken
 use Rattle.vhdl_names_rules.proofs.Telling.{told_same}
@@ -23,6 +24,17 @@ returns-in_err-next-clause-given c =
     λ n. each_fails f tree_choice_view _ (choices_view c.loop-one.done) c.args.all.now c.loop-one.one-index c.one-item.result c.loop-one.invariant.0 lt c.one-item.is
     (c.in_err-next.ensures.given n) in
     passed_on _ _ c.in_err-next.field-0.0 _ c.from_residual.result c.from_residual.ensures.1 (λ e p. p) n
+
+pub returns-in_err-push-clause-given : goal.returns-in_err-push-clause-given
+returns-in_err-push-clause-given c = memory_gives _ _ _ c.from_residual-in_err-push.result c.from_residual-in_err-push.ensures.1 (λ e p. p)
+
+pub returns-in_err-push-clause-told : goal.returns-in_err-push-clause-told
+returns-in_err-push-clause-told c = memory_told _ _ c.from_residual-in_err-push.result c.from_residual-in_err-push.ensures.1 (λ e p. p)
+
+pub loop-one-init : goal.loop-one-init
+loop-one-init c =
+    let all = each (choice (sight_view c.args.sight.now) c.args.object_type) (map tree_choice_view c.args.all.now) in
+    (none_behind all ∙ ap (λ xs. behind (map choice_view xs) all) (sym c.new-done.ensures.items), refl)
 
 pub loop-one-preserved : goal.loop-one-preserved
 loop-one-preserved c =

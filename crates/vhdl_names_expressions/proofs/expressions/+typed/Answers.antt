@@ -1,29 +1,26 @@
-use Rattle.std.proofs.Common.{arith, option_map, ◌≡◌, ◌≢◌, suc, ◌+◌, ◌<◌, List, ◌∷◌, [], map, length, drop, Option, Some, None, refl, ap, sym, ◌∙◌}
+use Rattle.std.proofs.Common.{arith, option_map, ◌≡◌, suc, ◌+◌, ◌<◌, ◌∷◌, [], map, length, drop, Some, refl, ap, sym, ◌∙◌}
 use Rattle.std.proofs.lemmas.List.{at_drop_all, map-append}
-use Rattle.vhdl_names_rules.specs.declared.fault.NameFault.TheVariants.{NoMemory}
 use Rattle.vhdl_names_rules.specs.Expressions.{typed, typed_each, as_integer}
 use Rattle.vhdl_names_rules.specs.views.Integers.{static_view}
-use Rattle.vhdl_tree.specs.Tree as tree
 use Rattle.vhdl_tree.specs.Tree.{exprs_of}
 use Rattle.vhdl_tree.specs.View.{view}
 use Rattle.vhdl_tree.specs.declared.expression.Chain.{out-Chain}
-use Rattle.vhdl_names_expressions.specs.Chosen.{arguments_of, started, links_of}
+use Rattle.vhdl_names_expressions.specs.Chosen.{arguments_of, links_of}
 use Rattle.vhdl_names_expressions.specs.Steps.{is_parens, enclosed_if, linked, all_linked}
 use Rattle.vhdl_names_types.specs.Views.{sight_view, meaning_view, typed_view, typed_suffix_view}
 use Rattle.vhdl_names_types.proofs.Along.{gives_along}
 use Rattle.vhdl_names_types.proofs.Memory.{memory_gives, memory_told}
-use Rattle.vhdl_names_expressions.proofs.Chains.{started_is, link_goes, chain_begun, all_linked_none, link_fails, front, each_fails, each_goes, each_ends, arguments_whole}
+use Rattle.vhdl_names_expressions.proofs.Chains.{started_is, link_goes, chain_begun, all_linked_none, link_fails, front, none_before, each_fails, each_goes, each_ends, arguments_whole}
 use Rattle.vhdl_tree.specs.View.{ident_view, suffix_view, range_view}
 use Rattle.vhdl_names_rules.specs.declared.fault.NameProblem.TheVariants.{TypeMismatch}
-use Rattle.vhdl_names_rules.specs.problems.Broken.{Tells}
 use Rattle.vhdl_names_rules.specs.problems.Places as places
 use Rattle.vhdl_names_rules.specs.problems.Expressions as broken
 use Rattle.vhdl_names_rules.proofs.Telling.{told_same, told_on}
 use Rattle.vhdl_names_rules.proofs.kept.Expressions.{typed_kept}
-use Rattle.vhdl_names_expressions.specs.Breaking.{link_breaks, all_break, started_breaks}
+use Rattle.vhdl_names_expressions.specs.Breaking.{all_break}
 use Rattle.vhdl_names_expressions.proofs.Breaking.{told_as, wanted_told, chain_first, chain_further, link_told, rest_goes, operator_on, link_first, range_first, range_second, static_first, slice_told, parens_told, negation_first, negation_told, sign_first, sign_told, integer_told, character_told, string_told, bits_told, named_suffix, named_meaning, named_no_value, named_denoted, named_attributed, each_told, each_left, arguments_on, begun_first, begun_second}
 use Rattle.vhdl_names_rules.specs.Expressions.{enclosed, signed}
-use Rattle.vhdl_names_rules.specs.Operators.{Typed, integer, inverse, operated}
+use Rattle.vhdl_names_rules.specs.Operators.{integer, inverse, operated}
 use Rattle.vhdl_names_rules.specs.Rules.{◌>>=◌}
 use Rattle.vhdl_names_expressions.proofs.Chains.{static_is}
 use Rattle.vhdl_names_expressions.proofs.Typing.{passed_on, told_on as told_by, parens_give, negation_gives, sign_gives, no_meaning, no_suffix, with_value, no_operand}
@@ -31,19 +28,16 @@ use Rattle.vhdl_names_expressions.proofs.expressions.+typed.Goals as goal
 
 pub links-returns-in_err-done-clause-given : goal.links-returns-in_err-done-clause-given
 links-returns-in_err-done-clause-given t c =
-    let s = sight_view c.args.sight.now in
     let lt : c.loop-next.next-index < length c.args.links.now = omega arith in
-    let f : c.in_err-done.field-0.0 ≢ NoMemory → all_linked s (Some (typed_view c.args.first)) c.args.links.now ≡ None =
-    λ n. link_fails s _ (typed_view c.loop-next.done) c.args.links.now c.loop-next.next-index c.next-item.result c.loop-next.invariant.0 lt c.next-item.is (c.in_err-done.ensures.given n) in
-    passed_on _ _ c.in_err-done.field-0.0 _ c.from_residual.result c.from_residual.ensures.1 (λ e p. p) f
+    passed_on _ _ c.in_err-done.field-0.0 _ c.from_residual.result c.from_residual.ensures.1 (λ e p. p)
+    (λ n. link_fails (sight_view c.args.sight.now) _ (typed_view c.loop-next.done) c.args.links.now c.loop-next.next-index c.next-item.result c.loop-next.invariant.0 lt c.next-item.is (c.in_err-done.ensures.given n))
 
 pub begun-returns-in_err-first-clause-given : goal.begun-returns-in_err-first-clause-given
 begun-returns-in_err-first-clause-given t c =
     let s = sight_view c.args.sight.now in
     let k = c.args.chain.now in
-    let f : c.in_err-first.field-0.0 ≢ NoMemory → started s k ≡ None =
-    λ n. started_is s k ∙ ap (λ o. linked s (is_parens (view (out-Chain k).first)) o (out-Chain k).second) (c.in_err-first.ensures.given n) in
-    passed_on _ _ c.in_err-first.field-0.0 _ c.from_residual.result c.from_residual.ensures.1 (λ e p. p) f
+    passed_on _ _ c.in_err-first.field-0.0 _ c.from_residual.result c.from_residual.ensures.1 (λ e p. p)
+    (λ n. started_is s k ∙ ap (λ o. linked s (is_parens (view (out-Chain k).first)) o (out-Chain k).second) (c.in_err-first.ensures.given n))
 
 pub begun-returns-clause-given : goal.begun-returns-clause-given
 begun-returns-clause-given t c =
@@ -62,10 +56,9 @@ pub typed-returns-in_err-begun-in-Chain-clause-given : goal.typed-returns-in_err
 typed-returns-in_err-begun-in-Chain-clause-given t c =
     let s = sight_view c.args.sight.now in
     let k = c.in-Chain.chain.value in
-    let f : c.in_err-begun-in-Chain.field-0.0 ≢ NoMemory → typed s (view c.args.e.now) ≡ None =
-    λ n. chain_begun s c.args.e.now c.in-Chain.chain c.deref-in-Chain.result.now k c.in-Chain.is c.deref-in-Chain.ensures refl
-    ∙ ap (λ o. all_linked s o (links_of k)) (c.in_err-begun-in-Chain.ensures.given n) ∙ all_linked_none s (links_of k) in
-    passed_on _ _ c.in_err-begun-in-Chain.field-0.0 _ c.from_residual-in_err-begun-in-Chain.result c.from_residual-in_err-begun-in-Chain.ensures.1 (λ e p. p) f
+    passed_on _ _ c.in_err-begun-in-Chain.field-0.0 _ c.from_residual-in_err-begun-in-Chain.result c.from_residual-in_err-begun-in-Chain.ensures.1 (λ e p. p)
+    (λ n. chain_begun s c.args.e.now c.in-Chain.chain c.deref-in-Chain.result.now k c.in-Chain.is c.deref-in-Chain.ensures refl
+    ∙ ap (λ o. all_linked s o (links_of k)) (c.in_err-begun-in-Chain.ensures.given n) ∙ all_linked_none s (links_of k))
 
 pub typed-returns-in_ok-begun-in-Chain-clause-given : goal.typed-returns-in_ok-begun-in-Chain-clause-given
 typed-returns-in_ok-begun-in-Chain-clause-given t c =
@@ -84,12 +77,10 @@ typed_suffix-returns-in-Arguments-clause-given t c =
 
 pub typed_each-returns-in_err-value-clause-given : goal.typed_each-returns-in_err-value-clause-given
 typed_each-returns-in_err-value-clause-given t c =
-    let s = sight_view c.args.sight.now in
     let lt : c.loop-argument.argument-index < length c.args.arguments.now = omega arith in
-    let f : c.in_err-value.field-0.0 ≢ NoMemory → typed_each s (exprs_of (map view c.args.arguments.now)) ≡ None =
-    λ n. each_fails s _ (map typed_view c.loop-argument.done.items) c.args.arguments.now c.loop-argument.argument-index c.argument-item.result c.loop-argument.invariant.0 lt c.argument-item.is
-    (c.in_err-value.ensures.given n) in
-    passed_on _ _ c.in_err-value.field-0.0 _ c.from_residual.result c.from_residual.ensures.1 (λ e p. p) f
+    passed_on _ _ c.in_err-value.field-0.0 _ c.from_residual.result c.from_residual.ensures.1 (λ e p. p)
+    (λ n. each_fails (sight_view c.args.sight.now) _ (map typed_view c.loop-argument.done.items) c.args.arguments.now c.loop-argument.argument-index c.argument-item.result c.loop-argument.invariant.0 lt c.argument-item.is
+    (c.in_err-value.ensures.given n))
 
 pub typed_each-loop-argument-preserved : goal.typed_each-loop-argument-preserved
 typed_each-loop-argument-preserved t c =
@@ -109,10 +100,6 @@ typed_each-loop-argument-preserved t c =
 pub typed_each-returns-clause-given : goal.typed_each-returns-clause-given
 typed_each-returns-clause-given t c =
     each_ends (sight_view c.args.sight.now) _ (map typed_view c.loop-argument.done.items) c.args.arguments.now c.loop-argument.argument-index c.loop-argument.invariant.0 (omega arith)
-
-none_before : (o : Option (List Typed)) → o ≡ front [] o
-none_before None = refl
-none_before (Some xs) = refl
 
 pub typed_each-loop-argument-init : goal.typed_each-loop-argument-init
 typed_each-loop-argument-init t c =
@@ -162,12 +149,10 @@ typed-returns-in-Name-clause-told t c =
 
 pub links-returns-in_err-done-clause-told : goal.links-returns-in_err-done-clause-told
 links-returns-in_err-done-clause-told t c =
-    let s = sight_view c.args.sight.now in
     let lt : c.loop-next.next-index < length c.args.links.now = omega arith in
-    let f : Tells (all_break s (Some (typed_view c.args.first)) c.args.links.now) c.in_err-done.field-0.0 =
-    told_same _ _ c.in_err-done.field-0.0 (sym c.loop-next.invariant.1)
-    (link_told s (typed_view c.loop-next.done) c.args.links.now c.loop-next.next-index c.next-item.result c.in_err-done.field-0.0 lt c.next-item.is c.in_err-done.ensures.told) in
-    told_by _ c.in_err-done.field-0.0 _ c.from_residual.result c.from_residual.ensures.1 (λ e p. p) f
+    told_by _ c.in_err-done.field-0.0 _ c.from_residual.result c.from_residual.ensures.1 (λ e p. p)
+    (told_same _ _ c.in_err-done.field-0.0 (sym c.loop-next.invariant.1)
+    (link_told (sight_view c.args.sight.now) (typed_view c.loop-next.done) c.args.links.now c.loop-next.next-index c.next-item.result c.in_err-done.field-0.0 lt c.next-item.is c.in_err-done.ensures.told))
 
 pub links-loop-next-preserved : goal.links-loop-next-preserved
 links-loop-next-preserved t c =
@@ -181,9 +166,8 @@ links-loop-next-preserved t c =
 
 pub begun-returns-in_err-first-clause-told : goal.begun-returns-in_err-first-clause-told
 begun-returns-in_err-first-clause-told t c =
-    let s = sight_view c.args.sight.now in
-    let f : Tells (started_breaks s c.args.chain.now) c.in_err-first.field-0.0 = begun_first s c.args.chain.now c.in_err-first.field-0.0 c.in_err-first.ensures.told in
-    told_by _ c.in_err-first.field-0.0 _ c.from_residual.result c.from_residual.ensures.1 (λ e p. p) f
+    told_by _ c.in_err-first.field-0.0 _ c.from_residual.result c.from_residual.ensures.1 (λ e p. p)
+    (begun_first (sight_view c.args.sight.now) c.args.chain.now c.in_err-first.field-0.0 c.in_err-first.ensures.told)
 
 pub begun-returns-clause-told : goal.begun-returns-clause-told
 begun-returns-clause-told t c =
@@ -195,10 +179,8 @@ further-returns-clause-told t c =
 
 pub typed-returns-in_err-begun-in-Chain-clause-told : goal.typed-returns-in_err-begun-in-Chain-clause-told
 typed-returns-in_err-begun-in-Chain-clause-told t c =
-    let s = sight_view c.args.sight.now in
-    let f : Tells (broken.typed s (view c.args.e.now)) c.in_err-begun-in-Chain.field-0.0 =
-    chain_first s c.args.e.now c.in-Chain.chain c.deref-in-Chain.result.now c.in_err-begun-in-Chain.field-0.0 c.in-Chain.is c.deref-in-Chain.ensures c.in_err-begun-in-Chain.ensures.told in
-    told_by _ c.in_err-begun-in-Chain.field-0.0 _ c.from_residual-in_err-begun-in-Chain.result c.from_residual-in_err-begun-in-Chain.ensures.1 (λ e p. p) f
+    told_by _ c.in_err-begun-in-Chain.field-0.0 _ c.from_residual-in_err-begun-in-Chain.result c.from_residual-in_err-begun-in-Chain.ensures.1 (λ e p. p)
+    (chain_first (sight_view c.args.sight.now) c.args.e.now c.in-Chain.chain c.deref-in-Chain.result.now c.in_err-begun-in-Chain.field-0.0 c.in-Chain.is c.deref-in-Chain.ensures c.in_err-begun-in-Chain.ensures.told)
 
 pub typed-returns-in_ok-begun-in-Chain-clause-told : goal.typed-returns-in_ok-begun-in-Chain-clause-told
 typed-returns-in_ok-begun-in-Chain-clause-told t c =
@@ -211,47 +193,37 @@ typed_suffix-returns-in-Arguments-clause-told t c =
 
 pub typed_each-returns-in_err-value-clause-told : goal.typed_each-returns-in_err-value-clause-told
 typed_each-returns-in_err-value-clause-told t c =
-    let s = sight_view c.args.sight.now in
     let lt : c.loop-argument.argument-index < length c.args.arguments.now = omega arith in
-    let f : Tells (broken.typed_each s (exprs_of (map view c.args.arguments.now))) c.in_err-value.field-0.0 =
-    told_same _ _ c.in_err-value.field-0.0 (sym c.loop-argument.invariant.1)
-    (each_told s c.args.arguments.now c.loop-argument.argument-index c.argument-item.result c.in_err-value.field-0.0 lt c.argument-item.is c.in_err-value.ensures.told) in
-    told_by _ c.in_err-value.field-0.0 _ c.from_residual.result c.from_residual.ensures.1 (λ e p. p) f
+    told_by _ c.in_err-value.field-0.0 _ c.from_residual.result c.from_residual.ensures.1 (λ e p. p)
+    (told_same _ _ c.in_err-value.field-0.0 (sym c.loop-argument.invariant.1)
+    (each_told (sight_view c.args.sight.now) c.args.arguments.now c.loop-argument.argument-index c.argument-item.result c.in_err-value.field-0.0 lt c.argument-item.is c.in_err-value.ensures.told))
 
 pub named-returns-in_err-meaning-clause-told : goal.named-returns-in_err-meaning-clause-told
 named-returns-in_err-meaning-clause-told t c =
-    let s = sight_view c.args.sight.now in
     let n = c.args.name.now in
-    let f : Tells (broken.typed s (tree.named (ident_view n.identifier) (suffix_view n.suffix) (option_map ident_view n.attribute))) c.in_err-meaning.field-0.0 =
-    named_meaning s (ident_view n.identifier) (suffix_view n.suffix) (option_map ident_view n.attribute) c.in_err-meaning.field-0.0 c.in_err-meaning.ensures.told in
-    told_by _ c.in_err-meaning.field-0.0 _ c.from_residual.result c.from_residual.ensures.1 (λ e p. p) f
+    told_by _ c.in_err-meaning.field-0.0 _ c.from_residual.result c.from_residual.ensures.1 (λ e p. p)
+    (named_meaning (sight_view c.args.sight.now) (ident_view n.identifier) (suffix_view n.suffix) (option_map ident_view n.attribute) c.in_err-meaning.field-0.0 c.in_err-meaning.ensures.told)
 
 pub named-returns-in_err-suffix-clause-told : goal.named-returns-in_err-suffix-clause-told
 named-returns-in_err-suffix-clause-told t c =
-    let s = sight_view c.args.sight.now in
     let n = c.args.name.now in
-    let f : Tells (broken.typed s (tree.named (ident_view n.identifier) (suffix_view n.suffix) (option_map ident_view n.attribute))) c.in_err-suffix.field-0.0 =
-    named_suffix s (ident_view n.identifier) (suffix_view n.suffix) (option_map ident_view n.attribute) (meaning_view c.in_ok-meaning.meaning.now) c.in_err-suffix.field-0.0
-    c.in_ok-meaning.ensures.meant c.in_err-suffix.ensures.told in
-    told_by _ c.in_err-suffix.field-0.0 _ c.from_residual-in_err-suffix.result c.from_residual-in_err-suffix.ensures.1 (λ e p. p) f
+    told_by _ c.in_err-suffix.field-0.0 _ c.from_residual-in_err-suffix.result c.from_residual-in_err-suffix.ensures.1 (λ e p. p)
+    (named_suffix (sight_view c.args.sight.now) (ident_view n.identifier) (suffix_view n.suffix) (option_map ident_view n.attribute) (meaning_view c.in_ok-meaning.meaning.now) c.in_err-suffix.field-0.0
+    c.in_ok-meaning.ensures.meant c.in_err-suffix.ensures.told)
 
 pub named-returns-in_err-of_no_value-clause-told : goal.named-returns-in_err-of_no_value-clause-told
 named-returns-in_err-of_no_value-clause-told t c =
-    let s = sight_view c.args.sight.now in
     let n = c.args.name.now in
-    let f : Tells (broken.typed s (tree.named (ident_view n.identifier) (suffix_view n.suffix) (option_map ident_view n.attribute))) c.in_err-of_no_value.field-0.0 =
-    named_no_value s (ident_view n.identifier) (suffix_view n.suffix) (option_map ident_view n.attribute) (meaning_view c.in_ok-meaning.meaning.now) (typed_suffix_view c.in_ok-suffix.suffix)
-    c.in_ok-meaning.ensures.meant c.in_ok-suffix.ensures.given c.in_err-of_no_value.field-0.0 c.in_err-of_no_value.ensures.told in
-    told_by _ c.in_err-of_no_value.field-0.0 _ c.from_residual-in_err-of_no_value.result c.from_residual-in_err-of_no_value.ensures.1 (λ e p. p) f
+    told_by _ c.in_err-of_no_value.field-0.0 _ c.from_residual-in_err-of_no_value.result c.from_residual-in_err-of_no_value.ensures.1 (λ e p. p)
+    (named_no_value (sight_view c.args.sight.now) (ident_view n.identifier) (suffix_view n.suffix) (option_map ident_view n.attribute) (meaning_view c.in_ok-meaning.meaning.now) (typed_suffix_view c.in_ok-suffix.suffix)
+    c.in_ok-meaning.ensures.meant c.in_ok-suffix.ensures.given c.in_err-of_no_value.field-0.0 c.in_err-of_no_value.ensures.told)
 
 pub named-returns-in_err-value-clause-told : goal.named-returns-in_err-value-clause-told
 named-returns-in_err-value-clause-told t c =
-    let s = sight_view c.args.sight.now in
     let n = c.args.name.now in
-    let f : Tells (broken.typed s (tree.named (ident_view n.identifier) (suffix_view n.suffix) (option_map ident_view n.attribute))) c.in_err-value.field-0.0 =
-    named_denoted s (ident_view n.identifier) (suffix_view n.suffix) (option_map ident_view n.attribute) (meaning_view c.in_ok-meaning.meaning.now) (typed_suffix_view c.in_ok-suffix.suffix)
-    c.in_ok-meaning.ensures.meant c.in_ok-suffix.ensures.given c.in_err-value.field-0.0 c.in_ok-of_no_value.ensures.kept c.in_err-value.ensures.told in
-    told_by _ c.in_err-value.field-0.0 _ c.from_residual-in_err-value.result c.from_residual-in_err-value.ensures.1 (λ e p. p) f
+    told_by _ c.in_err-value.field-0.0 _ c.from_residual-in_err-value.result c.from_residual-in_err-value.ensures.1 (λ e p. p)
+    (named_denoted (sight_view c.args.sight.now) (ident_view n.identifier) (suffix_view n.suffix) (option_map ident_view n.attribute) (meaning_view c.in_ok-meaning.meaning.now) (typed_suffix_view c.in_ok-suffix.suffix)
+    c.in_ok-meaning.ensures.meant c.in_ok-suffix.ensures.given c.in_err-value.field-0.0 c.in_ok-of_no_value.ensures.kept c.in_err-value.ensures.told)
 
 pub named-returns-clause-told : goal.named-returns-clause-told
 named-returns-clause-told t c =
@@ -264,10 +236,8 @@ named-returns-clause-told t c =
 
 pub link-returns-in_err-operand-clause-told : goal.link-returns-in_err-operand-clause-told
 link-returns-in_err-operand-clause-told t c =
-    let s = sight_view c.args.sight.now in
-    let f : Tells (link_breaks s c.args.after_parens (Some (typed_view c.args.first)) c.args.link.now) c.in_err-operand.field-0.0 =
-    link_first s c.args.after_parens (typed_view c.args.first) c.args.link.now c.in_err-operand.field-0.0 c.in_err-operand.ensures.told in
-    told_by _ c.in_err-operand.field-0.0 _ c.from_residual.result c.from_residual.ensures.1 (λ e p. p) f
+    told_by _ c.in_err-operand.field-0.0 _ c.from_residual.result c.from_residual.ensures.1 (λ e p. p)
+    (link_first (sight_view c.args.sight.now) c.args.after_parens (typed_view c.args.first) c.args.link.now c.in_err-operand.field-0.0 c.in_err-operand.ensures.told)
 
 pub link-returns-clause-told : goal.link-returns-clause-told
 link-returns-clause-told t c =
@@ -276,10 +246,8 @@ link-returns-clause-told t c =
 
 pub static_integer-returns-in_err-value-clause-told : goal.static_integer-returns-in_err-value-clause-told
 static_integer-returns-in_err-value-clause-told t c =
-    let s = sight_view c.args.sight.now in
-    let f : Tells (broken.static s (view c.args.e.now)) c.in_err-value.field-0.0 =
-    static_first s (view c.args.e.now) c.in_err-value.field-0.0 c.in_err-value.ensures.told in
-    told_by _ c.in_err-value.field-0.0 _ c.from_residual.result c.from_residual.ensures.1 (λ e p. p) f
+    told_by _ c.in_err-value.field-0.0 _ c.from_residual.result c.from_residual.ensures.1 (λ e p. p)
+    (static_first (sight_view c.args.sight.now) (view c.args.e.now) c.in_err-value.field-0.0 c.in_err-value.ensures.told)
 
 pub static_integer-returns-clause-told : goal.static_integer-returns-clause-told
 static_integer-returns-clause-told t c =
@@ -290,38 +258,28 @@ static_integer-returns-clause-told t c =
 
 pub static_range-returns-in_err-left-clause-told : goal.static_range-returns-in_err-left-clause-told
 static_range-returns-in_err-left-clause-told t c =
-    let s = sight_view c.args.sight.now in
-    let f : Tells (broken.static_range s (range_view c.args.range.now)) c.in_err-left.field-0.0 =
-    range_first s (range_view c.args.range.now) c.in_err-left.field-0.0 c.in_err-left.ensures.told in
-    told_by _ c.in_err-left.field-0.0 _ c.from_residual.result c.from_residual.ensures.1 (λ e p. p) f
+    told_by _ c.in_err-left.field-0.0 _ c.from_residual.result c.from_residual.ensures.1 (λ e p. p)
+    (range_first (sight_view c.args.sight.now) (range_view c.args.range.now) c.in_err-left.field-0.0 c.in_err-left.ensures.told)
 
 pub static_range-returns-in_err-right-clause-told : goal.static_range-returns-in_err-right-clause-told
 static_range-returns-in_err-right-clause-told t c =
-    let s = sight_view c.args.sight.now in
-    let f : Tells (broken.static_range s (range_view c.args.range.now)) c.in_err-right.field-0.0 =
-    range_second s (range_view c.args.range.now) (static_view c.in_ok-left.left) c.in_err-right.field-0.0 c.in_ok-left.ensures.given c.in_err-right.ensures.told in
-    told_by _ c.in_err-right.field-0.0 _ c.from_residual-in_err-right.result c.from_residual-in_err-right.ensures.1 (λ e p. p) f
+    told_by _ c.in_err-right.field-0.0 _ c.from_residual-in_err-right.result c.from_residual-in_err-right.ensures.1 (λ e p. p)
+    (range_second (sight_view c.args.sight.now) (range_view c.args.range.now) (static_view c.in_ok-left.left) c.in_err-right.field-0.0 c.in_ok-left.ensures.given c.in_err-right.ensures.told)
 
 pub typed-returns-in_err-operand-in-Parens-clause-told : goal.typed-returns-in_err-operand-in-Parens-clause-told
 typed-returns-in_err-operand-in-Parens-clause-told t c =
-    let s = sight_view c.args.sight.now in
-    let f : Tells (broken.typed s (view c.args.e.now)) c.in_err-operand-in-Parens.field-0.0 =
-    parens_told s c.args.e.now c.deref.result.now c.in-Parens.at c.in-Parens.inner c.in_err-operand-in-Parens.field-0.0 c.in-Parens.is c.deref.ensures c.in_err-operand-in-Parens.ensures.told in
-    told_by _ c.in_err-operand-in-Parens.field-0.0 _ c.from_residual.result c.from_residual.ensures.1 (λ e p. p) f
+    told_by _ c.in_err-operand-in-Parens.field-0.0 _ c.from_residual.result c.from_residual.ensures.1 (λ e p. p)
+    (parens_told (sight_view c.args.sight.now) c.args.e.now c.deref.result.now c.in-Parens.at c.in-Parens.inner c.in_err-operand-in-Parens.field-0.0 c.in-Parens.is c.deref.ensures c.in_err-operand-in-Parens.ensures.told)
 
 pub typed-returns-in_err-operand-in-Not-clause-told : goal.typed-returns-in_err-operand-in-Not-clause-told
 typed-returns-in_err-operand-in-Not-clause-told t c =
-    let s = sight_view c.args.sight.now in
-    let f : Tells (broken.typed s (view c.args.e.now)) c.in_err-operand-in-Not.field-0.0 =
-    negation_first s c.args.e.now c.deref-in-Not.result.now c.in-Not.at c.in-Not.operand c.in_err-operand-in-Not.field-0.0 c.in-Not.is c.deref-in-Not.ensures c.in_err-operand-in-Not.ensures.told in
-    told_by _ c.in_err-operand-in-Not.field-0.0 _ c.from_residual-in_err-operand-in-Not.result c.from_residual-in_err-operand-in-Not.ensures.1 (λ e p. p) f
+    told_by _ c.in_err-operand-in-Not.field-0.0 _ c.from_residual-in_err-operand-in-Not.result c.from_residual-in_err-operand-in-Not.ensures.1 (λ e p. p)
+    (negation_first (sight_view c.args.sight.now) c.args.e.now c.deref-in-Not.result.now c.in-Not.at c.in-Not.operand c.in_err-operand-in-Not.field-0.0 c.in-Not.is c.deref-in-Not.ensures c.in_err-operand-in-Not.ensures.told)
 
 pub typed-returns-in_err-operand-in-Signed-clause-told : goal.typed-returns-in_err-operand-in-Signed-clause-told
 typed-returns-in_err-operand-in-Signed-clause-told t c =
-    let s = sight_view c.args.sight.now in
-    let f : Tells (broken.typed s (view c.args.e.now)) c.in_err-operand-in-Signed.field-0.0 =
-    sign_first s c.args.e.now c.deref-in-Signed.result.now c.in-Signed.at c.in-Signed.operand c.in-Signed.sign c.in_err-operand-in-Signed.field-0.0 c.in-Signed.is c.deref-in-Signed.ensures c.in_err-operand-in-Signed.ensures.told in
-    told_by _ c.in_err-operand-in-Signed.field-0.0 _ c.from_residual-in_err-operand-in-Signed.result c.from_residual-in_err-operand-in-Signed.ensures.1 (λ e p. p) f
+    told_by _ c.in_err-operand-in-Signed.field-0.0 _ c.from_residual-in_err-operand-in-Signed.result c.from_residual-in_err-operand-in-Signed.ensures.1 (λ e p. p)
+    (sign_first (sight_view c.args.sight.now) c.args.e.now c.deref-in-Signed.result.now c.in-Signed.at c.in-Signed.operand c.in-Signed.sign c.in_err-operand-in-Signed.field-0.0 c.in-Signed.is c.deref-in-Signed.ensures c.in_err-operand-in-Signed.ensures.told)
 
 pub typed-returns-in-Integer-clause-told : goal.typed-returns-in-Integer-clause-told
 typed-returns-in-Integer-clause-told t c =
@@ -351,10 +309,8 @@ typed-returns-in_ok-operand-in-Signed-clause-told t c =
 
 pub typed_suffix-returns-in_err-range-in-Range-clause-told : goal.typed_suffix-returns-in_err-range-in-Range-clause-told
 typed_suffix-returns-in_err-range-in-Range-clause-told t c =
-    let s = sight_view c.args.sight.now in
-    let f : Tells (broken.typed_suffix s (suffix_view c.args.suffix.now)) c.in_err-range-in-Range.field-0.0 =
-    slice_told s c.args.suffix.now c.in-Range.range c.deref-in-Range.result.now c.in_err-range-in-Range.field-0.0 c.in-Range.is c.deref-in-Range.ensures c.in_err-range-in-Range.ensures.told in
-    told_by _ c.in_err-range-in-Range.field-0.0 _ c.from_residual.result c.from_residual.ensures.1 (λ e p. p) f
+    told_by _ c.in_err-range-in-Range.field-0.0 _ c.from_residual.result c.from_residual.ensures.1 (λ e p. p)
+    (slice_told (sight_view c.args.sight.now) c.args.suffix.now c.in-Range.range c.deref-in-Range.result.now c.in_err-range-in-Range.field-0.0 c.in-Range.is c.deref-in-Range.ensures c.in_err-range-in-Range.ensures.told)
 
 -- ---- what is given
 

@@ -1,5 +1,4 @@
-use Rattle.std.proofs.Common.{rules, arith, option_map, refl, ap}
-use Rattle.std.proofs.lemmas.Grind.{common_steps}
+use Rattle.std.proofs.Common.{option_map, refl, ap}
 use Rattle.vhdl_tree.specs.Tree as t
 use Rattle.vhdl_tree.specs.View.{ident_view, suffix_view, option_ident_view}
 use Rattle.vhdl_names_rules.specs.declared.fault.NameFault.TheVariants.{At}
@@ -11,7 +10,7 @@ use Rattle.vhdl_names_rules.specs.problems.Subtypes as broken
 use Rattle.vhdl_names_rules.specs.problems.Subtypes.{suffixed_problem, value_of}
 use Rattle.vhdl_names_expressions.specs.Fixing.{suffixed_value}
 use Rattle.vhdl_names_expressions.proofs.Breaking.{told_fault, told_as, refused_told}
-use Rattle.vhdl_names_expressions.proofs.BreakingValues.{name_meaning, name_suffix, name_attribute, name_more, value_is}
+use Rattle.vhdl_names_expressions.proofs.BreakingValues.{none_there, name_meaning, name_suffix, name_attribute, name_more, value_is}
 use Rattle.vhdl_names_expressions.proofs.Typing.{told_on as told_by}
 use Rattle.vhdl_names_expressions.proofs.fixed.fixed_name.Goals as goal
 
@@ -48,6 +47,6 @@ returns-clause-told c =
     let x = typed_suffix_view c.in_ok-suffix.suffix in
     name_more (sight_view c.args.sight.now) (ident_view n.identifier) (suffix_view n.suffix) (option_ident_view n.attribute)
     (λ d x. lacking (suffixed_problem c.args.object_type d x) n.identifier.at (value_of c.args.object_type d x)) d x c.in_ok-meaning.ensures.meant c.in_ok-suffix.ensures.given _
-    (first_of (search rules, grind (arith, common_steps)))
+    (none_there ident_view c.args.name.now.attribute c.in_default.not-Some)
     (told_as _ _ _ (ap (lacking (suffixed_problem c.args.object_type d x) n.identifier.at) (value_is c.args.object_type d x))
     (refused_told fixed_view (suffixed_problem c.args.object_type d x) n.identifier.at n.identifier.at (suffixed_value c.args.object_type d x) _ refl c.suffixed.ensures.given c.suffixed.ensures.told))

@@ -1,5 +1,4 @@
-use Rattle.std.proofs.Common.{rules, arith, option_map, refl, ap}
-use Rattle.std.proofs.lemmas.Grind.{common_steps}
+use Rattle.std.proofs.Common.{option_map, refl, ap}
 use Rattle.vhdl_tree.specs.View.{name_view, ident_view}
 use Rattle.vhdl_names_rules.specs.declared.fault.NameFault.TheVariants.{At}
 use Rattle.vhdl_names_rules.specs.declared.fault.NameProblem.TheVariants.{LeftOut}
@@ -11,7 +10,7 @@ use Rattle.vhdl_names_rules.specs.problems.Statements.{signal_problem}
 use Rattle.vhdl_names_rules.specs.problems.Statements as broken
 use Rattle.vhdl_names_rules.proofs.Telling.{told_on}
 use Rattle.vhdl_names_expressions.proofs.Breaking.{told_fault, refused_told}
-use Rattle.vhdl_names_expressions.proofs.BreakingValues.{object_told, name_meaning, name_suffix, name_attribute, name_more}
+use Rattle.vhdl_names_expressions.proofs.BreakingValues.{none_there, object_told, name_meaning, name_suffix, name_attribute, name_more}
 use Rattle.vhdl_names_expressions.proofs.Typing.{told_on as told_by}
 use Rattle.vhdl_names_expressions.proofs.objects.signal.Goals as goal
 
@@ -51,5 +50,5 @@ returns-clause-told c =
     let x = typed_suffix_view c.in_ok-suffix.suffix in
     told_on _ _ _ (object_told s n (λ d x. lacking (signal_problem d) n.identifier.at (as_signal n.identifier.at d x)))
     (name_more s n.identifier n.suffix n.attribute (λ d x. lacking (signal_problem d) n.identifier.at (as_signal n.identifier.at d x)) d x c.in_ok-meaning.ensures.meant c.in_ok-suffix.ensures.given _
-    (first_of (search rules, grind (arith, common_steps)))
+    (none_there ident_view c.args.name.now.attribute c.in_default.not-Some)
     (refused_told signal_name_view (signal_problem d) n.identifier.at n.identifier.at (as_signal n.identifier.at d x) _ refl c.as_signal.ensures.given c.as_signal.ensures.told))

@@ -29,7 +29,7 @@ pub returns-in-Some-In-clause-told : goal.returns-in-Some-In-clause-told
 returns-in-Some-In-clause-told c =
     let s = sight_view c.args.sight.now in
     let n = name_view c.args.name.now in
-    let is : c.in_ok-target.target.mode ≡ Some In = first_of (search rules, cc, grind (arith, common_steps)) in
+    let is : c.in_ok-target.target.mode ≡ Some In = first_of (cc, search rules, grind (arith, common_steps)) in
     told_right (broken.signal s n) (where_given (are.signal s n) (λ x. unless WriteOfIn n.identifier.at (not (is_input x.mode)))) c.at.result
     (signal_kept s n (signal_name_view c.in_ok-target.target) c.in_ok-target.ensures.given)
     (told_given (λ x. unless WriteOfIn n.identifier.at (not (is_input x.mode))) (are.signal s n) (signal_name_view c.in_ok-target.target) c.at.result c.in_ok-target.ensures.given

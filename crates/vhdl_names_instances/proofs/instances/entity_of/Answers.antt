@@ -16,7 +16,7 @@ returns-in-None-clause-told c =
     let a = option_map tree.ident_view c.args.architecture.now in
     let at = c.args.name.now.at in
     let o = position_from (bytes_eq c.args.name.now.text.items) 0 (names_view c.args.entities.now.names) in
-    let q : bytes_eq c.args.library.now.text.items (codes "work") ≡ true = first_of (search rules, grind (arith, common_steps)) in
+    let q : bytes_eq c.args.library.now.text.items (codes "work") ≡ true = first_of (cc, search rules, grind (arith, common_steps)) in
     let of_library = unless Undeclared c.args.library.now.at (bytes_eq c.args.library.now.text.items (codes "work")) in
     let of_entity = where_given o (breaking.with_architecture (seens_view c.args.entities.now.formals) a at) in
     told_right of_library (lacking Undeclared at o ▸ of_entity) c.at-in-None.result (unless_kept Undeclared c.args.library.now.at (bytes_eq c.args.library.now.text.items (codes "work")) q)
@@ -30,7 +30,7 @@ returns-in-Some-clause-told c =
     let a = option_map tree.ident_view c.args.architecture.now in
     let at = c.args.name.now.at in
     let o = position_from (bytes_eq c.args.name.now.text.items) 0 (names_view c.args.entities.now.names) in
-    let q : bytes_eq c.args.library.now.text.items (codes "work") ≡ true = first_of (search rules, grind (arith, common_steps)) in
+    let q : bytes_eq c.args.library.now.text.items (codes "work") ≡ true = first_of (cc, search rules, grind (arith, common_steps)) in
     let of_library = unless Undeclared c.args.library.now.at (bytes_eq c.args.library.now.text.items (codes "work")) in
     let with_one = breaking.with_architecture (seens_view c.args.entities.now.formals) a at in
     let is = sym (c.in-Some.ensures ∙ ap (λ n. position_from (bytes_eq n) 0 (names_view c.args.entities.now.names)) c.deref-2.ensures.value) in
@@ -45,7 +45,7 @@ returns-then-not-is_text-clause-told c =
     let a = option_map tree.ident_view c.args.architecture.now in
     let at = c.args.name.now.at in
     let o = position_from (bytes_eq c.args.name.now.text.items) 0 (names_view c.args.entities.now.names) in
-    let q : bytes_eq c.args.library.now.text.items (codes "work") ≡ false = first_of (search rules, grind (arith, common_steps)) in
+    let q : bytes_eq c.args.library.now.text.items (codes "work") ≡ false = first_of (cc, search rules, grind (arith, common_steps)) in
     told_left (unless Undeclared c.args.library.now.at (bytes_eq c.args.library.now.text.items (codes "work")))
     (lacking Undeclared at o ▸ where_given o (breaking.with_architecture (seens_view c.args.entities.now.formals) a at)) c.at.result
     (told_unless Undeclared c.args.library.now.at (bytes_eq c.args.library.now.text.items (codes "work")) c.at.result (λ m. q)

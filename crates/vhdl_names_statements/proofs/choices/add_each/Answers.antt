@@ -1,4 +1,5 @@
-use Rattle.std.proofs.Common.{arith, ◌<◌, length, map}
+use Rattle.std.proofs.Common.{arith, ◌<◌, length, map, refl, sym, ◌∙◌}
+use Rattle.std.proofs.lemmas.List.{at_drop_all}
 use Rattle.vhdl_tree.specs.View as tree
 use Rattle.vhdl_names_types.specs.Views.{sight_view}
 use Rattle.vhdl_names_rules.specs.problems.Broken.{Tells}
@@ -19,6 +20,9 @@ returns-in_err-add_written-clause-told c =
     c.loop-written.invariant.1 c.in_err-add_written.ensures.told in
     told_by _ c.in_err-add_written.field-0.0 _ c.from_residual.result c.from_residual.ensures.1 (λ e p. p) h
 
+pub loop-written-init : goal.loop-written-init
+loop-written-init c = (refl, refl)
+
 pub loop-written-preserved : goal.loop-written-preserved
 loop-written-preserved c =
     let s = sight_view c.args.sight.now in
@@ -31,3 +35,13 @@ loop-written-preserved c =
       next_added s c.args.selected xs i c.written-item.result lt c.written-item.is old keys new c.loop-written.invariant.0 c.in_ok-add_written.ensures.added,
       next_left s c.args.selected xs i c.written-item.result lt c.written-item.is old keys new c.loop-written.invariant.1 c.in_ok-add_written.ensures.kept c.in_ok-add_written.ensures.added,
     )
+
+pub returns-clause-added : goal.returns-clause-added
+returns-clause-added c =
+    sym (c.loop-written.invariant.0
+    ∙ at_drop_all (λ l. told.with_list (sight_view c.args.sight.now) c.args.selected (names_view c.loop-written.keys) (map tree.choice_view l)) c.args.list.now c.loop-written.written-index c.loop-written-test.false)
+
+pub returns-clause-kept : goal.returns-clause-kept
+returns-clause-kept c =
+    c.loop-written.invariant.1
+    ∙ at_drop_all (λ l. told.each_once (sight_view c.args.sight.now) c.args.selected (names_view c.loop-written.keys) (map tree.choice_view l)) c.args.list.now c.loop-written.written-index c.loop-written-test.false

@@ -1,10 +1,9 @@
-use Rattle.std.proofs.Common.{arith, ◌≡◌, ◌≢◌, ◌<◌, ◌∷◌, [], length, map, None, Some, refl, ap, sym, ◌∙◌}
+use Rattle.std.proofs.Common.{arith, ◌≡◌, ◌<◌, ◌∷◌, [], length, map, Some, refl, ap, sym, ◌∙◌}
 use Rattle.std.proofs.lemmas.List.{map-append}
 use Rattle.vhdl_tree.specs.Tree as tree'
 use Rattle.vhdl_tree.specs.View as tree
 use Rattle.vhdl_tree.specs.declared.sequential.Case.{out-Case}
 use Rattle.vhdl_tree.specs.declared.sequential.If.{out-If}
-use Rattle.vhdl_names_rules.specs.declared.fault.NameFault.TheVariants.{NoMemory}
 use Rattle.vhdl_names_rules.specs.Rules.{◌>>◌, each, if_any}
 use Rattle.vhdl_names_rules.specs.Choices as are
 use Rattle.vhdl_names_rules.specs.Statements.{statement}
@@ -12,7 +11,6 @@ use Rattle.vhdl_names_types.specs.Views.{sight_view}
 use Rattle.vhdl_names_types.proofs.Along.{gives_along}
 use Rattle.vhdl_names_types.proofs.Memory.{memory_gives, memory_told}
 use Rattle.vhdl_names_units.specs.views.Sequential.{statement_view, statements_view, branch_view, branches_view, alternative_view, alternatives_view}
-use Rattle.vhdl_names_rules.specs.problems.Broken.{Tells}
 use Rattle.vhdl_names_rules.specs.problems.Expressions.{condition}
 use Rattle.vhdl_names_rules.specs.problems.Choices.{choices}
 use Rattle.vhdl_names_rules.specs.problems.Covered.{any_alternative}
@@ -20,7 +18,6 @@ use Rattle.vhdl_names_rules.specs.problems.Statements as broken
 use Rattle.vhdl_names_rules.proofs.Telling.{told_same, told_left, told_right, told_on}
 use Rattle.vhdl_names_rules.proofs.kept.Expressions.{condition_kept}
 use Rattle.vhdl_names_rules.proofs.kept.Choices.{choices_kept}
-use Rattle.vhdl_names_units.proofs.Behind.{next_told, next_left}
 use Rattle.vhdl_names_statements.specs.steps.Cases as cases
 use Rattle.vhdl_names_statements.specs.steps.Sequential as steps
 use Rattle.vhdl_names_statements.specs.steps.Told as told
@@ -57,23 +54,17 @@ statement-returns-in-Case-clause-given t c =
 
 pub statements-returns-in_err-next-clause-told : goal.statements-returns-in_err-next-clause-told
 statements-returns-in_err-next-clause-told m c =
-    let s = sight_view c.args.sight.now in
-    let xs = c.args.list.now in
-    let x = c.item-item.result in
     let lt : c.loop-item.item-index < length c.args.list.now = omega arith in
-    let h : Tells (broken.statements s (tree'.statements_of (map tree.sequential_view xs))) c.in_err-next.field-0.0 =
-    told_same _ _ c.in_err-next.field-0.0 (by.statements_any s (map tree.sequential_view xs))
-    (next_told tree.sequential_view xs c.loop-item.item-index x lt c.item-item.is (told.labelled s) c.in_err-next.field-0.0 c.loop-item.invariant.2
-    (told_same _ _ c.in_err-next.field-0.0 (ap (λ e. told.labelled e (tree.sequential_view x)) c.loop-item.invariant.0) c.in_err-next.ensures.told)) in
-    told_by _ c.in_err-next.field-0.0 _ c.from_residual.result c.from_residual.ensures.1 (λ e p. p) h
+    told_by _ c.in_err-next.field-0.0 _ c.from_residual.result c.from_residual.ensures.1 (λ e p. p)
+    (by.turn_told tree.sequential_view steps.labelled told.labelled (sight_view c.args.sight.now) _ c.loop-item.invariant.0 c.args.list.now c.loop-item.item-index c.item-item.result lt c.item-item.is
+    _ c.in_err-next.field-0.0 (by.statements_any (sight_view c.args.sight.now) (map tree.sequential_view c.args.list.now)) c.loop-item.invariant.2 c.in_err-next.ensures.told)
 
 pub statements-returns-in_err-next-clause-given : goal.statements-returns-in_err-next-clause-given
 statements-returns-in_err-next-clause-given m c =
-    let x = c.item-item.result in
     let lt : c.loop-item.item-index < length c.args.list.now = omega arith in
     passed_on _ _ c.in_err-next.field-0.0 _ c.from_residual.result c.from_residual.ensures.1 (λ e p. p)
-    (λ n. by.none_more tree.sequential_view c.args.list.now c.loop-item.item-index x lt c.item-item.is (steps.labelled (sight_view c.args.sight.now)) (statements_view c.loop-item.all) _ c.loop-item.invariant.1
-    (ap (λ e. steps.labelled e (tree.sequential_view x)) (sym c.loop-item.invariant.0) ∙ c.in_err-next.ensures.given n))
+    (λ n. by.turn_none tree.sequential_view steps.labelled told.labelled (sight_view c.args.sight.now) _ c.loop-item.invariant.0 c.args.list.now c.loop-item.item-index c.item-item.result lt c.item-item.is
+    (statements_view c.loop-item.all) _ c.loop-item.invariant.1 (c.in_err-next.ensures.given n))
 
 pub statements-returns-in_err-push-clause-given : goal.statements-returns-in_err-push-clause-given
 statements-returns-in_err-push-clause-given m c = memory_gives _ _ _ c.from_residual-in_err-push.result c.from_residual-in_err-push.ensures.1 (λ e p. p)
@@ -89,11 +80,10 @@ statements-returns-in_err-push-clause-kept m c = c.in_ok-next.ensures.kept ∙ c
 
 pub branches-returns-in_err-next-clause-given : goal.branches-returns-in_err-next-clause-given
 branches-returns-in_err-next-clause-given m c =
-    let x = c.item-item.result in
     let lt : c.loop-item.item-index < length c.args.list.now = omega arith in
     passed_on _ _ c.in_err-next.field-0.0 _ c.from_residual.result c.from_residual.ensures.1 (λ e p. p)
-    (λ n. by.none_more tree.conditional_view c.args.list.now c.loop-item.item-index x lt c.item-item.is (steps.guarded (sight_view c.args.sight.now)) (branches_view c.loop-item.all) _ c.loop-item.invariant.1
-    (ap (λ e. steps.guarded e (tree.conditional_view x)) (sym c.loop-item.invariant.0) ∙ c.in_err-next.ensures.given n))
+    (λ n. by.turn_none tree.conditional_view steps.guarded told.guarded (sight_view c.args.sight.now) _ c.loop-item.invariant.0 c.args.list.now c.loop-item.item-index c.item-item.result lt c.item-item.is
+    (branches_view c.loop-item.all) _ c.loop-item.invariant.1 (c.in_err-next.ensures.given n))
 
 pub branches-returns-in_err-push-clause-given : goal.branches-returns-in_err-push-clause-given
 branches-returns-in_err-push-clause-given m c = memory_gives _ _ _ c.from_residual-in_err-push.result c.from_residual-in_err-push.ensures.1 (λ e p. p)
@@ -109,11 +99,10 @@ branches-returns-in_err-push-clause-kept m c = c.in_ok-next.ensures.kept ∙ c.l
 
 pub alternatives-returns-in_err-next-clause-given : goal.alternatives-returns-in_err-next-clause-given
 alternatives-returns-in_err-next-clause-given m c =
-    let x = c.item-item.result in
     let lt : c.loop-item.item-index < length c.args.list.now = omega arith in
     passed_on _ _ c.in_err-next.field-0.0 _ c.from_residual.result c.from_residual.ensures.1 (λ e p. p)
-    (λ n. by.none_more tree.alternative_view c.args.list.now c.loop-item.item-index x lt c.item-item.is (cases.chosen (sight_view c.args.sight.now) c.args.selected) (alternatives_view c.loop-item.all) _ c.loop-item.invariant.1
-    (ap (λ e. cases.chosen e c.args.selected (tree.alternative_view x)) (sym c.loop-item.invariant.0) ∙ c.in_err-next.ensures.given n))
+    (λ n. by.turn_none tree.alternative_view (λ o. cases.chosen o c.args.selected) (λ o. told.alternative o c.args.selected) (sight_view c.args.sight.now) _ c.loop-item.invariant.0 c.args.list.now c.loop-item.item-index c.item-item.result lt c.item-item.is
+    (alternatives_view c.loop-item.all) _ c.loop-item.invariant.1 (c.in_err-next.ensures.given n))
 
 pub alternatives-returns-in_err-push-clause-given : goal.alternatives-returns-in_err-push-clause-given
 alternatives-returns-in_err-push-clause-given m c = memory_gives _ _ _ c.from_residual-in_err-push.result c.from_residual-in_err-push.ensures.1 (λ e p. p)
@@ -129,69 +118,38 @@ alternatives-returns-in_err-push-clause-kept m c = c.in_ok-next.ensures.kept ∙
 
 pub statements-loop-item-preserved : goal.statements-loop-item-preserved
 statements-loop-item-preserved m c =
-    let s = sight_view c.args.sight.now in
-    let xs = c.args.list.now in
-    let x = c.item-item.result in
     let lt : c.loop-item.item-index < length c.args.list.now = omega arith in
-    let given : steps.labelled s (tree.sequential_view x) ≡ Some (statement_view c.in_ok-next.next) =
-    ap (λ e. steps.labelled e (tree.sequential_view x)) (sym c.loop-item.invariant.0) ∙ c.in_ok-next.ensures.given in (
-      c.in_ok-next.ensures.kept ∙ c.loop-item.invariant.0,
-      by.more_done tree.sequential_view xs c.loop-item.item-index x lt c.item-item.is (steps.labelled s) (statements_view c.loop-item.all) _ (statement_view c.in_ok-next.next) _ c.loop-item.invariant.1 given
-          (ap (map statement_view) c.in_ok-push.ensures.items ∙ map-append statement_view c.loop-item.all.items (c.in_ok-next.next ∷ [])),
-      next_left tree.sequential_view xs c.loop-item.item-index x lt c.item-item.is (told.labelled s) c.loop-item.invariant.2 (by.labelled_kept s (tree.sequential_view x) _ given),
-    )
+    by.turn_done tree.sequential_view steps.labelled told.labelled (sight_view c.args.sight.now) _ c.loop-item.invariant.0 c.args.list.now c.loop-item.item-index c.item-item.result lt c.item-item.is
+    _ (statements_view c.loop-item.all) _ (statement_view c.in_ok-next.next) _ c.loop-item.invariant.1 c.loop-item.invariant.2 c.in_ok-next.ensures.kept c.in_ok-next.ensures.given
+    (ap (map statement_view) c.in_ok-push.ensures.items ∙ map-append statement_view c.loop-item.all.items (c.in_ok-next.next ∷ [])) (by.labelled_kept (sight_view c.args.sight.now))
 
 pub branches-returns-in_err-next-clause-told : goal.branches-returns-in_err-next-clause-told
 branches-returns-in_err-next-clause-told m c =
-    let s = sight_view c.args.sight.now in
-    let xs = c.args.list.now in
-    let x = c.item-item.result in
     let lt : c.loop-item.item-index < length c.args.list.now = omega arith in
-    let h : Tells (broken.conditionals s (tree'.conditionals_of (map tree.conditional_view xs))) c.in_err-next.field-0.0 =
-    told_same _ _ c.in_err-next.field-0.0 (by.conditionals_any s (map tree.conditional_view xs))
-    (next_told tree.conditional_view xs c.loop-item.item-index x lt c.item-item.is (told.guarded s) c.in_err-next.field-0.0 c.loop-item.invariant.2
-    (told_same _ _ c.in_err-next.field-0.0 (ap (λ e. told.guarded e (tree.conditional_view x)) c.loop-item.invariant.0) c.in_err-next.ensures.told)) in
-    told_by _ c.in_err-next.field-0.0 _ c.from_residual.result c.from_residual.ensures.1 (λ e p. p) h
+    told_by _ c.in_err-next.field-0.0 _ c.from_residual.result c.from_residual.ensures.1 (λ e p. p)
+    (by.turn_told tree.conditional_view steps.guarded told.guarded (sight_view c.args.sight.now) _ c.loop-item.invariant.0 c.args.list.now c.loop-item.item-index c.item-item.result lt c.item-item.is
+    _ c.in_err-next.field-0.0 (by.conditionals_any (sight_view c.args.sight.now) (map tree.conditional_view c.args.list.now)) c.loop-item.invariant.2 c.in_err-next.ensures.told)
 
 pub branches-loop-item-preserved : goal.branches-loop-item-preserved
 branches-loop-item-preserved m c =
-    let s = sight_view c.args.sight.now in
-    let xs = c.args.list.now in
-    let x = c.item-item.result in
     let lt : c.loop-item.item-index < length c.args.list.now = omega arith in
-    let given : steps.guarded s (tree.conditional_view x) ≡ Some (branch_view c.in_ok-next.next) =
-    ap (λ e. steps.guarded e (tree.conditional_view x)) (sym c.loop-item.invariant.0) ∙ c.in_ok-next.ensures.given in (
-      c.in_ok-next.ensures.kept ∙ c.loop-item.invariant.0,
-      by.more_done tree.conditional_view xs c.loop-item.item-index x lt c.item-item.is (steps.guarded s) (branches_view c.loop-item.all) _ (branch_view c.in_ok-next.next) _ c.loop-item.invariant.1 given
-          (ap (map branch_view) c.in_ok-push.ensures.items ∙ map-append branch_view c.loop-item.all.items (c.in_ok-next.next ∷ [])),
-      next_left tree.conditional_view xs c.loop-item.item-index x lt c.item-item.is (told.guarded s) c.loop-item.invariant.2 (by.guarded_kept s (tree.conditional_view x) _ given),
-    )
+    by.turn_done tree.conditional_view steps.guarded told.guarded (sight_view c.args.sight.now) _ c.loop-item.invariant.0 c.args.list.now c.loop-item.item-index c.item-item.result lt c.item-item.is
+    _ (branches_view c.loop-item.all) _ (branch_view c.in_ok-next.next) _ c.loop-item.invariant.1 c.loop-item.invariant.2 c.in_ok-next.ensures.kept c.in_ok-next.ensures.given
+    (ap (map branch_view) c.in_ok-push.ensures.items ∙ map-append branch_view c.loop-item.all.items (c.in_ok-next.next ∷ [])) (by.guarded_kept (sight_view c.args.sight.now))
 
 pub alternatives-returns-in_err-next-clause-told : goal.alternatives-returns-in_err-next-clause-told
 alternatives-returns-in_err-next-clause-told m c =
-    let s = sight_view c.args.sight.now in
-    let xs = c.args.list.now in
-    let x = c.item-item.result in
     let lt : c.loop-item.item-index < length c.args.list.now = omega arith in
-    let h : Tells (broken.alternatives s c.args.selected (tree'.alternatives_of (map tree.alternative_view xs))) c.in_err-next.field-0.0 =
-    told_same _ _ c.in_err-next.field-0.0 (by.alternatives_any s c.args.selected (map tree.alternative_view xs))
-    (next_told tree.alternative_view xs c.loop-item.item-index x lt c.item-item.is (told.alternative s c.args.selected) c.in_err-next.field-0.0 c.loop-item.invariant.2
-    (told_same _ _ c.in_err-next.field-0.0 (ap (λ e. told.alternative e c.args.selected (tree.alternative_view x)) c.loop-item.invariant.0) c.in_err-next.ensures.told)) in
-    told_by _ c.in_err-next.field-0.0 _ c.from_residual.result c.from_residual.ensures.1 (λ e p. p) h
+    told_by _ c.in_err-next.field-0.0 _ c.from_residual.result c.from_residual.ensures.1 (λ e p. p)
+    (by.turn_told tree.alternative_view (λ o. cases.chosen o c.args.selected) (λ o. told.alternative o c.args.selected) (sight_view c.args.sight.now) _ c.loop-item.invariant.0 c.args.list.now c.loop-item.item-index c.item-item.result lt c.item-item.is
+    _ c.in_err-next.field-0.0 (by.alternatives_any (sight_view c.args.sight.now) c.args.selected (map tree.alternative_view c.args.list.now)) c.loop-item.invariant.2 c.in_err-next.ensures.told)
 
 pub alternatives-loop-item-preserved : goal.alternatives-loop-item-preserved
 alternatives-loop-item-preserved m c =
-    let s = sight_view c.args.sight.now in
-    let xs = c.args.list.now in
-    let x = c.item-item.result in
     let lt : c.loop-item.item-index < length c.args.list.now = omega arith in
-    let given : cases.chosen s c.args.selected (tree.alternative_view x) ≡ Some (alternative_view c.in_ok-next.next) =
-    ap (λ e. cases.chosen e c.args.selected (tree.alternative_view x)) (sym c.loop-item.invariant.0) ∙ c.in_ok-next.ensures.given in (
-      c.in_ok-next.ensures.kept ∙ c.loop-item.invariant.0,
-      by.more_done tree.alternative_view xs c.loop-item.item-index x lt c.item-item.is (cases.chosen s c.args.selected) (alternatives_view c.loop-item.all) _ (alternative_view c.in_ok-next.next) _ c.loop-item.invariant.1 given
-          (ap (map alternative_view) c.in_ok-push.ensures.items ∙ map-append alternative_view c.loop-item.all.items (c.in_ok-next.next ∷ [])),
-      next_left tree.alternative_view xs c.loop-item.item-index x lt c.item-item.is (told.alternative s c.args.selected) c.loop-item.invariant.2 (by.alternative_kept s c.args.selected (tree.alternative_view x) _ given),
-    )
+    by.turn_done tree.alternative_view (λ o. cases.chosen o c.args.selected) (λ o. told.alternative o c.args.selected) (sight_view c.args.sight.now) _ c.loop-item.invariant.0 c.args.list.now c.loop-item.item-index c.item-item.result lt c.item-item.is
+    _ (alternatives_view c.loop-item.all) _ (alternative_view c.in_ok-next.next) _ c.loop-item.invariant.1 c.loop-item.invariant.2 c.in_ok-next.ensures.kept c.in_ok-next.ensures.given
+    (ap (map alternative_view) c.in_ok-push.ensures.items ∙ map-append alternative_view c.loop-item.all.items (c.in_ok-next.next ∷ [])) (by.alternative_kept (sight_view c.args.sight.now) c.args.selected)
 
 pub statement-returns-in-SignalAssignment-clause-told : goal.statement-returns-in-SignalAssignment-clause-told
 statement-returns-in-SignalAssignment-clause-told m c =
@@ -227,11 +185,10 @@ pub if_statement-returns-in_err-branches-clause-told : goal.if_statement-returns
 if_statement-returns-in_err-branches-clause-told m c =
     let s = sight_view c.args.sight.now in
     let l = tree.option_ident_view c.args.label.now in
-    let h : Tells (broken.statement s l (tree.if_view c.args.conditional.now)) c.in_err-branches.field-0.0 =
-    by.if_branch s l c.args.conditional.now c.in_err-branches.field-0.0
+    told_by _ c.in_err-branches.field-0.0 _ c.from_residual.result c.from_residual.ensures.1 (λ e p. p)
+    (by.if_branch s l c.args.conditional.now c.in_err-branches.field-0.0
     (told_same _ _ c.in_err-branches.field-0.0 (ap (λ xs. broken.conditionals s (tree'.conditionals_of (map tree.conditional_view xs))) c.deref.ensures.value)
-    c.in_err-branches.ensures.told) in
-    told_by _ c.in_err-branches.field-0.0 _ c.from_residual.result c.from_residual.ensures.1 (λ e p. p) h
+    c.in_err-branches.ensures.told))
 
 pub if_statement-returns-in_err-otherwise-clause-told : goal.if_statement-returns-in_err-otherwise-clause-told
 if_statement-returns-in_err-otherwise-clause-told m c =
@@ -240,12 +197,11 @@ if_statement-returns-in_err-otherwise-clause-told m c =
     let i = c.args.conditional.now in
     let gs : each (steps.guarded s) (tree.conditionals_view (out-If c.args.conditional.now).branches) ≡ Some (branches_view c.in_ok-branches.branches) =
     ap (λ xs. each (steps.guarded s) (map tree.conditional_view xs)) (sym c.deref.ensures.value) ∙ c.in_ok-branches.ensures.given in
-    let h : Tells (broken.statement s l (tree.if_view c.args.conditional.now)) c.in_err-otherwise.field-0.0 =
-    by.if_else s l i c.in_err-otherwise.field-0.0 _ gs
+    told_by _ c.in_err-otherwise.field-0.0 _ c.from_residual-in_err-otherwise.result c.from_residual-in_err-otherwise.ensures.1 (λ e p. p)
+    (by.if_else s l i c.in_err-otherwise.field-0.0 _ gs
     (told_same _ _ c.in_err-otherwise.field-0.0
     (ap (λ x. broken.otherwise x (tree'.otherwise_of (tree.option_sequentials_view (out-If c.args.conditional.now).otherwise))) c.branches.ensures.kept)
-    c.in_err-otherwise.ensures.told) in
-    told_by _ c.in_err-otherwise.field-0.0 _ c.from_residual-in_err-otherwise.result c.from_residual-in_err-otherwise.ensures.1 (λ e p. p) h
+    c.in_err-otherwise.ensures.told))
 
 pub if_statement-returns-in_err-branches-2-clause-told : goal.if_statement-returns-in_err-branches-2-clause-told
 if_statement-returns-in_err-branches-2-clause-told m c =
@@ -254,190 +210,139 @@ if_statement-returns-in_err-branches-2-clause-told m c =
     let i = c.args.conditional.now in
     let gs : each (steps.guarded s) (tree.conditionals_view (out-If c.args.conditional.now).branches) ≡ Some (branches_view c.in_ok-branches.branches) =
     ap (λ xs. each (steps.guarded s) (map tree.conditional_view xs)) (sym c.deref.ensures.value) ∙ c.in_ok-branches.ensures.given in
-    let h : Tells (broken.statement s l (tree.if_view c.args.conditional.now)) c.in_err-branches-2.field-0.0 =
-    by.if_ends s l i c.in_err-branches-2.field-0.0 _ gs _
+    told_by _ c.in_err-branches-2.field-0.0 _ c.from_residual-in_err-branches-2.result c.from_residual-in_err-branches-2.ensures.1 (λ e p. p)
+    (by.if_ends s l i c.in_err-branches-2.field-0.0 _ gs _
     (ap (λ x. if_any (steps.all_labelled x) (tree.option_sequentials_view (out-If c.args.conditional.now).otherwise)) (sym c.branches.ensures.kept) ∙ c.in_ok-otherwise.ensures.given)
-    c.in_err-branches-2.ensures.told in
-    told_by _ c.in_err-branches-2.field-0.0 _ c.from_residual-in_err-branches-2.result c.from_residual-in_err-branches-2.ensures.1 (λ e p. p) h
+    c.in_err-branches-2.ensures.told)
 
 pub case_statement-returns-in_err-selected-clause-told : goal.case_statement-returns-in_err-selected-clause-told
 case_statement-returns-in_err-selected-clause-told m c =
     let s = sight_view c.args.sight.now in
     let l = tree.option_ident_view c.args.label.now in
-    let h : Tells (broken.statement s l (tree.case_view c.args.case.now)) c.in_err-selected.field-0.0 =
-    by.case_selector s l c.args.case.now c.in_err-selected.field-0.0 c.in_err-selected.ensures.told in
-    told_by _ c.in_err-selected.field-0.0 _ c.from_residual.result c.from_residual.ensures.1 (λ e p. p) h
+    told_by _ c.in_err-selected.field-0.0 _ c.from_residual.result c.from_residual.ensures.1 (λ e p. p)
+    (by.case_selector s l c.args.case.now c.in_err-selected.field-0.0 c.in_err-selected.ensures.told)
 
 pub case_statement-returns-in_err-alternatives-clause-told : goal.case_statement-returns-in_err-alternatives-clause-told
 case_statement-returns-in_err-alternatives-clause-told m c =
     let s = sight_view c.args.sight.now in
     let l = tree.option_ident_view c.args.label.now in
-    let h : Tells (broken.statement s l (tree.case_view c.args.case.now)) c.in_err-alternatives.field-0.0 =
-    by.case_parts s l c.args.case.now c.in_err-alternatives.field-0.0 _ c.in_ok-selected.ensures.given c.in_err-alternatives.ensures.told in
-    told_by _ c.in_err-alternatives.field-0.0 _ c.from_residual-in_err-alternatives.result c.from_residual-in_err-alternatives.ensures.1 (λ e p. p) h
+    told_by _ c.in_err-alternatives.field-0.0 _ c.from_residual-in_err-alternatives.result c.from_residual-in_err-alternatives.ensures.1 (λ e p. p)
+    (by.case_parts s l c.args.case.now c.in_err-alternatives.field-0.0 _ c.in_ok-selected.ensures.given c.in_err-alternatives.ensures.told)
 
 pub for_loop-returns-in_err-range-clause-told : goal.for_loop-returns-in_err-range-clause-told
 for_loop-returns-in_err-range-clause-told m c =
     let s = sight_view c.args.sight.now in
     let l = tree.option_ident_view c.args.label.now in
-    let h : Tells (broken.statement s l (tree.for_view c.args.repeated.now)) c.in_err-range.field-0.0 =
-    by.loop_range s l c.args.repeated.now c.in_err-range.field-0.0 c.in_err-range.ensures.told in
-    told_by _ c.in_err-range.field-0.0 _ c.from_residual.result c.from_residual.ensures.1 (λ e p. p) h
+    told_by _ c.in_err-range.field-0.0 _ c.from_residual.result c.from_residual.ensures.1 (λ e p. p)
+    (by.loop_range s l c.args.repeated.now c.in_err-range.field-0.0 c.in_err-range.ensures.told)
 
 pub for_loop-returns-in_err-turn-clause-told : goal.for_loop-returns-in_err-turn-clause-told
 for_loop-returns-in_err-turn-clause-told m c =
     let s = sight_view c.args.sight.now in
     let l = tree.option_ident_view c.args.label.now in
-    let h : Tells (broken.statement s l (tree.for_view c.args.repeated.now)) c.in_err-turn.field-0.0 =
-    by.loop_turn s l c.args.repeated.now c.in_err-turn.field-0.0 _ c.in_ok-range.ensures.given c.in_err-turn.ensures.told in
-    told_by _ c.in_err-turn.field-0.0 _ c.from_residual-in_err-turn.result c.from_residual-in_err-turn.ensures.1 (λ e p. p) h
+    told_by _ c.in_err-turn.field-0.0 _ c.from_residual-in_err-turn.result c.from_residual-in_err-turn.ensures.1 (λ e p. p)
+    (by.loop_turn s l c.args.repeated.now c.in_err-turn.field-0.0 _ c.in_ok-range.ensures.given c.in_err-turn.ensures.told)
 
 pub for_loop-returns-in_err-range-2-clause-told : goal.for_loop-returns-in_err-range-2-clause-told
 for_loop-returns-in_err-range-2-clause-told m c =
     let s = sight_view c.args.sight.now in
     let l = tree.option_ident_view c.args.label.now in
-    let h : Tells (broken.statement s l (tree.for_view c.args.repeated.now)) c.in_err-range-2.field-0.0 =
-    by.loop_ends s l c.args.repeated.now c.in_err-range-2.field-0.0 _ c.in_ok-range.ensures.given _ c.in_ok-turn.ensures.given c.in_err-range-2.ensures.told in
-    told_by _ c.in_err-range-2.field-0.0 _ c.from_residual-in_err-range-2.result c.from_residual-in_err-range-2.ensures.1 (λ e p. p) h
+    told_by _ c.in_err-range-2.field-0.0 _ c.from_residual-in_err-range-2.result c.from_residual-in_err-range-2.ensures.1 (λ e p. p)
+    (by.loop_ends s l c.args.repeated.now c.in_err-range-2.field-0.0 _ c.in_ok-range.ensures.given _ c.in_ok-turn.ensures.given c.in_err-range-2.ensures.told)
 
 pub branch-returns-in_err-condition-clause-told : goal.branch-returns-in_err-condition-clause-told
 branch-returns-in_err-condition-clause-told m c =
     let s = sight_view c.args.sight.now in
     let x = tree.conditional_view c.args.item.now in
-    let h : Tells (told.guarded s x) c.in_err-condition.field-0.0 =
-    told_left (condition s x.condition) (broken.statements s (tree'.statements_of x.statements)) c.in_err-condition.field-0.0 c.in_err-condition.ensures.told in
-    told_by _ c.in_err-condition.field-0.0 _ c.from_residual.result c.from_residual.ensures.1 (λ e p. p) h
+    told_by _ c.in_err-condition.field-0.0 _ c.from_residual.result c.from_residual.ensures.1 (λ e p. p)
+    (told_left (condition s x.condition) (broken.statements s (tree'.statements_of x.statements)) c.in_err-condition.field-0.0 c.in_err-condition.ensures.told)
 
 pub branch-returns-in_err-statements-clause-told : goal.branch-returns-in_err-statements-clause-told
 branch-returns-in_err-statements-clause-told m c =
     let s = sight_view c.args.sight.now in
     let x = tree.conditional_view c.args.item.now in
-    let h : Tells (told.guarded s x) c.in_err-statements.field-0.0 =
-    told_right (condition s x.condition) (broken.statements s (tree'.statements_of x.statements)) c.in_err-statements.field-0.0
+    told_by _ c.in_err-statements.field-0.0 _ c.from_residual-in_err-statements.result c.from_residual-in_err-statements.ensures.1 (λ e p. p)
+    (told_right (condition s x.condition) (broken.statements s (tree'.statements_of x.statements)) c.in_err-statements.field-0.0
     (condition_kept s x.condition _ c.in_ok-condition.ensures.given)
     (told_same _ _ c.in_err-statements.field-0.0 (ap (λ xs. broken.statements s (tree'.statements_of (map tree.sequential_view xs))) c.deref.ensures.value)
-    c.in_err-statements.ensures.told) in
-    told_by _ c.in_err-statements.field-0.0 _ c.from_residual-in_err-statements.result c.from_residual-in_err-statements.ensures.1 (λ e p. p) h
+    c.in_err-statements.ensures.told))
 
 pub alternative-returns-in_err-choices-clause-told : goal.alternative-returns-in_err-choices-clause-told
 alternative-returns-in_err-choices-clause-told m c =
     let s = sight_view c.args.sight.now in
     let x = tree.alternative_view c.args.item.now in
-    let h : Tells (told.alternative s c.args.selected x) c.in_err-choices.field-0.0 =
-    told_left (choices s c.args.selected x.choices) (broken.statements s (tree'.statements_of x.statements)) c.in_err-choices.field-0.0
-    (told_same _ _ c.in_err-choices.field-0.0 (ap (λ xs. choices s c.args.selected (map tree.choice_view xs)) c.deref.ensures.value) c.in_err-choices.ensures.told) in
-    told_by _ c.in_err-choices.field-0.0 _ c.from_residual.result c.from_residual.ensures.1 (λ e p. p) h
+    told_by _ c.in_err-choices.field-0.0 _ c.from_residual.result c.from_residual.ensures.1 (λ e p. p)
+    (told_left (choices s c.args.selected x.choices) (broken.statements s (tree'.statements_of x.statements)) c.in_err-choices.field-0.0
+    (told_same _ _ c.in_err-choices.field-0.0 (ap (λ xs. choices s c.args.selected (map tree.choice_view xs)) c.deref.ensures.value) c.in_err-choices.ensures.told))
 
 pub alternative-returns-in_err-statements-clause-told : goal.alternative-returns-in_err-statements-clause-told
 alternative-returns-in_err-statements-clause-told m c =
     let s = sight_view c.args.sight.now in
     let x = tree.alternative_view c.args.item.now in
-    let h : Tells (told.alternative s c.args.selected x) c.in_err-statements.field-0.0 =
-    told_right (choices s c.args.selected x.choices) (broken.statements s (tree'.statements_of x.statements)) c.in_err-statements.field-0.0
+    told_by _ c.in_err-statements.field-0.0 _ c.from_residual-in_err-statements.result c.from_residual-in_err-statements.ensures.1 (λ e p. p)
+    (told_right (choices s c.args.selected x.choices) (broken.statements s (tree'.statements_of x.statements)) c.in_err-statements.field-0.0
     (choices_kept s c.args.selected x.choices _ (ap (λ xs. are.choices s c.args.selected (map tree.choice_view xs)) (sym c.deref.ensures.value) ∙ c.in_ok-choices.ensures.given))
     (told_same _ _ c.in_err-statements.field-0.0 (ap (λ xs. broken.statements s (tree'.statements_of (map tree.sequential_view xs))) c.deref-2.ensures.value)
-    c.in_err-statements.ensures.told) in
-    told_by _ c.in_err-statements.field-0.0 _ c.from_residual-in_err-statements.result c.from_residual-in_err-statements.ensures.1 (λ e p. p) h
+    c.in_err-statements.ensures.told))
 
 pub otherwise-returns-in_err-statements-in-Some-clause-told : goal.otherwise-returns-in_err-statements-in-Some-clause-told
 otherwise-returns-in_err-statements-in-Some-clause-told m c =
     let s = sight_view c.args.sight.now in
-    let h : Tells (broken.otherwise s (tree'.otherwise_of (tree.option_sequentials_view (out-If c.args.conditional.now).otherwise))) c.in_err-statements-in-Some.field-0.0 =
-    told_same _ _ c.in_err-statements-in-Some.field-0.0
+    told_by _ c.in_err-statements-in-Some.field-0.0 _ c.from_residual.result c.from_residual.ensures.1 (λ e p. p)
+    (told_same _ _ c.in_err-statements-in-Some.field-0.0
     (ap (λ xs. broken.statements s (tree'.statements_of (map tree.sequential_view xs))) c.deref.ensures.value
     ∙ by.otherwise_done s (tree.sequentials_view c.in-Some.list)
     ∙ ap (λ o. broken.otherwise s (tree'.otherwise_of (tree.option_sequentials_view o))) (sym c.in-Some.is))
-    c.in_err-statements-in-Some.ensures.told in
-    told_by _ c.in_err-statements-in-Some.field-0.0 _ c.from_residual.result c.from_residual.ensures.1 (λ e p. p) h
+    c.in_err-statements-in-Some.ensures.told)
 
 pub case_parts-returns-in_err-all-clause-given : goal.case_parts-returns-in_err-all-clause-given
 case_parts-returns-in_err-all-clause-given m c =
-    let s = sight_view c.args.sight.now in
-    let k = c.args.selected in
-    let l = tree.option_ident_view c.args.label.now in
-    let xs = (out-Case c.args.case.now).alternatives.items in
-    let end = tree.option_ident_view (out-Case c.args.case.now).end_label in
-    let read = part.read s k xs _ _ _ _ _ _ c.deref.ensures.value c.deref-2.ensures.value c.deref-3.ensures.value c.in_ok-lists.ensures c.alternatives-all.ensures.kept
-    c.alternatives-all.ensures.given in
-    let none : c.in_err-all.field-0.0 ≢ NoMemory → cases.parts s k l (map tree.alternative_view xs) end ≡ None =
-    λ n. part.case_by s k (map tree.alternative_view xs) l end None (part.read_covering s k xs (sight_view c.alternatives-all.new.sight) (cases.all_lists c.deref-3.result.now) c.alternatives-all.result read None (λ found g h. c.in_err-all.ensures.given found g h n)) in
-    passed_on _ _ c.in_err-all.field-0.0 _ c.from_residual-in_err-all.result c.from_residual-in_err-all.ensures.1 (λ e p. p) none
+    let read = part.read (sight_view c.args.sight.now) c.args.selected (out-Case c.args.case.now).alternatives.items _ _ _ _ _ _ c.deref.ensures.value c.deref-2.ensures.value c.deref-3.ensures.value
+    c.in_ok-lists.ensures c.alternatives-all.ensures.kept c.alternatives-all.ensures.given in
+    passed_on _ _ c.in_err-all.field-0.0 _ c.from_residual-in_err-all.result c.from_residual-in_err-all.ensures.1 (λ e p. p)
+    (λ n. part.parts_uncovered (sight_view c.args.sight.now) c.args.selected (tree.option_ident_view c.args.label.now) c.args.case.now (sight_view c.alternatives-all.new.sight) (cases.all_lists c.deref-3.result.now) c.alternatives-all.result read (λ found g h. c.in_err-all.ensures.given found g h n))
 
 pub case_parts-returns-in_err-all-clause-told : goal.case_parts-returns-in_err-all-clause-told
 case_parts-returns-in_err-all-clause-told m c =
-    let s = sight_view c.args.sight.now in
-    let k = c.args.selected in
-    let l = tree.option_ident_view c.args.label.now in
-    let xs = (out-Case c.args.case.now).alternatives.items in
-    let end = tree.option_ident_view (out-Case c.args.case.now).end_label in
-    let at = (out-Case c.args.case.now).at in
-    let read = part.read s k xs _ _ _ _ _ _ c.deref.ensures.value c.deref-2.ensures.value c.deref-3.ensures.value c.in_ok-lists.ensures c.alternatives-all.ensures.kept
-    c.alternatives-all.ensures.given in
-    let h : Tells (told.parts s k l at (map tree.alternative_view xs) end) c.in_err-all.field-0.0 =
-    part.parts_cover s k (map tree.alternative_view xs) l end at c.in_err-all.field-0.0
-    (part.read_told s k xs _ _ _ read at _ c.in_err-all.field-0.0 c.deref-2.ensures.value c.alternatives-all.ensures.kept c.alternatives-all.ensures.told c.in_err-all.ensures.told) in
-    told_by _ c.in_err-all.field-0.0 _ c.from_residual-in_err-all.result c.from_residual-in_err-all.ensures.1 (λ e p. p) h
+    let read = part.read (sight_view c.args.sight.now) c.args.selected (out-Case c.args.case.now).alternatives.items _ _ _ _ _ _ c.deref.ensures.value c.deref-2.ensures.value c.deref-3.ensures.value
+    c.in_ok-lists.ensures c.alternatives-all.ensures.kept c.alternatives-all.ensures.given in
+    told_by _ c.in_err-all.field-0.0 _ c.from_residual-in_err-all.result c.from_residual-in_err-all.ensures.1 (λ e p. p)
+    (part.parts_cover (sight_view c.args.sight.now) c.args.selected (tree.alternatives_view (out-Case c.args.case.now).alternatives) (tree.option_ident_view c.args.label.now)
+    (tree.option_ident_view (out-Case c.args.case.now).end_label) (out-Case c.args.case.now).at c.in_err-all.field-0.0
+    (part.read_told (sight_view c.args.sight.now) c.args.selected (out-Case c.args.case.now).alternatives.items _ _ _ read (out-Case c.args.case.now).at _ c.in_err-all.field-0.0
+    c.deref-2.ensures.value c.alternatives-all.ensures.kept c.alternatives-all.ensures.told c.in_err-all.ensures.told))
 
 pub case_parts-returns-in_err-all-2-clause-given : goal.case_parts-returns-in_err-all-2-clause-given
 case_parts-returns-in_err-all-2-clause-given m c =
-    let s = sight_view c.args.sight.now in
-    let k = c.args.selected in
-    let l = tree.option_ident_view c.args.label.now in
-    let xs = (out-Case c.args.case.now).alternatives.items in
-    let end = tree.option_ident_view (out-Case c.args.case.now).end_label in
-    let read = part.read s k xs _ _ _ _ _ _ c.deref.ensures.value c.deref-2.ensures.value c.deref-3.ensures.value c.in_ok-lists.ensures c.alternatives-all.ensures.kept
-    c.alternatives-all.ensures.given in
-    let covered = part.read_covering s k xs (sight_view c.alternatives-all.new.sight) (cases.all_lists c.deref-3.result.now) c.alternatives-all.result read (Some (alternatives_view c.in_ok-all.all)) c.in_ok-all.ensures.given in
-    let none : c.in_err-all-2.field-0.0 ≢ NoMemory → cases.parts s k l (map tree.alternative_view xs) end ≡ None =
-    λ n. part.case_by s k (map tree.alternative_view xs) l end (Some (alternatives_view c.in_ok-all.all)) covered
-    ∙ ap (λ o. o >> cases.but_last (alternatives_view c.in_ok-all.all)) (c.in_err-all-2.ensures.asked n) in
-    passed_on _ _ c.in_err-all-2.field-0.0 _ c.from_residual-in_err-all-2.result c.from_residual-in_err-all-2.ensures.1 (λ e p. p) none
+    let read = part.read (sight_view c.args.sight.now) c.args.selected (out-Case c.args.case.now).alternatives.items _ _ _ _ _ _ c.deref.ensures.value c.deref-2.ensures.value c.deref-3.ensures.value
+    c.in_ok-lists.ensures c.alternatives-all.ensures.kept c.alternatives-all.ensures.given in
+    passed_on _ _ c.in_err-all-2.field-0.0 _ c.from_residual-in_err-all-2.result c.from_residual-in_err-all-2.ensures.1 (λ e p. p)
+    (λ n. part.parts_covered (sight_view c.args.sight.now) c.args.selected (tree.option_ident_view c.args.label.now) c.args.case.now (sight_view c.alternatives-all.new.sight) (cases.all_lists c.deref-3.result.now) c.alternatives-all.result read (alternatives_view c.in_ok-all.all) c.in_ok-all.ensures.given
+    ∙ ap (λ o. o >> cases.but_last (alternatives_view c.in_ok-all.all)) (c.in_err-all-2.ensures.asked n))
 
 pub case_parts-returns-in_err-all-2-clause-told : goal.case_parts-returns-in_err-all-2-clause-told
 case_parts-returns-in_err-all-2-clause-told m c =
-    let s = sight_view c.args.sight.now in
-    let k = c.args.selected in
-    let l = tree.option_ident_view c.args.label.now in
-    let xs = (out-Case c.args.case.now).alternatives.items in
-    let end = tree.option_ident_view (out-Case c.args.case.now).end_label in
-    let at = (out-Case c.args.case.now).at in
-    let read = part.read s k xs _ _ _ _ _ _ c.deref.ensures.value c.deref-2.ensures.value c.deref-3.ensures.value c.in_ok-lists.ensures c.alternatives-all.ensures.kept
-    c.alternatives-all.ensures.given in
-    let covered = part.read_covering s k xs (sight_view c.alternatives-all.new.sight) (cases.all_lists c.deref-3.result.now) c.alternatives-all.result read (Some (alternatives_view c.in_ok-all.all)) c.in_ok-all.ensures.given in
-    let h : Tells (told.parts s k l at (map tree.alternative_view xs) end) c.in_err-all-2.field-0.0 =
-    part.parts_ends s k (map tree.alternative_view xs) l end at c.in_err-all-2.field-0.0 (alternatives_view c.in_ok-all.all) covered c.in_err-all-2.ensures.told in
-    told_by _ c.in_err-all-2.field-0.0 _ c.from_residual-in_err-all-2.result c.from_residual-in_err-all-2.ensures.1 (λ e p. p) h
+    let read = part.read (sight_view c.args.sight.now) c.args.selected (out-Case c.args.case.now).alternatives.items _ _ _ _ _ _ c.deref.ensures.value c.deref-2.ensures.value c.deref-3.ensures.value
+    c.in_ok-lists.ensures c.alternatives-all.ensures.kept c.alternatives-all.ensures.given in
+    told_by _ c.in_err-all-2.field-0.0 _ c.from_residual-in_err-all-2.result c.from_residual-in_err-all-2.ensures.1 (λ e p. p)
+    (part.told_ends (sight_view c.args.sight.now) c.args.selected (tree.option_ident_view c.args.label.now) c.args.case.now (sight_view c.alternatives-all.new.sight) (cases.all_lists c.deref-3.result.now) c.alternatives-all.result read (alternatives_view c.in_ok-all.all) c.in_ok-all.ensures.given c.in_err-all-2.field-0.0 c.in_err-all-2.ensures.told)
 
 pub case_parts-returns-clause-given : goal.case_parts-returns-clause-given
 case_parts-returns-clause-given m c =
-    let s = sight_view c.args.sight.now in
-    let k = c.args.selected in
-    let l = tree.option_ident_view c.args.label.now in
-    let xs = (out-Case c.args.case.now).alternatives.items in
-    let end = tree.option_ident_view (out-Case c.args.case.now).end_label in
-    let read = part.read s k xs _ _ _ _ _ _ c.deref.ensures.value c.deref-2.ensures.value c.deref-3.ensures.value c.in_ok-lists.ensures c.alternatives-all.ensures.kept
-    c.alternatives-all.ensures.given in
-    let covered = part.read_covering s k xs (sight_view c.alternatives-all.new.sight) (cases.all_lists c.deref-3.result.now) c.alternatives-all.result read (Some (alternatives_view c.in_ok-all.all)) c.in_ok-all.ensures.given in
+    let read = part.read (sight_view c.args.sight.now) c.args.selected (out-Case c.args.case.now).alternatives.items _ _ _ _ _ _ c.deref.ensures.value c.deref-2.ensures.value c.deref-3.ensures.value
+    c.in_ok-lists.ensures c.alternatives-all.ensures.kept c.alternatives-all.ensures.given in
     gives_along _ _ _ _
-    (part.case_by s k (map tree.alternative_view xs) l end (Some (alternatives_view c.in_ok-all.all)) covered
-    ∙ ap (λ o. o >> cases.but_last (alternatives_view c.in_ok-all.all)) c.in_ok-all-2.ensures.asked
-    ∙ ap (λ v. cases.but_last (alternatives_view v)) (sym c.in_ok-all-2.ensures.same))
+    (part.parts_covered (sight_view c.args.sight.now) c.args.selected (tree.option_ident_view c.args.label.now) c.args.case.now (sight_view c.alternatives-all.new.sight) (cases.all_lists c.deref-3.result.now) c.alternatives-all.result read (alternatives_view c.in_ok-all.all) c.in_ok-all.ensures.given
+    ∙ ap (λ o. o >> cases.but_last (alternatives_view c.in_ok-all.all)) c.in_ok-all-2.ensures.asked ∙ ap (λ v. cases.but_last (alternatives_view v)) (sym c.in_ok-all-2.ensures.same))
     c.but_last.ensures.given
 
 pub case_parts-returns-clause-told : goal.case_parts-returns-clause-told
 case_parts-returns-clause-told m c =
-    let s = sight_view c.args.sight.now in
-    let k = c.args.selected in
-    let l = tree.option_ident_view c.args.label.now in
-    let xs = (out-Case c.args.case.now).alternatives.items in
-    let end = tree.option_ident_view (out-Case c.args.case.now).end_label in
-    let at = (out-Case c.args.case.now).at in
-    let read = part.read s k xs _ _ _ _ _ _ c.deref.ensures.value c.deref-2.ensures.value c.deref-3.ensures.value c.in_ok-lists.ensures c.alternatives-all.ensures.kept
-    c.alternatives-all.ensures.given in
-    let covered = part.read_covering s k xs (sight_view c.alternatives-all.new.sight) (cases.all_lists c.deref-3.result.now) c.alternatives-all.result read (Some (alternatives_view c.in_ok-all.all)) c.in_ok-all.ensures.given in
-    told_on _ (told.parts s k l at (map tree.alternative_view xs) end) _
-    (λ f h. part.parts_none s k (map tree.alternative_view xs) l end at f (alternatives_view c.in_ok-all.all) covered c.in_ok-all-2.ensures.asked
-    (told_same _ _ f (ap (λ v. any_alternative at (alternatives_view v)) c.in_ok-all-2.ensures.same) h))
+    let read = part.read (sight_view c.args.sight.now) c.args.selected (out-Case c.args.case.now).alternatives.items _ _ _ _ _ _ c.deref.ensures.value c.deref-2.ensures.value c.deref-3.ensures.value
+    c.in_ok-lists.ensures c.alternatives-all.ensures.kept c.alternatives-all.ensures.given in
+    told_on _ _ _
+    (λ f h. part.told_none (sight_view c.args.sight.now) c.args.selected (tree.option_ident_view c.args.label.now) c.args.case.now (sight_view c.alternatives-all.new.sight) (cases.all_lists c.deref-3.result.now) c.alternatives-all.result read (alternatives_view c.in_ok-all.all) c.in_ok-all.ensures.given f c.in_ok-all-2.ensures.asked
+    (told_same _ _ f (ap (λ v. any_alternative (out-Case c.args.case.now).at (alternatives_view v)) c.in_ok-all-2.ensures.same) h))
     c.but_last.ensures.told
 
 pub statements-loop-item-init : goal.statements-loop-item-init
