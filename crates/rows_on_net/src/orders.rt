@@ -40,7 +40,11 @@ const ROWS: &[(&str, &Course, Order)] = &[
         THREE_REGISTERS,
         Order::Forward,
     ),
-    ("registers, reverse", THREE_REGISTERS, Order::Reverse),
+    (
+        "registers, reverse: clk, d, q1, q2, q3",
+        THREE_REGISTERS,
+        Order::Reverse,
+    ),
     ("registers, from the middle", THREE_REGISTERS, Order::Middle),
     (
         "registers, the clock rises and falls in one cycle",
