@@ -25,3 +25,4 @@ pub mod Inputs
 pub mod Settling
 pub mod Kept
 pub mod Started
+pub mod Touching

@@ -9,6 +9,7 @@ ghost use Rattle.rtl_net.specs.Nets.{flat};
 ghost use Rattle.rtl_kernel.specs.kernel.Simulation.{changes_of, initial_inputs};
 ghost use Rattle.rtl_kernel.specs.kernel.Kept.{RunBodies};
 ghost use Rattle.rtl_kernel.specs.kernel.Picked.{IsAt, HasRunAsPicked, HasDeltasAsPicked};
+ghost use Rattle.rtl_net_layout.specs.Touching.{Touches};
 
 use crate::both::both;
 use crate::cutting::driver_cuts;
@@ -22,7 +23,7 @@ use crate::wakes::alone_groups;
 use crate::worklist::Worklist;
 use rtl_eval::Exec;
 use rtl_net::Net;
-use rtl_net_layout::Cuts;
+use rtl_net_layout::{Cuts, Touched};
 use std::alloc::{AllocError, Global};
 use std::marker::Model;
 use vhdl_values::Nine;
@@ -139,6 +140,18 @@ impl<'a, E: Exec> Kernel<'a, E> {
         ensures as_many { length result.now ≡ length self.now.net.types }
     {
         self.values.before()
+    }
+
+    /// Marks the chunks of the nets that may have an event: in time that goes by the groups of those that have one.
+    pub fn mark_changed(&self, touched: &mut Touched)
+        requires { touched.old.nets ≡ length self.now.net.types }
+        ensures { Touches touched.old touched.new self.now.state.before self.now.state.now }
+    {
+        let groups = self.values.groups();
+        let changed = self.values.changed().groups;
+        for group in changed {
+            touched.mark_run(groups.first(*group), groups.end(*group));
+        }
     }
 
     /// Whether no driver is active.

@@ -18,3 +18,4 @@ pub mod FirstMoment
 pub mod Saying
 pub mod Alike
 pub mod levels
+pub mod Touching

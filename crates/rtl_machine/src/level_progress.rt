@@ -1,6 +1,9 @@
 //! How far a run has come.
 
 ghost use Rattle.std.specs.Prelude.{◌≡◌, ◌+◌, ◌<◌, length, if◌then◌else◌};
+ghost use Rattle.rtl_net_layout.specs.Touching.{KeepsLeft};
+
+use rtl_net_layout::Touched;
 
 /// How far a run has come: the time of the last moment so far, the values of the nets then, the last time that was printed, and
 /// how many moments there were.
@@ -13,9 +16,12 @@ pub(crate) struct Progress {
 }
 
 impl Progress {
-    /// Adds a moment at this time, with these values; something was printed, or nothing.
-    pub(crate) fn add(&mut self, time: u64, values: &[u8], is_printed: bool)
+    /// Adds a moment at this time, with these values, which differ from those before in marked chunks at most; something was printed, or
+    /// nothing.
+    pub(crate) fn add(&mut self, time: u64, touched: &Touched, values: &[u8], is_printed: bool)
         requires as_many { length values.now ≡ length self.old.shown.items }
+        requires nets { touched.now.nets ≡ length values.now }
+        requires left { KeepsLeft touched.now self.old.shown.items values.now }
         requires room { self.old.moments < 18446744073709551615 }
         ensures now { self.new.now ≡ time }
         ensures shown { self.new.shown.items ≡ values.now }
@@ -23,7 +29,7 @@ impl Progress {
         ensures moments { self.new.moments ≡ self.old.moments + 1 }
     {
         self.now = time;
-        self.shown.copy_from_slice(values);
+        touched.bring(values, &mut self.shown);
         if is_printed {
             self.printed = time;
         }

@@ -14,6 +14,7 @@ ghost use Rattle.rtl_machine.specs.declared.summary.RunFault.TheVariants.{NoSett
 ghost use Rattle.rtl_machine.specs.simulations.Answered.{Answers};
 ghost use Rattle.rtl_machine.specs.simulations.Running.{HasBegun, Begins, HasCome, IsNextMoment, GoesOn};
 ghost use Rattle.rtl_net.specs.Core.{core};
+ghost use Rattle.rtl_net_layout.specs.Touching.{Touches};
 ghost use Rattle.rtl_machine.specs.simulations.Watched.{AreStands, IsToldAll, WasTold};
 ghost use Rattle.rtl_sink.specs.Stands.{Stand};
 
@@ -22,6 +23,7 @@ use crate::summary::{RunFault, Summary};
 use rtl_eval::Exec;
 use rtl_kernel::{Kernel, Pick};
 use rtl_net::Net;
+use rtl_net_layout::Touched;
 use rtl_sink::{Sink, Unwatched, Watch};
 use rtl_stim::{Agenda, Stimulus};
 use rtl_vcd::{Blocks, end, first, header};
@@ -40,7 +42,7 @@ pub struct Simulation<'a, E: Exec> {
 impl<E: Exec> Simulation<'_, E> {
     /// Simulates from 0 to the stimulus's stop, and writes the trace. The agenda is new: nothing waits in it.
     ///
-    /// It takes the kernel's memory, the agenda's, that of the names' blocks, and a byte for each net.
+    /// It takes the kernel's memory, the agenda's, that of the names' blocks, a byte for each net, and one for each 256.
     ///
     /// # Errors
     ///
@@ -153,12 +155,14 @@ impl<E: Exec> Simulation<'_, E> {
         ensures ready { HasNoneToRun kernel.new.state }
         ensures begins { (start : SinkState) → HasBegun self.now.net.now self.now.stimulus.now self.now.limit start (W.state out.old) kernel.old.state
             → Begins self.now.net.now self.now.stimulus.now self.now.limit start (W.state out.new) kernel.new.state result }
+        ensures nets { IfOk result (λ p. p.touched.nets ≡ length self.now.net.now.types) }
         ensures untold { IfOk result (λ _. watch.new ≡ watch.old) }
         ensures failing { (start : V) → Begun (core self.now.net.now) (inputs_at self.now.stimulus.now) 0 kernel.old.state → V.told start [] watch.old
             → IfErr result (λ fault. WasTold self.now.net.now self.now.stimulus.now self.now.limit (λ stands. V.told start stands watch.new)
             (λ stands before now time. V.stuck start stands before now time watch.new) fault) }
     {
-        let deltas = settle(kernel, self.limit, 0, pick, watch)?;
+        let mut touched = Touched::new(alloc, self.net.nets())?;
+        let deltas = settle(kernel, self.limit, 0, &mut touched, pick, watch)?;
         first(self.net, kernel.values(), out)?;
         Ok(Progress {
             now: 0,
@@ -168,6 +172,7 @@ impl<E: Exec> Simulation<'_, E> {
                 moments: 1,
                 most_deltas: deltas,
             },
+            touched,
         })
     }
 
@@ -187,10 +192,13 @@ impl<E: Exec> Simulation<'_, E> {
         requires ready { HasNoneToRun kernel.old.state }
         requires intact { IsIntact (W.state out.old) }
         requires as_many { length progress.old.values.items ≡ length self.now.net.now.types }
+        requires nets { progress.old.touched.nets ≡ length self.now.net.now.types }
+        requires before { kernel.old.state.before ≡ progress.old.values.items }
         requires room { progress.old.summary.moments < 18446744073709551615 }
         ensures net { kernel.new.net ≡ kernel.old.net }
         ensures ready { HasNoneToRun kernel.new.state }
         ensures as_many { length progress.new.values.items ≡ length self.now.net.now.types }
+        ensures nets { progress.new.touched.nets ≡ length self.now.net.now.types }
         ensures goes_on { (start : SinkState) → HasCome self.now.net.now self.now.stimulus.now self.now.limit start (W.state out.old) progress.old
             → IsNextMoment self.now.net.now self.now.stimulus.now self.now.limit progress.old time kernel.old.state
             → GoesOn self.now.net.now self.now.stimulus.now self.now.limit start (W.state out.new) progress.old time progress.new kernel.new.state result }
@@ -201,36 +209,53 @@ impl<E: Exec> Simulation<'_, E> {
             → IfErr result (λ fault. WasTold self.now.net.now self.now.stimulus.now self.now.limit (λ stands. V.told start stands watch.new)
             (λ stands before now time. V.stuck start stands before now time watch.new) fault) }
     {
-        let deltas = settle(kernel, self.limit, time, pick, watch)?;
-        let is_printed = blocks.moment(time, &progress.values, kernel.values(), out)?;
+        progress.touched.forget();
+        kernel.mark_changed(&mut progress.touched);
+        let deltas = settle(kernel, self.limit, time, &mut progress.touched, pick, watch)?;
+        let is_printed = blocks.moment(
+            time,
+            &progress.touched,
+            &progress.values,
+            kernel.values(),
+            out,
+        )?;
         progress.add(time, kernel.values(), deltas, is_printed);
         Ok(())
     }
 }
 
 /// Delta cycles until no driver is active, at most so many; it is the moment at this time. The watch is told where they don't suffice.
+/// The chunks of the nets that change are marked.
 fn settle<E: Exec, P: Pick, V: Watch>(
     kernel: &mut Kernel<'_, E>,
     limit: u32,
     time: u64,
+    touched: &mut Touched,
     pick: &mut P,
     watch: &mut V,
 ) -> Result<u32, RunFault>
     requires ready { HasNoneToRun kernel.old.state }
+    requires nets { touched.old.nets ≡ length kernel.old.net.types }
     ensures net { kernel.new.net ≡ kernel.old.net }
     ensures ready { HasNoneToRun kernel.new.state }
     ensures settled { MatchResult result
         (λ deltas. SettlesTo (core kernel.old.net) kernel.old.state deltas kernel.new.state × (deltas ≤ limit))
         (λ fault. (fault ≡ NoSettling time) × IsUnsettled (core kernel.old.net) kernel.old.state limit kernel.new.state) }
+    ensures touched { Touches touched.old touched.new kernel.old.state.now kernel.new.state.now }
     ensures untold { IfOk result (λ _. watch.new ≡ watch.old) }
     ensures stuck { IfErr result (λ _. (start : V) (stands : List Stand) → V.told start stands watch.old
         → V.stuck start stands kernel.new.state.before kernel.new.state.now time watch.new) }
 {
-    match kernel.settle(limit, pick) {
-        Ok(deltas) => Ok(deltas),
-        Err(_) => {
-            watch.unsettled(kernel.before(), kernel.values(), time);
-            Err(RunFault::NoSettling { time })
+    for deltas in 0..limit {
+        if kernel.is_quiet() {
+            return Ok(deltas);
         }
+        kernel.cycle(pick);
+        kernel.mark_changed(touched);
     }
+    if kernel.is_quiet() {
+        return Ok(limit);
+    }
+    watch.unsettled(kernel.before(), kernel.values(), time);
+    Err(RunFault::NoSettling { time })
 }

@@ -1,12 +1,13 @@
 //! The run of a machine, moment by moment.
 
-ghost use Rattle.std.specs.Prelude.{◌≡◌, ℕ, ◌<◌, List, [], length, None, IfErr, IfOk};
+ghost use Rattle.std.specs.Prelude.{◌≡◌, ℕ, ◌<◌, List, [], length, None, IfErr, IfOk, OnOk};
 ghost use Rattle.rtl_kernel.specs.kernel.Kept.{RunBodies};
 ghost use Rattle.rtl_model.specs.simulation.Levels.{AreLevels};
 ghost use Rattle.rtl_stim.specs.Ports.{HasOwnPorts, inputs_of};
 ghost use Rattle.rtl_stim.specs.Stimuli.{inputs_at};
 ghost use Rattle.rtl_net.specs.Nets.{flat};
 ghost use Rattle.rtl_net.specs.Core.{core};
+ghost use Rattle.rtl_net_layout.specs.Touching.{KeepsLeft};
 ghost use Rattle.rtl_sink.specs.Written.{SinkState, IsIntact};
 ghost use Rattle.rtl_stim_lines.specs.Filling.{Waits};
 ghost use Rattle.rtl_machine.specs.Watched.{IsToldRun, IsToldRunFirst};
@@ -132,6 +133,7 @@ impl<E: Exec> Stepping<'_, E> {
             → machine.now.values ≡ run 0
             → Begins self.now.net.now self.now.stimulus.now run self.now.bound (W.state out.old) (W.state out.new) result }
         ensures as_many { IfOk result (λ p. length p.shown.items ≡ length self.now.net.now.types) }
+        ensures shown { IfOk result (λ p. p.shown.items ≡ machine.now.values) }
     {
         header(self.net, out)?;
         first(self.net, machine.values(), out)?;
@@ -156,16 +158,19 @@ impl<E: Exec> Stepping<'_, E> {
         requires net { machine.now.net ≡ self.now.net.now }
         requires intact { IsIntact (W.state out.old) }
         requires as_many { length progress.old.shown.items ≡ length self.now.net.now.types }
+        requires left { KeepsLeft machine.now.touched progress.old.shown.items machine.now.values }
         requires room { progress.old.moments < 18446744073709551615 }
         ensures as_many { length progress.new.shown.items ≡ length self.now.net.now.types }
+        ensures shown { OnOk result (progress.new.shown.items ≡ machine.now.values) }
         ensures goes_on { (run : ℕ → List ℕ) → IsSynchronous (core self.now.net.now) self.now.bound (inputs_at self.now.stimulus.now) run
             → (start : SinkState) → IsIntact start
             → HasCome self.now.net.now self.now.stimulus.now run start (W.state out.old) progress.old
             → IsNext self.now.net.now self.now.stimulus.now run progress.old time machine.now.values
             → GoesOn self.now.net.now self.now.stimulus.now run self.now.bound start (W.state out.new) progress.old time progress.new result }
     {
-        let is_printed = blocks.moment(time, &progress.shown, machine.values(), out)?;
-        progress.add(time, machine.values(), is_printed);
+        let touched = machine.touched();
+        let is_printed = blocks.moment(time, touched, &progress.shown, machine.values(), out)?;
+        progress.add(time, touched, machine.values(), is_printed);
         Ok(())
     }
 }

@@ -5,3 +5,4 @@ pub mod Listing
 pub mod Alike
 pub mod Cutting
 pub mod Ends
+pub mod Bringing

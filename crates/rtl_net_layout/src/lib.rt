@@ -1,5 +1,6 @@
 //! Nets that stand together: groups of nets that the same processes are listed for (`Groups`), and the runs of a process's
-//! drivers whose nets stand one behind the other in such a group (`Cuts`). Who goes over them handles vectors at once.
+//! drivers whose nets stand one behind the other in such a group (`Cuts`). Who goes over them handles vectors at once. And marks of
+//! those that may have changed (`Touched`), so that who comes behind needn't look at the others.
 #![tactic(auto)]
 
 mod beginnings;
@@ -8,7 +9,11 @@ mod groups;
 mod listed;
 mod lists;
 mod runs;
+mod search;
+mod touched;
 
 pub use cuts::{Cut, Cuts};
 pub use groups::Groups;
 pub use lists::Lists;
+pub use search::next_marked;
+pub use touched::Touched;

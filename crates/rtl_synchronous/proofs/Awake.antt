@@ -19,7 +19,7 @@ use Rattle.rtl_net.specs.Nets.{NetlistView, body_of, process_view}
 use Rattle.rtl_net.specs.declared.process.Process.{Process}
 use Rattle.rtl_net_facts.specs.Timing.{kind_view, part_net}
 use Rattle.rtl_synchronous.specs.declared.awaited.ClockEdge.{ClockEdge}
-use Rattle.rtl_synchronous.specs.Marks.{AreUnmarked}
+use Rattle.rtl_net_layout.specs.NextMarks.{AreUnmarked}
 use Rattle.rtl_synchronous.specs.Scheduled.{AreEdges, IsAsleep, IsNext, edge_alone, unless_reset}
 use Rattle.rtl_synchronous.specs.Steps.{AllTakeOver, HaveRun, IsDrivenByMarked}
 use Rattle.rtl_synchronous.proofs.Settling.{one_process}

@@ -20,3 +20,4 @@ pub mod Rooms
 pub mod Wired
 pub mod Machines
 pub mod Ordering
+pub mod Touching

@@ -9,7 +9,8 @@ use Rattle.rtl_model.specs.simulation.Elaborated.{IsElaborated}
 use Rattle.rtl_model.specs.simulation.Accepted.{IsAccepted, Feeds}
 use Rattle.rtl_model.proofs.simulation.Faultless.{faultless}
 use Rattle.rtl_synchronous.specs.Running.{IsSettled, IsWritten}
-use Rattle.rtl_synchronous.specs.Marks.{Marks, Follows, AreBelow, AreUnmarked, HasNoMark}
+use Rattle.rtl_net_layout.specs.NextMarks.{AreUnmarked}
+use Rattle.rtl_synchronous.specs.Marks.{Marks, Follows, AreBelow, HasNoMark}
 use Rattle.rtl_synchronous.specs.Scheduled.{IsSchedule, wakes_by_rank}
 use Rattle.rtl_synchronous.specs.Steps.{IsSwept, IsCombinationallyDriven}
 use Rattle.rtl_synchronous.proofs.Settling.{each_run_settles}

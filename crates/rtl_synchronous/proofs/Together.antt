@@ -9,7 +9,7 @@ use Rattle.rtl_model.specs.simulation.Machine.{entry_or}
 use Rattle.rtl_model.specs.simulation.Range.{IsValuation, limit}
 use Rattle.rtl_model.proofs.simulation.Leveled.{Leveled}
 use Rattle.rtl_model.proofs.simulation.Range.{entry_or_below}
-use Rattle.rtl_synchronous.specs.Marks.{AreUnmarked}
+use Rattle.rtl_net_layout.specs.NextMarks.{AreUnmarked}
 use Rattle.rtl_synchronous.specs.Running.{TakesOver}
 use Rattle.rtl_synchronous.specs.Steps.{AllTakeOver}
 use Rattle.rtl_synchronous.proofs.Settling.{one_process}

@@ -28,14 +28,3 @@ pub record IsOfRun (first len net : ℕ) : Type 0 where
 -- none is marked
 abbrev pub HasNoMark : List Bool → Type 0
 HasNoMark marks = (k : ℕ) → slice_index_or marks k false ≡ false
-
--- none of the places from this one on and before an end is marked
-abbrev pub AreUnmarked : List Bool → (from end : ℕ) → Type 0
-AreUnmarked marks from end = (k : ℕ) → from ≤ k → k < end → slice_index_or marks k false ≡ false
-
--- the first marked place from this one on and before an end, or the end
-pub record IsNextMark (marks : List Bool) (from end next : ℕ) : Type 0 where
-  pub later : from ≤ next
-  pub within : next ≤ end
-  pub unmarked : AreUnmarked marks from next
-  pub marked : next < end → IsTrue (slice_index_or marks next false)

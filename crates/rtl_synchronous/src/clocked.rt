@@ -11,6 +11,7 @@ ghost use Rattle.rtl_kernel.specs.drivers.Transactions.{no_outcome};
 ghost use Rattle.rtl_kernel.specs.wakes.Woken.{wakers_of};
 ghost use Rattle.rtl_net.specs.Nets.{flat};
 ghost use Rattle.rtl_net.specs.Core.{core};
+ghost use Rattle.rtl_net_layout.specs.Touching.{Touches};
 ghost use Rattle.rtl_synchronous.specs.Kept.{HasCuts, MayRun};
 ghost use Rattle.rtl_synchronous.specs.Marks.{AreBelow, HasNoMark, Marks};
 ghost use Rattle.rtl_synchronous.specs.Scheduled.{AreEdges, AreLeaders, AreNexts};
@@ -22,6 +23,7 @@ use crate::running::run;
 use crate::schedule::Schedule;
 use rtl_eval::{Drives, Exec};
 use rtl_net::Net;
+use rtl_net_layout::Touched;
 
 /// Runs the marked processes, and takes the marks off those that would assign nothing since the edge that they act at isn't there.
 /// Nothing is taken over, so each of them reads what was there before any of them ran.
@@ -74,6 +76,7 @@ pub fn take_marked(
     marked: &mut Vec<bool>,
     values: &mut Vec<u8>,
     dirty: &mut Vec<bool>,
+    touched: &mut Touched,
 )
     requires elaborated { IsElaborated (core net.now) }
     requires accepted { IsAccepted (core net.now) }
@@ -88,9 +91,11 @@ pub fn take_marked(
     requires clocked { (p : ℕ) → IsTrue (slice_index_or marked.old.items p false) → IsCombinational (core net.now) p → ⊥ }
     requires each_net { length (wakers_of schedule.now.readers) ≡ length values.old.items }
     requires below { AreBelow (wakers_of schedule.now.readers) (length dirty.old.items) }
+    requires nets { touched.old.nets ≡ length values.old.items }
     ensures taken { AllTakeOver (core net.now) marked.old.items (λ p. (slice_index_or runs.now p no_outcome).entries) values.old.items values.new.items }
     ensures in_range { IsValuation (core net.now) values.new.items }
     ensures dirty { Marks (wakers_of schedule.now.readers) (λ _. ⊤) values.old.items values.new.items dirty.old.items dirty.new.items }
+    ensures touched { Touches touched.old touched.new values.old.items values.new.items }
     ensures each_process { length marked.new.items ≡ length marked.old.items }
     ensures none_marked { HasNoMark marked.new.items }
 {
@@ -99,7 +104,15 @@ pub fn take_marked(
     while process < marked.len() {
         if marked[process] {
             marked[process] = false;
-            take_over(net, schedule, process, &runs[process], values, dirty);
+            take_over(
+                net,
+                schedule,
+                process,
+                &runs[process],
+                values,
+                dirty,
+                touched,
+            );
         }
         process = nexts[process + 1];
     }

@@ -12,6 +12,7 @@ ghost use Rattle.rtl_kernel.specs.drivers.Updates.{IsTaken};
 ghost use Rattle.rtl_kernel.specs.wakes.Woken.{AreDifferent, wakers_of};
 ghost use Rattle.rtl_net.specs.Core.{core};
 ghost use Rattle.rtl_net.specs.Nets.{flat};
+ghost use Rattle.rtl_net_layout.specs.Touching.{Touches};
 ghost use Rattle.rtl_synchronous.specs.Kept.{HasCuts};
 ghost use Rattle.rtl_synchronous.specs.Marks.{AreBelow, Marks};
 ghost use Rattle.rtl_synchronous.specs.Pieces.{AreCutFor, IsPiece};
@@ -21,10 +22,10 @@ use crate::marks::{set_run, set_short};
 use crate::schedule::Schedule;
 use rtl_eval::{Drives, Span};
 use rtl_net::{Driver, Net};
-use rtl_net_layout::Groups;
+use rtl_net_layout::{Groups, Touched};
 
-/// Gives the nets of a process's drivers the entries that a run has left, and marks what is sensitive to those that change. If its
-/// drivers are one cut, nothing is looked up for a place.
+/// Gives the nets of a process's drivers the entries that a run has left, and marks what is sensitive to those that change, and
+/// their chunks. If its drivers are one cut, nothing is looked up for a place.
 #[inline(always)]
 pub fn take_over(
     net: &Net,
@@ -33,6 +34,7 @@ pub fn take_over(
     outcome: &Drives,
     values: &mut Vec<u8>,
     marks: &mut Vec<bool>,
+    touched: &mut Touched,
 )
     requires elaborated { IsElaborated (core net.now) }
     requires accepted { IsAccepted (core net.now) }
@@ -42,15 +44,17 @@ pub fn take_over(
     requires cuts { HasCuts net.now schedule.now }
     requires each_net { length (wakers_of schedule.now.readers) ≡ length values.old.items }
     requires below { AreBelow (wakers_of schedule.now.readers) (length marks.old.items) }
+    requires nets { touched.old.nets ≡ length values.old.items }
     ensures taken { TakesOver (process (core net.now) number).drives outcome.now.entries values.old.items values.new.items }
     ensures marks { Marks (wakers_of schedule.now.readers) (Contains (process (core net.now) number).drives) values.old.items values.new.items marks.old.items marks.new.items }
+    ensures touched { Touches touched.old touched.new values.old.items values.new.items }
 {
     match schedule.wholes[number] {
-        Some(first) => take_whole(&schedule.readers, first, outcome, values, marks),
+        Some(first) => take_whole(&schedule.readers, first, outcome, values, marks, touched),
         None => {
             let processes = net.processes();
             let drives = processes[number].drives.as_slice();
-            take_spans(drives, schedule, number, outcome, values, marks);
+            take_spans(drives, schedule, number, outcome, values, marks, touched);
         }
     }
 }
@@ -63,21 +67,31 @@ fn take_whole(
     outcome: &Drives,
     values: &mut Vec<u8>,
     marks: &mut Vec<bool>,
+    touched: &mut Touched,
 )
     requires there { first + length outcome.now.entries ≤ length values.old.items }
     requires together { (k : ℕ) → k < length outcome.now.entries → slice_index readers.now.of_net (first + k) ≡ slice_index readers.now.of_net first }
     requires each_net { length (wakers_of readers.now) ≡ length values.old.items }
     requires below { AreBelow (wakers_of readers.now) (length marks.old.items) }
+    requires nets { touched.old.nets ≡ length values.old.items }
     ensures taken { TakesOver (range_with_len first (length outcome.now.entries)) outcome.now.entries values.old.items values.new.items }
     ensures marks { Marks (wakers_of readers.now) (Contains (range_with_len first (length outcome.now.entries))) values.old.items values.new.items marks.old.items marks.new.items }
+    ensures touched { Touches touched.old touched.new values.old.items values.new.items }
 {
     let spans = outcome.assigned();
     if spans.len() == 1 {
         let span = spans[0];
         let assigned = outcome.values(span);
-        set_short(readers, first + span.first, assigned, values, marks);
+        set_short(
+            readers,
+            first + span.first,
+            assigned,
+            values,
+            marks,
+            touched,
+        );
     } else {
-        take_each(readers, first, outcome, values, marks);
+        take_each(readers, first, outcome, values, marks, touched);
     }
 }
 
@@ -89,17 +103,27 @@ fn take_each(
     outcome: &Drives,
     values: &mut Vec<u8>,
     marks: &mut Vec<bool>,
+    touched: &mut Touched,
 )
     requires there { first + length outcome.now.entries ≤ length values.old.items }
     requires together { (k : ℕ) → k < length outcome.now.entries → slice_index readers.now.of_net (first + k) ≡ slice_index readers.now.of_net first }
     requires each_net { length (wakers_of readers.now) ≡ length values.old.items }
     requires below { AreBelow (wakers_of readers.now) (length marks.old.items) }
+    requires nets { touched.old.nets ≡ length values.old.items }
     ensures taken { TakesOver (range_with_len first (length outcome.now.entries)) outcome.now.entries values.old.items values.new.items }
     ensures marks { Marks (wakers_of readers.now) (Contains (range_with_len first (length outcome.now.entries))) values.old.items values.new.items marks.old.items marks.new.items }
+    ensures touched { Touches touched.old touched.new values.old.items values.new.items }
 {
     for span in outcome.assigned() {
         let assigned = outcome.values(*span);
-        set_run(readers, first + span.first, assigned, values, marks);
+        set_run(
+            readers,
+            first + span.first,
+            assigned,
+            values,
+            marks,
+            touched,
+        );
     }
 }
 
@@ -112,6 +136,7 @@ fn take_spans(
     outcome: &Drives,
     values: &mut Vec<u8>,
     marks: &mut Vec<bool>,
+    touched: &mut Touched,
 )
     requires each_driver { length drives.now ≡ length outcome.now.entries }
     requires there { All (λ n. n < length values.old.items) (nets_of drives.now) }
@@ -119,11 +144,15 @@ fn take_spans(
     requires cuts { AreCutFor schedule.now (nets_of drives.now) number }
     requires each_net { length (wakers_of schedule.now.readers) ≡ length values.old.items }
     requires below { AreBelow (wakers_of schedule.now.readers) (length marks.old.items) }
+    requires nets { touched.old.nets ≡ length values.old.items }
     ensures taken { TakesOver (nets_of drives.now) outcome.now.entries values.old.items values.new.items }
     ensures marks { Marks (wakers_of schedule.now.readers) (Contains (nets_of drives.now)) values.old.items values.new.items marks.old.items marks.new.items }
+    ensures touched { Touches touched.old touched.new values.old.items values.new.items }
 {
     for span in outcome.assigned() {
-        take_span(drives, schedule, number, outcome, *span, values, marks);
+        take_span(
+            drives, schedule, number, outcome, *span, values, marks, touched,
+        );
     }
 }
 
@@ -136,6 +165,7 @@ fn take_span(
     span: Span,
     values: &mut Vec<u8>,
     marks: &mut Vec<bool>,
+    touched: &mut Touched,
 )
     requires each_driver { length drives.now ≡ length outcome.now.entries }
     requires within { span.first + span.len ≤ length outcome.now.entries }
@@ -145,9 +175,11 @@ fn take_span(
     requires cuts { AreCutFor schedule.now (nets_of drives.now) number }
     requires each_net { length (wakers_of schedule.now.readers) ≡ length values.old.items }
     requires below { AreBelow (wakers_of schedule.now.readers) (length marks.old.items) }
+    requires nets { touched.old.nets ≡ length values.old.items }
     ensures taking { TakesPart (nets_of drives.now) outcome.now.entries values.old.items values.new.items }
     ensures taken { (k : ℕ) → k < span.len → IsTaken outcome.now.entries (at_targets (nets_of drives.now) values.new.items) (span.first + k) }
     ensures marks { Marks (wakers_of schedule.now.readers) (Contains (nets_of drives.now)) values.old.items values.new.items marks.old.items marks.new.items }
+    ensures touched { Touches touched.old touched.new values.old.items values.new.items }
 {
     let end = span.first + span.len;
     let mut first = span.first;
@@ -164,6 +196,7 @@ fn take_span(
             assigned,
             values,
             marks,
+            touched,
         );
         first = beyond;
     }

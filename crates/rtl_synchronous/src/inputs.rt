@@ -4,10 +4,12 @@ ghost use Rattle.std.specs.Prelude.{◌≡◌, ◌<◌, ⊤, length, All};
 ghost use Rattle.rtl_kernel.specs.kernel.Simulation.{changes_of, each_given};
 ghost use Rattle.rtl_kernel.specs.values.TwoValues.{AreChanged};
 ghost use Rattle.rtl_kernel.specs.wakes.Woken.{wakers_of};
+ghost use Rattle.rtl_net_layout.specs.Touching.{Touches};
 ghost use Rattle.rtl_synchronous.specs.Marks.{AreBelow, Marks};
 
 use crate::marks::mark_followers;
 use crate::schedule::Schedule;
+use rtl_net_layout::Touched;
 use vhdl_values::Nine;
 
 /// Gives nets values, one after the other.
@@ -31,27 +33,31 @@ pub fn set_each(nets: &[usize], given: &[Nine], values: &mut Vec<u8>)
     }
 }
 
-/// Gives nets values, one after the other, and marks what is sensitive to those that change.
+/// Gives nets values, one after the other, and marks what is sensitive to those that change, and their chunks.
 pub fn take_inputs(
     schedule: &Schedule,
     changes: &[(usize, Nine)],
     values: &mut Vec<u8>,
     woken: &mut Vec<bool>,
     dirty: &mut Vec<bool>,
+    touched: &mut Touched,
 )
     requires there { All (λ c. c.0 < length values.old.items) changes.now }
     requires each_reader { length (wakers_of schedule.now.readers) ≡ length values.old.items }
     requires each_clocked { length (wakers_of schedule.now.clocked) ≡ length values.old.items }
     requires readers { AreBelow (wakers_of schedule.now.readers) (length dirty.old.items) }
     requires clocked { AreBelow (wakers_of schedule.now.clocked) (length woken.old.items) }
+    requires nets { touched.old.nets ≡ length values.old.items }
     ensures values { AreChanged (changes_of changes.now) values.old.items values.new.items }
     ensures woken { Marks (wakers_of schedule.now.clocked) (λ _. ⊤) values.old.items values.new.items woken.old.items woken.new.items }
     ensures dirty { Marks (wakers_of schedule.now.readers) (λ _. ⊤) values.old.items values.new.items dirty.old.items dirty.new.items }
+    ensures touched { Touches touched.old touched.new values.old.items values.new.items }
 {
     for (net, value) in changes {
         let code = value.code();
         mark_followers(&schedule.clocked, values, *net, code, woken);
         mark_followers(&schedule.readers, values, *net, code, dirty);
         values[*net] = code;
+        touched.mark_run(*net, *net + 1);
     }
 }

@@ -19,7 +19,6 @@ mod order;
 mod outcomes;
 mod running;
 mod schedule;
-mod search;
 mod sweep;
 mod targets;
 mod wholes;

@@ -13,6 +13,7 @@ ghost use Rattle.rtl_kernel.specs.kernel.Simulation.{changes_of, initial_inputs}
 ghost use Rattle.rtl_kernel.specs.wakes.Woken.{wakers_of};
 ghost use Rattle.rtl_net.specs.Nets.{flat};
 ghost use Rattle.rtl_net.specs.Core.{core};
+ghost use Rattle.rtl_net_layout.specs.Touching.{KeepsLeft, Touches};
 ghost use Rattle.rtl_synchronous.specs.Kept.{HasCuts, MayRun};
 ghost use Rattle.rtl_synchronous.specs.Marks.{HasNoMark};
 ghost use Rattle.rtl_synchronous.specs.Running.{IsSettled};
@@ -27,6 +28,7 @@ use crate::schedule::Schedule;
 use crate::sweep::sweep;
 use rtl_eval::{Drives, Exec};
 use rtl_net::Net;
+use rtl_net_layout::Touched;
 use std::alloc::{AllocError, Global};
 use std::marker::Model;
 use vhdl_values::Nine;
@@ -46,6 +48,8 @@ pub struct Machine<'a, E: Exec> {
     /// The clocked processes that are to run, by number, and the combinational ones, by rank.
     woken: Vec<bool>,
     dirty: Vec<bool>,
+    /// The chunks of the nets that the last step may have changed.
+    touched: Touched,
 }
 
 impl<E: Exec> Drop for Machine<'_, E> {
@@ -59,6 +63,7 @@ impl<E: Exec> Drop for Machine<'_, E> {
             runs: _,
             woken: _,
             dirty: _,
+            touched: _,
         } = self;
     }
 }
@@ -76,10 +81,11 @@ impl<'a, E: Exec> Model for Machine<'a, E> {
     ghost use Rattle.rtl_synchronous.specs.Scheduled.{AreEdges, AreLeaders, AreNexts};
     ghost use Rattle.rtl_net.specs.Core.{core};
     ghost use Rattle.rtl_kernel.specs.wakes.Woken.{wakers_of};
+    ghost use Rattle.std.specs.Prelude.{◌≡◌, length};
 
-    ghost view = { λ m. record { net = m.net.now; values = m.values.items } };
+    ghost view = { λ m. record { net = m.net.now; values = m.values.items; touched = m.touched } };
 
-    ghost invariant = { λ m. IsMachine E.process E.types E.most m.net.now m.bodies.now m.schedule.order.items (wakers_of m.schedule.readers) (wakers_of m.schedule.clocked) m.before.items m.values.items m.runs.items m.dirty.items m.woken.items × HasCuts m.net.now m.schedule × AreEdges (core m.net.now) m.schedule.edges.items × AreNexts (core m.net.now) m.schedule.nexts.items × AreLeaders m.schedule.edges.items m.schedule.leaders.items };
+    ghost invariant = { λ m. IsMachine E.process E.types E.most m.net.now m.bodies.now m.schedule.order.items (wakers_of m.schedule.readers) (wakers_of m.schedule.clocked) m.before.items m.values.items m.runs.items m.dirty.items m.woken.items × HasCuts m.net.now m.schedule × AreEdges (core m.net.now) m.schedule.edges.items × AreNexts (core m.net.now) m.schedule.nexts.items × AreLeaders m.schedule.edges.items m.schedule.leaders.items × (m.touched.nets ≡ length m.values.items) };
 }
 
 impl<'a, E: Exec> Machine<'a, E> {
@@ -107,6 +113,7 @@ impl<'a, E: Exec> Machine<'a, E> {
         let before = Vec::from_slice(alloc, &values)?;
         let mut woken = clocked_marks(alloc, levels)?;
         let mut dirty = vec![in alloc; true; schedule.order.len()]?;
+        let mut touched = Touched::new(alloc, values.len())?;
         come_to_rest(
             net,
             bodies,
@@ -116,6 +123,7 @@ impl<'a, E: Exec> Machine<'a, E> {
             &mut values,
             &mut woken,
             &mut dirty,
+            &mut touched,
         );
         Ok(Machine {
             net,
@@ -126,6 +134,7 @@ impl<'a, E: Exec> Machine<'a, E> {
             runs,
             woken,
             dirty,
+            touched,
         })
     }
 
@@ -137,19 +146,30 @@ impl<'a, E: Exec> Machine<'a, E> {
         self.values.as_slice()
     }
 
+    /// The chunks of nets that the last step may have changed.
+    pub fn touched(&self) -> &Touched
+        ensures value { result.now ≡ self.now.touched }
+        ensures nets { result.now.nets ≡ length self.now.values }
+    {
+        &self.touched
+    }
+
     /// The next moment, at which inputs get new values. It asks that no data input changes at an active clock edge.
     pub fn step(&mut self, changes: &[(usize, Nine)])
         requires inputs { All (λ c. Contains self.old.net.inputs c.0) changes.now }
         requires raceless { IsRace (core self.old.net) (slice_index self.old.values) (with_changes (changes_of changes.now) self.old.values) → ⊥ }
         ensures net { self.new.net ≡ self.old.net }
         ensures step { IsStep (core self.old.net) self.old.values (with_changes (changes_of changes.now) self.old.values) self.new.values }
+        ensures touched { KeepsLeft self.new.touched self.old.values self.new.values }
     {
+        self.touched.forget();
         take_inputs(
             &self.schedule,
             changes,
             &mut self.values,
             &mut self.woken,
             &mut self.dirty,
+            &mut self.touched,
         );
         come_to_rest(
             self.net,
@@ -160,6 +180,7 @@ impl<'a, E: Exec> Machine<'a, E> {
             &mut self.values,
             &mut self.woken,
             &mut self.dirty,
+            &mut self.touched,
         );
         set_inputs(changes, &mut self.before);
     }
@@ -187,6 +208,7 @@ fn come_to_rest<E: Exec>(
     values: &mut Vec<u8>,
     woken: &mut Vec<bool>,
     dirty: &mut Vec<bool>,
+    touched: &mut Touched,
 )
     requires may { MayRun E.process E.types E.most net.now bodies.now runs.old.items }
     requires schedule { IsSchedule (core net.now) schedule.now.order.items (wakers_of schedule.now.readers) (wakers_of schedule.now.clocked) }
@@ -201,9 +223,11 @@ fn come_to_rest<E: Exec>(
     requires each_rank { length dirty.old.items ≡ length schedule.now.order.items }
     requires clocked { (p : ℕ) → IsTrue (slice_index_or woken.old.items p false) → IsCombinational (core net.now) p → ⊥ }
     requires clean { (k : ℕ) → k < length schedule.now.order.items → slice_index_or dirty.old.items k false ≡ false → IsSettled (core net.now) values.old.items (slice_index schedule.now.order.items k) }
+    requires nets { touched.old.nets ≡ length values.old.items }
     ensures may { MayRun E.process E.types E.most net.now bodies.now runs.new.items }
     ensures in_range { IsValuation (core net.now) values.new.items }
     ensures rest { ComesToRest (core net.now) woken.old.items before.now values.old.items values.new.items }
+    ensures touched { Touches touched.old touched.new values.old.items values.new.items }
     ensures each_process { length woken.new.items ≡ length woken.old.items }
     ensures each_rank { length dirty.new.items ≡ length dirty.old.items }
     ensures none_woken { HasNoMark woken.new.items }
@@ -221,6 +245,6 @@ fn come_to_rest<E: Exec>(
         values,
         runs,
     );
-    take_marked(net, runs, schedule, woken, values, dirty);
-    sweep(net, bodies, schedule, runs, values, dirty);
+    take_marked(net, runs, schedule, woken, values, dirty, touched);
+    sweep(net, bodies, schedule, runs, values, dirty, touched);
 }

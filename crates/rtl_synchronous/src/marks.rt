@@ -3,10 +3,11 @@
 ghost use Rattle.std.specs.Prelude.{◌≡◌, ℕ, ◌+◌, ◌<◌, ◌≤◌, length, slice_index, slice_set, All};
 ghost use Rattle.rtl_kernel.specs.values.TwoValues.{IsWritten as HasRun};
 ghost use Rattle.rtl_kernel.specs.wakes.Woken.{AddsPlaces, wakers_of};
+ghost use Rattle.rtl_net_layout.specs.Touching.{Touches};
 ghost use Rattle.rtl_synchronous.specs.Marks.{AreBelow, IsOfRun, Marks};
 
 use rtl_kernel::replace;
-use rtl_net_layout::Groups;
+use rtl_net_layout::{Groups, Touched};
 
 /// Marks these numbers, of which mostly there is one.
 #[inline(always)]
@@ -46,8 +47,8 @@ pub fn mark_followers(groups: &Groups, values: &[u8], net: usize, value: u8, mar
     }
 }
 
-/// Gives nets that stand one behind the other in one group these values, and marks what is sensitive to them, if one gets another
-/// value than it has.
+/// Gives nets that stand one behind the other in one group these values, and marks what is sensitive to them, and their
+/// chunks, if one gets another value than it has.
 #[inline(always)]
 fn set_here(
     groups: &Groups,
@@ -55,16 +56,20 @@ fn set_here(
     given: &[u8],
     values: &mut Vec<u8>,
     marks: &mut Vec<bool>,
+    touched: &mut Touched,
 )
     requires there { first + length given.now ≤ length values.old.items }
     requires together { (k : ℕ) → k < length given.now → slice_index groups.now.of_net (first + k) ≡ slice_index groups.now.of_net first }
     requires each_net { length (wakers_of groups.now) ≡ length values.old.items }
     requires below { AreBelow (wakers_of groups.now) (length marks.old.items) }
+    requires nets { touched.old.nets ≡ length values.old.items }
     ensures written { HasRun first given.now values.old.items values.new.items }
     ensures marks { Marks (wakers_of groups.now) (IsOfRun first (length given.now)) values.old.items values.new.items marks.old.items marks.new.items }
+    ensures touched { Touches touched.old touched.new values.old.items values.new.items }
 {
     if replace(values, first, given) {
         mark(marks, groups.listed(groups.of_net()[first]));
+        touched.mark_run(first, first + given.len());
     }
 }
 
@@ -76,15 +81,18 @@ pub fn set_run(
     given: &[u8],
     values: &mut Vec<u8>,
     marks: &mut Vec<bool>,
+    touched: &mut Touched,
 )
     requires there { first + length given.now ≤ length values.old.items }
     requires together { (k : ℕ) → k < length given.now → slice_index groups.now.of_net (first + k) ≡ slice_index groups.now.of_net first }
     requires each_net { length (wakers_of groups.now) ≡ length values.old.items }
     requires below { AreBelow (wakers_of groups.now) (length marks.old.items) }
+    requires nets { touched.old.nets ≡ length values.old.items }
     ensures written { HasRun first given.now values.old.items values.new.items }
     ensures marks { Marks (wakers_of groups.now) (IsOfRun first (length given.now)) values.old.items values.new.items marks.old.items marks.new.items }
+    ensures touched { Touches touched.old touched.new values.old.items values.new.items }
 {
-    set_here(groups, first, given, values, marks);
+    set_here(groups, first, given, values, marks, touched);
 }
 
 /// The same, without a call where there are at most 32.
@@ -95,17 +103,20 @@ pub fn set_short(
     given: &[u8],
     values: &mut Vec<u8>,
     marks: &mut Vec<bool>,
+    touched: &mut Touched,
 )
     requires there { first + length given.now ≤ length values.old.items }
     requires together { (k : ℕ) → k < length given.now → slice_index groups.now.of_net (first + k) ≡ slice_index groups.now.of_net first }
     requires each_net { length (wakers_of groups.now) ≡ length values.old.items }
     requires below { AreBelow (wakers_of groups.now) (length marks.old.items) }
+    requires nets { touched.old.nets ≡ length values.old.items }
     ensures written { HasRun first given.now values.old.items values.new.items }
     ensures marks { Marks (wakers_of groups.now) (IsOfRun first (length given.now)) values.old.items values.new.items marks.old.items marks.new.items }
+    ensures touched { Touches touched.old touched.new values.old.items values.new.items }
 {
     if given.len() > 32 {
-        set_run(groups, first, given, values, marks);
+        set_run(groups, first, given, values, marks, touched);
     } else {
-        set_here(groups, first, given, values, marks);
+        set_here(groups, first, given, values, marks, touched);
     }
 }

@@ -6,6 +6,7 @@ ghost use Rattle.rtl_model.specs.simulation.Range.{IsValuation};
 ghost use Rattle.rtl_kernel.specs.drivers.Transactions.{HasRunOf};
 ghost use Rattle.rtl_kernel.specs.wakes.Woken.{wakers_of};
 ghost use Rattle.rtl_net.specs.Core.{core};
+ghost use Rattle.rtl_net_layout.specs.Touching.{Touches};
 ghost use Rattle.rtl_synchronous.specs.Kept.{HasCuts, MayRun};
 ghost use Rattle.rtl_synchronous.specs.Marks.{AreBelow, Marks};
 ghost use Rattle.rtl_synchronous.specs.Running.{IsWritten};
@@ -14,6 +15,7 @@ use crate::entries::take_over;
 use crate::schedule::Schedule;
 use rtl_eval::{Drives, Exec};
 use rtl_net::Net;
+use rtl_net_layout::Touched;
 
 /// Runs the body of a process; what it assigns is what its run leaves.
 pub fn run<E: Exec>(
@@ -43,6 +45,7 @@ pub fn settle<E: Exec>(
     runs: &mut Vec<Drives>,
     values: &mut Vec<u8>,
     marks: &mut Vec<bool>,
+    touched: &mut Touched,
 )
     requires may { MayRun E.process E.types E.most net.now bodies.now runs.old.items }
     requires combinational { IsCombinational (core net.now) number }
@@ -50,11 +53,13 @@ pub fn settle<E: Exec>(
     requires cuts { HasCuts net.now schedule.now }
     requires each_net { length (wakers_of schedule.now.readers) ≡ length values.old.items }
     requires below { AreBelow (wakers_of schedule.now.readers) (length marks.old.items) }
+    requires nets { touched.old.nets ≡ length values.old.items }
     ensures may { MayRun E.process E.types E.most net.now bodies.now runs.new.items }
     ensures in_range { IsValuation (core net.now) values.new.items }
     ensures written { IsWritten (core net.now) number values.old.items values.new.items }
     ensures marks { Marks (wakers_of schedule.now.readers) (Contains (process (core net.now) number).drives) values.old.items values.new.items marks.old.items marks.new.items }
+    ensures touched { Touches touched.old touched.new values.old.items values.new.items }
 {
     run(net, bodies, number, values, values, runs);
-    take_over(net, schedule, number, &runs[number], values, marks);
+    take_over(net, schedule, number, &runs[number], values, marks, touched);
 }

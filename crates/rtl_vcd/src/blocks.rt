@@ -2,11 +2,13 @@
 
 ghost use Rattle.std.specs.Prelude.{◌≡◌, ◌≤◌, ◌<◌, ◌+◌, ◌++◌, ◌∷◌, [], ℕ, List, All, Contains, length, take, drop, map, slice_index, true, IfOk};
 ghost use Rattle.rtl_net.specs.Nets.{SignalView, signal_view};
+ghost use Rattle.rtl_net_layout.specs.Touching.{KeepsLeft};
 ghost use Rattle.rtl_vcd.specs.Blocks.{IsBlockOf, AreBlocks};
 ghost use Rattle.rtl_vcd.specs.Shown.{IsShown};
 
 use crate::characters::are_same;
 use rtl_net::{Net, Signal};
+use rtl_net_layout::Touched;
 use std::alloc::{AllocError, Global};
 
 /// The most names of a block whose nets are compared, and at how many others a block ends.
@@ -17,6 +19,9 @@ const FEW: usize = 7;
 
 /// How many nets for each name of a block are compared at most.
 const REACH: usize = 128;
+
+/// Of how many nets, from the least to the greatest of a block, the marks are looked at. A block whose nets are compared has fewer.
+const SPAN: usize = NAMES * REACH;
 
 /// Names one behind the other, and the least and the greatest of their nets.
 #[derive(Clone, Copy)]
@@ -78,14 +83,20 @@ impl Block {
         (self.greatest - self.least) / REACH < self.names
     }
 
-    /// Whether the nets from the least to the greatest are compared and have the same values in both.
-    pub(crate) fn is_quiet(&self, old: &[u8], new: &[u8]) -> bool
+    /// Whether it shows, without a look at a name, that the nets from the least to the greatest have the same values in both: by the
+    /// marks, or since they are compared.
+    pub(crate) fn is_quiet(&self, touched: &Touched, old: &[u8], new: &[u8]) -> bool
         requires order { self.now.least ≤ self.now.greatest }
         requires before { self.now.greatest < length old.now }
         requires after { self.now.greatest < length new.now }
+        requires nets { touched.now.nets ≡ length new.now }
+        requires left { KeepsLeft touched.now old.now new.now }
         ensures { result ≡ true → (n : ℕ) → self.now.least ≤ n → n ≤ self.now.greatest → slice_index old.now n ≡ slice_index new.now n }
     {
         let beyond = self.greatest + 1;
+        if beyond - self.least <= SPAN && touched.are_left(self.least, beyond) {
+            return true;
+        }
         self.is_compared && are_same(&old[self.least..beyond], &new[self.least..beyond])
     }
 }

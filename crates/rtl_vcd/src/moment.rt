@@ -3,6 +3,7 @@
 ghost use Rattle.std.specs.Prelude.{◌≡◌, ◌+◌, ◌<◌, ◌≤◌, ◌||◌, [], if◌then◌else◌, All, length, map, OnOk, OnErr, IfOk};
 ghost use Rattle.rtl_sink.specs.Written.{IsIntact, HasFailed, Goes};
 ghost use Rattle.rtl_net.specs.Nets.{signal_view};
+ghost use Rattle.rtl_net_layout.specs.Touching.{KeepsLeft};
 ghost use Rattle.rtl_vcd.specs.Trace.{changes, time_line, are_some, moment_text};
 ghost use Rattle.rtl_vcd.specs.Blocks.{AreBlocks, changes_from, continued};
 ghost use Rattle.rtl_vcd.specs.Ready.{AreReady};
@@ -16,6 +17,7 @@ use crate::page::Page;
 use crate::ready::{Run, runs_of};
 use crate::trace::{push_time, written};
 use rtl_net::{Net, Signal};
+use rtl_net_layout::Touched;
 use rtl_sink::{Sink, push_text};
 use std::alloc::{AllocError, Global};
 use std::marker::Model;
@@ -67,10 +69,11 @@ impl<'a> Blocks<'a> {
     }
 
     /// Writes what the names print at a time after 0, where the nets had the values `old` and have the values `new`, one for
-    /// each net: those that print otherwise than before, behind the time. Answers whether there were such. Takes no memory.
+    /// each net: those that print otherwise than before, behind the time. Answers whether there were such. Takes no memory. Nets of
+    /// chunks that aren't marked have one value in both.
     ///
-    /// Names whose nets stand close to one another cost one comparison of two runs of bytes where none of these has changed; each
-    /// other name is looked at. The sink gets up to a page of lines at a time.
+    /// Names whose nets stand close to one another cost a look at the marks of these where none is marked, and one comparison of two
+    /// runs of bytes where none of them has changed; each other name is looked at. The sink gets up to a page of lines at a time.
     ///
     /// # Errors
     ///
@@ -78,6 +81,7 @@ impl<'a> Blocks<'a> {
     pub fn moment<W: Sink>(
         &self,
         time: u64,
+        touched: &Touched,
         old: &[u8],
         new: &[u8],
         out: &mut W,
@@ -85,6 +89,8 @@ impl<'a> Blocks<'a> {
         requires intact { IsIntact (W.state out.old) }
         requires before { length old.now ≡ length self.now.types }
         requires after { length new.now ≡ length self.now.types }
+        requires nets { touched.now.nets ≡ length self.now.types }
+        requires left { KeepsLeft touched.now old.now new.now }
         ensures text { Goes (W.state out.old) (W.state out.new) (moment_text self.now.signals time old.now new.now) }
         ensures printed { IfOk result (λ is_printed. is_printed ≡ are_some (changes self.now.signals old.now new.now)) }
         ensures ok { OnOk result (IsIntact (W.state out.new)) }
@@ -95,6 +101,7 @@ impl<'a> Blocks<'a> {
             self.net,
             self.blocks.as_slice(),
             self.runs.as_slice(),
+            touched,
             &step,
             out,
         );
@@ -104,11 +111,20 @@ impl<'a> Blocks<'a> {
 }
 
 /// The changes of the netlist's names, which stand in these blocks, behind their time. Answers whether there are any.
-fn push_moment<W: Sink>(net: &Net, blocks: &[Block], runs: &[Run], step: &Step, out: &mut W) -> bool
+fn push_moment<W: Sink>(
+    net: &Net,
+    blocks: &[Block],
+    runs: &[Run],
+    touched: &Touched,
+    step: &Step,
+    out: &mut W,
+) -> bool
     requires blocks { AreBlocks (length net.now.types) blocks.now net.now.signals }
     requires runs { AreReady 0 net.now.signals runs.now }
     requires before { length step.now.old.now ≡ length net.now.types }
     requires after { length step.now.new.now ≡ length net.now.types }
+    requires nets { touched.now.nets ≡ length net.now.types }
+    requires left { KeepsLeft touched.now step.now.old.now step.now.new.now }
     ensures text { Goes (W.state out.old) (W.state out.new) (moment_text net.now.signals step.now.time step.now.old.now step.now.new.now) }
     ensures printed { result ≡ are_some (changes net.now.signals step.now.old.now step.now.new.now) }
 {
@@ -119,7 +135,7 @@ fn push_moment<W: Sink>(net: &Net, blocks: &[Block], runs: &[Run], step: &Step, 
     let mut is_printed = false;
     for block in blocks {
         let end = next + block.names;
-        if !block.is_quiet(step.old, step.new) {
+        if !block.is_quiet(touched, step.old, step.new) {
             is_printed = push_changes(
                 &signals[next..end],
                 &runs[next..end],

@@ -17,6 +17,7 @@ use Rattle.rtl_synchronous.proofs.Awake.{none_between, unmarked_more}
 use Rattle.rtl_synchronous.proofs.Marking.{marks_none, marks_then, marks_wider}
 use Rattle.rtl_synchronous.proofs.Together.{all_taken, none_taken, off_to, one_taken, some_skipped, taken_in_range}
 use Rattle.rtl_synchronous.proofs.Wired.{processes_many}
+use Rattle.rtl_synchronous.proofs.Touching.{touches_none, touches_then}
 use Rattle.rtl_synchronous.proofs.clocked.take_marked.Goals as goal
 use Rattle.rtl_synchronous.proofs.clocked.take_marked.Goals.{then-index, else-index}
 
@@ -43,6 +44,7 @@ loop-process-init c =
       off = λ k l. none k (omega arith) l;
       rest = λ k l. refl;
       within = omega (arith, to, processes_many net, c.requires.each_process);
+      touched = touches_none _ _;
     }
 
 pub take_over-requires-clause-there : goal.take_over-requires-clause-there
@@ -61,6 +63,9 @@ take_over-requires-clause-each_value c = c.loop-process.invariant.in_range.each_
 
 pub take_over-requires-clause-each_net : goal.take_over-requires-clause-each_net
 take_over-requires-clause-each_net c = c.requires.each_net ∙ sym c.loop-process.invariant.taking.each_net
+
+pub take_over-requires-clause-nets : goal.take_over-requires-clause-nets
+take_over-requires-clause-nets c = c.loop-process.invariant.touched.nets_stay ∙ c.requires.nets ∙ sym c.loop-process.invariant.taking.each_net
 
 pub take_over-requires-clause-below : goal.take_over-requires-clause-below
 take_over-requires-clause-below c = λ n k f. rw (c.loop-process.invariant.dirty.as_many) (c.requires.below n k f)
@@ -90,7 +95,7 @@ loop-process-preserved c =
     let to = N.within in
     let none = none_between (core net) first c.requires.clocked (p + 1) next N in
     elim c.if-index.branch [
-      | then-index w ↦ rw (w.marked-is, w.values-is, w.dirty-is)
+      | then-index w ↦ rw (w.marked-is, w.values-is, w.dirty-is, w.touched-is)
           (let o = w.index-runs-process.result in
           let u' = w.take_over.new.values.items in
           let dirty' = w.take_over.new.marks.items in
@@ -110,8 +115,9 @@ loop-process-preserved c =
             off = off_to marked' (p + 1) next off (λ k low high. rest k low ∙ none k low high);
             rest = λ k l. rest k (omega (arith, l, later));
             within = omega (arith, to, processes_many net, there, I.each_process, c.requires.each_process, length-set marked p false);
+            touched = touches_then _ _ _ _ _ _ I.touched w.take_over.ensures.touched;
           })
-      | else-index w ↦ rw (w.marked-is, w.values-is, w.dirty-is)
+      | else-index w ↦ rw (w.marked-is, w.values-is, w.dirty-is, w.touched-is)
           (let skipped = unmarked_more first p next (was ∙ w.if-index.false) none in
           record {
             taking = some_skipped (core net) L first entries p v u I.taking next (omega (arith, later)) skipped;
@@ -121,6 +127,7 @@ loop-process-preserved c =
             off = off_to marked p next I.off (λ k low high. I.rest k low ∙ skipped k low high);
             rest = λ k l. I.rest k (omega (arith, l, later));
             within = omega (arith, to, processes_many net, I.each_process, c.requires.each_process);
+            touched = I.touched;
           })
     ]
 

@@ -6,6 +6,7 @@ use Rattle.rtl_kernel.specs.wakes.Woken.{wakers_of}
 use Rattle.rtl_net.specs.Core.{core}
 use Rattle.rtl_synchronous.specs.Marks.{Marks}
 use Rattle.rtl_synchronous.proofs.Together.{AreTaking}
+use Rattle.rtl_net_layout.specs.Touching.{Touches}
 use Rattle.rtl_synchronous.proofs.clocked.take_marked.Given as goal
 
 abbrev pub invariant-loop-process : goal.invariant-loop-process
@@ -17,6 +18,7 @@ invariant-loop-process l = record {
   off : (k : ℕ) → k < l.process → get_or l.marked.items k false ≡ false;
   rest : (k : ℕ) → l.process ≤ k → get_or l.marked.items k false ≡ get_or l.initial.marked.items k false;
   within : l.process ≤ length l.marked.items;
+  touched : Touches l.initial.touched l.touched l.initial.values.items l.values.items;
 }
 
 abbrev pub decreases-loop-process : goal.decreases-loop-process

@@ -7,6 +7,7 @@ use Rattle.rtl_synchronous.specs.Running.{at_targets}
 use Rattle.rtl_synchronous.proofs.Marking.{marks_none, marks_then}
 use Rattle.rtl_synchronous.proofs.Taking.{part_none, part_then, part_all}
 use Rattle.rtl_synchronous.proofs.Spanned.{run, span_left, span_marks, span_part}
+use Rattle.rtl_synchronous.proofs.Touching.{touches_none, touches_then}
 use Rattle.rtl_synchronous.proofs.entries.take_each.Goals as goal
 
 abbrev no_span : Span
@@ -17,6 +18,7 @@ loop-span-init c = record {
   part = part_none _ _ _;
   left = left_all c.args.outcome.now.entries (at_targets (range_with_len c.args.first (length c.args.outcome.now.entries)) c.args.values.now.items) c.assigned-span-items.result.now c.assigned-span-items.ensures.places;
   marks = marks_none _ _ _ _;
+  touched = touches_none _ _;
 }
 
 pub values-assigned-requires : goal.values-assigned-requires
@@ -38,6 +40,9 @@ set_run-requires-clause-together c = λ k l.
 
 pub set_run-requires-clause-each_net : goal.set_run-requires-clause-each_net
 set_run-requires-clause-each_net c = c.requires.each_net ∙ sym c.loop-span.invariant.part.each_net
+
+pub set_run-requires-clause-nets : goal.set_run-requires-clause-nets
+set_run-requires-clause-nets c = c.loop-span.invariant.touched.nets_stay ∙ c.requires.nets ∙ sym c.loop-span.invariant.part.each_net
 
 pub set_run-requires-clause-below : goal.set_run-requires-clause-below
 set_run-requires-clause-below c = λ n k f. rw (c.loop-span.invariant.marks.as_many) (c.requires.below n k f)
@@ -63,6 +68,7 @@ loop-span-preserved c =
       left = span_left base entries spans i no_span l E.places E.within assigned V.as_many V.entries old new W I.left;
       marks = marks_then index _ start old new c.args.marks.now.items c.loop-span.marks.items c.set_run.new.marks.items I.marks
           (span_marks base entries spans i no_span l E.places E.within assigned V.as_many V.entries old new W index c.loop-span.marks.items c.set_run.new.marks.items c.set_run.ensures.marks);
+      touched = touches_then _ _ _ _ _ _ I.touched c.set_run.ensures.touched;
     }
 
 pub returns-clause-taken : goal.returns-clause-taken

@@ -10,6 +10,7 @@ use Rattle.rtl_synchronous.specs.Marks.{IsOfRun}
 use Rattle.rtl_synchronous.specs.Running.{at_targets}
 use Rattle.rtl_synchronous.proofs.Marking.{marks_none, marks_then, marks_wider}
 use Rattle.rtl_synchronous.proofs.Taking.{part_none, part_then, part_run, taken_here}
+use Rattle.rtl_synchronous.proofs.Touching.{touches_none, touches_then}
 use Rattle.rtl_synchronous.proofs.entries.take_span.Goals as goal
 
 abbrev none : Driver
@@ -23,7 +24,7 @@ entry_of entries from len first k low high all has =
     has (subst (λ (p : ℕ). IsSome (get_or entries p None)) at (all (first - from + k) (omega (arith, low, high))))
 
 pub loop-first-init : goal.loop-first-init
-loop-first-init c = record { from = omega arith; to = omega arith; part = part_none _ _ _; taken = λ q l k. absurd (omega (arith, l, k)); marks = marks_none _ _ _ _ }
+loop-first-init c = record { from = omega arith; to = omega arith; part = part_none _ _ _; taken = λ q l k. absurd (omega (arith, l, k)); marks = marks_none _ _ _ _; touched = touches_none _ _ }
 
 pub set_run-requires-clause-there : goal.set_run-requires-clause-there
 set_run-requires-clause-there c =
@@ -62,6 +63,9 @@ set_run-requires-clause-together c = λ k l.
 
 pub set_run-requires-clause-each_net : goal.set_run-requires-clause-each_net
 set_run-requires-clause-each_net c = c.requires.each_net ∙ sym c.loop-first.invariant.part.each_net
+
+pub set_run-requires-clause-nets : goal.set_run-requires-clause-nets
+set_run-requires-clause-nets c = c.loop-first.invariant.touched.nets_stay ∙ c.requires.nets ∙ sym c.loop-first.invariant.part.each_net
 
 pub set_run-requires-clause-below : goal.set_run-requires-clause-below
 set_run-requires-clause-below c = λ n k f. rw (c.loop-first.invariant.marks.as_many) (c.requires.below n k f)
@@ -105,6 +109,7 @@ loop-first-preserved c =
       taken = λ q low high. taken_more entries (at_targets targets old) (at_targets targets new) c.args.span.first first assigned are here part.stay I.taken q low (omega (arith, high, long));
       marks = marks_then index (Contains targets) start old new c.args.marks.now.items c.loop-first.marks.items c.set_run.new.marks.items I.marks
           (marks_wider index (IsOfRun net (length assigned)) (Contains targets) of_targets old new c.loop-first.marks.items c.set_run.new.marks.items c.set_run.ensures.marks);
+      touched = touches_then _ _ _ _ _ _ I.touched c.set_run.ensures.touched;
     }
 
 pub returns-clause-taken : goal.returns-clause-taken

@@ -7,6 +7,7 @@ use Rattle.rtl_kernel.proofs.Updating.{left_all, left_one, none_left}
 use Rattle.rtl_synchronous.specs.Running.{at_targets}
 use Rattle.rtl_synchronous.proofs.Marking.{marks_none, marks_then}
 use Rattle.rtl_synchronous.proofs.Taking.{part_none, part_then, part_all}
+use Rattle.rtl_synchronous.proofs.Touching.{touches_none, touches_then}
 use Rattle.rtl_synchronous.proofs.entries.take_spans.Goals as goal
 
 abbrev no_span : Span
@@ -17,6 +18,7 @@ loop-span-init c = record {
   part = part_none _ _ _;
   left = left_all c.args.outcome.now.entries (at_targets (nets_of c.args.drives.now) c.args.values.now.items) c.assigned-span-items.result.now c.assigned-span-items.ensures.places;
   marks = marks_none _ _ _ _;
+  touched = touches_none _ _;
 }
 
 pub take_span-requires-clause-within : goal.take_span-requires-clause-within
@@ -30,6 +32,9 @@ take_span-requires-clause-there c = λ k d l. rw (c.loop-span.invariant.part.eac
 
 pub take_span-requires-clause-each_net : goal.take_span-requires-clause-each_net
 take_span-requires-clause-each_net c = c.requires.each_net ∙ sym c.loop-span.invariant.part.each_net
+
+pub take_span-requires-clause-nets : goal.take_span-requires-clause-nets
+take_span-requires-clause-nets c = c.loop-span.invariant.touched.nets_stay ∙ c.requires.nets ∙ sym c.loop-span.invariant.part.each_net
 
 pub take_span-requires-clause-below : goal.take_span-requires-clause-below
 take_span-requires-clause-below c = λ n k f. rw (c.loop-span.invariant.marks.as_many) (c.requires.below n k f)
@@ -48,6 +53,7 @@ loop-span-preserved c =
       part = part_then targets entries first old new I.part E.taking;
       left = left_one entries (at_targets targets old) (at_targets targets new) spans c.loop-span.span-index no_span c.loop-span-test.true E.taking.stay E.taken I.left;
       marks = marks_then (wakers_of c.args.schedule.now.readers) _ first old new c.args.marks.now.items c.loop-span.marks.items c.take_span.new.marks.items I.marks E.marks;
+      touched = touches_then _ _ _ _ _ _ I.touched c.take_span.ensures.touched;
     }
 
 pub returns-clause-taken : goal.returns-clause-taken

@@ -1,4 +1,4 @@
-use Rattle.std.proofs.Common.{◌≡◌, get_or, refl, set, ◌∙◌}
+use Rattle.std.proofs.Common.{◌≡◌, get_or, refl, set, ◌∙◌, arith}
 use Rattle.std.specs.Prelude.{⊤}
 use Rattle.std.proofs.lemmas.List.{length-map, length-set}
 use Rattle.vhdl_values.specs.declared.scalar.Nine.TheVariants.{U}
@@ -6,6 +6,7 @@ use Rattle.rtl_kernel.specs.kernel.Simulation.{changes_of}
 use Rattle.rtl_kernel.specs.wakes.Woken.{wakers_of}
 use Rattle.rtl_kernel.proofs.Changing.{changed_more, set_at}
 use Rattle.rtl_synchronous.proofs.Marking.{marks_none, marks_then, marks_wider}
+use Rattle.rtl_synchronous.proofs.Touching.{touches_none, touches_set, touches_then}
 use Rattle.rtl_synchronous.proofs.inputs.take_inputs.Goals as goal
 
 pub mark_followers-requires-clause-below : goal.mark_followers-requires-clause-below
@@ -32,6 +33,7 @@ loop-net-preserved c =
       dirty = marks_then (wakers_of c.args.schedule.now.readers) (λ n. ⊤) old values new c.args.dirty.now.items c.loop-net.dirty.items c.mark_followers-in-loop-net.new.marks.items I.dirty
           (marks_wider (wakers_of c.args.schedule.now.readers) (λ n. n ≡ net) (λ n. ⊤) (λ n e. tt) values new c.loop-net.dirty.items c.mark_followers-in-loop-net.new.marks.items
           (rw (c.deref-in-loop-net.ensures.value) at c.mark_followers-in-loop-net.ensures));
+      touched = touches_then _ _ _ _ _ _ I.touched (touches_set c.loop-net.touched c.mark_run.new.self net c.code-code.result values c.mark_run.ensures);
     }
 
 pub loop-net-init : goal.loop-net-init
@@ -40,6 +42,7 @@ loop-net-init c = record {
   rest = λ m. refl;
   woken = marks_none (wakers_of c.args.schedule.now.clocked) (λ n. ⊤) c.args.values.now.items c.args.woken.now.items;
   dirty = marks_none (wakers_of c.args.schedule.now.readers) (λ n. ⊤) c.args.values.now.items c.args.dirty.now.items;
+  touched = touches_none _ _;
 }
 
 pub returns-clause-woken : goal.returns-clause-woken
@@ -47,3 +50,12 @@ returns-clause-woken c = c.loop-net.invariant.woken
 
 pub returns-clause-dirty : goal.returns-clause-dirty
 returns-clause-dirty c = c.loop-net.invariant.dirty
+
+pub returns-clause-touched : goal.returns-clause-touched
+returns-clause-touched c = c.loop-net.invariant.touched
+
+pub mark_run-requires : goal.mark_run-requires
+mark_run-requires c =
+    let there = c.requires.there c.loop-net.net-index (0, U) c.loop-net-test.true in
+    let stay = c.loop-net.invariant.touched.nets_stay in
+    omega (arith, there, stay, c.requires.nets)

@@ -13,6 +13,7 @@ use Rattle.rtl_synchronous.proofs.Awake.{with_asleep}
 use Rattle.rtl_synchronous.proofs.Resting.{at_rest, stays_clean}
 use Rattle.rtl_synchronous.proofs.Sweeping.{readers_below}
 use Rattle.rtl_synchronous.proofs.Wired.{elaborated}
+use Rattle.rtl_synchronous.proofs.Touching.{touches_then}
 use Rattle.rtl_synchronous.proofs.machine.come_to_rest.Goals as goal
 
 pub run_marked-requires-clause-leaders : goal.run_marked-requires-clause-leaders
@@ -135,3 +136,13 @@ returns-clause-none_woken g c = c.take_marked.ensures.none_marked
 
 pub returns-clause-none_dirty : goal.returns-clause-none_dirty
 returns-clause-none_dirty g c = c.sweep.ensures.none_dirty
+
+pub take_marked-requires-clause-nets : goal.take_marked-requires-clause-nets
+take_marked-requires-clause-nets g c = c.requires.nets
+
+pub sweep-requires-clause-nets : goal.sweep-requires-clause-nets
+sweep-requires-clause-nets g c =
+    c.take_marked.ensures.touched.nets_stay ∙ c.requires.nets ∙ c.requires.in_range.each_net ∙ sym c.take_marked.ensures.in_range.each_net
+
+pub returns-clause-touched : goal.returns-clause-touched
+returns-clause-touched g c = touches_then _ _ _ _ _ _ c.take_marked.ensures.touched c.sweep.ensures.touched

@@ -6,6 +6,7 @@ use Rattle.rtl_synchronous.specs.Marks.{IsOfRun}
 use Rattle.rtl_synchronous.proofs.Marking.{marks_same}
 use Rattle.rtl_synchronous.proofs.Replaced.{same_values}
 use Rattle.rtl_synchronous.proofs.Setting.{listed_below, set_marks}
+use Rattle.rtl_synchronous.proofs.Touching.{touches_run, touches_same}
 use Rattle.rtl_synchronous.proofs.marks.set_here.Goals as goal
 
 pub replace-requires : goal.replace-requires
@@ -56,3 +57,26 @@ returns-else-replace-clause-written c =
     let done = rw c.deref_mut.ensures.value at c.replace.ensures.written in
     let many : length new ≡ old.len = omega (arith, done.as_many, old.ok.0) in
     subst (λ (vs : List ℕ). IsWritten c.args.first c.args.given.now old.items vs) (sym (with_items_is old new many)) done
+
+pub returns-then-replace-clause-touched : goal.returns-then-replace-clause-touched
+returns-then-replace-clause-touched c =
+    let first = c.args.first in
+    let given = c.args.given.now in
+    let old = c.args.values.now in
+    let new = c.replace.new.over in
+    let done = rw c.deref_mut.ensures.value at c.replace.ensures.written in
+    let many : length new ≡ old.len = omega (arith, done.as_many, old.ok.0) in
+    let written = subst (λ (vs : List ℕ). IsWritten first given old.items vs) (sym (with_items_is old new many)) done in
+    touches_run c.args.touched.now c.mark_run.new.self first given old.items _ written c.mark_run.ensures
+
+pub returns-else-replace-clause-touched : goal.returns-else-replace-clause-touched
+returns-else-replace-clause-touched c =
+    let first = c.args.first in
+    let given = c.args.given.now in
+    let old = c.args.values.now in
+    let new = c.replace.new.over in
+    let done = rw c.deref_mut.ensures.value at c.replace.ensures.written in
+    let many : length new ≡ old.len = omega (arith, done.as_many, old.ok.0) in
+    let written = subst (λ (vs : List ℕ). IsWritten first given old.items vs) (sym (with_items_is old new many)) done in
+    touches_same c.args.touched.now old.items _
+    (same_values first given old.items _ written (λ k l. ap (λ (vs : List ℕ). get_or vs (first + k) 0) (sym c.deref_mut.ensures.value) ∙ c.replace.ensures.alike c.if-replace.false k l))

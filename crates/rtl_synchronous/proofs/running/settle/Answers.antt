@@ -76,3 +76,9 @@ returns-clause-in_range g c =
 
 pub returns-clause-marks : goal.returns-clause-marks
 returns-clause-marks g c = c.take_over.ensures.marks
+
+pub take_over-requires-clause-nets : goal.take_over-requires-clause-nets
+take_over-requires-clause-nets g c = c.requires.nets
+
+pub returns-clause-touched : goal.returns-clause-touched
+returns-clause-touched g c = c.take_over.ensures.touched

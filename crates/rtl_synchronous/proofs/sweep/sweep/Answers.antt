@@ -8,6 +8,7 @@ use Rattle.rtl_synchronous.specs.Running.{IsWritten}
 use Rattle.rtl_synchronous.proofs.Awake.{unmarked_more}
 use Rattle.rtl_synchronous.proofs.Sweeping.{all_settled, none_left, readers_below, sweeping_run, sweeping_skip}
 use Rattle.rtl_synchronous.proofs.Wired.{elaborated}
+use Rattle.rtl_synchronous.proofs.Touching.{touches_none, touches_then}
 use Rattle.rtl_synchronous.proofs.sweep.sweep.Goals as goal
 
 pub loop-rank-init : goal.loop-rank-init
@@ -16,7 +17,11 @@ loop-rank-init g c = record {
   in_range = c.requires.in_range;
   sweeping = record { each_net = refl; each_rank = c.requires.each_rank; clean = c.requires.clean; ahead = λ k h. omega arith; on_others = λ n free. refl };
   within = omega arith;
+  touched = touches_none _ _;
 }
+
+pub settle-requires-clause-nets : goal.settle-requires-clause-nets
+settle-requires-clause-nets g c = c.loop-rank.invariant.touched.nets_stay ∙ c.requires.nets ∙ sym c.loop-rank.invariant.sweeping.each_net
 
 pub settle-requires-clause-below : goal.settle-requires-clause-below
 settle-requires-clause-below g c =
@@ -50,6 +55,7 @@ loop-rank-preserved-then-index g c =
           (subst (λ (p : ℕ). IsWritten net p u w') is c.settle.ensures.written)
           (subst (λ (p : ℕ). Marks readers (Contains (process net p).drives) u w' (set dirty rank false) dirty') is M);
       within = omega (arith, there, many, length-set dirty rank false);
+      touched = touches_then _ _ _ _ _ _ I.touched c.settle.ensures.touched;
     }
 
 pub loop-rank-preserved : goal.loop-rank-preserved
@@ -68,6 +74,7 @@ loop-rank-preserved g c =
       sweeping = sweeping_skip net order (wakers_of c.args.schedule.now.readers) (wakers_of c.args.schedule.now.clocked) c.requires.schedule (elaborated _ _ _ _ _ _ c.requires.may) c.requires.may.accepted
           rank c.args.values.now.items c.loop-rank.values.items dirty I.sweeping c.next_marked-rank.result (unmarked_more dirty rank c.next_marked-rank.result none N.unmarked);
       within = N.within;
+      touched = I.touched;
     }
 
 pub returns-clause-swept : goal.returns-clause-swept
@@ -101,3 +108,6 @@ returns-clause-in_range g c = c.loop-rank.invariant.in_range
 
 pub returns-clause-each_rank : goal.returns-clause-each_rank
 returns-clause-each_rank g c = c.loop-rank.invariant.sweeping.each_rank ∙ sym c.requires.each_rank
+
+pub returns-clause-touched : goal.returns-clause-touched
+returns-clause-touched g c = c.loop-rank.invariant.touched

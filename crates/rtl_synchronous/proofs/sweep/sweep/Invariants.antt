@@ -3,6 +3,7 @@ use Rattle.rtl_model.specs.simulation.Range.{IsValuation}
 use Rattle.rtl_net.specs.Core.{core}
 use Rattle.rtl_synchronous.specs.Kept.{MayRun}
 use Rattle.rtl_synchronous.proofs.Sweeping.{IsSweeping}
+use Rattle.rtl_net_layout.specs.Touching.{Touches}
 use Rattle.rtl_synchronous.proofs.sweep.sweep.Given as goal
 
 abbrev pub invariant-loop-rank : goal.invariant-loop-rank
@@ -11,6 +12,7 @@ invariant-loop-rank g l = record {
   in_range : IsValuation (core l.net) l.values.items;
   sweeping : IsSweeping (core l.net) l.schedule.order.items l.rank l.initial.values.items l.values.items l.dirty.items;
   within : l.rank ≤ length l.dirty.items;
+  touched : Touches l.initial.touched l.touched l.initial.values.items l.values.items;
 }
 
 abbrev pub decreases-loop-rank : goal.decreases-loop-rank

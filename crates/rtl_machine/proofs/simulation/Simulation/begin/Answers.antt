@@ -13,7 +13,7 @@ use Rattle.rtl_stim.proofs.Next.{each_begins_at_zero}
 use Rattle.rtl_machine.proofs.Results.{err_with, fails_with}
 use Rattle.rtl_machine.proofs.Failing.{told_unsettled}
 use Rattle.rtl_machine.proofs.Stands.{each_none, told_nothing}
-use Rattle.rtl_machine.proofs.Going.{begins, never_begins, first_leaves}
+use Rattle.rtl_machine.proofs.Going.{begins, never_begins, first_leaves, header_leaves}
 use Rattle.rtl_machine.proofs.simulation.Simulation.begin.Given.{Over}
 use Rattle.rtl_machine.proofs.simulation.Simulation.begin.Goals as goal
 use Rattle.rtl_machine.proofs.simulation.Simulation.begin.Goals.{In_err-deltas, After-first}
@@ -46,7 +46,7 @@ returns-in_err-deltas-clause-begins g c start begun =
     let out = g.W.Sink.state c.args.out.now in
     let state = c.settle.new.kernel.state in
     let never = never_begins net s limit start out c.args.kernel.now.state state begun c.requires.intact (unsettled g (goal.at.returns-in_err-deltas-clause-begins g c).In_err-deltas) in
-    err_with (Begins net s limit start out state) c.from_residual.result c.in_err-deltas.field-0.0 c.from_residual.ensures.1
+    err_with (Begins net s limit start out state) c.from_residual-in_err-deltas.result c.in_err-deltas.field-0.0 c.from_residual-in_err-deltas.ensures.1
     (subst (λ (f : RunFault). Begins net s limit start out state (Err f)) (sym c.in_err-deltas.ensures.settled.0) never)
 
 pub returns-in_err-first-clause-begins : goal.returns-in_err-first-clause-begins
@@ -79,7 +79,7 @@ returns-in_err-deltas-clause-failing g c start begun told =
     let net = c.args.self.now.net.now in
     let s = c.args.self.now.stimulus.now in
     let zero = each_begins_at_zero s in
-    fails_with _ _ c.from_residual.result c.in_err-deltas.field-0.0 c.from_residual.ensures.1
+    fails_with _ _ c.from_residual-in_err-deltas.result c.in_err-deltas.field-0.0 c.from_residual-in_err-deltas.ensures.1
     (told_unsettled net s c.args.self.now.limit _ _ _ 0 c.in_err-deltas.ensures.settled.0 [] (each_none (StandsFrom net s)) zero.0 zero.1 c.args.kernel.now.state c.settle.new.kernel.state begun
     (unsettled g (goal.at.returns-in_err-deltas-clause-failing g c).In_err-deltas) (c.in_err-deltas.ensures.stuck start [] told))
 
@@ -92,3 +92,21 @@ pub returns-in_err-from_slice-clause-failing : goal.returns-in_err-from_slice-cl
 returns-in_err-from_slice-clause-failing g c start begun told =
     fails_with _ _ c.from_residual-in_err-from_slice.result Memory c.from_residual-in_err-from_slice.ensures.1
     (told_nothing c.args.self.now.net.now c.args.self.now.stimulus.now _ (subst (λ w. g.V.Watch.told start [] w) (sym c.in_ok-deltas.ensures.untold) told))
+
+-- ---- the marks
+
+pub settle-requires-clause-nets : goal.settle-requires-clause-nets
+settle-requires-clause-nets g c = c.in_ok-touched.ensures.nets ∙ c.nets.ensures.count ∙ ap (λ (n : NetlistView). length n.types) (sym c.requires.net)
+
+pub returns-in_err-touched-clause-begins : goal.returns-in_err-touched-clause-begins
+returns-in_err-touched-clause-begins g c start begun =
+    let out = g.W.Sink.state c.args.out.now in
+    err_with (Begins c.args.self.now.net.now c.args.self.now.stimulus.now c.args.self.now.limit start out c.args.kernel.now.state) c.from_residual.result Memory c.from_residual.ensures.1
+    (header_leaves c.args.self.now.net.now c.args.self.now.stimulus.now c.args.self.now.limit start out (begun.text.whole c.requires.intact).0 begun.text, c.requires.intact)
+
+pub returns-in_err-touched-clause-failing : goal.returns-in_err-touched-clause-failing
+returns-in_err-touched-clause-failing g c start begun told =
+    fails_with _ _ c.from_residual.result Memory c.from_residual.ensures.1 (told_nothing c.args.self.now.net.now c.args.self.now.stimulus.now _ told)
+
+pub returns-clause-nets : goal.returns-clause-nets
+returns-clause-nets g c = c.settle.ensures.touched.nets_stay ∙ c.in_ok-touched.ensures.nets ∙ c.nets.ensures.count

@@ -18,6 +18,7 @@ use Rattle.rtl_sink.specs.Stands.{Stand}
 use Rattle.rtl_machine.proofs.Results.{err_with, fails_with}
 use Rattle.rtl_machine.proofs.Going.{header_leaves, end_leaves, is_whole, at_last, settled_quiet}
 use Rattle.rtl_machine.proofs.Stands.{HasHeard, hears_nothing, hears_more, hears_on, until_next, until_end, stands_from, heard_all, heard_first, told_nothing}
+use Rattle.rtl_machine.proofs.Touching.{before_inputs}
 use Rattle.rtl_machine.proofs.Turns.{ComesNext, comes_next, none_behind, changes_inputs, begins_next}
 use Rattle.rtl_machine.proofs.simulation.Simulation.run_moments.Given.{Over}
 use Rattle.rtl_machine.proofs.simulation.Simulation.run_moments.Goals as goal
@@ -128,6 +129,7 @@ loop-time-init g c =
       quiet = settled_quiet net s limit 0 c.begin.new.kernel.state has.2;
       as_many = has.3;
       values = has.4;
+      nets = c.in_ok-progress.ensures.nets;
       come = has.0;
       m = 0;
       last = record {
@@ -174,6 +176,14 @@ go_on-requires-clause-net g c = c.apply.ensures.net ∙ c.loop-time.invariant.ne
 
 pub go_on-requires-clause-as_many : goal.go_on-requires-clause-as_many
 go_on-requires-clause-as_many g c = c.loop-time.invariant.as_many
+
+pub go_on-requires-clause-nets : goal.go_on-requires-clause-nets
+go_on-requires-clause-nets g c = c.loop-time.invariant.nets
+
+pub go_on-requires-clause-before : goal.go_on-requires-clause-before
+go_on-requires-clause-before g c =
+    before_inputs (core_netlist (flat c.loop-time.kernel.net)) (with_changes (changes_of c.changes.result.now) c.loop-time.kernel.state.now) c.loop-time.kernel.state c.apply.new.self.state
+    c.apply.ensures.ran ∙ sym c.loop-time.invariant.values
 
 pub go_on-requires-clause-ready : goal.go_on-requires-clause-ready
 go_on-requires-clause-ready g c =
@@ -231,6 +241,7 @@ loop-time-preserved g c =
       quiet = settled_quiet net s limit m c.go_on.new.kernel.state has.3;
       as_many = c.go_on.ensures.as_many;
       values = has.4;
+      nets = c.go_on.ensures.nets;
       come = has.0;
       m = m;
       last = record {

@@ -15,6 +15,7 @@ invariant-loop-time g l = record {
   quiet : IsTrue (is_quiet l.kernel.state);
   as_many : length l.progress.values.items ≡ length l.self.net.now.types;
   values : l.progress.values.items ≡ l.kernel.state.now;
+  nets : l.progress.touched.nets ≡ length l.self.net.now.types;
   come : HasCome l.self.net.now l.self.stimulus.now l.self.limit (g.W.Sink.state l.fn.out) (g.W.Sink.state l.out) l.progress;
   m : ℕ;
   last : IsLast l.self.stimulus.now m l.progress.summary.moments l.progress.now (g.A.Agenda.state l.agenda).waiting;

@@ -58,3 +58,6 @@ returns-clause-begins g c run synchronous same = (
 pub returns-clause-as_many : goal.returns-clause-as_many
 returns-clause-as_many g c =
     ap length c.in_ok-from_slice.ensures.items ∙ c.values-2.ensures.as_many ∙ ap (λ (n : NetlistView). length n.types) c.requires.net
+
+pub returns-clause-shown : goal.returns-clause-shown
+returns-clause-shown g c = c.in_ok-from_slice.ensures.items ∙ c.values-2.ensures.value

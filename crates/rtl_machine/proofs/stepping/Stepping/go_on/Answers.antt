@@ -1,4 +1,7 @@
-use Rattle.std.proofs.Common.{◌∙◌, arith}
+use Rattle.std.proofs.Common.{ℕ, List, length, sym, ap, subst, ◌∙◌, arith}
+use Rattle.std.specs.Prelude.{slice_index}
+use Rattle.rtl_net.specs.Nets.{NetlistView}
+use Rattle.rtl_net_layout.specs.Touching.{Chunks, IsLeft}
 use Rattle.rtl_vcd.specs.Trace.{moment_text}
 use Rattle.rtl_sink.specs.Written.{Goes}
 use Rattle.rtl_machine.specs.declared.fault.MachineFault.TheVariants.{Output}
@@ -42,3 +45,26 @@ returns-clause-goes_on g c run synchronous start intact come next =
       omega (arith, c.add.ensures.moments),
       c.add.ensures.now,
     )
+
+-- ---- the marks
+
+pub moment-requires-clause-nets : goal.moment-requires-clause-nets
+moment-requires-clause-nets g c =
+    c.touched-touched.ensures.nets ∙ sym (ap length c.values.ensures.value) ∙ c.values.ensures.as_many
+    ∙ ap (λ (n : NetlistView). length n.types) (c.requires.net ∙ sym c.requires.blocks)
+
+pub moment-requires-clause-left : goal.moment-requires-clause-left
+moment-requires-clause-left g c = λ n left.
+    ap (λ (vs : List ℕ). slice_index vs n) c.deref.ensures.value
+    ∙ c.requires.left n (subst (λ (t : Chunks). IsLeft t n) c.touched-touched.ensures.value left)
+    ∙ ap (λ (vs : List ℕ). slice_index vs n) (sym c.values.ensures.value)
+
+pub add-requires-clause-nets : goal.add-requires-clause-nets
+add-requires-clause-nets g c = c.touched-touched.ensures.nets ∙ sym (ap length c.values-2.ensures.value)
+
+pub add-requires-clause-left : goal.add-requires-clause-left
+add-requires-clause-left g c = λ n left.
+    c.requires.left n (subst (λ (t : Chunks). IsLeft t n) c.touched-touched.ensures.value left) ∙ ap (λ (vs : List ℕ). slice_index vs n) (sym c.values-2.ensures.value)
+
+pub returns-clause-shown : goal.returns-clause-shown
+returns-clause-shown g c = c.add.ensures.shown ∙ c.values-2.ensures.value

@@ -1,4 +1,5 @@
-use Rattle.std.proofs.Common.{◌≡◌, ℕ, suc, ◌+◌, length, refl, sym, ap, subst, ◌∙◌, arith}
+use Rattle.std.proofs.Common.{◌≡◌, ℕ, suc, ◌+◌, List, length, refl, sym, ap, subst, ◌∙◌, arith}
+use Rattle.std.specs.Prelude.{slice_index}
 use Rattle.std.proofs.lemmas.Result.{IfOk-from_err}
 use Rattle.rtl_stim_lines.specs.Filling.{Waits}
 use Rattle.rtl_stim.specs.Stimuli.{moments}
@@ -120,6 +121,7 @@ loop-time-init g c =
         waits = subst (λ (now : ℕ). Waits s.inputs s.schedule now (g.A.Agenda.state c.args.agenda.now).waiting) (sym (each_begins_at_zero s).1 ∙ last.0) c.requires.waits;
       };
       values = run.2;
+      shown = c.in_ok-progress.ensures.shown;
       heard = hears_nothing (StandsAt s run.0) _ (g.met.V.Watch.nothing c.args.watch.now);
     }
 
@@ -165,6 +167,9 @@ go_on-requires-clause-net g c = c.step.ensures.net ∙ c.loop-time.invariant.net
 
 pub go_on-requires-clause-as_many : goal.go_on-requires-clause-as_many
 go_on-requires-clause-as_many g c = c.loop-time.invariant.as_many
+
+pub go_on-requires-clause-left : goal.go_on-requires-clause-left
+go_on-requires-clause-left g c = λ n left. ap (λ (vs : List ℕ). slice_index vs n) c.loop-time.invariant.shown ∙ c.step.ensures.touched n left
 
 pub go_on-requires-clause-intact : goal.go_on-requires-clause-intact
 go_on-requires-clause-intact g c = c.loop-time.invariant.come.intact
@@ -230,6 +235,7 @@ loop-time-preserved g c =
         waits = subst (λ (now : ℕ). Waits s.inputs s.schedule now (g.A.Agenda.state c.refill.new.agenda).waiting) (sym has.2) c.in_ok-refill.ensures.waits;
       };
       values = lead.steps c.step.new.self.values c.step.ensures.step;
+      shown = c.in_ok-go_on.ensures.shown;
       heard = heard g at.After-changes;
     }
 

@@ -19,6 +19,7 @@ invariant-loop-time g l = record {
   m : ℕ;
   last : IsLast l.self.stimulus.now m l.progress.moments l.progress.now (g.A.Agenda.state l.agenda).waiting;
   values : l.machine.values ≡ run m;
+  shown : l.progress.shown.items ≡ l.machine.values;
   heard : HasHeard (StandsAt l.self.stimulus.now run) (λ stands. g.V.Watch.told l.fn.watch stands l.watch) m;
 }
 

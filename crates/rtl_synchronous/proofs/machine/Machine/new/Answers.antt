@@ -1,4 +1,4 @@
-use Rattle.std.proofs.Common.{refl, length, ap, sym, ◌∙◌, arith}
+use Rattle.std.proofs.Common.{◌≡◌, refl, length, ap, sym, ◌∙◌, arith}
 use Rattle.std.proofs.lemmas.List.{length-map}
 use Rattle.std.proofs.lemmas.Option.{slice_get_within}
 use Rattle.std.proofs.lemmas.Result.{IfOk-from_err}
@@ -80,6 +80,7 @@ invariant_of-result g c =
     record { in_range = N.in_range; connected = N.connected; accepted = c.requires.accepted; run_bodies = c.requires.bodies; room = c.in_ok-runs.ensures } in
     let now_is = first_is (flat net) N.in_range N.connected c.args.initial.now now A in
     let now_in_range = first_in_range (flat net) N.in_range N.connected c.args.initial.now now A in
+    let many : c.len-2.result ≡ length now = omega (arith, c.len-2.ensures, c.set_each.new.values.ok.0) in
     let rest = rw (c.deref-2.ensures.value, c.in_ok-before.ensures.items, c.deref.ensures.value) at c.come_to_rest.ensures.rest in
     let first = is_first (core net) (elaborated _ _ _ _ _ _ may) c.requires.accepted (initial_inputs (flat net) c.args.initial.now) c.in_ok-woken.woken.items
     (λ p clock edge is. rw (c.in_ok-woken.ensures) (clocked_marked (core net) c.args.levels.now greatest V p clock edge is)) now c.come_to_rest.new.values.items now_is rest in (
@@ -95,6 +96,7 @@ invariant_of-result g c =
       c.in_ok-schedule.ensures.edges,
       c.in_ok-schedule.ensures.nexts,
       c.in_ok-schedule.ensures.leaders,
+      c.come_to_rest.ensures.touched.nets_stay ∙ c.in_ok-touched.ensures.nets ∙ many ∙ now_in_range.each_net ∙ sym c.come_to_rest.ensures.in_range.each_net,
     )
 
 pub new-requires-clause-accepted : goal.new-requires-clause-accepted
@@ -165,3 +167,12 @@ room_for-requires g c = c.requires.bodies
 
 pub set_each-requires-clause-as_many : goal.set_each-requires-clause-as_many
 set_each-requires-clause-as_many g c = c.requires.initial ∙ sym (ap length c.inputs.ensures)
+
+pub returns-in_err-touched : goal.returns-in_err-touched
+returns-in_err-touched g c = record {
+  net = IfOk-from_err c.from_residual-in_err-touched.result _ c.from_residual-in_err-touched.ensures.0;
+  first = IfOk-from_err c.from_residual-in_err-touched.result _ c.from_residual-in_err-touched.ensures.0;
+}
+
+pub come_to_rest-requires-clause-nets : goal.come_to_rest-requires-clause-nets
+come_to_rest-requires-clause-nets g c = c.in_ok-touched.ensures.nets ∙ omega (arith, c.len-2.ensures, c.set_each.new.values.ok.0)

@@ -2,6 +2,7 @@ use Rattle.std.proofs.Common.{sym, ◌∙◌}
 use Rattle.rtl_synchronous.proofs.Machines as machines
 use Rattle.rtl_synchronous.proofs.Sweeping.{readers_below}
 use Rattle.rtl_synchronous.proofs.Wired.{processes_many}
+use Rattle.rtl_synchronous.proofs.Touching.{touches_then}
 use Rattle.rtl_synchronous.proofs.machine.Machine.step.Goals as goal
 
 pub take_inputs-requires-clause-there : goal.take_inputs-requires-clause-there
@@ -62,6 +63,8 @@ invariant_of-self g c =
       c.self.invariant.2,
       c.self.invariant.3,
       c.self.invariant.4,
+      c.come_to_rest.ensures.touched.nets_stay ∙ c.take_inputs.ensures.touched.nets_stay ∙ c.forget.ensures.nets ∙ c.self.invariant.5
+          ∙ K.at_rest.values_in_range.each_net ∙ sym c.come_to_rest.ensures.in_range.each_net,
     )
 
 pub returns-clause-step : goal.returns-clause-step
@@ -69,3 +72,14 @@ returns-clause-step g c =
     rw (← c.self.view_is) (machines.is_step _ _ _ _ _ _ _ _ _ _ _ _ _ c.self.invariant.0 c.args.changes.now (rw (← c.self.view_is) at c.requires.inputs) c.take_inputs.new.values.items c.take_inputs.ensures.values
     c.take_inputs.new.woken.items c.take_inputs.new.dirty.items c.take_inputs.ensures.woken c.take_inputs.ensures.dirty
     (rw (← c.self.view_is) at c.requires.raceless) c.come_to_rest.new.values.items (rw (c.deref.ensures.value) at c.come_to_rest.ensures.rest))
+
+pub take_inputs-requires-clause-nets : goal.take_inputs-requires-clause-nets
+take_inputs-requires-clause-nets g c = c.forget.ensures.nets ∙ c.self.invariant.5
+
+pub come_to_rest-requires-clause-nets : goal.come_to_rest-requires-clause-nets
+come_to_rest-requires-clause-nets g c = c.take_inputs.ensures.touched.nets_stay ∙ c.forget.ensures.nets ∙ c.self.invariant.5 ∙ sym c.take_inputs.ensures.values.as_many
+
+pub returns-clause-touched : goal.returns-clause-touched
+returns-clause-touched g c =
+    let both = touches_then _ _ _ _ _ _ c.take_inputs.ensures.touched c.come_to_rest.ensures.touched in
+    rw (← c.self.view_is) both.others

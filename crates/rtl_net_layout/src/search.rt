@@ -1,7 +1,7 @@
 //! Search for marks.
 
 ghost use Rattle.std.specs.Prelude.{◌≡◌, ℕ, ◌<◌, ◌≤◌, true, false, length, slice_index_or};
-ghost use Rattle.rtl_synchronous.specs.Marks.{AreUnmarked, IsNextMark};
+ghost use Rattle.rtl_net_layout.specs.NextMarks.{AreUnmarked, IsNextMark};
 
 /// The first marked place from this one on, or how many places there are. It looks at the nearest places one by one, and at all
 /// others sixteen at once.
@@ -50,8 +50,9 @@ fn after_unmarked(marks: &[bool], from: usize) -> usize
 }
 
 /// Whether one of these is marked.
-fn has_mark(marks: &[bool]) -> bool
-    ensures { result ≡ false → (k : ℕ) → k < length marks.now → slice_index_or marks.now k false ≡ false }
+pub(crate) fn has_mark(marks: &[bool]) -> bool
+    ensures none { result ≡ false → (k : ℕ) → k < length marks.now → slice_index_or marks.now k false ≡ false }
+    ensures some { result ≡ true → (k : ℕ) × (k < length marks.now) × (slice_index_or marks.now k false ≡ true) }
 {
     let mut any = false;
     for mark in marks {

@@ -1,6 +1,6 @@
 use Rattle.std.proofs.Common.{◌-◌, ◌≤◌, length}
-use Rattle.rtl_synchronous.specs.Marks.{AreUnmarked}
-use Rattle.rtl_synchronous.proofs.search.after_unmarked.Given as goal
+use Rattle.rtl_net_layout.specs.NextMarks.{AreUnmarked}
+use Rattle.rtl_net_layout.proofs.search.after_unmarked.Given as goal
 
 abbrev pub invariant-loop-place : goal.invariant-loop-place
 invariant-loop-place l = record {
