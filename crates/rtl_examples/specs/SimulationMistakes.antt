@@ -26,7 +26,8 @@ use Rattle.rtl_examples.specs.Rows.{oscillator, sibling, a_rises, no_inputs}
 
 abbrev pub shift : FlatNetlist
 shift = circuit (0 ∷ 1 ∷ []) (0 ∷ 0 ∷ 2 ∷ 2 ∷ [])
-    (drives_one 2 2 (0 ∷ []) (if_only rising_clk (assigned (one_signal 1))) ∷ drives_one 3 2 (0 ∷ []) (if_only rising_clk (assigned (one_signal 2))) ∷ [])
+    (drives_one 2 2 (0 ∷ []) (if_only rising_clk (assigned (one_signal 1)))
+    ∷ drives_one 3 2 (0 ∷ []) (if_only rising_clk (assigned (one_signal 2))) ∷ [])
 
 -- d is '1', and clk rises at moment 1
 abbrev pub shift_edge : ℕ → ℕ → ℕ
@@ -56,8 +57,10 @@ ran_seeing net p s =
 -- two orders of the Runs then end in two states
 pub record OrderWouldCount : Type 0 where
   pub both_run : IsToRun at_edge 0 × IsToRun at_edge 1
-  pub right : after_run (core_netlist shift) 1 (after_run (core_netlist shift) 0 at_edge) ≡ after_run (core_netlist shift) 0 (after_run (core_netlist shift) 1 at_edge)
-  pub wrong : ran_seeing (core_netlist shift) 1 (ran_seeing (core_netlist shift) 0 at_edge) ≡ ran_seeing (core_netlist shift) 0 (ran_seeing (core_netlist shift) 1 at_edge) → ⊥
+  pub right : after_run (core_netlist shift) 1 (after_run (core_netlist shift) 0 at_edge)
+      ≡ after_run (core_netlist shift) 0 (after_run (core_netlist shift) 1 at_edge)
+  pub wrong : ran_seeing (core_netlist shift) 1 (ran_seeing (core_netlist shift) 0 at_edge)
+      ≡ ran_seeing (core_netlist shift) 0 (ran_seeing (core_netlist shift) 1 at_edge) → ⊥
 
 -- ---- a process is resumed by activity without an event
 
@@ -132,7 +135,9 @@ pub record LevelsWouldMiss : Type 0 where
 
 -- if rising_edge(clk) then if en = '1' then q <= d; end if; end if;  the nets are clk, en, d and q, which starts at '0'
 abbrev pub enabled : FlatNetlist
-enabled = circuit (0 ∷ 1 ∷ 2 ∷ []) (0 ∷ 0 ∷ 0 ∷ 2 ∷ []) (drives_one 3 2 (0 ∷ []) (if_only rising_clk (if_only (is_at 1 One) (assigned (one_signal 2)))) ∷ [])
+enabled =
+    circuit (0 ∷ 1 ∷ 2 ∷ []) (0 ∷ 0 ∷ 0 ∷ 2 ∷ [])
+    (drives_one 3 2 (0 ∷ []) (if_only rising_clk (if_only (is_at 1 One) (assigned (one_signal 2)))) ∷ [])
 
 -- clk rises at 1 and 3, d is '1', en is '1' before 2
 abbrev pub enable_drops : ℕ → ℕ → ℕ

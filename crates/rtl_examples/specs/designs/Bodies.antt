@@ -53,9 +53,11 @@ pub record ConditionsBecomeTests : Type 0 where
       ≡ Ok (bodies.equal (bodies.elements (bodies.signal (1 ∷ []))) (bodies.elements (bodies.constant (One ∷ []))))
   pub of_variable : test site (e.alike 35 (e.elements (e.of_variable 34 0 e.whole)) is_one)
       ≡ Ok (bodies.equal (bodies.elements (bodies.variable (0 ∷ []))) (bodies.elements (bodies.constant (One ∷ []))))
-  pub unlike : test site (e.unlike 35 a is_one) ≡ Ok (bodies.unequal (bodies.elements (bodies.signal (0 ∷ []))) (bodies.elements (bodies.constant (One ∷ []))))
+  pub unlike : test site (e.unlike 35 a is_one)
+      ≡ Ok (bodies.unequal (bodies.elements (bodies.signal (0 ∷ []))) (bodies.elements (bodies.constant (One ∷ []))))
   -- a'event and a = '1'
-  pub edge : test site (e.Test.both And (e.event (port 0 e.whole)) (e.alike 35 a is_one)) ≡ Ok (bodies.combined And (bodies.event 0) (bodies.level true 0 One))
+  pub edge : test site (e.Test.both And (e.event (port 0 e.whole)) (e.alike 35 a is_one))
+      ≡ Ok (bodies.combined And (bodies.event 0) (bodies.level true 0 One))
   -- 1 < w, 1 = 2, w = "111" of other lengths
   pub integer_first : test site (e.compared_with 35 Lt (number 1) w) ≡ Ok (bodies.compared_to Gt (bodies.signal (1 ∷ 2 ∷ [])) 1)
   pub decided : test site (e.Test.fixed (e.StaticTest.compared 35 Eq (number 1) (number 2))) ≡ Ok (bodies.decided false)
@@ -71,15 +73,19 @@ pub record ConditionsAreTold : Type 0 where
   pub within : test site (e.Test.fixed (e.StaticTest.compared 35 Eq (of arithmetic.Divide (number 1) (number 0)) (number 1))) ≡ Err (StaticError, 5)
   pub outside : test site (e.alike 35 (e.elements (e.of_signal (port 1 (at (number 2))))) is_one) ≡ Err (Index, 34)
   -- (w and "111") = "11", at the operator
-  pub lengths : test site (e.alike 35 (e.elements (e.Vector.binary 32 (v.Logical And) w (e.Vector.literal 31 (One ∷ One ∷ One ∷ [])))) (e.elements (e.Vector.literal 36 (One ∷ One ∷ []))))
+  pub lengths : test site (e.alike 35 (e.elements (e.Vector.binary 32 (v.Logical And) w (e.Vector.literal 31 (One ∷ One ∷ One ∷ []))))
+      (e.elements (e.Vector.literal 36 (One ∷ One ∷ []))))
       ≡ Err (Length 2 3, 32)
   -- the left side first: w(2) = w(3)
-  pub left_first : test site (e.alike 35 (e.elements (e.of_signal (port 1 (at (number 2))))) (e.elements (e.of_signal (from 37 (port 1 (at (number 3))))))) ≡ Err (Index, 34)
+  pub left_first : test site (e.alike 35 (e.elements (e.of_signal (port 1 (at (number 2))))) (e.elements (e.of_signal (from 37 (port 1 (at (number 3)))))))
+      ≡ Err (Index, 34)
 
 pub record NumbersBecomeConstants : Type 0 where
   -- w + 5, which is w + "01", and 5 * w
-  pub sum : vector site (e.with_integer 32 Add w (number 5)) ≡ Ok (bodies.binary bodies.plus (bodies.signal (1 ∷ 2 ∷ [])) (bodies.constant (Zero ∷ One ∷ [])))
-  pub product : vector site (e.integer_with 32 Multiply (number 5) w) ≡ Ok (bodies.binary bodies.times (bodies.constant (Zero ∷ One ∷ [])) (bodies.signal (1 ∷ 2 ∷ [])))
+  pub sum : vector site (e.with_integer 32 Add w (number 5))
+      ≡ Ok (bodies.binary bodies.plus (bodies.signal (1 ∷ 2 ∷ [])) (bodies.constant (Zero ∷ One ∷ [])))
+  pub product : vector site (e.integer_with 32 Multiply (number 5) w)
+      ≡ Ok (bodies.binary bodies.times (bodies.constant (Zero ∷ One ∷ [])) (bodies.signal (1 ∷ 2 ∷ [])))
   -- w + -1 and -1 * w, at the operator
   pub negative : vector site (e.with_integer 32 Add w (minus 1)) ≡ Err (StaticError, 32)
   pub negative_first : vector site (e.integer_with 32 Multiply (minus 1) w) ≡ Err (StaticError, 32)

@@ -23,7 +23,8 @@ use Rattle.vhdl_expand_rules.specs.declared.fault.ElabProblem.TheVariants.{Unass
 use Rattle.vhdl_expand_rules.specs.Integers.{integer}
 use Rattle.vhdl_expand_rules.specs.Site.{no_integers}
 use Rattle.vhdl_elab_rules.specs.Elaboration.{elaborated_net}
-use Rattle.rtl_examples.specs.designs.Words.{number, downto, to, port, signal, from, at, read, literal, assigned, process, assignment, instance, object, input, output, declared}
+use Rattle.rtl_examples.specs.designs.Words.{number, downto, to, port, signal, from, at, read}
+use Rattle.rtl_examples.specs.designs.Words.{literal, assigned, process, assignment, instance, object, input, output, declared}
 use Rattle.rtl_examples.specs.designs.Words.{entity, Of}
 use Rattle.rtl_examples.specs.designs.Designs.{inverter, no_statement}
 
@@ -116,7 +117,9 @@ computed op = assignment (port 0 e.whole) (e.elements (e.Vector.binary 32 op (e.
 
 -- case s is when "01" => null; when others => null; end case;
 abbrev pub short_choice : s.Statement
-short_choice = s.case_of 52 (read (signal 0 e.whole)) (s.alternative (s.values (Zero ∷ One ∷ []) ∷ []) (s.step s.null_of s.done) (s.others (s.step s.null_of s.done)))
+short_choice =
+    s.case_of 52 (read (signal 0 e.whole))
+    (s.alternative (s.values (Zero ∷ One ∷ []) ∷ []) (s.step s.null_of s.done) (s.others (s.step s.null_of s.done)))
 
 -- y <= "01" when s(i) = '1';
 abbrev pub short_when : Static → Concurrent
@@ -128,7 +131,8 @@ pub record LengthsAgree : Type 0 where
   pub short : elaborated_net (in_process (short_literal ∷ []) ∷ []) (codes "d") ≡ Err (Length 2 3, 30)
   pub short_under_false : elaborated_net (in_process (under_false short_literal ∷ []) ∷ []) (codes "d") ≡ Err (Length 2 3, 30)
   pub null_range : elaborated_net (with_signal (to 3 0) [] ∷ []) (codes "d") ≡ Err (Index, 20)
-  pub negative_bound : elaborated_net (with_signal (record { left = number 3; direction = Downto; right = minus 1 }) [] ∷ []) (codes "d") ≡ Err (StaticError, 20)
+  pub negative_bound : elaborated_net (with_signal (record { left = number 3; direction = Downto; right = minus 1 }) [] ∷ []) (codes "d")
+      ≡ Err (StaticError, 20)
   pub too_wide : elaborated_net (with_signal (downto 64 0) [] ∷ []) (codes "d") ≡ Err (TooWide, 20)
   -- the first of two names, and the second one alone
   pub both_too_wide : elaborated_net (with_signals (downto 64 0) (downto 64 0) ∷ []) (codes "d") ≡ Err (TooWide, 20)
@@ -146,8 +150,10 @@ pub record FirstRulesAreTold : Type 0 where
   -- all targets before the first statement
   pub target : elaborated_net (in_process (short_literal ∷ outside_target ∷ []) ∷ []) (codes "d") ≡ Err (Index, 37)
   -- targets before the list, s(4) at 38, which is before the statements
-  pub before_list : elaborated_net (with_four (process (u.listed (from 38 (signal 0 (at (number 4))) ∷ [])) (outside_target ∷ []) ∷ []) ∷ []) (codes "d") ≡ Err (Index, 37)
-  pub list : elaborated_net (with_four (process (u.listed (from 38 (signal 0 (at (number 4))) ∷ [])) (short_literal ∷ []) ∷ []) ∷ []) (codes "d") ≡ Err (Index, 38)
+  pub before_list : elaborated_net (with_four (process (u.listed (from 38 (signal 0 (at (number 4))) ∷ [])) (outside_target ∷ []) ∷ []) ∷ []) (codes "d")
+      ≡ Err (Index, 37)
+  pub list : elaborated_net (with_four (process (u.listed (from 38 (signal 0 (at (number 4))) ∷ [])) (short_literal ∷ []) ∷ []) ∷ []) (codes "d")
+      ≡ Err (Index, 38)
   -- ranges of loops before the statements
   pub turns : elaborated_net (in_process (short_literal ∷ s.for_of 51 (to 0 4096) s.done ∷ []) ∷ []) (codes "d") ≡ Err (TooMany, 51)
   -- a condition before its value
@@ -163,9 +169,11 @@ looping r = in_process (s.for_of 51 r
 pub record TurnsAreWithin : Type 0 where
   pub outside : elaborated_net (looping (to 1 3) ∷ []) (codes "d") ≡ Err (Index, 30)
   pub too_many : elaborated_net (looping (to 0 4096) ∷ []) (codes "d") ≡ Err (TooMany, 51)
-  pub without_bound : elaborated_net (looping (record { left = number 0; direction = To; right = number 2147483648 }) ∷ []) (codes "d") ≡ Err (StaticError, 51)
+  pub without_bound : elaborated_net (looping (record { left = number 0; direction = To; right = number 2147483648 }) ∷ []) (codes "d")
+      ≡ Err (StaticError, 51)
   -- the same of a generate, whose scheme starts at 54
-  pub too_many_generated : elaborated_net (with_four (u.generate_for 54 (codes "g") (to 0 4096) u.no_concurrents ∷ []) ∷ []) (codes "d") ≡ Err (TooMany, 54)
+  pub too_many_generated : elaborated_net (with_four (u.generate_for 54 (codes "g") (to 0 4096) u.no_concurrents ∷ []) ∷ []) (codes "d")
+      ≡ Err (TooMany, 54)
   -- a null range makes no turn, and y is driven
   pub none : Of (elaborated_net (looping (to 1 0) ∷ []) (codes "d")) (λ x. x.flat.idle ≡ replicate 7 [])
 
@@ -199,7 +207,8 @@ pub record ActualsFit : Type 0 where
   pub unassociated : elaborated_net (no_statement ∷ around (None ∷ to_y ∷ []) [] ∷ []) (codes "t") ≡ Err (Unassociated, 40)
   pub no_architecture : elaborated_net (record no_statement { architecture = None } ∷ around (to_a ∷ to_y ∷ []) [] ∷ []) (codes "t") ≡ Err (NoTop, 40)
   -- a generic's actual at the generic's name, in the entity of the instance
-  pub generic : elaborated_net (with_generic None ∷ entity (codes "t") [] [] (u.instance (record { at = 40; label = codes "u"; unit = 0; generics = Some (minus 1) ∷ []; ports = [] }) ∷ []) ∷ []) (codes "t")
+  pub generic : elaborated_net
+      (with_generic None ∷ entity (codes "t") [] [] (u.instance (record { at = 40; label = codes "u"; unit = 0; generics = Some (minus 1) ∷ []; ports = [] }) ∷ []) ∷ []) (codes "t")
       ≡ Err (GenericRange, 6)
 
 -- ---- sources
@@ -228,7 +237,9 @@ unresolved_signal cs = unresolved (entity (codes "t") [] (u.signal (record (obje
 
 -- a : in, z : out, signal m: z <= a; m <= z;
 abbrev pub echoing : Entity
-echoing = entity (codes "k") (input 12 (codes "a") u.element ∷ output 13 (codes "z") u.element ∷ []) (declared 22 (codes "m") u.element ∷ []) (y_from_a ∷ s_from_y ∷ [])
+echoing =
+    entity (codes "k") (input 12 (codes "a") u.element ∷ output 13 (codes "z") u.element ∷ [])
+    (declared 22 (codes "m") u.element ∷ []) (y_from_a ∷ s_from_y ∷ [])
 
 pub record SourcesAreCounted : Type 0 where
   -- y has a driver and an instance's out port
@@ -236,7 +247,8 @@ pub record SourcesAreCounted : Type 0 where
   -- two drivers of y; of s, which is declared behind it; and of both, those of s first
   pub two_drivers : elaborated_net (unresolved_signal (y_from_a ∷ y_from_a ∷ s_from_a ∷ []) ∷ []) (codes "t") ≡ Err (TwoUnresolved, 11)
   pub two_drivers_of_second : elaborated_net (unresolved_signal (y_from_a ∷ s_from_a ∷ s_from_a ∷ []) ∷ []) (codes "t") ≡ Err (TwoUnresolved, 20)
-  pub two_drivers_of_both : elaborated_net (unresolved_signal (s_from_a ∷ s_from_a ∷ y_from_a ∷ y_from_a ∷ []) ∷ []) (codes "t") ≡ Err (TwoUnresolved, 11)
+  pub two_drivers_of_both : elaborated_net (unresolved_signal (s_from_a ∷ s_from_a ∷ y_from_a ∷ y_from_a ∷ []) ∷ []) (codes "t")
+      ≡ Err (TwoUnresolved, 11)
   -- y has two sources, and s takes its value
   pub read_of_shared : elaborated_net (inverter ∷ around (to_a ∷ to_y ∷ []) (y_from_a ∷ s_from_y ∷ []) ∷ []) (codes "t") ≡ Err (ReadOfShared, 11)
   -- y has two sources and stands in a list, or is the actual of an in port
