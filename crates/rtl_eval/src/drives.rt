@@ -141,6 +141,23 @@ impl Drives {
         requires { place < length self.old.entries }
         ensures { self.new ≡ record (self.old) { entries = slice_set self.old.entries place (Some value) } }
     {
+        let alone = Span {
+            first: place,
+            len: 1,
+        };
+        if self.assigned.is_empty() && self.are_free(alone) {
+            self.set_free(alone, &Copied { codes: &[value] });
+        } else {
+            self.set_beside(place, value);
+        }
+    }
+
+    /// The same where drivers may have entries.
+    #[tactic(auto, using(crate::proofs::Assigned::as_many_entries))]
+    fn set_beside(&mut self, place: usize, value: u8)
+        requires { place < length self.old.entries }
+        ensures { self.new ≡ record (self.old) { entries = slice_set self.old.entries place (Some value) } }
+    {
         if !self.marks.has(place) {
             self.marks.set(place);
             self.assigned.push_reserved(Span {

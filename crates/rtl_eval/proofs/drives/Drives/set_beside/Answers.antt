@@ -10,8 +10,8 @@ use Rattle.rtl_eval.specs.Tracked.{AreAssigned, LieWithin, entries_of, outcome_o
 use Rattle.rtl_eval.proofs.Assigned.{as_many_entries, is_marked, set_marked, set_again}
 use Rattle.rtl_eval.proofs.Places.{places_more}
 use Rattle.rtl_eval.proofs.Listing.{room_left, listed_more, listed_again}
-use Rattle.rtl_eval.proofs.drives.Drives.set.Goals as goal
-use Rattle.rtl_eval.proofs.drives.Drives.set.Goals.{then-not-has, else-not-has}
+use Rattle.rtl_eval.proofs.drives.Drives.set_beside.Goals as goal
+use Rattle.rtl_eval.proofs.drives.Drives.set_beside.Goals.{then-not-has, else-not-has}
 
 module _ (d : Inside) (I : IsTracked d) (o : Outcome) (is : outcome_of d ≡ o) (place : ℕ) (there : place < length o.entries) where
   there_marked : place < length d.marks
