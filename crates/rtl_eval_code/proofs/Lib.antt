@@ -1,4 +1,5 @@
 pub mod Leading
+pub mod Spanned
 pub mod Copied
 pub mod Places
 pub mod Lengths

@@ -1,3 +1,4 @@
+pub mod Spans
 pub mod Instructions
 pub mod Operated
 pub mod Ends

@@ -1,14 +1,19 @@
 -- What a kernel's parts ask, and that its steps keep what holds of every kernel.
-use Rattle.std.proofs.Common.{◌≡◌, ℕ, ◌<◌, ◌≤◌, Bool, true, false, List, [], length, get_or, set, map, refl, sym, ap, subst, ◌∙◌, Contains, All}
-use Rattle.std.proofs.lemmas.List.{length-map}
+use Rattle.std.proofs.Common.{◌≡◌, ℕ, ◌<◌, ◌≤◌, Bool, true, false, List, [], length, get_or, set, map, Option, refl, sym, ap, subst, ◌∙◌, arith, Contains, All}
+use Rattle.std.specs.Prelude.{IfSome}
+use Rattle.std.proofs.lemmas.List.{length-map, length-set}
 use Rattle.rtl_model.specs.bodies.Types.{ElementType, KeepsTypes}
 use Rattle.rtl_model.specs.nets.FlatNetlist.{FlatProcess, process_at, flat_sources}
 use Rattle.rtl_model.specs.nets.CoreNetlist.{core_netlist, part_effect}
 use Rattle.rtl_model.specs.simulation.Netlist.{Source}
 use Rattle.rtl_model.specs.simulation.Cycle.{State, with_changes, all_driver_values, after_inputs, is_quiet, after_run, resumed_processes, after_update}
+use Rattle.rtl_model.proofs.nets.Connected.{connected_is_elaborated}
 use Rattle.rtl_model.proofs.nets.Sources.{sources-core_net}
 use Rattle.rtl_model.proofs.simulation.Order.{waits_in}
 use Rattle.vhdl_values.specs.declared.scalar.Nine.{Nine}
+use Rattle.rtl_awaited.specs.declared.awaited.ClockEdge.{ClockEdge}
+use Rattle.rtl_awaited.specs.Awaiting.{IsAsleep}
+use Rattle.rtl_awaited.proofs.Following.{first_there, follower_left}
 use Rattle.rtl_eval.specs.Runs.{IsOf}
 use Rattle.rtl_net_layout.specs.Cuts.{Cutting, AreCutsOf}
 use Rattle.rtl_net_layout.specs.Groups.{Grouping}
@@ -27,12 +32,13 @@ use Rattle.rtl_kernel.specs.worklists.Numbers.{Numbers}
 use Rattle.rtl_kernel.proofs.Changing.{given_values}
 use Rattle.rtl_kernel.proofs.Cycles.{woken_are_resumed, brought_are_updated}
 use Rattle.rtl_kernel.proofs.Inputs.{are_inputs, named}
-use Rattle.rtl_kernel.proofs.Running.{effect_length, room_ran, room_taken, state_given, state_ran, state_updated}
+use Rattle.rtl_kernel.proofs.Running.{effect_length, room_ran, room_taken, state_asleep, state_given, state_ran, state_updated}
 use Rattle.rtl_kernel.proofs.Steps.{keeps_types, sound_given, sound_ran, sound_updated, sources_there, wired}
 use Rattle.rtl_kernel.proofs.Wiring.{targets_are, wakes_are}
 
 module _ {E : Type 0} (process : E → FlatProcess) (types : E → List ElementType) (most : E → ℕ) (net : NetlistView) (bodies : List E) (cuts : Cutting) (alone : List Bool)
-    (v : TwoValues) (t : Transactions) (r : ToRun) (noted : Numbers) (K : IsKernel process types most net bodies cuts alone v t r noted) where
+    (v : TwoValues) (t : Transactions) (r : ToRun) (noted : Numbers) (awaited : Option ClockEdge) (followers : List Bool)
+    (K : IsKernel process types most net bodies cuts alone v t r noted awaited followers) where
   abbrev pub before_step : State
   before_step = state_of v t r
 
@@ -48,17 +54,56 @@ module _ {E : Type 0} (process : E → FlatProcess) (types : E → List ElementT
   pub before_typed : KeepsTypes net.types v.before
   before_typed = keeps_types (flat net) K.in_range K.connected v.before K.sound.in_range.before
 
+  -- the clock of the edge is there
+  pub clock_now : IfSome awaited (λ (e : ClockEdge). e.clock < length v.current)
+  clock_now = first_there net K.in_range v.current K.sound.in_range.now.each_net awaited K.follow.first
+
+  pub clock_before : IfSome awaited (λ (e : ClockEdge). e.clock < length v.before)
+  clock_before = first_there net K.in_range v.before K.sound.in_range.before.each_net awaited K.follow.first
+
   -- ---- a process that is to run
 
   module _ (p : ℕ) (waits : get_or r.waiting p false ≡ true) where
     pub in_processes : p < length (flat net).processes
     in_processes = rw (← K.sound.each_process) (waits_in r.waiting p waits)
 
+    pub in_followers : p < length followers
+    in_followers = rw (K.follow.each_process, length-map) in_processes
+
+    module _ (r' : ToRun) (follows : get_or followers p false ≡ true) (asleep : IsAsleep awaited v.before v.current) (waiting : r'.waiting ≡ set r.waiting p false) where
+      pub is_asleep : state_of v t r' ≡ after_run (core_netlist (flat net)) p before_step
+      is_asleep =
+          state_asleep (flat net) v t r r' p (rw (K.room.as_many) in_processes) (K.room.own p (rw (K.room.as_many) in_processes))
+          (follower_left net (connected_is_elaborated (flat net) K.in_range K.connected) awaited followers K.follow v.before v.current p follows asleep) waiting
+
+      pub kept_asleep : IsKernel process types most net bodies cuts alone v t r' noted awaited followers
+      kept_asleep = record {
+        in_range = K.in_range;
+        connected = K.connected;
+        run_bodies = K.run_bodies;
+        room = K.room;
+        sound = subst (IsSound (flat net)) (sym is_asleep) (sound_ran (flat net) K.in_range K.connected before_step p K.sound);
+        is_index = K.is_index;
+        each_net = K.each_net;
+        marked = K.marked;
+        are_cuts = K.are_cuts;
+        follow = K.follow;
+        idle = K.idle;
+      }
+
     pub in_bodies : p < length bodies
     in_bodies = rw (K.run_bodies.as_many) in_processes
 
     pub in_outcomes : p < length t.outcomes
     in_outcomes = rw (K.room.as_many) in_processes
+
+    -- as many processes are counted as there are
+    module _ (r' : ToRun) (waiting : r'.waiting ≡ set r.waiting p false) where
+      pub each_body : length r'.waiting ≤ length bodies
+      each_body = omega (arith, ap length waiting, length-set r.waiting p false, K.sound.each_process, K.run_bodies.as_many)
+
+      pub each_outcome : length r'.waiting ≤ length t.outcomes
+      each_outcome = omega (arith, ap length waiting, length-set r.waiting p false, K.sound.each_process, K.room.as_many)
 
     pub fresh : IsActive (pending_of t.outcomes) p → ⊥
     fresh = K.sound.fresh p waits
@@ -81,7 +126,7 @@ module _ {E : Type 0} (process : E → FlatProcess) (types : E → List ElementT
         pub is_ran : state_of v t' r' ≡ after_run (core_netlist (flat net)) p before_step
         is_ran = state_ran (flat net) v t r t' r' p (process e) process_is in_outcomes own fresh drivers R waiting
 
-        pub kept_ran : IsKernel process types most net bodies cuts alone v t' r' noted
+        pub kept_ran : IsKernel process types most net bodies cuts alone v t' r' noted awaited followers
         kept_ran = record {
           in_range = K.in_range;
           connected = K.connected;
@@ -93,6 +138,7 @@ module _ {E : Type 0} (process : E → FlatProcess) (types : E → List ElementT
           each_net = K.each_net;
           marked = K.marked;
           are_cuts = K.are_cuts;
+          follow = K.follow;
           idle = K.idle;
         }
 
@@ -133,7 +179,7 @@ module _ {E : Type 0} (process : E → FlatProcess) (types : E → List ElementT
         (subst (λ (rows : List (List ℕ)). AreResolved (core_netlist (flat net)) rows (λ n. Contains nets.members (get_or v.groups.of_net n 0)) mid.current v'.current) drivers R))
         drivers outcomes (wakes_same v'.groups v'.before v'.current r'.waiting groups as_many W)
 
-    pub kept_updated : (noted' : Numbers) → noted' ≡ record { bound = length v.groups.listed; members = [] } → IsKernel process types most net bodies cuts alone v' t' r' noted'
+    pub kept_updated : (noted' : Numbers) → noted' ≡ record { bound = length v.groups.listed; members = [] } → IsKernel process types most net bodies cuts alone v' t' r' noted' awaited followers
     kept_updated noted' idle = record {
       in_range = K.in_range;
       connected = K.connected;
@@ -144,6 +190,7 @@ module _ {E : Type 0} (process : E → FlatProcess) (types : E → List ElementT
       each_net = ap (λ (g : Grouping). length g.of_net) groups ∙ K.each_net;
       marked = subst (λ (g : Grouping). MarkAlone (flat net) g alone) (sym groups) K.marked;
       are_cuts = subst (λ (g : Grouping). AreCutsOf g.of_net (all_targets net.processes) cuts) (sym groups) K.are_cuts;
+      follow = K.follow;
       idle = idle ∙ ap (λ (g : Grouping). record { bound = length g.listed; members = [] }) (sym groups);
     }
 
@@ -157,7 +204,7 @@ module _ {E : Type 0} (process : E → FlatProcess) (types : E → List ElementT
         (given_values (core_netlist (flat net)) (changes_of cs) v.current v'.current K.sound.in_range.now.each_net C (named (flat net) K.in_range cs inputs))
         (wakes_same v'.groups v'.before v'.current r'.waiting groups as_many W)
 
-    pub kept_given : is_quiet before_step ≡ true → IsKernel process types most net bodies cuts alone v' t r' noted
+    pub kept_given : is_quiet before_step ≡ true → IsKernel process types most net bodies cuts alone v' t r' noted awaited followers
     kept_given quiet = record {
       in_range = K.in_range;
       connected = K.connected;
@@ -169,5 +216,6 @@ module _ {E : Type 0} (process : E → FlatProcess) (types : E → List ElementT
       each_net = ap (λ (g : Grouping). length g.of_net) groups ∙ K.each_net;
       marked = subst (λ (g : Grouping). MarkAlone (flat net) g alone) (sym groups) K.marked;
       are_cuts = subst (λ (g : Grouping). AreCutsOf g.of_net (all_targets net.processes) cuts) (sym groups) K.are_cuts;
+      follow = K.follow;
       idle = K.idle ∙ ap (λ (g : Grouping). record { bound = length g.listed; members = [] }) (sym groups);
     }

@@ -10,6 +10,7 @@ pub mod Resolving
 pub mod Waking
 pub mod Grouped
 pub mod Ordering
+pub mod Relisting
 pub mod Places
 pub mod Picking
 pub mod Updating

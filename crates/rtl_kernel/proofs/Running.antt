@@ -1,7 +1,7 @@
 -- The steps of a kernel are those of rtl_model.
 use Rattle.std.proofs.Common.{◌≡◌, ℕ, zero, suc, ◌<◌, ◌≤◌, false, List, [], ◌∷◌, length, get_or, set, map, Option, None, refl, sym, ap, ◌∙◌, arith, ◌⊎◌, inl, inr}
 use Rattle.std.proofs.lemmas.Bool.{cases_eq}
-use Rattle.std.proofs.lemmas.List.{get_or-set_same, get_or-set_other, length-set, length-map, length-replicate, map-set}
+use Rattle.std.proofs.lemmas.List.{get_or-set_same, get_or-set_other, length-set, length-map, length-replicate, map-set, set-get_or}
 use Rattle.std.proofs.lemmas.List.FromFn.{length-map-range_with_len}
 use Rattle.rtl_model.specs.nets.FlatNetlist.{FlatNetlist, FlatProcess, process_at}
 use Rattle.rtl_model.specs.nets.CoreNetlist.{core_netlist, part_effect}
@@ -14,7 +14,7 @@ use Rattle.rtl_kernel.specs.drivers.Transactions.{Transactions, IsActive, HasRun
 use Rattle.rtl_kernel.specs.kernel.Kept.{HaveRoom, state_of}
 use Rattle.rtl_kernel.specs.values.TwoValues.{TwoValues}
 use Rattle.rtl_kernel.specs.wakes.ToRun.{ToRun}
-use Rattle.rtl_kernel.proofs.Steps.{over_fresh}
+use Rattle.rtl_kernel.proofs.Steps.{over_fresh, over_nothing}
 use Rattle.rtl_kernel.proofs.Updating.{pending_without}
 
 -- an outcome that a run of its own process has left
@@ -80,6 +80,19 @@ module _ (net : FlatNetlist) (v : TwoValues) (t : Transactions) (r : ToRun) wher
       ap pending_of R.is ∙ map-set (λ (x : Outcome). x.entries) t.outcomes p R.outcome ∙ ap (set (pending_of t.outcomes) p) (R.leaves.entries_are ∙ sym over_row)
       ∙ ap (λ (e : List (Option ℕ)). set (pending_of t.outcomes) p (over e (get_or (pending_of t.outcomes) p []))) (effect_is p q q_is) in
       λ i. record { before = v.before; now = v.current; drivers = drivers i; pending = pending i; waiting = waiting i }
+
+  -- one that assigns nothing has run where it is taken off
+  pub state_asleep : (r' : ToRun) (p : ℕ) → p < length t.outcomes → IsOf (process_at net p) (get_or t.outcomes p no_outcome)
+      → ((place : ℕ) → get_or ((process (core_netlist net) p).effect v.before v.current) place None ≡ None) → r'.waiting ≡ set r.waiting p false
+      → state_of v t r' ≡ after_run (core_netlist net) p state
+  state_asleep r' p there own nothing waiting =
+      let effect = (process (core_netlist net) p).effect v.before v.current in
+      let row = get_or (pending_of t.outcomes) p [] in
+      let row_long = ap length (get_or-map_within (λ (x : Outcome). x.entries) t.outcomes p no_outcome [] there) ∙ own.each_driver in
+      let effect_long : length effect ≡ length (process_at net p).drivers = sym (ap length (effect_is p (process_at net p) refl)) ∙ effect_length (process_at net p) in
+      let pending : pending_of t.outcomes ≡ set (pending_of t.outcomes) p (over effect row) =
+      sym (ap (set (pending_of t.outcomes) p) (over_nothing effect row (omega (arith, row_long, effect_long)) nothing) ∙ set-get_or (pending_of t.outcomes) p []) in
+      λ i. record { before = v.before; now = v.current; drivers = t.drivers; pending = pending i; waiting = waiting i }
 
   pub state_updated : (v' : TwoValues) (t' : Transactions) (r' : ToRun) → v'.before ≡ v.current → v'.current ≡ (after_update (core_netlist net) state).now
       → t'.drivers ≡ all_driver_values (pending_of t.outcomes) t.drivers → t'.outcomes ≡ map without_entries t.outcomes

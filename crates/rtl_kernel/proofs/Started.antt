@@ -16,8 +16,11 @@ use Rattle.rtl_model.specs.simulation.Laws.{IsConsistent}
 use Rattle.rtl_model.specs.simulation.Range.{AreInputs, StateInRange}
 use Rattle.rtl_model.proofs.basics.Lists.{contains_in, in_contains, get_or-map_within}
 use Rattle.rtl_model.proofs.nets.InRange.{keeps_range, limit-at}
+use Rattle.rtl_awaited.specs.declared.awaited.ClockEdge.{ClockEdge}
+use Rattle.rtl_awaited.specs.Awaiting.{AreFollowers}
 use Rattle.rtl_eval.specs.Runs.{Outcome}
 use Rattle.rtl_net_layout.specs.Cuts.{Cutting, AreCutsOf}
+use Rattle.rtl_net.specs.Core.{core}
 use Rattle.rtl_net.specs.Nets.{NetlistView, flat, driver_view, process_view}
 use Rattle.rtl_net.specs.declared.process.Driver as r
 use Rattle.rtl_net.specs.declared.process.Process as q
@@ -158,10 +161,10 @@ module _ {E : Type 0} (process : E → FlatProcess) (types : E → List ElementT
     fresh = λ p waits a. none_fresh net.processes p (subst (λ (rows : List (List (Option ℕ))). (place : ℕ) × IsSome (get_or (get_or rows p []) place None)) F.entries a);
   }
 
-  pub kept_started : (cuts : Cutting) (alone : List Bool) (noted : Numbers) → IsIndex (map (λ (p : q.Process). p.wakes.items) net.processes) (wakers_of v.groups) → length v.groups.of_net ≡ length net.types
+  pub kept_started : (cuts : Cutting) (alone : List Bool) (noted : Numbers) (awaited : Option ClockEdge) (followers : List Bool) → IsIndex (map (λ (p : q.Process). p.wakes.items) net.processes) (wakers_of v.groups) → length v.groups.of_net ≡ length net.types
       → MarkAlone (flat net) v.groups alone → AreCutsOf v.groups.of_net (all_targets net.processes) cuts → noted ≡ record { bound = length v.groups.listed; members = [] }
-      → IsKernel process types most net bodies cuts alone v t r noted
-  kept_started cuts alone noted I each_net marks are_cuts idle = record {
+      → AreFollowers (core net) awaited followers → IsKernel process types most net bodies cuts alone v t r noted awaited followers
+  kept_started cuts alone noted awaited followers I each_net marks are_cuts idle follow = record {
     in_range = R;
     connected = C;
     run_bodies = B;
@@ -171,6 +174,7 @@ module _ {E : Type 0} (process : E → FlatProcess) (types : E → List ElementT
     each_net = each_net;
     marked = marks;
     are_cuts = are_cuts;
+    follow = follow;
     idle = idle;
   }
 

@@ -34,6 +34,13 @@ over_fresh (Some v ∷ as') (b ∷ bs) l h = ap (λ xs. Some v ∷ xs) (over_fre
 over_fresh (None ∷ as') (None ∷ bs) l h = ap (λ xs. None ∷ xs) (over_fresh as' bs (omega arith) (λ place. h (suc place)))
 over_fresh (None ∷ as') (Some v ∷ bs) l h = absurd (h zero refl)
 
+-- a row over which nothing is put
+pub over_nothing : (as' bs : List (Option ℕ)) → length as' ≤ length bs → ((place : ℕ) → get_or as' place None ≡ None) → over as' bs ≡ bs
+over_nothing [] bs l h = refl
+over_nothing (a ∷ as') [] l h = absurd (omega arith)
+over_nothing (Some v ∷ as') (b ∷ bs) l h = let f : Some v ≡ None = h zero in absurd cc
+over_nothing (None ∷ as') (b ∷ bs) l h = ap (λ xs. b ∷ xs) (over_nothing as' bs (omega arith) (λ place. h (suc place)))
+
 module _ (net : FlatNetlist) (in_range : IsInRange net) (connected : IsConnected net) where
   pub wired : IsWired (core_netlist net)
   wired = (connected_is_elaborated net in_range connected).wiring

@@ -18,7 +18,7 @@ ghost use Rattle.rtl_kernel.specs.drivers.Updates.{TakesEntries, IsTaken};
 ghost use Rattle.rtl_kernel.specs.values.TwoValues.{IsWritten, group_of};
 ghost use Rattle.rtl_net_layout.specs.Cuts.{AreCuts, AreCutsOf};
 
-use crate::slices::{replace, write};
+use crate::slices::replace;
 use crate::starts::{start_values, variable_starts};
 use crate::values::Values;
 use crate::worklist::Worklist;
@@ -98,6 +98,14 @@ impl Drivers {
         ensures { result ≡ not (list_any (list_any is_some) (pending_of self.now.outcomes)) }
     {
         self.active.members().is_empty()
+    }
+
+    /// How many values the run of a process may lay aside.
+    pub fn room(&self, process: usize) -> usize
+        requires { process < length self.now.outcomes }
+        ensures { result ≡ (slice_index_or self.now.outcomes process no_outcome).room }
+    {
+        self.outcomes[process].room()
     }
 
     /// Every transaction becomes its driver's value. Nets with one source get the new values of their drivers at once, and the
@@ -363,7 +371,7 @@ fn take(run: Run, assigned: &[u8], values: &mut [u8], nets: &mut Values, noted: 
     ensures brings { BringsRun run.is_alone run.place run.net run.group assigned.now values.old nets.old noted.old nets.new noted.new }
 {
     if run.is_alone {
-        write(values, run.place, assigned);
+        let _differ = replace(values, run.place, assigned);
         nets.set_run(run.group, run.net, assigned);
     } else if replace(values, run.place, assigned) {
         noted.insert(run.group);

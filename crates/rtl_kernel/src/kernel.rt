@@ -1,10 +1,11 @@
 //! The kernel.
 
-ghost use Rattle.std.specs.Prelude.{◌≡◌, ◌<◌, ◌≤◌, ℕ, List, All, length, slice_index, Contains, IfOk, MatchResult, IsTrue};
+ghost use Rattle.std.specs.Prelude.{◌≡◌, ◌<◌, ◌≤◌, ℕ, List, All, length, slice_index, Contains, IfOk, MatchResult, IsTrue, true};
 ghost use Rattle.std.specs.List.{count_by};
 ghost use Rattle.rtl_model.specs.nets.CoreNetlist.{core_netlist};
 ghost use Rattle.rtl_model.specs.simulation.Cycle.{start_state, after_inputs, after_update, after_run, with_changes, is_quiet};
 ghost use Rattle.rtl_model.specs.simulation.Moments.{HasNoneToRun, HasRun, Delta, SettlesTo, IsUnsettled};
+ghost use Rattle.rtl_awaited.specs.Awaiting.{IsAsleep, first_edge};
 ghost use Rattle.rtl_net.specs.Nets.{flat};
 ghost use Rattle.rtl_kernel.specs.kernel.Simulation.{changes_of, initial_inputs};
 ghost use Rattle.rtl_kernel.specs.kernel.Kept.{RunBodies};
@@ -21,6 +22,7 @@ use crate::update::resolve_groups;
 use crate::values::Values;
 use crate::wakes::alone_groups;
 use crate::worklist::Worklist;
+use rtl_awaited::{ClockEdge, followers_of, is_asleep};
 use rtl_eval::Exec;
 use rtl_net::Net;
 use rtl_net_layout::{Cuts, Touched};
@@ -39,6 +41,11 @@ pub struct Kernel<'a, E: Exec> {
     drivers: Drivers,
     resumed: Resumed,
     noted: Worklist,
+    /// The edge that the first process awaits of those that await one, and who awaits just that one.
+    awaited: Option<ClockEdge>,
+    followers: Vec<bool>,
+    /// What was read of the process that is to run next: so it comes from memory while the present one runs. Nothing asks for it.
+    ahead: usize,
 }
 
 impl<E: Exec> Drop for Kernel<'_, E> {
@@ -52,6 +59,9 @@ impl<E: Exec> Drop for Kernel<'_, E> {
             drivers: _,
             resumed: _,
             noted: _,
+            awaited: _,
+            followers: _,
+            ahead: _,
         } = self;
     }
 }
@@ -73,7 +83,7 @@ impl<'a, E: Exec> Model for Kernel<'a, E> {
 
     ghost view = { λ k. record { net = k.net.now; state = state_of k.values k.drivers k.resumed } };
 
-    ghost invariant = { λ k. IsKernel E.process E.types E.most k.net.now k.bodies.now k.cuts k.alone.items k.values k.drivers k.resumed k.noted };
+    ghost invariant = { λ k. IsKernel E.process E.types E.most k.net.now k.bodies.now k.cuts k.alone.items k.values k.drivers k.resumed k.noted k.awaited k.followers.items };
 }
 
 impl<'a, E: Exec> Kernel<'a, E> {
@@ -105,7 +115,8 @@ impl<'a, E: Exec> Kernel<'a, E> {
         let resumed = Resumed::all(alloc, processes.len());
         let updates = both(cuts, noted);
         let runs = both(drivers, resumed);
-        let ((cuts, noted), (drivers, resumed)) = both(updates, runs)?;
+        let runs = both(runs, followers_of(alloc, net));
+        let ((cuts, noted), ((drivers, resumed), (awaited, followers))) = both(updates, runs)?;
         Ok(Kernel {
             net,
             bodies,
@@ -115,6 +126,9 @@ impl<'a, E: Exec> Kernel<'a, E> {
             drivers,
             resumed,
             noted,
+            awaited,
+            followers,
+            ahead: 0,
         })
     }
 
@@ -221,22 +235,21 @@ impl<'a, E: Exec> Kernel<'a, E> {
         }
     }
 
-    /// How many processes are to run.
-    fn to_run(&self) -> usize
-        ensures count { result ≡ count_by (λ b. b) self.entry.now.state.waiting }
-        ensures none { result ≡ 0 → HasNoneToRun self.entry.now.state }
-    {
-        self.resumed.len()
-    }
-
-    /// Runs the process at a place among those that are to run, in order of number.
-    fn run_one(&mut self, place: usize)
-        requires { place < count_by (λ b. b) self.old.state.waiting }
+    /// Runs the process at a place among those that are to run, in order of number. One that would assign nothing, since the edge
+    /// that it acts at isn't there, is only taken off their list. The next one is brought from memory meanwhile.
+    #[inline(always)]
+    fn run_one(&mut self, place: usize, asleep: bool)
+        requires place { place < count_by (λ b. b) self.old.state.waiting }
+        requires asleep { asleep ≡ true → IsAsleep (first_edge (core_netlist (flat self.old.net)).processes) self.old.state.before self.old.state.now }
         ensures net { self.new.net ≡ self.old.net }
         ensures ran { (process : ℕ) × IsAt self.old.state.waiting place process × (self.new.state ≡ after_run (core_netlist (flat self.old.net)) process self.old.state) }
     {
         let process = self.resumed.take(place);
+        if asleep && self.followers[process] {
+            return;
+        }
         let bodies = self.bodies;
+        self.ahead = self.resumed.look_ahead(bodies, &self.drivers);
         self.drivers.run(
             process,
             &bodies[process],
@@ -251,11 +264,12 @@ impl<'a, E: Exec> Kernel<'a, E> {
         ensures ran { HasRun (core_netlist (flat self.old.net)) self.old.state self.new.state }
         ensures picked { HasRunAsPicked P.picks (core_netlist (flat self.old.net)) pick.old pick.new self.old.state self.new.state }
     {
-        let mut left = self.to_run();
+        let asleep = is_asleep(self.awaited, self.values.before(), self.values.now());
+        let mut left = self.resumed.len();
         while left > 0 {
             let place = pick.pick(left);
-            self.run_one(place);
-            left = self.to_run();
+            self.run_one(place, asleep);
+            left = self.resumed.len();
         }
     }
 

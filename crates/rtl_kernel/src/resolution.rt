@@ -9,6 +9,7 @@ ghost use Rattle.rtl_model.specs.simulation.Cycle as cycle;
 ghost use Rattle.rtl_net.specs.Nets.{source_view};
 ghost use Rattle.rtl_kernel.specs.drivers.Rows.{rows, IsSourceThere};
 
+use rtl_eval::nine;
 use rtl_net::Source;
 use vhdl_values::{Nine, resolve};
 
@@ -21,13 +22,6 @@ fn source_value(source: &Source, drivers: &[Vec<u8>]) -> u8
         Source::Driven { process, place } => drivers[*process][*place],
         Source::Idle { start } => *start,
     }
-}
-
-/// The value of the nine that has this code; other codes count as `X`.
-fn nine_of(code: u8) -> Nine
-    ensures { result ≡ value_of_code code }
-{
-    Nine::from_code(code).unwrap_or(Nine::X)
 }
 
 /// The value that these sources, of which there is one at least, give their net (IEEE 1076-2008, 14.7.3.2).
@@ -49,7 +43,7 @@ fn several(sources: &[Source], drivers: &[Vec<u8>]) -> u8
 {
     let mut value = Nine::Z;
     for source in sources {
-        value = resolve(&[value, nine_of(source_value(source, drivers))]);
+        value = resolve(&[value, nine(source_value(source, drivers))]);
     }
     value.code()
 }

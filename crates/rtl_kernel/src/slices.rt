@@ -6,15 +6,6 @@ ghost use Rattle.rtl_kernel.specs.values.TwoValues.{IsOther, IsOtherFrom, IsWrit
 use crate::comparing::are_different;
 use std::simd::prelude::*;
 
-/// Writes these values over those from a place on.
-#[inline(always)]
-pub fn write(over: &mut [u8], first: usize, values: &[u8])
-    requires { first + length values.now ≤ length over.old }
-    ensures { IsWritten first values.now over.old over.new }
-{
-    let _differ = replace(over, first, values);
-}
-
 /// Writes these values over those from a place on. Answers whether they differ.
 #[inline(always)]
 pub fn replace(over: &mut [u8], first: usize, values: &[u8]) -> bool

@@ -7,7 +7,7 @@ ghost use Rattle.rtl_kernel.specs.kernel.Simulation.{changes_of, each_given};
 ghost use Rattle.rtl_kernel.specs.values.TwoValues.{AreChanged, CoverEvents, HasEventIn, HasWritten, group_of};
 
 use crate::comparing::are_other;
-use crate::slices::{replace, write};
+use crate::slices::replace;
 use crate::worklist::Worklist;
 use rtl_net_layout::Groups;
 use std::alloc::{AllocError, Global};
@@ -208,6 +208,6 @@ fn bring_up(before: &mut [u8], current: &[u8], groups: &Groups, changed: &[usize
     for group in changed {
         let first = groups.first(*group);
         let end = groups.end(*group);
-        write(before, first, &current[first..end]);
+        let _differ = replace(before, first, &current[first..end]);
     }
 }

@@ -1,26 +1,12 @@
 -- Marked processes that run, or that would leave nothing.
-use Rattle.std.proofs.Common.{◌≡◌, ℕ, zero, suc, ◌+◌, ◌<◌, ◌≤◌, Bool, true, false, List, [], ◌∷◌, ◌++◌, length, get_or, set, map, Option, Some, None, refl, sym, ap, subst, ◌∙◌, arith, ◌⊎◌, inl, inr}
-use Rattle.std.specs.Prelude.{option_map, IfSome}
+use Rattle.std.proofs.Common.{◌≡◌, ℕ, ◌+◌, ◌<◌, ◌≤◌, Bool, true, false, List, length, get_or, set, Option, None, refl, sym, ap, subst, ◌∙◌, arith, ◌⊎◌, inl, inr}
 use Rattle.std.proofs.lemmas.Bool.{cases_Bool, cases_lt, cases_eq}
-use Rattle.std.proofs.lemmas.List.{get_or-set_same, get_or-set_other, get_or_past, length-append, length-map, length-set}
-use Rattle.rtl_model.specs.simulation.Netlist.{Netlist, Edge, process, target, Clocked, HasPlace, IsCombinational}
-use Rattle.rtl_model.specs.simulation.Elaborated.{IsElaborated}
+use Rattle.std.proofs.lemmas.List.{get_or-set_same, get_or-set_other, get_or_past, length-set}
+use Rattle.rtl_model.specs.simulation.Netlist.{Netlist, process, target, HasPlace, IsCombinational}
 use Rattle.rtl_model.specs.simulation.Machine.{entry_or}
-use Rattle.rtl_model.specs.basics.Valuations.{clocked_entry}
-use Rattle.rtl_model.specs.simulation.Netlist as m
 use Rattle.rtl_model.proofs.simulation.Leveled.{Leveled}
-use Rattle.rtl_model.specs.bodies.Kinds as k
-use Rattle.rtl_model.specs.bodies.Reads.{events}
-use Rattle.rtl_model.specs.nets.CoreNetlist.{core_kind, core_process, core_reset}
-use Rattle.rtl_model.specs.nets.FlatNetlist.{FlatProcess}
-use Rattle.rtl_model.proofs.basics.Lists.{get_or-map_within}
-use Rattle.rtl_net.specs.Core.{core}
-use Rattle.rtl_net.specs.Nets.{NetlistView, body_of, process_view}
-use Rattle.rtl_net.specs.declared.process.Process.{Process}
-use Rattle.rtl_net_facts.specs.Timing.{kind_view, part_net}
-use Rattle.rtl_synchronous.specs.declared.awaited.ClockEdge.{ClockEdge}
 use Rattle.rtl_net_layout.specs.NextMarks.{AreUnmarked}
-use Rattle.rtl_synchronous.specs.Scheduled.{AreEdges, IsAsleep, IsNext, edge_alone, unless_reset}
+use Rattle.rtl_synchronous.specs.Scheduled.{IsNext}
 use Rattle.rtl_synchronous.specs.Steps.{AllTakeOver, HaveRun, IsDrivenByMarked}
 use Rattle.rtl_synchronous.proofs.Settling.{one_process}
 
@@ -141,14 +127,6 @@ module _ (net : Netlist) (before v : List ℕ) (marked : List Bool) where
             by (inl l) = omega (arith, l, all)
             by (inr l) = let f = get_or_past marked p false l in cc
 
--- a clocked process without a reset leaves nothing without its edge
-pub leaves_nothing : (net : Netlist) → IsElaborated net → (p clock : ℕ) (edge : Edge) → (process net p).kind ≡ Clocked clock edge None → (before v : List ℕ)
-    → net.edge edge (get_or before clock 0) (get_or v clock 0) ≡ false → (place : ℕ) → get_or ((process net p).effect before v) place None ≡ None
-leaves_nothing net E p clock edge is before v none place =
-    E.bodies.clocked_acts p clock place edge before v (None, is)
-    ∙ ap (λ (k : m.ProcessKind). clocked_entry (m.resets (m.kind_reset k) (λ n. get_or v n 0)) (net.edge edge (get_or before clock 0) (get_or v clock 0)) (m.reset_entry (m.kind_reset k) place) (get_or ((process net p).acting_effect v) place None)) is
-    ∙ ap (λ (b : Bool). clocked_entry false b None (get_or ((process net p).acting_effect v) place None)) none
-
 -- what is taken over of those that have run is what is taken over of all
 pub with_asleep : (net : Netlist) → Leveled net → (before v w : List ℕ) (marked still : List Bool) (entries : ℕ → List (Option ℕ)) → HaveRun net before v marked still entries
     → AllTakeOver net still entries v w → AllTakeOver net marked (λ p. (process net p).effect before v) v w
@@ -167,77 +145,3 @@ with_asleep net L before v w marked still entries R T = record {
         T.on_targets p place t has ∙ ap (λ (row : List (Option ℕ)). entry_or (get_or row place None) (get_or v (target net p place) 0)) (R.ran p t)
     by p place h has (inr f) =
         T.on_others (target net p place) (other p place has f) ∙ sym (ap (λ (o : Option ℕ). entry_or o (get_or v (target net p place) 0)) (R.asleep p place h f))
-
--- ---- edges
-
--- what is kept of a process that is clocked without a reset is its kind
-alone : (p : FlatProcess) (o : Option k.Clocking) (ns : List ℕ) (e : ClockEdge) → edge_alone (kind_view o ns) ≡ Some e → core_kind p o ns ≡ Clocked e.clock e.edge None
-alone p None [] e is = let f : None ≡ Some e = is in cc
-alone p None (n ∷ ns) e is = let f : None ≡ Some e = is in cc
-alone p (Some c) ns e is = by c.reset refl
-  where
-    here : ClockEdge
-    here = record { clock = c.test.clock; edge = c.test.edge }
-
-    by : (o : Option k.ResetPart) → c.reset ≡ o → core_kind p (Some c) ns ≡ Clocked e.clock e.edge None
-    by None none =
-        let one : Some here ≡ Some e = sym (ap (λ (r : Option k.ResetPart). unless_reset (option_map part_net r) here) none) ∙ is in
-        let same : here ≡ e = cc in
-        ap (λ (r : Option k.ResetPart). Clocked c.test.clock c.test.edge (core_reset p r)) none ∙ ap (λ (x : ClockEdge). Clocked x.clock x.edge None) same
-    by (Some r) some = let f : None ≡ Some e = sym (ap (λ (r : Option k.ResetPart). unless_reset (option_map part_net r) here) some) ∙ is in cc
-
-pub kind_alone : (net : NetlistView) (p : ℕ) (x : Process) → p < length net.processes → x ≡ get_or net.processes p x → (e : ClockEdge)
-    → edge_alone (kind_view (k.clocking net.inputs (body_of x)) (events (body_of x))) ≡ Some e → (process (core net) p).kind ≡ Clocked e.clock e.edge None
-kind_alone net p x l is e one =
-    let there : p < length (map process_view net.processes) = rw (length-map net.processes process_view) l in
-    ap (λ (q : m.Process). q.kind) (get_or-map_within (core_process net.inputs) (map process_view net.processes) p (process_view x) m.no_process there
-    ∙ ap (core_process net.inputs) (get_or-map_within process_view net.processes p x (process_view x) l ∙ ap process_view (sym is)))
-    ∙ alone (process_view x) (k.clocking net.inputs (body_of x)) (events (body_of x)) e one
-
-pub get_or-push : {X : Type 0} (xs : List X) (x d : X) → get_or (xs ++ x ∷ []) (length xs) d ≡ x
-get_or-push [] x d = refl
-get_or-push (y ∷ ys) x d = get_or-push ys x d
-
-pub get_or-push_below : {X : Type 0} (xs : List X) (x : X) (p : ℕ) (d : X) → p < length xs → get_or (xs ++ x ∷ []) p d ≡ get_or xs p d
-get_or-push_below [] x p d l = absurd (omega arith)
-get_or-push_below (y ∷ ys) x zero d l = refl
-get_or-push_below (y ∷ ys) x (suc p) d l = get_or-push_below ys x p d (omega arith)
-
--- one edge more
-pub edges_more : (net : Netlist) (edges new : List (Option ClockEdge)) (i : ℕ) (o : Option ClockEdge) → length edges ≡ i
-    → ((p : ℕ) (e : ClockEdge) → get_or edges p None ≡ Some e → (process net p).kind ≡ Clocked e.clock e.edge None) → new ≡ edges ++ o ∷ []
-    → ((e : ClockEdge) → o ≡ Some e → (process net i).kind ≡ Clocked e.clock e.edge None)
-    → (p : ℕ) (e : ClockEdge) → get_or new p None ≡ Some e → (process net p).kind ≡ Clocked e.clock e.edge None
-edges_more net edges new i o many so_far is now p e one = by (cases_lt p i) (sym (ap (λ (es : List (Option ClockEdge)). get_or es p None) is) ∙ one)
-  where
-    behind : i ≤ p → (p < i + 1) ⊎ (i + 1 ≤ p) → get_or (edges ++ o ∷ []) p None ≡ Some e → (process net p).kind ≡ Clocked e.clock e.edge None
-    behind low (inl less) here =
-        let at : p ≡ length edges = omega (arith, many, low, less) in
-        let told : o ≡ Some e = sym (get_or-push edges o None) ∙ ap (λ (q : ℕ). get_or (edges ++ o ∷ []) q None) (sym at) ∙ here in
-        subst (λ (q : ℕ). (process net q).kind ≡ Clocked e.clock e.edge None) (sym many ∙ sym at) (now e told)
-    behind low (inr past) here =
-        let none = get_or_past (edges ++ o ∷ []) p None (omega (arith, past, many, length-append edges (o ∷ []))) in
-        let f : None ≡ Some e = sym none ∙ here in cc
-
-    by : (p < i) ⊎ (i ≤ p) → get_or (edges ++ o ∷ []) p None ≡ Some e → (process net p).kind ≡ Clocked e.clock e.edge None
-    by (inl less) here = so_far p e (sym (get_or-push_below edges o p None (omega (arith, many, less))) ∙ here)
-    by (inr low) here = behind low (cases_lt p (i + 1)) here
-
--- ---- what is asleep
-
--- the clock whose edge a process awaits is a net
-pub clock_there : (net : Netlist) → Leveled net → (edges : List (Option ClockEdge)) → AreEdges net edges → (v : List ℕ) → length v ≡ length net.start
-    → (p : ℕ) → IfSome (get_or edges p None) (λ (e : ClockEdge). e.clock < length v)
-clock_there net L edges A v many p = by (get_or edges p None) refl
-  where
-    by : (o : Option ClockEdge) → get_or edges p None ≡ o → IfSome o (λ (e : ClockEdge). e.clock < length v)
-    by None is = tt
-    by (Some e) is = rw many (L.elaborated.wiring.inputs_are_nets e.clock (L.faultless.clock_is_input p e.clock e.edge (None, A.each p e is)))
-
-pub nothing_left : (net : NetlistView) → IsElaborated (core net) → (edges : List (Option ClockEdge)) → AreEdges (core net) edges → (before v : List ℕ) (p : ℕ)
-    → IsAsleep (get_or edges p None) before v → (place : ℕ) → get_or ((process (core net) p).effect before v) place None ≡ None
-nothing_left net E edges A before v p asleep place = by (get_or edges p None) refl asleep
-  where
-    by : (o : Option ClockEdge) → get_or edges p None ≡ o → IsAsleep o before v → get_or ((process (core net) p).effect before v) place None ≡ None
-    by None is h = absurd h
-    by (Some e) is h = leaves_nothing (core net) E p e.clock e.edge (A.each p e is) before v h place

@@ -12,7 +12,6 @@ pub mod Sweeping
 pub mod Together
 pub mod Replaced
 pub mod Awake
-pub mod Leading
 pub mod Resting
 pub mod Changed
 pub mod Stepping

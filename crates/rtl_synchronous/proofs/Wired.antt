@@ -14,8 +14,7 @@ use Rattle.rtl_model.specs.simulation.Elaborated.{IsElaborated}
 use Rattle.rtl_model.proofs.basics.Lists.{get_or-map_within}
 use Rattle.rtl_model.proofs.nets.Processes.{process-core_net}
 use Rattle.rtl_model.proofs.nets.Connected.{connected_is_elaborated}
-use Rattle.rtl_model.proofs.simulation.Faultless.{faultless}
-use Rattle.rtl_model.proofs.simulation.Leveled.{Leveled, leveled}
+use Rattle.rtl_model.proofs.simulation.Leveled.{Leveled}
 use Rattle.rtl_model.specs.simulation.Range.{IsValuation}
 use Rattle.rtl_eval.specs.Runs.{Outcome, IsOf}
 use Rattle.rtl_kernel.specs.drivers.Transactions.{HasRunOf, all_targets, nets_of, no_outcome}
@@ -113,9 +112,6 @@ module _ {E : Type 0} (process_of : E → FlatProcess) (types : E → List Eleme
     (M : MayRun process_of types most net bodies runs) where
   pub elaborated : IsElaborated (core net)
   elaborated = connected_is_elaborated (flat net) M.in_range M.connected
-
-  pub is_leveled : Leveled (core net)
-  is_leveled = leveled (core net) elaborated (faultless (core net) M.accepted)
 
   pub combinational_there : (p : ℕ) → IsCombinational (core net) p → p < length net.processes
   combinational_there p c = rw (← processes_many net) c.0

@@ -1,16 +1,11 @@
 -- The order in which a moment's processes are run, and who is sensitive to which net (IEEE 1076-2008, 14.7.5.3).
 use Rattle.std.specs.Option.{is_some}
-use Rattle.std.specs.Prelude.{◌≡◌, ℕ, ◌+◌, ◌<◌, ◌≤◌, Bool, false, not, All, List, [], ◌∷◌, length, map, slice_index, slice_index_or, Contains, Option, Some, None, IsSome, if◌then◌else◌}
-use Rattle.vhdl_values.specs.Edges.{has_edge}
-use Rattle.vhdl_values.specs.Scalar.{value_of_code}
-use Rattle.rtl_model.specs.simulation.Netlist.{Netlist, Process, process, IsCombinational, Clocked}
+use Rattle.std.specs.Prelude.{◌≡◌, ℕ, ◌+◌, ◌<◌, ◌≤◌, Bool, not, All, List, [], ◌∷◌, length, map, slice_index, slice_index_or, Contains, Option, Some, None, IsSome, if◌then◌else◌}
+use Rattle.rtl_model.specs.simulation.Netlist.{Netlist, Process, process, IsCombinational}
 use Rattle.rtl_model.specs.simulation.Accepted.{Feeds}
 use Rattle.rtl_model.specs.simulation.Levels.{is_clocked}
 use Rattle.rtl_kernel.specs.wakes.Woken.{IsIndex}
 use Rattle.rtl_net_layout.specs.declared.cuts.Cut.{Cut}
-use Rattle.rtl_net_facts.specs.declared.kinds.ProcessKind.{ProcessKind}
-use Rattle.rtl_net_facts.specs.declared.kinds.ProcessKind.TheVariants as k
-use Rattle.rtl_synchronous.specs.declared.awaited.ClockEdge.{ClockEdge}
 
 -- the combinational processes, each behind those that feed it; a process's place here is its rank
 pub record IsOrder (net : Netlist) (order : List ℕ) : Type 0 where
@@ -39,33 +34,6 @@ pub record IsSchedule (net : Netlist) (order : List ℕ) (readers clocked : List
 abbrev pub whole_first : List Cut → Option ℕ
 whole_first (cut ∷ []) = Some cut.net
 whole_first _ = None
-
--- ---- by edges
-
-abbrev pub unless_reset : Option ℕ → ClockEdge → Option ClockEdge
-unless_reset None e = Some e
-unless_reset (Some reset) e = None
-
--- the edge at which alone a process of this kind acts
-abbrev pub edge_alone : ProcessKind → Option ClockEdge
-edge_alone (k.Clocked c) = unless_reset c.reset (record { clock = c.clock; edge = c.edge })
-edge_alone _ = None
-
--- for each process its edge, where it is clocked without a reset, or nothing
-pub record AreEdges (net : Netlist) (edges : List (Option ClockEdge)) : Type 0 where
-  pub each_process : length edges ≡ length net.processes
-  pub each : (p : ℕ) (e : ClockEdge) → slice_index_or edges p None ≡ Some e → (process net p).kind ≡ Clocked e.clock e.edge None
-
--- for each process one with the same edge
-pub record AreLeaders (edges : List (Option ClockEdge)) (leaders : List ℕ) : Type 0 where
-  pub each_process : length leaders ≡ length edges
-  pub there : (p : ℕ) → p < length edges → slice_index leaders p < length edges
-  pub alike : (p : ℕ) → p < length edges → slice_index_or edges (slice_index leaders p) None ≡ slice_index_or edges p None
-
--- there is an edge that is awaited, and it isn't there
-abbrev pub IsAsleep : Option ClockEdge → (before now : List ℕ) → Type 0
-IsAsleep None before now = ⊥
-IsAsleep (Some e) before now = has_edge e.edge (value_of_code (slice_index before e.clock)) (value_of_code (slice_index now e.clock)) ≡ false
 
 -- ---- by number
 

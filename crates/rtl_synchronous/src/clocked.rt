@@ -7,6 +7,7 @@ ghost use Rattle.rtl_model.specs.simulation.Elaborated.{IsElaborated};
 ghost use Rattle.rtl_model.specs.simulation.Netlist.{process, target, HasPlace, IsCombinational};
 ghost use Rattle.rtl_model.specs.simulation.Range.{IsValuation, limit};
 ghost use Rattle.rtl_eval.specs.Runs.{IsOf};
+ghost use Rattle.rtl_awaited.specs.Awaiting.{AreEdges, AreLeaders};
 ghost use Rattle.rtl_kernel.specs.drivers.Transactions.{no_outcome};
 ghost use Rattle.rtl_kernel.specs.wakes.Woken.{wakers_of};
 ghost use Rattle.rtl_net.specs.Nets.{flat};
@@ -14,16 +15,19 @@ ghost use Rattle.rtl_net.specs.Core.{core};
 ghost use Rattle.rtl_net_layout.specs.Touching.{Touches};
 ghost use Rattle.rtl_synchronous.specs.Kept.{HasCuts, MayRun};
 ghost use Rattle.rtl_synchronous.specs.Marks.{AreBelow, HasNoMark, Marks};
-ghost use Rattle.rtl_synchronous.specs.Scheduled.{AreEdges, AreLeaders, AreNexts};
+ghost use Rattle.rtl_synchronous.specs.Scheduled.{AreNexts};
 ghost use Rattle.rtl_synchronous.specs.Steps.{AllTakeOver, HaveRun};
 
-use crate::awaited::{ClockEdge, Look, look_at};
 use crate::entries::take_over;
 use crate::running::run;
 use crate::schedule::Schedule;
+use rtl_awaited::{ClockEdge, Look, look_at};
 use rtl_eval::{Drives, Exec};
 use rtl_net::Net;
 use rtl_net_layout::Touched;
+
+/// In how large a netlist the next process is brought from memory while one runs. What a smaller one has is near anyway.
+const AHEAD: usize = 1_024;
 
 /// Runs the marked processes, and takes the marks off those that would assign nothing since the edge that they act at isn't there.
 /// Nothing is taken over, so each of them reads what was there before any of them ran.
@@ -37,6 +41,7 @@ pub fn run_marked<E: Exec>(
     before: &[u8],
     values: &[u8],
     runs: &mut Vec<Drives>,
+    ahead: &mut usize,
 )
     requires may { MayRun E.process E.types E.most net.now bodies.now runs.old.items }
     requires edges { AreEdges (core net.now) edges.now }
@@ -61,10 +66,18 @@ pub fn run_marked<E: Exec>(
             if seen.asleep {
                 marked[process] = false;
             } else {
+                look_ahead(bodies, runs, nexts[process + 1], ahead);
                 run(net, bodies, process, before, values, runs);
             }
         }
         process = nexts[process + 1];
+    }
+}
+
+/// Reads of a process that may run next, so that it comes from memory meanwhile. Nothing asks for what is read.
+fn look_ahead<E: Exec>(bodies: &[E], runs: &[Drives], next: usize, ahead: &mut usize) {
+    if runs.len() > AHEAD && next < runs.len() && next < bodies.len() {
+        *ahead = bodies[next].room() ^ runs[next].room();
     }
 }
 

@@ -6,7 +6,6 @@
 //! `specs/Scheduled.antt`, `Marks.antt`, `Steps.antt` and `Kept.antt` say how its parts go together.
 #![tactic(auto)]
 
-mod awaited;
 mod clocked;
 mod entries;
 mod initial;

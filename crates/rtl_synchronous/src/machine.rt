@@ -8,6 +8,7 @@ ghost use Rattle.rtl_model.specs.simulation.Machine.{IsFirst, IsStep};
 ghost use Rattle.rtl_model.specs.simulation.Netlist.{IsCombinational};
 ghost use Rattle.rtl_model.specs.simulation.Races.{IsRace};
 ghost use Rattle.rtl_model.specs.simulation.Range.{IsValuation};
+ghost use Rattle.rtl_awaited.specs.Awaiting.{AreEdges, AreLeaders};
 ghost use Rattle.rtl_kernel.specs.kernel.Kept.{RunBodies};
 ghost use Rattle.rtl_kernel.specs.kernel.Simulation.{changes_of, initial_inputs};
 ghost use Rattle.rtl_kernel.specs.wakes.Woken.{wakers_of};
@@ -17,7 +18,7 @@ ghost use Rattle.rtl_net_layout.specs.Touching.{KeepsLeft, Touches};
 ghost use Rattle.rtl_synchronous.specs.Kept.{HasCuts, MayRun};
 ghost use Rattle.rtl_synchronous.specs.Marks.{HasNoMark};
 ghost use Rattle.rtl_synchronous.specs.Running.{IsSettled};
-ghost use Rattle.rtl_synchronous.specs.Scheduled.{AreEdges, AreLeaders, AreNexts, IsSchedule, without_level};
+ghost use Rattle.rtl_synchronous.specs.Scheduled.{AreNexts, IsSchedule, without_level};
 ghost use Rattle.rtl_synchronous.specs.Steps.{ComesToRest};
 
 use crate::clocked::{run_marked, take_marked};
@@ -50,6 +51,8 @@ pub struct Machine<'a, E: Exec> {
     dirty: Vec<bool>,
     /// The chunks of the nets that the last step may have changed.
     touched: Touched,
+    /// What was read of the clocked process that may run next. Nothing asks for it.
+    ahead: usize,
 }
 
 impl<E: Exec> Drop for Machine<'_, E> {
@@ -64,6 +67,7 @@ impl<E: Exec> Drop for Machine<'_, E> {
             woken: _,
             dirty: _,
             touched: _,
+            ahead: _,
         } = self;
     }
 }
@@ -78,7 +82,8 @@ impl<'a, E: Exec> Model for Machine<'a, E> {
     ghost coded = { Prim.hlevel (codes, process_contract.the_row.coded) };
 
     ghost use Rattle.rtl_synchronous.specs.Kept.{HasCuts, IsMachine};
-    ghost use Rattle.rtl_synchronous.specs.Scheduled.{AreEdges, AreLeaders, AreNexts};
+    ghost use Rattle.rtl_awaited.specs.Awaiting.{AreEdges, AreLeaders};
+    ghost use Rattle.rtl_synchronous.specs.Scheduled.{AreNexts};
     ghost use Rattle.rtl_net.specs.Core.{core};
     ghost use Rattle.rtl_kernel.specs.wakes.Woken.{wakers_of};
     ghost use Rattle.std.specs.Prelude.{◌≡◌, length};
@@ -114,6 +119,7 @@ impl<'a, E: Exec> Machine<'a, E> {
         let mut woken = clocked_marks(alloc, levels)?;
         let mut dirty = vec![in alloc; true; schedule.order.len()]?;
         let mut touched = Touched::new(alloc, values.len())?;
+        let mut ahead = 0;
         come_to_rest(
             net,
             bodies,
@@ -124,6 +130,7 @@ impl<'a, E: Exec> Machine<'a, E> {
             &mut woken,
             &mut dirty,
             &mut touched,
+            &mut ahead,
         );
         Ok(Machine {
             net,
@@ -135,6 +142,7 @@ impl<'a, E: Exec> Machine<'a, E> {
             woken,
             dirty,
             touched,
+            ahead,
         })
     }
 
@@ -181,6 +189,7 @@ impl<'a, E: Exec> Machine<'a, E> {
             &mut self.woken,
             &mut self.dirty,
             &mut self.touched,
+            &mut self.ahead,
         );
         set_inputs(changes, &mut self.before);
     }
@@ -209,6 +218,7 @@ fn come_to_rest<E: Exec>(
     woken: &mut Vec<bool>,
     dirty: &mut Vec<bool>,
     touched: &mut Touched,
+    ahead: &mut usize,
 )
     requires may { MayRun E.process E.types E.most net.now bodies.now runs.old.items }
     requires schedule { IsSchedule (core net.now) schedule.now.order.items (wakers_of schedule.now.readers) (wakers_of schedule.now.clocked) }
@@ -244,6 +254,7 @@ fn come_to_rest<E: Exec>(
         before,
         values,
         runs,
+        ahead,
     );
     take_marked(net, runs, schedule, woken, values, dirty, touched);
     sweep(net, bodies, schedule, runs, values, dirty, touched);

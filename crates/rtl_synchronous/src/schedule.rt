@@ -7,11 +7,11 @@ ghost use Rattle.rtl_net.specs.Core.{core};
 ghost use Rattle.rtl_synchronous.specs.Kept.{IsPlanned};
 ghost use Rattle.rtl_synchronous.specs.Scheduled.{clocked_wakes, wakes_by_rank};
 
-use crate::awaited::{ClockEdge, edges_of, leaders_of};
 use crate::nexts::nexts_of;
 use crate::order::order_of;
 use crate::targets::target_lists;
 use crate::wholes::wholes_of;
+use rtl_awaited::{ClockEdge, edges_of, leaders_of};
 use rtl_net::Net;
 use rtl_net_layout::{Cuts, Groups, Lists};
 use std::alloc::{AllocError, Global};

@@ -1,5 +1,5 @@
 -- What holds of every kernel.
-use Rattle.std.specs.Prelude.{◌≡◌, ℕ, ◌<◌, ◌≤◌, Bool, List, [], length, map, slice_index_or}
+use Rattle.std.specs.Prelude.{◌≡◌, ℕ, ◌<◌, ◌≤◌, Bool, List, [], length, map, slice_index_or, Option}
 use Rattle.rtl_net_layout.specs.Cuts.{Cutting, AreCutsOf}
 use Rattle.rtl_model.specs.bodies.Types.{ElementType}
 use Rattle.rtl_model.specs.nets.FlatNetlist.{FlatNetlist, FlatProcess, IsInRange, process_at}
@@ -8,10 +8,13 @@ use Rattle.rtl_model.specs.nets.Wiring.{IsConnected}
 use Rattle.rtl_model.specs.simulation.Cycle.{State, IsToRun}
 use Rattle.rtl_model.specs.simulation.Laws.{IsConsistent}
 use Rattle.rtl_model.specs.simulation.Range.{StateInRange}
+use Rattle.rtl_awaited.specs.declared.awaited.ClockEdge.{ClockEdge}
+use Rattle.rtl_awaited.specs.Awaiting.{AreFollowers}
 use Rattle.rtl_eval.specs.Runs.{Outcome, IsOf}
 use Rattle.rtl_kernel.specs.drivers.Brought.{MarkAlone}
 use Rattle.rtl_kernel.specs.drivers.Transactions.{Transactions, IsActive, all_targets, no_outcome, pending_of}
 use Rattle.rtl_kernel.specs.values.TwoValues.{TwoValues}
+use Rattle.rtl_net.specs.Core.{core}
 use Rattle.rtl_net.specs.Nets.{NetlistView, flat}
 use Rattle.rtl_net.specs.declared.process.Process.{Process}
 use Rattle.rtl_kernel.specs.wakes.ToRun.{ToRun}
@@ -49,7 +52,8 @@ pub record IsSound (net : FlatNetlist) (s : State) : Type 0 where
 
 -- what a kernel keeps is of its netlist, and fits together
 pub record IsKernel {E : Type 0} (process : E → FlatProcess) (types : E → List ElementType) (most : E → ℕ)
-    (net : NetlistView) (bodies : List E) (cuts : Cutting) (alone : List Bool) (values : TwoValues) (drivers : Transactions) (resumed : ToRun) (noted : Numbers) : Type 0 where
+    (net : NetlistView) (bodies : List E) (cuts : Cutting) (alone : List Bool) (values : TwoValues) (drivers : Transactions) (resumed : ToRun) (noted : Numbers)
+    (awaited : Option ClockEdge) (followers : List Bool) : Type 0 where
   pub in_range : IsInRange (flat net)
   pub connected : IsConnected (flat net)
   pub run_bodies : RunBodies process types (flat net) bodies
@@ -59,5 +63,6 @@ pub record IsKernel {E : Type 0} (process : E → FlatProcess) (types : E → Li
   pub each_net : length values.groups.of_net ≡ length net.types
   pub marked : MarkAlone (flat net) values.groups alone
   pub are_cuts : AreCutsOf values.groups.of_net (all_targets net.processes) cuts
+  pub follow : AreFollowers (core net) awaited followers
   -- no group is left over from an update
   pub idle : noted ≡ record { bound = length values.groups.listed; members = [] }

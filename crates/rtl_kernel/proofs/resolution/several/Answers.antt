@@ -20,11 +20,11 @@ loop-source-preserved c =
     let values = map value_of_code codes in
     let i = c.loop-source.source-index in
     let I = c.loop-source.invariant in
-    let is = c.resolve-value.ensures ∙ ap (λ v. resolution_table v c.nine_of.result) I.clean in
-    let at = c.nine_of.ensures ∙ ap value_of_code (c.source_value.ensures ∙ sym (get_or-map_within (λ (s : Source). source_value drivers (source_view s)) c.args.sources.now i _ 0 c.loop-source-test.true))
+    let is = c.resolve-value.ensures ∙ ap (λ v. resolution_table v c.nine.result) I.clean in
+    let at = c.nine.ensures ∙ ap value_of_code (c.source_value.ensures ∙ sym (get_or-map_within (λ (s : Source). source_value drivers (source_view s)) c.args.sources.now i _ 0 c.loop-source-test.true))
     ∙ sym (get_or-map_within value_of_code codes i 0 Z (rw (length-map c.args.sources.now (λ (s : Source). source_value drivers (source_view s))) c.loop-source-test.true)) in
     record {
-      folded = is ∙ ap (λ v. resolution_table v c.nine_of.result) I.folded ∙ ap (resolution_table (fold resolution_table Z (take i values))) at
+      folded = is ∙ ap (λ v. resolution_table v c.nine.result) I.folded ∙ ap (resolution_table (fold resolution_table Z (take i values))) at
           ∙ sym (fold_more resolution_table Z values i Z (rw (length-map codes value_of_code, length-map c.args.sources.now (λ (s : Source). source_value drivers (source_view s))) c.loop-source-test.true));
-      clean = rw is (stays_with_z c.loop-source.value c.nine_of.result);
+      clean = rw is (stays_with_z c.loop-source.value c.nine.result);
     }

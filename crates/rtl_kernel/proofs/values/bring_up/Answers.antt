@@ -15,10 +15,10 @@ pub loop-group-preserved : goal.loop-group-preserved
 loop-group-preserved c =
     let I = c.loop-group.invariant in
     record {
-      as_many = c.write.ensures.as_many ∙ I.as_many;
-      later = one_behind c.args.groups.now c.args.changed.now c.loop-group.before c.write.new.over c.args.current.now c.loop-group.group-index _ _
+      as_many = c.replace-differ.ensures.written.as_many ∙ I.as_many;
+      later = one_behind c.args.groups.now c.args.changed.now c.loop-group.before c.replace-differ.new.over c.args.current.now c.loop-group.group-index _ _
           (subst (λ (f : ℕ). AreNetsOf c.args.groups.now (get_or c.args.changed.now c.loop-group.group-index 0) f c.end-end.result) (sym c.first-first.ensures) c.end-end.ensures)
-          c.requires.each_net (I.as_many ∙ c.requires.as_many) c.write.ensures I.later;
+          c.requires.each_net (I.as_many ∙ c.requires.as_many) c.replace-differ.ensures.written I.later;
     }
 
 pub returns : goal.returns

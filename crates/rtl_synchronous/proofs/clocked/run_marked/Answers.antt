@@ -1,13 +1,14 @@
 use Rattle.std.proofs.Common.{◌≡◌, ◌+◌, ◌<◌, ◌≤◌, ℕ, true, false, List, Option, None, get_or, length, set, sym, ap, subst, ◌∙◌, arith}
 use Rattle.std.proofs.lemmas.List.{get_or_default, get_or-set_other, length-set}
+use Rattle.rtl_awaited.specs.declared.awaited.Look.{Look}
+use Rattle.rtl_awaited.specs.Awaiting.{IsAsleep}
+use Rattle.rtl_awaited.proofs.Edges.{clock_there, nothing_left}
+use Rattle.rtl_awaited.proofs.Leading.{as_leader}
 use Rattle.rtl_eval.specs.Runs.{Outcome}
 use Rattle.rtl_kernel.specs.drivers.Transactions.{no_outcome}
 use Rattle.rtl_net.specs.Core.{core}
-use Rattle.rtl_synchronous.specs.declared.awaited.Look.{Look}
-use Rattle.rtl_synchronous.specs.Scheduled.{IsAsleep}
-use Rattle.rtl_synchronous.proofs.Leading.{as_leader}
-use Rattle.rtl_synchronous.proofs.Awake.{all_run, clock_there, next_running, none_between, none_running, nothing_left, one_asleep, one_ran, some_unmarked, unmarked_more}
-use Rattle.rtl_synchronous.proofs.Wired.{elaborated, is_leveled, processes_many, ran_entries, runs_many}
+use Rattle.rtl_synchronous.proofs.Awake.{all_run, next_running, none_between, none_running, one_asleep, one_ran, some_unmarked, unmarked_more}
+use Rattle.rtl_synchronous.proofs.Wired.{elaborated, processes_many, ran_entries, runs_many}
 use Rattle.rtl_synchronous.proofs.clocked.run_marked.Goals as goal
 use Rattle.rtl_synchronous.proofs.clocked.run_marked.Goals.{then-index+then-seen, then-index+else-seen, else-index}
 
@@ -39,11 +40,11 @@ look_at-seen-requires-clause-there g c =
 
 pub look_at-seen-requires-clause-before : goal.look_at-seen-requires-clause-before
 look_at-seen-requires-clause-before g c =
-    clock_there (core c.args.net.now) (is_leveled _ _ _ _ _ _ c.requires.may) c.args.edges.now c.requires.edges c.args.before.now c.requires.before.each_net (get_or c.args.leaders.now c.loop-process.process 0)
+    clock_there c.args.net.now c.requires.may.in_range c.args.edges.now c.requires.edges c.args.before.now c.requires.before.each_net (get_or c.args.leaders.now c.loop-process.process 0)
 
 pub look_at-seen-requires-clause-values : goal.look_at-seen-requires-clause-values
 look_at-seen-requires-clause-values g c =
-    clock_there (core c.args.net.now) (is_leveled _ _ _ _ _ _ c.requires.may) c.args.edges.now c.requires.edges c.args.values.now c.requires.values.each_net (get_or c.args.leaders.now c.loop-process.process 0)
+    clock_there c.args.net.now c.requires.may.in_range c.args.edges.now c.requires.edges c.args.values.now c.requires.values.each_net (get_or c.args.leaders.now c.loop-process.process 0)
 
 pub loop-process-preserved : goal.loop-process-preserved
 loop-process-preserved g c =

@@ -1,8 +1,8 @@
 use Rattle.std.proofs.Common.{◌≡◌, ◌-◌, ◌≤◌, None, true, get_or, length}
+use Rattle.rtl_awaited.specs.Awaiting.{IsAsleep}
 use Rattle.rtl_kernel.specs.drivers.Transactions.{no_outcome}
 use Rattle.rtl_net.specs.Core.{core}
 use Rattle.rtl_synchronous.specs.Kept.{MayRun}
-use Rattle.rtl_synchronous.specs.Scheduled.{IsAsleep}
 use Rattle.rtl_synchronous.proofs.Awake.{AreRunning}
 use Rattle.rtl_synchronous.proofs.clocked.run_marked.Given as goal
 

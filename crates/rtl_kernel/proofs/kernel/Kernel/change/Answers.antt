@@ -12,7 +12,7 @@ use Rattle.rtl_kernel.proofs.kernel.Kernel.change.Goals as goal
 
 pub set_all-requires : goal.set_all-requires
 set_all-requires g c =
-    let all = kept.all_now _ _ _ _ _ _ _ _ _ _ _ c.self.invariant in
+    let all = kept.all_now _ _ _ _ _ _ _ _ _ _ _ _ _ c.self.invariant in
     λ k d l. rw (ap (λ (v : TwoValues). v.current) c.begin.ensures, all) (inputs_there (flat c.self.inside.net.now) c.self.invariant.in_range c.args.changes.now (rw (← c.self.view_is) at c.requires.inputs) k d l)
 
 pub resume-requires-clause-processes : goal.resume-requires-clause-processes
@@ -24,13 +24,13 @@ resume-requires-clause-processes g c =
 
 pub invariant_of-self : goal.invariant_of-self
 invariant_of-self g c =
-    kept.kept_given _ _ _ _ _ _ _ _ _ _ _ c.self.invariant
+    kept.kept_given _ _ _ _ _ _ _ _ _ _ _ _ _ c.self.invariant
     c.args.changes.now (rw (← c.self.view_is) at c.requires.inputs) c.set_all.new.self c.resume.new.self (c.set_all.ensures.groups ∙ ap (λ (v : TwoValues). v.groups) c.begin.ensures) (c.set_all.ensures.before ∙ ap (λ (v : TwoValues). v.before) c.begin.ensures)
     (subst (λ (v : TwoValues). AreChanged (changes_of c.args.changes.now) v.current c.set_all.new.self.current) c.begin.ensures c.set_all.ensures.current) c.resume.ensures.as_many c.resume.ensures.woken
     (rw (← c.self.view_is) at c.requires.quiet)
 
 pub returns-clause-state : goal.returns-clause-state
 returns-clause-state g c =
-    rw (← c.self.view_is) (kept.is_given _ _ _ _ _ _ _ _ _ _ _ c.self.invariant
+    rw (← c.self.view_is) (kept.is_given _ _ _ _ _ _ _ _ _ _ _ _ _ c.self.invariant
     c.args.changes.now (rw (← c.self.view_is) at c.requires.inputs) c.set_all.new.self c.resume.new.self (c.set_all.ensures.groups ∙ ap (λ (v : TwoValues). v.groups) c.begin.ensures) (c.set_all.ensures.before ∙ ap (λ (v : TwoValues). v.before) c.begin.ensures)
     (subst (λ (v : TwoValues). AreChanged (changes_of c.args.changes.now) v.current c.set_all.new.self.current) c.begin.ensures c.set_all.ensures.current) c.resume.ensures.as_many c.resume.ensures.woken)

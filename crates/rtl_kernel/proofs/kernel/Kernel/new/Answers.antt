@@ -24,7 +24,9 @@ invariant_of-result g c =
     let N = c.is_elaborated.ensures in
     let V = c.in_ok-values.ensures in
     let updates = rw (c.in_ok-cuts.ensures.0) at c.both-updates.ensures in
-    let runs = rw (c.in_ok-cuts.ensures.1) at c.both-runs.ensures in
+    let kept = rw (c.in_ok-cuts.ensures.1) at c.both-runs-2.ensures in
+    let runs = rw (kept.0) at c.both-runs.ensures in
+    let follow = rw (kept.1) at c.followers_of.ensures in
     let cuts = rw (updates.0) at c.driver_cuts-cuts.ensures in
     let noted = rw (updates.1) at c.new-noted.ensures in
     let drivers = rw (runs.0) at c.new-drivers.ensures.drivers in
@@ -35,16 +37,18 @@ invariant_of-result g c =
     (drivers ∙ ap (map start_row) c.processes-processes.ensures)
     (rw (c.processes-processes.ensures) at outcomes)
     (ap (λ (r : ToRun). r.waiting) resumed ∙ ap (λ (ps : List Process). replicate (length ps) true) c.processes-processes.ensures)
-    _ _ _ V.index V.each_net (rw (c.groups-groups.ensures.value) at c.in_ok-alone.ensures)
+    _ _ _ _ _ V.index V.each_net (rw (c.groups-groups.ensures.value) at c.in_ok-alone.ensures)
     (rw (c.processes-processes.ensures, c.of_net.ensures.value, c.groups-groups.ensures.value) at cuts)
     (noted ∙ ap (λ (n : ℕ). record { bound = n; members = [] }) (c.count.ensures ∙ ap (λ (h : Grouping). length h.listed) c.groups-groups.ensures.value))
+    follow
 
 pub returns : goal.returns
 returns g c =
     let net = c.args.net.now in
     let N = c.is_elaborated.ensures in
     let V = c.in_ok-values.ensures in
-    let runs = rw (c.in_ok-cuts.ensures.1) at c.both-runs.ensures in
+    let kept = rw (c.in_ok-cuts.ensures.1) at c.both-runs-2.ensures in
+    let runs = rw (kept.0) at c.both-runs.ensures in
     let drivers = rw (runs.0) at c.new-drivers.ensures.drivers in
     let outcomes = rw (runs.0) at c.new-drivers.ensures.outcomes in
     let resumed = rw (runs.1) at c.all-resumed.ensures in

@@ -1,5 +1,6 @@
-use Rattle.std.proofs.Common.{◌≡◌}
+use Rattle.std.proofs.Common.{◌≡◌, true}
 use Rattle.std.specs.List.{count_by}
+use Rattle.rtl_awaited.specs.Awaiting.{IsAsleep, first_edge}
 use Rattle.rtl_model.specs.nets.CoreNetlist.{core_netlist}
 use Rattle.rtl_model.specs.simulation.Cycle.{State}
 use Rattle.rtl_model.specs.simulation.Moments.{HasNoneToRun}
@@ -12,6 +13,7 @@ invariant-loop-left g l = record {
   left : l.left ≡ count_by (λ b. b) l.self.state.waiting;
   none : l.left ≡ 0 → HasNoneToRun l.self.state;
   net : l.self.net ≡ l.initial.self.net;
+  asleep : l.asleep ≡ true → IsAsleep (first_edge (core_netlist (flat l.self.net)).processes) l.self.state.before l.self.state.now;
   rest : (t : State) (last : g.row.P.Denot) → HasRunAsPicked g.P.Pick.picks (core_netlist (flat l.initial.self.net)) l.pick last l.self.state t
       → HasRunAsPicked g.P.Pick.picks (core_netlist (flat l.initial.self.net)) l.initial.pick last l.initial.self.state t;
 }

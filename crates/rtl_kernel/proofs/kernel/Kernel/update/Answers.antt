@@ -28,7 +28,7 @@ pub update-requires-clause-there : goal.update-requires-clause-there
 update-requires-clause-there g c = nets_there c.self.inside.net.now c.self.invariant.in_range
 
 pub update-requires-clause-each_net : goal.update-requires-clause-each_net
-update-requires-clause-each_net g c = ap (λ (v : TwoValues). length v.current) c.begin.ensures ∙ kept.all_now _ _ _ _ _ _ _ _ _ _ _ c.self.invariant
+update-requires-clause-each_net g c = ap (λ (v : TwoValues). length v.current) c.begin.ensures ∙ kept.all_now _ _ _ _ _ _ _ _ _ _ _ _ _ c.self.invariant
 
 pub update-requires-clause-grouped : goal.update-requires-clause-grouped
 update-requires-clause-grouped g c = ap (λ (v : TwoValues). length v.groups.of_net) c.begin.ensures ∙ c.self.invariant.each_net
@@ -49,7 +49,7 @@ resolve_groups-requires-clause-groups g c =
 
 pub resolve_groups-requires-clause-there : goal.resolve_groups-requires-clause-there
 resolve_groups-requires-clause-there g c =
-    rw (c.values.ensures) (kept.sources_stand _ _ _ _ _ _ _ _ _ _ _ c.self.invariant _ c.update.ensures.drivers)
+    rw (c.values.ensures) (kept.sources_stand _ _ _ _ _ _ _ _ _ _ _ _ _ c.self.invariant _ c.update.ensures.drivers)
 
 pub resume-requires-clause-processes : goal.resume-requires-clause-processes
 resume-requires-clause-processes g c =
@@ -70,7 +70,7 @@ resolved g c =
 pub invariant_of-self : goal.invariant_of-self
 invariant_of-self g c =
     let B = c.update.ensures.brings in
-    kept.kept_updated _ _ _ _ _ _ _ _ _ _ _ c.self.invariant
+    kept.kept_updated _ _ _ _ _ _ _ _ _ _ _ _ _ c.self.invariant
     c.update.new.nets c.resolve_groups.new.values c.update.new.self c.resume.new.self c.update.new.noted
     (c.resolve_groups.ensures.groups ∙ B.groups_stay ∙ ap (λ (v : TwoValues). v.groups) c.begin.ensures)
     (c.resolve_groups.ensures.before ∙ B.before_stays ∙ ap (λ (v : TwoValues). v.before) c.begin.ensures) c.update.ensures.drivers c.update.ensures.outcomes
@@ -81,7 +81,7 @@ invariant_of-self g c =
 pub returns-clause-state : goal.returns-clause-state
 returns-clause-state g c =
     let B = c.update.ensures.brings in
-    rw (← c.self.view_is) (kept.is_updated _ _ _ _ _ _ _ _ _ _ _ c.self.invariant
+    rw (← c.self.view_is) (kept.is_updated _ _ _ _ _ _ _ _ _ _ _ _ _ c.self.invariant
     c.update.new.nets c.resolve_groups.new.values c.update.new.self c.resume.new.self c.update.new.noted
     (c.resolve_groups.ensures.groups ∙ B.groups_stay ∙ ap (λ (v : TwoValues). v.groups) c.begin.ensures)
     (c.resolve_groups.ensures.before ∙ B.before_stays ∙ ap (λ (v : TwoValues). v.before) c.begin.ensures) c.update.ensures.drivers c.update.ensures.outcomes

@@ -5,8 +5,9 @@ use Rattle.rtl_kernel.specs.drivers.Transactions.{all_targets}
 use Rattle.rtl_kernel.proofs.Grouped.{groups_index}
 use Rattle.rtl_net_layout.specs.Cuts.{AreCutsOf}
 use Rattle.rtl_net.specs.Core.{core}
-use Rattle.rtl_synchronous.specs.declared.awaited.ClockEdge.{ClockEdge}
-use Rattle.rtl_synchronous.specs.Scheduled.{AreLeaders, wakes_by_rank}
+use Rattle.rtl_awaited.specs.declared.awaited.ClockEdge.{ClockEdge}
+use Rattle.rtl_awaited.specs.Awaiting.{AreLeaders}
+use Rattle.rtl_synchronous.specs.Scheduled.{wakes_by_rank}
 use Rattle.rtl_synchronous.proofs.Ordering.{is_order}
 use Rattle.rtl_synchronous.proofs.Wired.{all_targets_there, clocked_there, processes_many, rows_there}
 use Rattle.rtl_synchronous.proofs.schedule.Schedule.new.Goals as goal

@@ -1,8 +1,8 @@
 use Rattle.std.proofs.Common.{◌≡◌, ◌<◌, ◌+◌, ℕ, ◌∷◌, [], None, length, get_or, ap, ◌∙◌, arith}
 use Rattle.std.proofs.lemmas.List.{length-append}
-use Rattle.rtl_synchronous.proofs.Leading.{each_more}
-use Rattle.rtl_synchronous.proofs.awaited.leaders_of.Goals as goal
-use Rattle.rtl_synchronous.proofs.awaited.leaders_of.Goals.{then-is_some, else-is_some}
+use Rattle.rtl_awaited.proofs.Edges.{each_more}
+use Rattle.rtl_awaited.proofs.awaited.leaders_of.Goals as goal
+use Rattle.rtl_awaited.proofs.awaited.leaders_of.Goals.{then-is_some, else-is_some}
 
 pub loop-process-init : goal.loop-process-init
 loop-process-init c = record {
@@ -29,8 +29,8 @@ loop-process-preserved c =
         | then-is_some w ↦ rw (w.last-is) L.there
         | else-is_some w ↦ rw (w.last-is) (I.last some)
       ];
-      there = each_more (λ p n. n < length edges) old _ leader i I.so_many is I.there L.there;
-      alike = each_more (λ p n. get_or edges n None ≡ get_or edges p None) old _ leader i I.so_many is I.alike L.alike;
+      there = each_more 0 (λ p n. n < length edges) old _ leader i I.so_many is I.there L.there;
+      alike = each_more 0 (λ p n. get_or edges n None ≡ get_or edges p None) old _ leader i I.so_many is I.alike L.alike;
     }
 
 pub returns : goal.returns

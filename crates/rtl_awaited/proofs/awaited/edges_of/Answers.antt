@@ -1,4 +1,4 @@
-use Rattle.std.proofs.Common.{◌≡◌, ◌<◌, ◌+◌, ℕ, List, [], ◌∷◌, length, get_or, sym, ap, subst, ◌∙◌, arith}
+use Rattle.std.proofs.Common.{◌≡◌, ◌<◌, ◌+◌, ℕ, List, [], ◌∷◌, None, length, get_or, sym, ap, subst, ◌∙◌, arith}
 use Rattle.std.specs.List.Sorted.{IsStrictlyIncreasing}
 use Rattle.std.proofs.lemmas.List.{length-append}
 use Rattle.rtl_model.specs.bodies.Reads.{events}
@@ -9,10 +9,9 @@ use Rattle.rtl_net.specs.Nets.{body_of}
 use Rattle.rtl_net.specs.Bodies.{statements_of}
 use Rattle.rtl_net_facts.specs.Timing.{kind_view}
 use Rattle.rtl_net.specs.Core.{core}
-use Rattle.rtl_synchronous.specs.Scheduled.{edge_alone}
-use Rattle.rtl_synchronous.proofs.Wired.{processes_many}
-use Rattle.rtl_synchronous.proofs.Awake.{edges_more, kind_alone}
-use Rattle.rtl_synchronous.proofs.awaited.edges_of.Goals as goal
+use Rattle.rtl_awaited.specs.Awaiting.{awaited_edge, edge_alone}
+use Rattle.rtl_awaited.proofs.Edges.{all_edges, each_more, kind_alone, processes_many}
+use Rattle.rtl_awaited.proofs.awaited.edges_of.Goals as goal
 
 pub kind_of-requires : goal.kind_of-requires
 kind_of-requires c = subst IsStrictlyIncreasing (sym c.inputs-inputs.ensures) c.is_elaborated.ensures.in_range.inputs_rise
@@ -30,8 +29,8 @@ loop-process-preserved c =
     let told = c.edge_alone.ensures ∙ ap edge_alone is in
     record {
       so_many = ap length c.in_ok-push.ensures.items ∙ (length-append c.loop-process.edges.items (c.edge_alone.result ∷ []) ∙ ap (λ (k : ℕ). k + 1) c.loop-process.invariant.so_many);
-      so_far = edges_more (core net) c.loop-process.edges.items c.push.new.self.items i c.edge_alone.result c.loop-process.invariant.so_many c.loop-process.invariant.so_far c.in_ok-push.ensures.items
-          (λ e one. kind_alone net i x there at e (sym told ∙ one));
+      so_far = each_more None (λ p o. o ≡ awaited_edge (core net) p) c.loop-process.edges.items c.push.new.self.items c.edge_alone.result i c.loop-process.invariant.so_many c.in_ok-push.ensures.items
+          c.loop-process.invariant.so_far (told ∙ kind_alone net i x there at);
     }
 
 pub returns : goal.returns
@@ -40,7 +39,5 @@ returns c =
     let l = c.loop-process in
     let all : l.process-index ≡ length net.processes =
     omega (arith, c.loop-process-test.false, l.auto.process-index-end, ap (λ (ps : List Process). length ps) c.processes-processes.ensures) in
-    record {
-      each_process = l.invariant.so_many ∙ (all ∙ sym (processes_many net));
-      each = l.invariant.so_far;
-    }
+    let many = processes_many net in
+    all_edges (core net) l.edges.items (l.invariant.so_many ∙ (all ∙ sym many)) (λ p within. l.invariant.so_far p (omega (arith, within, many, all)))

@@ -1,5 +1,5 @@
 use Rattle.std.proofs.Common.{◌≡◌, ◌<◌, ◌≤◌, ℕ, None, get_or, length}
-use Rattle.rtl_synchronous.proofs.awaited.leaders_of.Given as goal
+use Rattle.rtl_awaited.proofs.awaited.leaders_of.Given as goal
 
 abbrev pub invariant-loop-process : goal.invariant-loop-process
 invariant-loop-process l = record {

@@ -1,8 +1,8 @@
 //! Clocked processes that act at an edge alone.
 
-ghost use Rattle.std.specs.Prelude.{◌≡◌, ◌<◌, length, slice_index_or, IfSome, IfOk, None, true};
+ghost use Rattle.std.specs.Prelude.{◌≡◌, ◌<◌, length, slice_index_or, IfSome, IfOk, IsSome, None, true};
 ghost use Rattle.rtl_net.specs.Core.{core};
-ghost use Rattle.rtl_synchronous.specs.Scheduled.{AreEdges, AreLeaders, IsAsleep, edge_alone};
+ghost use Rattle.rtl_awaited.specs.Awaiting.{AreEdges, AreFollowers, AreLeaders, IsAsleep, edge_alone, or_else};
 
 use rtl_eval::nine;
 use rtl_net::Net;
@@ -29,6 +29,33 @@ pub fn edges_of(alloc: Global, net: &Net) -> Result<Vec<Option<ClockEdge>>, Allo
         edges.push(edge_alone(kind_of(inputs, &process.body)))?;
     }
     Ok(edges)
+}
+
+/// The edge of the first process that awaits one, and for each process whether it awaits just that one.
+pub fn followers_of(alloc: Global, net: &Net) -> Result<(Option<ClockEdge>, Vec<bool>), AllocError>
+    ensures { IfOk result (λ r. AreFollowers (core net.now) r.0 r.1.items) }
+{
+    net.is_elaborated();
+    let inputs = net.inputs();
+    let processes = net.processes();
+    let mut awaited = None;
+    let mut followers = Vec::with_capacity(alloc, processes.len())?;
+    for process in processes {
+        let edge = edge_alone(kind_of(inputs, &process.body));
+        awaited = or_else(awaited, edge);
+        followers.push(are_alike(edge, awaited))?;
+    }
+    Ok((awaited, followers))
+}
+
+/// The first of two edges, where it is one.
+fn or_else(first: Option<ClockEdge>, other: Option<ClockEdge>) -> Option<ClockEdge>
+    ensures { result ≡ or_else first other }
+{
+    match first {
+        Some(_) => first,
+        None => other,
+    }
 }
 
 /// The edge of a clocked process that has no reset.
@@ -94,7 +121,8 @@ fn leader_of(edges: &[Option<ClockEdge>], process: usize, last: usize) -> usize
 
 /// Whether these are the same edge of the same clock.
 fn are_alike(one: Option<ClockEdge>, other: Option<ClockEdge>) -> bool
-    ensures { result ≡ true → one ≡ other }
+    ensures alike { result ≡ true → one ≡ other }
+    ensures some { result ≡ true → IsSome one }
 {
     match one {
         Some(one) => match other {

@@ -1,0 +1,2 @@
+pub mod Awaiting
+pub mod Laws
