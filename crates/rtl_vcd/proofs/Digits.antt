@@ -3,8 +3,8 @@ use Rattle.std.proofs.Common.{◌≡◌, ℕ, ◌+◌, ◌/◌, ◌%◌, ◌≤�
 use Rattle.std.specs.Prelude.{reverse}
 use Rattle.std.specs.Int.Digits.{digits_of}
 use Rattle.std.proofs.lemmas.Int.Digits.{digits_of_step, length-digits_of_step, length-digits_of-le}
-use Rattle.std.proofs.lemmas.List.{reverse-append}
-use Rattle.rtl_vcd.specs.Values.{binary_digits}
+use Rattle.std.proofs.lemmas.List.{reverse-append, length-reverse, length-map}
+use Rattle.rtl_vcd.specs.Values.{code, binary_digits}
 
 -- the characters that are left to print, the least digit first
 abbrev pub characters : ℕ → List ℕ
@@ -17,6 +17,11 @@ characters_step n h =
 
 pub short : (n : ℕ) → n < 18446744073709551616 → length (digits_of 94 (n / 94)) ≤ 9
 short n h = length-digits_of-le 94 9 (n / 94) (omega arith) (omega arith)
+
+-- a code is short where its number is
+pub code_short : (n : ℕ) → n < 4294967296 → length (code n) ≤ 6
+code_short n h =
+    omega (arith, length-digits_of-le 94 5 (n / 94) (omega arith) (omega (arith, h)), length-reverse (digits_of 94 (n / 94)), length-map (n % 94 ∷ reverse (digits_of 94 (n / 94))) (λ d. 33 + d))
 
 pub some_left : (n : ℕ) → 0 < n → 1 + length (digits_of 94 (n / 94)) ≡ length (digits_of 94 n)
 some_left n h = omega (arith, length-digits_of_step 94 n (omega arith) h)

@@ -6,7 +6,6 @@ use Rattle.std.proofs.lemmas.Simd.{map-map, chunk-fits, length-zip2, tops_compar
 use Rattle.std.proofs.lemmas.Slice.Eq.{bytes_eq-Decides}
 use Rattle.std.specs.Str.{bytes_eq}
 use lib.Lanes.{Each1, sel_l, top, zip2, mask_l}
-use Rattle.rtl_vcd.specs.Values.{character}
 
 chosen_maps : (m : ℕ → Bool) (g h : ℕ → ℕ) (vs : List ℕ) → sel_l (map m vs) (map g vs) (map h vs) ≡ map (λ v. cond (m v) (g v) (h v)) vs
 chosen_maps m g h [] = refl

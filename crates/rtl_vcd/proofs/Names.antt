@@ -1,6 +1,6 @@
 -- The texts of names one after another, and what every name of a netlist is shown to be.
 use Rattle.std.proofs.Common.{◌≡◌, ℕ, suc, ◌+◌, ◌-◌, ◌<◌, ◌≤◌, List, [], ◌∷◌, ◌++◌, length, map, take, drop, get_or, sym, ap, subst, ◌∙◌, arith, append_assoc, append-nil, All}
-use Rattle.std.proofs.lemmas.List.{take_more, take_all, map-append, length-map, length-take-le, get_or-map, take-take, drop-take, take-append-drop, length-drop, get_or-drop, take-map, drop-map}
+use Rattle.std.proofs.lemmas.List.{take_more, take_all, length-map, length-take-le, get_or-map, take-take, drop-take, take-append-drop, length-drop, get_or-drop, take-map, drop-map}
 use Rattle.std.proofs.lemmas.List.Elements.{All-get_or, All-weaker, All-take, All-drop}
 use Rattle.std.proofs.lemmas.Option.{slice_get_within}
 use Rattle.rtl_net.specs.declared.signal.Signal.{Signal}
@@ -68,6 +68,10 @@ shown_at nets signals i s lt is all =
     let within : i < length (map signal_view signals) = omega (arith, length-map signals signal_view) in
     subst (IsShown nets) (get_or-map signal_view signals i s (signal_view s) lt ∙ ap signal_view (sym is))
     (All-get_or (IsShown nets) (map signal_view signals) i (signal_view s) within all)
+
+-- the name at hand, as contracts see it
+pub name_at : (signals : List Signal) (i : ℕ) (s : Signal) → i < length signals → s ≡ get_or signals i s → get_or (map signal_view signals) i (signal_view s) ≡ signal_view s
+name_at signals i s lt is = get_or-map signal_view signals i s (signal_view s) lt ∙ ap signal_view (sym is)
 
 -- each name of a netlist is shown
 pub all_shown : (net : NetlistView) → IsNet net → All (IsShown (length net.types)) net.signals

@@ -1,5 +1,5 @@
 -- Text by way of a page.
-use Rattle.std.proofs.Common.{◌≡◌, ℕ, ◌+◌, ◌-◌, ◌<◌, ◌≤◌, List, [], ◌++◌, length, take, drop, set, refl, sym, ap, ◌∙◌, subst, arith, append_assoc, append-nil, length-take-le, take-add, take-take, take_at, drop_at}
+use Rattle.std.proofs.Common.{◌≡◌, ℕ, ◌+◌, ◌-◌, ◌<◌, ◌≤◌, List, [], ◌++◌, length, take, set, refl, sym, ap, ◌∙◌, subst, arith, append_assoc, append-nil, length-take-le, take-add, take-take, take_at, drop_at}
 use Rattle.std.specs.Prelude.{codes}
 use Rattle.std.proofs.lemmas.Slice.{take-put_mid}
 use Rattle.std.proofs.lemmas.List.{take_all, take-append-le, take-set, take_more_set, length-set}
@@ -7,7 +7,6 @@ use borrow.Rule.Slice.PartMut.{put_mid}
 use Rattle.rtl_sink.specs.Written.{SinkState, Goes}
 use Rattle.rtl_sink.proofs.Writing.{Goes-nil, Goes-append}
 use Rattle.rtl_vcd.specs.Pages.{Passes}
-use Rattle.rtl_vcd.proofs.Names.{take_further}
 use Rattle.rtl_vcd.proofs.Runs.{behind_page}
 
 -- no text
@@ -43,16 +42,13 @@ pub text_more : (bytes text : List ℕ) (len : ℕ) → len + length text ≤ le
     → take (len + length text) (put_mid len (len + length text - len) bytes text) ≡ take len bytes ++ text
 text_more bytes text len within = take-put_mid len (len + length text - len) bytes text (len + length text) refl (omega arith)
 
--- the end of a line, in two copies
-pub end_put : (room mid put bytes : List ℕ) (from len : ℕ) → from ≤ length room → length bytes ≡ 12 → len ≤ 12
-    → take (from + 8) mid ≡ take from room ++ take 8 bytes → take (from + 8 + 4) put ≡ take (from + 8) mid ++ take 4 (drop 8 bytes)
-    → take (from + len) put ≡ take from room ++ take len bytes
-end_put room mid put bytes from len within twelve few first last =
-    let whole : take 8 bytes ++ take 4 (drop 8 bytes) ≡ bytes = sym (take_further 8 4 bytes) ∙ take_all 12 bytes (omega (arith, twelve)) in
-    let all : take (from + 8 + 4) put ≡ take from room ++ bytes =
-    last ∙ ap (λ t. t ++ take 4 (drop 8 bytes)) first ∙ append_assoc (take from room) (take 8 bytes) (take 4 (drop 8 bytes)) ∙ ap (λ t. take from room ++ t) whole in
+-- the end of a line, with the bytes behind it
+pub end_put : (room put bytes : List ℕ) (from len : ℕ) → from ≤ length room → length bytes ≡ 8 → len ≤ 8
+    → take (from + 8) put ≡ take from room ++ take 8 bytes → take (from + len) put ≡ take from room ++ take len bytes
+end_put room put bytes from len within eight few copied =
+    let all : take (from + 8) put ≡ take from room ++ bytes = copied ∙ ap (λ t. take from room ++ t) (take_all 8 bytes (omega (arith, eight))) in
     let front = length-take-le from room within in
-    sym (take-take (from + len) (from + 8 + 4) put (omega (arith, few))) ∙ ap (take (from + len)) all
+    sym (take-take (from + len) (from + 8) put (omega (arith, few))) ∙ ap (take (from + len)) all
     ∙ take-add from len (take from room ++ bytes)
     ∙ (λ k. take_at (take from room) bytes from front k ++ take len (drop_at (take from room) bytes from front k))
 

@@ -1,8 +1,8 @@
 -- Values that print as digits, lane by lane.
-use Rattle.std.proofs.Common.{◌≡◌, ℕ, Bool, true, false, not, ◌||◌, eqb, ltb, List, [], ◌∷◌, length, map, get_or, take, drop, Fits, w8, refl, sym, ap, ◌∙◌, ◌<◌, arith, ⊎_elim}
+use Rattle.std.proofs.Common.{◌≡◌, ℕ, Bool, true, false, not, ◌||◌, ltb, List, [], ◌∷◌, length, map, get_or, take, drop, Fits, w8, refl, sym, ap, ◌∙◌, ◌<◌, arith}
 use Rattle.std.specs.Prelude.{◌==◌}
 use Rattle.std.specs.Str.{bytes_eq}
-use Rattle.std.proofs.lemmas.Bool.{agree_below, agree_below_at, eqb-true, eq-eqb, ltb-true, lt-ltb, or_cases, both_ways, not-true, false≢true}
+use Rattle.std.proofs.lemmas.Bool.{agree_below, agree_below_at, eqb-true, eq-eqb, ltb-true, lt-ltb, not-true, false≢true}
 use Rattle.std.proofs.lemmas.Simd.{chunk-fits}
 use lib.Lanes.{Each1}
 use Rattle.rtl_vcd.specs.Values.{character}

@@ -1,12 +1,9 @@
 -- Texts of values, part by part.
-use Rattle.std.proofs.Common.{◌≡◌, ℕ, ◌+◌, ◌-◌, ◌<◌, ◌≤◌, true, false, not, List, ◌++◌, length, map, take, drop, get_or, slice_index, sym, ap, ap₂, ◌∙◌, arith, append_assoc}
+use Rattle.std.proofs.Common.{◌≡◌, ℕ, ◌+◌, ◌-◌, ◌≤◌, true, false, not, List, ◌++◌, length, take, drop, sym, ap, ◌∙◌, arith, append_assoc}
 use Rattle.std.specs.Str.{bytes_eq}
 use Rattle.std.proofs.lemmas.Bool.{not-true, not-false, false_from_ne_true, both_ways}
 use Rattle.std.proofs.lemmas.Slice.Eq.{bytes_eq-Decides}
-use Rattle.std.proofs.lemmas.List.{take-map, drop-map, map-append, take-append-drop, get_or-map, take_all, length-drop, drop-drop}
-use Rattle.rtl_vcd.specs.Values.{character}
-use Rattle.rtl_vcd.proofs.Names.{take_further}
-use Rattle.rtl_vcd.proofs.Printing.{same_test}
+use Rattle.std.proofs.lemmas.List.{take-append-drop, take_all, length-drop, drop-drop}
 
 pub are_same : {a b : List ℕ} → a ≡ b → false ≡ not (bytes_eq a b)
 are_same e = ap not (sym ((bytes_eq-Decides _ _).1 e))

@@ -20,7 +20,7 @@ const FEW: usize = 7;
 /// How many nets for each name of a block are compared at most.
 const REACH: usize = 128;
 
-/// Of how many nets, from the least to the greatest of a block, the marks are looked at. A block whose nets are compared has fewer.
+/// Of how many nets, from the least to the greatest of a block, the marks are looked at. A block whose nets are compared reaches no further.
 const SPAN: usize = NAMES * REACH;
 
 /// Names one behind the other, and the least and the greatest of their nets.

@@ -12,18 +12,16 @@ pub(crate) const LINE: usize = 77;
 /// Room for the longest change.
 pub type Line = ArrayVec<u8, 77>;
 
-/// What each of the nine values prints as.
-const CHARACTERS: [u8; 9] = *b"xx01zx01x";
+/// What each of the nine values prints as, and behind them all other bytes.
+const CHARACTERS: [u8; 256] =
+    *b"xx01zx01xxxxxxxxxxxxxxxxxxxxxxxxxxxxxxxxxxxxxxxxxxxxxxxxxxxxxxxxxxxxxxxxxxxxxxxxxxxxxxxxxxxxxxxxxxxxxxxxxxxxxxxxxxxxxxxxxxxxxxxx\
+    xxxxxxxxxxxxxxxxxxxxxxxxxxxxxxxxxxxxxxxxxxxxxxxxxxxxxxxxxxxxxxxxxxxxxxxxxxxxxxxxxxxxxxxxxxxxxxxxxxxxxxxxxxxxxxxxxxxxxxxxxxxxxxxx";
 
 /// What one of the nine values, by its code, prints as.
 pub fn character(value: u8) -> u8
     ensures { result ≡ spec.character value }
 {
-    if value < 9 {
-        CHARACTERS[value as usize]
-    } else {
-        b'x'
-    }
+    CHARACTERS[value as usize]
 }
 
 /// Appends the code of the name with this number, at most ten characters.

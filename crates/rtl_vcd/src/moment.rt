@@ -59,7 +59,7 @@ impl<'a> Model for Blocks<'a> {
 
 impl<'a> Blocks<'a> {
     /// The blocks of the netlist's names, and the names that stand on nets one behind the other, ready to print. They take four words
-    /// for each block, which mostly has some 64 names, and three for each name.
+    /// for each block, which mostly has some 64 names, and two for each name.
     pub fn new(alloc: Global, net: &'a Net) -> Result<Blocks<'a>, AllocError>
         ensures { IfOk result (λ b. b ≡ net.now) }
     {
@@ -72,8 +72,9 @@ impl<'a> Blocks<'a> {
     /// each net: those that print otherwise than before, behind the time. Answers whether there were such. Takes no memory. Nets of
     /// chunks that aren't marked have one value in both.
     ///
-    /// Names whose nets stand close to one another cost a look at the marks of these where none is marked, and one comparison of two
-    /// runs of bytes where none of them has changed; each other name is looked at. The sink gets up to a page of lines at a time.
+    /// A block of names whose nets stand close to one another costs a look at the marks of these where none is marked, and one
+    /// comparison of two runs of bytes where none of them has changed. Any other block costs no more than that look where none is marked
+    /// and it doesn't reach too far; else each of its names is looked at. The sink gets up to a page of lines at a time.
     ///
     /// # Errors
     ///
@@ -167,7 +168,7 @@ fn push_changes<W: Sink>(
     requires before { All (IsShown (length step.now.old.now)) (map signal_view names.now) }
     requires after { All (IsShown (length step.now.new.now)) (map signal_view names.now) }
     requires runs { AreReady first (map signal_view names.now) runs.now }
-    requires room { first + length names.now < 18446744073709551616 }
+    requires numbers { first + length names.now < 18446744073709551616 }
     requires opened { IsOpen is_printed page.old }
     ensures opened { IsOpen result page.new }
     ensures text { Passes (W.state out.old) (W.state out.new) page.old page.new

@@ -10,7 +10,6 @@ ghost use Rattle.rtl_vcd.specs.Shown.{IsShown};
 ghost use Rattle.rtl_vcd.specs.Pages.{Passes, IsOpen};
 
 use crate::change::{change_line, prints_otherwise};
-use crate::line::LINE;
 use crate::page::{PAGE, Page};
 use crate::ready::Run;
 use crate::trace::push_time;
@@ -41,6 +40,7 @@ pub(crate) fn push_part<W: Sink>(
     requires before { All (IsShown (length step.now.old.now)) (map signal_view names.now) }
     requires after { All (IsShown (length step.now.new.now)) (map signal_view names.now) }
     requires ready { AreReady first (map signal_view names.now) runs.now }
+    requires numbers { first + length names.now < 18446744073709551616 }
     requires opened { IsOpen is_printed page.old }
     ensures some { 0 < result.0 }
     ensures within { result.0 ≤ length names.now }
@@ -59,7 +59,7 @@ pub(crate) fn push_part<W: Sink>(
     (many, true)
 }
 
-/// Appends the changes of the first of these names to the page.
+/// Appends the changes of the first of these names to the page, as `push_part` has them.
 fn append_changes(
     first: usize,
     names: &[Signal],
@@ -71,25 +71,9 @@ fn append_changes(
     requires before { All (IsShown (length step.now.old.now)) (map signal_view names.now) }
     requires after { All (IsShown (length step.now.new.now)) (map signal_view names.now) }
     requires ready { AreReady first (map signal_view names.now) runs.now }
+    requires numbers { first + length names.now < 18446744073709551616 }
     requires room { length page.old + 77 ≤ PAGE }
     ensures some { 0 < result }
-    ensures within { result ≤ length names.now }
-    ensures text { page.new ≡ page.old ++ changes_from first (take result (map signal_view names.now)) step.now.old.now step.now.new.now }
-{
-    let many = append_ready(first, names, runs, step, page);
-    if many > 0 {
-        return many;
-    }
-    push_unready(first, &names[0], step, page);
-    1
-}
-
-/// The same, of those before one that isn't ready.
-fn append_ready(first: usize, names: &[Signal], runs: &[Run], step: &Step, page: &mut Page) -> usize
-    requires before { All (IsShown (length step.now.old.now)) (map signal_view names.now) }
-    requires after { All (IsShown (length step.now.new.now)) (map signal_view names.now) }
-    requires ready { AreReady first (map signal_view names.now) runs.now }
-    requires room { length page.old + 77 ≤ PAGE }
     ensures within { result ≤ length names.now }
     ensures text { page.new ≡ page.old ++ changes_from first (take result (map signal_view names.now)) step.now.old.now step.now.new.now }
 {
@@ -98,10 +82,11 @@ fn append_ready(first: usize, names: &[Signal], runs: &[Run], step: &Step, page:
     for (place, run) in runs.iter().enumerate() {
         if !run.keeps(old, new) {
             if run.count == 0 {
-                return place;
+                push_unready(first + place, &names[place], step, page);
+                return place + 1;
             }
             run.push_other(page, old, new);
-            if page.room() < LINE {
+            if page.is_full() {
                 return place + 1;
             }
         }
@@ -140,7 +125,7 @@ fn turn<W: Sink>(page: &mut Page, out: &mut W)
     ensures room { length page.new + 77 ≤ PAGE }
     ensures text { Passes (W.state out.old) (W.state out.new) [] page.new page.old }
 {
-    if page.room() >= LINE {
+    if !page.is_full() {
         return;
     }
     push_text(out, page.text());

@@ -1,10 +1,11 @@
 //! What was printed and hasn't gone to the sink yet.
 
-ghost use Rattle.std.specs.Prelude.{◌≡◌, ◌+◌, ◌<◌, ◌≤◌, ◌++◌, ◌∷◌, ℕ, List, [], not, if◌then◌else◌, codes, length, map, take};
+ghost use Rattle.std.specs.Prelude.{◌≡◌, ◌+◌, ◌<◌, ◌≤◌, ◌++◌, ◌∷◌, ℕ, List, [], false, not, if◌then◌else◌, codes, length, map, take};
 ghost use Rattle.std.specs.Str.{bytes_eq};
 ghost use Rattle.rtl_vcd.specs.Values.{character};
 
 use crate::ending::End;
+use crate::line::LINE;
 use crate::put::put_run;
 use std::marker::Model;
 
@@ -49,11 +50,11 @@ impl Page {
         &self.bytes[..self.len]
     }
 
-    /// How many bytes it still has room for.
-    pub(crate) fn room(&self) -> usize
-        ensures { length self.now + result ≡ PAGE }
+    /// Whether it may have no room for another line.
+    pub(crate) fn is_full(&self) -> bool
+        ensures { result ≡ false → length self.now + 77 ≤ PAGE }
     {
-        PAGE - self.len
+        self.len > PAGE - LINE
     }
 
     /// Takes all off it.
@@ -83,9 +84,20 @@ impl Page {
         self.len = beyond;
     }
 
+    /// Appends the line of a character that has this end.
+    pub(crate) fn push_character(&mut self, byte: u8, end: &End)
+        requires room { length self.old + 77 ≤ PAGE }
+        ensures { self.new ≡ self.old ++ byte ∷ take end.now.len end.now.bytes }
+    {
+        let first = self.len + 1;
+        self.bytes[self.len] = byte;
+        end.put(&mut self.bytes, first);
+        self.len = first + end.len as usize;
+    }
+
     /// Appends the end of a line.
     pub(crate) fn push_end(&mut self, end: &End)
-        requires room { length self.old + 12 ≤ PAGE }
+        requires room { length self.old + 8 ≤ PAGE }
         ensures { self.new ≡ self.old ++ take end.now.len end.now.bytes }
     {
         end.put(&mut self.bytes, self.len);

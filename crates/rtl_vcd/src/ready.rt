@@ -48,6 +48,7 @@ pub(crate) struct Run {
 impl Run {
     /// The run of these nets, of the name with this number.
     fn of(number: usize, nets: &[usize], form: Form) -> Run
+        requires number { number < 4294967296 }
         requires some { 0 < length nets.now }
         requires first { slice_index nets.now 0 < 4294967296 }
         requires count { length nets.now < 256 }
@@ -74,6 +75,11 @@ impl Run {
         ensures line { page.new ≡ page.old ++ (if result then (spec.line self.now new.now) else []) }
         ensures other { result ≡ not (bytes_eq (spec.elements self.now old.now) (spec.elements self.now new.now)) }
     {
+        if self.count == 1 {
+            if let Form::Single = self.form {
+                return self.push_single(page, old, new);
+            }
+        }
         match self.form {
             Form::Single => self.push_single(page, old, new),
             Form::Several => {
@@ -110,6 +116,7 @@ impl Run {
     }
 
     /// Appends the line of one element in the same way.
+    #[inline(always)]
     fn push_single(&self, page: &mut Page, old: &[u8], new: &[u8]) -> bool
         requires form { self.now.form ≡ f.Single }
         requires before { LiesAmong (length old.now) self.now }
@@ -118,12 +125,12 @@ impl Run {
         ensures line { page.new ≡ page.old ++ (if result then (spec.line self.now new.now) else []) }
         ensures other { result ≡ not (bytes_eq (spec.elements self.now old.now) (spec.elements self.now new.now)) }
     {
+        let before = old[self.first as usize];
         let now = new[self.first as usize];
-        if !is_other_character(old[self.first as usize], now) {
+        if !is_other_character(before, now) {
             return false;
         }
-        page.push(character(now));
-        page.push_end(&self.end);
+        page.push_character(character(now), &self.end);
         true
     }
 
@@ -167,7 +174,7 @@ fn run_of(number: usize, signal: &Signal) -> Run
     requires most { length signal.now.nets.items ≤ 64 }
     ensures { IsReady number (signal_view signal.now) result }
 {
-    if is_short(&signal.nets)
+    if is_short(number, &signal.nets)
         && are_neighbours(&signal.nets)
         && is_as_wide(signal.kind, signal.nets.len())
     {
@@ -205,13 +212,14 @@ fn is_as_wide(kind: SignalKind, nets: usize) -> bool
     }
 }
 
-/// Whether the first of the nets, and how many they are, have room in a run.
-fn is_short(nets: &[usize]) -> bool
+/// Whether the first of the nets, how many they are, and the code of the name with this number have room in a run.
+fn is_short(number: usize, nets: &[usize]) -> bool
     requires { 0 < length nets.now }
+    ensures number { result ≡ true → number < 4294967296 }
     ensures first { result ≡ true → slice_index nets.now 0 < 4294967296 }
     ensures count { result ≡ true → length nets.now < 256 }
 {
-    nets[0] < 4_294_967_296 && nets.len() < 256
+    number < 4_294_967_296 && nets[0] < 4_294_967_296 && nets.len() < 256
 }
 
 /// Whether the nets stand one behind the other.
@@ -237,6 +245,7 @@ fn is_behind(first: usize, net: usize, many: usize) -> bool
 
 /// The end of the line of the name with this number.
 fn end_of(number: usize, form: Form) -> End
+    requires { number < 4294967296 }
     ensures { take result.len result.bytes ≡ spec.behind form ++ code number ++ codes "\n" }
 {
     let mut ending = Ending::new();

@@ -1,4 +1,4 @@
-use Rattle.std.proofs.Common.{length, false, true, ap, sym, ◌∙◌}
+use Rattle.std.proofs.Common.{length, ap, sym, ◌∙◌}
 use Rattle.std.specs.Prelude.{◌==◌}
 use Rattle.std.proofs.lemmas.Bool.{false≢true}
 use Rattle.rtl_vcd.proofs.Changes.{none_more, some_more, text_of_none, open_of_none, printed_of_none, text_of_some}

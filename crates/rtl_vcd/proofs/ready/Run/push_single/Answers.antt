@@ -1,8 +1,8 @@
-use Rattle.std.proofs.Common.{◌++◌, ◌∷◌, [], ap, ◌∙◌, slice_index, sym, length, arith, length-append, append-nil}
+use Rattle.std.proofs.Common.{◌++◌, ◌∷◌, [], ap, ◌∙◌, slice_index, sym, take}
 use Rattle.rtl_vcd.specs.Values.{character}
 use Rattle.rtl_vcd.specs.Ready.{beginning}
 use Rattle.rtl_vcd.proofs.Puts.{alone_tells}
-use Rattle.rtl_vcd.proofs.Forms.{single_is, line_behind, other_by}
+use Rattle.rtl_vcd.proofs.Forms.{single_is, line_by, other_by}
 use Rattle.rtl_vcd.proofs.ready.Run.push_single.Goals as goal
 
 pub returns-then-not-is_other_character-clause-other : goal.returns-then-not-is_other_character-clause-other
@@ -17,9 +17,8 @@ pub returns-clause-line : goal.returns-clause-line
 returns-clause-line c =
     let run = c.args.self.now in
     let new = c.args.new.now in
-    line_behind run new c.args.page.now c.push.new.self c.push_end.new.self [] (character (slice_index new run.first) ∷ []) (ap beginning c.requires.form)
-    (single_is run new c.requires.form) (c.push.ensures ∙ ap (λ x. c.args.page.now ++ x ∷ []) c.character.ensures
-    ∙ ap (λ t. t ++ character (slice_index new run.first) ∷ []) (sym (append-nil c.args.page.now))) c.push_end.ensures
+    c.push_character.ensures ∙ ap (λ x. c.args.page.now ++ x ∷ take run.end.len run.end.bytes) c.character.ensures
+    ∙ ap (λ t. c.args.page.now ++ t) (sym (line_by run new [] (character (slice_index new run.first) ∷ []) (ap beginning c.requires.form) (single_is run new c.requires.form)))
 
 pub returns-clause-other : goal.returns-clause-other
 returns-clause-other c =
@@ -28,8 +27,3 @@ returns-clause-other c =
     let new = c.args.new.now in
     other_by run old new (character (slice_index old run.first) ∷ []) (character (slice_index new run.first) ∷ []) _ (single_is run old c.requires.form) (single_is run new c.requires.form)
     (sym c.if-not-is_other_character.false ∙ c.is_other_character.ensures ∙ alone_tells (character (slice_index old run.first)) (character (slice_index new run.first)))
-
-pub push_end-requires : goal.push_end-requires
-push_end-requires c = record {
-  room = omega (arith, c.requires.room, ap length c.push.ensures, length-append c.args.page.now (c.character.result ∷ []));
-}
