@@ -13,6 +13,7 @@ pub mod Statements
 pub mod Given
 pub mod Branches
 pub mod Compared
+pub mod Conjunctions
 pub mod Alternatives
 pub mod Backwards
 pub mod Bodies
