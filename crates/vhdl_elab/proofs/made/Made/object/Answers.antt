@@ -2,6 +2,7 @@ use Rattle.std.proofs.Common.{map, ap, sym, refl, ◌∙◌, ◌++◌, ◌∷◌
 use Rattle.std.proofs.lemmas.List.{append-nil, map-append}
 use Rattle.rtl_net.specs.Nets.{type_of}
 use Rattle.vhdl_expand_tree.specs.Views.{object_view}
+use Rattle.vhdl_elab.specs.Signals.{signal_with_byte}
 use Rattle.vhdl_elab.specs.Made.{element_view}
 use Rattle.vhdl_elab.specs.Adding.{own_types, own_starts, object_statics}
 use Rattle.vhdl_elab.proofs.made.Made.object.Goals as goal
