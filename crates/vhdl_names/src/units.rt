@@ -126,7 +126,8 @@ pub fn analyse(alloc: Global, file: &File) -> Result<Units, NameFault>
 
     // Of a file that `parse` gives they are what elaboration asks for, and the ports of each entity have names of their own.
     ensures sound { IfOk result (λ units. IsFile (file_view file.now) → IsTrue (are_sound (views.units_view units))) }
-    ensures named { IfOk result (λ units. IsSpelled (file_view file.now) → IsTrue (are_named (views.units_view units))) }
+    ensures named { IfOk result (λ units. IsSpelled (file_view file.now)
+        → IsTrue (are_named (views.units_view units))) }
     ensures ports { IfOk result (λ units. IsSpelled (file_view file.now)
         → IsTrue (small_ports_are_distinct (views.units_view units))) }
 {
