@@ -23,7 +23,8 @@ use vhdl_names_units::Units;
 
 /// Elaborates the design whose top is the entity of this name, in letters of either case. The generics of the top have their
 /// defaults, and its ports are joined to nothing. It takes the memory of the tree of instances and then of the netlist, within the
-/// limits of elaboration. The units are such as `vhdl_names::analyse` promises of a file that `vhdl_parser::parse` gives.
+/// limits of elaboration. The units are such as `vhdl_names::analyse` promises of a file that `vhdl_parser::parse`
+/// gives of the tokens of `vhdl_lexer::lex`.
 pub fn elaborate(alloc: Global, units: &Units, top: &[u8]) -> Result<Net, ElabFault>
     requires sound { IsTrue (are_sound (units_view units.now)) }
     requires named { IsTrue (are_named (units_view units.now)) }

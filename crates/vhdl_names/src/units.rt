@@ -124,7 +124,8 @@ pub fn analyse(alloc: Global, file: &File) -> Result<Units, NameFault>
     ensures given { Gives views.units_view (units_of (file_view file.now)) result }
     ensures told { IfErr result (Tells (broken.file (file_view file.now))) }
 
-    // Of a file that `parse` gives they are what elaboration asks for, and the ports of each entity have names of their own.
+    // Of a file that `parse` gives of the tokens of `lex` they are what elaboration asks for, and the
+    // ports of each entity have names of their own.
     ensures sound { IfOk result (λ units. IsFile (file_view file.now) → IsTrue (are_sound (views.units_view units))) }
     ensures named { IfOk result (λ units. IsSpelled (file_view file.now)
         → IsTrue (are_named (views.units_view units))) }
