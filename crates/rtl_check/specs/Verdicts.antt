@@ -39,7 +39,7 @@ is_yes (No faults) = false
 abbrev pub HasLevel : Netlist → Report → (q level : ℕ) → Type 0
 HasLevel net r q level = IsCombinational net q × (slice_index_or r.levels.items q None ≡ Some level)
 
--- following `from` leads from each process down to level 1, through as many processes as its level says
+-- following `from` leads from each combinational process down to level 1, through as many processes as its level says
 abbrev pub FromsLeadDown : Netlist → Report → Type 0
 FromsLeadDown net r = (q level : ℕ) → HasLevel net r q level → LeadsDown net r.from.items q level
 

@@ -20,7 +20,7 @@ is_stored marks e = (slice_index_or marks e no_element).stored
 abbrev pub never : ℕ → Bool
 never e = false
 
--- Elements are stored besides, those that aren't assigned and that a part stores, and as many are assigned as before.
+-- Elements are stored besides, those that aren't assigned and that a part stores, and the same are assigned as before.
 pub record Reads (stores : ℕ → Bool) (old new : List Mark) : Type 0 where
   pub same_length : length new ≡ length old
   pub stored : (e : ℕ) → is_stored new e ≡ (is_stored old e || (not (is_assigned old e) && stores e))

@@ -88,7 +88,8 @@ impl Marks {
 
     /// Marks an element as assigned, and lists it where it wasn't.
     fn assign(&mut self, element: usize, added: &mut Vec<usize>) -> Result<(), AllocError>
-        ensures { OnOk result (Walked never (λ e. element == e) self.old.marks.items self.new.marks.items added.old.items added.new.items) }
+        ensures { OnOk result (Walked never (λ e. element == e)
+            self.old.marks.items self.new.marks.items added.old.items added.new.items) }
     {
         if self.is_assigned(element) {
             return Ok(());
@@ -108,7 +109,8 @@ impl Marks {
         elements: &Indices,
         added: &mut Vec<usize>,
     ) -> Result<(), AllocError>
-        ensures { OnOk result (Walked never (λ e. is_in e (numbers elements.now)) self.old.marks.items self.new.marks.items added.old.items added.new.items) }
+        ensures { OnOk result (Walked never (λ e. is_in e (numbers elements.now))
+            self.old.marks.items self.new.marks.items added.old.items added.new.items) }
     {
         for place in 0..len_of(elements) {
             self.assign(number_at(elements, place), added)?;
@@ -122,7 +124,8 @@ impl Marks {
         elements: &[usize],
         added: &mut Vec<usize>,
     ) -> Result<(), AllocError>
-        ensures { OnOk result (Walked never (λ e. is_in e elements.now) self.old.marks.items self.new.marks.items added.old.items added.new.items) }
+        ensures { OnOk result (Walked never (λ e. is_in e elements.now)
+            self.old.marks.items self.new.marks.items added.old.items added.new.items) }
     {
         for element in elements {
             self.assign(*element, added)?;

@@ -17,7 +17,8 @@ pub fn stored_elements(
     body: &[Statement],
     many: usize,
 ) -> Result<Vec<bool>, AllocError>
-    ensures { IfOk result (λ v. v.items ≡ map (λ e. stores_element e (statements_of body.now)) (range_with_len 0 many)) }
+    ensures { IfOk result (λ v. v.items
+        ≡ map (λ e. stores_element e (statements_of body.now)) (range_with_len 0 many)) }
 {
     let mut marks = Marks::new(alloc, many)?;
     let mut added = Vec::new(alloc);

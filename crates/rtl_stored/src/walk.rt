@@ -22,7 +22,9 @@ fn walk_statement(
     marks: &mut Marks,
     added: &mut Vec<usize>,
 ) -> Result<(), AllocError>
-    ensures { OnOk result (Walked (λ e. stmt_stores e (statement_view statement.now)) (λ e. stmt_must_assign (is_element e) (statement_view statement.now)) marks.old.marks.items marks.new.marks.items added.old.items added.new.items) }
+    ensures { OnOk result (Walked (λ e. stmt_stores e (statement_view statement.now))
+        (λ e. stmt_must_assign (is_element e) (statement_view statement.now))
+        marks.old.marks.items marks.new.marks.items added.old.items added.new.items) }
 {
     match statement {
         Statement::Null => Ok(()),
@@ -71,7 +73,9 @@ pub(crate) fn walk_statements(
     marks: &mut Marks,
     added: &mut Vec<usize>,
 ) -> Result<(), AllocError>
-    ensures { OnOk result (Walked (λ e. stores_element e (statements_of statements.now)) (λ e. must_assign (is_element e) (statements_of statements.now)) marks.old.marks.items marks.new.marks.items added.old.items added.new.items) }
+    ensures { OnOk result (Walked (λ e. stores_element e (statements_of statements.now))
+        (λ e. must_assign (is_element e) (statements_of statements.now))
+        marks.old.marks.items marks.new.marks.items added.old.items added.new.items) }
 {
     for statement in statements {
         walk_statement(alloc, statement, marks, added)?;
@@ -86,8 +90,10 @@ fn walk_last(
     statements: &[Statement],
     marks: &mut Marks,
 ) -> Result<Vec<usize>, AllocError>
-    ensures reads { OnOk result (Reads (λ e. stores_element e (statements_of statements.now)) marks.old.marks.items marks.new.marks.items) }
-    ensures assigned { IfOk result (λ v. (e : ℕ) → is_in e v.items ≡ (not (is_assigned marks.old.marks.items e) && must_assign (is_element e) (statements_of statements.now))) }
+    ensures reads { OnOk result (Reads (λ e. stores_element e (statements_of statements.now))
+        marks.old.marks.items marks.new.marks.items) }
+    ensures assigned { IfOk result (λ v. (e : ℕ) → is_in e v.items
+        ≡ (not (is_assigned marks.old.marks.items e) && must_assign (is_element e) (statements_of statements.now))) }
 {
     let mut added = Vec::new(alloc);
     walk_statements(alloc, statements, marks, &mut added)?;
@@ -103,8 +109,10 @@ fn walk_part(
     marks: &mut Marks,
     common: Vec<usize>,
 ) -> Result<Vec<usize>, AllocError>
-    ensures reads { OnOk result (Reads (λ e. stores_element e (statements_of statements.now)) marks.old.marks.items marks.new.marks.items) }
-    ensures assigned { IfOk result (λ v. Narrows (λ e. must_assign (is_element e) (statements_of statements.now)) marks.old.marks.items common.items v.items) }
+    ensures reads { OnOk result (Reads (λ e. stores_element e (statements_of statements.now))
+        marks.old.marks.items marks.new.marks.items) }
+    ensures assigned { IfOk result (λ v. Narrows (λ e. must_assign (is_element e) (statements_of statements.now))
+        marks.old.marks.items common.items v.items) }
 {
     let mut added = Vec::new(alloc);
     walk_statements(alloc, statements, marks, &mut added)?;
@@ -121,8 +129,10 @@ fn walk_branches(
     marks: &mut Marks,
     mut common: Vec<usize>,
 ) -> Result<Vec<usize>, AllocError>
-    ensures reads { OnOk result (Reads (λ e. list_any (branch_stores e) branches.now) marks.old.marks.items marks.new.marks.items) }
-    ensures assigned { IfOk result (λ v. Narrows (λ e. list_all (branch_assigns e) branches.now) marks.old.marks.items common.items v.items) }
+    ensures reads { OnOk result (Reads (λ e. list_any (branch_stores e) branches.now)
+        marks.old.marks.items marks.new.marks.items) }
+    ensures assigned { IfOk result (λ v. Narrows (λ e. list_all (branch_assigns e) branches.now)
+        marks.old.marks.items common.items v.items) }
 {
     for branch in branches {
         walk_test(&branch.test, marks);
@@ -139,8 +149,10 @@ fn walk_alternatives(
     marks: &mut Marks,
     mut common: Vec<usize>,
 ) -> Result<Vec<usize>, AllocError>
-    ensures reads { OnOk result (Reads (λ e. list_any (alternative_stores e) alternatives.now) marks.old.marks.items marks.new.marks.items) }
-    ensures assigned { IfOk result (λ v. Narrows (λ e. list_all (alternative_assigns e) alternatives.now) marks.old.marks.items common.items v.items) }
+    ensures reads { OnOk result (Reads (λ e. list_any (alternative_stores e) alternatives.now)
+        marks.old.marks.items marks.new.marks.items) }
+    ensures assigned { IfOk result (λ v. Narrows (λ e. list_all (alternative_assigns e) alternatives.now)
+        marks.old.marks.items common.items v.items) }
 {
     for alternative in alternatives {
         common = walk_part(alloc, &alternative.statements, marks, common)?;
