@@ -1,7 +1,8 @@
 //! The calls by which a row is made.
 
 use crate::answer::Answer;
-use crate::failing::{wrong_by_reads, wrong_by_shows, wrong_by_writes};
+use crate::beginnings::by_beginnings;
+use crate::failing::{wrong_by_endless, wrong_by_reads, wrong_by_shows, wrong_by_writes};
 use crate::program::Program;
 use crate::row::Row;
 use crate::text::Text;
@@ -21,6 +22,12 @@ pub enum Way {
     Line(&'static str),
     /// By the library's call.
     Library,
+    /// By a run over trees and a map.
+    Trees,
+    /// By `tool` over each beginning of the input.
+    Beginnings,
+    /// By `tool` over readers without an end.
+    Endless,
     /// By `tool`, where reads fail.
     Reads,
     /// The same, where writes fail.
@@ -30,13 +37,16 @@ pub enum Way {
 }
 
 /// The names of the calls.
-pub static WAYS: [(&str, Way); 9] = [
+pub static WAYS: [(&str, Way); 12] = [
     ("tool", Way::Tool),
     ("stream", Way::Stream),
     ("files", Way::Files),
     ("line", Way::Line("\n")),
     ("crlf", Way::Line("\r\n")),
     ("library", Way::Library),
+    ("trees", Way::Trees),
+    ("beginnings", Way::Beginnings),
+    ("endless", Way::Endless),
     ("reads", Way::Reads),
     ("writes", Way::Writes),
     ("shows", Way::Shows),
@@ -54,6 +64,7 @@ pub fn wrong_answer<R: Files + AllocGlobal, P: Program>(
         Way::Reads => wrong_by_reads(alloc, program, row),
         Way::Writes => wrong_by_writes(alloc, program, row),
         Way::Shows => wrong_by_shows(alloc, program, row),
+        Way::Endless => wrong_by_endless(alloc, program, row),
         _ => unless_told(row, by_call(rt, program, row, way)),
     }
 }
@@ -70,6 +81,8 @@ fn by_call<R: Files + AllocGlobal, P: Program>(
         Way::Files => by_files(rt, program, row),
         Way::Line(end) => by_line(rt, program, row, end),
         Way::Library => by_library(alloc, program, row),
+        Way::Trees => by_trees(alloc, program, row),
+        Way::Beginnings => by_beginnings(alloc, program, row),
         Way::Stream => by_tool(alloc, program, &row.words, In::new(input)),
         _ => by_tool(alloc, program, &row.words, input),
     }
@@ -174,6 +187,18 @@ fn by_library<P: Program>(alloc: Global, program: &P, row: &Row<'_>) -> Answer {
     let input = row.input.as_bytes();
     if let Some(status) = program.library(alloc, &row.words, input, &mut answer.out) {
         answer.status = status;
+        answer.err.push_bytes(row.answer.err.as_bytes());
+    }
+    answer
+}
+
+/// The run over trees and a map. Of a refusal it tells the status alone, and so the error output is the row's then.
+fn by_trees<P: Program>(alloc: Global, program: &P, row: &Row<'_>) -> Answer {
+    let mut answer = Answer::new(alloc);
+    let (words, input) = (&row.words, row.input.as_bytes());
+    let status = program.by_trees(alloc, words, input, &mut answer.out, &mut answer.err);
+    answer.status = status.unwrap_or(u8::MAX);
+    if answer.err.as_bytes().is_empty() {
         answer.err.push_bytes(row.answer.err.as_bytes());
     }
     answer

@@ -2,7 +2,7 @@
 
 use crate::answer::Answer;
 use crate::calls::{by_tool, unless_told};
-use crate::faulty::{FailingReader, FailingWriter, Failure};
+use crate::faulty::{Endless, FailingReader, FailingWriter, Failure};
 use crate::program::Program;
 use crate::row::Row;
 use crate::text::Text;
@@ -32,6 +32,18 @@ pub fn wrong_by_reads<P: Program>(alloc: Global, program: &P, row: &Row<'_>) -> 
 fn by_reader<P: Program>(alloc: Global, program: &P, row: &Row<'_>, fails: Fails) -> Answer {
     let reader = FailingReader::new(row.input.as_bytes(), fails.0, fails.1);
     by_tool(alloc, program, &row.words, In::new(reader))
+}
+
+/// `tool` over a reader that gives as many bytes as are asked for without end, and over one that gives a byte a call.
+pub fn wrong_by_endless<P: Program>(alloc: Global, program: &P, row: &Row<'_>) -> Option<Answer> {
+    for most in [usize::MAX, 1] {
+        let reader = In::new(Endless { most });
+        let wrong = unless_told(row, by_tool(alloc, program, &row.words, reader));
+        if wrong.is_some() {
+            return wrong;
+        }
+    }
+    None
 }
 
 /// `tool`, where each write in turn fails: a beginning went out. Where none does, it is the row's.

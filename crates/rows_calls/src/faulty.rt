@@ -85,6 +85,18 @@ impl Read for FailingReader<'_> {
     }
 }
 
+/// Gives bytes without end, so many a call at most.
+#[derive(Drop)]
+pub struct Endless {
+    pub most: usize,
+}
+
+impl Read for Endless {
+    fn read(&mut self, buf: &mut [u8]) -> io::Result<usize> {
+        Ok(buf.len().min(self.most))
+    }
+}
+
 /// Takes what is written byte by byte.
 #[derive(Drop)]
 pub struct FailingWriter {

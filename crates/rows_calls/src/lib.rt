@@ -10,6 +10,7 @@
 #![tactic(auto)]
 
 mod answer;
+mod beginnings;
 mod calls;
 mod failing;
 mod faulty;

@@ -56,4 +56,16 @@ pub trait Program {
         out: &mut O,
     ) -> Option<u8>
         requires { IsIntact (O.state out.old) };
+
+    /// The run that the words ask for, over bodies as trees and an agenda over a map, if they ask for one by delta cycles: the status, and
+    /// at `err` what is told where it went on to the stop or did not settle.
+    fn by_trees<O: Sink, E: Sink>(
+        &self,
+        alloc: Global,
+        words: &[&str],
+        input: &[u8],
+        out: &mut O,
+        err: &mut E,
+    ) -> Option<u8>
+        requires { IsIntact (O.state out.old) };
 }

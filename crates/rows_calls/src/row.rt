@@ -267,6 +267,9 @@ impl<'a> Row<'a> {
         if self.line.starts_with("eval ") {
             return "tool files line library reads writes";
         }
+        if self.line.starts_with("run ") && !self.has_option("--levels") {
+            return "tool files line library trees";
+        }
         "tool files line library"
     }
 }

@@ -27,36 +27,43 @@ pub fn run_row<P: Pick, W: Sink, S: Sink>(
     requires intact { IsIntact (W.state trace.old) }
 {
     match Stimulus::read(alloc, net, row.stimulus) {
-        Ok(stimulus) => simulate(alloc, net, row.limit, &stimulus, pick, trace, told),
+        Ok(stimulus) => {
+            push_end(
+                told,
+                simulate(alloc, net, &stimulus, row.limit, pick, trace),
+            );
+        }
         Err(fault) => push_refused(told, fault),
     }
     push_text(told, b"\n");
 }
 
-/// Simulates a netlist under a stimulus, with so many delta cycles at most in each moment.
-fn simulate<P: Pick, W: Sink, S: Sink>(
+/// Simulates a netlist under a stimulus, with so many delta cycles at most in each moment, over trees and a map.
+pub fn simulate<P: Pick, W: Sink>(
     alloc: Global,
     net: &Net,
-    limit: u32,
     stimulus: &Stimulus,
+    limit: u32,
     pick: &mut P,
     trace: &mut W,
-    told: &mut S,
-)
+) -> Result<Summary, RunFault>
     requires ports { HasOwnPorts net.now }
     requires inputs { stimulus.now.inputs ≡ inputs_of net.now }
     requires intact { IsIntact (W.state trace.old) }
 {
-    let Ok(trees) = trees(alloc, net) else {
-        return push_text(told, b"memory");
-    };
+    let trees = trees(alloc, net)?;
     let simulation = Simulation {
         net,
         bodies: &trees,
         stimulus,
         limit,
     };
-    match simulation.run(alloc, &mut MapAgenda::new(alloc), pick, trace) {
+    simulation.run(alloc, &mut MapAgenda::new(alloc), pick, trace)
+}
+
+/// Writes how a simulation ended.
+pub fn push_end<S: Sink>(told: &mut S, end: Result<Summary, RunFault>) {
+    match end {
         Ok(summary) => push_summary(told, summary),
         Err(fault) => push_fault(told, fault),
     }

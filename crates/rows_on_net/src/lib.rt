@@ -1,5 +1,5 @@
 //! Rows of netlists: what its processes reach, what the checker reports of it and a second look lets stand, what comes of its
-//! simulation, and what the kernel does with it step by step; and rows of agendas.
+//! simulation, and what the kernel does with it step by step; runs over trees and a map; and rows of agendas.
 //!
 //! Where a netlist comes from is left to `Nets`, so that nothing here stands on sources: a crate of rows opens them. What is told
 //! goes to a sink. Where memory is refused, `memory` stands in place of what is told, or what is told differs from the rows.
@@ -8,6 +8,7 @@
 mod agendas;
 mod answers;
 mod bodies;
+mod by_trees;
 mod change;
 mod courses;
 mod held;
@@ -23,6 +24,7 @@ mod tries;
 mod ways;
 
 pub use agendas::tell_agendas;
+pub use by_trees::{Run, run_by_trees};
 pub use nets::Nets;
 pub use orders::tell_orders;
 pub use processes::push_processes;

@@ -9,7 +9,7 @@ use std::alloc::Global;
 /// Opens netlists.
 pub trait Nets {
     /// The netlist of this text in VHDL below this top, if it has one.
-    fn open(&self, alloc: Global, text: &str, top: &str) -> Option<Net>
+    fn open(&self, alloc: Global, text: &[u8], top: &[u8]) -> Option<Net>
         ensures { IfSome result HasOwnPorts };
 }
 
@@ -69,7 +69,7 @@ pub fn net_named<N: Nets>(alloc: Global, nets: &N, name: &str) -> Option<Net>
 {
     for named in NETS {
         if named.name == name {
-            return nets.open(alloc, named.text, named.top);
+            return nets.open(alloc, named.text.as_bytes(), named.top.as_bytes());
         }
     }
     None

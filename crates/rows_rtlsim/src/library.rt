@@ -2,7 +2,9 @@
 
 ghost use Rattle.rtl_sink.specs.Written.{IsIntact};
 
+use crate::opened::Opened;
 use rows_calls::bytes_of;
+use rows_on_net::{Run, run_by_trees};
 use rtlsim::{
     Fault, Forward, Order, Pick, Request, Reverse, Sink, Status, eval, halves_at_line, run,
     run_event, run_levels, show_check, show_check_dot, show_net,
@@ -46,6 +48,38 @@ pub fn answer_by_library<S: Sink>(
             status_of(run_levels::<Vhdl, _>(alloc, source, top.as_bytes(), stimulus, out))
         }
     }
+}
+
+/// Makes a run by delta cycles over trees and a map, if that is asked for, and gives the status.
+pub fn answer_by_trees<S: Sink, E: Sink>(
+    alloc: Global,
+    request: &Request<'_>,
+    input: &[u8],
+    out: &mut S,
+    err: &mut E,
+) -> Option<u8>
+    requires { IsIntact (S.state out.old) }
+{
+    let Request::Run {
+        is_event,
+        order,
+        top,
+        ..
+    } = request
+    else {
+        return None;
+    };
+    let (source, stimulus) = halves_at_line(input);
+    let run = Run {
+        source,
+        top: top.as_bytes(),
+        stimulus,
+        is_event: *is_event,
+    };
+    Some(match order {
+        Order::Forward => run_by_trees(alloc, &Opened, &run, &mut Forward, out, err),
+        Order::Reverse => run_by_trees(alloc, &Opened, &run, &mut Reverse, out, err),
+    })
 }
 
 /// Evaluates a source under the words of its inputs.

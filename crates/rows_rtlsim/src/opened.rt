@@ -9,8 +9,8 @@ use vhdl_source::open;
 pub struct Opened;
 
 impl Nets for Opened {
-    fn open(&self, alloc: Global, text: &str, top: &str) -> Option<Net> {
-        match open(alloc, text.as_bytes(), top.as_bytes()) {
+    fn open(&self, alloc: Global, text: &[u8], top: &[u8]) -> Option<Net> {
+        match open(alloc, text, top) {
             Ok(net) => Some(net),
             Err(_) => None,
         }

@@ -1,6 +1,6 @@
 //! The program's calls.
 
-use crate::library::answer_by_library;
+use crate::library::{answer_by_library, answer_by_trees};
 use rows_calls::Program;
 use rtl_sink::{Reader, Sink};
 use rtlsim::{Named, Standard, parse_words, tool, tool_first_line, tool_with};
@@ -62,5 +62,19 @@ impl Program for Rtlsim {
             return None;
         };
         Some(answer_by_library(alloc, &call.request, input, out))
+    }
+
+    fn by_trees<O: Sink, E: Sink>(
+        &self,
+        alloc: Global,
+        words: &[&str],
+        input: &[u8],
+        out: &mut O,
+        err: &mut E,
+    ) -> Option<u8> {
+        let Ok(call) = parse_words(alloc, words) else {
+            return None;
+        };
+        answer_by_trees(alloc, &call.request, input, out, err)
     }
 }

@@ -1,8 +1,11 @@
 -- The stored variables of one process, as a list.
 use Rattle.std.proofs.Common.{◌≡◌, ℕ, ◌+◌, ◌<◌, ◌≤◌, Bool, true, false, ◌&&◌, ◌||◌, ◌==◌, nat_lt, List, [], ◌∷◌, ◌++◌, length, get_or, map, refl, sym, ap, subst, ◌∙◌, arith, ◌⊎◌, inl, inr, Option, Some, None, append-nil}
 use Rattle.std.specs.Prelude.{IsTrue}
+use Rattle.std.specs.List.{range_with_len}
+use Rattle.std.proofs.lemmas.List.FromFn.{get_or-map-range_with_len}
 use Rattle.std.proofs.lemmas.Bool.{cases_Bool, and_parts, and_from, ltb-true, lt-ltb, eqb-true, eq-eqb}
 use Rattle.rtl_model.specs.basics.Lists.{IsLess}
+use Rattle.rtl_model.specs.bodies.Body.{Stmts}
 use Rattle.rtl_model.specs.bodies.Stored.{stores_element}
 use Rattle.rtl_model.specs.nets.CoreNetlist.{stores_one}
 use Rattle.rtl_model.specs.simulation.Netlist as m
@@ -191,3 +194,12 @@ module _ (net : NetlistView) (p : ℕ) (x : Process) (there : p < length net.pro
               let stored : (process (core net) p).stores v place ≡ true = subst (IsFault (core net)) at_y is in
               let b = below (number_of ws v place) (sym (stores_are v place) ∙ stored) (λ i n. let m = number_below ws 0 v place i n in omega arith) in
               and_from (one_place 9 p y) (below_number e (fault_element ws y)) t (ap (λ (z : Fault). below_number e (fault_element ws z)) at_y ∙ b) ∙ sym t
+
+-- of elements that are looked at all at once, this one
+pub stored_here : (body : Stmts) (many e : ℕ) (b : Bool) (stored : List Bool) → stored ≡ map (λ k. stores_element k body) (range_with_len 0 many) → e < many
+    → b ≡ get_or stored e b → b ≡ stores_element e body
+stored_here body many e b stored is l at =
+    at ∙ (ap (λ (bs : List Bool). get_or bs e b) is ∙ get_or-map-range_with_len (λ k. stores_element k body) 0 many e e b l (none e))
+  where
+    none : (i : ℕ) → 0 + i ≡ i
+    none i = omega arith

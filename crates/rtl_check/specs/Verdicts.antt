@@ -1,9 +1,10 @@
 -- What the checker answers.
-use Rattle.std.specs.Prelude.{⊤, ℕ, Bool, true, false, List, map, Contains}
-use Rattle.rtl_model.specs.simulation.Netlist.{Netlist}
+use Rattle.std.specs.Prelude.{◌≡◌, ⊤, ℕ, ◌≤◌, Bool, true, false, List, map, slice_index_or, Some, None, Contains}
+use Rattle.rtl_model.specs.simulation.Netlist.{Netlist, IsCombinational}
 use Rattle.rtl_model.specs.simulation.Accepted.{Fault, Loop, IsAccepted}
 use Rattle.rtl_model.specs.simulation.Faults.{AreFaults}
-use Rattle.rtl_model.specs.simulation.Report.{IsReport}
+use Rattle.rtl_model.specs.simulation.Levels.{ChainTo, Rises}
+use Rattle.rtl_model.specs.simulation.Report.{IsReport, LeadsDown}
 use Rattle.rtl_check_levels.specs.Rounds.{IsListedOnce}
 use Rattle.rtl_check.specs.declared.reporting.Report.{Report}
 use Rattle.rtl_check.specs.declared.checking.Verdict.{Verdict}
@@ -31,3 +32,26 @@ ListsLoopsOnce (No faults) = AreLoopsOnce (map fault_view faults.items)
 abbrev pub is_yes : Verdict → Bool
 is_yes (Yes report) = true
 is_yes (No faults) = false
+
+-- ---- what a report shows of its levels
+
+-- it has this level for the combinational process q
+abbrev pub HasLevel : Netlist → Report → (q level : ℕ) → Type 0
+HasLevel net r q level = IsCombinational net q × (slice_index_or r.levels.items q None ≡ Some level)
+
+-- following `from` leads from each combinational process down to level 1, through as many processes as its level says
+abbrev pub FromsLeadDown : Netlist → Report → Type 0
+FromsLeadDown net r = (q level : ℕ) → HasLevel net r q level → LeadsDown net r.from.items q level
+
+-- no chain is longer than the level of the process that it ends with
+abbrev pub NoChainIsLonger : Netlist → Report → Type 0
+NoChainIsLonger net r = (q level many : ℕ) → HasLevel net r q level → ChainTo net q many → many ≤ level
+
+-- no numbering that rises is lower anywhere
+abbrev pub NoNumberIsLower : Netlist → Report → Type 0
+NoNumberIsLower net r = (number : ℕ → ℕ) → Rises net number → (q level : ℕ) → HasLevel net r q level → level ≤ number q
+
+-- the verdict has no report, or one of which this holds
+abbrev pub IfYes : (Holds : Report → Type 0) → Verdict → Type 0
+IfYes Holds (Yes report) = Holds report
+IfYes Holds (No faults) = ⊤

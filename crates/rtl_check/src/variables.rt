@@ -3,16 +3,14 @@
 ghost use Rattle.std.specs.Prelude.{◌≡◌, ◌<◌, ◌++◌, length, map, IfOk, OnOk};
 ghost use Rattle.std.specs.List.{range_with_len};
 ghost use Rattle.rtl_model.specs.simulation.Faults.{AreStored};
-ghost use Rattle.rtl_model.specs.bodies.Stored.{stores_element};
-ghost use Rattle.rtl_net.specs.Bodies.{statements_of};
 ghost use Rattle.rtl_net.specs.Core.{core};
 ghost use Rattle.rtl_check.specs.Views.{fault_view};
 ghost use Rattle.rtl_check.specs.Listing.{is_of_number, one_place, AddsFaults};
 ghost use Rattle.rtl_check.specs.Places.{place_in, places_from, widths, added_if};
 
 use crate::fault::CheckFault;
-use rtl_net::{Net, NoMemory, Statement, Variable};
-use rtl_net_facts::body_stores;
+use rtl_net::{Net, NoMemory, Variable};
+use rtl_stored::stored_elements;
 use std::alloc::Global;
 
 /// An element of a process's variables: the variable's number, and the element's place from the left.
@@ -47,17 +45,16 @@ fn places_of(alloc: Global, variables: &[Variable]) -> Result<Vec<VariableElemen
     Ok(places)
 }
 
-/// Appends the fault of an element, if the body stores it.
+/// Appends the fault of an element, if it is stored.
 fn push_stored(
-    body: &[Statement],
+    stored: bool,
     process: usize,
-    element: usize,
     at: VariableElement,
     faults: &mut Vec<CheckFault>,
 ) -> Result<(), NoMemory>
-    ensures { OnOk result (faults.new.items ≡ faults.old.items ++ added_if (stores_element element (statements_of body.now)) (CheckFault.StoredVariable process at.variable at.place)) }
+    ensures { OnOk result (faults.new.items ≡ faults.old.items ++ added_if stored (CheckFault.StoredVariable process at.variable at.place)) }
 {
-    if body_stores(body, element) {
+    if stored {
         faults.push(CheckFault::StoredVariable {
             process,
             variable: at.variable,
@@ -80,8 +77,9 @@ fn stored_at(
     let processes = net.processes();
     let each = &processes[process];
     let places = places_of(alloc, &each.variables)?;
+    let stored = stored_elements(alloc, &each.body, places.len())?;
     for element in 0..places.len() {
-        push_stored(&each.body, process, element, places[element], faults)?;
+        push_stored(stored[element], process, places[element], faults)?;
     }
     Ok(())
 }
@@ -101,8 +99,9 @@ pub fn stored_variables(
     Ok(())
 }
 
-/// The variables of a netlist that are stored: all faults of that kind, in order, whatever other faults there are. It takes
-/// memory for the elements of one process's variables, and for the list.
+/// The variables of a netlist that are stored: all faults of that kind, in order, whatever other faults there are. It takes time in
+/// proportion to the bodies and to the elements of variables, and memory for the elements of one process's variables, and for the
+/// list.
 pub fn stored(alloc: Global, net: &Net) -> Result<Vec<CheckFault>, NoMemory>
     ensures { IfOk result (λ faults. AreStored (core net.now) (map fault_view faults.items)) }
 {

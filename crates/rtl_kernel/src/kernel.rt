@@ -175,7 +175,8 @@ impl<'a, E: Exec> Kernel<'a, E> {
         self.drivers.is_quiet()
     }
 
-    /// Initialization: runs each process once (IEEE 1076-2008, 14.7.5.2), in the order that the picker answers.
+    /// Initialization (IEEE 1076-2008, 14.7.5.2): each process has its turn once, in the order that the picker answers. The body of
+    /// one that is asleep isn't called, since it would assign nothing: the state is as if it had run.
     pub fn start<P: Pick>(&mut self, pick: &mut P)
         ensures net { self.new.net ≡ self.old.net }
         ensures ran { HasRun (core_netlist (flat self.old.net)) self.old.state self.new.state }
@@ -250,12 +251,9 @@ impl<'a, E: Exec> Kernel<'a, E> {
         }
         let bodies = self.bodies;
         self.ahead = self.resumed.look_ahead(bodies, &self.drivers);
-        self.drivers.run(
-            process,
-            &bodies[process],
-            self.values.now(),
-            self.values.before(),
-        );
+        let body = &bodies[process];
+        self.drivers
+            .run(process, body, self.values.now(), self.values.before());
     }
 
     /// Runs all processes that are to run.

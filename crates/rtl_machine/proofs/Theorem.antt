@@ -30,6 +30,9 @@ is_synchronous meets simulates solves net most stimulus is_net said raceless =
         settles = λ m begun is_begun.
             let s = all.settles said.levels said.report.greatest said.report.levels_are m begun is_begun in
             (s.deltas, s.settles, subst (λ (b : ℕ). s.deltas ≤ b) (sym said.report.rest.bound_is) s.in_bound);
+        starts = λ levels greatest are none begun is_begun.
+            let s = all.settles levels greatest are 0 begun is_begun in
+            (s.deltas, s.settles, s.at_start refl none);
         is_machine = λ m deltas settled has.
             let (begun, is_begun, (settles, leads)) = has in
             let s = all.settles said.levels said.report.greatest said.report.levels_are m begun is_begun in

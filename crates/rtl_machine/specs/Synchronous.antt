@@ -4,6 +4,8 @@ use Rattle.rtl_model.specs.simulation.Netlist.{Netlist, Edge, sources_of}
 use Rattle.rtl_model.specs.simulation.Cycle.{State}
 use Rattle.rtl_model.specs.simulation.Moments.{Begun, SettlesIn, HasSettled}
 use Rattle.rtl_model.specs.simulation.Accepted.{IsAccepted}
+use Rattle.rtl_model.specs.simulation.Laws.{HasNoReset}
+use Rattle.rtl_model.specs.simulation.Levels.{AreLevels}
 use Rattle.rtl_model.specs.simulation.Report.{IsReport}
 use Rattle.rtl_model.specs.simulation.Races.{HasNoRace}
 use Rattle.rtl_model.specs.simulation.Machine.{Solves, IsMachineRun}
@@ -37,6 +39,9 @@ pub record IsSynchronous (net : Netlist) (bound : ℕ) (stimulus : ℕ → ℕ �
   -- each moment comes, and whatever the orders so far, it settles within the bound
   pub comes : (m : ℕ) → (begun : State) × Begun net stimulus m begun
   pub settles : (m : ℕ) (begun : State) → Begun net stimulus m begun → (deltas : ℕ) × SettlesIn net begun deltas × (deltas ≤ bound)
+  -- the first within the greatest level, where no process has a reset
+  pub starts : (levels : List (Option ℕ)) (greatest : ℕ) → AreLevels net levels greatest → HasNoReset net
+      → (begun : State) → Begun net stimulus 0 begun → (deltas : ℕ) × SettlesIn net begun deltas × (deltas ≤ greatest)
   -- what it settles in is the machine's valuation,
   pub is_machine : (m deltas : ℕ) (settled : State) → HasSettled net stimulus m deltas settled → settled.now ≡ run m
   -- in which each register is computed from the settled values before the edge,

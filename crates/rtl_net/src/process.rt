@@ -44,7 +44,7 @@ pub struct Process {
     /// The labels of the generates round it in its scope, joined by dots; empty where there is none.
     pub generates: Vec<u8>,
     pub label: Option<Vec<u8>>,
-    /// The byte of the source at which it is declared.
+    /// The byte of the source at which it starts, behind its label (IEEE 1076-2008, 11.3).
     pub at: u32,
 }
 

@@ -25,7 +25,7 @@ use Rattle.rtl_stim.specs.Pushes.{Push, AddsTo, AddsSome, IsFree, gathered, elem
 use Rattle.rtl_stim.proofs.Values.{first_or_later, value_there, net_there}
 use Rattle.rtl_stim.proofs.Adding.{gathered-append, gathered_from, gathered_has, pushed_from}
 use Rattle.rtl_stim.proofs.Places.{input_there, nets_apart}
-use Rattle.rtl_stim.proofs.Due.{due_later, due_has, first_busy, found_key, is_at_key}
+use Rattle.rtl_stim.proofs.Due.{due_later, due_has, first_busy, found_key, is_at_key, at_itself}
 
 -- ---- places and elements
 
@@ -159,6 +159,10 @@ module _ (inputs : List Input) (schedule : Schedule) (own : HaveOwnNets inputs) 
         by true is = absurd (differ (is_at_key t time is))
         by false is = refl
 
+    -- what waits at the time itself
+    pub at_first : changes_at ((time, taken) ∷ old) time ≡ taken
+    at_first = ap (λ b. unwrap_or (cond b (Some taken) (lookup (is_at (nat_cmp time)) old)) []) (at_itself time)
+
     past_first : (t : ℕ) → t ≢ time → changes_at ((time, taken) ∷ old) t ≡ changes_at old t
     past_first t differ = ap (λ b. unwrap_or (cond b (Some taken) (lookup (is_at (nat_cmp t)) old)) []) (not_at t differ)
 
@@ -170,7 +174,7 @@ module _ (inputs : List Input) (schedule : Schedule) (own : HaveOwnNets inputs) 
         by (Some cs) is h = All-contains (λ k. time < k) (keys_of old) t rising (found_key old t (ap is_some is))
 
     -- nothing is busy in between
-    none_between : (course : Course) (net b : ℕ) → IsOn inputs schedule.courses course net → now < b → b < time → b ≤ schedule.stop → is_busy course b ≡ true → ⊥
+    pub none_between : (course : Course) (net b : ℕ) → IsOn inputs schedule.courses course net → now < b → b < time → b ≤ schedule.stop → is_busy course b ≡ true → ⊥
     none_between course net b on after before within busy =
         let n = first_busy course now b after busy in
         let sooner : n.0 < time = omega (arith, n.2, before) in

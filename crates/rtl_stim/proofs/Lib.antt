@@ -7,10 +7,12 @@ pub mod PortLemmas
 pub mod Adding
 pub mod Elements
 pub mod Places
+pub mod Firsts
 pub mod Partly
 pub mod Due
 pub mod Awaiting
 pub mod Busy
+pub mod Refilling
 pub mod Unchanged
 pub mod MomentLists
 pub mod Next
@@ -19,3 +21,4 @@ pub mod Edges
 pub mod Idle
 pub mod Quieting
 pub mod Racing
+pub mod Halving

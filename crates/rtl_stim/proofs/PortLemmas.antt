@@ -11,6 +11,7 @@ use Rattle.rtl_net.specs.Elaborated.{IsNet, SignalInRange}
 use Rattle.rtl_model.specs.bodies.Types.{HasType}
 use Rattle.rtl_stim_lines.specs.Inputs.{Input}
 use Rattle.rtl_stim_lines.specs.Filling.{HaveOwnNets}
+use Rattle.rtl_stim_lines.specs.Times.{all_nets}
 use Rattle.rtl_stim_lines.specs.View.{IsVector, AreVectors}
 use Rattle.rtl_stim.specs.Ports.{HasOwnPorts, is_in_port, element_on, input_of, inputs_of}
 use Rattle.rtl_stim.proofs.Inputs.{all_before, split_filter}
@@ -84,7 +85,8 @@ are_vectors net elaborated =
     (All-filter (is_in_port net) (λ s. P (input_of net s)) net.signals
     (All-weaker (SignalInRange net.types (length net.scopes)) (λ s. P (input_of net s)) wide net.signals elaborated.signals))
 
+pub nets_rise : (net : NetlistView) → IsNet net → HasOwnPorts net → AllPairs (λ n m. n < m) (all_nets (inputs_of net))
+nets_rise net elaborated own = subst (AllPairs (λ n m. n < m)) (sym own.elements) (AllPairs-from_increasing net.inputs elaborated.in_range.inputs_rise)
+
 pub have_own_nets : (net : NetlistView) → IsNet net → HasOwnPorts net → HaveOwnNets (inputs_of net)
-have_own_nets net elaborated own =
-    subst (λ ns. AllPairs (λ n m. n ≢ m) ns) (sym own.elements)
-    (λ i j d before there same. let h = AllPairs-from_increasing net.inputs elaborated.in_range.inputs_rise i j d before there in omega (arith, h, same))
+have_own_nets net elaborated own = λ i j d before there same. let h = nets_rise net elaborated own i j d before there in omega (arith, h, same)

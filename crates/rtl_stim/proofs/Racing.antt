@@ -5,7 +5,6 @@ use Rattle.std.specs.List.Sorted.{IsStrictlyIncreasing}
 use Rattle.std.proofs.Math.Nat.{eq-or-lt_of_le}
 use Rattle.std.proofs.lemmas.Bool.{cases_lt}
 use Rattle.std.proofs.lemmas.Bool.Decides.{nat_tests}
-use Rattle.std.proofs.lemmas.List.Elements.{Contains-get_or}
 use Rattle.std.proofs.lemmas.List.Kept.{AllPairs-from_increasing}
 use Rattle.std.proofs.lemmas.Option.{slice_get-get_or, get_or_from_slice_get}
 use Rattle.vhdl_values.specs.Scalar.{value_of_code}
@@ -18,7 +17,7 @@ use Rattle.rtl_model.specs.simulation.Races.{IsRace, HasNoRace, IsActive, IsChan
 use Rattle.rtl_model.specs.simulation.Report.{AreClocks}
 use Rattle.rtl_stim_lines.specs.Times.{all_nets, value_at, is_moment}
 use Rattle.rtl_stim.specs.Stimuli.{StimulusView, moments, inputs_at, code_at}
-use Rattle.rtl_stim.specs.Quiet.{IsNoClock, IsQuietAt, IsActiveAt, IsChangedAt, IsRaceHere, HasNoneHere, clock_at, edge_at}
+use Rattle.rtl_stim.specs.Quiet.{IsNoClock, IsActiveAt, IsChangedAt, IsRaceHere, HasNoneHere, clock_at, edge_at}
 use Rattle.rtl_stim.proofs.Next.{any_from, any_has}
 use Rattle.rtl_stim.proofs.MomentLists.{rise}
 use Rattle.rtl_stim.proofs.Edges.{each_moment, other_times, race_has_time}
@@ -27,10 +26,6 @@ at_default : {X : Type 0} (xs : List X) (i : ℕ) (d e : X) → i < length xs �
 at_default xs i d e within = get_or_from_slice_get xs i (get_or xs i d) e (slice_get-get_or xs i d within)
 
 module _ (f : FlatNetlist) (s : StimulusView) (clocks : List (ℕ × Edge)) (are : AreClocks (core_netlist f) clocks) (same : all_nets s.inputs ≡ f.inputs) where
-  pub none_if_quiet : (t : ℕ) → IsQuietAt s clocks (all_nets s.inputs) t → HasNoneHere s clocks f.inputs t
-  none_if_quiet t quiet k j clock_there active there changed =
-      changed.1 (quiet (slice_index f.inputs j) (subst (λ ns. Contains ns (slice_index f.inputs j)) (sym same) (Contains-get_or f.inputs j 0 there)) changed.0)
-
   -- ---- clocks and inputs by their places
 
   edge_is : (edge : Edge) (n t : ℕ) → (core_netlist f).edge edge (code_at s (t - 1) n) (code_at s t n) ≡ has_edge edge (value_at s.inputs s.schedule n (t - 1)) (value_at s.inputs s.schedule n t)

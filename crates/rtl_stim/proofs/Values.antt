@@ -68,7 +68,7 @@ element_there course place (x ∷ es) (suc k) t e own is =
     ∙ element_there course (suc place) es k t e own.1 is
     ∙ ap (λ p. Some (course_value course p e.start t)) same_place
 
-no_element : (course : Course) (place : ℕ) (es : List Element) (net t : ℕ) → (Contains (map (λ element. element.net) es) net → ⊥) → element_value course place es net t ≡ None
+pub no_element : (course : Course) (place : ℕ) (es : List Element) (net t : ℕ) → (Contains (map (λ element. element.net) es) net → ⊥) → element_value course place es net t ≡ None
 no_element course place [] net t none = refl
 no_element course place (x ∷ es) net t none =
     ap (λ b. cond b (Some (course_value course place x.start t)) (element_value course (suc place) es net t))

@@ -1,10 +1,12 @@
 -- What filling an agenda pushes.
-use Rattle.std.specs.Prelude.{◌≡◌, ◌↔◌, ◌⊎◌, ℕ, ◌==◌, ◌+◌, ◌-◌, ◌%◌, nat_lt, nat_le, List, [], ◌∷◌, ◌++◌, Contains, Option, Some, None, Result, Ok, Err, filter, take, if◌then◌else◌}
+use Rattle.std.specs.Prelude.{◌≡◌, ◌↔◌, ◌⊎◌, ℕ, ◌<◌, ◌==◌, ◌+◌, ◌-◌, ◌%◌, nat_lt, nat_le, List, [], ◌∷◌, ◌++◌, Contains, Option, Some, None, Result, Ok, Err, filter, length, slice_index, slice_index_or, take, if◌then◌else◌}
 use Rattle.std.specs.List.{range_with_len}
+use Rattle.vhdl_values.specs.declared.scalar.Nine.TheVariants.{U}
 use Rattle.rtl_agenda.specs.Agenda.{AgendaState, Change, changes_at}
 use Rattle.rtl_stim_lines.specs.Inputs.{Input, Element, input_at}
 use Rattle.rtl_stim_lines.specs.Courses.{Course, course_value, is_busy}
 use Rattle.rtl_stim_lines.specs.Reading.{Schedule}
+use Rattle.rtl_stim_lines.specs.Times.{nets_of}
 use Rattle.rtl_stim_lines.specs.View.{course_in}
 use Rattle.rtl_stim.specs.Numbered.{numbered}
 
@@ -72,3 +74,21 @@ place_pushes inputs schedule now place = due_pushes (course_in schedule place) (
 -- of an input that is busy now, what comes next
 abbrev pub busy_pushes : List Input → Schedule → (now place : ℕ) → List Push
 busy_pushes inputs schedule now place = if is_busy (course_in schedule place) now then place_pushes inputs schedule now place else []
+
+-- ---- of the changes that were taken
+
+-- the net of an input's first element
+abbrev pub first_net : Input → ℕ
+first_net input = slice_index (nets_of input) 0
+
+-- the net of the change at a place
+abbrev pub changed_net : List Change → (place : ℕ) → ℕ
+changed_net changes k = (slice_index_or changes k (0, U)).0
+
+-- among so many changes is one of the first net of the input at a place
+abbrev pub IsTaken : List Input → List Change → (count place : ℕ) → Type 0
+IsTaken inputs changes count place = (place < length inputs) × (k : ℕ) × (k < count) × (changed_net changes k ≡ first_net (input_at inputs place))
+
+-- the places of those inputs
+abbrev pub ArePlaces : List Input → List Change → (count : ℕ) → (places : List ℕ) → Type 0
+ArePlaces inputs changes count places = (place : ℕ) → Contains places place ↔ IsTaken inputs changes count place

@@ -1,13 +1,25 @@
--- What the search for the first race keeps: the times at which no data input changes.
-use Rattle.std.specs.Prelude.{◌≡◌, IsTrue, if◌then◌else◌, nat_lt, length, slice_index, slice_index_or, ℕ, suc, ◌-◌, ◌<◌, ◌≤◌, List, Contains, Option, Some, None, IfSome}
+-- What the search for the first race keeps: the times at which no input has one.
+use Rattle.std.specs.Prelude.{◌≡◌, IsTrue, length, take, slice_index, slice_index_or, ℕ, suc, ◌-◌, ◌<◌, ◌≤◌, List, Contains, Option, Some, None, IfSome}
 use Rattle.vhdl_values.specs.Edges.{has_edge}
 use Rattle.rtl_model.specs.simulation.Netlist.{Edge, Rising}
-use Rattle.rtl_stim_lines.specs.Times.{value_at}
+use Rattle.rtl_stim_lines.specs.Times.{all_nets, value_at}
 use Rattle.rtl_stim.specs.Stimuli.{StimulusView, code_at}
+
+-- the clock at a place, and its edge
+abbrev pub clock_at : (clocks : List (ℕ × Edge)) → (place : ℕ) → ℕ
+clock_at clocks k = (slice_index_or clocks k (0, Rising)).0
+
+abbrev pub edge_at : (clocks : List (ℕ × Edge)) → (place : ℕ) → Edge
+edge_at clocks k = (slice_index_or clocks k (0, Rising)).1
 
 -- the net is tested by none of these
 abbrev pub IsNoClock : (clocks : List (ℕ × Edge)) → (net : ℕ) → Type 0
 IsNoClock clocks n = (edge : Edge) → Contains clocks (n, edge) → ⊥
+
+-- among the clocks from one place up to another a net may be, and nowhere else
+pub record IsBetween (clocks : List (ℕ × Edge)) (net low high : ℕ) : Type 0 where
+  pub before : (j : ℕ) → j < low → clock_at clocks j < net
+  pub behind : (j : ℕ) → high ≤ j → j < length clocks → net < clock_at clocks j
 
 -- of these nets, none that is no clock changes at the time
 abbrev pub IsQuietAt : StimulusView → (clocks : List (ℕ × Edge)) → (nets : List ℕ) → (t : ℕ) → Type 0
@@ -22,19 +34,7 @@ found_or_past (Some t) stop = t
 abbrev pub IsWithin : (now stop : ℕ) → Option ℕ → Type 0
 IsWithin now stop found = IfSome found (λ t. (now < t) × (t ≤ stop))
 
-abbrev pub earlier_of : Option ℕ → Option ℕ → Option ℕ
-earlier_of None b = b
-earlier_of (Some a) None = Some a
-earlier_of (Some a) (Some b) = if nat_lt b a then Some b else Some a
-
 -- ---- at a time
-
--- the clock at a place, and its edge
-abbrev pub clock_at : (clocks : List (ℕ × Edge)) → (place : ℕ) → ℕ
-clock_at clocks k = (slice_index_or clocks k (0, Rising)).0
-
-abbrev pub edge_at : (clocks : List (ℕ × Edge)) → (place : ℕ) → Edge
-edge_at clocks k = (slice_index_or clocks k (0, Rising)).1
 
 -- the clock at a place has its edge
 abbrev pub IsActiveAt : StimulusView → (clocks : List (ℕ × Edge)) → (t place : ℕ) → Type 0
@@ -62,3 +62,11 @@ pub record IsRaceHere (s : StimulusView) (clocks : List (ℕ × Edge)) (inputs :
 abbrev pub HasNoneHere : StimulusView → (clocks : List (ℕ × Edge)) → (inputs : List ℕ) → (t : ℕ) → Type 0
 HasNoneHere s clocks inputs t =
     (k j : ℕ) → k < length clocks → IsActiveAt s clocks t k → j < length inputs → IsChangedAt s clocks t (slice_index inputs j) → ⊥
+
+-- The first inputs, with so many nets, have no race before a time. Where that is not past the stop, some input has one at it.
+pub record HasSearched (s : StimulusView) (clocks : List (ℕ × Edge)) (places many past : ℕ) : Type 0 where
+  pub many_are : many ≡ length (all_nets (take places s.inputs))
+  pub some : 0 < past
+  pub within : past ≤ suc s.schedule.stop
+  pub race : past ≤ s.schedule.stop → HasNoneHere s clocks (all_nets s.inputs) past → ⊥
+  pub none : (t : ℕ) → 0 < t → t < past → HasNoneHere s clocks (all_nets (take places s.inputs)) t

@@ -38,7 +38,8 @@ impl Stimulus {
 
     /// Brings what comes next of each input that was set or toggled at the time that was taken from the agenda last.
     ///
-    /// It takes the agenda's memory for these. Where that is refused, what waited waits still, with some of these.
+    /// It looks at the changes of that time alone, and takes the agenda's memory for what comes next. Where that is refused, what
+    /// waited waits still, with some of these.
     pub fn refill<A: Agenda>(&self, time: u64, agenda: &mut A) -> Result<(), NoMemory>
         requires last { (A.state agenda.old).last ≡ Some time }
         requires waited { (now : ℕ) × (now < time)
@@ -47,8 +48,9 @@ impl Stimulus {
         ensures waits { OnOk result (Waits self.now.inputs self.now.schedule time (A.state agenda.new).waiting) }
         ensures left { OnErr result (WaitsPartly self.now.inputs self.now.schedule time (A.state agenda.old).waiting (A.state agenda.new).waiting) }
     {
-        for place in 0..self.schedule.courses.len() {
-            if self.schedule.courses[place].is_busy(time) {
+        for index in 0..agenda.changes().len() {
+            let (net, _) = agenda.changes()[index];
+            if let Ok(place) = self.firsts.binary_search(&net) {
                 push_due(agenda, &self.inputs, &self.schedule, place, time)?;
             }
         }

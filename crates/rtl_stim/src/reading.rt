@@ -1,6 +1,6 @@
 //! From a text to the stimulus of a netlist.
 
-ghost use Rattle.std.specs.Prelude.{◌≡◌, ◌<◌, ◌≤◌, ◌++◌, length, map, vec_len, IfOk, OnOk};
+ghost use Rattle.std.specs.Prelude.{◌≡◌, ◌<◌, ◌≤◌, ◌++◌, All, AllPairs, length, map, vec_len, IfOk, OnOk};
 ghost use Rattle.rtl_stim_lines.specs.Filling.{HaveOwnNets};
 ghost use Rattle.rtl_stim_lines.specs.View.{inputs_view, schedule_view, course_in, element_view};
 ghost use Rattle.rtl_stim_lines.specs.Times.{all_nets, value_at};
@@ -10,6 +10,7 @@ ghost use Rattle.rtl_stim.specs.Ports.{HasOwnPorts};
 ghost use Rattle.rtl_stim.specs.Moments.{IsStimulus};
 ghost use Rattle.rtl_stim.specs.Stimuli.{IsPaired, IsRead};
 ghost use Rattle.rtl_stim.specs.Kept.{element_values};
+ghost use Rattle.rtl_stim.specs.Pushes.{first_net};
 
 use crate::ports::{elements_at, inputs_of};
 use crate::stimulus::Stimulus;
@@ -65,15 +66,30 @@ fn with_initial(
     schedule: Schedule,
 ) -> Result<Stimulus, AllocError>
     requires stimulus { IsStimulus (record { inputs = inputs_view inputs; schedule = schedule_view schedule }) }
+    requires rising { AllPairs (λ n m. n < m) (all_nets (inputs_view inputs)) }
     requires in_time { schedule.stop ≤ latest_time }
     ensures { IfOk result (λ s. s ≡ record { inputs = inputs_view inputs; schedule = schedule_view schedule }) }
 {
     let initial = initial_values(alloc, &inputs, &schedule)?;
+    let firsts = first_nets(alloc, &inputs)?;
     Ok(Stimulus {
         inputs,
         schedule,
         initial,
+        firsts,
     })
+}
+
+/// The net of each input's first element.
+fn first_nets(alloc: Global, inputs: &InputTable) -> Result<Vec<usize>, AllocError>
+    requires { All (λ input. 1 ≤ length input.elements) (inputs_view inputs.now) }
+    ensures { IfOk result (λ firsts. firsts.items ≡ map first_net (inputs_view inputs.now)) }
+{
+    let mut firsts = Vec::with_capacity(alloc, inputs.len())?;
+    for place in 0..inputs.len() {
+        firsts.push(elements_at(inputs, place)[0].net)?;
+    }
+    Ok(firsts)
 }
 
 /// The value of each input's element at 0.

@@ -1,8 +1,9 @@
 //! Stimuli.
 
-ghost use Rattle.std.specs.Prelude.{◌≡◌, ◌<◌, ◌≤◌, map, vec_len};
+ghost use Rattle.std.specs.Prelude.{◌≡◌, ◌<◌, ◌≤◌, ℕ, Contains, IfSome, Some, length, map, vec_len};
+ghost use Rattle.rtl_stim_lines.specs.Inputs.{input_at};
 ghost use Rattle.rtl_stim_lines.specs.Reading.{latest_time};
-ghost use Rattle.rtl_stim_lines.specs.Times.{element_value, value_at};
+ghost use Rattle.rtl_stim_lines.specs.Times.{element_value, nets_of, value_at};
 ghost use Rattle.rtl_stim_lines.specs.View.{course_in, element_view, schedule_view};
 ghost use Rattle.rtl_stim.specs.Stimuli.{initial_values};
 ghost use Rattle.rtl_stim.specs.Moments.{IsStimulus};
@@ -17,6 +18,8 @@ pub struct Stimulus {
     pub(crate) inputs: InputTable,
     pub(crate) schedule: Schedule,
     pub(crate) initial: Vec<Nine>,
+    /// The net of each input's first element. The nets of the inputs rise.
+    pub(crate) firsts: Vec<usize>,
 }
 
 impl Drop for Stimulus {
@@ -25,6 +28,7 @@ impl Drop for Stimulus {
             inputs: _,
             schedule: _,
             initial: _,
+            firsts: _,
         } = self;
     }
 }
@@ -58,18 +62,28 @@ impl Stimulus {
         self.initial.as_slice()
     }
 
-    /// The value of a net at a time, in ns: of an input, and `U` of any other net. It takes no memory, and time in
-    /// proportion to the elements of the inputs.
+    /// The value of a net at a time, in ns: of an input, and `U` of any other net. It takes no memory, and time by the
+    /// logarithm of the inputs and in proportion to the elements of one.
     pub fn value(&self, net: usize, time: u64) -> Nine
         ensures { result ≡ value_at self.now.inputs self.now.schedule net time }
     {
-        for place in 0..self.inputs.len() {
-            let elements = elements_at(&self.inputs, place);
-            if let Some(value) = value_among(&self.schedule, place, elements, net, time) {
-                return value;
-            }
+        let Some(place) = self.place_of(net) else {
+            return Nine::U;
+        };
+        let elements = elements_at(&self.inputs, place);
+        value_among(&self.schedule, place, elements, net, time).unwrap_or(Nine::U)
+    }
+
+    /// The place of the only input that may have a net.
+    fn place_of(&self, net: usize) -> Option<usize>
+        ensures within { IfSome result (λ place. place < length self.now.inputs) }
+        ensures only { (place : ℕ) → place < length self.now.inputs → Contains (nets_of (input_at self.now.inputs place)) net
+            → result ≡ Some place }
+    {
+        match self.firsts.binary_search(&net) {
+            Ok(place) => Some(place),
+            Err(behind) => behind.checked_sub(1),
         }
-        Nine::U
     }
 }
 

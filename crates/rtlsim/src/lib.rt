@@ -2,7 +2,8 @@
 //!
 //! The commands are those of rtlsim_commands, and so is `Front`, by whose contract each call that has it for its first type parameter
 //! opens sources. `specs/Tools.antt` says what the program does for its words, `specs/Requests.antt` which files it reads for them,
-//! `specs/Inputs.antt` what a read gives, and `specs/Unread.antt` what is told of an input that isn't read.
+//! `specs/Inputs.antt` what a read gives, and `specs/Unread.antt` what is told of an input that isn't read. The module `laws` has the
+//! laws of accepted netlists.
 #![tactic(auto)]
 
 mod arguments;
@@ -10,6 +11,7 @@ mod first_line;
 mod halves;
 mod inputs;
 mod job;
+pub mod laws;
 mod performing;
 mod prepared;
 mod problem;

@@ -30,7 +30,7 @@ pub fn at_process(net: &Net, process: Option<usize>) -> Option<usize>
     declared_at(net, process?)
 }
 
-/// The byte of the source at which a process is declared.
+/// The byte of the source at which a process starts, behind its label.
 fn declared_at(net: &Net, process: usize) -> Option<usize>
     ensures { result ≡ spec.declared_at (slice_get net.now.processes process) }
 {

@@ -7,6 +7,7 @@ use Rattle.rtl_net.specs.declared.signal.SignalKind.{SignalKind}
 use Rattle.rtl_net.specs.Nets.{driver_view, body_of}
 use Rattle.rtl_net.specs.Names.{generates_prefix}
 use Rattle.rtl_net.specs.Elaborated.{ReadsOfBody}
+use Rattle.vhdl_expand_rules.specs.Bytes.{kept}
 use Rattle.vhdl_expand_rules.specs.Tree as tree
 use Rattle.vhdl_elab_rules.specs.Bodies.{connected_body}
 use Rattle.vhdl_elab_rules.specs.Wiring.{sensitive_to}
@@ -47,3 +48,4 @@ pub record IsOf (scope : ℕ) (nets defaults : List ℕ) (x : tree.Process) (p :
   pub scope_is : p.scope ≡ scope
   pub prefix : generates_prefix p.generates.items ≡ x.prefix
   pub label : option_map (λ l. l.items) p.label ≡ x.label
+  pub at : p.at ≡ kept x.at

@@ -17,6 +17,7 @@ use smallvec::SmallVec;
 use std::alloc::{AllocError, Global};
 use std::mem;
 use vhdl_expand_drivers::read_of;
+use vhdl_expand_rules::byte;
 
 /// Where a process stands: the number of its scope, and of its instance's elements the nets and what they start with.
 #[derive(Clone, Copy)]
@@ -126,7 +127,7 @@ impl Round<'_> {
             scope: self.scope,
             generates,
             label: from.label.take(),
-            at: from.at,
+            at: byte(from.at),
         })
     }
 }

@@ -3,6 +3,7 @@ use Rattle.std.proofs.Common.{◌≡◌, ℕ, Bool, true, false, not, List, [], 
 use Rattle.std.specs.Prelude.{◌≢◌, ◌⊎◌, IsOk, IsErr, IsTrue}
 use Rattle.rtl_net.specs.Nets.{NetlistView}
 use Rattle.rtl_net.specs.Elaborated.{ReadsOfBody, IsNet}
+use Rattle.rtl_stim.specs.Ports.{HasOwnPorts}
 use Rattle.vhdl_names_rules.specs.units.Units.{Units, Entity}
 use Rattle.vhdl_names_rules.specs.sound.Units.{are_sound}
 use Rattle.vhdl_names_rules.specs.sound.Named.{are_named}
@@ -23,8 +24,10 @@ use Rattle.vhdl_expand_tree.specs.Costs.{instance_costs}
 use Rattle.vhdl_expand_tree.proofs.Alike.{wrong, same_told, tells_same, tells_first, tells_again}
 use Rattle.vhdl_expand_tree.proofs.Counts.{each-design-costs-its-parts}
 use Rattle.vhdl_elab_rules.specs.Refused.{HasInterface, MayRefuse}
+use Rattle.vhdl_elab_rules.specs.Ports.{ports_are_distinct}
 use Rattle.vhdl_elab_rules.specs.Shown.{Shown, shown, as_shown, net_shown}
 use Rattle.vhdl_elab_rules.proofs.Nets.{each-elaborated-is-net}
+use Rattle.vhdl_elab_rules.proofs.Ports.{each-has-own-ports}
 use Rattle.vhdl_expand.specs.Limits.{within_limits}
 use Rattle.vhdl_elab.proofs.NoBudget.{of-interface}
 
@@ -163,3 +166,10 @@ pub connected-is-net : (units : Units) (top : List ℕ) (design : Design) (net :
 connected-is-net units top design net sound named h e reads =
     let x = bound (netlist_of design) _ (net_shown net) e in
     each-elaborated-is-net units top x.x net sound named (elaborated-by units top design h ∙ x.gave) (sym (ok (shown x.x) (net_shown net) x.then_gave)) reads
+
+-- and the ports of its top have names of their own
+pub elaborated-own-ports : (units : Units) (top : List ℕ) (net : NetlistView) → IsTrue (are_sound units) → IsTrue (ports_are_distinct units) → as_shown (elaborated_net units top) ≡ Ok (net_shown net)
+    → HasOwnPorts net
+elaborated-own-ports units top net sound distinct e =
+    let x = bound (elaborated_net units top) _ (net_shown net) e in
+    each-has-own-ports units top x.x net sound distinct x.gave (sym (ok (shown x.x) (net_shown net) x.then_gave))

@@ -4,14 +4,14 @@ use Rattle.std.specs.Prelude.{filter, flat_map, slice_index, is_none}
 use Rattle.std.specs.List.{AllZip, range_with_len, enumerate_from}
 use Rattle.std.proofs.lemmas.List.{append_assoc, append-nil, map-append, length-append, length-map}
 use Rattle.std.proofs.lemmas.List.Elements.{filter-append}
-use Rattle.rtl_net.specs.Nets.{scope_view, signal_view, type_of}
+use Rattle.rtl_net.specs.Nets.{scope_view, type_of}
 use Rattle.vhdl_expand_rules.specs.Kinds.{size, element_type}
 use Rattle.vhdl_expand_rules.specs.Tree.{Object}
 use Rattle.vhdl_elab_rules.specs.Names.{scope_of, signals_of, signals_from}
 use Rattle.vhdl_elab_rules.specs.Numbering.{Placed, Numbered, own_size, own_sizes, with_placed}
 use Rattle.vhdl_elab_rules.specs.Wiring.{Element, element_of, elements_from, elements_of, own_elements, is_top}
 use Rattle.vhdl_elab_rules.specs.laws.Scopes.{scope_views}
-use Rattle.vhdl_elab_rules.specs.Shown.{signal_shown}
+use Rattle.vhdl_elab.specs.Signals.{signal_with_byte, shown_with_byte}
 use Rattle.vhdl_connect_processes.specs.declared.uses.Use.{Use}
 use Rattle.vhdl_connect_processes.specs.Uses as uses
 use Rattle.vhdl_elab.specs.declared.made.Made.{Made}
@@ -135,12 +135,12 @@ module _ (d : Numbered) (p : Placed) where
       ∙ ap (map part) (filter-append own (flat_map elements_of d.instances) (elements_of p))
       ∙ map-append part (filter own (flat_map elements_of d.instances)) (filter own (elements_of p))
 
-  signals-more : map signal_shown (flat_map signals_of (enumerate_from 0 (d.instances ++ p ∷ [])))
-      ≡ map signal_shown (flat_map signals_of (enumerate_from 0 d.instances)) ++ map signal_shown (signals_from (length d.instances) p.nets 0 p.objects)
+  signals-more : map shown_with_byte (flat_map signals_of (enumerate_from 0 (d.instances ++ p ∷ [])))
+      ≡ map shown_with_byte (flat_map signals_of (enumerate_from 0 d.instances)) ++ map shown_with_byte (signals_from (length d.instances) p.nets 0 p.objects)
   signals-more =
-      ap (λ xs. map signal_shown (flat_map signals_of xs)) (numbered-push 0 (length d.instances) d.instances p (let e : 0 + length d.instances ≡ length d.instances = omega arith in e))
-      ∙ ap (map signal_shown) (flat-push signals_of (enumerate_from 0 d.instances) (length d.instances, p))
-      ∙ map-append signal_shown (flat_map signals_of (enumerate_from 0 d.instances)) (signals_from (length d.instances) p.nets 0 p.objects)
+      ap (λ xs. map shown_with_byte (flat_map signals_of xs)) (numbered-push 0 (length d.instances) d.instances p (let e : 0 + length d.instances ≡ length d.instances = omega arith in e))
+      ∙ ap (map shown_with_byte) (flat-push signals_of (enumerate_from 0 d.instances) (length d.instances, p))
+      ∙ map-append shown_with_byte (flat_map signals_of (enumerate_from 0 d.instances)) (signals_from (length d.instances) p.nets 0 p.objects)
 
   scopes-more : scope_views (map scope_of (d.instances ++ p ∷ [])) ≡ scope_views (map scope_of d.instances) ++ record { label = p.label; parent = p.parent } ∷ []
   scopes-more = ap scope_views (map-append scope_of d.instances (p ∷ [])) ∙ map-append (λ s. record { label = s.label; parent = s.parent }) (map scope_of d.instances) (scope_of p ∷ [])
@@ -148,7 +148,7 @@ module _ (d : Numbered) (p : Placed) where
   -- b is a with what the instance adds
   pub placed_made : (a b : Made) → IsMade d a
       → map scope_view b.scopes.items ≡ map scope_view a.scopes.items ++ record { label = p.label; parent = p.parent } ∷ []
-      → map signal_view b.signals.items ≡ map signal_view a.signals.items ++ map signal_shown (signals_from (length d.instances) p.nets 0 p.objects)
+      → map signal_with_byte b.signals.items ≡ map signal_with_byte a.signals.items ++ map shown_with_byte (signals_from (length d.instances) p.nets 0 p.objects)
       → b.processes.items ≡ a.processes.items
       → map type_of b.kinds.items ≡ map type_of a.kinds.items ++ flat_map own_types p.objects
       → b.defaults.items ≡ a.defaults.items ++ flat_map own_starts p.objects
@@ -158,7 +158,7 @@ module _ (d : Numbered) (p : Placed) where
   placed_made a b h scopes signals processes kinds defaults elements uses = record {
     scopes = scopes ∙ ap (λ ss. ss ++ record { label = p.label; parent = p.parent } ∷ []) h.scopes ∙ sym scopes-more;
     signals =
-        signals ∙ ap (λ ss. ss ++ map signal_shown (signals_from (length d.instances) p.nets 0 p.objects)) h.signals ∙ sym signals-more;
+        signals ∙ ap (λ ss. ss ++ map shown_with_byte (signals_from (length d.instances) p.nets 0 p.objects)) h.signals ∙ sym signals-more;
     processes = subst (λ ps. AllZip IsLocated d.processes ps) (sym processes) h.processes;
     kinds =
         kinds ∙ ap (λ ts. ts ++ flat_map own_types p.objects) h.kinds

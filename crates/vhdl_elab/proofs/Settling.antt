@@ -24,7 +24,7 @@ use Rattle.vhdl_elab.specs.Settled.{NetsAreBelow, IsSettled}
 
 -- ---- variables
 
-map-through : {A B C : Type 0} (h : B → C) (v : A → B) (xs : List A) → map (λ x. h (v x)) xs ≡ map h (map v xs)
+pub map-through : {A B C : Type 0} (h : B → C) (v : A → B) (xs : List A) → map (λ x. h (v x)) xs ≡ map h (map v xs)
 map-through h v [] = refl
 map-through h v (x ∷ xs) = ap (λ zs. h (v x) ∷ zs) (map-through h v xs)
 
@@ -64,6 +64,7 @@ settled count x p q h same wakes = record {
     body = (ap nets.body_of same ∙ h.body) i;
   };
   shown = λ i. record {
+    at = (ap (λ (r : Process). r.at) same ∙ h.at) i;
     scope = (ap (λ (r : Process). r.scope) same ∙ h.scope_is) i;
     prefix = (ap (λ (r : Process). (net_process_shown r).prefix) same ∙ h.prefix) i;
     label = (ap (λ (r : Process). (net_process_shown r).label) same ∙ h.label) i;

@@ -1,3 +1,4 @@
+pub mod Signals
 pub mod Made
 pub mod Adding
 pub mod Placing

@@ -1,13 +1,12 @@
 //! Where an instance stands among the others, and what an object is there.
 
 ghost use Rattle.std.specs.Prelude.{◌≡◌, ◌+◌, ◌≤◌, ◌++◌, map, slice_index, vec_len, take, drop, IfOk, OnOk};
-ghost use Rattle.rtl_net.specs.Nets.{signal_view};
 ghost use Rattle.vhdl_expand_rules.specs.Kinds.{size};
 ghost use Rattle.vhdl_expand_rules.specs.views.Kinds.{kind_view};
 ghost use Rattle.vhdl_elab_rules.specs.Names.{is_port_role};
-ghost use Rattle.vhdl_elab_rules.specs.Shown.{signal_shown};
 ghost use Rattle.vhdl_expand_tree.specs.Views.{object_view, role_view};
 ghost use Rattle.vhdl_elab.specs.Made.{element_view};
+ghost use Rattle.vhdl_elab.specs.Signals.{signal_with_byte, shown_with_byte};
 ghost use Rattle.vhdl_elab.specs.Adding.{object_statics, signal_of};
 
 use crate::made::{Element, ElementRole};
@@ -17,7 +16,7 @@ use smallvec::SmallVec;
 use std::alloc::{AllocError, Global};
 use std::mem;
 use vhdl_connect_processes::signal_kind;
-use vhdl_expand::byte;
+use vhdl_expand_rules::byte;
 use vhdl_expand_tree::{Object, Role};
 
 /// The place of an instance: its number, whether it is the top, and the nets of its elements, in order of declaration.
@@ -95,7 +94,7 @@ impl InstancePlace<'_> {
 
     /// The signal that an object is, whose first element has this number. Its name is taken out of the tree.
     pub(crate) fn signal(&self, first: usize, object: &mut Object) -> Result<Signal, AllocError>
-        ensures { IfOk result (λ s. signal_view s ≡ signal_shown (signal_of self.now.scope self.now.nets.now first (object_view object.old))) }
+        ensures { IfOk result (λ s. signal_with_byte s ≡ shown_with_byte (signal_of self.now.scope self.now.nets.now first (object_view object.old))) }
     {
         let kind = signal_kind(object.kind);
         let nets = self.nets_from(first, object.kind.size())?;

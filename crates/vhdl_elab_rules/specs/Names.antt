@@ -22,6 +22,8 @@ scope_of p = record { label = p.label; parent = p.parent }
 
 -- a port or signal of the instance of this number, and the nets of its elements
 pub record Signal : Type 0 where
+  -- the byte of the source at which its name is declared
+  pub at : ℕ
   pub scope : ℕ
   pub name : List ℕ
   pub is_port : Bool
@@ -38,6 +40,7 @@ abbrev pub signals_from : (scope : ℕ) → (nets : List ℕ) → (first : ℕ) 
 signals_from scope nets first [] = []
 signals_from scope nets first (o ∷ os) =
     record {
+      at = o.at;
       scope = scope;
       name = o.name;
       is_port = is_port_role o.role;
@@ -55,6 +58,8 @@ pub record NamedVariable : Type 0 where
   pub kind : ObjectKind
 
 pub record NamedProcess : Type 0 where
+  -- the byte of the source at which the process starts, or the concurrent assignment that it is, behind its label
+  pub at : ℕ
   pub scope : ℕ
   -- the labels of the generates round it, each with a dot behind it
   pub prefix : List ℕ
@@ -66,6 +71,7 @@ named_variable v = record { name = v.name; kind = v.kind }
 
 abbrev pub named_process : Located → NamedProcess
 named_process x = record {
+  at = x.process.at;
   scope = x.scope;
   prefix = x.process.prefix;
   label = x.process.label;

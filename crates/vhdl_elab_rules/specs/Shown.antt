@@ -1,5 +1,5 @@
--- What an elaborated netlist and a `Net` of the code have in common: a flat netlist, and beside it scopes, signals, and the names of
--- processes and their variables. The one shows the other where these are the same.
+-- What an elaborated netlist and a `Net` of the code have in common: a flat netlist, and beside it scopes, signals, and of
+-- processes their bytes, their names and those of their variables. The one shows the other where these are the same.
 use Rattle.std.specs.Prelude.{◌≡◌, ℕ, List, map, Option, option_map, Ok}
 use Rattle.rtl_model.specs.nets.FlatNetlist.{FlatNetlist}
 use Rattle.rtl_net.specs.declared.process.Variable.{Variable}
@@ -7,6 +7,7 @@ use Rattle.rtl_net.specs.declared.process.Process.{Process}
 use Rattle.rtl_net.specs.declared.signal.SignalKind.{SignalKind}
 use Rattle.rtl_net.specs.Nets.{ScopeView, SignalView, NetlistView, flat}
 use Rattle.rtl_net.specs.Names.{generates_prefix}
+use Rattle.vhdl_expand_rules.specs.Bytes.{kept}
 use Rattle.vhdl_expand_rules.specs.Elab.{Elab, ◌>>=◌}
 use Rattle.vhdl_elab_rules.specs.Names.{Signal, NamedVariable, NamedProcess}
 use Rattle.vhdl_elab_rules.specs.Elaboration.{Elaborated}
@@ -14,6 +15,8 @@ use Rattle.vhdl_elab_rules.specs.laws.Scopes.{scope_views}
 use Rattle.vhdl_elab_rules.specs.laws.Signals.{kind_view}
 
 pub record ShownProcess : Type 0 where
+  -- the byte at which it starts, as a netlist keeps it
+  pub at : ℕ
   pub scope : ℕ
   -- the labels of the generates round it, each with a dot behind it
   pub prefix : List ℕ
@@ -37,6 +40,7 @@ variable_shown v = (v.name, kind_view v.kind)
 
 abbrev pub process_shown : NamedProcess → ShownProcess
 process_shown p = record {
+  at = kept p.at;
   scope = p.scope;
   prefix = p.prefix;
   label = p.label;
@@ -64,6 +68,7 @@ net_variable_shown v = (v.name.items, v.kind)
 
 abbrev pub net_process_shown : Process → ShownProcess
 net_process_shown p = record {
+  at = p.at;
   scope = p.scope;
   prefix = generates_prefix p.generates.items;
   label = option_map (λ l. l.items) p.label;

@@ -44,7 +44,7 @@ record Parts (n : Counts) (at : Site) (p : u.Process) : Type 0 where
   expanded : statements (with_variables at vs) p.body ≡ Ok body
 
 abbrev made : (n : Counts) (at : Site) (prefix : List ℕ) (p : u.Process) → Parts n at p → t.Process
-made n at prefix p x = record { prefix = prefix; label = p.label; drives = x.ds; sensitivity = x.on; variables = x.vs; body = x.body; turns = x.turned.0 }
+made n at prefix p x = record { at = p.at; prefix = prefix; label = p.label; drives = x.ds; sensitivity = x.on; variables = x.vs; body = x.body; turns = x.turned.0 }
 
 none-more : (n : ℕ) → n ≡ 0 + (n + 0)
 none-more n = omega arith
@@ -156,7 +156,7 @@ module _ (n : Counts) (at : Site) (prefix : List ℕ) (p : u.Process) where
       (then_ok (sensitivity at p.sensitivity p.body) _ x.on q x.resumed
       (then_ok (statements_turns at p.body) _ m.n q m.turns_are
       (then_ok (statements (with_variables at x.vs) p.body) _ x.body q x.expanded
-      (λ i. given (record { prefix = prefix; label = p.label; drives = drawn i; sensitivity = x.on; variables = x.vs; body = x.body; turns = sym paid.turns_are i })))))) in
+      (λ i. given (record { at = p.at; prefix = prefix; label = p.label; drives = drawn i; sensitivity = x.on; variables = x.vs; body = x.body; turns = sym paid.turns_are i })))))) in
       let left : spent 0 n (process_costs q) ≡ Ok x.turned.1 =
       ap (spent 0 n) (made-costs q) ∙ spent-plus 0 a_process (plus (variables_costs x.vs) (body_costs x.turned.0 (statements_count x.body))) n
       ∙ then_ok (spent 0 n a_process) (λ l. spent 0 l (plus (variables_costs x.vs) (body_costs x.turned.0 (statements_count x.body)))) x.unstarted x.turned.1 (spent_here p.at n a_process x.unstarted x.started)
@@ -175,7 +175,7 @@ module _ (n : Counts) (at : Site) (prefix : List ℕ) (p : u.Process) where
       let k = bound (statements_turns at p.body) _ q.x on.then_gave in
       let body = bound (statements (with_variables at vs.x) p.body) _ q.x k.then_gave in
       let ds = in_order (elements_count at.ports + elements_count at.signals) es.x in
-      let made : t.Process = record { prefix = prefix; label = p.label; drives = ds; sensitivity = on.x; variables = vs.x; body = body.x; turns = k.x } in
+      let made : t.Process = record { at = p.at; prefix = prefix; label = p.label; drives = ds; sensitivity = on.x; variables = vs.x; body = body.x; turns = k.x } in
       let m = statements-measured (with_variables at vs.x) at refl p.body body.x body.gave in
       let same = ok m.n k.x (sym m.turns_are ∙ k.gave) in
       let s = bound (spent 0 n (process_costs q.x)) _ y q.then_gave in

@@ -34,4 +34,4 @@ process_steps budget here p = do
   on ← sensitivity here.site p.sensitivity p.body
   turned ← turns_paid unbodied (statements_costs here.site.integers p.body)
   body ← statements (with_variables here.site vs) p.body
-  Ok (record { prefix = here.prefix; label = p.label; drives = ds; sensitivity = on; variables = vs; body = body; turns = turned.0 }, turned.1)
+  Ok (record { at = p.at; prefix = here.prefix; label = p.label; drives = ds; sensitivity = on; variables = vs; body = body; turns = turned.0 }, turned.1)

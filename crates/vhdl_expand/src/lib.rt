@@ -21,7 +21,6 @@ mod spot;
 mod values;
 mod variables;
 mod walk;
-mod words;
 
 pub use actuals::associations;
 pub use costs::charge_body;
@@ -32,4 +31,3 @@ pub use laws::bodies_are_counted_as_unrolled;
 pub use nets::charge_own_nets;
 pub use processes::process;
 pub use vhdl_expand_rules::{ElabFault, ElabProblem};
-pub use words::byte;

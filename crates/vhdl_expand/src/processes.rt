@@ -15,7 +15,6 @@ ghost use Rattle.vhdl_expand.specs.Processes.{turns_paid, process_steps};
 
 use crate::costs::charge_body;
 use crate::variables::{body, charge_variables, variables};
-use crate::words::byte;
 use std::alloc::{AllocError, Global};
 use vhdl_expand_bodies::Site;
 use vhdl_expand_drivers::{drives, listed, read_elements};
@@ -106,7 +105,7 @@ fn parts_of(
         variables,
         body,
         turns,
-        at: byte(at),
+        at,
     })
 }
 

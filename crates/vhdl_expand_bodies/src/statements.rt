@@ -1,6 +1,6 @@
 //! Statements, expanded (IEEE 1076-2008, clause 10): loops are the sequences of their turns.
 
-ghost use Rattle.std.specs.Prelude.{◌≡◌, ◌≢◌, ◌-◌, ◌^◌, min, map, option_map, Ok};
+ghost use Rattle.std.specs.Prelude.{◌≡◌, ◌≢◌, map, option_map, Ok};
 ghost use Rattle.rtl_model.specs.bodies.Body as bodies;
 ghost use Rattle.rtl_net.specs.Bodies.{statement_view, statements_of, choice_view};
 ghost use Rattle.vhdl_names_rules.specs.units.Statements as units;
@@ -24,19 +24,9 @@ use crate::operand::Width;
 use crate::site::Site;
 use rtl_net::{Alternative, Branch, Choice, Statement};
 use std::alloc::Global;
-use vhdl_expand_rules::ElabFault;
+use vhdl_expand_rules::{ElabFault, byte};
 use vhdl_names_units as analysed;
 use vhdl_names_units::{Case, If, Loop};
-
-/// A byte of the source as a word; those beyond it are all the last.
-fn byte(at: usize) -> u32
-    ensures { result ≡ min at (2 ^ 32 - 1) }
-{
-    match u32::try_from(at) {
-        Ok(at) => at,
-        Err(_) => u32::MAX,
-    }
-}
 
 /// The choices of an alternative whose selector has so many elements; a fault is Length.
 fn choices(

@@ -58,6 +58,7 @@ process here p = do
   n ← statements_turns here.site p.body
   body ← statements (with_variables here.site vs) p.body
   Ok (record {
+    at = p.at;
     prefix = here.prefix;
     label = p.label;
     drives = in_order (elements_count here.site.ports + elements_count here.site.signals) ds;

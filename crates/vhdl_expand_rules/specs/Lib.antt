@@ -5,6 +5,7 @@ pub mod Kinds
 pub mod Site
 pub mod Expressions
 pub mod Tree
+pub mod Bytes
 pub mod Statements
 pub mod Prefixes
 pub mod Declarations

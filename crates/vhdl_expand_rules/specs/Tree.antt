@@ -41,6 +41,8 @@ pub data Sensitivity : Type 0 where
   as_read : Sensitivity
 
 pub record Process : Type 0 where
+  -- the byte of the source at which the process starts, or the concurrent assignment that it is, behind its label
+  pub at : ℕ
   -- the labels of the generates round it, each with a dot behind it, and its own
   pub prefix : List ℕ
   pub label : Option (List ℕ)

@@ -10,9 +10,11 @@ mod integer;
 mod kind;
 mod prefix;
 mod turns;
+mod words;
 
 pub use fault::{ElabFault, ElabProblem};
 pub use integer::Integers;
 pub use kind::{Bounds, ObjectKind, Run};
 pub use prefix::{is_static, is_static_part};
 pub use turns::Turns;
+pub use words::byte;

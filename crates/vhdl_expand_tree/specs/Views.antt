@@ -1,4 +1,4 @@
--- What contracts see of the code's tree: the tree of the definitions. Where statements and processes start, it leaves out.
+-- What contracts see of the code's tree: the tree of the definitions. Where statements start, it leaves out.
 use Rattle.std.specs.Prelude.{List, [], ◌∷◌, map, option_map, Vec}
 use Rattle.std.specs.Global.{Global}
 use Rattle.rtl_net.specs.Bodies.{statements_of}
@@ -58,6 +58,7 @@ sensitivity_view s.AsRead = tree.as_read
 
 abbrev pub process_view : Process → tree.Process
 process_view p = record {
+  at = p.at;
   prefix = p.prefix.items;
   label = option_map (λ v. v.items) p.label;
   drives = p.drives.items;

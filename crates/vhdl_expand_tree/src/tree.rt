@@ -98,7 +98,7 @@ pub struct Process {
     /// How many turns its loops have together.
     pub turns: u32,
     /// The byte of the source at which it starts.
-    pub at: u32,
+    pub at: usize,
 }
 
 impl Drop for Process {

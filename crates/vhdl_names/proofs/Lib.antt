@@ -27,3 +27,4 @@ pub mod Standing
 pub mod Tabling
 pub mod Walking
 pub mod Whole
+pub mod Spelled

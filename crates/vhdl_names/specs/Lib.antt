@@ -1,3 +1,4 @@
+pub mod Spelled
 pub mod AllPlaces
 pub mod steps
 pub mod Breaking

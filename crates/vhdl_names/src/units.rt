@@ -1,19 +1,24 @@
 //! The units of a file (IEEE 1076-2008, clause 13).
 
-ghost use Rattle.std.specs.Prelude.{◌≡◌, false, IfOk, IfErr, drop, length, map, None, option_map, replicate, Some};
+ghost use Rattle.std.specs.Prelude.{◌≡◌, false, IfOk, IfErr, IsTrue, drop, length, map, None, option_map, replicate, Some};
 ghost use Rattle.std.specs.Vec.Iter.{into_iter_items};
 ghost use Rattle.vhdl_names.specs.Finding.{Finds};
+ghost use Rattle.vhdl_names.specs.Spelled.{IsSpelled};
 ghost use Rattle.vhdl_names.specs.steps.Architectures.{options_view, with_unit};
 ghost use Rattle.vhdl_names.specs.steps.Units as steps;
 ghost use Rattle.vhdl_names_components.specs.Views.{entities_view, named_view};
 ghost use Rattle.vhdl_names_units.specs.Lists.{in_turn};
 ghost use Rattle.vhdl_names_units.specs.Once.{names_view};
+ghost use Rattle.vhdl_names_laws.specs.Laws.{small_ports_are_distinct};
 ghost use Rattle.vhdl_names_rules.specs.problems.Broken.{Tells, any_of};
 ghost use Rattle.vhdl_names_rules.specs.problems.Files as broken;
 ghost use Rattle.vhdl_names_rules.specs.Files.{architectures_of as all_of, units_of};
 ghost use Rattle.vhdl_names_rules.specs.Visibility.{Name};
 ghost use Rattle.vhdl_names_rules.specs.Gives.{Gives};
+ghost use Rattle.vhdl_names_rules.specs.sound.Named.{are_named};
+ghost use Rattle.vhdl_names_rules.specs.sound.Units.{are_sound};
 ghost use Rattle.vhdl_tree.specs.View.{file_view};
+ghost use Rattle.vhdl_tree.specs.grammar.Units.{IsFile};
 ghost use Rattle.vhdl_names_units.specs.views.Units as views;
 
 use crate::architectures::architectures_of;
@@ -118,6 +123,14 @@ fn read(alloc: Global, file: &File) -> Result<(Entities<'_>, Vec<Option<Architec
 pub fn analyse(alloc: Global, file: &File) -> Result<Units, NameFault>
     ensures given { Gives views.units_view (units_of (file_view file.now)) result }
     ensures told { IfErr result (Tells (broken.file (file_view file.now))) }
+
+    // Of a file that `parse` gives of the tokens of `lex` they are what elaboration asks for, and the
+    // ports of each entity have names of their own.
+    ensures sound { IfOk result (λ units. IsFile (file_view file.now) → IsTrue (are_sound (views.units_view units))) }
+    ensures named { IfOk result (λ units. IsSpelled (file_view file.now)
+        → IsTrue (are_named (views.units_view units))) }
+    ensures ports { IfOk result (λ units. IsSpelled (file_view file.now)
+        → IsTrue (small_ports_are_distinct (views.units_view units))) }
 {
     let (entities, architectures) = read(alloc, file)?;
     let entities = joined(alloc, entities, architectures)?;

@@ -2,23 +2,21 @@
 use Rattle.std.proofs.Common.{◌≡◌, ◌≢◌, ◌<◌, ◌≤◌, subst, ℕ, length, List, ◌∷◌, None, Some, Result, Ok, Err, All, arith}
 use Rattle.std.specs.Prelude.{IsTrue, IsErrAnd, IfOk, IfErr, IfSome, Contains}
 use Rattle.std.proofs.lemmas.List.Elements.{All-cons, All-contains, All-weaker}
-use Rattle.vhdl_lexer.proofs.Reached.{cut_within}
 use Rattle.vhdl_tree.specs.Tree.{File}
 use Rattle.vhdl_names_rules.specs.problems.Broken.{Tells}
 use Rattle.vhdl_names_rules.specs.problems.Files as breaks
 use Rattle.vhdl_names_rules.specs.Files.{units_of}
 use Rattle.vhdl_names_rules.specs.declared.fault.NameFault.{NameFault}
 use Rattle.vhdl_names_rules.specs.declared.fault.NameFault.TheVariants as names
-use Rattle.vhdl_names_rules.specs.sound.Named.{are_named}
 use Rattle.vhdl_names_rules.specs.sound.Units.{are_sound}
 use Rattle.vhdl_names_rules.specs.units.Units as u
 use Rattle.vhdl_names_rules.specs.units.Bytes.{units_bytes}
-use Rattle.vhdl_names_laws.specs.Words.{HasWords}
 use Rattle.vhdl_names_laws.proofs.Units.{units_are_sound}
-use Rattle.vhdl_names_laws.proofs.Named.{units_are_named, small_ports_distinct}
-use Rattle.vhdl_names_laws.proofs.Spelled.{spelled_files_have_words}
+use Rattle.vhdl_names_laws.proofs.Named.{small_ports_distinct}
 use Rattle.vhdl_names_laws.proofs.placed.Laws.{faults_lie_in_the_text}
 use Rattle.vhdl_names_laws.proofs.standing.Laws.{units_lie_in_the_text}
+use Rattle.vhdl_names.specs.Spelled.{IsSpelled}
+use Rattle.vhdl_names.proofs.Spelled.{words}
 use Rattle.vhdl_expand_rules.specs.Elab.{fault_told}
 use Rattle.vhdl_expand_rules.specs.declared.fault.ElabFault.{ElabFault}
 use Rattle.vhdl_expand_rules.specs.declared.fault.ElabFault.TheVariants as elab
@@ -37,32 +35,28 @@ use Rattle.vhdl_source.specs.Laws.{EachRefusalLiesInItsSource}
 use Rattle.vhdl_source_rules.specs.declared.fault.SourceFault.{SourceFault}
 use Rattle.vhdl_source_rules.specs.declared.fault.SourceFault.TheVariants.{Lex, Syntax, Name, Elab, NoMemory}
 
--- ---- the units of a source's file
+-- ---- the file of a source
 
-words : (source : List ℕ) (file : File) → IsFileOf source file → HasWords file
-words source file read = spelled_files_have_words source read.tokens file read.cut (cut_within source None 0 source read.tokens (omega arith) read.cut) read.spelled
-
-pub file_sound : (source : List ℕ) (file : File) (units : u.Units) → IsFileOf source file → units_of file ≡ Some units → IsTrue (are_sound units)
-file_sound source file units read typed = units_are_sound file units read.well_formed typed
-
-pub file_named : (source : List ℕ) (file : File) (units : u.Units) → IsFileOf source file → units_of file ≡ Some units → IsTrue (are_named units)
-file_named source file units read typed = units_are_named file units (words source file read) typed
+pub is_spelled : (source : List ℕ) (file : File) → IsFileOf source file → IsSpelled file
+is_spelled source file read = record { source = source; tokens = read.tokens; cut = read.cut; spelled = read.spelled }
 
 -- ---- its netlist
 
-pub opened : (source top : List ℕ) (file : File) (units : u.Units) (net : NetlistView) → IsFileOf source file → units_of file ≡ Some units → ShowsTop units top net → IsNetOf source top net
-opened source top file units net read typed shown = record {
+pub opened : (source top : List ℕ) (file : File) (units : u.Units) (net : NetlistView) → IsFileOf source file → units_of file ≡ Some units → IsTrue (are_sound units) → ShowsTop units top net
+    → IsNetOf source top net
+opened source top file units net read typed sound shown = record {
   design = shown.design;
   has = record { units = units; analysed = record { file = file; read = read; well_typed = typed }; is = shown.is };
   shows = shown.shows;
-  named = each-has-its-names units top shown.design net (file_sound source file units read typed) shown.is shown.shows;
+  named = each-has-its-names units top shown.design net sound shown.is shown.shows;
 }
 
 pub own_ports : (source top : List ℕ) (net : NetlistView) → IsNetOf source top net → HasOwnPorts net
 own_ports source top net h =
+    let units = h.has.units in
     let analysed = h.has.analysed in
-    each-has-own-ports h.has.units top h.design net (file_sound source analysed.file h.has.units analysed.read analysed.well_typed)
-    (small_ports_distinct analysed.file h.has.units (words source analysed.file analysed.read) analysed.well_typed) h.has.is h.shows
+    each-has-own-ports units top h.design net (units_are_sound analysed.file units analysed.read.well_formed analysed.well_typed)
+    (small_ports_distinct analysed.file units (words analysed.file (is_spelled source analysed.file analysed.read)) analysed.well_typed) h.has.is h.shows
 
 -- ---- why it has none
 
@@ -109,13 +103,9 @@ refusal_lies source top problem at r =
 -- ---- the whole
 
 module _ (source top : List ℕ) (file : File) (units : u.Units) (read : IsFileOf source file) (typed : units_of file ≡ Some units) where
-  pub gives_opened : (answer : Result NetlistView SourceFault) → GivesNet units top answer → IfOk answer (λ net. IsNetOf source top net)
-  gives_opened (Ok net) h = opened source top file units net read typed h
-  gives_opened (Err fault) h = tt
-
-  pub gives_ports : (answer : Result NetlistView SourceFault) → GivesNet units top answer → IfOk answer (λ net. HasOwnPorts net)
-  gives_ports (Ok net) h = own_ports source top net (opened source top file units net read typed h)
-  gives_ports (Err fault) h = tt
+  pub gives_opened : IsTrue (are_sound units) → (answer : Result NetlistView SourceFault) → GivesNet units top answer → IfOk answer (λ net. IsNetOf source top net)
+  gives_opened sound (Ok net) h = opened source top file units net read typed sound h
+  gives_opened sound (Err fault) h = tt
 
   pub gives_refused : (answer : Result NetlistView SourceFault) → GivesNet units top answer → IfErr answer (Refuses source top)
   gives_refused (Ok net) h = tt

@@ -1,5 +1,5 @@
 -- What the code's own calls say.
-use Rattle.std.specs.Prelude.{◌≡◌, ℕ, List, None, Some, Result, Ok, Err}
+use Rattle.std.specs.Prelude.{◌≡◌, ℕ, List, None, Some, Result, Ok, Err, IsTrue}
 use Rattle.rtl_net.specs.Nets.{NetlistView}
 use Rattle.vhdl_elab_rules.specs.Elaboration.{Elaborated, elaborated_net}
 use Rattle.vhdl_elab_rules.specs.Refused.{MayRefuse}
@@ -7,7 +7,10 @@ use Rattle.vhdl_expand_rules.specs.declared.fault.ElabFault.TheVariants as elab
 use Rattle.vhdl_names_rules.specs.problems.Files as breaks
 use Rattle.vhdl_names_rules.specs.Files as rules
 use Rattle.vhdl_names_rules.specs.declared.fault.NameFault.TheVariants as names
+use Rattle.vhdl_names_rules.specs.sound.Named.{are_named}
+use Rattle.vhdl_names_rules.specs.sound.Units.{are_sound}
 use Rattle.vhdl_names_rules.specs.units.Units as u
+use Rattle.vhdl_names_laws.specs.Laws.{small_ports_are_distinct}
 use Rattle.vhdl_elab_rules.specs.Shown.{Shows}
 use Rattle.vhdl_tree.specs.Tree.{File}
 use Rattle.vhdl_names_units.specs.declared.unit.Units.{Units}
@@ -25,6 +28,12 @@ HasNameFault file _ = ⊥
 abbrev pub GivesUnits : File → Result Units SourceFault → Type 0
 GivesUnits file (Ok units) = rules.units_of file ≡ Some (units_view units)
 GivesUnits file (Err fault) = HasNameFault file fault
+
+-- elaboration can take them, and a stimulus can speak of the ports of each entity
+pub record AreReady (units : u.Units) : Type 0 where
+  pub sound : IsTrue (are_sound units)
+  pub named : IsTrue (are_named units)
+  pub ports : IsTrue (small_ports_are_distinct units)
 
 -- the units have this netlist
 pub record ShowsTop (units : u.Units) (top : List ℕ) (net : NetlistView) : Type 0 where

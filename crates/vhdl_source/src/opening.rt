@@ -1,15 +1,15 @@
 //! From a source to its netlist.
 
-ghost use Rattle.std.specs.Prelude.{◌≡◌, IsTrue, IfOk, IfErr, List, ℕ, length};
+ghost use Rattle.std.specs.Prelude.{IfOk, IfErr, List, ℕ, length};
 ghost use Rattle.rtl_stim.specs.Ports.{HasOwnPorts};
 ghost use Rattle.vhdl_source_rules.specs.Designs.{IsNetOf};
 ghost use Rattle.vhdl_source_rules.specs.Faults.{LiesIn};
 ghost use Rattle.vhdl_source_rules.specs.Refusals.{Refuses};
 ghost use Rattle.vhdl_source_rules.specs.Sources.{IsFileOf};
-ghost use Rattle.vhdl_names_rules.specs.sound.Named.{are_named};
-ghost use Rattle.vhdl_names_rules.specs.sound.Units.{are_sound};
-ghost use Rattle.vhdl_source.specs.Steps.{GivesUnits, GivesNet};
+ghost use Rattle.vhdl_names.specs.Spelled.{IsSpelled};
+ghost use Rattle.vhdl_source.specs.Steps.{GivesUnits, AreReady, GivesNet};
 ghost use Rattle.vhdl_tree.specs.View.{file_view};
+ghost use Rattle.vhdl_tree.specs.grammar.Units.{IsFile};
 ghost use Rattle.vhdl_names_units.specs.views.Units.{units_view};
 
 use rtl_net::Net;
@@ -64,6 +64,8 @@ fn read(alloc: Global, source: &[u8]) -> Result<File, SourceFault>
 /// The units of a file.
 fn units_of(alloc: Global, file: &File) -> Result<Units, SourceFault>
     ensures given { GivesUnits (file_view file.now) result }
+    ensures ready { IfOk result
+        (λ units. IsFile (file_view file.now) → IsSpelled (file_view file.now) → AreReady (units_view units)) }
 {
     match analyse(alloc, file) {
         Ok(units) => Ok(units),
@@ -73,9 +75,9 @@ fn units_of(alloc: Global, file: &File) -> Result<Units, SourceFault>
 
 /// The netlist of a top of some units.
 fn net_of(alloc: Global, units: &Units, top: &[u8]) -> Result<Net, SourceFault>
-    requires sound { IsTrue (are_sound (units_view units.now)) }
-    requires named { IsTrue (are_named (units_view units.now)) }
-    ensures { GivesNet (units_view units.now) top.now result }
+    requires { AreReady (units_view units.now) }
+    ensures given { GivesNet (units_view units.now) top.now result }
+    ensures ports { IfOk result (λ net. HasOwnPorts net) }
 {
     match elaborate(alloc, units, top) {
         Ok(net) => Ok(net),

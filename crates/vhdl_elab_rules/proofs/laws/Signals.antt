@@ -99,7 +99,7 @@ signals-fit types scopes scope (o ∷ os) outer front ns first s h z l =
     let long : length (slice_range (front ++ ns) first (first + n)) ≡ n = ap length mine ∙ len in
     let all : front ++ ns ≡ (front ++ c.left) ++ c.right = ap (λ (ms : List ℕ). front ++ ms) c.is ∙ sym (append_assoc front c.left c.right) in
     All-cons (SignalFits types scopes)
-    (record { scope = scope; name = o.name; is_port = is_port_role o.role; kind = o.kind; nets = slice_range (front ++ ns) first (first + n) })
+    (record { at = o.at; scope = scope; name = o.name; is_port = is_port_role o.role; kind = o.kind; nets = slice_range (front ++ ns) first (first + n) })
     (signals_from scope (front ++ ns) (first + n) os)
     (record {
       scope = s;

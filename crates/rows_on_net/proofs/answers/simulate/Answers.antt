@@ -9,4 +9,4 @@ pub run-requires-clause-bodies : goal.run-requires-clause-bodies
 run-requires-clause-bodies g c =
     let net = c.args.net.now in
     subst (λ (bodies : List ProcessOf). RunBodies process_of (λ (t : ProcessOf). t.net.types) (flat net) bodies)
-    (sym (c.deref.ensures.value ∙ c.in-Ok.ensures)) (trees_run net (processes_of net) refl)
+    (sym (c.deref.ensures.value ∙ c.in_ok-trees.ensures)) (trees_run net (processes_of net) refl)

@@ -3,5 +3,5 @@ use Rattle.std.proofs.Common.{take}
 use Rattle.rtl_stim.specs.Quiet.{IsNoClock}
 use Rattle.rtl_stim.proofs.races.are_clocks.Given as goal
 
-abbrev pub invariant-loop-element : goal.invariant-loop-element
-invariant-loop-element l = All (λ e. IsNoClock l.clocks e.net → ⊥) (take l.element-index l.elements)
+abbrev pub invariant-loop-net : goal.invariant-loop-net
+invariant-loop-net l = All (λ n. IsNoClock l.clocks n → ⊥) (take l.net-index l.nets)

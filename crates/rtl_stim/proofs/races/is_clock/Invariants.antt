@@ -1,6 +1,9 @@
-use Rattle.std.proofs.Common.{◌≡◌, ℕ, ◌<◌}
-use Rattle.rtl_stim.specs.Quiet.{clock_at}
+use Rattle.std.proofs.Common.{◌-◌, ◌≤◌, length}
+use Rattle.rtl_stim.specs.Quiet.{IsBetween}
 use Rattle.rtl_stim.proofs.races.is_clock.Given as goal
 
-abbrev pub invariant-loop-clock : goal.invariant-loop-clock
-invariant-loop-clock l = (k : ℕ) → k < l.clock-index → clock_at l.clocks k ≡ l.net → ⊥
+abbrev pub invariant-loop-low : goal.invariant-loop-low
+invariant-loop-low l = record { between : IsBetween l.clocks l.net l.low l.high; end : l.high ≤ length l.clocks }
+
+abbrev pub decreases-loop-low : goal.decreases-loop-low
+decreases-loop-low l = l.high - l.low

@@ -5,15 +5,14 @@ use Rattle.vhdl_expand_tree.specs.Views.{object_view}
 use Rattle.vhdl_connect_processes.proofs.Numbered.{actual_next, actual_nets, own_next, own_nets}
 use Rattle.vhdl_connect_processes.proofs.nets.push_object.Goals as goal
 
-pub returns-in-Some : goal.returns-in-Some
-returns-in-Some c =
-    let o = object_view c.args.object.now in
-    let a = ap (option_map (λ v. v.items)) c.in-Some.is in
-    record {
-      next = actual_next c.args.above.now c.args.first o c.push_actual.result c.in-Some.actual.items a c.push_actual.ensures.next;
-      nets = actual_nets c.args.above.now c.args.first o c.push_actual.result c.in-Some.actual.items c.deref.result.now c.args.nets.now.items c.push_actual.new.nets.items a
-          c.deref.ensures.value c.push_actual.ensures.nets;
-    }
+pub returns-in-Some-clause-next : goal.returns-in-Some-clause-next
+returns-in-Some-clause-next c =
+    actual_next c.args.above.now c.args.first (object_view c.args.object.now) c.push_actual.result c.in-Some.actual.items (ap (option_map (λ v. v.items)) c.in-Some.is) c.push_actual.ensures.next
+
+pub returns-in-Some-clause-nets : goal.returns-in-Some-clause-nets
+returns-in-Some-clause-nets c =
+    actual_nets c.args.above.now c.args.first (object_view c.args.object.now) c.push_actual.result c.in-Some.actual.items c.deref.result.now c.args.nets.now.items c.push_actual.new.nets.items
+    (ap (option_map (λ v. v.items)) c.in-Some.is) c.deref.ensures.value c.push_actual.ensures.nets
 
 pub returns-in-None : goal.returns-in-None
 returns-in-None c =

@@ -14,7 +14,7 @@ use Rattle.vhdl_expand_tree.proofs.Alike.{tells}
 use Rattle.vhdl_elab_rules.specs.Refused.{MayRefuse}
 use Rattle.vhdl_elab_rules.specs.Shown.{as_shown, net_shown}
 use Rattle.vhdl_elab_rules.proofs.Dotted.{each-tree-is-dotted}
-use Rattle.vhdl_elab.proofs.Joined.{was-expanded, is-within, elaborated-by, refused, may-refuse, no-budget, not-shown, connected-is-net}
+use Rattle.vhdl_elab.proofs.Joined.{was-expanded, is-within, elaborated-by, refused, may-refuse, no-budget, not-shown, connected-is-net, elaborated-own-ports}
 use Rattle.vhdl_elab.proofs.Ready.{is-ready}
 use Rattle.vhdl_elab.proofs.There.{nets-there}
 use Rattle.vhdl_elab.proofs.elaboration.elaborate.Goals as goal
@@ -62,6 +62,9 @@ returns-clause-given c =
     let units = units_view c.args.units.now in
     let design = design_view c.in_ok-design.design in
     ap as_shown (elaborated-by units c.args.top.now design c.in_ok-design.ensures.given) ∙ c.in_ok-parts.ensures.given ∙ ap (λ (n : NetlistView). given (net_shown n)) (sym c.in_ok-new.ensures)
+
+pub returns-clause-ports : goal.returns-clause-ports
+returns-clause-ports c = λ distinct. elaborated-own-ports (units_view c.args.units.now) c.args.top.now _ c.requires.sound distinct (returns-clause-given c)
 
 pub returns-in_err-design-clause-refused : goal.returns-in_err-design-clause-refused
 returns-in_err-design-clause-refused c =

@@ -5,7 +5,7 @@ use Rattle.vhdl_source.specs.Steps.{HasElabFault}
 use Rattle.vhdl_source.proofs.Layers.{no_net}
 use Rattle.vhdl_source.proofs.opening.net_of.Goals as goal
 
-pub returns-in-Err : goal.returns-in-Err
-returns-in-Err c =
+pub returns-in-Err-clause-given : goal.returns-in-Err-clause-given
+returns-in-Err-clause-given c =
     subst (λ (f : SourceFault). HasElabFault (units_view c.args.units.now) c.args.top.now f) (sym c.from.ensures)
     (no_net (units_view c.args.units.now) c.args.top.now c.in-Err.fault c.in-Err.ensures.refused)

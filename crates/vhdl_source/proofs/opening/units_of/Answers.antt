@@ -5,8 +5,7 @@ use Rattle.vhdl_source.specs.Steps.{HasNameFault}
 use Rattle.vhdl_source.proofs.Layers.{no_units}
 use Rattle.vhdl_source.proofs.opening.units_of.Goals as goal
 
-pub returns-in-Err : goal.returns-in-Err
-returns-in-Err c = record {
-  given = subst (λ (f : SourceFault). HasNameFault (file_view c.args.file.now) f) (sym c.from.ensures)
-      (no_units (file_view c.args.file.now) c.in-Err.fault c.in-Err.ensures.given c.in-Err.ensures.told);
-}
+pub returns-in-Err-clause-given : goal.returns-in-Err-clause-given
+returns-in-Err-clause-given c =
+    subst (λ (f : SourceFault). HasNameFault (file_view c.args.file.now) f) (sym c.from.ensures)
+    (no_units (file_view c.args.file.now) c.in-Err.fault c.in-Err.ensures.given c.in-Err.ensures.told)

@@ -6,6 +6,15 @@ use Rattle.rtl_kernel.specs.wakes.ToRun.{ToRun}
 use Rattle.rtl_kernel.proofs.Kept as kept
 use Rattle.rtl_kernel.proofs.kernel.Kernel.run_one.Goals as goal
 
+pub returns-clause-ran : goal.returns-clause-ran
+returns-clause-ran g c =
+    rw (← c.self.view_is) (
+      c.take-process.result,
+      c.take-process.ensures.at,
+      kept.is_ran _ _ _ _ _ _ _ _ _ _ _ _ _ c.self.invariant c.take-process.result c.take-process.ensures.at.0 _ c.index-bodies-process.is
+          c.run.new.self c.take-process.new.self c.run.ensures.drivers (rw (c.before-2.ensures.value, c.now.ensures) at c.run.ensures.ran) (ap (λ (r : ToRun). r.waiting) c.take-process.ensures.rest),
+    )
+
 pub bounds-bodies-process : goal.bounds-bodies-process
 bounds-bodies-process g c = kept.in_bodies _ _ _ _ _ _ _ _ _ _ _ _ _ c.self.invariant c.take-process.result c.take-process.ensures.at.0
 
@@ -71,12 +80,3 @@ pub invariant_of-self-2 : goal.invariant_of-self-2
 invariant_of-self-2 g c =
     kept.kept_ran _ _ _ _ _ _ _ _ _ _ _ _ _ c.self.invariant c.take-process.result c.take-process.ensures.at.0 _ c.index-bodies-process.is
     c.run.new.self c.take-process.new.self c.run.ensures.drivers (rw (c.before-2.ensures.value, c.now.ensures) at c.run.ensures.ran) (ap (λ (r : ToRun). r.waiting) c.take-process.ensures.rest)
-
-pub returns-clause-ran : goal.returns-clause-ran
-returns-clause-ran g c =
-    rw (← c.self.view_is) (
-      c.take-process.result,
-      c.take-process.ensures.at,
-      kept.is_ran _ _ _ _ _ _ _ _ _ _ _ _ _ c.self.invariant c.take-process.result c.take-process.ensures.at.0 _ c.index-bodies-process.is
-          c.run.new.self c.take-process.new.self c.run.ensures.drivers (rw (c.before-2.ensures.value, c.now.ensures) at c.run.ensures.ran) (ap (λ (r : ToRun). r.waiting) c.take-process.ensures.rest),
-    )

@@ -1,78 +1,100 @@
-use Rattle.std.proofs.Common.{◌≡◌, ◌<◌, ◌≤◌, ◌++◌, ◌∷◌, ◌+◌, true, List, length, ⊎_elim, ap, sym, subst, ◌∙◌, arith, rules, append-nil}
-use Rattle.std.specs.List.{range_with_len}
+use Rattle.std.proofs.Common.{◌≡◌, ◌<◌, ◌+◌, ◌++◌, ◌∷◌, [], ℕ, List, length, Result, ap, sym, subst, ◌∙◌, arith, rules}
+use Rattle.std.specs.Ordering.{nat_cmp}
+use Rattle.std.specs.List.Sorted.{IsBinarySearchResult}
 use Rattle.std.specs.Map.{keys_of}
-use Rattle.std.proofs.lemmas.List.{length-map}
 use Rattle.std.proofs.lemmas.List.Elements.{All-weaker}
 use Rattle.std.proofs.lemmas.Result.{err_from_is_err_and}
-use Rattle.rtl_agenda.specs.Agenda.{AgendaState, IsAfter}
-use Rattle.rtl_stim_lines.specs.Courses.{is_busy}
+use Rattle.rtl_agenda.specs.Agenda.{AgendaState, Change, IsAfter}
+use Rattle.rtl_stim_lines.specs.Inputs.{input_at}
 use Rattle.rtl_stim_lines.specs.Filling.{Waits}
-use Rattle.rtl_stim_lines.specs.View.{course_view, course_in}
-use Rattle.rtl_stim_lines.proofs.Saying.{course_there}
 use Rattle.rtl_stim.specs.Stimuli.{StimulusView}
 use Rattle.rtl_stim.specs.Kept.{stimulus_view}
 use Rattle.rtl_stim.specs.Left.{WaitsPartly}
-use Rattle.rtl_stim.specs.Pushes.{Push, AddsTo, AddsSome, KeepsTaken, gathered, busy_pushes}
+use Rattle.rtl_stim.specs.Pushes.{AddsTo, AddsSome, ArePlaces, KeepsTaken, changed_net, first_net, gathered, place_pushes}
 use Rattle.rtl_stim.proofs.Adding.{keeps_on, adds_more}
-use Rattle.rtl_stim.proofs.Awaiting.{busy_free, place_more, refilled, refilled_partly}
+use Rattle.rtl_stim.proofs.Awaiting.{refilled, refilled_partly}
 use Rattle.rtl_stim.proofs.Partly.{some_more, one_each_at}
-use Rattle.rtl_stim.proofs.Busy.{earlier_apart, busy_pushed, idle_passed}
+use Rattle.rtl_stim.proofs.Firsts.{first_at, first_there, found_at, not_found}
+use Rattle.rtl_stim.proofs.Refilling.{adds_all, adds_some, first_of_one, gathered_more, more_places, same_places, still_free}
 use Rattle.rtl_stim.proofs.stimulus.Stimulus.refill.Goals as goal
-use Rattle.rtl_stim.proofs.stimulus.Stimulus.refill.Goals.{then-is_busy+in_ok-push_due, else-is_busy}
+use Rattle.rtl_stim.proofs.stimulus.Stimulus.refill.Goals.{in-Ok+in_ok-push_due, in_default}
 
 pub push_due-requires-clause-free : goal.push_due-requires-clause-free
 push_due-requires-clause-free g c =
     let s = stimulus_view c.self.inside in
     let view : c.args.self.now ≡ s = search rules in
-    let i = c.loop-place.place in
-    let f = busy_pushes s.inputs s.schedule c.args.time in
+    let k = c.self.invariant in
+    let firsts = c.self.inside.firsts.items in
+    let i = c.loop-index.index in
+    let time = c.args.time in
     let first = g.A.Agenda.state c.args.agenda.now in
-    let old = g.A.Agenda.state c.loop-place.agenda in
-    let adds = subst (λ (v : StimulusView). AddsTo first.waiting old.waiting (gathered (busy_pushes v.inputs v.schedule c.args.time) (range_with_len 0 i))) view c.loop-place.invariant.1 in
-    let within : i < length s.inputs = omega (arith, c.self.invariant.stimulus.each_course, length-map c.self.inside.schedule.courses.items course_view, c.self.inside.schedule.courses.ok.0, c.len-place-end.ensures, c.loop-place-test.true) in
-    let is = course_there c.self.inside.schedule.courses.items i c.index.result.now (omega (arith, c.self.inside.schedule.courses.ok.0, c.len-place-end.ensures, c.loop-place-test.true)) ∙ ap course_view (sym c.index.ensures) in
-    let answer : is_busy (course_in s.schedule i) c.args.time ≡ c.is_busy.result = ap (λ k. is_busy k c.args.time) is ∙ sym c.is_busy.ensures in
-    let waits = subst (λ (v : StimulusView). Waits v.inputs v.schedule c.requires.waited.0 ((c.args.time, first.taken) ∷ first.waiting)) view c.requires.waited.2 in
-    let rising = All-weaker (IsAfter first.last) (λ k. c.args.time < k) (λ k h. h c.args.time c.requires.last) (keys_of first.waiting) (g.met.A.Agenda.orderly c.args.agenda.now).later in
-    let busy : is_busy (course_in s.schedule i) c.args.time ≡ true = answer ∙ c.if-is_busy.true in
-    λ t x there has.
-    ⊎_elim (λ before. busy_free s.inputs s.schedule c.self.invariant.stimulus.own_nets c.self.invariant.stimulus.each_course c.requires.waited.0 c.args.time first.taken first.waiting c.requires.waited.1 waits rising
-    i within busy t x before has)
-    (λ pushed. earlier_apart s.inputs s.schedule c.self.invariant.stimulus.own_nets i within c.args.time t x pushed has)
-    ((adds t x).0 there)
+    let old = g.A.Agenda.state c.loop-index.agenda in
+    let places = c.loop-index.invariant.1 in
+    let f = place_pushes s.inputs s.schedule time in
+    let are = subst (λ (v : StimulusView). ArePlaces v.inputs first.taken i places) view c.loop-index.invariant.2 in
+    let adds = subst (λ (v : StimulusView). AddsTo first.waiting old.waiting (gathered (place_pushes v.inputs v.schedule time) places)) view c.loop-index.invariant.3 in
+    let waits = subst (λ (v : StimulusView). Waits v.inputs v.schedule c.requires.waited.0 ((time, first.taken) ∷ first.waiting)) view c.requires.waited.2 in
+    let rising = All-weaker (IsAfter first.last) (λ t. time < t) (λ t h. h time c.requires.last) (keys_of first.waiting) (g.met.A.Agenda.orderly c.args.agenda.now).later in
+    let has = first_there s.inputs firsts k.firsts k.rising k.stimulus.have_elements in
+    let same : c.changes.result.now ≡ first.taken = c.changes.ensures ∙ c.loop-index.invariant.0.taken in
+    let some : i < length first.taken = omega (arith, c.loop-index-test.true, ap (λ (cs : List Change). length cs) c.changes-index-end.ensures) in
+    let net = changed_net c.changes.result.now i in
+    let net_is : changed_net first.taken i ≡ net = ap (λ (cs : List Change). changed_net cs i) (sym same) in
+    let answer = subst (λ (ns : List ℕ). IsBinarySearchResult (λ y. nat_cmp y net) ns c.binary_search.result) c.deref.ensures.value c.binary_search.ensures.position in
+    let place = c.in-Ok.place in
+    let found = found_at s.inputs firsts k.firsts k.rising k.stimulus.have_elements net place (subst (λ (r : Result ℕ ℕ). IsBinarySearchResult (λ y. nat_cmp y net) firsts r) c.in-Ok.is answer) in
+    let is : changed_net first.taken i ≡ first_net (input_at s.inputs place) = net_is ∙ sym found.1 ∙ first_at s.inputs firsts k.firsts k.rising k.stimulus.have_elements place found.0 in
+    still_free s.inputs s.schedule k.stimulus.own_nets k.stimulus.each_course c.requires.waited.0 time first.taken first.waiting c.requires.waited.1 waits rising has
+    i places are (omega (arith, some)) old.waiting adds (g.met.A.Agenda.orderly c.args.agenda.now).one_each_taken some place found.0 is
 
-pub loop-place-preserved : goal.loop-place-preserved
-loop-place-preserved g c =
+pub loop-index-preserved : goal.loop-index-preserved
+loop-index-preserved g c =
     let s = stimulus_view c.self.inside in
     let view : c.args.self.now ≡ s = search rules in
-    let i = c.loop-place.place in
-    let f = busy_pushes s.inputs s.schedule c.args.time in
+    let k = c.self.invariant in
+    let firsts = c.self.inside.firsts.items in
+    let i = c.loop-index.index in
+    let time = c.args.time in
     let first = g.A.Agenda.state c.args.agenda.now in
-    let old = g.A.Agenda.state c.loop-place.agenda in
-    let adds = subst (λ (v : StimulusView). AddsTo first.waiting old.waiting (gathered (busy_pushes v.inputs v.schedule c.args.time) (range_with_len 0 i))) view c.loop-place.invariant.1 in
-    let is = course_there c.self.inside.schedule.courses.items i c.index.result.now (omega (arith, c.self.inside.schedule.courses.ok.0, c.len-place-end.ensures, c.loop-place-test.true)) ∙ ap course_view (sym c.index.ensures) in
-    let answer : is_busy (course_in s.schedule i) c.args.time ≡ c.is_busy.result = ap (λ k. is_busy k c.args.time) is ∙ sym c.is_busy.ensures in
-    let more = place_more f i in
-    let back : (new : AgendaState) → AddsTo first.waiting new.waiting (gathered f (range_with_len 0 (i + 1))) → AddsTo first.waiting new.waiting (gathered (busy_pushes c.args.self.now.inputs c.args.self.now.schedule c.args.time) (range_with_len 0 (i + 1))) =
-    λ new h. subst (λ (v : StimulusView). AddsTo first.waiting new.waiting (gathered (busy_pushes v.inputs v.schedule c.args.time) (range_with_len 0 (i + 1)))) (sym view) h in
-    elim c.if-is_busy.branch [
-      | then-is_busy+in_ok-push_due w ↦
-          let new = g.A.Agenda.state c.if-is_busy.agenda in
+    let old = g.A.Agenda.state c.loop-index.agenda in
+    let places = c.loop-index.invariant.1 in
+    let f = place_pushes s.inputs s.schedule time in
+    let are = subst (λ (v : StimulusView). ArePlaces v.inputs first.taken i places) view c.loop-index.invariant.2 in
+    let adds = subst (λ (v : StimulusView). AddsTo first.waiting old.waiting (gathered (place_pushes v.inputs v.schedule time) places)) view c.loop-index.invariant.3 in
+    let has = first_there s.inputs firsts k.firsts k.rising k.stimulus.have_elements in
+    let same : c.changes.result.now ≡ first.taken = c.changes.ensures ∙ c.loop-index.invariant.0.taken in
+    let some : i < length first.taken = omega (arith, c.loop-index-test.true, ap (λ (cs : List Change). length cs) c.changes-index-end.ensures) in
+    let net = changed_net c.changes.result.now i in
+    let net_is : changed_net first.taken i ≡ net = ap (λ (cs : List Change). changed_net cs i) (sym same) in
+    let answer = subst (λ (ns : List ℕ). IsBinarySearchResult (λ y. nat_cmp y net) ns c.binary_search.result) c.deref.ensures.value c.binary_search.ensures.position in
+    let new = g.A.Agenda.state c.match-binary_search.agenda in
+    elim c.match-binary_search.branch [
+      | in-Ok+in_ok-push_due w ↦
+          let place = w.in-Ok.place in
+          let found = found_at s.inputs firsts k.firsts k.rising k.stimulus.have_elements net place (subst (λ (r : Result ℕ ℕ). IsBinarySearchResult (λ y. nat_cmp y net) firsts r) w.in-Ok.is answer) in
+          let is : changed_net first.taken i ≡ first_net (input_at s.inputs place) = net_is ∙ sym found.1 ∙ first_at s.inputs firsts k.firsts k.rising k.stimulus.have_elements place found.0 in
+          let more : ArePlaces s.inputs first.taken (i + 1) (places ++ place ∷ []) =
+          more_places s.inputs first.taken i places are place found.0 is (λ p within e. first_of_one s.inputs k.stimulus.own_nets has p place within found.0 (sym e ∙ is)) in
           let agenda = ap g.A.Agenda.state w.agenda-is in
           let made = g.A.Agenda.state w.push_due.new.agenda in
-          let pushed = subst (AddsTo old.waiting made.waiting) (sym (busy_pushed s.inputs s.schedule c.args.time i (answer ∙ w.if-is_busy.true))) w.in_ok-push_due.ensures.pushed in
-          let all = subst (AddsTo first.waiting made.waiting) more (adds_more first.waiting old.waiting made.waiting (gathered f (range_with_len 0 i)) (f i) adds pushed) in (
-            subst (KeepsTaken first) (sym agenda) (keeps_on first old made c.loop-place.invariant.0 w.push_due.ensures.kept),
-            back new (subst (λ (a : AgendaState). AddsTo first.waiting a.waiting (gathered f (range_with_len 0 (i + 1)))) (sym agenda) all),
+          let all : AddsTo first.waiting made.waiting (gathered f (places ++ place ∷ [])) =
+          subst (AddsTo first.waiting made.waiting) (sym (gathered_more f places place)) (adds_more first.waiting old.waiting made.waiting (gathered f places) (f place) adds w.in_ok-push_due.ensures.pushed) in (
+            subst (KeepsTaken first) (sym agenda) (keeps_on first old made c.loop-index.invariant.0 w.push_due.ensures.kept),
+            places ++ place ∷ [],
+            subst (λ (v : StimulusView). ArePlaces v.inputs first.taken (i + 1) (places ++ place ∷ [])) (sym view) more,
+            subst (λ (v : StimulusView). AddsTo first.waiting new.waiting (gathered (place_pushes v.inputs v.schedule time) (places ++ place ∷ []))) (sym view)
+                (subst (λ (a : AgendaState). AddsTo first.waiting a.waiting (gathered f (places ++ place ∷ []))) (sym agenda) all),
           )
-      | else-is_busy w ↦
-          let new = g.A.Agenda.state c.if-is_busy.agenda in
+      | in_default w ↦
           let agenda = ap g.A.Agenda.state w.agenda-is in
-          let none = idle_passed s.inputs s.schedule c.args.time i (answer ∙ w.if-is_busy.false) in
-          let same : gathered f (range_with_len 0 i) ≡ gathered f (range_with_len 0 (i + 1)) =
-          sym (append-nil (gathered f (range_with_len 0 i))) ∙ ap (λ (ps : List Push). gathered f (range_with_len 0 i) ++ ps) (sym none) ∙ more in (
-            subst (KeepsTaken first) (sym agenda) c.loop-place.invariant.0,
-            back new (subst (λ (a : AgendaState). AddsTo first.waiting a.waiting (gathered f (range_with_len 0 (i + 1)))) (sym agenda) (subst (AddsTo first.waiting old.waiting) same adds)),
+          let none : (p : ℕ) → p < length s.inputs → changed_net first.taken i ≡ first_net (input_at s.inputs p) → ⊥ =
+          (λ p within e. not_found s.inputs firsts k.firsts k.rising k.stimulus.have_elements net w.in_default.field-0
+          (subst (λ (r : Result ℕ ℕ). IsBinarySearchResult (λ y. nat_cmp y net) firsts r) w.in_default.is answer) p within (sym net_is ∙ e)) in (
+            subst (KeepsTaken first) (sym agenda) c.loop-index.invariant.0,
+            places,
+            subst (λ (v : StimulusView). ArePlaces v.inputs first.taken (i + 1) places) (sym view) (same_places s.inputs first.taken i places are none),
+            subst (λ (v : StimulusView). AddsTo first.waiting new.waiting (gathered (place_pushes v.inputs v.schedule time) places)) (sym view)
+                (subst (λ (a : AgendaState). AddsTo first.waiting a.waiting (gathered f places)) (sym agenda) adds),
           )
     ]
 
@@ -80,37 +102,60 @@ pub returns-clause-waits : goal.returns-clause-waits
 returns-clause-waits g c =
     let s = stimulus_view c.self.inside in
     let view : c.args.self.now ≡ s = search rules in
-    let i = c.loop-place.place in
-    let f = busy_pushes s.inputs s.schedule c.args.time in
+    let k = c.self.invariant in
+    let firsts = c.self.inside.firsts.items in
+    let i = c.loop-index.index in
+    let time = c.args.time in
     let first = g.A.Agenda.state c.args.agenda.now in
-    let old = g.A.Agenda.state c.loop-place.agenda in
-    let adds = subst (λ (v : StimulusView). AddsTo first.waiting old.waiting (gathered (busy_pushes v.inputs v.schedule c.args.time) (range_with_len 0 i))) view c.loop-place.invariant.1 in
-    let waits = subst (λ (v : StimulusView). Waits v.inputs v.schedule c.requires.waited.0 ((c.args.time, first.taken) ∷ first.waiting)) view c.requires.waited.2 in
-    let rising = All-weaker (IsAfter first.last) (λ k. c.args.time < k) (λ k h. h c.args.time c.requires.last) (keys_of first.waiting) (g.met.A.Agenda.orderly c.args.agenda.now).later in
-    let many : i ≡ length s.inputs = omega (arith, c.self.invariant.stimulus.each_course, length-map c.self.inside.schedule.courses.items course_view, c.self.inside.schedule.courses.ok.0, c.len-place-end.ensures, c.loop-place-test.false, c.loop-place.auto.place-end) in
-    subst (λ (v : StimulusView). Waits v.inputs v.schedule c.args.time old.waiting) (sym view)
-    (refilled s.inputs s.schedule c.self.invariant.stimulus.own_nets c.self.invariant.stimulus.each_course c.requires.waited.0 c.args.time first.taken first.waiting c.requires.waited.1 waits rising
-    old.waiting (subst (λ n. AddsTo first.waiting old.waiting (gathered f (range_with_len 0 n))) many adds))
+    let old = g.A.Agenda.state c.loop-index.agenda in
+    let places = c.loop-index.invariant.1 in
+    let f = place_pushes s.inputs s.schedule time in
+    let are = subst (λ (v : StimulusView). ArePlaces v.inputs first.taken i places) view c.loop-index.invariant.2 in
+    let adds = subst (λ (v : StimulusView). AddsTo first.waiting old.waiting (gathered (place_pushes v.inputs v.schedule time) places)) view c.loop-index.invariant.3 in
+    let waits = subst (λ (v : StimulusView). Waits v.inputs v.schedule c.requires.waited.0 ((time, first.taken) ∷ first.waiting)) view c.requires.waited.2 in
+    let rising = All-weaker (IsAfter first.last) (λ t. time < t) (λ t h. h time c.requires.last) (keys_of first.waiting) (g.met.A.Agenda.orderly c.args.agenda.now).later in
+    let has = first_there s.inputs firsts k.firsts k.rising k.stimulus.have_elements in
+    let many : i ≡ length first.taken = omega (arith, c.loop-index-test.false, c.loop-index.auto.index-end, ap (λ (cs : List Change). length cs) c.changes-index-end.ensures) in
+    subst (λ (v : StimulusView). Waits v.inputs v.schedule time old.waiting) (sym view)
+    (refilled s.inputs s.schedule k.stimulus.own_nets k.stimulus.each_course c.requires.waited.0 time first.taken first.waiting c.requires.waited.1 waits rising old.waiting
+    (adds_all s.inputs s.schedule k.stimulus.own_nets k.stimulus.each_course c.requires.waited.0 time first.taken first.waiting c.requires.waited.1 waits rising has
+    places (subst (λ n. ArePlaces s.inputs first.taken n places) many are) old.waiting adds))
 
 pub returns-in_err-push_due-clause-left : goal.returns-in_err-push_due-clause-left
 returns-in_err-push_due-clause-left g c =
     let s = stimulus_view c.self.inside in
     let view : c.args.self.now ≡ s = search rules in
-    let i = c.loop-place.place in
-    let f = busy_pushes s.inputs s.schedule c.args.time in
+    let k = c.self.invariant in
+    let firsts = c.self.inside.firsts.items in
+    let i = c.loop-index.index in
+    let time = c.args.time in
     let first = g.A.Agenda.state c.args.agenda.now in
-    let old = g.A.Agenda.state c.loop-place.agenda in
-    let adds = subst (λ (v : StimulusView). AddsTo first.waiting old.waiting (gathered (busy_pushes v.inputs v.schedule c.args.time) (range_with_len 0 i))) view c.loop-place.invariant.1 in
-    let is = course_there c.self.inside.schedule.courses.items i c.index.result.now (omega (arith, c.self.inside.schedule.courses.ok.0, c.len-place-end.ensures, c.loop-place-test.true)) ∙ ap course_view (sym c.index.ensures) in
-    let answer : is_busy (course_in s.schedule i) c.args.time ≡ c.is_busy.result = ap (λ k. is_busy k c.args.time) is ∙ sym c.is_busy.ensures in
-    let waits = subst (λ (v : StimulusView). Waits v.inputs v.schedule c.requires.waited.0 ((c.args.time, first.taken) ∷ first.waiting)) view c.requires.waited.2 in
-    let rising = All-weaker (IsAfter first.last) (λ k. c.args.time < k) (λ k h. h c.args.time c.requires.last) (keys_of first.waiting) (g.met.A.Agenda.orderly c.args.agenda.now).later in
+    let old = g.A.Agenda.state c.loop-index.agenda in
+    let places = c.loop-index.invariant.1 in
+    let f = place_pushes s.inputs s.schedule time in
+    let are = subst (λ (v : StimulusView). ArePlaces v.inputs first.taken i places) view c.loop-index.invariant.2 in
+    let adds = subst (λ (v : StimulusView). AddsTo first.waiting old.waiting (gathered (place_pushes v.inputs v.schedule time) places)) view c.loop-index.invariant.3 in
+    let waits = subst (λ (v : StimulusView). Waits v.inputs v.schedule c.requires.waited.0 ((time, first.taken) ∷ first.waiting)) view c.requires.waited.2 in
+    let rising = All-weaker (IsAfter first.last) (λ t. time < t) (λ t h. h time c.requires.last) (keys_of first.waiting) (g.met.A.Agenda.orderly c.args.agenda.now).later in
+    let has = first_there s.inputs firsts k.firsts k.rising k.stimulus.have_elements in
+    let same : c.changes.result.now ≡ first.taken = c.changes.ensures ∙ c.loop-index.invariant.0.taken in
+    let some : i < length first.taken = omega (arith, c.loop-index-test.true, ap (λ (cs : List Change). length cs) c.changes-index-end.ensures) in
+    let net = changed_net c.changes.result.now i in
+    let net_is : changed_net first.taken i ≡ net = ap (λ (cs : List Change). changed_net cs i) (sym same) in
+    let answer = subst (λ (ns : List ℕ). IsBinarySearchResult (λ y. nat_cmp y net) ns c.binary_search.result) c.deref.ensures.value c.binary_search.ensures.position in
+    let place = c.in-Ok.place in
+    let found = found_at s.inputs firsts k.firsts k.rising k.stimulus.have_elements net place (subst (λ (r : Result ℕ ℕ). IsBinarySearchResult (λ y. nat_cmp y net) firsts r) c.in-Ok.is answer) in
+    let is : changed_net first.taken i ≡ first_net (input_at s.inputs place) = net_is ∙ sym found.1 ∙ first_at s.inputs firsts k.firsts k.rising k.stimulus.have_elements place found.0 in
+    let more : ArePlaces s.inputs first.taken (i + 1) (places ++ place ∷ []) =
+    more_places s.inputs first.taken i places are place found.0 is (λ p within e. first_of_one s.inputs k.stimulus.own_nets has p place within found.0 (sym e ∙ is)) in
     let new = g.A.Agenda.state c.push_due.new.agenda in
-    let pushed = subst (AddsSome old.waiting new.waiting) (sym (busy_pushed s.inputs s.schedule c.args.time i (answer ∙ c.if-is_busy.true))) c.in_err-push_due.ensures.pushed in
-    let some = subst (AddsSome first.waiting new.waiting) (place_more f i) (some_more first.waiting old.waiting new.waiting (gathered f (range_with_len 0 i)) (f i) adds pushed) in
-    let within : i + 1 ≤ length s.inputs = omega (arith, c.self.invariant.stimulus.each_course, length-map c.self.inside.schedule.courses.items course_view, c.self.inside.schedule.courses.ok.0, c.len-place-end.ensures, c.loop-place-test.true) in
+    let some_pushed : AddsSome first.waiting new.waiting (gathered f (places ++ place ∷ [])) =
+    subst (AddsSome first.waiting new.waiting) (sym (gathered_more f places place)) (some_more first.waiting old.waiting new.waiting (gathered f places) (f place) adds c.in_err-push_due.ensures.pushed) in
     let told = err_from_is_err_and c.from_residual.result c.from_residual.ensures.1 in
     rw told.1
-    (subst (λ (v : StimulusView). WaitsPartly v.inputs v.schedule c.args.time first.waiting new.waiting) (sym view)
-    (refilled_partly s.inputs s.schedule c.self.invariant.stimulus.own_nets c.self.invariant.stimulus.each_course c.requires.waited.0 c.args.time first.taken first.waiting c.requires.waited.1 waits rising
-    new.waiting (i + 1) within some (one_each_at new (g.met.A.Agenda.orderly c.push_due.new.agenda))))
+    (subst (λ (v : StimulusView). WaitsPartly v.inputs v.schedule time first.waiting new.waiting) (sym view)
+    (refilled_partly s.inputs s.schedule k.stimulus.own_nets k.stimulus.each_course c.requires.waited.0 time first.taken first.waiting c.requires.waited.1 waits rising
+    new.waiting (length s.inputs) (omega arith)
+    (adds_some s.inputs s.schedule k.stimulus.own_nets k.stimulus.each_course c.requires.waited.0 time first.taken first.waiting c.requires.waited.1 waits rising has
+    (i + 1) (places ++ place ∷ []) more (omega (arith, some)) new.waiting some_pushed)
+    (one_each_at new (g.met.A.Agenda.orderly c.push_due.new.agenda))))

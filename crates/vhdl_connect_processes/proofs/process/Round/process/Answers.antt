@@ -39,4 +39,5 @@ returns c =
       scope_is = refl;
       prefix = c.without_dot-generates.ensures ∙ ap (λ v. v.items) c.replace.ensures.value;
       label = ap (option_map (λ l. l.items)) c.take.ensures.value;
+      at = c.byte.ensures;
     }
