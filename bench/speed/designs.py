@@ -204,6 +204,21 @@ def hierarchy(number=250):
     return QUAD + whole("hierarchy", ports, declarations, statements)
 
 
+def priority(number=32, width=64):
+    """Wide priority arbiters: the lowest request that is enabled, by a loop of as many turns, one-hot and as a number."""
+    declarations = [f'  signal noise : {vector(32)} := "{0xACE1ACE1:032b}";']
+    statements = ["  process (clk) begin if rising_edge(clk) then noise <= noise(30 downto 0) & (noise(31) xor noise(21) xor noise(1) xor noise(0)); end if; end process;"]
+    for k in range(number):
+        declarations.append(f"  signal q{k}, g{k}, m{k} : {vector(width)} := (others => '0'); signal e{k} : unsigned(5 downto 0);")
+        shifted = f"q{k} <= (q{k}(31 downto 0) and noise) & (q{k}(63 downto 32) xor noise); m{k} <= m{k}(62 downto 0) & (noise({k}) xor m{k}(63));"
+        statements.append(f"  process (clk) begin if rising_edge(clk) then {shifted} end if; end process;")
+        turn = f"if q{k}(i) = '1' and m{k}(i) = '1' and found = '0' then g{k}(i) <= '1'; e{k} <= to_unsigned(i, 6); found := '1'; end if;"
+        begun = f"found := '0'; g{k} <= (others => '0'); e{k} <= (others => '0');"
+        statements.append(f"  process (all) variable found : std_logic; begin {begun} for i in 0 to {width - 1} loop {turn} end loop; end process;")
+    statements.append("  y <= " + " xor ".join(f"e{k}" for k in range(number)) + ";")
+    return whole("priority", "port (clk : in std_logic; y : out unsigned(5 downto 0))", declarations, statements)
+
+
 def quiet(vectors=16383):
     """A million nets that nothing changes, beside one that toggles."""
     declarations = [f"  signal n{k} : {vector(64)} := (others => '0');" for k in range(vectors)]
@@ -218,4 +233,5 @@ DESIGNS = {
     "arbiters": (arbiters, 2000, None),
     "registers": (registers, 5000, None),
     "hierarchy": (hierarchy, 2000, None),
+    "priority": (priority, 2000, None),
 }
