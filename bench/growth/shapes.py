@@ -228,7 +228,7 @@ def clocks_apart(n):
 
 
 def clocks_and_data(n):
-    """n clocks, and n / 10 changes of one input."""
+    """n clocks, which toggle n / 5 times each, and n / 10 changes of one input."""
     process = "process (c#) begin if rising_edge(c#) then q# <= d; end if; end process;"
     changes = "".join(f"at {10 * k + 2} d {k % 2}\n" for k in range(n // 10))
     source = design(f"{inputs('c', n)}; d : in std_logic", signals("q", n, "std_logic", " := '0'"), lines(n, process))
@@ -375,7 +375,7 @@ SHAPES = {
     "drivers": Shape(drivers, 512, REFUSED),
     "clocks": Shape(clocks, 256, EACH),
     "clocks_apart": Shape(clocks_apart, 256, RUNS),
-    "clocks_and_data": Shape(clocks_and_data, 256, RUNS),
+    "clocks_and_data": Shape(clocks_and_data, 256, RUNS, grows=lambda size: size * size),
     "inputs_apart": Shape(inputs_apart, 256, RUNS),
     "inputs_together": Shape(inputs_together, 2048, RUNS),
     "words": Shape(words, 512, ("eval",)),
