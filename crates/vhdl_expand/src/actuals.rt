@@ -75,12 +75,12 @@ fn associate(
     alloc: Global,
     above: &Site,
     declaration: &Ports,
-    actual: Option<&SignalPart>,
+    actual: Option<&Box<SignalPart>>,
     port: &mut Object,
     at: usize,
 ) -> Result<(), ElabFault>
     requires { IsSite above.now }
-    ensures { Expands (λ _. object_view port.new) (definition.association (site_view above.now) at (any_port declaration.now) (option_map (λ place. place_view place.now) actual.entry) (object_view port.old)) result }
+    ensures { Expands (λ _. object_view port.new) (definition.association (site_view above.now) at (any_port declaration.now) (option_map (λ place. place_view place.now.value) actual.entry) (object_view port.old)) result }
 {
     let Some(place) = actual else {
         if is_input(port.role) && declaration.objects.default.is_none() {
@@ -100,7 +100,7 @@ fn associate_all(
     alloc: Global,
     above: &Site,
     declaration: &Ports,
-    actuals: &[Option<SignalPart>],
+    actuals: &[Option<Box<SignalPart>>],
     before: usize,
     ports: &mut Vec<Object>,
     at: usize,
@@ -129,7 +129,7 @@ fn associate_ports(
     alloc: Global,
     above: &Site,
     declarations: &[Ports],
-    actuals: &[Option<SignalPart>],
+    actuals: &[Option<Box<SignalPart>>],
     ports: &mut Vec<Object>,
     at: usize,
 ) -> Result<(), ElabFault>
@@ -150,7 +150,7 @@ pub fn associations(
     alloc: Global,
     above: &Site,
     unit: &Entity,
-    actuals: &[Option<SignalPart>],
+    actuals: &[Option<Box<SignalPart>>],
     declared: &mut InstanceObjects,
     at: usize,
 ) -> Result<(), ElabFault>

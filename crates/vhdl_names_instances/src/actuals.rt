@@ -19,6 +19,7 @@ ghost use Rattle.vhdl_names_rules.specs.views.Vectors.{place_view};
 ghost use Rattle.vhdl_tree.specs.View.{view, name_view, option_ident_view, suffix_view};
 ghost use Rattle.vhdl_names_types.specs.Views.{sight_view, meaning_view};
 ghost use Rattle.vhdl_names_units.specs.views.Answers.{signal_name_view};
+ghost use Rattle.vhdl_names_units.specs.views.Concurrent.{port_actual_view};
 
 use std::alloc::Global;
 use vhdl_names_expressions::{signal, start, static_integer, typed_suffix};
@@ -162,12 +163,15 @@ fn port_entry(
     sight: &Sight,
     port: PortType,
     actual: &Option<&Expr>,
-) -> Result<Option<SignalPart>, NameFault>
-    ensures { Gives (option_map place_view) (steps.port_entry (sight_view sight.now) port (actual_view actual.now)) result }
+) -> Result<Option<Box<SignalPart>>, NameFault>
+    ensures { Gives port_actual_view (steps.port_entry (sight_view sight.now) port (actual_view actual.now)) result }
 {
     match actual {
         None => Ok(None),
-        Some(e) => Ok(Some(port_actual(alloc, sight, port, e)?)),
+        Some(e) => {
+            let place = port_actual(alloc, sight, port, e)?;
+            Ok(Some(Box::new(alloc, place)?))
+        }
     }
 }
 
@@ -199,8 +203,8 @@ fn entry(
     ports: &[PortType],
     actuals: &[Option<&Expr>],
     index: usize,
-) -> Result<Option<Option<SignalPart>>, NameFault>
-    ensures { Gives (option_map (option_map place_view)) (steps.entry (sight_view sight.now) ports.now (map actual_view actuals.now) index) result }
+) -> Result<Option<Option<Box<SignalPart>>>, NameFault>
+    ensures { Gives (option_map port_actual_view) (steps.entry (sight_view sight.now) ports.now (map actual_view actuals.now) index) result }
 {
     match port_at(ports, index) {
         None => Ok(None),
@@ -217,7 +221,7 @@ pub(crate) fn port_actuals(
     sight: &Sight,
     ports: &[PortType],
     actuals: &[Option<&Expr>],
-) -> Result<Vec<Option<SignalPart>>, NameFault>
+) -> Result<Vec<Option<Box<SignalPart>>>, NameFault>
     ensures { Gives places_view (steps.port_actuals (sight_view sight.now) ports.now (map actual_view actuals.now)) result }
 {
     let mut all = Vec::new(alloc);

@@ -49,12 +49,12 @@ impl Drop for Process {
 }
 
 /// An instance of the unit of this number: each generic's actual, and each port's. None stands
-/// where an actual is open or not associated.
+/// where an actual is open or not associated, so a port's is boxed: a source may leave most ports open.
 pub struct Instance {
     pub label: Identifier,
     pub unit: usize,
     pub generics: Vec<Option<Static>>,
-    pub ports: Vec<Option<SignalPart>>,
+    pub ports: Vec<Option<Box<SignalPart>>>,
 }
 
 impl Drop for Instance {

@@ -1,7 +1,9 @@
 -- Concurrent statements of the code.
-use Rattle.std.specs.Prelude.{ℕ, List, [], ◌∷◌, map, option_map, Vec}
-use Rattle.std.specs.Global.{Global}
+use Rattle.std.specs.Prelude.{ℕ, List, [], ◌∷◌, map, Option, option_map, Vec}
+use Rattle.std.specs.Global.{Box, Global}
 use Rattle.vhdl_tree.specs.declared.expression.Identifier.{Identifier}
+use Rattle.vhdl_names_rules.specs.declared.vector.SignalPart.{SignalPart}
+use Rattle.vhdl_names_rules.specs.units.Expressions as expressions
 use Rattle.vhdl_names_rules.specs.units.Units as u
 use Rattle.vhdl_names_rules.specs.views.Integers.{static_view, range_view}
 use Rattle.vhdl_names_rules.specs.views.Vectors.{place_view}
@@ -35,13 +37,17 @@ process_view p = record {
   body = statements_of (statements_view p.statements);
 }
 
+-- the actual of a port, if it has one
+abbrev pub port_actual_view : Option (Box SignalPart) → Option expressions.SignalPart
+port_actual_view = option_map (λ (x : Box SignalPart). place_view x.value)
+
 abbrev pub instance_view : Instance → u.Instance
 instance_view i = record {
   at = i.label.at;
   label = i.label.text.items;
   unit = i.unit;
   generics = map (option_map static_view) i.generics.items;
-  ports = map (option_map place_view) i.ports.items;
+  ports = map port_actual_view i.ports.items;
 }
 
 -- a generate of this label and body, whose scheme starts at this byte

@@ -2,7 +2,7 @@ use Rattle.std.proofs.Common.{arith, ◌≡◌, ◌≢◌, ◌≤◌, suc, ◌+�
 use Rattle.std.specs.Prelude.{option_map}
 use Rattle.std.proofs.lemmas.List.{at_drop_all, map-append}
 use Rattle.vhdl_names_rules.specs.declared.fault.NameFault.TheVariants.{NoMemory}
-use Rattle.vhdl_names_rules.specs.views.Vectors.{place_view}
+use Rattle.vhdl_names_units.specs.views.Concurrent.{port_actual_view}
 use Rattle.vhdl_names_types.specs.Views.{sight_view}
 use Rattle.vhdl_names_expressions.proofs.Each.{behind, none_behind}
 use Rattle.vhdl_names_instances.specs.Views.{actual_view}
@@ -24,30 +24,30 @@ returns-in-None c =
     let s = sight_view c.args.sight.now in
     let es = map actual_view c.args.actuals.now in
     actuals_end s _ _ c.args.ports.now es c.loop-index.index c.loop-index.invariant
-    (c.in_ok-entry.ensures ∙ ap (λ o. Some (option_map (option_map place_view) o)) c.in-None.is)
+    (c.in_ok-entry.ensures ∙ ap (λ o. Some (option_map port_actual_view o)) c.in-None.is)
 
 pub loop-index-init : goal.loop-index-init
 loop-index-init c =
     let all = steps.port_actuals (sight_view c.args.sight.now) c.args.ports.now (map actual_view c.args.actuals.now) in
-    none_behind all ∙ ap (λ xs. behind (map (option_map place_view) xs) all) (sym c.new-all.ensures.items)
+    none_behind all ∙ ap (λ xs. behind (map port_actual_view xs) all) (sym c.new-all.ensures.items)
 
 pub loop-index-preserved : goal.loop-index-preserved
 loop-index-preserved c =
     let s = sight_view c.args.sight.now in
     let ps = c.args.ports.now in
     let es = map actual_view c.args.actuals.now in
-    let x = option_map place_view c.in-Some.place in
+    let x = port_actual_view c.in-Some.place in
     let e : suc c.loop-index.index ≡ c.loop-index.index + 1 = omega arith in
     port_goes s _ _ ps es c.loop-index.index c.loop-index.invariant x
-    (c.in_ok-entry.ensures ∙ ap (λ o. Some (option_map (option_map place_view) o)) c.in-Some.is)
-    ∙ ap (λ j. behind (map (option_map place_view) c.loop-index.all.items ++ x ∷ []) (steps.port_actuals s (drop j ps) (drop j es))) e
+    (c.in_ok-entry.ensures ∙ ap (λ o. Some (option_map port_actual_view o)) c.in-Some.is)
+    ∙ ap (λ j. behind (map port_actual_view c.loop-index.all.items ++ x ∷ []) (steps.port_actuals s (drop j ps) (drop j es))) e
     ∙ ap (λ ys. behind ys (steps.port_actuals s (drop (c.loop-index.index + 1) ps) (drop (c.loop-index.index + 1) es)))
-    (sym (ap (map (option_map place_view)) c.in_ok-push-in-Some.ensures.items ∙ map-append (option_map place_view) c.loop-index.all.items (c.in-Some.place ∷ [])))
+    (sym (ap (map port_actual_view) c.in_ok-push-in-Some.ensures.items ∙ map-append port_actual_view c.loop-index.all.items (c.in-Some.place ∷ [])))
 
 pub returns : goal.returns
 returns c =
     let s = sight_view c.args.sight.now in
     let es = drop c.loop-index.index (map actual_view c.args.actuals.now) in
     let past : length c.args.ports.now ≤ c.loop-index.index = omega arith in
-    let ys = map (option_map place_view) c.loop-index.all.items in
+    let ys = map port_actual_view c.loop-index.all.items in
     c.loop-index.invariant ∙ at_drop_all (λ l. behind ys (steps.port_actuals s l es)) c.args.ports.now c.loop-index.index past ∙ ap Some (append-nil ys)

@@ -7,7 +7,7 @@ use Rattle.std.specs.Prelude.{◌≢◌, option_map, flat_map, codes}
 use Rattle.std.specs.Fmt.{signed_decimal}
 use Rattle.std.proofs.lemmas.Option.{slice_get-map, slice_get_past}
 use Rattle.vhdl_names_rules.specs.units.Bytes.{process_bytes, concurrent_bytes, concurrents_bytes, units_bytes}
-use Rattle.vhdl_names_rules.specs.views.Vectors.{place_view}
+use Rattle.vhdl_names_units.specs.views.Concurrent.{port_actual_view}
 use Rattle.vhdl_names_units.specs.views.Units.{entity_view, architecture_view}
 use Rattle.vhdl_names_units.specs.views.Declarations.{declaration_view}
 use Rattle.vhdl_expand_rules.specs.Declarations.{declarations, interface}
@@ -357,7 +357,7 @@ add_instance-returns-in_err-associations t c =
     let e = entity_view c.in-Some.unit.now in
     let d = declared_view c.in_ok-declared.declared in
     let known = ap (λ xs. interface at.site.integers (map (option_map static_view) xs) e) (sym c.deref.ensures.value) ∙ c.in_ok-declared.ensures in
-    let named = ap (λ xs. associated at.site x.at e.ports (map (option_map place_view) xs) d) (sym c.deref-2.ensures.value) in
+    let named = ap (λ xs. associated at.site x.at e.ports (map port_actual_view xs) d) (sym c.deref-2.ensures.value) in
     passed_told _ _ c.in_err-associations.field-0.0 _ c.from_residual-in_err-associations.result c.from_residual-in_err-associations.ensures.1 (λ e p. p)
     (λ n. associated_told (units_of c.args.self.now) c.args.self.now.levels at x (progress_view c.args.so_far.now) e (unit_found c.args.self.now.units.now c.args.written.now.unit c.in-Some.unit.now c.in-Some.ensures.lookup.3.0 (c.in-Some.ensures.lookup.3.1 c.in-Some.unit.now)) d known (named ∙ c.in_err-associations.ensures n))
 
@@ -374,7 +374,7 @@ add_instance-returns-in_err-instance t c =
     let e = entity_view c.in-Some.unit.now in
     let d = declared_view c.in_ok-declared.declared in
     let known = ap (λ xs. interface at.site.integers (map (option_map static_view) xs) e) (sym c.deref.ensures.value) ∙ c.in_ok-declared.ensures in
-    let joined = ap (λ xs. associated at.site x.at e.ports (map (option_map place_view) xs) d) (sym c.deref-2.ensures.value) ∙ c.in_ok-associations.ensures in
+    let joined = ap (λ xs. associated at.site x.at e.ports (map port_actual_view xs) d) (sym c.deref-2.ensures.value) ∙ c.in_ok-associations.ensures in
     passed_told _ _ c.in_err-instance.field-0.0 _ c.from_residual-in_err-instance.result c.from_residual-in_err-instance.ensures.1 (λ e p. p)
     (λ n. inner_told (units_of c.args.self.now) c.args.self.now.levels at x (progress_view c.args.so_far.now) e (unit_found c.args.self.now.units.now c.args.written.now.unit c.in-Some.unit.now c.in-Some.ensures.lookup.3.0 (c.in-Some.ensures.lookup.3.1 c.in-Some.unit.now)) d known (declared_view c.associations.new.declared) joined (c.in_err-instance.ensures n))
 
@@ -388,7 +388,7 @@ add_instance-returns t c =
     let d = declared_view c.in_ok-declared.declared in
     let known = ap (λ xs. interface at.site.integers (map (option_map static_view) xs) e) (sym c.deref.ensures.value) ∙ c.in_ok-declared.ensures in
     let f = declared_view c.associations.new.declared in
-    let joined = ap (λ xs. associated at.site x.at e.ports (map (option_map place_view) xs) d) (sym c.deref-2.ensures.value) ∙ c.in_ok-associations.ensures in
+    let joined = ap (λ xs. associated at.site x.at e.ports (map port_actual_view xs) d) (sym c.deref-2.ensures.value) ∙ c.in_ok-associations.ensures in
     let here = instance_here u c.args.self.now.levels at x e d f found known joined in
     let label : c.in_ok-label.label.items ≡ at.prefix ++ x.label = c.in_ok-label.ensures ∙ ap (λ l. at.prefix ++ l) c.deref-3.ensures.value in
     let r = expanded_here u c.args.self.now.levels at x in
