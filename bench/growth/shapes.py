@@ -1,7 +1,7 @@
 """Shapes of sources and stimuli that grow with one number, to measure what the program takes of each.
 
 A shape is a function of its size; it gives a Case, whose top is `t`. SHAPES has for each shape the least size that is measured and
-the commands that are. `exempt` names the commands of which more than linear growth is no fault, and why; `grows` tells by what a shape
+the commands that are, of which LATER are left out but where they are asked for. `exempt` names the commands of which more than linear growth is no fault, and why; `grows` tells by what a shape
 grows, where it isn't its size.
 """
 import math
@@ -341,7 +341,9 @@ def undeclared(n):
     return Case(design("clk, d : in std_logic", "signal q : std_logic;", lines(n, "q <= zz#;")), cycles(2))
 
 
+NOTHING = Case(design("a : in std_logic", "", ""), "stop 0\n")
 RUNS = ("run", "run --event", "run --levels")
+LATER = ("check --json", "check --explain")
 EACH = ("net", "check", "check --dot", "check --json", "check --explain", *RUNS)
 JUDGED = ("check", "check --json", "check --explain")
 REFUSED = (*JUDGED, "run --event")
@@ -354,7 +356,7 @@ SHAPES = {
     "files": Shape(files, 64, EACH),
     "nested": Shape(nested, 256, EACH),
     "generates": Shape(generates, 512, EACH),
-    "open_ports": Shape(open_ports, 64, ("net", "check", "run"), grows=lambda size: size * size),
+    "open_ports": Shape(open_ports, 256, ("net", "check", "run"), grows=lambda size: size * size),
     "assignments": Shape(assignments, 1024, EACH),
     "logic": Shape(logic, 1024, EACH),
     "ifs": Shape(ifs, 1024, EACH),
@@ -364,7 +366,7 @@ SHAPES = {
     "loops": Shape(loops, 8192, EACH),
     "elements": Shape(elements, 128, EACH),
     "operands": Shape(operands, 4096, EACH),
-    "variables": Shape(variables, 4, EACH),
+    "variables": Shape(variables, 32, EACH),
     "constants": Shape(constants, 1024, ("net", "check")),
     "fanout": Shape(fanout, 1024, EACH),
     "compared": Shape(compared, 128, EACH),
@@ -376,7 +378,7 @@ SHAPES = {
     "clocks": Shape(clocks, 256, EACH),
     "clocks_apart": Shape(clocks_apart, 256, RUNS),
     "clocks_and_data": Shape(clocks_and_data, 256, RUNS, grows=lambda size: size * size),
-    "inputs_apart": Shape(inputs_apart, 256, RUNS),
+    "inputs_apart": Shape(inputs_apart, 1024, RUNS),
     "inputs_together": Shape(inputs_together, 2048, RUNS),
     "words": Shape(words, 512, ("eval",)),
     "changes": Shape(changes, 4096, RUNS),
