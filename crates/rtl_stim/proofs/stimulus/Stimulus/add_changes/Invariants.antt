@@ -1,10 +1,10 @@
-use Rattle.std.proofs.Common.{ℕ, ◌-◌, ◌<◌, ◌≤◌}
-use Rattle.rtl_stim.specs.Quiet.{HasNoneHere}
-use Rattle.rtl_stim.proofs.stimulus.Stimulus.race_before.Given as goal
+use Rattle.std.proofs.Common.{◌-◌}
+use Rattle.rtl_stim.specs.Quiet.{HasAdded}
+use Rattle.rtl_stim.proofs.stimulus.Stimulus.add_changes.Given as goal
 
--- the times so far have no race
+-- the times so far
 abbrev pub invariant-loop-time : goal.invariant-loop-time
-invariant-loop-time l = (t : ℕ) → 0 < t → t ≤ l.now → HasNoneHere l.self l.clocks l.nets t
+invariant-loop-time l = HasAdded l.self l.clocks l.nets l.now l.initial.times l.times
 
 abbrev pub decreases-loop-time : goal.decreases-loop-time
-decreases-loop-time l = l.past - l.now
+decreases-loop-time l = l.self.schedule.stop - l.now

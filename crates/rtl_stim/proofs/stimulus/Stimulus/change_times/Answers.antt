@@ -7,11 +7,12 @@ use Rattle.rtl_stim_lines.specs.Times.{all_nets, nets_of}
 use Rattle.rtl_stim_lines.specs.View.{input_view}
 use Rattle.rtl_stim.specs.Stimuli.{StimulusView}
 use Rattle.rtl_stim.specs.Kept.{stimulus_view}
-use Rattle.rtl_stim.specs.Quiet.{HasNoneHere, HasSearched, IsNoClock}
+use Rattle.std.specs.BTreeSet.{BTreeSet}
+use Rattle.rtl_stim.specs.Quiet.{AreChanges, HasAdded, IsNoClock}
 use Rattle.rtl_stim.proofs.Places.{nets_seen}
-use Rattle.rtl_stim.proofs.Quieting.{ends_within, none_of_clocks, part, searched_more}
-use Rattle.rtl_stim.proofs.stimulus.Stimulus.first_time.Goals as goal
-use Rattle.rtl_stim.proofs.stimulus.Stimulus.first_time.Goals.{then-not-are_clocks, else-not-are_clocks}
+use Rattle.rtl_stim.proofs.Quieting.{changes_of_more, ends_within, none_added, part}
+use Rattle.rtl_stim.proofs.stimulus.Stimulus.change_times.Goals as goal
+use Rattle.rtl_stim.proofs.stimulus.Stimulus.change_times.Goals.{then-not-are_clocks+in_ok-add_changes, else-not-are_clocks}
 
 pub overflow_add-to : goal.overflow_add-to
 overflow_add-to c =
@@ -64,8 +65,8 @@ slice_bounds-nets-end c =
     omega (arith, ends_within v.inputs i within, c.loop-place.invariant.many_are, many, ap (λ (ns : List ℕ). length ns) all) in
     omega arith
 
-pub race_before-past-requires-clause-nets : goal.race_before-past-requires-clause-nets
-race_before-past-requires-clause-nets c =
+pub add_changes-requires-clause-nets : goal.add_changes-requires-clause-nets
+add_changes-requires-clause-nets c =
     let v = c.args.self.now in
     let s = stimulus_view c.self.inside in
     let view : v ≡ s = search rules in
@@ -101,21 +102,17 @@ loop-place-preserved c =
     ap (λ (ns : List ℕ). slice_range ns c.loop-place.from (c.loop-place.from + length es)) (sym all)
     ∙ part v.inputs i within c.loop-place.from (c.loop-place.from + length es) c.loop-place.invariant.many_are to in
     let clocks = c.args.clocks.now in
-    let past = c.loop-place.past in
-    let next = c.if-not-are_clocks.past in
-    let more : (n : ℕ) → 0 < n → n ≤ past → (n < past → HasNoneHere v clocks (nets_of (input_at v.inputs i)) n → ⊥) → ((t : ℕ) → 0 < t → t < n → HasNoneHere v clocks (nets_of (input_at v.inputs i)) t)
-    → HasSearched v clocks (i + 1) (c.loop-place.from + length es) n = (λ n. searched_more v clocks i c.loop-place.from (c.loop-place.from + length es) past n within c.loop-place.invariant to) in
+    let here = nets_of (input_at v.inputs i) in
+    let old = c.loop-place.times in
+    let more : (new : BTreeSet ℕ) → HasAdded v clocks here v.schedule.stop old new → AreChanges v clocks (i + 1) (c.loop-place.from + length es) new =
+    (λ new. changes_of_more v clocks i c.loop-place.from (c.loop-place.from + length es) old new within c.loop-place.invariant to) in
     elim c.if-not-are_clocks.branch [
-      | then-not-are_clocks w ↦
-          let told = w.race_before-past.ensures in
-          subst (HasSearched v clocks (i + 1) (c.loop-place.from + length es)) (sym w.past-is)
-          (more w.race_before-past.result told.later told.within
-          (λ less none. told.race less (subst (λ (ns : List ℕ). HasNoneHere v clocks ns w.race_before-past.result) (sym nets) none))
-          (λ t some less. subst (λ (ns : List ℕ). HasNoneHere v clocks ns t) nets (told.none t some less)))
+      | then-not-are_clocks+in_ok-add_changes w ↦
+          subst (AreChanges v clocks (i + 1) (c.loop-place.from + length es)) (sym w.times-is)
+          (more w.add_changes.new.times (subst (λ (ns : List ℕ). HasAdded v clocks ns v.schedule.stop old w.add_changes.new.times) nets w.in_ok-add_changes.ensures))
       | else-not-are_clocks w ↦
           let every = subst (λ (ns : List ℕ). All (λ n. IsNoClock clocks n → ⊥) ns) nets (c.are_clocks.ensures w.if-not-are_clocks.false) in
-          subst (HasSearched v clocks (i + 1) (c.loop-place.from + length es)) (sym w.past-is)
-          (more past c.loop-place.invariant.some (omega arith) (λ less none. omega (arith, less)) (λ t some less. none_of_clocks v clocks (nets_of (input_at v.inputs i)) t every))
+          subst (AreChanges v clocks (i + 1) (c.loop-place.from + length es)) (sym w.times-is) (more old (none_added v clocks here v.schedule.stop old every))
     ]
 
 pub returns : goal.returns
@@ -129,4 +126,4 @@ returns c =
     let every : i ≡ length v.inputs = subst (λ (w : StimulusView). i ≡ length w.inputs) (sym view) all in
     let many : c.loop-place.from ≡ length c.args.net.now.inputs =
     c.loop-place.invariant.many_are ∙ ap (λ (is : List Input). length (all_nets is)) (take_all i v.inputs (omega (arith, every))) ∙ ap (λ (ns : List ℕ). length ns) c.requires.inputs in
-    subst (λ n. HasSearched v clocks (length v.inputs) n c.loop-place.past) many (subst (λ n. HasSearched v clocks n c.loop-place.from c.loop-place.past) every c.loop-place.invariant)
+    subst (λ n. AreChanges v clocks (length v.inputs) n c.loop-place.times) many (subst (λ n. AreChanges v clocks n c.loop-place.from c.loop-place.times) every c.loop-place.invariant)
