@@ -101,6 +101,13 @@ def open_ports(n):
     return Case(design(ports, "", "", "k") + design("clk : in std_logic", "", lines(n, "u# : entity work.k;")), cycles(2))
 
 
+def open_generics(n):
+    """n instances, each of which leaves n generics open."""
+    generics = "; ".join(f"g{k} : integer := 0" for k in range(n))
+    unit = design("a : in std_logic := '0'", "", "", "k").replace("k is port", f"k is generic ({generics}); port")
+    return Case(unit + design("clk : in std_logic", "", lines(n, "u# : entity work.k;")), cycles(2))
+
+
 # ---- bodies
 
 
@@ -355,6 +362,7 @@ SHAPES = {
     "nested": Shape(nested, 256, EACH),
     "generates": Shape(generates, 512, EACH),
     "open_ports": Shape(open_ports, 64, ("net", "check", "run"), grows=lambda size: size * size),
+    "open_generics": Shape(open_generics, 64, ("net", "check", "run"), grows=lambda size: size * size),
     "assignments": Shape(assignments, 1024, EACH),
     "logic": Shape(logic, 1024, EACH),
     "ifs": Shape(ifs, 1024, EACH),

@@ -7,20 +7,18 @@ use Rattle.std.specs.Prelude.{◌≢◌, option_map, flat_map, codes}
 use Rattle.std.specs.Fmt.{signed_decimal}
 use Rattle.std.proofs.lemmas.Option.{slice_get-map, slice_get_past}
 use Rattle.vhdl_names_rules.specs.units.Bytes.{process_bytes, concurrent_bytes, concurrents_bytes, units_bytes}
-use Rattle.vhdl_names_units.specs.views.Concurrent.{port_actual_view}
 use Rattle.vhdl_names_units.specs.views.Units.{entity_view, architecture_view}
 use Rattle.vhdl_names_units.specs.views.Declarations.{declaration_view}
-use Rattle.vhdl_expand_rules.specs.Declarations.{declarations, interface}
+use Rattle.vhdl_expand_rules.specs.Declarations.{declarations}
 use Rattle.vhdl_expand_rules.specs.Elab.{◌>>=◌, fault_told, MayTell}
 use Rattle.vhdl_expand_rules.specs.Expansion.{instance_of, with_dot}
 use Rattle.vhdl_elab_rules.specs.Numbering.{own_sizes}
 use Rattle.vhdl_expand_tree.specs.Costs.{charged, spent, nets, instance_costs}
 use Rattle.vhdl_expand_tree.specs.Views.{budget_view, object_view, parts_of}
-use Rattle.vhdl_expand.specs.Associations.{associated}
 use Rattle.vhdl_expand.specs.Views.{declared_view}
 use Rattle.vhdl_expand.proofs.Nested.{outermost, instance_made, not_expanded, no_unit, instance_here, instance_behind, expanded_here}
 use Rattle.vhdl_expand.proofs.Stopping.{deep_told, bare_told, many_told, declared_told, nets_told, inside_told, unit_found, interface_told, associated_told, inner_told}
-use Rattle.vhdl_names_rules.specs.views.Integers.{range_view, static_view}
+use Rattle.vhdl_names_rules.specs.views.Integers.{range_view}
 use Rattle.vhdl_names_rules.specs.views.Tests.{static_test_view}
 use Rattle.vhdl_names_units.specs.views.Concurrent as units
 use Rattle.vhdl_names_units.proofs.rows.Concurrent.{view_generate}
@@ -346,9 +344,8 @@ add_instance-returns-in_err-declared t c =
     let x = units.instance_view c.args.written.now in
     let at = spot_view c.args.spot.now in
     let e = entity_view c.in-Some.unit.now in
-    let named = ap (λ xs. interface at.site.integers (map (option_map static_view) xs) e) (sym c.deref.ensures.value) in
     passed_told _ _ c.in_err-declared.field-0.0 _ c.from_residual.result c.from_residual.ensures.1 (λ e p. p)
-    (λ n. interface_told (units_of c.args.self.now) c.args.self.now.levels at x (progress_view c.args.so_far.now) e (unit_found c.args.self.now.units.now c.args.written.now.unit c.in-Some.unit.now c.in-Some.ensures.lookup.3.0 (c.in-Some.ensures.lookup.3.1 c.in-Some.unit.now)) (named ∙ c.in_err-declared.ensures n))
+    (λ n. interface_told (units_of c.args.self.now) c.args.self.now.levels at x (progress_view c.args.so_far.now) e (unit_found c.args.self.now.units.now c.args.written.now.unit c.in-Some.unit.now c.in-Some.ensures.lookup.3.0 (c.in-Some.ensures.lookup.3.1 c.in-Some.unit.now)) (c.in_err-declared.ensures n))
 
 pub add_instance-returns-in_err-associations : goal.add_instance-returns-in_err-associations
 add_instance-returns-in_err-associations t c =
@@ -356,10 +353,9 @@ add_instance-returns-in_err-associations t c =
     let at = spot_view c.args.spot.now in
     let e = entity_view c.in-Some.unit.now in
     let d = declared_view c.in_ok-declared.declared in
-    let known = ap (λ xs. interface at.site.integers (map (option_map static_view) xs) e) (sym c.deref.ensures.value) ∙ c.in_ok-declared.ensures in
-    let named = ap (λ xs. associated at.site x.at e.ports (map port_actual_view xs) d) (sym c.deref-2.ensures.value) in
+    let known = c.in_ok-declared.ensures in
     passed_told _ _ c.in_err-associations.field-0.0 _ c.from_residual-in_err-associations.result c.from_residual-in_err-associations.ensures.1 (λ e p. p)
-    (λ n. associated_told (units_of c.args.self.now) c.args.self.now.levels at x (progress_view c.args.so_far.now) e (unit_found c.args.self.now.units.now c.args.written.now.unit c.in-Some.unit.now c.in-Some.ensures.lookup.3.0 (c.in-Some.ensures.lookup.3.1 c.in-Some.unit.now)) d known (named ∙ c.in_err-associations.ensures n))
+    (λ n. associated_told (units_of c.args.self.now) c.args.self.now.levels at x (progress_view c.args.so_far.now) e (unit_found c.args.self.now.units.now c.args.written.now.unit c.in-Some.unit.now c.in-Some.ensures.lookup.3.0 (c.in-Some.ensures.lookup.3.1 c.in-Some.unit.now)) d known (c.in_err-associations.ensures n))
 
 pub add_instance-instance-requires : goal.add_instance-instance-requires
 add_instance-instance-requires t c = (
@@ -373,8 +369,8 @@ add_instance-returns-in_err-instance t c =
     let at = spot_view c.args.spot.now in
     let e = entity_view c.in-Some.unit.now in
     let d = declared_view c.in_ok-declared.declared in
-    let known = ap (λ xs. interface at.site.integers (map (option_map static_view) xs) e) (sym c.deref.ensures.value) ∙ c.in_ok-declared.ensures in
-    let joined = ap (λ xs. associated at.site x.at e.ports (map port_actual_view xs) d) (sym c.deref-2.ensures.value) ∙ c.in_ok-associations.ensures in
+    let known = c.in_ok-declared.ensures in
+    let joined = c.in_ok-associations.ensures in
     passed_told _ _ c.in_err-instance.field-0.0 _ c.from_residual-in_err-instance.result c.from_residual-in_err-instance.ensures.1 (λ e p. p)
     (λ n. inner_told (units_of c.args.self.now) c.args.self.now.levels at x (progress_view c.args.so_far.now) e (unit_found c.args.self.now.units.now c.args.written.now.unit c.in-Some.unit.now c.in-Some.ensures.lookup.3.0 (c.in-Some.ensures.lookup.3.1 c.in-Some.unit.now)) d known (declared_view c.associations.new.declared) joined (c.in_err-instance.ensures n))
 
@@ -386,11 +382,11 @@ add_instance-returns t c =
     let e = entity_view c.in-Some.unit.now in
     let found = unit_found c.args.self.now.units.now c.args.written.now.unit c.in-Some.unit.now c.in-Some.ensures.lookup.3.0 (c.in-Some.ensures.lookup.3.1 c.in-Some.unit.now) in
     let d = declared_view c.in_ok-declared.declared in
-    let known = ap (λ xs. interface at.site.integers (map (option_map static_view) xs) e) (sym c.deref.ensures.value) ∙ c.in_ok-declared.ensures in
+    let known = c.in_ok-declared.ensures in
     let f = declared_view c.associations.new.declared in
-    let joined = ap (λ xs. associated at.site x.at e.ports (map port_actual_view xs) d) (sym c.deref-2.ensures.value) ∙ c.in_ok-associations.ensures in
+    let joined = c.in_ok-associations.ensures in
     let here = instance_here u c.args.self.now.levels at x e d f found known joined in
-    let label : c.in_ok-label.label.items ≡ at.prefix ++ x.label = c.in_ok-label.ensures ∙ ap (λ l. at.prefix ++ l) c.deref-3.ensures.value in
+    let label : c.in_ok-label.label.items ≡ at.prefix ++ x.label = c.in_ok-label.ensures ∙ ap (λ l. at.prefix ++ l) c.deref.ensures.value in
     let r = expanded_here u c.args.self.now.levels at x in
     let s = instance_of u c.args.self.now.levels x.at e f in
     ap (λ l. adding (progress_view c.args.so_far.now) (r >>= λ i. given (made_instance l i))) (sym label)
