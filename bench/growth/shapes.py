@@ -1,8 +1,8 @@
 """Shapes of sources and stimuli that grow with one number, to measure what the program takes of each.
 
 A shape is a function of its size; it gives a Case, whose top is `t`. SHAPES has for each shape the least size that is measured and
-the commands that are, of which LATER are left out but where they are asked for. `exempt` names the commands of which more than linear growth is no fault, and why; `grows` tells by what a shape
-grows, where it isn't its size.
+the commands that are, of which LATER are left out but where they are asked for. `exempt` names the commands of which more than linear
+growth is no fault, and why; `grows` tells by what a shape grows, where it isn't its size.
 """
 import math
 import random
@@ -99,6 +99,13 @@ def open_ports(n):
     """n instances, each of which leaves n ports open."""
     ports = "; ".join(f"p{k} : in std_logic := '0'" for k in range(n))
     return Case(design(ports, "", "", "k") + design("clk : in std_logic", "", lines(n, "u# : entity work.k;")), cycles(2))
+
+
+def open_generics(n):
+    """n instances, each of which leaves n generics open."""
+    generics = "; ".join(f"g{k} : integer := 0" for k in range(n))
+    unit = design("a : in std_logic := '0'", "", "", "k").replace("k is port", f"k is generic ({generics}); port")
+    return Case(unit + design("clk : in std_logic", "", lines(n, "u# : entity work.k;")), cycles(2))
 
 
 # ---- bodies
@@ -235,6 +242,13 @@ def clocks_and_data(n):
     return Case(source, f"{lines(n, 'clock c# 5 5')}\nstop {n + 10}\n{changes}")
 
 
+def clocks_beside_data(n):
+    """n clocks, which toggle once each, and as many changes of one input at other times."""
+    toggles = "".join(f"clock c{k} {2 * k + 5} 1000000000\n" for k in range(n))
+    changes = "".join(f"at {2 * k + 2} d {k % 2}\n" for k in range(n))
+    return clocks_and_data(n)._replace(stimulus=f"{toggles}{changes}stop {2 * n + 6}\n")
+
+
 def many_inputs(n):
     return design(f"{inputs('d', n)}; y : out std_logic", "", "y <= d0;")
 
@@ -357,6 +371,7 @@ SHAPES = {
     "nested": Shape(nested, 256, EACH),
     "generates": Shape(generates, 512, EACH),
     "open_ports": Shape(open_ports, 256, ("net", "check", "run"), grows=lambda size: size * size),
+    "open_generics": Shape(open_generics, 256, ("net", "check", "run"), grows=lambda size: size * size),
     "assignments": Shape(assignments, 1024, EACH),
     "logic": Shape(logic, 1024, EACH),
     "ifs": Shape(ifs, 1024, EACH),
@@ -378,6 +393,7 @@ SHAPES = {
     "clocks": Shape(clocks, 256, EACH),
     "clocks_apart": Shape(clocks_apart, 256, RUNS),
     "clocks_and_data": Shape(clocks_and_data, 256, RUNS, grows=lambda size: size * size),
+    "clocks_beside_data": Shape(clocks_beside_data, 256, RUNS),
     "inputs_apart": Shape(inputs_apart, 1024, RUNS),
     "inputs_together": Shape(inputs_together, 2048, RUNS),
     "words": Shape(words, 512, ("eval",)),

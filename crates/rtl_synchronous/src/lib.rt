@@ -13,7 +13,6 @@ mod inputs;
 pub mod laws;
 mod machine;
 mod marks;
-mod nexts;
 mod order;
 mod outcomes;
 mod running;
