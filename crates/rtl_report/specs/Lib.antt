@@ -1,2 +1,0 @@
--- The words of rules.
-pub mod Rules
