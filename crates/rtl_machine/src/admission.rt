@@ -35,8 +35,8 @@ impl Drop for Admitted {
     }
 }
 
-/// Checks a netlist, reads the text of a stimulus for it, and looks for a race. It takes the checker's memory and the
-/// stimulus's.
+/// Checks a netlist, reads the text of a stimulus for it, and looks for a race. It takes the checker's memory, the
+/// stimulus's and that of the search.
 ///
 /// # Errors
 ///
@@ -50,7 +50,7 @@ pub fn admit(alloc: Global, net: &Net, text: &[u8]) -> Result<Admitted, MachineF
 {
     let report = accept(alloc, net)?;
     let stimulus = Stimulus::read(alloc, net, text)?;
-    without_race(net, report, stimulus)
+    without_race(alloc, net, report, stimulus)
 }
 
 /// The same of the stimulus that NAME=VALUE words say; a bad word is told by its place from 1.
@@ -67,11 +67,16 @@ pub(crate) fn admit_words(
     let report = accept(alloc, net)?;
     let pairs = pairs_of(alloc, words)?;
     let stimulus = Stimulus::of_pairs(alloc, net, &pairs)?;
-    without_race(net, report, stimulus)
+    without_race(alloc, net, report, stimulus)
 }
 
 /// A stimulus of an accepted netlist, if it has no race.
-fn without_race(net: &Net, report: Report, stimulus: Stimulus) -> Result<Admitted, MachineFault>
+fn without_race(
+    alloc: Global,
+    net: &Net,
+    report: Report,
+    stimulus: Stimulus,
+) -> Result<Admitted, MachineFault>
     requires accepted { IsAccepted (core net.now) }
     requires report { IsReportOf (core net.now) report }
     requires ports { HasOwnPorts net.now }
@@ -80,7 +85,7 @@ fn without_race(net: &Net, report: Report, stimulus: Stimulus) -> Result<Admitte
     ensures levels { IfOk result (λ a. (greatest : ℕ) × AreLevels (core net.now) a.levels.items greatest) }
     ensures refused { (text : List ℕ) → IsRead net.now text (Ok stimulus) → IfErr result (RefusesNet net.now text) }
 {
-    if let Some(race) = first_race(net, &report.clocks, &stimulus) {
+    if let Some(race) = first_race(alloc, net, &report.clocks, &stimulus)? {
         return Err(MachineFault::Stim(StimFault::Race {
             time: race.time,
             input: race.input,

@@ -15,9 +15,9 @@ use rtl_net::Net;
 use rtl_sink::{Sink, Unwatched, Watch};
 use std::alloc::Global;
 
-/// Simulates a netlist under the stimulus that a text says, as the synchronous machine that it is: at each moment the clocked
-/// processes that the inputs wake run once, and then the combinational ones in order of level. It writes the trace that `run` writes.
-/// Nothing is written before the checker, the stimulus and the search for a race have passed.
+/// Simulates a netlist under the stimulus that a text says, as the synchronous machine that it is: at each moment the
+/// clocked processes that the inputs wake run, and then the combinational ones once in order of level. It writes the
+/// trace that `run` writes. Nothing is written before the checker, the stimulus and the search for a race have passed.
 ///
 /// It takes the checker's memory, the stimulus's, the machine's, that of the names' blocks, and a byte for each net.
 ///

@@ -32,7 +32,7 @@ none_head p x xs h = by (p x) (list_any p xs) refl refl h
 abbrev IsIdle : List Course → (now t : ℕ) → Type 0
 IsIdle courses now t = (b : ℕ) → now < b → b ≤ t → list_any (λ course. is_busy course b) courses ≡ false
 
-elements_stay : (course : Course) (place now t n : ℕ) → now ≤ t → ((b : ℕ) → now < b → b ≤ t → is_busy course b ≡ false) → (es : List Element)
+pub elements_stay : (course : Course) (place now t n : ℕ) → now ≤ t → ((b : ℕ) → now < b → b ≤ t → is_busy course b ≡ false) → (es : List Element)
     → element_value course place es n t ≡ element_value course place es n now
 elements_stay course place now t n order idle [] = refl
 elements_stay course place now t n order idle (e ∷ es) =

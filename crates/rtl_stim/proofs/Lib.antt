@@ -20,5 +20,6 @@ pub mod ValueOf
 pub mod Edges
 pub mod Idle
 pub mod Quieting
+pub mod Meeting
 pub mod Racing
 pub mod Halving

@@ -1,5 +1,7 @@
--- What the search for the first race keeps: the times at which no input has one.
-use Rattle.std.specs.Prelude.{◌≡◌, IsTrue, length, take, slice_index, slice_index_or, ℕ, suc, ◌-◌, ◌<◌, ◌≤◌, List, Contains, Option, Some, None, IfSome}
+-- What the search for the first race keeps: the times at which inputs change, and those at which no clock has an edge with them.
+use Rattle.std.specs.Prelude.{◌≡◌, ◌⊎◌, IsTrue, length, take, slice_index, slice_index_or, ℕ, suc, ◌-◌, ◌<◌, ◌≤◌, List, Contains, Option, Some, None, IfSome}
+use Rattle.std.specs.BTreeSet.{BTreeSet, contains}
+use Rattle.std.specs.Ordering.{nat_cmp}
 use Rattle.vhdl_values.specs.Edges.{has_edge}
 use Rattle.rtl_model.specs.simulation.Netlist.{Edge, Rising}
 use Rattle.rtl_stim_lines.specs.Times.{all_nets, value_at}
@@ -36,10 +38,13 @@ IsWithin now stop found = IfSome found (λ t. (now < t) × (t ≤ stop))
 
 -- ---- at a time
 
+-- a net has an edge
+abbrev pub HasEdgeAt : StimulusView → (net : ℕ) → Edge → (t : ℕ) → Type 0
+HasEdgeAt s n edge t = IsTrue (has_edge edge (value_at s.inputs s.schedule n (t - 1)) (value_at s.inputs s.schedule n t))
+
 -- the clock at a place has its edge
 abbrev pub IsActiveAt : StimulusView → (clocks : List (ℕ × Edge)) → (t place : ℕ) → Type 0
-IsActiveAt s clocks t k =
-    IsTrue (has_edge (edge_at clocks k) (value_at s.inputs s.schedule (clock_at clocks k) (t - 1)) (value_at s.inputs s.schedule (clock_at clocks k) t))
+IsActiveAt s clocks t k = HasEdgeAt s (clock_at clocks k) (edge_at clocks k) t
 
 -- a net that is no clock, and changes
 abbrev pub IsChangedAt : StimulusView → (clocks : List (ℕ × Edge)) → (t net : ℕ) → Type 0
@@ -63,10 +68,32 @@ abbrev pub HasNoneHere : StimulusView → (clocks : List (ℕ × Edge)) → (inp
 HasNoneHere s clocks inputs t =
     (k j : ℕ) → k < length clocks → IsActiveAt s clocks t k → j < length inputs → IsChangedAt s clocks t (slice_index inputs j) → ⊥
 
--- The first inputs, with so many nets, have no race before a time. Where that is not past the stop, some input has one at it.
-pub record HasSearched (s : StimulusView) (clocks : List (ℕ × Edge)) (places many past : ℕ) : Type 0 where
+-- ---- the search
+
+-- one of these nets that is no clock changes
+abbrev pub Changes : StimulusView → (clocks : List (ℕ × Edge)) → (nets : List ℕ) → (t : ℕ) → Type 0
+Changes s clocks nets t = (n : ℕ) × Contains nets n × IsChangedAt s clocks t n
+
+-- the time is one of these
+abbrev pub IsAmong : BTreeSet ℕ → (t : ℕ) → Type 0
+IsAmong times t = IsTrue (contains nat_cmp times t)
+
+-- to the old times those were added, up to a last one, at which one of these nets changes
+pub record HasAdded (s : StimulusView) (clocks : List (ℕ × Edge)) (nets : List ℕ) (last : ℕ) (old new : BTreeSet ℕ) : Type 0 where
+  pub kept : (t : ℕ) → IsAmong old t → IsAmong new t
+  pub each : (t : ℕ) → 0 < t → t ≤ last → Changes s clocks nets t → IsAmong new t
+  pub only : (t : ℕ) → IsAmong new t → IsAmong old t ⊎ Changes s clocks nets t
+
+-- these are the times up to the stop at which one of the first inputs changes, which have so many nets
+pub record AreChanges (s : StimulusView) (clocks : List (ℕ × Edge)) (places many : ℕ) (times : BTreeSet ℕ) : Type 0 where
   pub many_are : many ≡ length (all_nets (take places s.inputs))
+  pub each : (t : ℕ) → 0 < t → t ≤ s.schedule.stop → Changes s clocks (all_nets (take places s.inputs)) t → IsAmong times t
+  pub only : (t : ℕ) → IsAmong times t → Changes s clocks (all_nets (take places s.inputs)) t
+
+-- The first clocks have no edge at one of these times before another. Where that is not past the stop, it is one of them, and some
+-- clock has its edge at it.
+pub record HasSearched (s : StimulusView) (clocks : List (ℕ × Edge)) (times : BTreeSet ℕ) (places past : ℕ) : Type 0 where
   pub some : 0 < past
   pub within : past ≤ suc s.schedule.stop
-  pub race : past ≤ s.schedule.stop → HasNoneHere s clocks (all_nets s.inputs) past → ⊥
-  pub none : (t : ℕ) → 0 < t → t < past → HasNoneHere s clocks (all_nets (take places s.inputs)) t
+  pub race : past ≤ s.schedule.stop → IsAmong times past × ((k : ℕ) × (k < length clocks) × IsActiveAt s clocks past k)
+  pub none : (t k : ℕ) → 0 < t → t < past → k < places → IsActiveAt s clocks t k → IsAmong times t → ⊥

@@ -1,21 +1,28 @@
 //! The first race under a stimulus.
 
-ghost use Rattle.std.specs.Prelude.{◌≡◌, false, ℕ, suc, ◌<◌, ◌≤◌, All, Contains, IsTrue, Some, None, IfSome, IfNone, length, slice_index};
+ghost use Rattle.std.specs.Prelude.{◌≡◌, false, ℕ, suc, ◌<◌, ◌≤◌, All, Contains, IsTrue, Some, None, IfSome, IfNone, IfOk, OnOk, length, slice_index};
 ghost use Rattle.rtl_model.specs.basics.Lists.{RisesBy};
 ghost use Rattle.rtl_model.specs.nets.CoreNetlist.{core_netlist};
 ghost use Rattle.rtl_model.specs.simulation.Races.{HasNoRace, IsFirstRace};
 ghost use Rattle.rtl_model.specs.simulation.Report as report;
 ghost use Rattle.rtl_model.specs.simulation.Report.{clock_key};
 ghost use Rattle.rtl_net.specs.Nets.{flat};
+ghost use Rattle.rtl_stim_lines.specs.Courses.{is_busy};
 ghost use Rattle.rtl_stim_lines.specs.Inputs.{input_at};
 ghost use Rattle.rtl_stim_lines.specs.Times.{all_nets, nets_of, value_at};
+ghost use Rattle.rtl_stim_lines.specs.View.{course_view};
 ghost use Rattle.rtl_stim.specs.Stimuli.{moments, inputs_at};
-ghost use Rattle.rtl_stim.specs.Quiet.{IsNoClock, IsActiveAt, IsChangedAt, IsRaceHere, HasNoneHere, HasSearched, clock_at};
+ghost use Rattle.rtl_stim.specs.Quiet.{IsNoClock, IsWithin, IsActiveAt, HasEdgeAt, IsChangedAt, IsRaceHere, HasNoneHere, clock_at, found_or_past};
+ghost use Rattle.rtl_stim.specs.Quiet.{AreChanges, HasAdded, HasSearched, IsAmong};
 
 use crate::filling::next_busy;
 use crate::ports::elements_at;
 use crate::stimulus::Stimulus;
+use rtl_agenda::NoMemory;
 use rtl_net::Net;
+use rtl_stim_lines::Course;
+use std::alloc::Global;
+use std::collections::BTreeSet;
 use vhdl_values::{Edge, edge};
 
 /// A data input that changes at an active edge of a clock, both by their nets, at a time in ns.
@@ -122,66 +129,137 @@ fn are_clocks(clocks: &[(usize, Edge)], nets: &[usize]) -> bool
     true
 }
 
+/// The first of these times after now, up to a last one, at which a course is busy.
+fn next_meeting(course: &Course, times: &BTreeSet<u64>, now: u64, last: u64) -> Option<u64>
+    ensures within { IsWithin now last result }
+    ensures among { IfSome result (λ t. IsAmong times.now t) }
+    ensures none { (t : ℕ) → now < t → t < found_or_past result last → IsTrue (is_busy (course_view course.now) t) → IsAmong times.now t → ⊥ }
+{
+    let mut seen = now;
+    while let Some(busy) = next_busy(course, seen, last) {
+        let time = next_of(times, busy)?;
+        if time == busy {
+            return Some(time);
+        }
+        seen = time - 1;
+    }
+    None
+}
+
+/// The first of these times that isn't before another.
+fn next_of(times: &BTreeSet<u64>, from: u64) -> Option<u64>
+    ensures found { IfSome result (λ t. (from ≤ t) × IsAmong times.now t) }
+    ensures none { (t : ℕ) → from ≤ t → IfSome result (λ found. t < found) → IsAmong times.now t → ⊥ }
+{
+    match times.range(from..).next() {
+        Some(time) => Some(*time),
+        None => None,
+    }
+}
+
 impl Stimulus {
-    /// The first time before another at which an input has a race, the other time where it has none. The input is that at a
-    /// place, and has these nets.
-    fn race_before(&self, clocks: &[(usize, Edge)], nets: &[usize], place: usize, past: u64) -> u64
+    /// Adds the times at which the input at a place changes, which has these nets. It takes memory for each of them.
+    fn add_changes(
+        &self,
+        clocks: &[(usize, Edge)],
+        nets: &[usize],
+        place: usize,
+        times: &mut BTreeSet<u64>,
+    ) -> Result<(), NoMemory>
         requires clocks { RisesBy clock_key clocks.now }
         requires there { place < length self.now.inputs }
         requires nets { nets.now ≡ nets_of (input_at self.now.inputs place) }
-        requires some { 0 < past }
-        ensures later { 0 < result }
-        ensures within { result ≤ past }
-        ensures race { result < past → HasNoneHere self.now clocks.now nets.now result → ⊥ }
-        ensures none { (t : ℕ) → 0 < t → t < result → HasNoneHere self.now clocks.now nets.now t }
+        ensures { OnOk result (HasAdded self.now clocks.now nets.now self.now.schedule.stop times.old times.new) }
     {
         let mut now = 0;
-        while let Some(time) = next_busy(&self.schedule.courses[place], now, past - 1) {
-            if let Some(race) = race_at(nets, clocks, self, time) {
-                return race.time;
+        while let Some(time) = next_busy(&self.schedule.courses[place], now, self.schedule.stop) {
+            if changed_input(self, clocks, nets, time).is_some() {
+                times.insert(time)?;
+            }
+            now = time;
+        }
+        Ok(())
+    }
+
+    /// The times up to the stop at which an input changes that is no clock. It takes memory for each of them.
+    fn change_times(
+        &self,
+        alloc: Global,
+        net: &Net,
+        clocks: &[(usize, Edge)],
+    ) -> Result<BTreeSet<u64>, NoMemory>
+        requires clocks { RisesBy clock_key clocks.now }
+        requires inputs { all_nets self.now.inputs ≡ net.now.inputs }
+        ensures { IfOk result (AreChanges self.now clocks.now (length self.now.inputs) (length net.now.inputs)) }
+    {
+        let inputs = net.inputs();
+        let mut times = BTreeSet::new(alloc);
+        let mut from = 0;
+        for place in 0..self.inputs.len() {
+            let to = from + elements_at(&self.inputs, place).len();
+            let nets = &inputs[from..to];
+            if !are_clocks(clocks, nets) {
+                self.add_changes(clocks, nets, place, &mut times)?;
+            }
+            from = to;
+        }
+        Ok(times)
+    }
+
+    /// The first of these times before another at which a net has an edge, the other time where there is none.
+    fn edge_before(&self, times: &BTreeSet<u64>, past: u64, net: usize, kind: Edge) -> u64
+        requires { 0 < past }
+        ensures later { 0 < result }
+        ensures within { result ≤ past }
+        ensures edge { result < past → IsAmong times.now result × HasEdgeAt self.now net kind result }
+        ensures none { (t : ℕ) → 0 < t → t < result → HasEdgeAt self.now net kind t → IsAmong times.now t → ⊥ }
+    {
+        let Some(place) = self.place_of(net) else {
+            return past;
+        };
+        let mut now = 0;
+        while let Some(time) = next_meeting(&self.schedule.courses[place], times, now, past - 1) {
+            if edge(kind, self.value(net, time - 1), self.value(net, time)) {
+                return time;
             }
             now = time;
         }
         past
     }
 
-    /// The first time with a race, the one behind the stop where there is none. It looks at the times at which an input changes
-    /// that is no clock.
-    fn first_time(&self, net: &Net, clocks: &[(usize, Edge)]) -> u64
-        requires clocks { RisesBy clock_key clocks.now }
-        requires inputs { all_nets self.now.inputs ≡ net.now.inputs }
-        ensures { HasSearched self.now clocks.now (length self.now.inputs) (length net.now.inputs) result }
+    /// The first of these times at which a clock has its edge, the one behind the stop where there is none.
+    fn first_time(&self, clocks: &[(usize, Edge)], times: &BTreeSet<u64>) -> u64
+        ensures { HasSearched self.now clocks.now times.now (length clocks.now) result }
     {
-        let inputs = net.inputs();
         let mut past = self.stop() + 1;
-        let mut from = 0;
-        for place in 0..self.inputs.len() {
-            let to = from + elements_at(&self.inputs, place).len();
-            let nets = &inputs[from..to];
-            if !are_clocks(clocks, nets) {
-                past = self.race_before(clocks, nets, place, past);
-            }
-            from = to;
+        for (clock, kind) in clocks {
+            past = self.edge_before(times, past, *clock, *kind);
         }
         past
     }
 }
 
 /// The earliest race of a netlist whose clocks these are, with the lowest data input that changes and the lowest clock with an
-/// active edge; `None` exactly where no moment up to the stop has one. It takes no memory, and passes over the edges of
-/// clocks at which no other input may change.
-pub fn first_race(net: &Net, clocks: &[(usize, Edge)], stimulus: &Stimulus) -> Option<Race>
+/// active edge; `None` exactly where no moment up to the stop has one. It takes memory for each time at which a data input
+/// changes, and passes over the edges of clocks at which none does.
+pub fn first_race(
+    alloc: Global,
+    net: &Net,
+    clocks: &[(usize, Edge)],
+    stimulus: &Stimulus,
+) -> Result<Option<Race>, NoMemory>
     requires clocks { report.AreClocks (core_netlist (flat net.now)) clocks.now }
     requires inputs { all_nets stimulus.now.inputs ≡ net.now.inputs }
-    ensures found { IfSome result (λ race. (m : ℕ) × (suc m < length (moments stimulus.now))
+    ensures found { IfOk result (λ found. IfSome found (λ race. (m : ℕ) × (suc m < length (moments stimulus.now))
         × (slice_index (moments stimulus.now) (suc m) ≡ race.time)
-        × IsFirstRace (core_netlist (flat net.now)) clocks.now (inputs_at stimulus.now) m race.input race.clock) }
-    ensures none { IfNone result ((last : ℕ) → HasNoRace (core_netlist (flat net.now)) (inputs_at stimulus.now) last) }
+        × IsFirstRace (core_netlist (flat net.now)) clocks.now (inputs_at stimulus.now) m race.input race.clock)) }
+    ensures none { IfOk result (λ found. IfNone found ((last : ℕ) → HasNoRace (core_netlist (flat net.now)) (inputs_at stimulus.now) last)) }
 {
     net.is_elaborated();
-    let time = stimulus.first_time(net, clocks);
+    let times = stimulus.change_times(alloc, net, clocks)?;
+    let time = stimulus.first_time(clocks, &times);
     if stimulus.stop() < time {
-        return None;
+        return Ok(None);
     }
-    race_at(net.inputs(), clocks, stimulus, time)
+    Ok(race_at(net.inputs(), clocks, stimulus, time))
 }

@@ -75,7 +75,7 @@ impl Stimulus {
     }
 
     /// The place of the only input that may have a net.
-    fn place_of(&self, net: usize) -> Option<usize>
+    pub(crate) fn place_of(&self, net: usize) -> Option<usize>
         ensures within { IfSome result (λ place. place < length self.now.inputs) }
         ensures only { (place : ℕ) → place < length self.now.inputs → Contains (nets_of (input_at self.now.inputs place)) net
             → result ≡ Some place }

@@ -1,30 +1,14 @@
 -- Marked processes that run, or that would leave nothing.
-use Rattle.std.proofs.Common.{◌≡◌, ℕ, ◌+◌, ◌<◌, ◌≤◌, Bool, true, false, List, length, get_or, set, Option, None, refl, sym, ap, subst, ◌∙◌, arith, ◌⊎◌, inl, inr}
-use Rattle.std.proofs.lemmas.Bool.{cases_Bool, cases_lt, cases_eq}
-use Rattle.std.proofs.lemmas.List.{get_or-set_same, get_or-set_other, get_or_past, length-set}
-use Rattle.rtl_model.specs.simulation.Netlist.{Netlist, process, target, HasPlace, IsCombinational}
+use Rattle.std.proofs.Common.{◌≡◌, ℕ, ◌+◌, ◌<◌, Bool, true, false, List, length, get_or, set, Option, None, refl, sym, ap, subst, ◌∙◌, arith, ◌⊎◌, inl, inr}
+use Rattle.std.proofs.lemmas.Bool.{cases_Bool, cases_eq}
+use Rattle.std.proofs.lemmas.List.{get_or-set_same, get_or-set_other, length-set}
+use Rattle.rtl_model.specs.simulation.Netlist.{Netlist, process, target, HasPlace}
 use Rattle.rtl_model.specs.simulation.Machine.{entry_or}
 use Rattle.rtl_model.proofs.simulation.Leveled.{Leveled}
 use Rattle.rtl_net_layout.specs.NextMarks.{AreUnmarked}
-use Rattle.rtl_synchronous.specs.Scheduled.{IsNext}
-use Rattle.rtl_synchronous.specs.Steps.{AllTakeOver, HaveRun, IsDrivenByMarked}
+use Rattle.rtl_synchronous.specs.Steps.{AllTakeOver, HaveRun, IsDrivenByMarked, SomeHaveRun}
 use Rattle.rtl_synchronous.proofs.Settling.{one_process}
-
--- of the marked processes those before the i-th have run, or would leave nothing; the others are as they were
-pub record AreRunning (net : Netlist) (before v : List ℕ) (marked : List Bool) (entries : ℕ → List (Option ℕ)) (i : ℕ) (still : List Bool) : Type 0 where
-  pub as_many : length still ≡ length marked
-  pub rest : (p : ℕ) → i ≤ p → get_or still p false ≡ get_or marked p false
-  pub fewer : (p : ℕ) → get_or still p false ≡ true → get_or marked p false ≡ true
-  pub ran : (p : ℕ) → p < i → get_or still p false ≡ true → entries p ≡ (process net p).effect before v
-  pub asleep : (p place : ℕ) → p < i → get_or marked p false ≡ true → get_or still p false ≡ false → get_or ((process net p).effect before v) place None ≡ None
-
--- between a process and the next one that isn't combinational none is marked, where no combinational one is
-pub none_between : (net : Netlist) (marked : List Bool) → ((p : ℕ) → get_or marked p false ≡ true → IsCombinational net p → ⊥) → (from next : ℕ) → IsNext net from next → AreUnmarked marked from next
-none_between net marked clocked from next N k low high = by (cases_Bool (get_or marked k false))
-  where
-    by : (get_or marked k false ≡ true) ⊎ (get_or marked k false ≡ false) → get_or marked k false ≡ false
-    by (inl h) = absurd (clocked k h (N.between k low high))
-    by (inr f) = f
+use Rattle.rtl_synchronous.proofs.Visiting.{IsAmong, one_more_among}
 
 -- one more place that isn't marked
 pub unmarked_more : (marks : List Bool) (i j : ℕ) → get_or marks i false ≡ false → AreUnmarked marks (i + 1) j → AreUnmarked marks i j
@@ -34,98 +18,100 @@ unmarked_more marks i j none more k low high = by (cases_eq k i)
     by (inl e) = ap (λ (m : ℕ). get_or marks m false) e ∙ none
     by (inr ne) = more k (omega (arith, low, ne)) high
 
-module _ (net : Netlist) (before v : List ℕ) (marked : List Bool) where
-  pub none_running : (entries : ℕ → List (Option ℕ)) → AreRunning net before v marked entries 0 marked
-  none_running entries = record {
+-- no place is marked and isn't
+pub clash : {b : Bool} → b ≡ true → b ≡ false → ⊥
+clash h f = let t : true ≡ false = sym h ∙ f in cc
+
+module _ (net : Netlist) (before v : List ℕ) where
+  pub none_has_run : (these : ℕ → Type 0) → ((p : ℕ) → these p → ⊥) → (marked : List Bool) (entries : ℕ → List (Option ℕ)) → SomeHaveRun net before v these marked marked entries entries
+  none_has_run these none marked entries = record {
     as_many = refl;
-    rest = λ p l. refl;
     fewer = λ p h. h;
-    ran = λ p l. absurd (omega (arith, l));
-    asleep = λ p place l. absurd (omega (arith, l));
+    ran = λ p t. absurd (none p t);
+    stay = λ p e. e;
+    asleep = λ p place h f. absurd (clash h f);
   }
 
-  module _ (entries : ℕ → List (Option ℕ)) (i : ℕ) (still : List Bool) (R : AreRunning net before v marked entries i still) where
-    -- none of the next ones is marked
-    pub some_unmarked : (j : ℕ) → i ≤ j → AreUnmarked still i j → AreRunning net before v marked entries j still
-    some_unmarked j later none = record {
-      as_many = R.as_many;
-      rest = λ p l. R.rest p (omega (arith, l, later));
-      fewer = R.fewer;
-      ran = λ p l h. ran p h (cases_lt p i) l;
-      asleep = λ p place l h f. asleep p place h f (cases_lt p i) l;
+  -- and then others
+  pub others_have_run : (these more all : ℕ → Type 0) (a b c : List Bool) (d e f : ℕ → List (Option ℕ)) → SomeHaveRun net before v these a b d e → SomeHaveRun net before v more b c e f
+      → ((p : ℕ) → all p → these p ⊎ more p) → SomeHaveRun net before v all a c d f
+  others_have_run these more all a b c d e f R S either = record {
+    as_many = S.as_many ∙ R.as_many;
+    fewer = λ p h. R.fewer p (S.fewer p h);
+    ran = λ p t h. ran p h (either p t);
+    stay = λ p is. S.stay p (R.stay p is);
+    asleep = λ p place h none. asleep p place h none (cases_Bool (get_or b p false));
+  }
+    where
+      ran : (p : ℕ) → get_or c p false ≡ true → these p ⊎ more p → f p ≡ (process net p).effect before v
+      ran p h (inl t) = S.stay p (R.ran p t (S.fewer p h))
+      ran p h (inr t) = S.ran p t h
+
+      asleep : (p place : ℕ) → get_or a p false ≡ true → get_or c p false ≡ false → (get_or b p false ≡ true) ⊎ (get_or b p false ≡ false) → get_or ((process net p).effect before v) place None ≡ None
+      asleep p place h none (inl t) = S.asleep p place t none
+      asleep p place h none (inr n) = R.asleep p place h n
+
+  -- and then the next of a list
+  pub next_has_run : (processes : List ℕ) (i p : ℕ) → p ≡ get_or processes i 0 → (a b c : List Bool) (d e f : ℕ → List (Option ℕ)) → SomeHaveRun net before v (IsAmong processes i) a b d e
+      → SomeHaveRun net before v (λ q. q ≡ p) b c e f → SomeHaveRun net before v (IsAmong processes (i + 1)) a c d f
+  next_has_run processes i p is a b c d e f R S =
+      others_have_run (IsAmong processes i) (λ q. q ≡ p) (IsAmong processes (i + 1)) a b c d e f R S (λ q t. rw is (one_more_among processes i q t))
+
+  module _ (i : ℕ) (marked : List Bool) (entries : ℕ → List (Option ℕ)) where
+    -- one that isn't marked
+    pub one_is_idle : get_or marked i false ≡ false → SomeHaveRun net before v (λ p. p ≡ i) marked marked entries entries
+    one_is_idle none = record {
+      as_many = refl;
+      fewer = λ p h. h;
+      ran = λ p is h. absurd (clash h (ap (λ (k : ℕ). get_or marked k false) is ∙ none));
+      stay = λ p e. e;
+      asleep = λ p place h f. absurd (clash h f);
+    }
+
+    -- one has run, and the others' entries stay
+    pub one_has_run : (entries' : ℕ → List (Option ℕ)) → entries' i ≡ (process net i).effect before v → ((p : ℕ) → (p ≡ i → ⊥) → entries' p ≡ entries p)
+        → SomeHaveRun net before v (λ p. p ≡ i) marked marked entries entries'
+    one_has_run entries' now others = record {
+      as_many = refl;
+      fewer = λ p h. h;
+      ran = λ p is h. here p is;
+      stay = λ p e. stay p e (cases_eq p i);
+      asleep = λ p place h f. absurd (clash h f);
     }
       where
-        ran : (p : ℕ) → get_or still p false ≡ true → (p < i) ⊎ (i ≤ p) → p < j → entries p ≡ (process net p).effect before v
-        ran p h (inl less) l = R.ran p less h
-        ran p h (inr le) l = let f = none p le l in cc
+        here : (p : ℕ) → p ≡ i → entries' p ≡ (process net p).effect before v
+        here p is = subst (λ (q : ℕ). entries' q ≡ (process net q).effect before v) (sym is) now
 
-        asleep : (p place : ℕ) → get_or marked p false ≡ true → get_or still p false ≡ false → (p < i) ⊎ (i ≤ p) → p < j → get_or ((process net p).effect before v) place None ≡ None
-        asleep p place h f (inl less) l = R.asleep p place less h f
-        asleep p place h f (inr le) l = let was = R.rest p le in let none_there = none p le l in cc
+        stay : (p : ℕ) → entries p ≡ (process net p).effect before v → (p ≡ i) ⊎ (p ≡ i → ⊥) → entries' p ≡ (process net p).effect before v
+        stay p e (inl is) = here p is
+        stay p e (inr ne) = others p ne ∙ e
 
-    -- on to the next one that isn't combinational
-    pub next_running : ((p : ℕ) → get_or marked p false ≡ true → IsCombinational net p → ⊥) → (next : ℕ) → IsNext net i next → AreRunning net before v marked entries next still
-    next_running clocked next N = some_unmarked next N.later (none_between net still (λ p h. clocked p (R.fewer p h)) i next N)
-
-    -- the i-th has run, and the others' entries stay
-    pub one_ran : (entries' : ℕ → List (Option ℕ)) → entries' i ≡ (process net i).effect before v → ((p : ℕ) → (p ≡ i → ⊥) → entries' p ≡ entries p) → get_or still i false ≡ true
-        → AreRunning net before v marked entries' (i + 1) still
-    one_ran entries' now stay mark = record {
-      as_many = R.as_many;
-      rest = λ p l. R.rest p (omega (arith, l));
-      fewer = R.fewer;
-      ran = λ p l h. ran p h (cases_lt p i) l;
-      asleep = λ p place l h f. asleep p place h f (cases_lt p i) l;
-    }
-      where
-        ran : (p : ℕ) → get_or still p false ≡ true → (p < i) ⊎ (i ≤ p) → p < i + 1 → entries' p ≡ (process net p).effect before v
-        ran p h (inl less) l = stay p (λ e. absurd (omega (arith, e, less))) ∙ R.ran p less h
-        ran p h (inr le) l = let e : i ≡ p = omega (arith, le, l) in subst (λ (q : ℕ). entries' q ≡ (process net q).effect before v) e now
-
-        asleep : (p place : ℕ) → get_or marked p false ≡ true → get_or still p false ≡ false → (p < i) ⊎ (i ≤ p) → p < i + 1 → get_or ((process net p).effect before v) place None ≡ None
-        asleep p place h f (inl less) l = R.asleep p place less h f
-        asleep p place h f (inr le) l = let e : p ≡ i = omega (arith, le, l) in let g = rw e at f in cc
-
-    -- the i-th would leave nothing
-    pub one_asleep : i < length still → ((place : ℕ) → get_or ((process net i).effect before v) place None ≡ None)
-        → AreRunning net before v marked entries (i + 1) (set still i false)
-    one_asleep there nothing = record {
-      as_many = length-set still i false ∙ R.as_many;
-      rest = λ p l. get_or-set_other still i p false false (omega (arith, l)) ∙ R.rest p (omega (arith, l));
+    -- one would leave nothing
+    pub one_sleeps : i < length marked → ((place : ℕ) → get_or ((process net i).effect before v) place None ≡ None)
+        → SomeHaveRun net before v (λ p. p ≡ i) marked (set marked i false) entries entries
+    one_sleeps there nothing = record {
+      as_many = length-set marked i false;
       fewer = λ p h. fewer p h (cases_eq p i);
-      ran = λ p l h. ran p l h (cases_eq p i);
-      asleep = λ p place l h f. asleep p place l h f (cases_eq p i);
+      ran = λ p is h. absurd (off p is h);
+      stay = λ p e. e;
+      asleep = λ p place h f. asleep p place h f (cases_eq p i);
     }
       where
-        off : (p : ℕ) → p ≡ i → get_or (set still i false) p false ≡ true → ⊥
-        off p e h = let f = get_or-set_same still i false false there in let g = rw e at h in cc
+        off : (p : ℕ) → p ≡ i → get_or (set marked i false) p false ≡ true → ⊥
+        off p e h = clash h (ap (λ (k : ℕ). get_or (set marked i false) k false) e ∙ get_or-set_same marked i false false there)
 
-        fewer : (p : ℕ) → get_or (set still i false) p false ≡ true → (p ≡ i) ⊎ (p ≡ i → ⊥) → get_or marked p false ≡ true
+        fewer : (p : ℕ) → get_or (set marked i false) p false ≡ true → (p ≡ i) ⊎ (p ≡ i → ⊥) → get_or marked p false ≡ true
         fewer p h (inl e) = absurd (off p e h)
-        fewer p h (inr ne) = R.fewer p (sym (get_or-set_other still i p false false ne) ∙ h)
+        fewer p h (inr ne) = sym (get_or-set_other marked i p false false ne) ∙ h
 
-        ran : (p : ℕ) → p < i + 1 → get_or (set still i false) p false ≡ true → (p ≡ i) ⊎ (p ≡ i → ⊥) → entries p ≡ (process net p).effect before v
-        ran p l h (inl e) = absurd (off p e h)
-        ran p l h (inr ne) = R.ran p (omega (arith, l, ne)) (sym (get_or-set_other still i p false false ne) ∙ h)
-
-        asleep : (p place : ℕ) → p < i + 1 → get_or marked p false ≡ true → get_or (set still i false) p false ≡ false → (p ≡ i) ⊎ (p ≡ i → ⊥)
+        asleep : (p place : ℕ) → get_or marked p false ≡ true → get_or (set marked i false) p false ≡ false → (p ≡ i) ⊎ (p ≡ i → ⊥)
             → get_or ((process net p).effect before v) place None ≡ None
-        asleep p place l h f (inl e) = subst (λ (q : ℕ). get_or ((process net q).effect before v) place None ≡ None) (sym e) (nothing place)
-        asleep p place l h f (inr ne) = R.asleep p place (omega (arith, l, ne)) h (sym (get_or-set_other still i p false false ne) ∙ f)
+        asleep p place h f (inl e) = subst (λ (q : ℕ). get_or ((process net q).effect before v) place None ≡ None) (sym e) (nothing place)
+        asleep p place h f (inr ne) = absurd (clash h (sym (get_or-set_other marked i p false false ne) ∙ f))
 
-    pub all_run : length marked ≤ i → HaveRun net before v marked still entries
-    all_run all = record {
-      fewer = R.fewer;
-      ran = λ p h. R.ran p (within p (R.fewer p h)) h;
-      asleep = λ p place h f. R.asleep p place (within p h) h f;
-    }
-      where
-        within : (p : ℕ) → get_or marked p false ≡ true → p < i
-        within p h = by (cases_lt p (length marked))
-          where
-            by : (p < length marked) ⊎ (length marked ≤ p) → p < i
-            by (inl l) = omega (arith, l, all)
-            by (inr l) = let f = get_or_past marked p false l in cc
+  pub all_have_run : (these : ℕ → Type 0) (marked still : List Bool) (was entries : ℕ → List (Option ℕ)) → SomeHaveRun net before v these marked still was entries
+      → ((p : ℕ) → get_or marked p false ≡ true → these p) → HaveRun net before v marked still entries
+  all_have_run these marked still was entries R all = record { fewer = R.fewer; ran = λ p h. R.ran p (all p (R.fewer p h)) h; asleep = R.asleep }
 
 -- what is taken over of those that have run is what is taken over of all
 pub with_asleep : (net : Netlist) → Leveled net → (before v w : List ℕ) (marked still : List Bool) (entries : ℕ → List (Option ℕ)) → HaveRun net before v marked still entries

@@ -4,6 +4,7 @@ pub mod Starts
 pub mod Edges
 pub mod Alike
 pub mod Marking
+pub mod Visiting
 pub mod Setting
 pub mod Taking
 pub mod Whole

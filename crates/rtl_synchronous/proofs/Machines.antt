@@ -7,8 +7,9 @@ use Rattle.vhdl_values.specs.declared.scalar.Nine.{Nine}
 use Rattle.rtl_model.specs.bodies.Types.{ElementType}
 use Rattle.rtl_model.specs.nets.FlatNetlist.{FlatProcess}
 use Rattle.rtl_model.specs.simulation.Levels.{AreLevels}
-use Rattle.rtl_model.specs.simulation.Netlist.{Netlist, Edge, Process, no_process, target, IsClockedBy, IsCombinational}
+use Rattle.rtl_model.specs.simulation.Netlist.{Netlist, Edge, Process, no_process, target, IsClockedBy, IsCombinational, IsInput}
 use Rattle.rtl_model.specs.simulation.Cycle.{with_changes, with_inputs}
+use Rattle.rtl_model.specs.simulation.Accepted.{IsAccepted}
 use Rattle.rtl_model.specs.simulation.Elaborated.{IsElaborated}
 use Rattle.rtl_model.specs.simulation.Machine.{IsFirst, IsStep}
 use Rattle.rtl_model.specs.simulation.Races.{IsRace}
@@ -16,6 +17,7 @@ use Rattle.rtl_model.specs.simulation.Range.{IsValuation}
 use Rattle.rtl_model.proofs.basics.Lists.{Contains-none, get_or-map_within}
 use Rattle.rtl_model.proofs.simulation.Faultless.{faultless}
 use Rattle.rtl_model.proofs.simulation.Leveled.{leveled}
+use Rattle.rtl_model.proofs.simulation.Held.{kinds_below}
 use Rattle.rtl_model.proofs.simulation.Starting.{inputs_at, others_at, target_no_input}
 use Rattle.rtl_eval.specs.Runs.{Outcome}
 use Rattle.rtl_kernel.specs.kernel.Simulation.{changes_of}
@@ -25,10 +27,11 @@ use Rattle.rtl_kernel.proofs.Inputs.{inputs_there, named}
 use Rattle.rtl_net.specs.Nets.{NetlistView, flat}
 use Rattle.rtl_net.specs.Core.{core}
 use Rattle.rtl_synchronous.specs.Kept.{IsMachine, MayRun}
-use Rattle.rtl_synchronous.specs.Marks.{AreBelow, Marks, HasNoMark}
+use Rattle.rtl_synchronous.specs.Marks.{AllFollow, AreBelow, Follows, IsGiven, Marks, HasNoMark}
 use Rattle.rtl_synchronous.specs.Running.{IsSettled}
 use Rattle.rtl_synchronous.specs.Scheduled.{IsSchedule, clocked_wakes, without_level}
 use Rattle.rtl_synchronous.specs.Steps.{ComesToRest}
+use Rattle.rtl_synchronous.proofs.Awake.{clash}
 use Rattle.rtl_synchronous.proofs.Changed.{changed_alike, changed_in_range}
 use Rattle.rtl_synchronous.proofs.Edges.{each_reset_is_kept}
 use Rattle.rtl_synchronous.proofs.Settling.{each_stays_settled}
@@ -69,14 +72,23 @@ module _ {E : Type 0} (process : E → FlatProcess) (types : E → List ElementT
       pub now_in_range : IsValuation the_net now
       now_in_range = changed_in_range (flat net) K.may_run.in_range cs inputs v now K.at_rest.values_in_range A
 
-      module _ (woken' dirty' : List Bool) (W : Marks clocked (λ n. ⊤) v now woken woken') (D : Marks readers (λ n. ⊤) v now dirty dirty') where
+      module _ (woken' dirty' : List Bool) (W : Marks clocked (IsGiven (changes_of cs)) v now woken woken') (D : Marks readers (λ n. ⊤) v now dirty dirty') where
         -- what is woken is clocked
         pub woken_clocked : (p : ℕ) → get_or woken' p false ≡ true → IsCombinational the_net p → ⊥
         woken_clocked p h c = by (W.no_other p h)
           where
-            by : (get_or woken p false ≡ true) ⊎ ((n : ℕ) × ⊤ × Contains (get_or clocked n []) p) → ⊥
+            by : (get_or woken p false ≡ true) ⊎ ((n : ℕ) × IsGiven (changes_of cs) n × Contains (get_or clocked n []) p) → ⊥
             by (inl old) = let none = K.none_woken p in cc
             by (inr (n, _, f)) = stepping.followers_clocked the_net is_elaborated K.may_run.accepted order readers clocked K.schedule n p f c
+
+        -- and follows a net that is given a value
+        pub woken_follow : AllFollow clocked (IsGiven (changes_of cs)) woken'
+        woken_follow p h = by (W.no_other p h)
+          where
+            by : (get_or woken p false ≡ true) ⊎ ((n : ℕ) × IsGiven (changes_of cs) n × Contains (get_or clocked n []) p)
+                → (n : ℕ) × IsGiven (changes_of cs) n × Contains (get_or clocked n []) p
+            by (inl old) = absurd (clash old (K.none_woken p))
+            by (inr f) = f
 
         -- what isn't marked is settled with the new inputs too
         pub still_clean : (k : ℕ) → k < length order → get_or dirty' k false ≡ false → IsSettled the_net now (get_or order k 0)
@@ -91,7 +103,7 @@ module _ {E : Type 0} (process : E → FlatProcess) (types : E → List ElementT
 
         module _ (no_race : IsRace the_net (λ n. get_or v n 0) given → ⊥) (w : List ℕ) (C : ComesToRest the_net woken' before now w) where
           pub is_step : IsStep the_net v given w
-          is_step = stepping.is_step the_net is_elaborated K.may_run.accepted order readers clocked K.schedule before v K.at_rest given no_race now w now_is woken woken' W C
+          is_step = stepping.is_step the_net is_elaborated K.may_run.accepted order readers clocked K.schedule before v K.at_rest given no_race now w now_is woken woken' (IsGiven (changes_of cs)) W C
 
           pub kept : (runs' : List Outcome) (before' : List ℕ) (dirty'' woken'' : List Bool) → MayRun process types most net bodies runs' → IsValuation the_net w → AreChanged (changes_of cs) before before'
               → length dirty'' ≡ length order → length woken'' ≡ length net.processes → HasNoMark dirty'' → HasNoMark woken''
@@ -138,6 +150,23 @@ module _ (net : Netlist) (levels : List (Option ℕ)) (greatest : ℕ) (V : AreL
       let (level, e, _) = V.combinational p c in
       let f = get_or-map_within without_level levels p None false (rw (V.each_process) c.0) ∙ ap without_level e in
       cc
+
+  -- those follow their clocks, which are inputs
+  pub marked_follow : IsElaborated net → IsAccepted net → (order : List ℕ) (readers clocked : List (List ℕ)) → IsSchedule net order readers clocked
+      → (nets : ℕ → Type 0) → ((n : ℕ) → IsInput net n → nets n) → AllFollow clocked nets (map without_level levels)
+  marked_follow E A order readers clocked S nets inputs p h = by (cases_lt p (length net.processes))
+    where
+      kind : p < length net.processes → IsCombinational net p ⊎ ((clock : ℕ) × (edge : Edge) × IsClockedBy net p clock edge) → (n : ℕ) × nets n × Follows clocked n p
+      kind l (inl c) = absurd (marked_clocked p h c)
+      kind l (inr (clock, edge, is)) = (
+        clock,
+        inputs clock ((faultless net A).clock_is_input p clock edge is),
+        stepping.clocked_follows net E A order readers clocked S p clock clock edge is l ((faultless net A).clock_wakes p clock edge is),
+      )
+
+      by : (p < length net.processes) ⊎ (length net.processes ≤ p) → (n : ℕ) × nets n × Follows clocked n p
+      by (inl l) = kind l (kinds_below net (faultless net A) p l)
+      by (inr l) = absurd (clash h (get_or_past (map without_level levels) p false (rw (length-map, V.each_process) l)))
 
 module _ {E : Type 0} (process : E → FlatProcess) (types : E → List ElementType) (most : E → ℕ) (net : NetlistView) (bodies : List E) (order : List ℕ) (readers clocked : List (List ℕ))
     (runs : List Outcome) (may : MayRun process types most net bodies runs) (S : IsSchedule (core net) order readers clocked)

@@ -1,6 +1,5 @@
 -- Values that come to rest are the machine's next.
 use Rattle.std.proofs.Common.{◌≡◌, ℕ, ◌<◌, Bool, true, false, List, [], length, get_or, map, None, refl, sym, ap, subst, ◌∙◌, arith, ◌⊎◌, inl, inr, Contains}
-use Rattle.std.specs.Prelude.{⊤}
 use Rattle.std.proofs.lemmas.Bool.{cases_Bool, cases_eq}
 use Rattle.rtl_model.proofs.basics.Lists.{get_or-map_within}
 use Rattle.rtl_model.specs.simulation.Netlist.{Netlist, Edge, process, no_process, target, HasPlace, IsCombinational, IsClockedBy, IsInput}
@@ -58,7 +57,7 @@ module _ (net : Netlist) (E : IsElaborated net) (A : IsAccepted net) where
 
   module _ (order : List ℕ) (readers clocked : List (List ℕ)) (S : IsSchedule net order readers clocked) where
     -- a clocked process follows what it is sensitive to
-    clocked_follows : (p n clock : ℕ) (edge : Edge) → IsClockedBy net p clock edge → p < length net.processes → Contains (process net p).wakes n → Follows clocked n p
+    pub clocked_follows : (p n clock : ℕ) (edge : Edge) → IsClockedBy net p clock edge → p < length net.processes → Contains (process net p).wakes n → Follows clocked n p
     clocked_follows p n clock edge (reset, is) l c =
         let k : is_clocked (process net p).kind ≡ true = ap is_clocked is in
         let row : get_or (map clocked_wakes net.processes) p [] ≡ (process net p).wakes = get_or-map_within clocked_wakes net.processes p no_process [] l ∙ rw k refl in
@@ -73,7 +72,7 @@ module _ (net : Netlist) (E : IsElaborated net) (A : IsAccepted net) where
         absurd (omega (arith, within))
 
     module _ (before v : List ℕ) (R : IsAtRest net before v) (inputs : ℕ → ℕ) (no_race : IsRace net (λ n. get_or v n 0) inputs → ⊥)
-        (now w : List ℕ) (now_is : now ≡ with_inputs net inputs v) (idle woken : List Bool) (M : Marks clocked (λ n. ⊤) v now idle woken) (C : ComesToRest net woken before now w) where
+        (now w : List ℕ) (now_is : now ≡ with_inputs net inputs v) (idle woken : List Bool) (nets : ℕ → Type 0) (M : Marks clocked nets v now idle woken) (C : ComesToRest net woken before now w) where
       each_net : length v ≡ length net.start
       each_net = R.solves.each_net
 

@@ -1,84 +1,84 @@
 -- Entries of several processes that are taken over, process by process.
-use Rattle.std.proofs.Common.{◌≡◌, ℕ, ◌+◌, ◌<◌, ◌≤◌, Bool, true, false, List, length, get_or, Option, Some, None, refl, sym, ap, subst, ◌∙◌, arith, ◌⊎◌, inl, inr, ◌==◌}
+use Rattle.std.proofs.Common.{◌≡◌, ℕ, ◌<◌, Bool, true, false, List, length, get_or, set, Option, Some, None, refl, sym, ap, subst, ◌∙◌, ◌⊎◌, inl, inr, ◌==◌}
 use Rattle.std.specs.List.{list_any}
-use Rattle.std.proofs.lemmas.Bool.{cases_lt, cases_Bool}
-use Rattle.std.proofs.lemmas.List.{get_or_past, get_or_default}
+use Rattle.std.proofs.lemmas.Bool.{cases_Bool, cases_eq}
+use Rattle.std.proofs.lemmas.List.{get_or_default, get_or-set_other, get_or-set_same, length-set}
 use Rattle.rtl_model.proofs.basics.Lists.{contains_in, in_contains}
 use Rattle.rtl_model.specs.simulation.Netlist.{Netlist, process, target, HasPlace}
 use Rattle.rtl_model.specs.simulation.Machine.{entry_or}
 use Rattle.rtl_model.specs.simulation.Range.{IsValuation, limit}
 use Rattle.rtl_model.proofs.simulation.Leveled.{Leveled}
 use Rattle.rtl_model.proofs.simulation.Range.{entry_or_below}
-use Rattle.rtl_net_layout.specs.NextMarks.{AreUnmarked}
+use Rattle.rtl_synchronous.specs.Marks.{HasNoMark}
 use Rattle.rtl_synchronous.specs.Running.{TakesOver}
-use Rattle.rtl_synchronous.specs.Steps.{AllTakeOver}
+use Rattle.rtl_synchronous.specs.Steps.{AllTakeOver, SomeTakeOver}
+use Rattle.rtl_synchronous.proofs.Awake.{clash}
 use Rattle.rtl_synchronous.proofs.Settling.{one_process}
 
--- of the marked processes those before the i-th are done
-pub record AreTaking (net : Netlist) (marked : List Bool) (entries : ℕ → List (Option ℕ)) (i : ℕ) (v w : List ℕ) : Type 0 where
-  pub each_net : length w ≡ length v
-  pub taken : (p place : ℕ) → p < i → get_or marked p false ≡ true → HasPlace net p place
-      → get_or w (target net p place) 0 ≡ entry_or (get_or (entries p) place None) (get_or v (target net p place) 0)
-  pub others : (n : ℕ) → ((p place : ℕ) → p < i → get_or marked p false ≡ true → HasPlace net p place → target net p place ≡ n → ⊥) → get_or w n 0 ≡ get_or v n 0
+module _ (net : Netlist) (entries : ℕ → List (Option ℕ)) where
+  pub none_takes_over : (marked : List Bool) (v : List ℕ) → SomeTakeOver net marked marked entries v v
+  none_takes_over marked v = record {
+    as_many = refl;
+    fewer = λ p h. h;
+    each_net = refl;
+    on_targets = λ p place m f h. absurd (clash m f);
+    on_others = λ n free. refl;
+  }
 
-pub none_taken : (net : Netlist) (marked : List Bool) (entries : ℕ → List (Option ℕ)) (v : List ℕ) → AreTaking net marked entries 0 v v
-none_taken net marked entries v = record { each_net = refl; taken = λ p place l. absurd (omega (arith, l)); others = λ n free. refl }
+  pub one_takes_over : (i : ℕ) (marked : List Bool) (v w : List ℕ) → i < length marked → get_or marked i false ≡ true → TakesOver (process net i).drives (entries i) v w
+      → SomeTakeOver net marked (set marked i false) entries v w
+  one_takes_over i marked v w there mark O = record {
+    as_many = length-set marked i false;
+    fewer = λ p h. fewer p h (cases_eq p i);
+    each_net = O.each_net;
+    on_targets = λ p place m f. on_targets p place m f (cases_eq p i);
+    on_others = λ n free. O.on_others n (λ place h t. free i place mark (get_or-set_same marked i false false there) h t);
+  }
+    where
+      fewer : (p : ℕ) → get_or (set marked i false) p false ≡ true → (p ≡ i) ⊎ (p ≡ i → ⊥) → get_or marked p false ≡ true
+      fewer p h (inl e) = ap (λ (k : ℕ). get_or marked k false) e ∙ mark
+      fewer p h (inr ne) = sym (get_or-set_other marked i p false false ne) ∙ h
 
--- what isn't marked up to one place and on to the next isn't up to that
-pub off_to : (marked : List Bool) (i j : ℕ) → ((k : ℕ) → k < i → get_or marked k false ≡ false) → AreUnmarked marked i j → (k : ℕ) → k < j → get_or marked k false ≡ false
-off_to marked i j off none k l = by (cases_lt k i)
-  where
-    by : (k < i) ⊎ (i ≤ k) → get_or marked k false ≡ false
-    by (inl less) = off k less
-    by (inr le) = none k le l
+      on_targets : (p place : ℕ) → get_or marked p false ≡ true → get_or (set marked i false) p false ≡ false → (p ≡ i) ⊎ (p ≡ i → ⊥) → HasPlace net p place
+          → get_or w (target net p place) 0 ≡ entry_or (get_or (entries p) place None) (get_or v (target net p place) 0)
+      on_targets p place m f (inl e) = rw e (λ (h : HasPlace net i place). O.on_targets place h)
+      on_targets p place m f (inr ne) = absurd (clash m (sym (get_or-set_other marked i p false false ne) ∙ f))
 
-module _ (net : Netlist) (L : Leveled net) (marked : List Bool) (entries : ℕ → List (Option ℕ)) where
-  module _ (i : ℕ) (v w : List ℕ) (T : AreTaking net marked entries i v w) where
-    -- none of the next ones is marked
-    pub some_skipped : (j : ℕ) → i ≤ j → AreUnmarked marked i j → AreTaking net marked entries j v w
-    some_skipped j later none = record {
-      each_net = T.each_net;
-      taken = λ p place l m h. taken p place l m h (cases_lt p i);
-      others = λ n free. T.others n (λ p place l. free p place (omega (arith, l, later)));
-    }
-      where
-        taken : (p place : ℕ) → p < j → get_or marked p false ≡ true → HasPlace net p place → (p < i) ⊎ (i ≤ p)
-            → get_or w (target net p place) 0 ≡ entry_or (get_or (entries p) place None) (get_or v (target net p place) 0)
-        taken p place l m h (inl less) = T.taken p place less m h
-        taken p place l m h (inr le) = let f = none p le l in cc
+  -- what isn't marked gets no mark
+  pub stays_off : (marked still : List Bool) (v w : List ℕ) → SomeTakeOver net marked still entries v w → (p : ℕ) → get_or marked p false ≡ false → get_or still p false ≡ false
+  stays_off marked still v w T p off = by (cases_Bool (get_or still p false))
+    where
+      by : (get_or still p false ≡ true) ⊎ (get_or still p false ≡ false) → get_or still p false ≡ false
+      by (inl h) = absurd (clash (T.fewer p h) off)
+      by (inr none) = none
 
-    pub one_taken : (w' : List ℕ) → get_or marked i false ≡ true → TakesOver (process net i).drives (entries i) w w' → AreTaking net marked entries (i + 1) v w'
-    one_taken w' mark O = record {
-      each_net = O.each_net ∙ T.each_net;
-      taken = λ p place l m h. taken p place l m h (cases_lt p i);
-      others = λ n free. O.on_others n (λ place h t. free i place (omega arith) mark h t) ∙ T.others n (λ p place l. free p place (omega arith));
-    }
-      where
-        other : (p q at place : ℕ) → HasPlace net p at → HasPlace net q place → (q ≡ p → ⊥) → target net p at ≡ target net q place → ⊥
-        other p q at place has h ne t = ne (one_process net L p q at place has h t)
+  -- and then others
+  pub others_take_over : Leveled net → (a b c : List Bool) (u v w : List ℕ) → SomeTakeOver net a b entries u v → SomeTakeOver net b c entries v w → SomeTakeOver net a c entries u w
+  others_take_over L a b c u v w T S = record {
+    as_many = S.as_many ∙ T.as_many;
+    fewer = λ p h. T.fewer p (S.fewer p h);
+    each_net = S.each_net ∙ T.each_net;
+    on_targets = λ p place m f h. on_targets p place m f h (cases_Bool (get_or b p false));
+    on_others = λ n free. S.on_others n (λ q at m f h t. free q at (T.fewer q m) f h t) ∙ T.on_others n (λ q at m f h t. free q at m (stays_off b c v w S q f) h t);
+  }
+    where
+      same_mark : (p q at place : ℕ) → HasPlace net q at → HasPlace net p place → target net q at ≡ target net p place → get_or b q false ≡ get_or b p false
+      same_mark p q at place has h t = sym (ap (λ (k : ℕ). get_or b k false) (one_process net L q p at place has h t))
 
-        here : (p place : ℕ) → p ≡ i → HasPlace net p place → get_or w' (target net p place) 0 ≡ entry_or (get_or (entries p) place None) (get_or v (target net p place) 0)
-        here p place e = rw e (λ (h : HasPlace net i place).
-            O.on_targets place h ∙ ap (entry_or (get_or (entries i) place None)) (T.others (target net i place) (λ q at l m has t. other q i at place has h (omega arith) t)))
+      on_targets : (p place : ℕ) → get_or a p false ≡ true → get_or c p false ≡ false → HasPlace net p place → (get_or b p false ≡ true) ⊎ (get_or b p false ≡ false)
+          → get_or w (target net p place) 0 ≡ entry_or (get_or (entries p) place None) (get_or u (target net p place) 0)
+      on_targets p place m f h (inl on) =
+          S.on_targets p place on f h
+          ∙ ap (entry_or (get_or (entries p) place None)) (T.on_others (target net p place) (λ q at mq fq has t. clash (same_mark p q at place has h t ∙ on) fq))
+      on_targets p place m f h (inr not) =
+          S.on_others (target net p place) (λ q at mq fq has t. clash mq (same_mark p q at place has h t ∙ not)) ∙ T.on_targets p place m not h
 
-        taken : (p place : ℕ) → p < i + 1 → get_or marked p false ≡ true → HasPlace net p place → (p < i) ⊎ (i ≤ p)
-            → get_or w' (target net p place) 0 ≡ entry_or (get_or (entries p) place None) (get_or v (target net p place) 0)
-        taken p place l m h (inl less) = O.on_others (target net p place) (λ at has t. other i p at place has h (omega arith) t) ∙ T.taken p place less m h
-        taken p place l m h (inr le) = here p place (omega arith) h
-
-    pub all_taken : length marked ≤ i → AllTakeOver net marked entries v w
-    all_taken all = record {
-      each_net = T.each_net;
-      on_targets = λ p place m h. T.taken p place (within p m) m h;
-      on_others = λ n free. T.others n (λ p place l m h t. free (p, place, m, h, t));
-    }
-      where
-        within : (p : ℕ) → get_or marked p false ≡ true → p < i
-        within p m = by (cases_lt p (length marked))
-          where
-            by : (p < length marked) ⊎ (length marked ≤ p) → p < i
-            by (inl l) = omega arith
-            by (inr l) = let f = get_or_past marked p false l in cc
+  pub all_take_over : (marked still : List Bool) (v w : List ℕ) → HasNoMark still → SomeTakeOver net marked still entries v w → AllTakeOver net marked entries v w
+  all_take_over marked still v w none T = record {
+    each_net = T.each_net;
+    on_targets = λ p place m h. T.on_targets p place m (none p) h;
+    on_others = λ n free. T.on_others n (λ p place m f h t. free (p, place, m, h, t));
+  }
 
 -- what is taken over is in range where the entries are
 pub taken_in_range : (net : Netlist) (p : ℕ) (entries : List (Option ℕ)) (v w : List ℕ) → TakesOver (process net p).drives entries v w → IsValuation net v

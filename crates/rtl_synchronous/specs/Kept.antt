@@ -18,7 +18,7 @@ use Rattle.rtl_net.specs.Nets.{NetlistView, flat}
 use Rattle.rtl_synchronous.specs.declared.schedule.Schedule.{Schedule}
 use Rattle.rtl_synchronous.specs.Running.{KeepsResets}
 use Rattle.rtl_synchronous.specs.Marks.{HasNoMark}
-use Rattle.rtl_synchronous.specs.Scheduled.{AreNexts, IsSchedule, whole_first}
+use Rattle.rtl_synchronous.specs.Scheduled.{IsSchedule, whole_first}
 
 -- Each process of an accepted netlist may be run: the k-th body is that of the k-th process, and the k-th run has its room.
 pub record MayRun {E : Type 0} (process : E → FlatProcess) (types : E → List ElementType) (most : E → ℕ)
@@ -42,7 +42,6 @@ pub record IsPlanned (net : NetlistView) (s : Schedule) : Type 0 where
   pub cuts : HasCuts net s
   pub edges : AreEdges (core net) s.edges.items
   pub leaders : AreLeaders s.edges.items s.leaders.items
-  pub nexts : AreNexts (core net) s.nexts.items
 
 -- the values have settled, for some inputs and registers
 pub record IsAtRest (net : Netlist) (before values : List ℕ) : Type 0 where

@@ -1,5 +1,5 @@
 -- Marks of those that are to run, because a net that they are sensitive to has changed (IEEE 1076-2008, 14.7.5.3).
-use Rattle.std.specs.Prelude.{◌≡◌, ℕ, ◌+◌, ◌<◌, ◌≤◌, ◌⊎◌, Bool, false, List, [], length, slice_index, slice_index_or, IsTrue, Contains}
+use Rattle.std.specs.Prelude.{◌≡◌, ℕ, ◌+◌, ◌<◌, ◌⊎◌, Bool, false, List, [], length, slice_index, slice_index_or, IsTrue, Contains}
 
 -- Of an index: for each net the numbers of those that are sensitive to it.
 module _ (index : List (List ℕ)) where
@@ -18,6 +18,14 @@ module _ (index : List (List ℕ)) where
     pub kept : (k : ℕ) → IsTrue (slice_index_or old k false) → IsTrue (slice_index_or new k false)
     pub followed : (net k : ℕ) → (slice_index v net ≡ slice_index w net → ⊥) → Follows net k → IsTrue (slice_index_or new k false)
     pub no_other : (k : ℕ) → IsTrue (slice_index_or new k false) → IsTrue (slice_index_or old k false) ⊎ ((net : ℕ) × nets net × Follows net k)
+
+  -- all that are marked follow one of these nets
+  abbrev pub AllFollow : (nets : ℕ → Type 0) → List Bool → Type 0
+  AllFollow nets marks = (k : ℕ) → IsTrue (slice_index_or marks k false) → (net : ℕ) × nets net × Follows net k
+
+-- one of these changes gives the net a value
+abbrev pub IsGiven : List (ℕ × ℕ) → (net : ℕ) → Type 0
+IsGiven changes net = (value : ℕ) × Contains changes (net, value)
 
 -- one of so many nets from the first on
 pub record IsOfRun (first len net : ℕ) : Type 0 where

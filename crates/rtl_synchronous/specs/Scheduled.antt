@@ -1,6 +1,6 @@
 -- The order in which a moment's processes are run, and who is sensitive to which net (IEEE 1076-2008, 14.7.5.3).
 use Rattle.std.specs.Option.{is_some}
-use Rattle.std.specs.Prelude.{◌≡◌, ℕ, ◌+◌, ◌<◌, ◌≤◌, Bool, not, All, List, [], ◌∷◌, length, map, slice_index, slice_index_or, Contains, Option, Some, None, IsSome, if◌then◌else◌}
+use Rattle.std.specs.Prelude.{◌≡◌, ℕ, ◌<◌, ◌≤◌, Bool, not, All, List, [], ◌∷◌, length, map, slice_index, slice_index_or, Contains, Option, Some, None, IsSome, if◌then◌else◌}
 use Rattle.rtl_model.specs.simulation.Netlist.{Netlist, Process, process, IsCombinational}
 use Rattle.rtl_model.specs.simulation.Accepted.{Feeds}
 use Rattle.rtl_model.specs.simulation.Levels.{is_clocked}
@@ -34,18 +34,6 @@ pub record IsSchedule (net : Netlist) (order : List ℕ) (readers clocked : List
 abbrev pub whole_first : List Cut → Option ℕ
 whole_first (cut ∷ []) = Some cut.net
 whole_first _ = None
-
--- ---- by number
-
--- the next process from this one on that isn't combinational, or the end
-pub record IsNext (net : Netlist) (from next : ℕ) : Type 0 where
-  pub later : from ≤ next
-  pub within : next ≤ length net.processes
-  pub between : (p : ℕ) → from ≤ p → p < next → IsCombinational net p
-
-pub record AreNexts (net : Netlist) (nexts : List ℕ) : Type 0 where
-  pub each_process : length nexts ≡ length net.processes + 1
-  pub each : (p : ℕ) → p ≤ length net.processes → IsNext net p (slice_index nexts p)
 
 -- ---- by levels
 

@@ -1,15 +1,16 @@
 //! New values of inputs.
 
-ghost use Rattle.std.specs.Prelude.{◌≡◌, ◌<◌, ⊤, length, All};
+ghost use Rattle.std.specs.Prelude.{◌≡◌, ◌<◌, ⊤, length, All, IfOk};
 ghost use Rattle.rtl_kernel.specs.kernel.Simulation.{changes_of, each_given};
 ghost use Rattle.rtl_kernel.specs.values.TwoValues.{AreChanged};
 ghost use Rattle.rtl_kernel.specs.wakes.Woken.{wakers_of};
 ghost use Rattle.rtl_net_layout.specs.Touching.{Touches};
-ghost use Rattle.rtl_synchronous.specs.Marks.{AreBelow, Marks};
+ghost use Rattle.rtl_synchronous.specs.Marks.{AreBelow, IsGiven, Marks};
 
 use crate::marks::mark_followers;
 use crate::schedule::Schedule;
 use rtl_net_layout::Touched;
+use std::alloc::{AllocError, Global};
 use vhdl_values::Nine;
 
 /// Gives nets values, one after the other.
@@ -22,15 +23,20 @@ pub fn set_inputs(changes: &[(usize, Nine)], values: &mut Vec<u8>)
     }
 }
 
-/// Gives each of these nets the value of the same number.
-pub fn set_each(nets: &[usize], given: &[Nine], values: &mut Vec<u8>)
-    requires as_many { length given.now ≡ length nets.now }
-    requires there { All (λ n. n < length values.old.items) nets.now }
-    ensures { AreChanged (each_given nets.now given.now) values.old.items values.new.items }
+/// A change for each of these nets, which gives it the value of the same number.
+pub fn changes_to(
+    alloc: Global,
+    nets: &[usize],
+    given: &[Nine],
+) -> Result<Vec<(usize, Nine)>, AllocError>
+    requires { length given.now ≡ length nets.now }
+    ensures { IfOk result (λ changes. changes_of changes.items ≡ each_given nets.now given.now) }
 {
+    let mut changes = Vec::with_capacity(alloc, nets.len())?;
     for number in 0..nets.len() {
-        values[nets[number]] = given[number].code();
+        changes.push((nets[number], given[number]))?;
     }
+    Ok(changes)
 }
 
 /// Gives nets values, one after the other, and marks what is sensitive to those that change, and their chunks.
@@ -49,8 +55,10 @@ pub fn take_inputs(
     requires clocked { AreBelow (wakers_of schedule.now.clocked) (length woken.old.items) }
     requires nets { touched.old.nets ≡ length values.old.items }
     ensures values { AreChanged (changes_of changes.now) values.old.items values.new.items }
-    ensures woken { Marks (wakers_of schedule.now.clocked) (λ _. ⊤) values.old.items values.new.items woken.old.items woken.new.items }
-    ensures dirty { Marks (wakers_of schedule.now.readers) (λ _. ⊤) values.old.items values.new.items dirty.old.items dirty.new.items }
+    ensures woken { Marks (wakers_of schedule.now.clocked) (IsGiven (changes_of changes.now))
+        values.old.items values.new.items woken.old.items woken.new.items }
+    ensures dirty { Marks (wakers_of schedule.now.readers) (λ _. ⊤) values.old.items values.new.items
+        dirty.old.items dirty.new.items }
     ensures touched { Touches touched.old touched.new values.old.items values.new.items }
 {
     for (net, value) in changes {

@@ -1,4 +1,5 @@
-//! The synchronous machine, each process once a moment: a simulation of an accepted netlist without delta cycles (`Machine`), and
+//! The synchronous machine, registers first and then the other processes in order of level: a simulation of an accepted netlist
+//! without delta cycles (`Machine`), and
 //! what running one process does to a valuation, as laws over the definitions of `rtl_model`.
 //!
 //! `specs/Running.antt` says what it is for a process to be settled, written and reset, and `specs/Laws.antt` has the laws.
@@ -13,7 +14,6 @@ mod inputs;
 pub mod laws;
 mod machine;
 mod marks;
-mod nexts;
 mod order;
 mod outcomes;
 mod running;

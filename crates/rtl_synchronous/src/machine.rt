@@ -16,14 +16,14 @@ ghost use Rattle.rtl_net.specs.Nets.{flat};
 ghost use Rattle.rtl_net.specs.Core.{core};
 ghost use Rattle.rtl_net_layout.specs.Touching.{KeepsLeft, Touches};
 ghost use Rattle.rtl_synchronous.specs.Kept.{HasCuts, MayRun};
-ghost use Rattle.rtl_synchronous.specs.Marks.{HasNoMark};
+ghost use Rattle.rtl_synchronous.specs.Marks.{AllFollow, HasNoMark, IsGiven};
 ghost use Rattle.rtl_synchronous.specs.Running.{IsSettled};
-ghost use Rattle.rtl_synchronous.specs.Scheduled.{AreNexts, IsSchedule, without_level};
+ghost use Rattle.rtl_synchronous.specs.Scheduled.{IsSchedule, without_level};
 ghost use Rattle.rtl_synchronous.specs.Steps.{ComesToRest};
 
 use crate::clocked::{run_marked, take_marked};
 use crate::initial::starting_codes;
-use crate::inputs::{set_each, set_inputs, take_inputs};
+use crate::inputs::{changes_to, set_inputs, take_inputs};
 use crate::outcomes::room_for;
 use crate::schedule::Schedule;
 use crate::sweep::sweep;
@@ -83,14 +83,16 @@ impl<'a, E: Exec> Model for Machine<'a, E> {
 
     ghost use Rattle.rtl_synchronous.specs.Kept.{HasCuts, IsMachine};
     ghost use Rattle.rtl_awaited.specs.Awaiting.{AreEdges, AreLeaders};
-    ghost use Rattle.rtl_synchronous.specs.Scheduled.{AreNexts};
     ghost use Rattle.rtl_net.specs.Core.{core};
     ghost use Rattle.rtl_kernel.specs.wakes.Woken.{wakers_of};
     ghost use Rattle.std.specs.Prelude.{◌≡◌, length};
 
     ghost view = { λ m. record { net = m.net.now; values = m.values.items; touched = m.touched } };
 
-    ghost invariant = { λ m. IsMachine E.process E.types E.most m.net.now m.bodies.now m.schedule.order.items (wakers_of m.schedule.readers) (wakers_of m.schedule.clocked) m.before.items m.values.items m.runs.items m.dirty.items m.woken.items × HasCuts m.net.now m.schedule × AreEdges (core m.net.now) m.schedule.edges.items × AreNexts (core m.net.now) m.schedule.nexts.items × AreLeaders m.schedule.edges.items m.schedule.leaders.items × (m.touched.nets ≡ length m.values.items) };
+    ghost invariant = { λ m. IsMachine E.process E.types E.most m.net.now m.bodies.now m.schedule.order.items
+        (wakers_of m.schedule.readers) (wakers_of m.schedule.clocked) m.before.items m.values.items m.runs.items
+        m.dirty.items m.woken.items × HasCuts m.net.now m.schedule × AreEdges (core m.net.now) m.schedule.edges.items
+        × AreLeaders m.schedule.edges.items m.schedule.leaders.items × (m.touched.nets ≡ length m.values.items) };
 }
 
 impl<'a, E: Exec> Machine<'a, E> {
@@ -114,7 +116,8 @@ impl<'a, E: Exec> Machine<'a, E> {
         let schedule = Schedule::new(alloc, net, levels)?;
         let mut runs = room_for(alloc, net, bodies)?;
         let mut values = starting_codes(alloc, net)?;
-        set_each(net.inputs(), initial, &mut values);
+        let changes = changes_to(alloc, net.inputs(), initial)?;
+        set_inputs(&changes, &mut values);
         let before = Vec::from_slice(alloc, &values)?;
         let mut woken = clocked_marks(alloc, levels)?;
         let mut dirty = vec![in alloc; true; schedule.order.len()]?;
@@ -124,6 +127,7 @@ impl<'a, E: Exec> Machine<'a, E> {
             net,
             bodies,
             &schedule,
+            &changes,
             &before,
             &mut runs,
             &mut values,
@@ -183,6 +187,7 @@ impl<'a, E: Exec> Machine<'a, E> {
             self.net,
             self.bodies,
             &self.schedule,
+            changes,
             &self.before,
             &mut self.runs,
             &mut self.values,
@@ -206,12 +211,13 @@ fn clocked_marks(alloc: Global, levels: &[Option<u32>]) -> Result<Vec<bool>, All
     Ok(marks)
 }
 
-/// Runs the marked processes, which are clocked, together, and then those combinational ones that are marked or that get
-/// marked, each once. The other combinational ones are settled before.
+/// Runs the marked processes, which are clocked and follow nets of these changes, together, and then those combinational
+/// ones that are marked or that get marked, each once. The other combinational ones are settled before.
 fn come_to_rest<E: Exec>(
     net: &Net,
     bodies: &[E],
     schedule: &Schedule,
+    changes: &[(usize, Nine)],
     before: &[u8],
     runs: &mut Vec<Drives>,
     values: &mut Vec<u8>,
@@ -221,18 +227,22 @@ fn come_to_rest<E: Exec>(
     ahead: &mut usize,
 )
     requires may { MayRun E.process E.types E.most net.now bodies.now runs.old.items }
-    requires schedule { IsSchedule (core net.now) schedule.now.order.items (wakers_of schedule.now.readers) (wakers_of schedule.now.clocked) }
+    requires schedule { IsSchedule (core net.now) schedule.now.order.items
+        (wakers_of schedule.now.readers) (wakers_of schedule.now.clocked) }
     requires cuts { HasCuts net.now schedule.now }
     requires edges { AreEdges (core net.now) schedule.now.edges.items }
     requires leaders { AreLeaders schedule.now.edges.items schedule.now.leaders.items }
-    requires nexts { AreNexts (core net.now) schedule.now.nexts.items }
     requires each_reader { length (wakers_of schedule.now.readers) ≡ length values.old.items }
+    requires there { All (λ c. c.0 < length (wakers_of schedule.now.clocked)) changes.now }
+    requires follow { AllFollow (wakers_of schedule.now.clocked) (IsGiven (changes_of changes.now)) woken.old.items }
     requires before { IsValuation (core net.now) before.now }
     requires in_range { IsValuation (core net.now) values.old.items }
     requires each_process { length woken.old.items ≡ length net.now.processes }
     requires each_rank { length dirty.old.items ≡ length schedule.now.order.items }
-    requires clocked { (p : ℕ) → IsTrue (slice_index_or woken.old.items p false) → IsCombinational (core net.now) p → ⊥ }
-    requires clean { (k : ℕ) → k < length schedule.now.order.items → slice_index_or dirty.old.items k false ≡ false → IsSettled (core net.now) values.old.items (slice_index schedule.now.order.items k) }
+    requires clocked { (p : ℕ) → IsTrue (slice_index_or woken.old.items p false)
+        → IsCombinational (core net.now) p → ⊥ }
+    requires clean { (k : ℕ) → k < length schedule.now.order.items → slice_index_or dirty.old.items k false ≡ false
+        → IsSettled (core net.now) values.old.items (slice_index schedule.now.order.items k) }
     requires nets { touched.old.nets ≡ length values.old.items }
     ensures may { MayRun E.process E.types E.most net.now bodies.now runs.new.items }
     ensures in_range { IsValuation (core net.now) values.new.items }
@@ -245,17 +255,8 @@ fn come_to_rest<E: Exec>(
 {
     net.is_elaborated();
     run_marked(
-        net,
-        bodies,
-        &schedule.edges,
-        &schedule.leaders,
-        &schedule.nexts,
-        woken,
-        before,
-        values,
-        runs,
-        ahead,
+        net, bodies, schedule, changes, woken, before, values, runs, ahead,
     );
-    take_marked(net, runs, schedule, woken, values, dirty, touched);
+    take_marked(net, runs, schedule, changes, woken, values, dirty, touched);
     sweep(net, bodies, schedule, runs, values, dirty, touched);
 }

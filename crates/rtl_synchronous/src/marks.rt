@@ -1,6 +1,6 @@
 //! Marks of those that are to run.
 
-ghost use Rattle.std.specs.Prelude.{◌≡◌, ℕ, ◌+◌, ◌<◌, ◌≤◌, length, slice_index, slice_set, All};
+ghost use Rattle.std.specs.Prelude.{◌≡◌, ℕ, ◌+◌, ◌<◌, ◌≤◌, [], length, slice_index, slice_index_or, slice_set, All};
 ghost use Rattle.rtl_kernel.specs.values.TwoValues.{IsWritten as HasRun};
 ghost use Rattle.rtl_kernel.specs.wakes.Woken.{AddsPlaces, wakers_of};
 ghost use Rattle.rtl_net_layout.specs.Touching.{Touches};
@@ -8,6 +8,15 @@ ghost use Rattle.rtl_synchronous.specs.Marks.{AreBelow, IsOfRun, Marks};
 
 use rtl_kernel::replace;
 use rtl_net_layout::{Groups, Touched};
+
+/// What is sensitive to a net.
+#[inline(always)]
+pub fn followers_of(groups: &Groups, net: usize) -> &[usize]
+    requires { net < length (wakers_of groups.now) }
+    ensures { result.now ≡ slice_index_or (wakers_of groups.now) net [] }
+{
+    groups.listed(groups.of_net()[net])
+}
 
 /// Marks these numbers, of which mostly there is one.
 #[inline(always)]
@@ -43,7 +52,7 @@ pub fn mark_followers(groups: &Groups, values: &[u8], net: usize, value: u8, mar
     ensures { Marks (wakers_of groups.now) (λ n. n ≡ net) values.now (slice_set values.now net value) marks.old.items marks.new.items }
 {
     if values[net] != value {
-        mark(marks, groups.listed(groups.of_net()[net]));
+        mark(marks, followers_of(groups, net));
     }
 }
 
@@ -68,7 +77,7 @@ fn set_here(
     ensures touched { Touches touched.old touched.new values.old.items values.new.items }
 {
     if replace(values, first, given) {
-        mark(marks, groups.listed(groups.of_net()[first]));
+        mark(marks, followers_of(groups, first));
         touched.mark_run(first, first + given.len());
     }
 }

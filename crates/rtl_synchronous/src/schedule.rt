@@ -7,7 +7,6 @@ ghost use Rattle.rtl_net.specs.Core.{core};
 ghost use Rattle.rtl_synchronous.specs.Kept.{IsPlanned};
 ghost use Rattle.rtl_synchronous.specs.Scheduled.{clocked_wakes, wakes_by_rank};
 
-use crate::nexts::nexts_of;
 use crate::order::order_of;
 use crate::targets::target_lists;
 use crate::wholes::wholes_of;
@@ -16,10 +15,10 @@ use rtl_net::Net;
 use rtl_net_layout::{Cuts, Groups, Lists};
 use std::alloc::{AllocError, Global};
 
-/// The combinational processes in the order in which they are run, the ranks of those that are sensitive to each net, and the
-/// clocked processes that are; the cuts of each process's drivers over nets that the same combinational ones are sensitive to, and
-/// where there is one alone its first net; of each process the edge without which it assigns nothing, if it is clocked and has no
-/// reset, and a process that awaits the same; and from each process on the next one that is clocked.
+/// The combinational processes in the order in which they are run, the ranks of those that are sensitive to each net, and
+/// the clocked processes that are; the cuts of each process's drivers over nets that the same combinational ones are
+/// sensitive to, and where there is one alone its first net; and of each process the edge without which it assigns
+/// nothing, if it is clocked and has no reset, and a process that awaits the same.
 pub struct Schedule {
     pub order: Vec<usize>,
     pub readers: Groups,
@@ -28,7 +27,6 @@ pub struct Schedule {
     pub wholes: Vec<Option<usize>>,
     pub edges: Vec<Option<ClockEdge>>,
     pub leaders: Vec<usize>,
-    pub nexts: Vec<usize>,
 }
 
 impl Drop for Schedule {
@@ -41,7 +39,6 @@ impl Drop for Schedule {
             wholes: _,
             edges: _,
             leaders: _,
-            nexts: _,
         } = self;
     }
 }
@@ -64,7 +61,6 @@ impl Schedule {
         let wholes = wholes_of(alloc, &cuts, targets.count())?;
         let edges = edges_of(alloc, net)?;
         let leaders = leaders_of(alloc, &edges)?;
-        let nexts = nexts_of(alloc, net, levels)?;
         Ok(Schedule {
             order,
             readers,
@@ -73,7 +69,6 @@ impl Schedule {
             wholes,
             edges,
             leaders,
-            nexts,
         })
     }
 }

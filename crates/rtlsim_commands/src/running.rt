@@ -53,8 +53,8 @@ impl<P: Pick> Run for RunMachine<'_, P> {
     ghost unexpecting = { λ run net fault old new does. machine_unexpecting does.0 fault does.1 };
 }
 
-/// `run --levels`: the same trace, each process run once a moment: the clocked ones that an input wakes, and then the combinational ones in
-/// order of level.
+/// `run --levels`: the same trace without delta cycles: at each moment the clocked processes that an input wakes run, and then the
+/// combinational ones in order of level.
 #[derive(Drop)]
 pub struct RunLevels<'a> {
     pub stimulus: &'a [u8],

@@ -51,7 +51,7 @@ pub enum Request<'a> {
         top: &'a str,
         stimulus: &'a str,
     },
-    /// Prints the trace of a design under a stimulus, each process run once a moment, in order of level.
+    /// Prints the trace of a design under a stimulus, processes run in order of level.
     Levels {
         file: &'a str,
         top: &'a str,

@@ -1,10 +1,10 @@
 -- Ports that are associated one after another.
 use Rattle.std.specs.Prelude.{ℕ, List, [], ◌∷◌, ◌++◌, length, map, take, drop, Option, option_map, Ok}
+use Rattle.std.specs.Borrow.{Bor}
 use Rattle.vhdl_names_rules.specs.declared.vector.SignalPart as code
 use Rattle.vhdl_names_rules.specs.units.Expressions.{SignalPart}
 use Rattle.vhdl_names_rules.specs.units.Units as u
-use Rattle.std.specs.Global.{Box}
-use Rattle.vhdl_names_units.specs.views.Concurrent.{port_actual_view}
+use Rattle.vhdl_names_rules.specs.views.Vectors.{place_view}
 use Rattle.vhdl_names_units.specs.declared.declaration.Ports.{Ports}
 use Rattle.vhdl_expand_tree.specs.declared.tree.Object as tree
 use Rattle.vhdl_expand_tree.specs.Views.{object_view}
@@ -18,8 +18,9 @@ use Rattle.vhdl_expand.specs.Objects.{named_object}
 abbrev pub any_port : Ports → u.Port
 any_port ports = record { mode = ports.mode; object = named_object ports.objects (record { at = 0; text = [] }) }
 
-abbrev pub places_view : List (Option (Box code.SignalPart)) → List (Option SignalPart)
-places_view actuals = map port_actual_view actuals
+-- actuals that are lent, where there are some
+abbrev pub places_view : List (Option (Bor code.SignalPart)) → List (Option SignalPart)
+places_view actuals = map (option_map (λ (place : Bor code.SignalPart). place_view place.now)) actuals
 
 -- the ports that are associated, and those behind them
 pub record Associated : Type 0 where

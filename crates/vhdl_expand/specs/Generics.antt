@@ -1,5 +1,6 @@
 -- What contracts see of the values of generics.
 use Rattle.std.specs.Prelude.{ℕ, List, drop, length, map, Option, option_map, ℤ}
+use Rattle.std.specs.Borrow.{Bor}
 use Rattle.vhdl_names_rules.specs.declared.integer.Static.{Static}
 use Rattle.vhdl_names_rules.specs.units.Expressions as u
 use Rattle.vhdl_names_rules.specs.units.Units.{Generic}
@@ -10,9 +11,9 @@ use Rattle.vhdl_expand_rules.specs.Integers.{Integers}
 use Rattle.vhdl_expand_rules.specs.Site.{no_integers}
 use Rattle.vhdl_expand_rules.specs.Declarations as definition
 
--- actuals, where there are some
-abbrev pub actuals_view : List (Option Static) → List (Option u.Static)
-actuals_view actuals = map (option_map static_view) actuals
+-- actuals that are lent, where there are some
+abbrev pub actuals_view : List (Option (Bor Static)) → List (Option u.Static)
+actuals_view actuals = map (option_map (λ (value : Bor Static). static_view value.now)) actuals
 
 -- the generic of a declaration whose name starts at this byte
 abbrev pub generic_view : (at : ℕ) → Generics → Generic

@@ -10,6 +10,7 @@ ghost use Rattle.vhdl_expand_rules.specs.views.Integers.{Computes};
 ghost use Rattle.vhdl_expand_rules.specs.views.Kinds.{kind_view, run_view};
 ghost use Rattle.vhdl_expand_bodies.specs.Results.{Expands};
 ghost use Rattle.vhdl_expand_bodies.specs.Sites.{IsShort, IsSite, site_view};
+ghost use Rattle.vhdl_names_units.specs.views.Actuals.{each_actual};
 ghost use Rattle.vhdl_names_units.specs.views.Declarations.{all_ports_view, ports_view};
 ghost use Rattle.vhdl_expand.specs.Associations.{any_port, associated, associated_to, next_associated, places_view};
 ghost use Rattle.vhdl_expand.specs.Views.{declared_view};
@@ -21,15 +22,15 @@ use vhdl_expand_bodies::Site;
 use vhdl_expand_rules::{ElabFault, ElabProblem, ObjectKind, Run};
 use vhdl_expand_tree::{Object, Role};
 use vhdl_names_rules::SignalPart;
-use vhdl_names_units::{Entity, Ports};
+use vhdl_names_units::{Actuals, Entity, Ports};
 
 /// The actual of the generic or port of this number, if it has one.
-pub(crate) fn actual_of<T>(actuals: &[Option<T>], number: usize) -> Option<&T>
-    ensures { option_map (λ actual. actual.now) result ≡ definition.first_of (drop number actuals.now) }
+pub(crate) fn actual_of<'a, T>(actuals: &[Option<&'a T>], number: usize) -> Option<&'a T>
+    ensures { result ≡ definition.first_of (drop number actuals.now) }
 {
     match actuals.get(number) {
-        Some(Some(actual)) => Some(actual),
-        _ => None,
+        Some(actual) => *actual,
+        None => None,
     }
 }
 
@@ -75,12 +76,12 @@ fn associate(
     alloc: Global,
     above: &Site,
     declaration: &Ports,
-    actual: Option<&Box<SignalPart>>,
+    actual: Option<&SignalPart>,
     port: &mut Object,
     at: usize,
 ) -> Result<(), ElabFault>
     requires { IsSite above.now }
-    ensures { Expands (λ _. object_view port.new) (definition.association (site_view above.now) at (any_port declaration.now) (option_map (λ place. place_view place.now.value) actual.entry) (object_view port.old)) result }
+    ensures { Expands (λ _. object_view port.new) (definition.association (site_view above.now) at (any_port declaration.now) (option_map (λ place. place_view place.now) actual.entry) (object_view port.old)) result }
 {
     let Some(place) = actual else {
         if is_input(port.role) && declaration.objects.default.is_none() {
@@ -100,7 +101,7 @@ fn associate_all(
     alloc: Global,
     above: &Site,
     declaration: &Ports,
-    actuals: &[Option<Box<SignalPart>>],
+    actuals: &[Option<&SignalPart>],
     before: usize,
     ports: &mut Vec<Object>,
     at: usize,
@@ -129,7 +130,7 @@ fn associate_ports(
     alloc: Global,
     above: &Site,
     declarations: &[Ports],
-    actuals: &[Option<Box<SignalPart>>],
+    actuals: &[Option<&SignalPart>],
     ports: &mut Vec<Object>,
     at: usize,
 ) -> Result<(), ElabFault>
@@ -144,24 +145,25 @@ fn associate_ports(
     Ok(())
 }
 
-/// Associates the ports of an instance of an entity, behind which nothing is declared yet, with elements of the instance above; a
-/// fault is StaticError, Index, Length, or Unassociated at this byte, and then no one says how far it came.
+/// Associates the ports of an instance of an entity, behind which nothing is declared yet, with elements of the instance above. It
+/// takes the memory of these, and for a while that of a list of the actuals. A fault is StaticError, Index, Length, or Unassociated at this byte, and then no one says how far it came.
 pub fn associations(
     alloc: Global,
     above: &Site,
     unit: &Entity,
-    actuals: &[Option<Box<SignalPart>>],
+    actuals: &Actuals<SignalPart>,
     declared: &mut InstanceObjects,
     at: usize,
 ) -> Result<(), ElabFault>
     requires { IsSite above.now }
-    ensures { Expands (λ _. declared_view declared.new) (associated (site_view above.now) at (all_ports_view unit.now.ports) (places_view actuals.now) (declared_view declared.old)) result }
+    ensures { Expands (λ _. declared_view declared.new) (associated (site_view above.now) at (all_ports_view unit.now.ports) (map (option_map place_view) (each_actual actuals.now)) (declared_view declared.old)) result }
 {
+    let actuals = actuals.listed(alloc)?;
     associate_ports(
         alloc,
         above,
         &unit.ports,
-        actuals,
+        &actuals,
         &mut declared.objects,
         at,
     )

@@ -1,15 +1,15 @@
 //! The declarations of an entity and of an architecture (IEEE 1076-2008, 14.3, 14.4).
 
-ghost use Rattle.std.specs.Prelude.{◌≡◌, flat_map, map};
+ghost use Rattle.std.specs.Prelude.{◌≡◌, flat_map, map, option_map};
 ghost use Rattle.vhdl_names_rules.specs.units.Units as u;
 ghost use Rattle.vhdl_names_rules.specs.views.Integers.{static_view};
 ghost use Rattle.vhdl_expand_rules.specs.Declarations as definition;
 ghost use Rattle.vhdl_expand_rules.specs.views.Integers.{integers_view};
 ghost use Rattle.vhdl_expand_bodies.specs.Results.{Expands};
+ghost use Rattle.vhdl_names_units.specs.views.Actuals.{each_actual};
 ghost use Rattle.vhdl_names_units.specs.views.Answers.{fixed_view, form_view};
 ghost use Rattle.vhdl_names_units.specs.views.Declarations.{declaration_view};
 ghost use Rattle.vhdl_names_units.specs.views.Units.{entity_view};
-ghost use Rattle.vhdl_expand.specs.Generics.{actuals_view};
 ghost use Rattle.vhdl_expand.specs.Views.{declared_view};
 
 use crate::declared::InstanceObjects;
@@ -20,7 +20,7 @@ use vhdl_expand_bodies::Constant;
 use vhdl_expand_rules::{ElabFault, Integers};
 use vhdl_expand_tree::Role;
 use vhdl_names_rules::{IntegerType, Static};
-use vhdl_names_units::{Declaration, Entity, Fixed, Form};
+use vhdl_names_units::{Actuals, Declaration, Entity, Fixed, Form};
 use vhdl_tree::Identifier;
 
 /// What is known of an instance of an entity where its architecture begins: the values of its generics, of which those with an
@@ -30,12 +30,13 @@ use vhdl_tree::Identifier;
 pub fn interface(
     alloc: Global,
     above: &Integers,
-    actuals: &[Option<Static>],
+    actuals: &Actuals<Static>,
     unit: &Entity,
 ) -> Result<InstanceObjects, ElabFault>
-    ensures { Expands declared_view (definition.interface (integers_view above.now) (actuals_view actuals.now) (entity_view unit.now)) result }
+    ensures { Expands declared_view (definition.interface (integers_view above.now) (map (option_map static_view) (each_actual actuals.now)) (entity_view unit.now)) result }
 {
-    let values = generics(alloc, above, actuals, &unit.generics)?;
+    let actuals = actuals.listed(alloc)?;
+    let values = generics(alloc, above, &actuals, &unit.generics)?;
     let mut declared = InstanceObjects::of_generics(alloc, values);
     add_ports(alloc, &unit.ports, &mut declared)?;
     Ok(declared)

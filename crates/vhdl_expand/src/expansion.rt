@@ -22,7 +22,7 @@ use crate::walk::Walk;
 use std::alloc::{AllocError, Global};
 use vhdl_expand_rules::{ElabFault, ElabProblem, Integers};
 use vhdl_expand_tree::{Budget, Design};
-use vhdl_names_units::{Entity, Units};
+use vhdl_names_units::{Actuals, Entity, Units};
 
 /// How many instances may be nested, the top among them.
 const LEVELS: u32 = 32;
@@ -56,7 +56,7 @@ fn outermost(alloc: Global, unit: &Entity) -> Result<InstanceObjects, ElabFault>
         generates: &[],
         loops: &[],
     };
-    let declared = interface(alloc, &none, &[], unit);
+    let declared = interface(alloc, &none, &Actuals::none(alloc), unit);
     let Integers {
         generics: _,
         constants: _,

@@ -65,7 +65,7 @@ fn generic(
 /// StaticError or GenericRange.
 fn add_generics(
     above: &Integers,
-    actuals: &[Option<Static>],
+    actuals: &[Option<&Static>],
     declaration: &Generics,
     values: &mut Vec<i32>,
 ) -> Result<(), ElabFault>
@@ -83,7 +83,7 @@ fn add_generics(
 pub(crate) fn generics(
     alloc: Global,
     above: &Integers,
-    actuals: &[Option<Static>],
+    actuals: &[Option<&Static>],
     declarations: &[Generics],
 ) -> Result<Vec<i32>, ElabFault>
     ensures { Expands (λ values. generics_alone values.items) (definition.generics (integers_view above.now) no_integers (actuals_view actuals.now) (flat_map generics_view declarations.now)) result }

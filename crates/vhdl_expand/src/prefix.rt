@@ -21,6 +21,7 @@ fn push_turn(prefix: &mut Vec<u8>, label: &[u8], parameter: i32) -> Result<(), A
 
 /// The labels round what stands in a turn of a for generate, and that generate's own with the value of its parameter. It takes
 /// the memory of the text.
+#[inline(never)]
 pub(crate) fn turn_prefix(
     alloc: Global,
     outer: &[u8],
@@ -35,6 +36,7 @@ pub(crate) fn turn_prefix(
 }
 
 /// The labels round what stands in an if generate, and that generate's own. It takes the memory of the text.
+#[inline(never)]
 pub(crate) fn branch_prefix(
     alloc: Global,
     outer: &[u8],

@@ -1,4 +1,8 @@
 //! Concurrent statements, and the instances that they make (IEEE 1076-2008, clause 11).
+//!
+//! In each of 31 instances that stand in one another 63 generates may stand in one another, so a generate keeps little on the
+//! stack: the statements in it are gone through in the frame of its turn or branch, and what is known there and the labels are
+//! made in calls that end before it is entered.
 
 ghost use Rattle.std.specs.Prelude.{◌++◌, [], ◌∷◌, map, Ok};
 ghost use Rattle.vhdl_names_rules.specs.units.Units.{generate_for, generate_if};
@@ -9,7 +13,6 @@ ghost use Rattle.vhdl_names_units.specs.views.Concurrent as units;
 ghost use Rattle.vhdl_names_units.specs.views.Units.{entity_view};
 ghost use Rattle.vhdl_expand_rules.specs.Expansion.{in_turn, in_branch, instance_of};
 ghost use Rattle.vhdl_expand_bodies.specs.Results.{Expands, Charges};
-ghost use Rattle.vhdl_expand_bodies.specs.Sites.{IsSite};
 ghost use Rattle.vhdl_expand_tree.specs.Costs.{charged, instance_costs};
 ghost use Rattle.vhdl_expand_tree.specs.Views.{instance_view, budget_view};
 ghost use Rattle.vhdl_expand.specs.Making as made;
@@ -19,12 +22,10 @@ ghost use Rattle.vhdl_expand.specs.Turning.{TellsTurns};
 ghost use Rattle.vhdl_expand.specs.Views.{declared_view};
 ghost use Rattle.vhdl_expand.specs.Walks.{units_of, IsAmong};
 
-use crate::actuals::associations;
-use crate::declarative::{declarations, interface};
+use crate::declarative::declarations;
 use crate::declared::InstanceObjects;
 use crate::nets::charge_own_nets;
 use crate::prefix::{branch_prefix, labelled, turn_prefix};
-use crate::processes::process;
 use crate::progress::TreeProgress;
 use crate::spot::Spot;
 use std::alloc::Global;
@@ -45,13 +46,13 @@ pub(crate) struct Walk<'a> {
 impl Walk<'_> {
     /// Concurrent statements in order, behind what is made so far.
     #[cycle(concurrent)]
+    #[inline(always)]
     fn concurrents(
         &self,
         spot: &Spot,
         list: &[Concurrent],
         so_far: &mut TreeProgress,
     ) -> Result<(), ElabFault>
-        requires site { IsSite spot.now.site }
         requires fits { TurnsFit so_far.old }
         ensures { Charges (concurrents_bytes (units.concurrents_of (map units.concurrent_view list.now)) ++ units_bytes (units_of self.now)) (λ _. progress_view so_far.new) (adding (progress_view so_far.old)
             (made.concurrents (units_of self.now) self.now.levels (spot_view spot.now) (units.concurrents_of (map units.concurrent_view list.now)))) result }
@@ -64,13 +65,13 @@ impl Walk<'_> {
 
     /// A concurrent statement, behind what is made so far.
     #[cycle(concurrent)]
+    #[inline(always)]
     fn concurrent(
         &self,
         spot: &Spot,
         item: &Concurrent,
         so_far: &mut TreeProgress,
     ) -> Result<(), ElabFault>
-        requires site { IsSite spot.now.site }
         requires fits { TurnsFit so_far.old }
         ensures { Charges (concurrent_bytes (units.concurrent_view item.now) ++ units_bytes (units_of self.now)) (λ _. progress_view so_far.new) (adding (progress_view so_far.old)
             (made.concurrent (units_of self.now) self.now.levels (spot_view spot.now) (units.concurrent_view item.now))) result }
@@ -89,17 +90,10 @@ impl Walk<'_> {
         written: &analysed::Process,
         so_far: &mut TreeProgress,
     ) -> Result<(), ElabFault>
-        requires site { IsSite spot.now.site }
         ensures { Charges (process_bytes (units.process_view written.now)) (λ _. progress_view so_far.new) (adding (progress_view so_far.old)
             (made.process (units_of self.now) self.now.levels (spot_view spot.now) (units.process_view written.now))) result }
     {
-        let made = process(
-            self.alloc,
-            &spot.site,
-            spot.prefix,
-            written,
-            &mut so_far.left,
-        )?;
+        let made = spot.process(self.alloc, written, &mut so_far.left)?;
         so_far.parts.push(InstancePart::Process(made))?;
         Ok(())
     }
@@ -112,7 +106,6 @@ impl Walk<'_> {
         written: &analysed::Instance,
         so_far: &mut TreeProgress,
     ) -> Result<(), ElabFault>
-        requires site { IsSite spot.now.site }
         ensures { Charges (instance_bytes (units.instance_view written.now) ++ units_bytes (units_of self.now)) (λ _. progress_view so_far.new) (adding (progress_view so_far.old)
             (made.instance (units_of self.now) self.now.levels (spot_view spot.now) (units.instance_view written.now))) result }
     {
@@ -120,15 +113,8 @@ impl Walk<'_> {
         let Some(unit) = self.units.get(written.unit) else {
             return Err(ElabProblem::NoTop.at(at));
         };
-        let mut declared = interface(self.alloc, &spot.site.integers, &written.generics, unit)?;
-        associations(
-            self.alloc,
-            &spot.site,
-            unit,
-            &written.ports,
-            &mut declared,
-            at,
-        )?;
+        let mut declared = spot.interface(self.alloc, written, unit)?;
+        spot.associations(self.alloc, written, unit, &mut declared)?;
         let instance = self.instance(unit, declared, at, &mut so_far.left)?;
         let label = labelled(self.alloc, spot.prefix, &written.label.text)?;
         so_far
@@ -190,24 +176,23 @@ impl Walk<'_> {
             left,
         };
         let spot = Spot {
-            site: declared.site(&[]),
+            declared,
+            generates: &[],
             prefix: &[],
         };
-        let walked = self.concurrents(&spot, list, &mut made);
-        spot.end();
-        walked?;
+        self.concurrents(&spot, list, &mut made)?;
         Ok(made)
     }
 
     /// A generate (11.9), behind what is made so far.
     #[cycle(concurrent)]
+    #[inline(always)]
     fn generate(
         &self,
         spot: &Spot,
         written: &Generate,
         so_far: &mut TreeProgress,
     ) -> Result<(), ElabFault>
-        requires site { IsSite spot.now.site }
         requires fits { TurnsFit so_far.old }
         ensures { Charges (written.now.at ∷ (concurrents_bytes (units.concurrents_of (units.concurrents_view written.now.statements)) ++ units_bytes (units_of self.now))) (λ _. progress_view so_far.new) (adding (progress_view so_far.old)
             (made.concurrent (units_of self.now) self.now.levels (spot_view spot.now)
@@ -229,14 +214,13 @@ impl Walk<'_> {
         range: &StaticRange,
         so_far: &mut TreeProgress,
     ) -> Result<(), ElabFault>
-        requires site { IsSite spot.now.site }
         requires fits { TurnsFit so_far.old }
         ensures given { Charges (written.now.at ∷ (concurrents_bytes (units.concurrents_of (units.concurrents_view written.now.statements)) ++ units_bytes (units_of self.now))) (λ _. progress_view so_far.new) (adding (progress_view so_far.old)
             (made.concurrent (units_of self.now) self.now.levels (spot_view spot.now)
             (generate_for written.now.at written.now.label.text.items (range_view range.now) (units.concurrents_of (units.concurrents_view written.now.statements))))) result }
         ensures turned { TellsTurns (spot_view spot.now).site.integers written.now.at (range_view range.now) result }
     {
-        let turns = spot.site.integers.turns(range, written.at)?;
+        let turns = spot.turns(range, written.at)?;
         so_far.add_turns(turns.count, written.at)?;
         for turn in 0..turns.count {
             let value = turns.parameter(turn);
@@ -254,19 +238,16 @@ impl Walk<'_> {
         parameter: i32,
         so_far: &mut TreeProgress,
     ) -> Result<(), ElabFault>
-        requires site { IsSite spot.now.site }
         requires fits { TurnsFit so_far.old }
         ensures { Charges (concurrents_bytes (units.concurrents_of (units.concurrents_view written.now.statements)) ++ units_bytes (units_of self.now)) (λ _. progress_view so_far.new) (adding (progress_view so_far.old)
             (made.concurrents (units_of self.now) self.now.levels (in_turn (spot_view spot.now) written.now.label.text.items parameter)
             (units.concurrents_of (units.concurrents_view written.now.statements)))) result }
     {
-        let mut generates = spot.site.integers.generates.to_vec(self.alloc)?;
+        let mut generates = spot.generates.to_vec(self.alloc)?;
         generates.push(parameter)?;
         let prefix = turn_prefix(self.alloc, spot.prefix, &written.label.text, parameter)?;
         let inner = (&*spot).within(&generates, &prefix);
-        let walked = self.concurrents(&inner, &written.statements, so_far);
-        inner.end();
-        walked
+        self.concurrents(&inner, &written.statements, so_far)
     }
 
     /// An if generate, behind what is made so far.
@@ -278,19 +259,16 @@ impl Walk<'_> {
         test: &StaticTest,
         so_far: &mut TreeProgress,
     ) -> Result<(), ElabFault>
-        requires site { IsSite spot.now.site }
         requires fits { TurnsFit so_far.old }
         ensures { Charges (concurrents_bytes (units.concurrents_of (units.concurrents_view written.now.statements)) ++ units_bytes (units_of self.now)) (λ _. progress_view so_far.new) (adding (progress_view so_far.old)
             (made.concurrent (units_of self.now) self.now.levels (spot_view spot.now)
             (generate_if written.now.at written.now.label.text.items (static_test_view test.now) (units.concurrents_of (units.concurrents_view written.now.statements))))) result }
     {
-        if !spot.site.integers.decision(test)? {
+        if !spot.decision(test)? {
             return Ok(());
         }
         let prefix = branch_prefix(self.alloc, spot.prefix, &written.label.text)?;
-        let inner = (&*spot).within(spot.site.integers.generates, &prefix);
-        let walked = self.concurrents(&inner, &written.statements, so_far);
-        inner.end();
-        walked
+        let inner = (&*spot).within(spot.generates, &prefix);
+        self.concurrents(&inner, &written.statements, so_far)
     }
 }

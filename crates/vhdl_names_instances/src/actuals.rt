@@ -19,13 +19,12 @@ ghost use Rattle.vhdl_names_rules.specs.views.Vectors.{place_view};
 ghost use Rattle.vhdl_tree.specs.View.{view, name_view, option_ident_view, suffix_view};
 ghost use Rattle.vhdl_names_types.specs.Views.{sight_view, meaning_view};
 ghost use Rattle.vhdl_names_units.specs.views.Answers.{signal_name_view};
-ghost use Rattle.vhdl_names_units.specs.views.Concurrent.{port_actual_view};
 
 use std::alloc::Global;
 use vhdl_names_expressions::{signal, start, static_integer, typed_suffix};
 use vhdl_names_rules::{ElementKind, NameFault, NameProblem, ObjectType, SignalPart, Static};
 use vhdl_names_types::{Meaning, Sight};
-use vhdl_names_units::SignalName;
+use vhdl_names_units::{Actuals, SignalName};
 use vhdl_tree::{Expr, Mode, Name, Suffix};
 
 /// A port as it is associated: its mode and kind.
@@ -163,15 +162,12 @@ fn port_entry(
     sight: &Sight,
     port: PortType,
     actual: &Option<&Expr>,
-) -> Result<Option<Box<SignalPart>>, NameFault>
-    ensures { Gives port_actual_view (steps.port_entry (sight_view sight.now) port (actual_view actual.now)) result }
+) -> Result<Option<SignalPart>, NameFault>
+    ensures { Gives (option_map place_view) (steps.port_entry (sight_view sight.now) port (actual_view actual.now)) result }
 {
     match actual {
         None => Ok(None),
-        Some(e) => {
-            let place = port_actual(alloc, sight, port, e)?;
-            Ok(Some(Box::new(alloc, place)?))
-        }
+        Some(e) => Ok(Some(port_actual(alloc, sight, port, e)?)),
     }
 }
 
@@ -203,8 +199,8 @@ fn entry(
     ports: &[PortType],
     actuals: &[Option<&Expr>],
     index: usize,
-) -> Result<Option<Option<Box<SignalPart>>>, NameFault>
-    ensures { Gives (option_map port_actual_view) (steps.entry (sight_view sight.now) ports.now (map actual_view actuals.now) index) result }
+) -> Result<Option<Option<SignalPart>>, NameFault>
+    ensures { Gives (option_map (option_map place_view)) (steps.entry (sight_view sight.now) ports.now (map actual_view actuals.now) index) result }
 {
     match port_at(ports, index) {
         None => Ok(None),
@@ -221,14 +217,14 @@ pub(crate) fn port_actuals(
     sight: &Sight,
     ports: &[PortType],
     actuals: &[Option<&Expr>],
-) -> Result<Vec<Option<Box<SignalPart>>>, NameFault>
+) -> Result<Actuals<SignalPart>, NameFault>
     ensures { Gives places_view (steps.port_actuals (sight_view sight.now) ports.now (map actual_view actuals.now)) result }
 {
-    let mut all = Vec::new(alloc);
+    let mut all = Actuals::none(alloc);
     for index in 0..ports.len() {
         match entry(alloc, sight, ports, actuals, index)? {
             None => return Ok(all),
-            Some(place) => all.push(place)?,
+            Some(actual) => all.push(actual)?,
         }
     }
     Ok(all)
@@ -255,10 +251,10 @@ pub(crate) fn generic_actuals(
     alloc: Global,
     sight: &Sight,
     actuals: &[Option<&Expr>],
-) -> Result<Vec<Option<Static>>, NameFault>
+) -> Result<Actuals<Static>, NameFault>
     ensures { Gives statics_view (each (if_any (static_of (sight_view sight.now))) (map actual_view actuals.now)) result }
 {
-    let mut all = Vec::new(alloc);
+    let mut all = Actuals::none(alloc);
     for actual in actuals {
         let next = generic_entry(alloc, sight, actual)?;
         all.push(next)?;

@@ -219,6 +219,7 @@ fn variable_of(
 }
 
 /// What a name of this meaning is at byte `at`, with what follows it. It may take the memory of a box.
+#[inline(never)]
 pub fn denoted(
     alloc: Global,
     meaning: &Meaning,
@@ -262,6 +263,7 @@ pub fn denoted(
 
 /// The attribute of a name at byte `at`, if it has one: 'event.
 #[tactic(auto, using(vhdl_names_rules::proofs::Telling::told_left, vhdl_names_rules::proofs::Telling::told_right))]
+#[inline(never)]
 pub fn attributed(
     attribute: &Option<Identifier>,
     operand: Typed,

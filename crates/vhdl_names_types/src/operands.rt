@@ -22,6 +22,7 @@ use vhdl_names_rules::{ElementKind, NameFault, NameProblem, Static, Vector, nine
 use vhdl_tree::{Literal, Sign};
 
 /// An integer literal, of at most 2,147,483,647 (IEEE 1076-2008, 5.2.3.2); a greater one is LeftOut.
+#[inline(never)]
 pub fn integer_literal(literal: &Literal) -> Result<Typed, NameFault>
     ensures given { Gives typed_view (integer_of literal.now.text.items) result }
     ensures told { IfErr result (Tells (lacking LeftOut literal.now.at (literals.number_of literal.now.text.items))) }
@@ -44,6 +45,7 @@ pub fn character_literal(code: u8, at: usize) -> Result<Typed, NameFault>
 }
 
 /// A string literal, a vector of the nine values (15.7). It takes the memory of a list.
+#[inline(never)]
 pub fn string_literal(alloc: Global, literal: &Literal) -> Result<Typed, NameFault>
     ensures given { Gives typed_view (option_map (λ vs. table.elements OpenVector (u.Vector.literal literal.now.at vs)) (literals.values_of_string literal.now.text.items)) result }
     ensures told { IfErr result (Tells (lacking (string_problem literal.now.text.items) literal.now.at (literals.values_of_string literal.now.text.items))) }
@@ -53,6 +55,7 @@ pub fn string_literal(alloc: Global, literal: &Literal) -> Result<Typed, NameFau
 }
 
 /// A bit string literal, a vector of zeros and ones (15.8). It takes the memory of a list.
+#[inline(never)]
 pub fn bit_string_literal(alloc: Global, literal: &Literal) -> Result<Typed, NameFault>
     ensures given { Gives typed_view (option_map (λ vs. table.elements OpenVector (u.Vector.literal literal.now.at vs)) (literals.values_of_bits literal.now.text.items)) result }
     ensures told { IfErr result (Tells (lacking LeftOut literal.now.at (literals.values_of_bits literal.now.text.items))) }
@@ -63,6 +66,7 @@ pub fn bit_string_literal(alloc: Global, literal: &Literal) -> Result<Typed, Nam
 
 /// A sign at byte `at`, before an integer (9.2.6), or else there is TypeMismatch. It takes the
 /// memory of a box.
+#[inline(never)]
 pub fn signed(alloc: Global, sign: Sign, operand: Typed, at: usize) -> Result<Typed, NameFault>
     ensures given { Gives typed_view (signed_by at sign (typed_view operand)) result }
     ensures told { IfErr result (Tells (lacking TypeMismatch at (rules.as_integer (typed_view operand)))) }

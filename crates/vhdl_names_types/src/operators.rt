@@ -53,6 +53,7 @@ fn logical(
 }
 
 /// not, at byte `at`.
+#[inline(never)]
 pub fn inverse(alloc: Global, at: usize, operand: Typed) -> Result<Typed, NameFault>
     ensures given { Gives typed_view (table.inverse (typed_view operand)) result }
     ensures told { IfErr result (Tells (lacking TypeMismatch at (table.inverse (typed_view operand)))) }
@@ -324,6 +325,7 @@ fn ordering(
 
 /// A binary operator, at byte `at`, on typed operands; `numbers` says whether the operators of
 /// numeric_std are in sight.
+#[inline(never)]
 pub fn operated(
     alloc: Global,
     numbers: bool,

@@ -3,3 +3,4 @@ pub mod Told
 pub mod Lists
 pub mod Once
 pub mod Behind
+mod Listing

@@ -3,6 +3,7 @@
 ghost use Rattle.std.specs.Prelude.{◌≡◌};
 ghost use Rattle.vhdl_names_units.specs.views.Concurrent as views;
 
+use crate::actuals::Actuals;
 use crate::declaration::Objects;
 use crate::sequential::Statement;
 use vhdl_names_rules::{SignalPart, Static, StaticRange, StaticTest};
@@ -48,13 +49,12 @@ impl Drop for Process {
     }
 }
 
-/// An instance of the unit of this number: each generic's actual, and each port's. None stands
-/// where an actual is open or not associated, so a port's is boxed: a source may leave most ports open.
+/// An instance of the unit of this number: each generic's actual, and each port's.
 pub struct Instance {
     pub label: Identifier,
     pub unit: usize,
-    pub generics: Vec<Option<Static>>,
-    pub ports: Vec<Option<Box<SignalPart>>>,
+    pub generics: Actuals<Static>,
+    pub ports: Actuals<SignalPart>,
 }
 
 impl Drop for Instance {

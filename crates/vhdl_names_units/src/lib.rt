@@ -3,6 +3,7 @@
 //! instances and files share of these rules: labels and end names, names that stand once, and which of several faults is told first.
 #![tactic(auto)]
 
+mod actuals;
 mod answers;
 mod concurrent;
 mod declaration;
@@ -11,6 +12,7 @@ mod labels;
 mod sequential;
 mod unit;
 
+pub use actuals::{Actual, Actuals};
 pub use answers::{Choice, Fixed, Form, Given, SignalName, Subtype, VariableName};
 pub use concurrent::{Concurrent, Generate, Instance, Process, Scheme, Sensitivity};
 pub use declaration::{Declaration, Generics, Objects, Ports};

@@ -1,13 +1,12 @@
 -- Concurrent statements of the code.
-use Rattle.std.specs.Prelude.{ℕ, List, [], ◌∷◌, map, Option, option_map, Vec}
-use Rattle.std.specs.Global.{Box, Global}
+use Rattle.std.specs.Prelude.{ℕ, List, [], ◌∷◌, map, option_map, Vec}
+use Rattle.std.specs.Global.{Global}
 use Rattle.vhdl_tree.specs.declared.expression.Identifier.{Identifier}
-use Rattle.vhdl_names_rules.specs.declared.vector.SignalPart.{SignalPart}
-use Rattle.vhdl_names_rules.specs.units.Expressions as expressions
 use Rattle.vhdl_names_rules.specs.units.Units as u
 use Rattle.vhdl_names_rules.specs.views.Integers.{static_view, range_view}
 use Rattle.vhdl_names_rules.specs.views.Vectors.{place_view}
 use Rattle.vhdl_names_rules.specs.views.Tests.{static_test_view}
+use Rattle.vhdl_names_units.specs.views.Actuals.{each_actual}
 use Rattle.vhdl_names_units.specs.views.Sequential.{statements_of, statements_view}
 use Rattle.vhdl_names_units.specs.views.Declarations.{objects_view}
 use Rattle.vhdl_names_units.specs.declared.concurrent.Sensitivity.{Sensitivity}
@@ -37,17 +36,13 @@ process_view p = record {
   body = statements_of (statements_view p.statements);
 }
 
--- the actual of a port, if it has one
-abbrev pub port_actual_view : Option (Box SignalPart) → Option expressions.SignalPart
-port_actual_view = option_map (λ (x : Box SignalPart). place_view x.value)
-
 abbrev pub instance_view : Instance → u.Instance
 instance_view i = record {
   at = i.label.at;
   label = i.label.text.items;
   unit = i.unit;
-  generics = map (option_map static_view) i.generics.items;
-  ports = map port_actual_view i.ports.items;
+  generics = map (option_map static_view) (each_actual i.generics);
+  ports = map (option_map place_view) (each_actual i.ports);
 }
 
 -- a generate of this label and body, whose scheme starts at this byte

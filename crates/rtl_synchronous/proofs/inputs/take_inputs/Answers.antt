@@ -1,12 +1,14 @@
-use Rattle.std.proofs.Common.{◌≡◌, get_or, refl, set, ◌∙◌, arith}
+use Rattle.std.proofs.Common.{◌≡◌, get_or, refl, set, subst, sym, ◌∙◌, arith}
 use Rattle.std.specs.Prelude.{⊤}
 use Rattle.std.proofs.lemmas.List.{length-map, length-set}
 use Rattle.vhdl_values.specs.declared.scalar.Nine.TheVariants.{U}
 use Rattle.rtl_kernel.specs.kernel.Simulation.{changes_of}
 use Rattle.rtl_kernel.specs.wakes.Woken.{wakers_of}
 use Rattle.rtl_kernel.proofs.Changing.{changed_more, set_at}
+use Rattle.rtl_synchronous.specs.Marks.{IsGiven}
 use Rattle.rtl_synchronous.proofs.Marking.{marks_none, marks_then, marks_wider}
 use Rattle.rtl_synchronous.proofs.Touching.{touches_none, touches_set, touches_then}
+use Rattle.rtl_synchronous.proofs.Visiting.{given_here}
 use Rattle.rtl_synchronous.proofs.inputs.take_inputs.Goals as goal
 
 pub mark_followers-requires-clause-below : goal.mark_followers-requires-clause-below
@@ -28,8 +30,8 @@ loop-net-preserved c =
       as_many = length-set _ _ _ ∙ I.as_many;
       rest = changed_more (changes_of cs) i _ c.code-code.result values old (rw length-map c.loop-net-test.true)
           (set_at cs i c.code-code.result _ c.loop-net-test.true c.code-code.ensures.code) I.rest;
-      woken = marks_then (wakers_of c.args.schedule.now.clocked) (λ n. ⊤) old values new c.args.woken.now.items c.loop-net.woken.items c.mark_followers.new.marks.items I.woken
-          (marks_wider (wakers_of c.args.schedule.now.clocked) (λ n. n ≡ net) (λ n. ⊤) (λ n e. tt) values new c.loop-net.woken.items c.mark_followers.new.marks.items (rw (c.deref.ensures.value) at c.mark_followers.ensures));
+      woken = marks_then (wakers_of c.args.schedule.now.clocked) (IsGiven (changes_of cs)) old values new c.args.woken.now.items c.loop-net.woken.items c.mark_followers.new.marks.items I.woken
+          (marks_wider (wakers_of c.args.schedule.now.clocked) (λ n. n ≡ net) (IsGiven (changes_of cs)) (λ n e. subst (IsGiven (changes_of cs)) (sym e) (given_here cs i (0, U) c.loop-net-test.true)) values new c.loop-net.woken.items c.mark_followers.new.marks.items (rw (c.deref.ensures.value) at c.mark_followers.ensures));
       dirty = marks_then (wakers_of c.args.schedule.now.readers) (λ n. ⊤) old values new c.args.dirty.now.items c.loop-net.dirty.items c.mark_followers-in-loop-net.new.marks.items I.dirty
           (marks_wider (wakers_of c.args.schedule.now.readers) (λ n. n ≡ net) (λ n. ⊤) (λ n e. tt) values new c.loop-net.dirty.items c.mark_followers-in-loop-net.new.marks.items
           (rw (c.deref-in-loop-net.ensures.value) at c.mark_followers-in-loop-net.ensures));
@@ -40,7 +42,7 @@ pub loop-net-init : goal.loop-net-init
 loop-net-init c = record {
   as_many = refl;
   rest = λ m. refl;
-  woken = marks_none (wakers_of c.args.schedule.now.clocked) (λ n. ⊤) c.args.values.now.items c.args.woken.now.items;
+  woken = marks_none (wakers_of c.args.schedule.now.clocked) (IsGiven (changes_of c.args.changes.now)) c.args.values.now.items c.args.woken.now.items;
   dirty = marks_none (wakers_of c.args.schedule.now.readers) (λ n. ⊤) c.args.values.now.items c.args.dirty.now.items;
   touched = touches_none _ _;
 }

@@ -12,12 +12,35 @@ use Rattle.rtl_model.proofs.simulation.Leveled.{leveled}
 use Rattle.rtl_synchronous.proofs.Awake.{with_asleep}
 use Rattle.rtl_synchronous.proofs.Resting.{at_rest, stays_clean}
 use Rattle.rtl_synchronous.proofs.Sweeping.{readers_below}
-use Rattle.rtl_synchronous.proofs.Wired.{elaborated}
+use Rattle.rtl_synchronous.proofs.Machines.{clocked_below}
+use Rattle.rtl_synchronous.proofs.Wired.{elaborated, processes_many}
 use Rattle.rtl_synchronous.proofs.Touching.{touches_then}
 use Rattle.rtl_synchronous.proofs.machine.come_to_rest.Goals as goal
 
 pub run_marked-requires-clause-leaders : goal.run_marked-requires-clause-leaders
-run_marked-requires-clause-leaders g c = rw (c.deref.ensures.value, c.deref-2.ensures.value) c.requires.leaders
+run_marked-requires-clause-leaders g c = c.requires.leaders
+
+pub run_marked-requires-clause-edges : goal.run_marked-requires-clause-edges
+run_marked-requires-clause-edges g c = c.requires.edges
+
+pub run_marked-requires-clause-there : goal.run_marked-requires-clause-there
+run_marked-requires-clause-there g c = c.requires.there
+
+pub run_marked-requires-clause-follow : goal.run_marked-requires-clause-follow
+run_marked-requires-clause-follow g c = c.requires.follow
+
+pub run_marked-requires-clause-below : goal.run_marked-requires-clause-below
+run_marked-requires-clause-below g c = clocked_below _ _ _ _ c.requires.schedule _ (c.requires.each_process ∙ sym (processes_many c.args.net.now))
+
+pub take_marked-requires-clause-there : goal.take_marked-requires-clause-there
+take_marked-requires-clause-there g c = c.requires.there
+
+pub take_marked-requires-clause-follow : goal.take_marked-requires-clause-follow
+take_marked-requires-clause-follow g c = λ p m. c.requires.follow p (c.run_marked.ensures.ran.fewer p m)
+
+pub take_marked-requires-clause-followers : goal.take_marked-requires-clause-followers
+take_marked-requires-clause-followers g c =
+    clocked_below _ _ _ _ c.requires.schedule _ (c.run_marked.ensures.each_process ∙ c.requires.each_process ∙ sym (processes_many c.args.net.now))
 
 pub take_marked-requires-clause-elaborated : goal.take_marked-requires-clause-elaborated
 take_marked-requires-clause-elaborated g c = elaborated _ _ _ _ _ _ c.requires.may
@@ -28,15 +51,12 @@ take_marked-requires-clause-entries g c =
     let before = c.args.before.now in
     let v = c.args.values.now.items in
     let R = c.run_marked.ensures.ran in
-    let ran : (p : ℕ) → get_or c.run_marked.new.marked.items p false ≡ true → (get_or c.deref-5.result.now p no_outcome).entries ≡ (process net p).effect before v =
-    λ p m. ap (λ (os : List Outcome). (get_or os p no_outcome).entries) c.deref-5.ensures.value
+    let ran : (p : ℕ) → get_or c.run_marked.new.marked.items p false ≡ true → (get_or c.deref-2.result.now p no_outcome).entries ≡ (process net p).effect before v =
+    λ p m. ap (λ (os : List Outcome). (get_or os p no_outcome).entries) c.deref-2.ensures.value
     ∙ R.ran p m
-    ∙ ap (λ (u : List ℕ). (process net p).effect before u) c.deref-4.ensures.value in
+    ∙ ap (λ (u : List ℕ). (process net p).effect before u) c.deref.ensures.value in
     λ p place x m h e. (keeps_range (flat c.args.net.now) c.requires.may.in_range).effect_in_range p place x before v c.requires.before c.requires.in_range h
     (ap (λ (es : List (Option ℕ)). get_or es place None) (sym (ran p m)) ∙ e)
-
-pub take_marked-requires-clause-clocked : goal.take_marked-requires-clause-clocked
-take_marked-requires-clause-clocked g c = λ p m. c.requires.clocked p (c.run_marked.ensures.ran.fewer p m)
 
 pub take_marked-requires-clause-below : goal.take_marked-requires-clause-below
 take_marked-requires-clause-below g c = readers_below _ _ _ _ c.requires.schedule _ c.requires.each_rank
@@ -46,7 +66,7 @@ sweep-requires-clause-clean g c =
     let schedule = c.args.schedule.now in
     let R = c.run_marked.ensures.ran in
     stays_clean (core c.args.net.now) (elaborated _ _ _ _ _ _ c.requires.may) c.requires.may.accepted c.run_marked.new.marked.items (λ p m. c.requires.clocked p (R.fewer p m))
-    (λ p. (get_or c.deref-5.result.now p no_outcome).entries) c.args.values.now.items c.take_marked.new.values.items c.take_marked.ensures.taken
+    (λ p. (get_or c.deref-2.result.now p no_outcome).entries) c.args.values.now.items c.take_marked.new.values.items c.take_marked.ensures.taken
     schedule.order.items (wakers_of schedule.readers) (wakers_of schedule.clocked) c.requires.schedule (λ n. ⊤) c.args.dirty.now.items c.take_marked.new.dirty.items c.take_marked.ensures.dirty
     c.requires.clean
 
@@ -57,28 +77,19 @@ returns-clause-rest g c =
     let v = c.args.values.now.items in
     let E = elaborated _ _ _ _ _ _ c.requires.may in
     let A = c.requires.may.accepted in
-    let R = rw (c.deref-4.ensures.value, ← c.deref-5.ensures.value) at c.run_marked.ensures.ran in
+    let R = rw (c.deref.ensures.value, ← c.deref-2.ensures.value) at c.run_marked.ensures.ran in
     let taken = with_asleep net (leveled net E (faultless net A)) before v c.take_marked.new.values.items c.args.woken.now.items c.run_marked.new.marked.items
-    (λ p. (get_or c.deref-5.result.now p no_outcome).entries) R c.take_marked.ensures.taken in
+    (λ p. (get_or c.deref-2.result.now p no_outcome).entries) R c.take_marked.ensures.taken in
     at_rest net E A c.args.woken.now.items c.requires.clocked (λ p. (process net p).effect before v) v c.take_marked.new.values.items taken before c.sweep.new.values.items (λ p m. refl) c.sweep.ensures.swept
 
 pub run_marked-requires-clause-may : goal.run_marked-requires-clause-may
 run_marked-requires-clause-may g c = c.requires.may
 
-pub run_marked-requires-clause-edges : goal.run_marked-requires-clause-edges
-run_marked-requires-clause-edges g c = rw (c.deref.ensures.value) c.requires.edges
-
-pub run_marked-requires-clause-nexts : goal.run_marked-requires-clause-nexts
-run_marked-requires-clause-nexts g c = rw (c.deref-3.ensures.value) c.requires.nexts
-
-pub run_marked-requires-clause-clocked : goal.run_marked-requires-clause-clocked
-run_marked-requires-clause-clocked g c = c.requires.clocked
-
 pub run_marked-requires-clause-before : goal.run_marked-requires-clause-before
 run_marked-requires-clause-before g c = c.requires.before
 
 pub run_marked-requires-clause-values : goal.run_marked-requires-clause-values
-run_marked-requires-clause-values g c = rw (c.deref-4.ensures.value) c.requires.in_range
+run_marked-requires-clause-values g c = rw (c.deref.ensures.value) c.requires.in_range
 
 pub run_marked-requires-clause-each_process : goal.run_marked-requires-clause-each_process
 run_marked-requires-clause-each_process g c = c.requires.each_process
@@ -90,16 +101,13 @@ pub take_marked-requires-clause-each_process : goal.take_marked-requires-clause-
 take_marked-requires-clause-each_process g c = c.run_marked.ensures.each_process ∙ c.requires.each_process
 
 pub take_marked-requires-clause-own : goal.take_marked-requires-clause-own
-take_marked-requires-clause-own g c = rw (c.deref-5.ensures.value) c.run_marked.ensures.may.room.own
+take_marked-requires-clause-own g c = rw (c.deref-2.ensures.value) c.run_marked.ensures.may.room.own
 
 pub take_marked-requires-clause-in_range : goal.take_marked-requires-clause-in_range
 take_marked-requires-clause-in_range g c = c.requires.in_range
 
 pub take_marked-requires-clause-cuts : goal.take_marked-requires-clause-cuts
 take_marked-requires-clause-cuts g c = c.requires.cuts
-
-pub take_marked-requires-clause-nexts : goal.take_marked-requires-clause-nexts
-take_marked-requires-clause-nexts g c = c.requires.nexts
 
 pub take_marked-requires-clause-each_net : goal.take_marked-requires-clause-each_net
 take_marked-requires-clause-each_net g c = c.requires.each_reader

@@ -5,18 +5,19 @@ use Rattle.rtl_kernel.specs.wakes.Woken.{wakers_of}
 use Rattle.rtl_synchronous.specs.Marks.{IsOfRun}
 use Rattle.rtl_synchronous.proofs.Marking.{marks_same}
 use Rattle.rtl_synchronous.proofs.Replaced.{same_values}
-use Rattle.rtl_synchronous.proofs.Setting.{listed_below, set_marks}
+use Rattle.rtl_synchronous.proofs.Setting.{set_marks}
 use Rattle.rtl_synchronous.proofs.Touching.{touches_run, touches_same}
+use Rattle.rtl_synchronous.proofs.Visiting.{followers_below}
 use Rattle.rtl_synchronous.proofs.marks.set_here.Goals as goal
 
 pub replace-requires : goal.replace-requires
 replace-requires c = rw (ap length c.deref_mut.ensures.value) c.requires.there
 
+pub followers_of-requires : goal.followers_of-requires
+followers_of-requires c = omega (arith, c.requires.there, (c.replace.ensures.other c.if-replace.true).there, c.requires.each_net)
+
 pub mark-requires : goal.mark-requires
-mark-requires c = record {
-  there = listed_below c.args.groups.now (length c.args.values.now.items) c.requires.each_net c.args.first
-      (omega (arith, c.requires.there, (c.replace.ensures.other c.if-replace.true).there)) c.listed.result.now c.of_net.result.now c.listed.ensures c.of_net.ensures.value _ c.requires.below;
-}
+mark-requires c = record { there = followers_below (wakers_of c.args.groups.now) c.args.first _ c.requires.below c.followers_of.result.now c.followers_of.ensures }
 
 pub returns-then-replace-clause-marks : goal.returns-then-replace-clause-marks
 returns-then-replace-clause-marks c =
@@ -28,7 +29,7 @@ returns-then-replace-clause-marks c =
     let many : length new ≡ old.len = omega (arith, done.as_many, old.ok.0) in
     let written = subst (λ (vs : List ℕ). IsWritten first given old.items vs) (sym (with_items_is old new many)) done in
     set_marks c.args.groups.now (length old.items) c.requires.each_net first old.items _ given c.args.marks.now.items c.mark.new.marks.items (λ i. length old.items) c.requires.there (omega (arith, (c.replace.ensures.other c.if-replace.true).there))
-    c.requires.together c.listed.result.now c.of_net.result.now c.listed.ensures c.of_net.ensures.value written c.mark.ensures.as_many c.mark.ensures.marks
+    c.requires.together c.followers_of.result.now c.followers_of.ensures written c.mark.ensures.as_many c.mark.ensures.marks
 
 pub returns-else-replace-clause-marks : goal.returns-else-replace-clause-marks
 returns-else-replace-clause-marks c =

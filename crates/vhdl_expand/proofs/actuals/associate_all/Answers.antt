@@ -34,7 +34,7 @@ loop-name-preserved c =
     let os = c.loop-name.ports.items in
     let n = c.loop-name.count in
     let below : n < length os = first_of (search rules, omega arith) in
-    let actual = actual_seen (λ x. place_view x.value) n c.args.actuals.now c.actual_of-actual.result c.actual_of-actual.ensures in
+    let actual = actual_seen (λ x. place_view x.now) n c.args.actuals.now c.actual_of-actual.result c.actual_of-actual.ensures in
     record {
       rest = same_goes (next_associated above c.args.at actuals) p _ (associated_to n os) _ c.as_slice-names.result.now c.loop-name._name-index c.loop-name-test.true c.loop-name.invariant.rest
           (next_given above c.args.at actuals os _ n c.index_mut.result.now c.associate.new.port p _ below c.index_mut.ensures.value actual c.in_ok-associate.ensures refl);
@@ -55,7 +55,7 @@ returns-in_err-associate-clause-given c =
     let os = c.loop-name.ports.items in
     let n = c.loop-name.count in
     let below : n < length os = first_of (search rules, omega arith) in
-    let actual = actual_seen (λ x. place_view x.value) n c.args.actuals.now c.actual_of-actual.result c.actual_of-actual.ensures in
+    let actual = actual_seen (λ x. place_view x.now) n c.args.actuals.now c.actual_of-actual.result c.actual_of-actual.ensures in
     let stopped : c.in_err-associate.field-0.0 ≢ NoMemory
     → (stepwise (next_associated above c.args.at actuals) (associated_to c.args.before c.args.ports.now.items) (ports_view c.args.declaration.now)) ≡ Err (fault_told c.in_err-associate.field-0.0) =
     λ m. same_stops (next_associated above c.args.at actuals) p _ (associated_to n os) c.as_slice-names.result.now c.loop-name._name-index c.loop-name-test.true c.loop-name.invariant.rest

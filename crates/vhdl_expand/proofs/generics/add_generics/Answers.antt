@@ -33,7 +33,7 @@ loop-name-preserved c =
     let fixed : to_z w32 (of_z w32 c.in_ok-value.value) ≡ c.in_ok-value.value = omega (arith, ints) in
     let pushed = c.in_ok-push.ensures.items ∙ ap (λ (x : ℤ). values ++ x ∷ []) fixed in
     let count : c.len.result ≡ length values = first_of (search rules, omega arith) in
-    let actual = actual_seen static_view c.len.result c.args.actuals.now c.actual_of-actual.result c.actual_of-actual.ensures in
+    let actual = actual_seen (λ x. static_view x.now) c.len.result c.args.actuals.now c.actual_of-actual.result c.actual_of-actual.ensures in
     let h = subst (λ (vs : List ℤ). definition.generic above (generics_alone vs) (option_map (λ v. static_view v.now) c.actual_of-actual.result) (v c.name-item.result) ≡ Ok c.in_ok-value.value) c.deref.ensures.value c.in_ok-value.ensures in
     one_goes (step above actuals) v _ values c.push.new.self.items c.deref-name-items.result.now c.loop-name.name-index c.name-item.result
     c.loop-name-test.true c.name-item.is c.loop-name.invariant
@@ -53,7 +53,7 @@ returns-in_err-value c =
     let v = λ (n : Identifier). generic_view n.at c.args.declaration.now in
     let values = c.loop-name.values.items in
     let count : c.len.result ≡ length values = first_of (search rules, omega arith) in
-    let actual = actual_seen static_view c.len.result c.args.actuals.now c.actual_of-actual.result c.actual_of-actual.ensures in
+    let actual = actual_seen (λ x. static_view x.now) c.len.result c.args.actuals.now c.actual_of-actual.result c.actual_of-actual.ensures in
     let h = subst (λ (vs : List ℤ). (definition.generic above (generics_alone vs) (option_map (λ v. static_view v.now) c.actual_of-actual.result) (v c.name-item.result)) ≡ Err (fault_told c.in_err-value.field-0.0)) c.deref.ensures.value c.in_err-value.ensures in
     let total : (further_generics above actuals c.args.values.now.items (generics_view c.args.declaration.now)) ≡ Err (fault_told c.in_err-value.field-0.0) =
     all_stopped above actuals c.args.values.now.items _

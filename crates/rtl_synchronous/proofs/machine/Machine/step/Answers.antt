@@ -25,6 +25,16 @@ come_to_rest-requires-clause-clocked g c =
     machines.woken_clocked _ _ _ _ _ _ _ _ _ _ _ _ _ c.self.invariant.0 c.args.changes.now (rw (← c.self.view_is) at c.requires.inputs) c.take_inputs.new.values.items c.take_inputs.ensures.values
     c.take_inputs.new.woken.items c.take_inputs.new.dirty.items c.take_inputs.ensures.woken c.take_inputs.ensures.dirty
 
+pub come_to_rest-requires-clause-there : goal.come_to_rest-requires-clause-there
+come_to_rest-requires-clause-there g c =
+    rw (c.self.invariant.0.each_clocked) (machines.changes_there _ _ _ _ _ _ _ _ _ _ _ _ _ c.self.invariant.0 c.args.changes.now (rw (← c.self.view_is) at c.requires.inputs) c.self.inside.values.items
+    (machines.each_value _ _ _ _ _ _ _ _ _ _ _ _ _ c.self.invariant.0))
+
+pub come_to_rest-requires-clause-follow : goal.come_to_rest-requires-clause-follow
+come_to_rest-requires-clause-follow g c =
+    machines.woken_follow _ _ _ _ _ _ _ _ _ _ _ _ _ c.self.invariant.0 c.args.changes.now (rw (← c.self.view_is) at c.requires.inputs) c.take_inputs.new.values.items c.take_inputs.ensures.values
+    c.take_inputs.new.woken.items c.take_inputs.new.dirty.items c.take_inputs.ensures.woken c.take_inputs.ensures.dirty
+
 pub come_to_rest-requires-clause-clean : goal.come_to_rest-requires-clause-clean
 come_to_rest-requires-clause-clean g c =
     machines.still_clean _ _ _ _ _ _ _ _ _ _ _ _ _ c.self.invariant.0 c.args.changes.now (rw (← c.self.view_is) at c.requires.inputs) c.take_inputs.new.values.items c.take_inputs.ensures.values
@@ -36,11 +46,8 @@ come_to_rest-requires-clause-cuts g c = c.self.invariant.1
 pub come_to_rest-requires-clause-edges : goal.come_to_rest-requires-clause-edges
 come_to_rest-requires-clause-edges g c = c.self.invariant.2
 
-pub come_to_rest-requires-clause-nexts : goal.come_to_rest-requires-clause-nexts
-come_to_rest-requires-clause-nexts g c = c.self.invariant.3
-
 pub come_to_rest-requires-clause-leaders : goal.come_to_rest-requires-clause-leaders
-come_to_rest-requires-clause-leaders g c = c.self.invariant.4
+come_to_rest-requires-clause-leaders g c = c.self.invariant.3
 
 pub set_inputs-requires : goal.set_inputs-requires
 set_inputs-requires g c =
@@ -62,8 +69,7 @@ invariant_of-self g c =
       c.self.invariant.1,
       c.self.invariant.2,
       c.self.invariant.3,
-      c.self.invariant.4,
-      c.come_to_rest.ensures.touched.nets_stay ∙ c.take_inputs.ensures.touched.nets_stay ∙ c.forget.ensures.nets ∙ c.self.invariant.5
+      c.come_to_rest.ensures.touched.nets_stay ∙ c.take_inputs.ensures.touched.nets_stay ∙ c.forget.ensures.nets ∙ c.self.invariant.4
           ∙ K.at_rest.values_in_range.each_net ∙ sym c.come_to_rest.ensures.in_range.each_net,
     )
 
@@ -74,10 +80,10 @@ returns-clause-step g c =
     (rw (← c.self.view_is) at c.requires.raceless) c.come_to_rest.new.values.items (rw (c.deref.ensures.value) at c.come_to_rest.ensures.rest))
 
 pub take_inputs-requires-clause-nets : goal.take_inputs-requires-clause-nets
-take_inputs-requires-clause-nets g c = c.forget.ensures.nets ∙ c.self.invariant.5
+take_inputs-requires-clause-nets g c = c.forget.ensures.nets ∙ c.self.invariant.4
 
 pub come_to_rest-requires-clause-nets : goal.come_to_rest-requires-clause-nets
-come_to_rest-requires-clause-nets g c = c.take_inputs.ensures.touched.nets_stay ∙ c.forget.ensures.nets ∙ c.self.invariant.5 ∙ sym c.take_inputs.ensures.values.as_many
+come_to_rest-requires-clause-nets g c = c.take_inputs.ensures.touched.nets_stay ∙ c.forget.ensures.nets ∙ c.self.invariant.4 ∙ sym c.take_inputs.ensures.values.as_many
 
 pub returns-clause-touched : goal.returns-clause-touched
 returns-clause-touched g c =

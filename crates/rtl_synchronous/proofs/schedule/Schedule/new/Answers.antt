@@ -51,12 +51,6 @@ wakes_of_clocked-requires-clause-accepted c = c.requires.accepted
 pub wakes_of_clocked-requires-clause-levels : goal.wakes_of_clocked-requires-clause-levels
 wakes_of_clocked-requires-clause-levels c = c.requires.levels
 
-pub nexts_of-requires-clause-accepted : goal.nexts_of-requires-clause-accepted
-nexts_of-requires-clause-accepted c = c.requires.accepted
-
-pub nexts_of-requires-clause-levels : goal.nexts_of-requires-clause-levels
-nexts_of-requires-clause-levels c = c.requires.levels
-
 pub returns : goal.returns
 returns c =
     let net = c.args.net.now in
@@ -81,7 +75,6 @@ returns c =
       };
       edges = c.in_ok-edges.ensures;
       leaders = subst (λ (es : List (Option ClockEdge)). AreLeaders es c.in_ok-leaders.leaders.items) c.deref-4.ensures.value c.in_ok-leaders.ensures;
-      nexts = c.in_ok-nexts.ensures;
     }
 
 pub returns-in_err-order : goal.returns-in_err-order
@@ -116,6 +109,3 @@ returns-in_err-edges c = IfOk-from_err c.from_residual-in_err-edges.result _ c.f
 
 pub returns-in_err-leaders : goal.returns-in_err-leaders
 returns-in_err-leaders c = IfOk-from_err c.from_residual-in_err-leaders.result _ c.from_residual-in_err-leaders.ensures.0
-
-pub returns-in_err-nexts : goal.returns-in_err-nexts
-returns-in_err-nexts c = IfOk-from_err c.from_residual-in_err-nexts.result _ c.from_residual-in_err-nexts.ensures.0

@@ -7,20 +7,18 @@ use Rattle.std.specs.Prelude.{◌≢◌, option_map, flat_map, codes}
 use Rattle.std.specs.Fmt.{signed_decimal}
 use Rattle.std.proofs.lemmas.Option.{slice_get-map, slice_get_past}
 use Rattle.vhdl_names_rules.specs.units.Bytes.{process_bytes, concurrent_bytes, concurrents_bytes, units_bytes}
-use Rattle.vhdl_names_units.specs.views.Concurrent.{port_actual_view}
 use Rattle.vhdl_names_units.specs.views.Units.{entity_view, architecture_view}
 use Rattle.vhdl_names_units.specs.views.Declarations.{declaration_view}
-use Rattle.vhdl_expand_rules.specs.Declarations.{declarations, interface}
+use Rattle.vhdl_expand_rules.specs.Declarations.{declarations}
 use Rattle.vhdl_expand_rules.specs.Elab.{◌>>=◌, fault_told, MayTell}
 use Rattle.vhdl_expand_rules.specs.Expansion.{instance_of, with_dot}
 use Rattle.vhdl_elab_rules.specs.Numbering.{own_sizes}
 use Rattle.vhdl_expand_tree.specs.Costs.{charged, spent, nets, instance_costs}
 use Rattle.vhdl_expand_tree.specs.Views.{budget_view, object_view, parts_of}
-use Rattle.vhdl_expand.specs.Associations.{associated}
 use Rattle.vhdl_expand.specs.Views.{declared_view}
 use Rattle.vhdl_expand.proofs.Nested.{outermost, instance_made, not_expanded, no_unit, instance_here, instance_behind, expanded_here}
 use Rattle.vhdl_expand.proofs.Stopping.{deep_told, bare_told, many_told, declared_told, nets_told, inside_told, unit_found, interface_told, associated_told, inner_told}
-use Rattle.vhdl_names_rules.specs.views.Integers.{range_view, static_view}
+use Rattle.vhdl_names_rules.specs.views.Integers.{range_view}
 use Rattle.vhdl_names_rules.specs.views.Tests.{static_test_view}
 use Rattle.vhdl_names_units.specs.views.Concurrent as units
 use Rattle.vhdl_names_units.proofs.rows.Concurrent.{view_generate}
@@ -74,7 +72,7 @@ concurrents-returns-in_err-concurrent t c =
 pub concurrents-concurrent-requires : goal.concurrents-concurrent-requires
 concurrents-concurrent-requires t c = (
   omega (arith, c.decreases, lighter c.args.list.now c.loop-item.item-index c.item-item.result c.loop-item-test.true c.item-item.is),
-  (c.requires.site, c.loop-item.invariant.fits),
+  c.loop-item.invariant.fits,
 )
 
 -- ---- a statement
@@ -213,7 +211,7 @@ concurrent-generate-requires t c =
     let w = c.in-Generate.written in
     let is = ap (λ x. weight (units.concurrent_view x)) c.in-Generate.is ∙ ap weight (view_generate w.label w.at w.scheme w.statements)
     ∙ generate_weight w.label.text.items w.at (units.concurrents_of (units.concurrents_view w.statements)) w.scheme in
-    (omega (arith, c.decreases, is), (c.requires.site, c.requires.fits))
+    (omega (arith, c.decreases, is), c.requires.fits)
 
 pub turn-returns : goal.turn-returns
 turn-returns t c =
@@ -225,7 +223,7 @@ turn-returns t c =
     let e = ap (λ s. adding (progress_view c.args.so_far.now) (made.concurrents (units_of c.args.self.now) c.args.self.now.levels s (units.concurrents_of (units.concurrents_view w.statements))))
     (turn_spot (units_of c.args.self.now) c.args.self.now.levels (spot_view c.args.spot.now) w.at w.label.text.items (units.concurrents_of (units.concurrents_view w.statements)) inner c.args.parameter c.deref-2.result.now c.deref-3.result.now c.within-inner.ensures.spot values prefix)
     ∙ ap (λ xs. adding (progress_view c.args.so_far.now) (made.concurrents (units_of c.args.self.now) c.args.self.now.levels inner (units.concurrents_of (map units.concurrent_view xs)))) (sym c.deref-4.ensures.value) in
-    charges_among _ _ _ _ _ (same_among (λ xs. concurrents_bytes (units.concurrents_of (map units.concurrent_view xs)) ++ units_bytes (units_of c.args.self.now)) _ _ c.deref-4.ensures.value) (charges_along _ _ _ _ _ e c.concurrents-walked.ensures)
+    charges_among _ _ _ _ _ (same_among (λ xs. concurrents_bytes (units.concurrents_of (map units.concurrent_view xs)) ++ units_bytes (units_of c.args.self.now)) _ _ c.deref-4.ensures.value) (charges_along _ _ _ _ _ e c.concurrents.ensures)
 
 -- ---- an if generate
 
@@ -256,7 +254,7 @@ branch-returns t c =
     ∙ ap (λ s. adding (progress_view c.args.so_far.now) (made.concurrents (units_of c.args.self.now) c.args.self.now.levels s (units.concurrents_of (units.concurrents_view w.statements))))
     (branch_spot (units_of c.args.self.now) c.args.self.now.levels (spot_view c.args.spot.now) w.at w.label.text.items (units.concurrents_of (units.concurrents_view w.statements)) inner c.deref-2.result.now c.within-inner.ensures.spot prefix)
     ∙ ap (λ xs. adding (progress_view c.args.so_far.now) (made.concurrents (units_of c.args.self.now) c.args.self.now.levels inner (units.concurrents_of (map units.concurrent_view xs)))) (sym c.deref-3.ensures.value) in
-    charges_among _ _ _ _ _ (same_among (λ xs. concurrents_bytes (units.concurrents_of (map units.concurrent_view xs)) ++ units_bytes (units_of c.args.self.now)) _ _ c.deref-3.ensures.value) (charges_along _ _ _ _ _ e c.concurrents-walked.ensures)
+    charges_among _ _ _ _ _ (same_among (λ xs. concurrents_bytes (units.concurrents_of (map units.concurrent_view xs)) ++ units_bytes (units_of c.args.self.now)) _ _ c.deref-3.ensures.value) (charges_along _ _ _ _ _ e c.concurrents.ensures)
 
 -- ---- the body of an instance
 
@@ -265,8 +263,7 @@ body-returns t c =
     let d = declared_view c.args.declared.now in
     let s = units.concurrents_of (map units.concurrent_view c.args.list.now) in
     ap (λ ps. adding (record { made = record { parts = ps; turns = 0 }; left = budget_view c.args.left }) (made.concurrents (units_of c.args.self.now) c.args.self.now.levels (outermost d) s)) (sym (ap parts_of c.new.ensures.items))
-    ∙ ap (λ a. adding (record { made = record { parts = parts_of c.new.result.items; turns = 0 }; left = budget_view c.args.left }) (made.concurrents (units_of c.args.self.now) c.args.self.now.levels (record { site = a; prefix = [] }) s)) (sym c.site.ensures.seen)
-    ∙ c.in_ok-walked.ensures
+    ∙ c.in_ok-concurrents.ensures
 
 -- ---- an instance
 
@@ -346,9 +343,8 @@ add_instance-returns-in_err-declared t c =
     let x = units.instance_view c.args.written.now in
     let at = spot_view c.args.spot.now in
     let e = entity_view c.in-Some.unit.now in
-    let named = ap (λ xs. interface at.site.integers (map (option_map static_view) xs) e) (sym c.deref.ensures.value) in
     passed_told _ _ c.in_err-declared.field-0.0 _ c.from_residual.result c.from_residual.ensures.1 (λ e p. p)
-    (λ n. interface_told (units_of c.args.self.now) c.args.self.now.levels at x (progress_view c.args.so_far.now) e (unit_found c.args.self.now.units.now c.args.written.now.unit c.in-Some.unit.now c.in-Some.ensures.lookup.3.0 (c.in-Some.ensures.lookup.3.1 c.in-Some.unit.now)) (named ∙ c.in_err-declared.ensures n))
+    (λ n. interface_told (units_of c.args.self.now) c.args.self.now.levels at x (progress_view c.args.so_far.now) e (unit_found c.args.self.now.units.now c.args.written.now.unit c.in-Some.unit.now c.in-Some.ensures.lookup.3.0 (c.in-Some.ensures.lookup.3.1 c.in-Some.unit.now)) (c.in_err-declared.ensures n))
 
 pub add_instance-returns-in_err-associations : goal.add_instance-returns-in_err-associations
 add_instance-returns-in_err-associations t c =
@@ -356,10 +352,8 @@ add_instance-returns-in_err-associations t c =
     let at = spot_view c.args.spot.now in
     let e = entity_view c.in-Some.unit.now in
     let d = declared_view c.in_ok-declared.declared in
-    let known = ap (λ xs. interface at.site.integers (map (option_map static_view) xs) e) (sym c.deref.ensures.value) ∙ c.in_ok-declared.ensures in
-    let named = ap (λ xs. associated at.site x.at e.ports (map port_actual_view xs) d) (sym c.deref-2.ensures.value) in
     passed_told _ _ c.in_err-associations.field-0.0 _ c.from_residual-in_err-associations.result c.from_residual-in_err-associations.ensures.1 (λ e p. p)
-    (λ n. associated_told (units_of c.args.self.now) c.args.self.now.levels at x (progress_view c.args.so_far.now) e (unit_found c.args.self.now.units.now c.args.written.now.unit c.in-Some.unit.now c.in-Some.ensures.lookup.3.0 (c.in-Some.ensures.lookup.3.1 c.in-Some.unit.now)) d known (named ∙ c.in_err-associations.ensures n))
+    (λ n. associated_told (units_of c.args.self.now) c.args.self.now.levels at x (progress_view c.args.so_far.now) e (unit_found c.args.self.now.units.now c.args.written.now.unit c.in-Some.unit.now c.in-Some.ensures.lookup.3.0 (c.in-Some.ensures.lookup.3.1 c.in-Some.unit.now)) d c.in_ok-declared.ensures (c.in_err-associations.ensures n))
 
 pub add_instance-instance-requires : goal.add_instance-instance-requires
 add_instance-instance-requires t c = (
@@ -373,10 +367,8 @@ add_instance-returns-in_err-instance t c =
     let at = spot_view c.args.spot.now in
     let e = entity_view c.in-Some.unit.now in
     let d = declared_view c.in_ok-declared.declared in
-    let known = ap (λ xs. interface at.site.integers (map (option_map static_view) xs) e) (sym c.deref.ensures.value) ∙ c.in_ok-declared.ensures in
-    let joined = ap (λ xs. associated at.site x.at e.ports (map port_actual_view xs) d) (sym c.deref-2.ensures.value) ∙ c.in_ok-associations.ensures in
     passed_told _ _ c.in_err-instance.field-0.0 _ c.from_residual-in_err-instance.result c.from_residual-in_err-instance.ensures.1 (λ e p. p)
-    (λ n. inner_told (units_of c.args.self.now) c.args.self.now.levels at x (progress_view c.args.so_far.now) e (unit_found c.args.self.now.units.now c.args.written.now.unit c.in-Some.unit.now c.in-Some.ensures.lookup.3.0 (c.in-Some.ensures.lookup.3.1 c.in-Some.unit.now)) d known (declared_view c.associations.new.declared) joined (c.in_err-instance.ensures n))
+    (λ n. inner_told (units_of c.args.self.now) c.args.self.now.levels at x (progress_view c.args.so_far.now) e (unit_found c.args.self.now.units.now c.args.written.now.unit c.in-Some.unit.now c.in-Some.ensures.lookup.3.0 (c.in-Some.ensures.lookup.3.1 c.in-Some.unit.now)) d c.in_ok-declared.ensures (declared_view c.associations.new.declared) c.in_ok-associations.ensures (c.in_err-instance.ensures n))
 
 pub add_instance-returns : goal.add_instance-returns
 add_instance-returns t c =
@@ -386,11 +378,9 @@ add_instance-returns t c =
     let e = entity_view c.in-Some.unit.now in
     let found = unit_found c.args.self.now.units.now c.args.written.now.unit c.in-Some.unit.now c.in-Some.ensures.lookup.3.0 (c.in-Some.ensures.lookup.3.1 c.in-Some.unit.now) in
     let d = declared_view c.in_ok-declared.declared in
-    let known = ap (λ xs. interface at.site.integers (map (option_map static_view) xs) e) (sym c.deref.ensures.value) ∙ c.in_ok-declared.ensures in
     let f = declared_view c.associations.new.declared in
-    let joined = ap (λ xs. associated at.site x.at e.ports (map port_actual_view xs) d) (sym c.deref-2.ensures.value) ∙ c.in_ok-associations.ensures in
-    let here = instance_here u c.args.self.now.levels at x e d f found known joined in
-    let label : c.in_ok-label.label.items ≡ at.prefix ++ x.label = c.in_ok-label.ensures ∙ ap (λ l. at.prefix ++ l) c.deref-3.ensures.value in
+    let here = instance_here u c.args.self.now.levels at x e d f found c.in_ok-declared.ensures c.in_ok-associations.ensures in
+    let label : c.in_ok-label.label.items ≡ at.prefix ++ x.label = c.in_ok-label.ensures ∙ ap (λ l. at.prefix ++ l) c.deref.ensures.value in
     let r = expanded_here u c.args.self.now.levels at x in
     let s = instance_of u c.args.self.now.levels x.at e f in
     ap (λ l. adding (progress_view c.args.so_far.now) (r >>= λ i. given (made_instance l i))) (sym label)

@@ -15,7 +15,7 @@ use Rattle.vhdl_expand.proofs.walk.Walk.add_process.Goals as goal
 
 pub returns : goal.returns
 returns c =
-    process_behind c.args.so_far.now.parts.items c.push.new.self.items c.in_ok-made.made c.args.so_far.now.turns (budget_view c.args.so_far.now.left) (budget_view c.process.new.budget)
+    process_behind c.args.so_far.now.parts.items c.push.new.self.items c.in_ok-made.made c.args.so_far.now.turns (budget_view c.args.so_far.now.left) (budget_view c.process.new.left)
     (definition.process (spot_view c.args.spot.now) (units.process_view c.args.written.now)) c.in_ok-made.ensures c.in_ok-push.ensures.items
 
 pub returns-in_err-made : goal.returns-in_err-made
