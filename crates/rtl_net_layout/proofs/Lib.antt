@@ -6,3 +6,4 @@ pub mod Alike
 pub mod Cutting
 pub mod Ends
 pub mod Bringing
+pub mod Reaching

@@ -1,14 +1,16 @@
 //! Marks of nets that may have changed.
 
-ghost use Rattle.std.specs.Prelude.{◌≡◌, ℕ, ◌+◌, ◌-◌, ◌*◌, ◌/◌, ◌<◌, ◌≤◌, ◌⊎◌, true, false, length, slice_index, slice_index_or, replicate, IfOk};
+ghost use Rattle.std.specs.Prelude.{◌≡◌, ℕ, ◌+◌, ◌-◌, ◌*◌, ◌/◌, ◌<◌, ◌≤◌, ◌⊎◌, Contains, true, false, length, slice_index, slice_index_or, replicate, IfOk};
 ghost use Rattle.rtl_net_layout.specs.Touching.{IsLeft, AreLeft, KeepsLeft, MarksRun};
+ghost use Rattle.rtl_net_layout.specs.Reaching.{Reaches};
 
+use crate::reach::Reach;
 use crate::search::{has_mark, next_marked};
 use std::alloc::{AllocError, Global};
 use std::marker::Model;
 
 /// How many nets a chunk has.
-const CHUNK: usize = 256;
+pub(crate) const CHUNK: usize = 256;
 
 /// For each chunk of nets a mark, which one of them gets where it may have changed. So what follows a few changes needn't look at
 /// all nets. All memory is taken by `new`.
@@ -90,6 +92,18 @@ impl Touched {
             chunk = next_marked(&self.marks, chunk + 1);
         }
     }
+
+    /// Marks the places that have nets of marked chunks. It looks at no others.
+    pub fn mark_places(&self, reach: &Reach, marks: &mut [bool])
+        requires { length reach.now ≡ self.now.nets / 256 + 1 }
+        ensures { (place n : ℕ) → n < self.now.nets → Reaches reach.now place n → slice_index_or marks.new place true ≡ false → IsLeft self.now n }
+    {
+        let mut chunk = next_marked(&self.marks, 0);
+        while chunk < self.marks.len() {
+            mark_all(marks, reach.places(chunk));
+            chunk = next_marked(&self.marks, chunk + 1);
+        }
+    }
 }
 
 /// Takes all marks off.
@@ -110,6 +124,18 @@ fn mark_each(marks: &mut [bool], first: usize, last: usize)
     marks[last] = true;
     for place in first..last {
         marks[place] = true;
+    }
+}
+
+/// Marks these places, as far as they are there.
+fn mark_all(marks: &mut [bool], places: &[usize])
+    ensures marked { (place : ℕ) → Contains places.now place → slice_index_or marks.new place true ≡ true }
+    ensures kept { (k : ℕ) → slice_index_or marks.old k true ≡ true → slice_index_or marks.new k true ≡ true }
+{
+    for place in places {
+        if *place < marks.len() {
+            marks[*place] = true;
+        }
     }
 }
 

@@ -129,24 +129,33 @@ same_value old new least greatest n same low high =
     ∙ ap (λ vs. slice_index vs (n - least)) same
     ∙ get_or-between new least (greatest + 1) (n - least) 0 within ∙ ap (λ k. slice_index new k) at
 
-module _ (least greatest : ℕ) (old new : List ℕ) (same : (n : ℕ) → least ≤ n → n ≤ greatest → slice_index old n ≡ slice_index new n) where
-  same_values : (ns : List ℕ) → All (λ n. (least ≤ n) × (n ≤ greatest)) ns → map (slice_index old) ns ≡ map (slice_index new) ns
+module _ (old new : List ℕ) where
+  -- the net has one value in both
+  abbrev pub Stays : ℕ → Type 0
+  Stays n = slice_index old n ≡ slice_index new n
+
+  same_values : (ns : List ℕ) → All Stays ns → map (slice_index old) ns ≡ map (slice_index new) ns
   same_values [] all = refl
   same_values (n ∷ ns) all =
-      let at = All-head (λ n. (least ≤ n) × (n ≤ greatest)) n ns all in
-      ap (λ v. v ∷ map (slice_index old) ns) (same n at.0 at.1)
-      ∙ ap (λ vs. slice_index new n ∷ vs) (same_values ns (All-tail (λ n. (least ≤ n) × (n ≤ greatest)) n ns all))
+      ap (λ v. v ∷ map (slice_index old) ns) (All-head Stays n ns all) ∙ ap (λ vs. slice_index new n ∷ vs) (same_values ns (All-tail Stays n ns all))
 
-  no_change : (k : ℕ) (s : SignalView) → All (λ n. (least ≤ n) × (n ≤ greatest)) s.nets → change k s old new ≡ []
+  no_change : (k : ℕ) (s : SignalView) → All Stays s.nets → change k s old new ≡ []
   no_change k s all =
       let e : bytes_eq (printed k s old) (printed k s new) ≡ true =
       (bytes_eq-Decides (printed k s old) (printed k s new)).1 (ap (value_change s.kind (code k)) (same_values s.nets all)) in
       rw e refl
 
   -- names whose nets keep their values
-  pub no_changes : (k : ℕ) (names : List SignalView) → All (λ (s : SignalView). All (λ n. (least ≤ n) × (n ≤ greatest)) s.nets) names
-      → changes_from k names old new ≡ []
-  no_changes k [] all = refl
-  no_changes k (s ∷ ss) all =
-      let Between : SignalView → Type 0 = λ t. All (λ n. (least ≤ n) × (n ≤ greatest)) t.nets in
-      ap (λ t. t ++ changes_from (suc k) ss old new) (no_change k s (All-head Between s ss all)) ∙ no_changes (suc k) ss (All-tail Between s ss all)
+  pub none_changes : (k : ℕ) (names : List SignalView) → All (λ (s : SignalView). All Stays s.nets) names → changes_from k names old new ≡ []
+  none_changes k [] all = refl
+  none_changes k (s ∷ ss) all =
+      let Kept : SignalView → Type 0 = λ t. All Stays t.nets in
+      ap (λ t. t ++ changes_from (suc k) ss old new) (no_change k s (All-head Kept s ss all)) ∙ none_changes (suc k) ss (All-tail Kept s ss all)
+
+  -- the same of nets of a run
+  pub no_changes : (least greatest : ℕ) → ((n : ℕ) → least ≤ n → n ≤ greatest → Stays n) → (k : ℕ) (names : List SignalView)
+      → All (λ (s : SignalView). All (λ n. (least ≤ n) × (n ≤ greatest)) s.nets) names → changes_from k names old new ≡ []
+  no_changes least greatest same k names all =
+      none_changes k names
+      (All-weaker (λ (s : SignalView). All (λ n. (least ≤ n) × (n ≤ greatest)) s.nets) (λ (s : SignalView). All Stays s.nets)
+      (λ s h. All-weaker (λ n. (least ≤ n) × (n ≤ greatest)) Stays (λ n at. same n at.0 at.1) s.nets h) names all)

@@ -11,6 +11,7 @@ pub mod Plain
 pub mod Puts
 pub mod Binaries
 pub mod Printing
+pub mod Reached
 pub mod Runs
 pub mod Scopes
 pub mod Stamps

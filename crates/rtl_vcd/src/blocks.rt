@@ -1,14 +1,15 @@
 //! Names in blocks.
 
-ghost use Rattle.std.specs.Prelude.{◌≡◌, ◌≤◌, ◌<◌, ◌+◌, ◌++◌, ◌∷◌, [], ℕ, List, All, Contains, length, take, drop, map, slice_index, true, IfOk};
+ghost use Rattle.std.specs.Prelude.{◌≡◌, ◌≤◌, ◌<◌, ◌+◌, ◌/◌, ◌++◌, ◌∷◌, [], ℕ, List, All, Contains, length, take, drop, map, slice_index, true, IfOk, OnOk};
 ghost use Rattle.rtl_net.specs.Nets.{SignalView, signal_view};
 ghost use Rattle.rtl_net_layout.specs.Touching.{KeepsLeft};
-ghost use Rattle.rtl_vcd.specs.Blocks.{IsBlockOf, AreBlocks};
+ghost use Rattle.rtl_net_layout.specs.Reaching.{Reaches};
+ghost use Rattle.rtl_vcd.specs.Blocks.{IsBlockOf, AreBlocks, HaveReached, AreReached};
 ghost use Rattle.rtl_vcd.specs.Shown.{IsShown};
 
 use crate::characters::are_same;
 use rtl_net::{Net, Signal};
-use rtl_net_layout::Touched;
+use rtl_net_layout::{Reach, Touched};
 use std::alloc::{AllocError, Global};
 
 /// The most names of a block whose nets are compared, and at how many others a block ends.
@@ -22,6 +23,9 @@ const REACH: usize = 128;
 
 /// Of how many nets, from the least to the greatest of a block, the marks are looked at. A block whose nets are compared reaches no further.
 const SPAN: usize = NAMES * REACH;
+
+/// How many places the blocks share: each that many blocks has one.
+pub(crate) const PLACES: usize = 1024;
 
 /// Names one behind the other, and the least and the greatest of their nets.
 #[derive(Clone, Copy)]
@@ -131,6 +135,35 @@ pub(crate) fn blocks_of(alloc: Global, net: &Net) -> Result<Vec<Block>, AllocErr
         next += block.names;
     }
     Ok(blocks)
+}
+
+/// The places of blocks with these names, one behind the other, by the nets of these.
+pub(crate) fn reach_of(alloc: Global, net: &Net, blocks: &Vec<Block>) -> Result<Reach, AllocError>
+    requires { AreBlocks (length net.now.types) blocks.now.items net.now.signals }
+    ensures { IfOk result (λ reach. AreReached (length net.now.types) reach blocks.now.items net.now.signals) }
+{
+    let signals = net.signals();
+    let mut reach = Reach::new(alloc, net.nets())?;
+    let mut next = 0;
+    for (number, block) in blocks.iter().enumerate() {
+        let end = next + block.names;
+        add_names(&mut reach, number % PLACES, &signals[next..end])?;
+        next = end;
+    }
+    Ok(reach)
+}
+
+/// Puts a place that has these names into the chunks of their nets.
+fn add_names(reach: &mut Reach, place: usize, names: &[Signal]) -> Result<(), AllocError>
+    requires { All (λ (s : SignalView). All (λ n. n / 256 < length reach.old) s.nets) (map signal_view names.now) }
+    ensures stay { OnOk result (length reach.new ≡ length reach.old) }
+    ensures kept { OnOk result ((p n : ℕ) → Reaches reach.old p n → Reaches reach.new p n) }
+    ensures added { OnOk result (HaveReached reach.new place (map signal_view names.now)) }
+{
+    for name in names {
+        reach.add(place, &name.nets)?;
+    }
+    Ok(())
 }
 
 /// The block that begins with the name of this number: names whose nets stand close to one another, or those before so many.

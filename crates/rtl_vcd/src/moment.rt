@@ -5,19 +5,19 @@ ghost use Rattle.rtl_sink.specs.Written.{IsIntact, HasFailed, Goes};
 ghost use Rattle.rtl_net.specs.Nets.{signal_view};
 ghost use Rattle.rtl_net_layout.specs.Touching.{KeepsLeft};
 ghost use Rattle.rtl_vcd.specs.Trace.{changes, time_line, are_some, moment_text};
-ghost use Rattle.rtl_vcd.specs.Blocks.{AreBlocks, changes_from, continued};
+ghost use Rattle.rtl_vcd.specs.Blocks.{AreBlocks, AreReached, changes_from, continued};
 ghost use Rattle.rtl_vcd.specs.Ready.{AreReady};
 ghost use Rattle.rtl_vcd.specs.Shown.{IsShown};
 ghost use Rattle.rtl_vcd.specs.Pages.{Passes, IsOpen};
 
-use crate::blocks::{Block, blocks_of};
+use crate::blocks::{Block, PLACES, blocks_of, reach_of};
 use crate::fault::VcdFault;
 use crate::named::{Step, push_part};
 use crate::page::Page;
 use crate::ready::{Run, runs_of};
 use crate::trace::{push_time, written};
 use rtl_net::{Net, Signal};
-use rtl_net_layout::Touched;
+use rtl_net_layout::{Reach, Touched};
 use rtl_sink::{Sink, push_text};
 use std::alloc::{AllocError, Global};
 use std::marker::Model;
@@ -27,6 +27,7 @@ pub struct Blocks<'a> {
     net: &'a Net,
     blocks: Vec<Block>,
     runs: Vec<Run>,
+    reach: Reach,
 }
 
 impl Drop for Blocks<'_> {
@@ -35,6 +36,7 @@ impl Drop for Blocks<'_> {
             net: _,
             blocks: _,
             runs: _,
+            reach: _,
         } = self;
     }
 }
@@ -49,32 +51,39 @@ impl<'a> Model for Blocks<'a> {
     ghost coded = { Prim.hlevel (codes, process_contract.the_row.coded) };
 
     ghost use Rattle.std.specs.Prelude.{length};
-    ghost use Rattle.rtl_vcd.specs.Blocks.{AreBlocks};
+    ghost use Rattle.rtl_vcd.specs.Blocks.{AreBlocks, AreReached};
     ghost use Rattle.rtl_vcd.specs.Ready.{AreReady};
 
     ghost view = { λ b. b.net.now };
 
-    ghost invariant = { λ b. AreBlocks (length b.net.now.types) b.blocks.items b.net.now.signals × AreReady 0 b.net.now.signals b.runs.items };
+    ghost invariant = { λ b. AreBlocks (length b.net.now.types) b.blocks.items b.net.now.signals × AreReady 0 b.net.now.signals b.runs.items
+        × AreReached (length b.net.now.types) b.reach b.blocks.items b.net.now.signals };
 }
 
 impl<'a> Blocks<'a> {
     /// The blocks of the netlist's names, and the names that stand on nets one behind the other, ready to print. They take four words
-    /// for each block, which mostly has some 64 names, and two for each name.
+    /// for each block, which mostly has some 64 names, two for each name, and at most one for each net of a name.
     pub fn new(alloc: Global, net: &'a Net) -> Result<Blocks<'a>, AllocError>
         ensures { IfOk result (λ b. b ≡ net.now) }
     {
         let blocks = blocks_of(alloc, net)?;
         let runs = runs_of(alloc, net)?;
-        Ok(Blocks { net, blocks, runs })
+        let reach = reach_of(alloc, net, &blocks)?;
+        Ok(Blocks {
+            net,
+            blocks,
+            runs,
+            reach,
+        })
     }
 
     /// Writes what the names print at a time after 0, where the nets had the values `old` and have the values `new`, one for
     /// each net: those that print otherwise than before, behind the time. Answers whether there were such. Takes no memory. Nets of
     /// chunks that aren't marked have one value in both.
     ///
-    /// A block of names whose nets stand close to one another costs a look at the marks of these where none is marked, and one
-    /// comparison of two runs of bytes where none of them has changed. Any other block costs no more than that look where none is marked
-    /// and it doesn't reach too far; else each of its names is looked at. The sink gets up to a page of lines at a time.
+    /// A block that has no net of a marked chunk, nor shares its place with one that has, costs the look at one mark. Of the others, one
+    /// of names whose nets stand close to one another costs one comparison of two runs of bytes where none of them has changed; else each
+    /// of its names is looked at. The sink gets up to a page of lines at a time.
     ///
     /// # Errors
     ///
@@ -102,6 +111,7 @@ impl<'a> Blocks<'a> {
             self.net,
             self.blocks.as_slice(),
             self.runs.as_slice(),
+            &self.reach,
             touched,
             &step,
             out,
@@ -116,12 +126,14 @@ fn push_moment<W: Sink>(
     net: &Net,
     blocks: &[Block],
     runs: &[Run],
+    reach: &Reach,
     touched: &Touched,
     step: &Step,
     out: &mut W,
 ) -> bool
     requires blocks { AreBlocks (length net.now.types) blocks.now net.now.signals }
     requires runs { AreReady 0 net.now.signals runs.now }
+    requires reach { AreReached (length net.now.types) reach.now blocks.now net.now.signals }
     requires before { length step.now.old.now ≡ length net.now.types }
     requires after { length step.now.new.now ≡ length net.now.types }
     requires nets { touched.now.nets ≡ length net.now.types }
@@ -131,12 +143,14 @@ fn push_moment<W: Sink>(
 {
     net.is_elaborated();
     let signals = net.signals();
+    let mut marks = [false; PLACES];
+    touched.mark_places(reach, &mut marks);
     let mut page = Page::new();
     let mut next = 0;
     let mut is_printed = false;
-    for block in blocks {
+    for (number, block) in blocks.iter().enumerate() {
         let end = next + block.names;
-        if !block.is_quiet(touched, step.old, step.new) {
+        if marks[number % PLACES] && !block.is_quiet(touched, step.old, step.new) {
             is_printed = push_changes(
                 &signals[next..end],
                 &runs[next..end],

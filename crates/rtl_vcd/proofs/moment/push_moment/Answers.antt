@@ -19,20 +19,20 @@ none = record { names = 0; least = 0; greatest = 0; is_compared = false }
 pub push_changes-is_printed-requires-clause-before : goal.push_changes-is_printed-requires-clause-before
 push_changes-is_printed-requires-clause-before g c =
     part_shown c.args.net.now c.is_elaborated.ensures c.signals-signals.result.now c.signals-signals.ensures (length c.args.step.now.old.now)
-    c.loop-block.next (get_or c.args.blocks.now c.loop-block.block-index none).names c.requires.before
+    c.loop-number.next (get_or c.args.blocks.now c.loop-number.number none).names c.requires.before
 
 pub push_changes-is_printed-requires-clause-after : goal.push_changes-is_printed-requires-clause-after
 push_changes-is_printed-requires-clause-after g c =
     part_shown c.args.net.now c.is_elaborated.ensures c.signals-signals.result.now c.signals-signals.ensures (length c.args.step.now.new.now)
-    c.loop-block.next (get_or c.args.blocks.now c.loop-block.block-index none).names c.requires.after
+    c.loop-number.next (get_or c.args.blocks.now c.loop-number.number none).names c.requires.after
 
 pub push_changes-is_printed-requires-clause-runs : goal.push_changes-is_printed-requires-clause-runs
 push_changes-is_printed-requires-clause-runs g c =
-    part_of_runs c.signals-signals.result.now c.args.runs.now c.loop-block.next (get_or c.args.blocks.now c.loop-block.block-index none).names
+    part_of_runs c.signals-signals.result.now c.args.runs.now c.loop-number.next (get_or c.args.blocks.now c.loop-number.number none).names
     c.args.net.now.signals c.signals-signals.ensures c.requires.runs
 
-pub loop-block-init : goal.loop-block-init
-loop-block-init g c =
+pub loop-number-init : goal.loop-number-init
+loop-number-init g c =
     let start = g.W.Sink.state c.args.out.now in (
       subst (λ held. Passes start start [] held []) (sym c.new-page.ensures) (Passes-nil start []),
       refl,
@@ -41,20 +41,20 @@ loop-block-init g c =
       record { room = omega (arith, ap length c.new-page.ensures); empty = λ _. c.new-page.ensures },
     )
 
-pub loop-block-preserved : goal.loop-block-preserved
-loop-block-preserved g c =
+pub loop-number-preserved : goal.loop-number-preserved
+loop-number-preserved g c =
     let net = c.args.net.now in
     let names = net.signals in
     let old = c.args.step.now.old.now in
     let new = c.args.step.now.new.now in
     let time = c.args.step.now.time in
-    let next = c.loop-block.next in
-    let block = get_or c.args.blocks.now c.loop-block.block-index none in
-    let I = c.loop-block.invariant in
-    let here = this_block (length net.types) c.args.blocks.now c.loop-block.block-index none next names c.loop-block-test.true I.2 I.3 in
+    let next = c.loop-number.next in
+    let block = get_or c.args.blocks.now c.loop-number.number none in
+    let I = c.loop-number.invariant in
+    let here = this_block (length net.types) c.args.blocks.now c.loop-number.number none next names c.loop-number-test.true I.2 I.3 in
     let first = g.W.Sink.state c.args.out.now in
-    let before = g.W.Sink.state c.loop-block.out in
-    let held = c.loop-block.page in
+    let before = g.W.Sink.state c.loop-number.out in
+    let held = c.loop-number.page in
     let earlier = changes_from 0 (take next names) old new in
     let part = changes_from next (take block.names (drop next names)) old new in
     elim c.if-not-is_quiet.branch [
@@ -62,8 +62,8 @@ loop-block-preserved g c =
           let after = g.W.Sink.state w.push_changes-is_printed.new.out in
           let holds = w.push_changes-is_printed.new.page in
           let listed = part_of_names c.signals-signals.result.now next block.names ∙ ap (λ ss. take block.names (drop next ss)) c.signals-signals.ensures in
-          let pushed = subst (λ ss. Passes before after held holds (continued c.loop-block.is_printed time (changes_from next ss old new))) listed w.push_changes-is_printed.ensures.text in
-          let is = subst (λ ss. w.push_changes-is_printed.result ≡ (c.loop-block.is_printed || are_some (changes_from next ss old new))) listed w.push_changes-is_printed.ensures.printed in
+          let pushed = subst (λ ss. Passes before after held holds (continued c.loop-number.is_printed time (changes_from next ss old new))) listed w.push_changes-is_printed.ensures.text in
+          let is = subst (λ ss. w.push_changes-is_printed.result ≡ (c.loop-number.is_printed || are_some (changes_from next ss old new))) listed w.push_changes-is_printed.ensures.printed in
           let more = changes_further next block.names names old new I.2 in
           rw (w.out-is, w.page-is, w.next-is, w.is_printed-is) (
             subst (λ xs. Passes first after [] holds (stamped time xs)) (sym more)
@@ -76,7 +76,7 @@ loop-block-preserved g c =
           )
       | else-not-is_quiet w ↦
           let same = none_further next block.names names old new I.2
-          (no_changes block.least block.greatest old new (c.is_quiet.ensures w.if-not-is_quiet.false) next (take block.names (drop next names)) here.0.between) in
+          (no_changes old new block.least block.greatest (c.is_quiet.ensures w.if-not-is_quiet.false) next (take block.names (drop next names)) here.0.between) in
           rw (w.out-is, w.page-is, w.next-is, w.is_printed-is) (
             subst (λ xs. Passes first before [] held (stamped time xs)) (sym same) I.0,
             I.1 ∙ ap are_some (sym same),
@@ -88,13 +88,13 @@ loop-block-preserved g c =
 
 pub returns-clause-text : goal.returns-clause-text
 returns-clause-text g c =
-    let all = all_taken (length c.args.net.now.types) c.args.blocks.now c.loop-block.block-index c.loop-block.next c.args.net.now.signals c.loop-block-test.false c.loop-block.invariant.3 in
-    let rest = subst (Goes (g.W.Sink.state c.loop-block.out) (g.W.Sink.state c.push_text.new.sink)) c.text.ensures c.push_text.ensures in
+    let all = all_taken (length c.args.net.now.types) c.args.blocks.now c.loop-number.number c.loop-number.next c.args.net.now.signals c.loop-number-test.false c.loop-number.invariant.3 in
+    let rest = subst (Goes (g.W.Sink.state c.loop-number.out) (g.W.Sink.state c.push_text.new.sink)) c.text.ensures c.push_text.ensures in
     subst (λ ss. Goes (g.W.Sink.state c.args.out.now) (g.W.Sink.state c.push_text.new.sink)
     (stamped c.args.step.now.time (changes_from 0 ss c.args.step.now.old.now c.args.step.now.new.now))) all
-    (Passes-whole _ _ _ _ _ c.loop-block.invariant.0 rest)
+    (Passes-whole _ _ _ _ _ c.loop-number.invariant.0 rest)
 
 pub returns-clause-printed : goal.returns-clause-printed
 returns-clause-printed g c =
-    let all = all_taken (length c.args.net.now.types) c.args.blocks.now c.loop-block.block-index c.loop-block.next c.args.net.now.signals c.loop-block-test.false c.loop-block.invariant.3 in
-    subst (λ ss. c.loop-block.is_printed ≡ are_some (changes_from 0 ss c.args.step.now.old.now c.args.step.now.new.now)) all c.loop-block.invariant.1
+    let all = all_taken (length c.args.net.now.types) c.args.blocks.now c.loop-number.number c.loop-number.next c.args.net.now.signals c.loop-number-test.false c.loop-number.invariant.3 in
+    subst (λ ss. c.loop-number.is_printed ≡ are_some (changes_from 0 ss c.args.step.now.old.now c.args.step.now.new.now)) all c.loop-number.invariant.1

@@ -1,14 +1,15 @@
 use Rattle.std.specs.Prelude.{◌≡◌, ◌≤◌, [], length, take, drop}
 use Rattle.rtl_vcd.specs.Pages.{Passes, IsOpen}
 use Rattle.rtl_vcd.specs.Trace.{stamped, are_some}
-use Rattle.rtl_vcd.specs.Blocks.{AreBlocks, changes_from}
+use Rattle.rtl_vcd.specs.Blocks.{AreBlocks, ReachFrom, changes_from}
 use Rattle.rtl_vcd.proofs.moment.push_moment.Given as goal
 
 -- the names before the next one are printed, the last of them in the page, and those from there on stand in the blocks that are left
-abbrev pub invariant-loop-block : goal.invariant-loop-block
-invariant-loop-block g l =
+abbrev pub invariant-loop-number : goal.invariant-loop-number
+invariant-loop-number g l =
     Passes (g.W.Sink.state l.initial.out) (g.W.Sink.state l.out) [] l.page (stamped l.step.time (changes_from 0 (take l.next l.net.signals) l.step.old.now l.step.new.now))
     × (l.is_printed ≡ are_some (changes_from 0 (take l.next l.net.signals) l.step.old.now l.step.new.now))
     × (l.next ≤ length l.net.signals)
-    × AreBlocks (length l.net.types) (drop l.block-index l.blocks) (drop l.next l.net.signals)
+    × AreBlocks (length l.net.types) (drop l.number l.blocks) (drop l.next l.net.signals)
     × IsOpen l.is_printed l.page
+    × ReachFrom l.number l.reach (drop l.number l.blocks) (drop l.next l.net.signals)
