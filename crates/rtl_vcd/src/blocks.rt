@@ -138,9 +138,9 @@ pub(crate) fn blocks_of(alloc: Global, net: &Net) -> Result<Vec<Block>, AllocErr
 }
 
 /// The places of blocks with these names, one behind the other, by the nets of these.
-pub(crate) fn reach_of(alloc: Global, net: &Net, blocks: &Vec<Block>) -> Result<Reach, AllocError>
-    requires { AreBlocks (length net.now.types) blocks.now.items net.now.signals }
-    ensures { IfOk result (λ reach. AreReached (length net.now.types) reach blocks.now.items net.now.signals) }
+pub(crate) fn reach_of(alloc: Global, net: &Net, blocks: &[Block]) -> Result<Reach, AllocError>
+    requires { AreBlocks (length net.now.types) blocks.now net.now.signals }
+    ensures { IfOk result (λ reach. AreReached (length net.now.types) reach blocks.now net.now.signals) }
 {
     let signals = net.signals();
     let mut reach = Reach::new(alloc, net.nets())?;
