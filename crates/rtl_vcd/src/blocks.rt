@@ -69,17 +69,6 @@ impl Block {
         }
     }
 
-    /// The same block, compared.
-    fn compared(&self) -> Block
-        ensures names { result.names ≡ self.now.names }
-        ensures block { (nets : ℕ) (names : List SignalView) → IsBlockOf nets self.now names → IsBlockOf nets result names }
-    {
-        Block {
-            is_compared: true,
-            ..*self
-        }
-    }
-
     /// Whether it has no more nets, from the least to the greatest, than are compared for so many names.
     fn is_dense(&self) -> bool
         requires order { self.now.least ≤ self.now.greatest }
@@ -175,7 +164,10 @@ fn block_at(net: &Net, first: usize) -> Block
     let signals = net.signals();
     let mut block = close_at(net, first);
     if block.names > FEW {
-        return block.compared();
+        return Block {
+            is_compared: true,
+            ..block
+        };
     }
     let mut next = first + block.names;
     while next < signals.len() {
