@@ -6,4 +6,4 @@ pub mod Alike
 pub mod Cutting
 pub mod Ends
 pub mod Bringing
-pub mod Reaching
+pub mod MarkedLists

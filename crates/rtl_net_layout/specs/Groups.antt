@@ -9,6 +9,10 @@ pub record Grouping : Type 0 where
   pub first : List ℕ
   pub listed : List (List ℕ)
 
+-- the process is listed for the net's group
+abbrev pub IsListed : Grouping → (process net : ℕ) → Type 0
+IsListed g p n = Contains (slice_index_or g.listed (slice_index g.of_net n) []) p
+
 -- each net is in one group, none is empty, and they stand in order, so that each is a run
 pub record AreRuns (of_net first : List ℕ) : Type 0 where
   pub there : (n : ℕ) → n < length of_net → slice_index of_net n < length first
@@ -29,7 +33,7 @@ pub record AreGroups (declared : List ℕ) (nets_of : List (List ℕ)) (g : Grou
   pub runs : AreRuns g.of_net g.first
   -- nets of one group are alike, and a process is listed for a net's group just where the net is listed for the process
   pub alike : (m n : ℕ) → m < length declared → n < length declared → slice_index g.of_net m ≡ slice_index g.of_net n → AreAlike declared nets_of m n
-  pub listed : (n p : ℕ) → n < length declared → Contains (slice_index_or g.listed (slice_index g.of_net n) []) p ↔ Contains (slice_index_or nets_of p []) n
+  pub listed : (n p : ℕ) → n < length declared → IsListed g p n ↔ Contains (slice_index_or nets_of p []) n
 
 -- these are the nets of the group
 pub record AreNetsOf (g : Grouping) (group first end : ℕ) : Type 0 where

@@ -4,5 +4,4 @@ pub mod Cuts
 pub mod Kept
 pub mod NextMarks
 pub mod Touching
-pub mod Reaching
 pub mod steps

@@ -1,16 +1,19 @@
 //! Marks of nets that may have changed.
 
-ghost use Rattle.std.specs.Prelude.{◌≡◌, ℕ, ◌+◌, ◌-◌, ◌*◌, ◌/◌, ◌<◌, ◌≤◌, ◌⊎◌, Contains, true, false, length, slice_index, slice_index_or, replicate, IfOk};
+ghost use Rattle.std.specs.Prelude.{◌≡◌, ℕ, ◌+◌, ◌-◌, ◌*◌, ◌/◌, ◌%◌, ◌<◌, ◌≤◌, ◌⊎◌, Contains, true, false, length, slice_index, slice_index_or, replicate, IfOk};
 ghost use Rattle.rtl_net_layout.specs.Touching.{IsLeft, AreLeft, KeepsLeft, MarksRun};
-ghost use Rattle.rtl_net_layout.specs.Reaching.{Reaches};
+ghost use Rattle.rtl_net_layout.specs.Groups.{IsListed};
 
-use crate::reach::Reach;
+use crate::groups::Groups;
 use crate::search::{has_mark, next_marked};
 use std::alloc::{AllocError, Global};
 use std::marker::Model;
 
 /// How many nets a chunk has.
-pub(crate) const CHUNK: usize = 256;
+const CHUNK: usize = 256;
+
+/// How many places share the marks of what is listed for groups: number p has place p modulo this.
+pub const PLACES: usize = 1024;
 
 /// For each chunk of nets a mark, which one of them gets where it may have changed. So what follows a few changes needn't look at
 /// all nets. All memory is taken by `new`.
@@ -93,15 +96,44 @@ impl Touched {
         }
     }
 
-    /// Marks the places that have nets of marked chunks. It looks at no others.
-    pub fn mark_places(&self, reach: &Reach, marks: &mut [bool])
-        requires { length reach.now ≡ self.now.nets / 256 + 1 }
-        ensures { (place n : ℕ) → n < self.now.nets → Reaches reach.now place n → slice_index_or marks.new place true ≡ false → IsLeft self.now n }
+    /// Marks the places of what is listed for nets whose values differ. It looks at the nets of marked chunks alone. A place that
+    /// isn't there counts as marked.
+    pub fn mark_listed(&self, groups: &Groups, old: &[u8], new: &[u8], marks: &mut [bool])
+        requires groups { length groups.now.of_net ≡ self.now.nets }
+        requires old { length old.now ≡ self.now.nets }
+        requires new { length new.now ≡ self.now.nets }
+        requires left { KeepsLeft self.now old.now new.now }
+        ensures { (p n : ℕ) → n < self.now.nets → IsListed groups.now p n → slice_index_or marks.new (p % 1024) true ≡ false
+            → slice_index old.now n ≡ slice_index new.now n }
     {
         let mut chunk = next_marked(&self.marks, 0);
         while chunk < self.marks.len() {
-            mark_all(marks, reach.places(chunk));
+            let first = chunk * CHUNK;
+            mark_others(groups, first, self.nets.min(first + CHUNK), old, new, marks);
             chunk = next_marked(&self.marks, chunk + 1);
+        }
+    }
+}
+
+/// Marks the places of what is listed for nets from one on and before an end whose values differ.
+fn mark_others(
+    groups: &Groups,
+    first: usize,
+    end: usize,
+    old: &[u8],
+    new: &[u8],
+    marks: &mut [bool],
+)
+    requires groups { end ≤ length groups.now.of_net }
+    requires old { end ≤ length old.now }
+    requires new { end ≤ length new.now }
+    ensures marked { (p n : ℕ) → first ≤ n → n < end → IsListed groups.now p n → slice_index_or marks.new (p % 1024) true ≡ false
+        → slice_index old.now n ≡ slice_index new.now n }
+    ensures kept { (k : ℕ) → slice_index_or marks.old k true ≡ true → slice_index_or marks.new k true ≡ true }
+{
+    for net in first..end {
+        if old[net] != new[net] {
+            mark_all(marks, groups.listed(groups.of_net()[net]));
         }
     }
 }
@@ -127,14 +159,15 @@ fn mark_each(marks: &mut [bool], first: usize, last: usize)
     }
 }
 
-/// Marks these places, as far as they are there.
-fn mark_all(marks: &mut [bool], places: &[usize])
-    ensures marked { (place : ℕ) → Contains places.now place → slice_index_or marks.new place true ≡ true }
+/// Marks the places of these numbers, as far as they are there.
+fn mark_all(marks: &mut [bool], numbers: &[usize])
+    ensures marked { (p : ℕ) → Contains numbers.now p → slice_index_or marks.new (p % 1024) true ≡ true }
     ensures kept { (k : ℕ) → slice_index_or marks.old k true ≡ true → slice_index_or marks.new k true ≡ true }
 {
-    for place in places {
-        if *place < marks.len() {
-            marks[*place] = true;
+    for number in numbers {
+        let place = *number % PLACES;
+        if place < marks.len() {
+            marks[place] = true;
         }
     }
 }

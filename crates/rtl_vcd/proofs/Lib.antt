@@ -5,13 +5,13 @@ pub mod Ends
 pub mod Forms
 pub mod Hulls
 pub mod Lanes
+pub mod Listed
 pub mod Names
 pub mod Pages
 pub mod Plain
 pub mod Puts
 pub mod Binaries
 pub mod Printing
-pub mod Reached
 pub mod Runs
 pub mod Scopes
 pub mod Stamps

@@ -1,7 +1,7 @@
 -- The names of a netlist in blocks.
-use Rattle.std.specs.Prelude.{◌≡◌, ℕ, ◌+◌, ◌/◌, ◌%◌, ◌<◌, ◌≤◌, Bool, true, false, List, [], ◌∷◌, All, take, drop, length, ⊤}
+use Rattle.std.specs.Prelude.{◌≡◌, ℕ, ◌+◌, ◌<◌, ◌≤◌, Bool, true, false, List, [], ◌∷◌, All, take, drop, length, ⊤}
 use Rattle.rtl_net.specs.Nets.{SignalView}
-use Rattle.rtl_net_layout.specs.Reaching.{Reaches}
+use Rattle.rtl_net_layout.specs.Groups.{Grouping, IsListed}
 use Rattle.rtl_vcd.specs.declared.blocks.Block.{Block}
 use Rattle.rtl_vcd.specs.Values.{numbered}
 use Rattle.rtl_vcd.specs.Trace.{change, stamped}
@@ -18,19 +18,19 @@ abbrev pub AreBlocks : (nets : ℕ) → List Block → (names : List SignalView)
 AreBlocks nets [] names = names ≡ []
 AreBlocks nets (b ∷ bs) names = IsBlockOf nets b (take b.names names) × AreBlocks nets bs (drop b.names names)
 
--- the chunks of the nets of these names have this place
-abbrev pub HaveReached : (places : List (List ℕ)) → (place : ℕ) → (names : List SignalView) → Type 0
-HaveReached places place names = All (λ (s : SignalView). All (Reaches places place) s.nets) names
+-- the block of this number is listed for each net of these names
+abbrev pub IsListedFor : Grouping → (block : ℕ) → (names : List SignalView) → Type 0
+IsListedFor g k names = All (λ (s : SignalView). All (IsListed g k) s.nets) names
 
--- the same of blocks that have these names, one behind the other; the first of them is number k, and each that many share a place
-abbrev pub ReachFrom : (k : ℕ) → (places : List (List ℕ)) → List Block → (names : List SignalView) → Type 0
-ReachFrom k places [] names = ⊤
-ReachFrom k places (b ∷ bs) names = HaveReached places (k % 1024) (take b.names names) × ReachFrom (k + 1) places bs (drop b.names names)
+-- the same of blocks that have these names, one behind the other; the first of them is number k
+abbrev pub ListedFrom : (k : ℕ) → Grouping → List Block → (names : List SignalView) → Type 0
+ListedFrom k g [] names = ⊤
+ListedFrom k g (b ∷ bs) names = IsListedFor g k (take b.names names) × ListedFrom (k + 1) g bs (drop b.names names)
 
--- of so many nets, each chunk has the places of the blocks that have nets of it
-pub record AreReached (nets : ℕ) (places : List (List ℕ)) (bs : List Block) (names : List SignalView) : Type 0 where
-  pub chunks : length places ≡ nets / 256 + 1
-  pub each : ReachFrom 0 places bs names
+-- of so many nets, each has the blocks that have a name with it
+pub record AreListed (nets : ℕ) (g : Grouping) (bs : List Block) (names : List SignalView) : Type 0 where
+  pub each_net : length g.of_net ≡ nets
+  pub each : ListedFrom 0 g bs names
 
 -- the changes of these names, the first of them being number k
 abbrev pub changes_from : (k : ℕ) → List SignalView → (before now : List ℕ) → List ℕ

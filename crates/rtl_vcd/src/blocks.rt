@@ -1,15 +1,15 @@
 //! Names in blocks.
 
 ghost use Rattle.std.specs.Prelude.{◌≡◌, ◌≤◌, ◌<◌, ◌+◌, ◌/◌, ◌++◌, ◌∷◌, [], ℕ, List, All, Contains, length, take, drop, map, slice_index, true, IfOk, OnOk};
+ghost use Rattle.std.specs.List.{flat_map};
 ghost use Rattle.rtl_net.specs.Nets.{SignalView, signal_view};
 ghost use Rattle.rtl_net_layout.specs.Touching.{KeepsLeft};
-ghost use Rattle.rtl_net_layout.specs.Reaching.{Reaches};
-ghost use Rattle.rtl_vcd.specs.Blocks.{IsBlockOf, AreBlocks, HaveReached, AreReached};
+ghost use Rattle.rtl_vcd.specs.Blocks.{IsBlockOf, AreBlocks, AreListed};
 ghost use Rattle.rtl_vcd.specs.Shown.{IsShown};
 
 use crate::characters::are_same;
 use rtl_net::{Net, Signal};
-use rtl_net_layout::{Reach, Touched};
+use rtl_net_layout::{Groups, Lists, Touched};
 use std::alloc::{AllocError, Global};
 
 /// The most names of a block whose nets are compared, and at how many others a block ends.
@@ -24,8 +24,8 @@ const REACH: usize = 128;
 /// Of how many nets, from the least to the greatest of a block, the marks are looked at. A block whose nets are compared reaches no further.
 const SPAN: usize = NAMES * REACH;
 
-/// How many places the blocks share: each that many blocks has one.
-pub(crate) const PLACES: usize = 1024;
+/// How many blocks are looked at as fast as those are marked that have nets which differ.
+pub(crate) const MANY: usize = 64;
 
 /// Names one behind the other, and the least and the greatest of their nets.
 #[derive(Clone, Copy)]
@@ -126,33 +126,33 @@ pub(crate) fn blocks_of(alloc: Global, net: &Net) -> Result<Vec<Block>, AllocErr
     Ok(blocks)
 }
 
-/// The places of blocks with these names, one behind the other, by the nets of these.
-pub(crate) fn reach_of(alloc: Global, net: &Net, blocks: &[Block]) -> Result<Reach, AllocError>
+/// For each net the blocks of these that have a name with it. It takes memory for each net, and for each net of a name.
+pub(crate) fn listed_for(alloc: Global, net: &Net, blocks: &[Block]) -> Result<Groups, AllocError>
     requires { AreBlocks (length net.now.types) blocks.now net.now.signals }
-    ensures { IfOk result (λ reach. AreReached (length net.now.types) reach blocks.now net.now.signals) }
+    ensures { IfOk result (λ groups. AreListed (length net.now.types) groups blocks.now net.now.signals) }
 {
     let signals = net.signals();
-    let mut reach = Reach::new(alloc, net.nets())?;
+    let mut nets_of = Lists::new(alloc)?;
     let mut next = 0;
-    for (number, block) in blocks.iter().enumerate() {
+    for block in blocks {
         let end = next + block.names;
-        add_names(&mut reach, number % PLACES, &signals[next..end])?;
+        let nets = nets_in(alloc, &signals[next..end])?;
+        nets_of.push(nets.as_slice())?;
         next = end;
     }
-    Ok(reach)
+    let declared = vec![in alloc; 0; net.nets()]?;
+    Groups::new(alloc, &declared, &nets_of)
 }
 
-/// Puts a place that has these names into the chunks of their nets.
-fn add_names(reach: &mut Reach, place: usize, names: &[Signal]) -> Result<(), AllocError>
-    requires { All (λ (s : SignalView). All (λ n. n / 256 < length reach.old) s.nets) (map signal_view names.now) }
-    ensures stay { OnOk result (length reach.new ≡ length reach.old) }
-    ensures kept { OnOk result ((p n : ℕ) → Reaches reach.old p n → Reaches reach.new p n) }
-    ensures added { OnOk result (HaveReached reach.new place (map signal_view names.now)) }
+/// The nets of these names, one behind the other.
+fn nets_in(alloc: Global, names: &[Signal]) -> Result<Vec<usize>, AllocError>
+    ensures { IfOk result (λ nets. nets.items ≡ flat_map (λ (s : SignalView). s.nets) (map signal_view names.now)) }
 {
+    let mut nets = Vec::new(alloc);
     for name in names {
-        reach.add(place, &name.nets)?;
+        nets.extend_from_slice(&name.nets)?;
     }
-    Ok(())
+    Ok(nets)
 }
 
 /// The block that begins with the name of this number: names whose nets stand close to one another, or those before so many.

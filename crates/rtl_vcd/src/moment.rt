@@ -1,23 +1,23 @@
 //! The changes at a time after 0.
 
-ghost use Rattle.std.specs.Prelude.{◌≡◌, ◌+◌, ◌<◌, ◌≤◌, ◌||◌, [], if◌then◌else◌, All, length, map, OnOk, OnErr, IfOk};
+ghost use Rattle.std.specs.Prelude.{◌≡◌, ◌+◌, ◌<◌, ◌≤◌, ◌||◌, [], if◌then◌else◌, All, length, map, OnOk, OnErr, IfOk, IfSome};
 ghost use Rattle.rtl_sink.specs.Written.{IsIntact, HasFailed, Goes};
 ghost use Rattle.rtl_net.specs.Nets.{signal_view};
 ghost use Rattle.rtl_net_layout.specs.Touching.{KeepsLeft};
 ghost use Rattle.rtl_vcd.specs.Trace.{changes, time_line, are_some, moment_text};
-ghost use Rattle.rtl_vcd.specs.Blocks.{AreBlocks, AreReached, changes_from, continued};
+ghost use Rattle.rtl_vcd.specs.Blocks.{AreBlocks, AreListed, changes_from, continued};
 ghost use Rattle.rtl_vcd.specs.Ready.{AreReady};
 ghost use Rattle.rtl_vcd.specs.Shown.{IsShown};
 ghost use Rattle.rtl_vcd.specs.Pages.{Passes, IsOpen};
 
-use crate::blocks::{Block, PLACES, blocks_of, reach_of};
+use crate::blocks::{Block, MANY, blocks_of, listed_for};
 use crate::fault::VcdFault;
 use crate::named::{Step, push_part};
 use crate::page::Page;
 use crate::ready::{Run, runs_of};
 use crate::trace::{push_time, written};
 use rtl_net::{Net, Signal};
-use rtl_net_layout::{Reach, Touched};
+use rtl_net_layout::{Groups, PLACES, Touched};
 use rtl_sink::{Sink, push_text};
 use std::alloc::{AllocError, Global};
 use std::marker::Model;
@@ -27,7 +27,8 @@ pub struct Blocks<'a> {
     net: &'a Net,
     blocks: Vec<Block>,
     runs: Vec<Run>,
-    reach: Reach,
+    /// The blocks by their nets, where there are many.
+    listed: Option<Groups>,
 }
 
 impl Drop for Blocks<'_> {
@@ -36,7 +37,7 @@ impl Drop for Blocks<'_> {
             net: _,
             blocks: _,
             runs: _,
-            reach: _,
+            listed: _,
         } = self;
     }
 }
@@ -51,29 +52,35 @@ impl<'a> Model for Blocks<'a> {
     ghost coded = { Prim.hlevel (codes, process_contract.the_row.coded) };
 
     ghost use Rattle.std.specs.Prelude.{length};
-    ghost use Rattle.rtl_vcd.specs.Blocks.{AreBlocks, AreReached};
+    ghost use Rattle.std.specs.Prelude.{IfSome};
+    ghost use Rattle.rtl_vcd.specs.Blocks.{AreBlocks, AreListed};
     ghost use Rattle.rtl_vcd.specs.Ready.{AreReady};
 
     ghost view = { λ b. b.net.now };
 
     ghost invariant = { λ b. AreBlocks (length b.net.now.types) b.blocks.items b.net.now.signals × AreReady 0 b.net.now.signals b.runs.items
-        × AreReached (length b.net.now.types) b.reach b.blocks.items b.net.now.signals };
+        × IfSome b.listed (λ groups. AreListed (length b.net.now.types) groups b.blocks.items b.net.now.signals) };
 }
 
 impl<'a> Blocks<'a> {
     /// The blocks of the netlist's names, and the names that stand on nets one behind the other, ready to print. They take four words
-    /// for each block, which mostly has some 64 names, two for each name, and at most one for each net of a name.
+    /// for each block, which mostly has some 64 names, and two for each name; and where there are many blocks, up to three for each
+    /// net and one for each net of a name.
     pub fn new(alloc: Global, net: &'a Net) -> Result<Blocks<'a>, AllocError>
         ensures { IfOk result (λ b. b ≡ net.now) }
     {
         let blocks = blocks_of(alloc, net)?;
         let runs = runs_of(alloc, net)?;
-        let reach = reach_of(alloc, net, blocks.as_slice())?;
+        let listed = if blocks.len() > MANY {
+            Some(listed_for(alloc, net, blocks.as_slice())?)
+        } else {
+            None
+        };
         Ok(Blocks {
             net,
             blocks,
             runs,
-            reach,
+            listed,
         })
     }
 
@@ -81,7 +88,8 @@ impl<'a> Blocks<'a> {
     /// each net: those that print otherwise than before, behind the time. Answers whether there were such. Takes no memory. Nets of
     /// chunks that aren't marked have one value in both.
     ///
-    /// A block that has no net of a marked chunk, nor shares its place with one that has, costs the look at one mark. Of the others, one
+    /// Where there are many blocks, one that has no net whose value differs, nor shares its place with one that has, costs the look at
+    /// one mark, and each net of a marked chunk costs a comparison. Of the other blocks, one
     /// of names whose nets stand close to one another costs one comparison of two runs of bytes where none of them has changed; else each
     /// of its names is looked at. The sink gets up to a page of lines at a time.
     ///
@@ -111,7 +119,7 @@ impl<'a> Blocks<'a> {
             self.net,
             self.blocks.as_slice(),
             self.runs.as_slice(),
-            &self.reach,
+            self.listed.as_ref(),
             touched,
             &step,
             out,
@@ -126,14 +134,14 @@ fn push_moment<W: Sink>(
     net: &Net,
     blocks: &[Block],
     runs: &[Run],
-    reach: &Reach,
+    listed: Option<&Groups>,
     touched: &Touched,
     step: &Step,
     out: &mut W,
 ) -> bool
     requires blocks { AreBlocks (length net.now.types) blocks.now net.now.signals }
     requires runs { AreReady 0 net.now.signals runs.now }
-    requires reach { AreReached (length net.now.types) reach.now blocks.now net.now.signals }
+    requires listed { IfSome listed (λ groups. AreListed (length net.now.types) groups.now blocks.now net.now.signals) }
     requires before { length step.now.old.now ≡ length net.now.types }
     requires after { length step.now.new.now ≡ length net.now.types }
     requires nets { touched.now.nets ≡ length net.now.types }
@@ -143,8 +151,10 @@ fn push_moment<W: Sink>(
 {
     net.is_elaborated();
     let signals = net.signals();
-    let mut marks = [false; PLACES];
-    touched.mark_places(reach, &mut marks);
+    let mut marks = [listed.is_none(); PLACES];
+    if let Some(groups) = listed {
+        touched.mark_listed(groups, step.old, step.new, &mut marks);
+    }
     let mut page = Page::new();
     let mut next = 0;
     let mut is_printed = false;

@@ -1,18 +1,18 @@
-use Rattle.std.proofs.Common.{◌≡◌, ◌%◌, ◌<◌, ◌||◌, true, false, [], length, take, drop, get_or, refl, arith, sym, ap, subst, ◌∙◌}
+use Rattle.std.proofs.Common.{◌≡◌, ◌%◌, ◌<◌, ◌||◌, Bool, not, true, false, IfSome, is_some, [], length, take, drop, get_or, refl, arith, sym, ap, subst, ◌∙◌}
 use Rattle.std.proofs.lemmas.Nat.{mod_below}
-use Rattle.std.proofs.lemmas.List.{get_or_default}
+use Rattle.std.proofs.lemmas.List.{get_or_default, get_or-replicate, length-replicate}
 use Rattle.rtl_sink.specs.Written.{Goes}
 use Rattle.rtl_vcd.specs.Pages.{Passes}
 use Rattle.rtl_vcd.proofs.Pages.{Passes-nil, Passes-append, Passes-whole}
 use Rattle.rtl_vcd.specs.declared.blocks.Block.{Block}
 use Rattle.rtl_vcd.specs.Trace.{stamped, are_some}
-use Rattle.rtl_vcd.specs.Blocks.{changes_from, continued}
+use Rattle.rtl_vcd.specs.Blocks.{AreListed, changes_from, continued}
 use Rattle.rtl_vcd.proofs.Names.{part_of_names, part_shown}
 use Rattle.rtl_vcd.proofs.Ends.{part_of_runs}
 use Rattle.rtl_vcd.proofs.Stamps.{changes_further, none_further, continued_more, are_some_append}
 use Rattle.rtl_vcd.proofs.Hulls.{this_block, all_taken, no_changes, none_changes}
-use Rattle.rtl_vcd.proofs.Reached.{this_reach, names_stay}
-use Rattle.rtl_vcd.proofs.moment.push_moment.Goals.{then-marks-number+then-not-is_quiet, else-marks-number, else-marks-number-via-then-marks-number+else-not-is_quiet, else-marks-number-via-else-marks-number}
+use Rattle.rtl_vcd.proofs.Listed.{KeepFrom, all_marked, listed_marked, this_keeps}
+use Rattle.rtl_vcd.proofs.moment.push_moment.Goals.{then-marks-number+then-not-is_quiet, else-marks-number, else-marks-number-via-then-marks-number+else-not-is_quiet, else-marks-number-via-else-marks-number, in-Some, in_default}
 use Rattle.rtl_vcd.proofs.moment.push_moment.Goals as goal
 
 -- no block
@@ -34,15 +34,34 @@ push_changes-is_printed-requires-clause-runs g c =
     part_of_runs c.signals-signals.result.now c.args.runs.now c.loop-number.next (get_or c.args.blocks.now c.loop-number.number none).names
     c.args.net.now.signals c.signals-signals.ensures c.requires.runs
 
+of_not : (b : Bool) → not b ≡ false → b ≡ true
+of_not true e = refl
+of_not false e = sym e
+
 pub loop-number-init : goal.loop-number-init
 loop-number-init g c =
-    let start = g.W.Sink.state c.args.out.now in (
+    let start = g.W.Sink.state c.args.out.now in
+    let nets = length c.args.net.now.types in
+    let old = c.args.step.now.old.now in
+    let new = c.args.step.now.new.now in (
       subst (λ held. Passes start start [] held []) (sym c.new-page.ensures) (Passes-nil start []),
       refl,
       omega arith,
       c.requires.blocks,
       record { room = omega (arith, ap length c.new-page.ensures); empty = λ _. c.new-page.ensures },
-      c.requires.reach.each,
+      elim c.match-listed.branch [
+        | in-Some w ↦
+            let listed =
+            subst (λ o. IfSome o (λ groups. AreListed nets groups.now c.args.blocks.now c.args.net.now.signals)) w.in-Some.is c.requires.listed in
+            subst (λ ms. KeepFrom ms old new 0 c.args.blocks.now c.args.net.now.signals) (sym w.marks-is)
+            (listed_marked w.mark_listed.new.marks old new nets w.in-Some.groups.now
+            (λ p n lt h unmarked. w.mark_listed.ensures p n (omega (arith, lt, c.requires.nets)) h unmarked) 0 c.args.blocks.now c.args.net.now.signals c.requires.blocks listed.each)
+        | in_default w ↦
+            let none_listed : c.is_none-marks.result ≡ true = of_not c.is_none-marks.result (sym c.is_none-marks.ensures ∙ ap is_some w.in_default.is) in
+            all_marked c.match-listed.marks old new
+            (λ k. ap (λ ms. get_or ms (k % 1024) true) w.marks-is ∙ get_or-replicate 1024 (k % 1024) c.is_none-marks.result true (mod_below k 1024 (omega arith)) ∙ none_listed)
+            0 c.args.blocks.now c.args.net.now.signals
+      ],
     )
 
 pub loop-number-preserved : goal.loop-number-preserved
@@ -56,7 +75,7 @@ loop-number-preserved g c =
     let block = get_or c.args.blocks.now c.loop-number.number none in
     let I = c.loop-number.invariant in
     let here = this_block (length net.types) c.args.blocks.now c.loop-number.number none next names c.loop-number-test.true I.2 I.3 in
-    let reached = this_reach c.args.reach.now c.args.blocks.now c.loop-number.number none next names c.loop-number-test.true I.5 in
+    let keeps = this_keeps c.match-listed.marks old new c.args.blocks.now c.loop-number.number none next names c.loop-number-test.true I.5 in
     let first = g.W.Sink.state c.args.out.now in
     let before = g.W.Sink.state c.loop-number.out in
     let held = c.loop-number.page in
@@ -78,7 +97,7 @@ loop-number-preserved g c =
             here.1,
             here.2,
             w.push_changes-is_printed.ensures.opened,
-            reached.1,
+            keeps.1,
           )
       | else-marks-number w ↦
           let these = take block.names (drop next names) in
@@ -87,12 +106,12 @@ loop-number-preserved g c =
                 no_changes old new block.least block.greatest (v.is_quiet.ensures v.if-not-is_quiet.false) next these here.0.between
             | else-marks-number-via-else-marks-number v ↦
                 let place = c.loop-number.number % 1024 in
-                let marks = c.mark_places.new.marks in
-                let within : place < length marks = omega (arith, mod_below c.loop-number.number 1024 (omega arith), c.mark_places.auto.marks) in
-                let unmarked = get_or_default marks place true false within ∙ v.if-marks-number.false in
-                none_changes old new next these
-                (names_stay old new (length net.types) block c.args.reach.now place these here.0 reached.0
-                (λ n lt h. c.requires.left n (c.mark_places.ensures place n (omega (arith, lt, c.requires.nets)) h unmarked)))
+                let below = mod_below c.loop-number.number 1024 (omega arith) in
+                let within : place < length c.match-listed.marks = elim c.match-listed.branch [
+                  | in-Some m ↦ omega (arith, below, ap length m.marks-is, m.mark_listed.auto.marks)
+                  | in_default m ↦ omega (arith, below, ap length m.marks-is ∙ length-replicate 1024 c.is_none-marks.result)
+                ] in
+                none_changes old new next these (keeps.0 (get_or_default c.match-listed.marks place true false within ∙ v.if-marks-number.false))
           ] in
           let same = none_further next block.names names old new I.2 none_here in
           rw (w.out-is, w.page-is, w.next-is, w.is_printed-is) (
@@ -101,7 +120,7 @@ loop-number-preserved g c =
             here.1,
             here.2,
             I.4,
-            reached.1,
+            keeps.1,
           )
     ]
 

@@ -1,7 +1,8 @@
 use Rattle.std.specs.Prelude.{◌≡◌, ◌≤◌, [], length, take, drop}
 use Rattle.rtl_vcd.specs.Pages.{Passes, IsOpen}
 use Rattle.rtl_vcd.specs.Trace.{stamped, are_some}
-use Rattle.rtl_vcd.specs.Blocks.{AreBlocks, ReachFrom, changes_from}
+use Rattle.rtl_vcd.specs.Blocks.{AreBlocks, changes_from}
+use Rattle.rtl_vcd.proofs.Listed.{KeepFrom}
 use Rattle.rtl_vcd.proofs.moment.push_moment.Given as goal
 
 -- the names before the next one are printed, the last of them in the page, and those from there on stand in the blocks that are left
@@ -12,4 +13,4 @@ invariant-loop-number g l =
     × (l.next ≤ length l.net.signals)
     × AreBlocks (length l.net.types) (drop l.number l.blocks) (drop l.next l.net.signals)
     × IsOpen l.is_printed l.page
-    × ReachFrom l.number l.reach (drop l.number l.blocks) (drop l.next l.net.signals)
+    × KeepFrom l.marks l.step.old.now l.step.new.now l.number (drop l.number l.blocks) (drop l.next l.net.signals)
