@@ -20,6 +20,7 @@ pub mod ValueOf
 pub mod Edges
 pub mod Idle
 pub mod Quieting
+pub mod ByInputs
 pub mod Meeting
 pub mod Racing
 pub mod Halving

@@ -97,6 +97,13 @@ pub record HasSearched (s : StimulusView) (clocks : List (ℕ × Edge)) (times :
   pub race : past ≤ last → IsAmong times past × ((k : ℕ) × (k < length clocks) × IsActiveAt s clocks past k)
   pub none : (t k : ℕ) → 0 < t → t < past → k < places → IsActiveAt s clocks t k → IsAmong times t → ⊥
 
+-- The first inputs have no race before a time. Where that is not past the stop, some input has one at it.
+pub record HasPassed (s : StimulusView) (clocks : List (ℕ × Edge)) (places past : ℕ) : Type 0 where
+  pub some : 0 < past
+  pub within : past ≤ suc s.schedule.stop
+  pub race : past ≤ s.schedule.stop → HasNoneHere s clocks (all_nets s.inputs) past → ⊥
+  pub none : (t : ℕ) → 0 < t → t < past → HasNoneHere s clocks (all_nets (take places s.inputs)) t
+
 -- no time up to a last one has a race
 abbrev pub AreFree : StimulusView → (clocks : List (ℕ × Edge)) → (last : ℕ) → Type 0
 AreFree s clocks last = (t : ℕ) → 0 < t → t ≤ last → HasNoneHere s clocks (all_nets s.inputs) t

@@ -3,6 +3,7 @@
 //! `specs/Ports.antt` says which inputs a netlist has, and `specs/Stimuli.antt` what a stimulus is.
 #![tactic(auto)]
 
+mod by_inputs;
 mod filling;
 mod laws;
 mod ports;

@@ -57,7 +57,11 @@ fn is_clock(clocks: &[(usize, Edge)], net: usize) -> bool
 }
 
 /// The first clock with an active edge at a time.
-fn active_clock(stimulus: &Stimulus, clocks: &[(usize, Edge)], time: u64) -> Option<usize>
+pub(crate) fn active_clock(
+    stimulus: &Stimulus,
+    clocks: &[(usize, Edge)],
+    time: u64,
+) -> Option<usize>
     requires { 0 < time }
     ensures found { IfSome result (λ clock. (k : ℕ) × (k < length clocks.now) × IsActiveAt stimulus.now clocks.now time k
         × (clock_at clocks.now k ≡ clock) × ((j : ℕ) → j < k → IsActiveAt stimulus.now clocks.now time j → ⊥)) }
@@ -97,7 +101,8 @@ fn changed_input(
     requires later { 0 < time }
     requires clocks { RisesBy clock_key clocks.now }
     ensures found { IfSome result (λ input. (k : ℕ) × (k < length inputs.now) × (slice_index inputs.now k ≡ input)
-        × IsChangedAt stimulus.now clocks.now time input × ((j : ℕ) → j < k → IsChangedAt stimulus.now clocks.now time (slice_index inputs.now j) → ⊥)) }
+        × IsChangedAt stimulus.now clocks.now time input
+        × ((j : ℕ) → j < k → IsChangedAt stimulus.now clocks.now time (slice_index inputs.now j) → ⊥)) }
     ensures none { IfNone result ((k : ℕ) → k < length inputs.now
         → IsChangedAt stimulus.now clocks.now time (slice_index inputs.now k) → ⊥) }
 {
@@ -118,7 +123,8 @@ fn race_at(
 ) -> Option<Race>
     requires later { 0 < time }
     requires clocks { RisesBy clock_key clocks.now }
-    ensures found { IfSome result (λ race. (race.time ≡ time) × IsRaceHere stimulus.now clocks.now inputs.now time race.input race.clock) }
+    ensures found { IfSome result
+        (λ race. (race.time ≡ time) × IsRaceHere stimulus.now clocks.now inputs.now time race.input race.clock) }
     ensures none { IfNone result (HasNoneHere stimulus.now clocks.now inputs.now time) }
 {
     let clock = active_clock(stimulus, clocks, time)?;
@@ -140,7 +146,7 @@ fn are_clocks(clocks: &[(usize, Edge)], elements: &[Element]) -> bool
 }
 
 /// Whether one of these elements is no clock and changes at a time.
-fn some_change(
+pub(crate) fn some_change(
     stimulus: &Stimulus,
     clocks: &[(usize, Edge)],
     elements: &[Element],
@@ -163,7 +169,8 @@ fn some_change(
 fn next_meeting(course: &Course, times: &BTreeSet<u64>, now: u64, last: u64) -> Option<u64>
     ensures within { IsWithin now last result }
     ensures among { IfSome result (λ t. IsAmong times.now t) }
-    ensures none { (t : ℕ) → now < t → t < found_or_past result last → IsTrue (is_busy (course_view course.now) t) → IsAmong times.now t → ⊥ }
+    ensures none { (t : ℕ) → now < t → t < found_or_past result last
+        → IsTrue (is_busy (course_view course.now) t) → IsAmong times.now t → ⊥ }
 {
     let mut seen = now;
     while let Some(busy) = next_busy(course, seen, last) {
@@ -187,6 +194,9 @@ fn next_of(times: &BTreeSet<u64>, from: u64) -> Option<u64>
     }
 }
 
+/// Beside how many clocks at most races are searched for input by input, each change beside each clock.
+const FEW: usize = 16;
+
 /// How often the data inputs with clock lines toggle, some times more or less, in what is searched for races at once.
 const TOGGLES: u64 = 16384;
 
@@ -203,7 +213,7 @@ fn toggles_of(course: &Course, stop: u64) -> u64
 
 impl Stimulus {
     /// Whether an element of the input at a place is no clock.
-    fn is_data(&self, clocks: &[(usize, Edge)], place: usize) -> bool
+    pub(crate) fn is_data(&self, clocks: &[(usize, Edge)], place: usize) -> bool
         requires clocks { RisesBy clock_key clocks.now }
         requires there { place < length self.now.inputs }
         ensures { result ≡ false → All (λ n. IsNoClock clocks.now n → ⊥) (nets_of (input_at self.now.inputs place)) }
@@ -238,7 +248,8 @@ impl Stimulus {
     ) -> Result<(), NoMemory>
         requires clocks { RisesBy clock_key clocks.now }
         requires there { place < length self.now.inputs }
-        ensures { OnOk result (HasAdded self.now clocks.now (nets_of (input_at self.now.inputs place)) from last times.old times.new) }
+        ensures { OnOk result
+            (HasAdded self.now clocks.now (nets_of (input_at self.now.inputs place)) from last times.old times.new) }
     {
         let elements = elements_at(&self.inputs, place);
         let mut now = from;
@@ -304,8 +315,12 @@ impl Stimulus {
         past
     }
 
-    /// The first time with a race; none where no time up to the stop has one.
-    fn race_time(&self, alloc: Global, clocks: &[(usize, Edge)]) -> Result<Option<u64>, NoMemory>
+    /// The first time with a race; none where no time up to the stop has one. It takes memory for the changes of one span.
+    fn race_by_clocks(
+        &self,
+        alloc: Global,
+        clocks: &[(usize, Edge)],
+    ) -> Result<Option<u64>, NoMemory>
         requires { RisesBy clock_key clocks.now }
         ensures found { IfOk result (λ found. IfSome found (IsFirstTime self.now clocks.now)) }
         ensures none { IfOk result (λ found. IfNone found (AreFree self.now clocks.now self.now.schedule.stop)) }
@@ -324,13 +339,25 @@ impl Stimulus {
         }
         Ok(None)
     }
+
+    /// The first time with a race; none where no time up to the stop has one. It goes by inputs where the clocks are few.
+    fn race_time(&self, alloc: Global, clocks: &[(usize, Edge)]) -> Result<Option<u64>, NoMemory>
+        requires { RisesBy clock_key clocks.now }
+        ensures found { IfOk result (λ found. IfSome found (IsFirstTime self.now clocks.now)) }
+        ensures none { IfOk result (λ found. IfNone found (AreFree self.now clocks.now self.now.schedule.stop)) }
+    {
+        if clocks.len() <= FEW {
+            return Ok(self.race_by_inputs(clocks));
+        }
+        self.race_by_clocks(alloc, clocks)
+    }
 }
 
 /// The earliest race of a netlist whose clocks these are, with the lowest data input that changes and the lowest clock with an
 /// active edge; `None` exactly where no moment up to the stop has one.
 ///
-/// It looks at the times at which a data input changes, a span of time after the other, and passes over the edges of clocks at
-/// which none does. It takes memory for the changes of one span: for each that a line of the stimulus says, and for some ten
+/// It looks at the times at which a data input changes, and passes over the edges of clocks at which none does. Beside more than a
+/// few clocks it takes memory for the changes of one span of time: for each that a line of the stimulus says, and for some ten
 /// thousand toggles.
 pub fn first_race(
     alloc: Global,
@@ -343,7 +370,8 @@ pub fn first_race(
     ensures found { IfOk result (λ found. IfSome found (λ race. (m : ℕ) × (suc m < length (moments stimulus.now))
         × (slice_index (moments stimulus.now) (suc m) ≡ race.time)
         × IsFirstRace (core_netlist (flat net.now)) clocks.now (inputs_at stimulus.now) m race.input race.clock)) }
-    ensures none { IfOk result (λ found. IfNone found ((last : ℕ) → HasNoRace (core_netlist (flat net.now)) (inputs_at stimulus.now) last)) }
+    ensures none { IfOk result
+        (λ found. IfNone found ((last : ℕ) → HasNoRace (core_netlist (flat net.now)) (inputs_at stimulus.now) last)) }
 {
     net.is_elaborated();
     let Some(time) = stimulus.race_time(alloc, clocks)? else {

@@ -1,6 +1,6 @@
 use Rattle.std.proofs.Common.{◌+◌, arith}
 use Rattle.rtl_stim.proofs.Quieting.{free_before, some_here}
-use Rattle.rtl_stim.proofs.stimulus.Stimulus.race_time.Goals as goal
+use Rattle.rtl_stim.proofs.stimulus.Stimulus.race_by_clocks.Goals as goal
 
 pub loop-from-preserved : goal.loop-from-preserved
 loop-from-preserved c =

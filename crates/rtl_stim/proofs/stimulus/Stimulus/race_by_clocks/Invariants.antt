@@ -1,6 +1,6 @@
 use Rattle.std.proofs.Common.{◌-◌, ◌≤◌}
 use Rattle.rtl_stim.specs.Quiet.{AreFree}
-use Rattle.rtl_stim.proofs.stimulus.Stimulus.race_time.Given as goal
+use Rattle.rtl_stim.proofs.stimulus.Stimulus.race_by_clocks.Given as goal
 
 -- the times so far have no race
 abbrev pub invariant-loop-from : goal.invariant-loop-from
