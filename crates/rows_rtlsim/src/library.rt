@@ -12,7 +12,7 @@ use rtlsim::{
 use std::alloc::Global;
 use vhdl_source::Vhdl;
 
-/// Makes the call of a request, and gives the status, which stands for its fault if it has one.
+/// Makes a call, and gives the status, which stands for its fault if it has one.
 pub fn answer_by_library<S: Sink>(alloc: Global, call: &Call<'_>, input: &[u8], out: &mut S) -> u8
     requires { IsIntact (S.state out.old) }
 {

@@ -91,14 +91,15 @@ takes_value File = Some true
 takes_value Files = Some true
 takes_value OrderOption = Some true
 
-abbrev pub repeats : Form → Bool
-repeats Files = true
-repeats _ = false
-
 -- the same of the option of a name; none where there is no such option
 abbrev pub is_valued : List Row → (name : Word) → Option Bool
 is_valued [] name = None
 is_valued (part ∷ parts) name = if bytes_eq part.name.now name then takes_value part.form else is_valued parts name
+
+-- whether an option may be given again
+abbrev pub repeats : Form → Bool
+repeats Files = true
+repeats _ = false
 
 -- how reading goes on, after what is given
 abbrev pub Onward : Type 0

@@ -22,13 +22,15 @@ pub(crate) struct Parsed<'a> {
     pub operands: Vec<&'a str>,
 }
 
-/// The options and operands that the words are; `None` where one can't be there. It takes memory in proportion to the words.
+/// The options and operands that the words are; `None` where one can't be there. It takes memory in proportion to
+/// the words.
 pub(crate) fn read_words<'a>(
     alloc: Global,
     parts: &[Part<&str>],
     words: &[&'a str],
 ) -> Result<Option<Parsed<'a>>, AllocError>
-    ensures { IfOk result (λ given. option_map parsed_view given ≡ reads (map row_of parts.now) nothing (map text_of words.now)) }
+    ensures { IfOk result (λ given.
+        option_map parsed_view given ≡ reads (map row_of parts.now) nothing (map text_of words.now)) }
 {
     let mut given = Parsed {
         uses: Vec::new(alloc),
@@ -49,7 +51,8 @@ impl<'a> Parsed<'a> {
     ghost use Rattle.rtlsim_words.specs.Words as words;
     ghost use Rattle.rtlsim_words.specs.Words.{parsed_view, reads, row_of, takes_option, with_use, text_of, use_view};
 
-    /// Takes a word in, and answers how many of the others behind it are taken with it; `None` where the word can't be there.
+    /// Takes a word in, and answers how many of the others behind it are taken with it; `None` where the word can't
+    /// be there.
     fn take(
         &mut self,
         parts: &[Part<&str>],
@@ -145,7 +148,8 @@ impl<'a> Parsed<'a> {
 
     /// Its values, in order.
     pub(crate) fn values(&self, alloc: Global, name: &str) -> Result<Vec<&'a str>, AllocError>
-        ensures { IfOk result (λ values. map text_of values.items ≡ words.values (map use_view self.now.uses.items) name.now) }
+        ensures { IfOk result (λ values.
+            map text_of values.items ≡ words.values (map use_view self.now.uses.items) name.now) }
     {
         let mut values = Vec::new(alloc);
         let mut left = self.uses.as_slice();

@@ -44,7 +44,8 @@ fn call_of<'a>(
     parts: &[Part<&str>],
     words: &[&'a str],
 ) -> Result<Option<Call<'a>>, AllocError>
-    ensures { IfOk result (λ call. option_map call_view call ≡ said_by (map row_of parts.now) (map text_of words.now)) }
+    ensures { IfOk result (λ call.
+        option_map call_view call ≡ said_by (map row_of parts.now) (map text_of words.now)) }
 {
     let [command, others @ ..] = words else {
         return Ok(None);
@@ -134,9 +135,11 @@ fn parted<'r, 'a>(request: Request, rest: &'r [&'a str]) -> Option<(&'r [&'a str
     }
 }
 
-/// Whether the standard input is read once at most: by one of the files beside the source and the stimulus, or by operands.
+/// Whether the standard input is read once at most: by one of the files beside the source and the stimulus, or by
+/// operands.
 fn is_read_once(with: &[&str], expected: Option<&str>, operands: &[&str]) -> bool
-    ensures { result ≡ words.is_read_once (map text_of with.now) (option_map text_of expected.entry) (map text_of operands.now) }
+    ensures { result
+        ≡ words.is_read_once (map text_of with.now) (option_map text_of expected.entry) (map text_of operands.now) }
 {
     let named = standard_count(with);
     let count = if expected == Some("@") {
