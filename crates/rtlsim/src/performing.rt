@@ -43,7 +43,7 @@ pub(crate) fn perform_texts<'b, F: Front, O: Sink, E: Sink, G: Sink>(
     let (_source, stimulus) = texts.main.texts();
     let telling = Telling {
         files: &prepared.files,
-        stimulus: stimulus_name(call.stimulus),
+        stimulus: stimulus_name(call),
         stimulus_text: call.stimulus.map(|_name| stimulus),
         explains: call.explains,
     };
@@ -67,10 +67,10 @@ pub(crate) fn perform_texts<'b, F: Front, O: Sink, E: Sink, G: Sink>(
 }
 
 /// The name of the stimulus, or what stands for it.
-fn stimulus_name(stimulus: Option<&str>) -> &[u8]
-    ensures { result.now ≡ unwrap_or (option_map (λ name. name.now) stimulus.entry) requests.set_form }
+fn stimulus_name<'b>(call: &'b Call<'_>) -> &'b [u8]
+    ensures { result.now ≡ unwrap_or (call_view call.now).stimulus requests.set_form }
 {
-    match stimulus {
+    match call.stimulus {
         Some(name) => name.as_bytes(),
         None => b"NAME=VALUE",
     }
