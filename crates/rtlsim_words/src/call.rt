@@ -29,7 +29,7 @@ pub enum Request {
     Json,
     /// Prints the trace of a design under a stimulus; with `is_event` by events alone, without the checker.
     Run { is_event: bool, order: Order },
-    /// Prints the trace of a design under a stimulus, each process run once a moment, in order of level.
+    /// Prints the trace of a design under a stimulus, processes run in order of level.
     Levels,
 }
 
