@@ -1,5 +1,5 @@
 -- What holds of what was seen of a run, by what else does.
-use Rattle.std.proofs.Common.{◌≡◌, ℕ, Bool, true, false, List, Option, Some, None, Result, Ok, Err, inl, inr, ◌++◌, sym, subst}
+use Rattle.std.proofs.Common.{◌≡◌, ℕ, Bool, true, false, List, Option, Result, Ok, Err, inl, inr, ◌++◌, sym, subst}
 use Rattle.rtl_net.specs.Nets.{NetlistView}
 use Rattle.rtl_progress.specs.Shown.{HasShown, shown_after, shown_text, text_of_end, whole_text}
 use Rattle.rtl_progress.specs.Stops.{stop_of}

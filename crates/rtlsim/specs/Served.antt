@@ -1,5 +1,5 @@
 -- What commands do with what was read.
-use Rattle.std.specs.Prelude.{◌≡◌, ℕ, Bool, true, false, List, Option, Some, None, map, option_map, unwrap_or}
+use Rattle.std.specs.Prelude.{◌≡◌, ℕ, Bool, true, false, List, Option, map, option_map, unwrap_or}
 use Rattle.rtlsim.specs.Requests.{TextsView, set_form}
 use Rattle.rtl_sink.specs.Stands.{Stand}
 use Rattle.rtlsim.specs.Sinks.{Sinks, IsSilent, ShowsIf, outputs}

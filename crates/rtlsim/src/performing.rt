@@ -34,8 +34,16 @@ pub(crate) fn perform_texts<'b, F: Front, O: Sink, E: Sink, G: Sink>(
 ) -> Status
     requires out { IsIntact (O.state out.old) }
     requires err { IsIntact (E.state err.old) }
-    ensures { let s : Sinks = record { out = O.state out.old; out_after = O.state out.new; err = E.state err.old; err_after = E.state err.new; progress = G.state progress.old; progress_after = G.state progress.new } in
-        Silently (TellsInput memory_line status.Memory result) s ⊎ ServesTexts (call_view call.now) (texts_view texts.now) result s }
+    ensures { let s : Sinks = record {
+      out = O.state out.old;
+      out_after = O.state out.new;
+      err = E.state err.old;
+      err_after = E.state err.new;
+      progress = G.state progress.old;
+      progress_after = G.state progress.new;
+    } in
+        Silently (TellsInput memory_line status.Memory result) s
+        ⊎ ServesTexts (call_view call.now) (texts_view texts.now) result s }
 {
     let Ok(prepared) = prepare(alloc, &call.sets, texts) else {
         return refuse_input(ReadFault::NoMemory, false, out, err);
@@ -88,9 +96,17 @@ fn perform_shown<F: Front, O: Sink, E: Sink, G: Sink>(
 ) -> Status
     requires out { IsIntact (O.state out.old) }
     requires err { IsIntact (E.state err.old) }
-    ensures serves { let s : Sinks = record { out = O.state out.old; out_after = O.state out.new; err = E.state err.old; err_after = E.state err.new; progress = G.state progress.old; progress_after = G.state progress.new } in
-        ServesBy job.now.telling.now job.now.source.now job.now.top.now result (outputs s) (ShowsIf shows job.now.stimulus.now s)
-        request (map (λ set. set.now) job.now.sets.now) job.now.stimulus.now (option_map (λ text. text.now) job.now.expected) }
+    ensures serves { let s : Sinks = record {
+      out = O.state out.old;
+      out_after = O.state out.new;
+      err = E.state err.old;
+      err_after = E.state err.new;
+      progress = G.state progress.old;
+      progress_after = G.state progress.new;
+    } in
+        ServesBy job.now.telling.now job.now.source.now job.now.top.now result (outputs s)
+        (ShowsIf shows job.now.stimulus.now s) request
+        (map (λ set. set.now) job.now.sets.now) job.now.stimulus.now (option_map (λ text. text.now) job.now.expected) }
     ensures silent { shows ≡ false → G.state progress.new ≡ G.state progress.old }
 {
     if !shows {
@@ -115,8 +131,8 @@ fn perform_job<F: Front, V: Watch, O: Sink, E: Sink>(
     requires err { IsIntact (E.state err.old) }
     ensures { ServesBy job.now.telling.now job.now.source.now job.now.top.now result
         (record { out = O.state out.old; out_after = O.state out.new; err = E.state err.old; err_after = E.state err.new })
-        (λ stands. V.told watch.old stands watch.new)
-        request (map (λ set. set.now) job.now.sets.now) job.now.stimulus.now (option_map (λ text. text.now) job.now.expected) }
+        (λ stands. V.told watch.old stands watch.new) request
+        (map (λ set. set.now) job.now.sets.now) job.now.stimulus.now (option_map (λ text. text.now) job.now.expected) }
 {
     let telling = job.telling;
     match request {

@@ -1,6 +1,6 @@
 //! What commands are given of what was read.
 
-ghost use Rattle.std.specs.Prelude.{◌≡◌, ◌∷◌, ◌++◌, [], IfOk, map};
+ghost use Rattle.std.specs.Prelude.{◌≡◌, IfOk, map};
 ghost use Rattle.rtlsim.specs.Texts.{source_by, texts_view};
 ghost use Rattle.rtlsim_files.specs.Files as joining;
 ghost use Rattle.rtlsim_files.specs.Files.{file_view};

@@ -127,8 +127,10 @@ pub(crate) fn read_texts<'a, I: Inputs>(
     call: &Call<'a>,
     inputs: &mut I,
 ) -> Result<Texts<'a>, ReadFault<'a>>
-    ensures given { IfOk result (λ texts. GivesTexts I.gives (call_view call.now) (I.state inputs.old) (I.state inputs.new) (Ok (texts_view texts))) }
-    ensures failed { IfErr result (λ fault. (unread : Unread) → unread_of fault ≡ Some unread → GivesTexts I.gives (call_view call.now) (I.state inputs.old) (I.state inputs.new) (Err unread)) }
+    ensures given { IfOk result (λ texts.
+        GivesTexts I.gives (call_view call.now) (I.state inputs.old) (I.state inputs.new) (Ok (texts_view texts))) }
+    ensures failed { IfErr result (λ fault. (unread : Unread) → unread_of fault ≡ Some unread
+        → GivesTexts I.gives (call_view call.now) (I.state inputs.old) (I.state inputs.new) (Err unread)) }
 {
     let before = read_files(alloc, &call.with, inputs)?;
     let main = read_main(alloc, call.file, call.stimulus, inputs)?;

@@ -84,7 +84,14 @@ pub fn perform<F: Front, I: Inputs, O: Sink, E: Sink, G: Sink>(
     requires out { IsIntact (O.state out.old) }
     requires err { IsIntact (E.state err.old) }
     ensures { Performs I.gives (call_view call.now) (I.state inputs.old) (I.state inputs.new) result
-        (record { out = O.state out.old; out_after = O.state out.new; err = E.state err.old; err_after = E.state err.new; progress = G.state progress.old; progress_after = G.state progress.new }) }
+        (record {
+          out = O.state out.old;
+          out_after = O.state out.new;
+          err = E.state err.old;
+          err_after = E.state err.new;
+          progress = G.state progress.old;
+          progress_after = G.state progress.new;
+        }) }
 {
     match read_texts(alloc, call, inputs) {
         Ok(texts) => perform_texts::<F, _, _, _>(alloc, call, &texts, out, err, progress),
