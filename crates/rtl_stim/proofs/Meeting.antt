@@ -61,10 +61,10 @@ module _ (s : StimulusView) (n : ℕ) (edge : Edge) (t : ℕ) where
       (λ early. so_far later early active among) (cases_lt now t)
 
 -- one clock more
-pub searched_more : (s : StimulusView) (clocks : List (ℕ × Edge)) (times : BTreeSet ℕ) (i past next : ℕ) → i < length clocks → HasSearched s clocks times i past → 0 < next → next ≤ past
+pub searched_more : (s : StimulusView) (clocks : List (ℕ × Edge)) (times : BTreeSet ℕ) (last i past next : ℕ) → i < length clocks → HasSearched s clocks times last i past → 0 < next → next ≤ past
     → (next < past → IsAmong times next × IsActiveAt s clocks next i) → ((t : ℕ) → 0 < t → t < next → IsActiveAt s clocks t i → IsAmong times t → ⊥)
-    → HasSearched s clocks times (i + 1) next
-searched_more s clocks times i past next within so_far later le edge none = record {
+    → HasSearched s clocks times last (i + 1) next
+searched_more s clocks times last i past next within so_far later le edge none = record {
   some = later;
   within = omega (arith, le, so_far.within);
   race = λ in_time.

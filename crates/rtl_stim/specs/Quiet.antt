@@ -78,22 +78,32 @@ Changes s clocks nets t = (n : ℕ) × Contains nets n × IsChangedAt s clocks t
 abbrev pub IsAmong : BTreeSet ℕ → (t : ℕ) → Type 0
 IsAmong times t = IsTrue (contains nat_cmp times t)
 
--- to the old times those were added, up to a last one, at which one of these nets changes
-pub record HasAdded (s : StimulusView) (clocks : List (ℕ × Edge)) (nets : List ℕ) (last : ℕ) (old new : BTreeSet ℕ) : Type 0 where
+-- to the old times those were added, behind one and up to a last one, at which one of these nets changes
+pub record HasAdded (s : StimulusView) (clocks : List (ℕ × Edge)) (nets : List ℕ) (from last : ℕ) (old new : BTreeSet ℕ) : Type 0 where
   pub kept : (t : ℕ) → IsAmong old t → IsAmong new t
-  pub each : (t : ℕ) → 0 < t → t ≤ last → Changes s clocks nets t → IsAmong new t
+  pub each : (t : ℕ) → from < t → t ≤ last → Changes s clocks nets t → IsAmong new t
   pub only : (t : ℕ) → IsAmong new t → IsAmong old t ⊎ Changes s clocks nets t
 
--- these are the times up to the stop at which one of the first inputs changes, which have so many nets
-pub record AreChanges (s : StimulusView) (clocks : List (ℕ × Edge)) (places many : ℕ) (times : BTreeSet ℕ) : Type 0 where
-  pub many_are : many ≡ length (all_nets (take places s.inputs))
-  pub each : (t : ℕ) → 0 < t → t ≤ s.schedule.stop → Changes s clocks (all_nets (take places s.inputs)) t → IsAmong times t
+-- these are the times, behind one and up to a last one, at which one of the first inputs changes
+pub record AreChanges (s : StimulusView) (clocks : List (ℕ × Edge)) (places from last : ℕ) (times : BTreeSet ℕ) : Type 0 where
+  pub each : (t : ℕ) → from < t → t ≤ last → Changes s clocks (all_nets (take places s.inputs)) t → IsAmong times t
   pub only : (t : ℕ) → IsAmong times t → Changes s clocks (all_nets (take places s.inputs)) t
 
--- The first clocks have no edge at one of these times before another. Where that is not past the stop, it is one of them, and some
+-- The first clocks have no edge at one of these times before another. Where that is not past the last, it is one of them, and some
 -- clock has its edge at it.
-pub record HasSearched (s : StimulusView) (clocks : List (ℕ × Edge)) (times : BTreeSet ℕ) (places past : ℕ) : Type 0 where
+pub record HasSearched (s : StimulusView) (clocks : List (ℕ × Edge)) (times : BTreeSet ℕ) (last places past : ℕ) : Type 0 where
   pub some : 0 < past
-  pub within : past ≤ suc s.schedule.stop
-  pub race : past ≤ s.schedule.stop → IsAmong times past × ((k : ℕ) × (k < length clocks) × IsActiveAt s clocks past k)
+  pub within : past ≤ suc last
+  pub race : past ≤ last → IsAmong times past × ((k : ℕ) × (k < length clocks) × IsActiveAt s clocks past k)
   pub none : (t k : ℕ) → 0 < t → t < past → k < places → IsActiveAt s clocks t k → IsAmong times t → ⊥
+
+-- no time up to a last one has a race
+abbrev pub AreFree : StimulusView → (clocks : List (ℕ × Edge)) → (last : ℕ) → Type 0
+AreFree s clocks last = (t : ℕ) → 0 < t → t ≤ last → HasNoneHere s clocks (all_nets s.inputs) t
+
+-- the first time with a race
+pub record IsFirstTime (s : StimulusView) (clocks : List (ℕ × Edge)) (t : ℕ) : Type 0 where
+  pub later : 0 < t
+  pub in_time : t ≤ s.schedule.stop
+  pub race : HasNoneHere s clocks (all_nets s.inputs) t → ⊥
+  pub first : (u : ℕ) → 0 < u → u < t → HasNoneHere s clocks (all_nets s.inputs) u

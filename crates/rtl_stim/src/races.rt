@@ -1,6 +1,6 @@
 //! The first race under a stimulus.
 
-ghost use Rattle.std.specs.Prelude.{◌≡◌, false, ℕ, suc, ◌<◌, ◌≤◌, All, Contains, IsTrue, Some, None, IfSome, IfNone, IfOk, OnOk, length, slice_index};
+ghost use Rattle.std.specs.Prelude.{◌≡◌, false, ℕ, suc, ◌+◌, ◌<◌, ◌≤◌, All, Contains, IsTrue, Some, None, IfSome, IfNone, IfOk, OnOk, length, map, slice_index};
 ghost use Rattle.rtl_model.specs.basics.Lists.{RisesBy};
 ghost use Rattle.rtl_model.specs.nets.CoreNetlist.{core_netlist};
 ghost use Rattle.rtl_model.specs.simulation.Races.{HasNoRace, IsFirstRace};
@@ -13,14 +13,14 @@ ghost use Rattle.rtl_stim_lines.specs.Times.{all_nets, nets_of, value_at};
 ghost use Rattle.rtl_stim_lines.specs.View.{course_view};
 ghost use Rattle.rtl_stim.specs.Stimuli.{moments, inputs_at};
 ghost use Rattle.rtl_stim.specs.Quiet.{IsNoClock, IsWithin, IsActiveAt, HasEdgeAt, IsChangedAt, IsRaceHere, HasNoneHere, clock_at, found_or_past};
-ghost use Rattle.rtl_stim.specs.Quiet.{AreChanges, HasAdded, HasSearched, IsAmong};
+ghost use Rattle.rtl_stim.specs.Quiet.{AreChanges, AreFree, Changes, HasAdded, HasSearched, IsAmong, IsFirstTime};
 
 use crate::filling::next_busy;
 use crate::ports::elements_at;
 use crate::stimulus::Stimulus;
 use rtl_agenda::NoMemory;
 use rtl_net::Net;
-use rtl_stim_lines::Course;
+use rtl_stim_lines::{Course, Element};
 use std::alloc::Global;
 use std::collections::BTreeSet;
 use vhdl_values::{Edge, edge};
@@ -75,6 +75,18 @@ fn active_clock(stimulus: &Stimulus, clocks: &[(usize, Edge)], time: u64) -> Opt
     None
 }
 
+/// Whether a net is no clock and changes at a time.
+fn changes(stimulus: &Stimulus, clocks: &[(usize, Edge)], net: usize, time: u64) -> bool
+    requires later { 0 < time }
+    requires clocks { RisesBy clock_key clocks.now }
+    ensures changed { IsTrue result → IsChangedAt stimulus.now clocks.now time net }
+    ensures unchanged { result ≡ false → IsChangedAt stimulus.now clocks.now time net → ⊥ }
+{
+    let before = stimulus.value(net, time - 1).code();
+    let now = stimulus.value(net, time).code();
+    before != now && !is_clock(clocks, net)
+}
+
 /// The first of these inputs that is no clock and changes at a time.
 fn changed_input(
     stimulus: &Stimulus,
@@ -90,9 +102,7 @@ fn changed_input(
         → IsChangedAt stimulus.now clocks.now time (slice_index inputs.now k) → ⊥) }
 {
     for input in inputs {
-        let before = stimulus.value(*input, time - 1).code();
-        let now = stimulus.value(*input, time).code();
-        if before != now && !is_clock(clocks, *input) {
+        if changes(stimulus, clocks, *input, time) {
             return Some(*input);
         }
     }
@@ -116,17 +126,37 @@ fn race_at(
     Some(Race { time, input, clock })
 }
 
-/// Whether all these nets are clocks.
-fn are_clocks(clocks: &[(usize, Edge)], nets: &[usize]) -> bool
+/// Whether all these elements are clocks.
+fn are_clocks(clocks: &[(usize, Edge)], elements: &[Element]) -> bool
     requires { RisesBy clock_key clocks.now }
-    ensures { IsTrue result → All (λ n. IsNoClock clocks.now n → ⊥) nets.now }
+    ensures { IsTrue result → All (λ n. IsNoClock clocks.now n → ⊥) (map (λ e. e.net) elements.now) }
 {
-    for net in nets {
-        if !is_clock(clocks, *net) {
+    for element in elements {
+        if !is_clock(clocks, element.net) {
             return false;
         }
     }
     true
+}
+
+/// Whether one of these elements is no clock and changes at a time.
+fn some_change(
+    stimulus: &Stimulus,
+    clocks: &[(usize, Edge)],
+    elements: &[Element],
+    time: u64,
+) -> bool
+    requires later { 0 < time }
+    requires clocks { RisesBy clock_key clocks.now }
+    ensures changed { IsTrue result → Changes stimulus.now clocks.now (map (λ e. e.net) elements.now) time }
+    ensures unchanged { result ≡ false → Changes stimulus.now clocks.now (map (λ e. e.net) elements.now) time → ⊥ }
+{
+    for element in elements {
+        if changes(stimulus, clocks, element.net, time) {
+            return true;
+        }
+    }
+    false
 }
 
 /// The first of these times after now, up to a last one, at which a course is busy.
@@ -157,23 +187,63 @@ fn next_of(times: &BTreeSet<u64>, from: u64) -> Option<u64>
     }
 }
 
+/// How often the data inputs with clock lines toggle, some times more or less, in what is searched for races at once.
+const TOGGLES: u64 = 16384;
+
+/// How often an input with this course toggles up to a stop, or once more; 0 where it has no clock line.
+fn toggles_of(course: &Course, stop: u64) -> u64
+    requires { stop < 18446744073709551615 }
+    ensures { result ≤ stop + 1 }
+{
+    match course {
+        Course::Sets(_) => 0,
+        Course::Ticks { first: _, half } => stop.checked_div(*half).unwrap_or(0) + 1,
+    }
+}
+
 impl Stimulus {
-    /// Adds the times at which the input at a place changes, which has these nets. It takes memory for each of them.
+    /// Whether an element of the input at a place is no clock.
+    fn is_data(&self, clocks: &[(usize, Edge)], place: usize) -> bool
+        requires clocks { RisesBy clock_key clocks.now }
+        requires there { place < length self.now.inputs }
+        ensures { result ≡ false → All (λ n. IsNoClock clocks.now n → ⊥) (nets_of (input_at self.now.inputs place)) }
+    {
+        !are_clocks(clocks, elements_at(&self.inputs, place))
+    }
+
+    /// How many ns are searched for races at once, so that data inputs with clock lines take little memory, and an early race is
+    /// found early.
+    fn span(&self, clocks: &[(usize, Edge)]) -> u64
+        requires { RisesBy clock_key clocks.now }
+        ensures { 0 < result }
+    {
+        let stop = self.stop();
+        let mut toggles = 0u64;
+        for place in 0..self.inputs.len() {
+            if self.is_data(clocks, place) {
+                toggles = toggles.saturating_add(toggles_of(&self.schedule.courses[place], stop));
+            }
+        }
+        stop / (toggles / TOGGLES + 1) + 1
+    }
+
+    /// Adds the times behind one and up to a last one at which the input at a place changes. It takes memory for each of them.
     fn add_changes(
         &self,
         clocks: &[(usize, Edge)],
-        nets: &[usize],
         place: usize,
+        from: u64,
+        last: u64,
         times: &mut BTreeSet<u64>,
     ) -> Result<(), NoMemory>
         requires clocks { RisesBy clock_key clocks.now }
         requires there { place < length self.now.inputs }
-        requires nets { nets.now ≡ nets_of (input_at self.now.inputs place) }
-        ensures { OnOk result (HasAdded self.now clocks.now nets.now self.now.schedule.stop times.old times.new) }
+        ensures { OnOk result (HasAdded self.now clocks.now (nets_of (input_at self.now.inputs place)) from last times.old times.new) }
     {
-        let mut now = 0;
-        while let Some(time) = next_busy(&self.schedule.courses[place], now, self.schedule.stop) {
-            if changed_input(self, clocks, nets, time).is_some() {
+        let elements = elements_at(&self.inputs, place);
+        let mut now = from;
+        while let Some(time) = next_busy(&self.schedule.courses[place], now, last) {
+            if some_change(self, clocks, elements, time) {
                 times.insert(time)?;
             }
             now = time;
@@ -181,27 +251,22 @@ impl Stimulus {
         Ok(())
     }
 
-    /// The times up to the stop at which an input changes that is no clock. It takes memory for each of them.
+    /// The times behind one and up to a last one at which an input changes that is no clock. It takes memory for each of them.
     fn change_times(
         &self,
         alloc: Global,
-        net: &Net,
         clocks: &[(usize, Edge)],
+        from: u64,
+        last: u64,
     ) -> Result<BTreeSet<u64>, NoMemory>
-        requires clocks { RisesBy clock_key clocks.now }
-        requires inputs { all_nets self.now.inputs ≡ net.now.inputs }
-        ensures { IfOk result (AreChanges self.now clocks.now (length self.now.inputs) (length net.now.inputs)) }
+        requires { RisesBy clock_key clocks.now }
+        ensures { IfOk result (AreChanges self.now clocks.now (length self.now.inputs) from last) }
     {
-        let inputs = net.inputs();
         let mut times = BTreeSet::new(alloc);
-        let mut from = 0;
         for place in 0..self.inputs.len() {
-            let to = from + elements_at(&self.inputs, place).len();
-            let nets = &inputs[from..to];
-            if !are_clocks(clocks, nets) {
-                self.add_changes(clocks, nets, place, &mut times)?;
+            if self.is_data(clocks, place) {
+                self.add_changes(clocks, place, from, last, &mut times)?;
             }
-            from = to;
         }
         Ok(times)
     }
@@ -227,21 +292,46 @@ impl Stimulus {
         past
     }
 
-    /// The first of these times at which a clock has its edge, the one behind the stop where there is none.
-    fn first_time(&self, clocks: &[(usize, Edge)], times: &BTreeSet<u64>) -> u64
-        ensures { HasSearched self.now clocks.now times.now (length clocks.now) result }
+    /// The first of these times up to a last one at which a clock has its edge, the one behind the last where there is none.
+    fn first_time(&self, clocks: &[(usize, Edge)], times: &BTreeSet<u64>, last: u64) -> u64
+        requires { last < 18446744073709551615 }
+        ensures { HasSearched self.now clocks.now times.now last (length clocks.now) result }
     {
-        let mut past = self.stop() + 1;
+        let mut past = last + 1;
         for (clock, kind) in clocks {
             past = self.edge_before(times, past, *clock, *kind);
         }
         past
     }
+
+    /// The first time with a race; none where no time up to the stop has one.
+    fn race_time(&self, alloc: Global, clocks: &[(usize, Edge)]) -> Result<Option<u64>, NoMemory>
+        requires { RisesBy clock_key clocks.now }
+        ensures found { IfOk result (λ found. IfSome found (IsFirstTime self.now clocks.now)) }
+        ensures none { IfOk result (λ found. IfNone found (AreFree self.now clocks.now self.now.schedule.stop)) }
+    {
+        let stop = self.stop();
+        let span = self.span(clocks);
+        let mut from = 0;
+        while from < stop {
+            let last = from + span.min(stop - from);
+            let times = self.change_times(alloc, clocks, from, last)?;
+            let time = self.first_time(clocks, &times, last);
+            if time <= last {
+                return Ok(Some(time));
+            }
+            from = last;
+        }
+        Ok(None)
+    }
 }
 
 /// The earliest race of a netlist whose clocks these are, with the lowest data input that changes and the lowest clock with an
-/// active edge; `None` exactly where no moment up to the stop has one. It takes memory for each time at which a data input
-/// changes, and passes over the edges of clocks at which none does.
+/// active edge; `None` exactly where no moment up to the stop has one.
+///
+/// It looks at the times at which a data input changes, a span of time after the other, and passes over the edges of clocks at
+/// which none does. It takes memory for the changes of one span: for each that a line of the stimulus says, and for some ten
+/// thousand toggles.
 pub fn first_race(
     alloc: Global,
     net: &Net,
@@ -256,10 +346,8 @@ pub fn first_race(
     ensures none { IfOk result (λ found. IfNone found ((last : ℕ) → HasNoRace (core_netlist (flat net.now)) (inputs_at stimulus.now) last)) }
 {
     net.is_elaborated();
-    let times = stimulus.change_times(alloc, net, clocks)?;
-    let time = stimulus.first_time(clocks, &times);
-    if stimulus.stop() < time {
+    let Some(time) = stimulus.race_time(alloc, clocks)? else {
         return Ok(None);
-    }
+    };
     Ok(race_at(net.inputs(), clocks, stimulus, time))
 }

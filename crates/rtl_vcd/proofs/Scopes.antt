@@ -54,13 +54,12 @@ module _ (scopes : List ScopeView) (are : AreScopes scopes) where
       (low, ap (one_deeper (depth_within k scopes)) e ∙ ap suc (enough k p p (omega arith) (omega arith) (omega arith)))
 
 -- a scope's parent and label, as contracts see them
-pub parent_is : (scopes : List Scope) (k : ℕ) (s : Scope) → k < length scopes → s ≡ get_or scopes k s → parent_of (map scope_view scopes) k ≡ s.parent
-parent_is scopes k s lt is =
+pub parent_is : (scopes : List Scope) (k : ℕ) (d : Scope) → k < length scopes → parent_of (map scope_view scopes) k ≡ (get_or scopes k d).parent
+parent_is scopes k d lt =
     let views : List ScopeView = map scope_view scopes in
     let within : k < length views = omega (arith, length-map scopes scope_view) in
-    get_or-map (λ (v : ScopeView). v.parent) views k (scope_view s) None within
-    ∙ ap (λ (v : ScopeView). v.parent) (get_or-map scope_view scopes k s (scope_view s) lt)
-    ∙ ap (λ (t : Scope). t.parent) (sym is)
+    get_or-map (λ (v : ScopeView). v.parent) views k (scope_view d) None within
+    ∙ ap (λ (v : ScopeView). v.parent) (get_or-map scope_view scopes k d (scope_view d) lt)
 
 pub label_is : (scopes : List Scope) (k : ℕ) (s : Scope) → k < length scopes → s ≡ get_or scopes k s → label_at (map scope_view scopes) k ≡ s.label.items
 label_is scopes k s lt is =

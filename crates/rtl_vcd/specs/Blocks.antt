@@ -1,5 +1,5 @@
 -- The names of a netlist in blocks.
-use Rattle.std.specs.Prelude.{◌≡◌, ℕ, suc, ◌+◌, ◌/◌, ◌%◌, ◌<◌, ◌≤◌, Bool, true, false, List, [], ◌∷◌, All, take, drop, length}
+use Rattle.std.specs.Prelude.{◌≡◌, ℕ, ◌+◌, ◌/◌, ◌%◌, ◌<◌, ◌≤◌, Bool, true, false, List, [], ◌∷◌, All, take, drop, length, ⊤}
 use Rattle.rtl_net.specs.Nets.{SignalView}
 use Rattle.rtl_net_layout.specs.Reaching.{Reaches}
 use Rattle.rtl_vcd.specs.declared.blocks.Block.{Block}
@@ -25,7 +25,7 @@ HaveReached places place names = All (λ (s : SignalView). All (Reaches places p
 -- the same of blocks that have these names, one behind the other; the first of them is number k, and each that many share a place
 abbrev pub ReachFrom : (k : ℕ) → (places : List (List ℕ)) → List Block → (names : List SignalView) → Type 0
 ReachFrom k places [] names = ⊤
-ReachFrom k places (b ∷ bs) names = HaveReached places (k % 1024) (take b.names names) × ReachFrom (suc k) places bs (drop b.names names)
+ReachFrom k places (b ∷ bs) names = HaveReached places (k % 1024) (take b.names names) × ReachFrom (k + 1) places bs (drop b.names names)
 
 -- of so many nets, each chunk has the places of the blocks that have nets of it
 pub record AreReached (nets : ℕ) (places : List (List ℕ)) (bs : List Block) (names : List SignalView) : Type 0 where

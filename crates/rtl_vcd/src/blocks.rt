@@ -69,17 +69,6 @@ impl Block {
         }
     }
 
-    /// The same block, compared.
-    fn compared(&self) -> Block
-        ensures names { result.names ≡ self.now.names }
-        ensures block { (nets : ℕ) (names : List SignalView) → IsBlockOf nets self.now names → IsBlockOf nets result names }
-    {
-        Block {
-            is_compared: true,
-            ..*self
-        }
-    }
-
     /// Whether it has no more nets, from the least to the greatest, than are compared for so many names.
     fn is_dense(&self) -> bool
         requires order { self.now.least ≤ self.now.greatest }
@@ -138,9 +127,9 @@ pub(crate) fn blocks_of(alloc: Global, net: &Net) -> Result<Vec<Block>, AllocErr
 }
 
 /// The places of blocks with these names, one behind the other, by the nets of these.
-pub(crate) fn reach_of(alloc: Global, net: &Net, blocks: &Vec<Block>) -> Result<Reach, AllocError>
-    requires { AreBlocks (length net.now.types) blocks.now.items net.now.signals }
-    ensures { IfOk result (λ reach. AreReached (length net.now.types) reach blocks.now.items net.now.signals) }
+pub(crate) fn reach_of(alloc: Global, net: &Net, blocks: &[Block]) -> Result<Reach, AllocError>
+    requires { AreBlocks (length net.now.types) blocks.now net.now.signals }
+    ensures { IfOk result (λ reach. AreReached (length net.now.types) reach blocks.now net.now.signals) }
 {
     let signals = net.signals();
     let mut reach = Reach::new(alloc, net.nets())?;
@@ -175,7 +164,10 @@ fn block_at(net: &Net, first: usize) -> Block
     let signals = net.signals();
     let mut block = close_at(net, first);
     if block.names > FEW {
-        return block.compared();
+        return Block {
+            is_compared: true,
+            ..block
+        };
     }
     let mut next = first + block.names;
     while next < signals.len() {

@@ -2,7 +2,7 @@
 
 ghost use Rattle.std.specs.Prelude.{◌≡◌, ◌+◌, ◌<◌, ◌≤◌, ◌++◌, length, map, codes, OnOk, OnErr};
 ghost use Rattle.rtl_sink.specs.Written.{IsIntact, HasFailed, Goes};
-ghost use Rattle.rtl_net.specs.Nets.{scope_view, signal_view, parent_of};
+ghost use Rattle.rtl_net.specs.Nets.{scope_view, signal_view};
 ghost use Rattle.rtl_net.specs.Elaborated.{AreScopes};
 ghost use Rattle.rtl_vcd.specs.Values as values;
 ghost use Rattle.rtl_vcd.specs.Header as spec;
@@ -148,20 +148,11 @@ fn depth(scopes: &[Scope], number: usize) -> usize
 {
     let mut depth = 0;
     let mut scope = number;
-    while let Some(parent) = scope_round(scopes, scope) {
+    while let Some(parent) = scopes[scope].parent {
         depth += 1;
         scope = parent;
     }
     depth
-}
-
-/// The scope round a scope, if there is one.
-fn scope_round(scopes: &[Scope], number: usize) -> Option<usize>
-    requires there { number < length scopes.now }
-    ensures { result ≡ parent_of (map scope_view scopes.now) number }
-{
-    let scope = &scopes[number];
-    scope.parent
 }
 
 /// So many scopes are closed.

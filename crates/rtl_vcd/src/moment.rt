@@ -68,7 +68,7 @@ impl<'a> Blocks<'a> {
     {
         let blocks = blocks_of(alloc, net)?;
         let runs = runs_of(alloc, net)?;
-        let reach = reach_of(alloc, net, &blocks)?;
+        let reach = reach_of(alloc, net, blocks.as_slice())?;
         Ok(Blocks {
             net,
             blocks,

@@ -54,7 +54,10 @@ pub(crate) fn written<W: Sink>(out: &W) -> Result<(), VcdFault>
     ensures ok { OnOk result (IsIntact (W.state out.now)) }
     ensures err { OnErr result (HasFailed (W.state out.now)) }
 {
-    finish(out).map_err(|_| VcdFault::Write)
+    match finish(out) {
+        Ok(()) => Ok(()),
+        Err(_) => Err(VcdFault::Write),
+    }
 }
 
 /// `#`, the time and a line feed.

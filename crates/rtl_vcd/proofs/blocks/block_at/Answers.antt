@@ -1,16 +1,14 @@
-use Rattle.std.proofs.Common.{◌≡◌, ◌+◌, ◌++◌, length, take, drop, arith, subst, sym, ap, ◌∙◌}
+use Rattle.std.proofs.Common.{◌≡◌, ◌+◌, ◌++◌, length, take, drop, arith, refl, subst, sym, ap, ◌∙◌}
 use Rattle.std.proofs.lemmas.List.{length-map, drop-drop}
 use Rattle.rtl_net.specs.Nets.{signal_view}
 use Rattle.rtl_vcd.specs.Blocks.{IsBlockOf}
 use Rattle.rtl_vcd.proofs.Names.{take_further}
-use Rattle.rtl_vcd.proofs.Hulls.{ends_within}
+use Rattle.rtl_vcd.proofs.Hulls.{ends_within, same_bounds}
 use Rattle.rtl_vcd.proofs.blocks.block_at.Goals as goal
 
 pub returns-then-block-gt-FEW-clause-block : goal.returns-then-block-gt-FEW-clause-block
 returns-then-block-gt-FEW-clause-block c =
-    let names = c.args.net.now.signals in
-    subst (λ n. IsBlockOf (length c.args.net.now.types) c.compared.result (take n (drop c.args.first names))) (sym c.compared.ensures.names)
-    (c.compared.ensures.block (length c.args.net.now.types) (take c.close_at-block.result.names (drop c.args.first names)) c.close_at-block.ensures.block)
+    same_bounds (length c.args.net.now.types) _ c.close_at-block.result _ refl refl refl c.close_at-block.ensures.block
 
 pub overflow_add-next : goal.overflow_add-next
 overflow_add-next c =

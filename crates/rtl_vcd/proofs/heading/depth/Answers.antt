@@ -1,24 +1,30 @@
-use Rattle.std.proofs.Common.{arith, sym, ◌∙◌, length, map, ◌<◌}
+use Rattle.std.proofs.Common.{arith, ◌∙◌, length, map, ◌<◌}
 use Rattle.std.proofs.lemmas.List.{length-map}
 use Rattle.rtl_net.specs.Nets.{scope_view}
-use Rattle.rtl_vcd.proofs.Scopes.{depth_in, depth_top}
+use Rattle.rtl_vcd.proofs.Scopes.{depth_in, depth_top, parent_is}
 use Rattle.rtl_vcd.proofs.heading.depth.Goals as goal
 
-pub loop-parent-smaller : goal.loop-parent-smaller
-loop-parent-smaller c =
-    let within : c.loop-parent.scope < length (map scope_view c.args.scopes.now) =
-    omega (arith, length-map c.args.scopes.now scope_view, c.loop-parent.invariant.1, c.requires.there) in
-    (depth_in (map scope_view c.args.scopes.now) c.requires.scopes c.loop-parent.scope c.in-Some.parent within (sym c.in-Some.ensures)).0
+pub loop-scope-smaller : goal.loop-scope-smaller
+loop-scope-smaller c =
+    let scopes = c.args.scopes.now in
+    let scope = c.loop-scope.scope in
+    let within : scope < length scopes = omega (arith, c.loop-scope.invariant.1, c.requires.there) in
+    let there : scope < length (map scope_view scopes) = omega (arith, within, length-map scopes scope_view) in
+    (depth_in (map scope_view scopes) c.requires.scopes scope c.in-Some.parent there (parent_is scopes scope _ within ∙ c.in-Some.is)).0
 
-pub loop-parent-preserved : goal.loop-parent-preserved
-loop-parent-preserved c =
-    let within : c.loop-parent.scope < length (map scope_view c.args.scopes.now) =
-    omega (arith, length-map c.args.scopes.now scope_view, c.loop-parent.invariant.1, c.requires.there) in
-    let up = depth_in (map scope_view c.args.scopes.now) c.requires.scopes c.loop-parent.scope c.in-Some.parent within (sym c.in-Some.ensures) in
-    (omega (arith, up.1, c.loop-parent.invariant.0), omega (arith, up.0, c.loop-parent.invariant.1))
+pub loop-scope-preserved : goal.loop-scope-preserved
+loop-scope-preserved c =
+    let scopes = c.args.scopes.now in
+    let scope = c.loop-scope.scope in
+    let within : scope < length scopes = omega (arith, c.loop-scope.invariant.1, c.requires.there) in
+    let there : scope < length (map scope_view scopes) = omega (arith, within, length-map scopes scope_view) in
+    let up = depth_in (map scope_view scopes) c.requires.scopes scope c.in-Some.parent there (parent_is scopes scope _ within ∙ c.in-Some.is) in
+    (omega (arith, up.1, c.loop-scope.invariant.0), omega (arith, up.0, c.loop-scope.invariant.1))
 
 pub returns-clause-depth : goal.returns-clause-depth
 returns-clause-depth c =
-    let within : c.loop-parent.scope < length (map scope_view c.args.scopes.now) =
-    omega (arith, length-map c.args.scopes.now scope_view, c.loop-parent.invariant.1, c.requires.there) in
-    omega (arith, c.loop-parent.invariant.0, depth_top (map scope_view c.args.scopes.now) c.requires.scopes c.loop-parent.scope within (sym c.scope_round.ensures ∙ c.in_default.is))
+    let scopes = c.args.scopes.now in
+    let scope = c.loop-scope.scope in
+    let within : scope < length scopes = omega (arith, c.loop-scope.invariant.1, c.requires.there) in
+    let there : scope < length (map scope_view scopes) = omega (arith, within, length-map scopes scope_view) in
+    omega (arith, c.loop-scope.invariant.0, depth_top (map scope_view scopes) c.requires.scopes scope there (parent_is scopes scope _ within ∙ c.in_default.is))

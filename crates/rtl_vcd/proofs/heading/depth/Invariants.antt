@@ -4,9 +4,9 @@ use Rattle.rtl_vcd.specs.Header as spec
 use Rattle.rtl_vcd.proofs.heading.depth.Given as goal
 
 -- what is counted, and the depth of the scope that is reached
-abbrev pub invariant-loop-parent : goal.invariant-loop-parent
-invariant-loop-parent l =
+abbrev pub invariant-loop-scope : goal.invariant-loop-scope
+invariant-loop-scope l =
     (l.depth + spec.depth (map scope_view l.scopes) l.scope ≡ spec.depth (map scope_view l.scopes) l.number) × (l.depth + l.scope ≤ l.number)
 
-abbrev pub decreases-loop-parent : goal.decreases-loop-parent
-decreases-loop-parent l = l.scope
+abbrev pub decreases-loop-scope : goal.decreases-loop-scope
+decreases-loop-scope l = l.scope

@@ -1,4 +1,6 @@
-use Rattle.std.proofs.Common.{◌≡◌, ◌||◌, false, [], length, take, drop, get_or, refl, arith, sym, ap, subst, ◌∙◌}
+use Rattle.std.proofs.Common.{◌≡◌, ◌%◌, ◌<◌, ◌||◌, true, false, [], length, take, drop, get_or, refl, arith, sym, ap, subst, ◌∙◌}
+use Rattle.std.proofs.lemmas.Nat.{mod_below}
+use Rattle.std.proofs.lemmas.List.{get_or_default}
 use Rattle.rtl_sink.specs.Written.{Goes}
 use Rattle.rtl_vcd.specs.Pages.{Passes}
 use Rattle.rtl_vcd.proofs.Pages.{Passes-nil, Passes-append, Passes-whole}
@@ -8,8 +10,9 @@ use Rattle.rtl_vcd.specs.Blocks.{changes_from, continued}
 use Rattle.rtl_vcd.proofs.Names.{part_of_names, part_shown}
 use Rattle.rtl_vcd.proofs.Ends.{part_of_runs}
 use Rattle.rtl_vcd.proofs.Stamps.{changes_further, none_further, continued_more, are_some_append}
-use Rattle.rtl_vcd.proofs.Hulls.{this_block, all_taken, no_changes}
-use Rattle.rtl_vcd.proofs.moment.push_moment.Goals.{then-not-is_quiet, else-not-is_quiet}
+use Rattle.rtl_vcd.proofs.Hulls.{this_block, all_taken, no_changes, none_changes}
+use Rattle.rtl_vcd.proofs.Reached.{this_reach, names_stay}
+use Rattle.rtl_vcd.proofs.moment.push_moment.Goals.{then-marks-number+then-not-is_quiet, else-marks-number, else-marks-number-via-then-marks-number+else-not-is_quiet, else-marks-number-via-else-marks-number}
 use Rattle.rtl_vcd.proofs.moment.push_moment.Goals as goal
 
 -- no block
@@ -39,6 +42,7 @@ loop-number-init g c =
       omega arith,
       c.requires.blocks,
       record { room = omega (arith, ap length c.new-page.ensures); empty = λ _. c.new-page.ensures },
+      c.requires.reach.each,
     )
 
 pub loop-number-preserved : goal.loop-number-preserved
@@ -52,13 +56,14 @@ loop-number-preserved g c =
     let block = get_or c.args.blocks.now c.loop-number.number none in
     let I = c.loop-number.invariant in
     let here = this_block (length net.types) c.args.blocks.now c.loop-number.number none next names c.loop-number-test.true I.2 I.3 in
+    let reached = this_reach c.args.reach.now c.args.blocks.now c.loop-number.number none next names c.loop-number-test.true I.5 in
     let first = g.W.Sink.state c.args.out.now in
     let before = g.W.Sink.state c.loop-number.out in
     let held = c.loop-number.page in
     let earlier = changes_from 0 (take next names) old new in
     let part = changes_from next (take block.names (drop next names)) old new in
-    elim c.if-not-is_quiet.branch [
-      | then-not-is_quiet w ↦
+    elim c.if-marks-number.branch [
+      | then-marks-number+then-not-is_quiet w ↦
           let after = g.W.Sink.state w.push_changes-is_printed.new.out in
           let holds = w.push_changes-is_printed.new.page in
           let listed = part_of_names c.signals-signals.result.now next block.names ∙ ap (λ ss. take block.names (drop next ss)) c.signals-signals.ensures in
@@ -73,16 +78,30 @@ loop-number-preserved g c =
             here.1,
             here.2,
             w.push_changes-is_printed.ensures.opened,
+            reached.1,
           )
-      | else-not-is_quiet w ↦
-          let same = none_further next block.names names old new I.2
-          (no_changes old new block.least block.greatest (c.is_quiet.ensures w.if-not-is_quiet.false) next (take block.names (drop next names)) here.0.between) in
+      | else-marks-number w ↦
+          let these = take block.names (drop next names) in
+          let none_here : changes_from next these old new ≡ [] = elim w.else-marks-number.branch [
+            | else-marks-number-via-then-marks-number+else-not-is_quiet v ↦
+                no_changes old new block.least block.greatest (v.is_quiet.ensures v.if-not-is_quiet.false) next these here.0.between
+            | else-marks-number-via-else-marks-number v ↦
+                let place = c.loop-number.number % 1024 in
+                let marks = c.mark_places.new.marks in
+                let within : place < length marks = omega (arith, mod_below c.loop-number.number 1024 (omega arith), c.mark_places.auto.marks) in
+                let unmarked = get_or_default marks place true false within ∙ v.if-marks-number.false in
+                none_changes old new next these
+                (names_stay old new (length net.types) block c.args.reach.now place these here.0 reached.0
+                (λ n lt h. c.requires.left n (c.mark_places.ensures place n (omega (arith, lt, c.requires.nets)) h unmarked)))
+          ] in
+          let same = none_further next block.names names old new I.2 none_here in
           rw (w.out-is, w.page-is, w.next-is, w.is_printed-is) (
             subst (λ xs. Passes first before [] held (stamped time xs)) (sym same) I.0,
             I.1 ∙ ap are_some (sym same),
             here.1,
             here.2,
             I.4,
+            reached.1,
           )
     ]
 

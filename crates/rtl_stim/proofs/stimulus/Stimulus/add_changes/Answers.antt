@@ -1,14 +1,18 @@
-use Rattle.std.proofs.Common.{◌≡◌, ◌<◌, ℕ, false, length, ⊎_elim, ap, sym, subst, ◌∙◌, arith, rules}
+use Rattle.std.proofs.Common.{◌≡◌, ◌<◌, ℕ, false, length, map, ⊎_elim, ap, sym, subst, ◌∙◌, arith, rules}
 use Rattle.std.proofs.Math.Nat.{eq-or-lt_of_le}
 use Rattle.std.proofs.lemmas.List.{length-map}
+use Rattle.rtl_stim_lines.specs.declared.inputs.Element.{Element as KeptElement}
 use Rattle.rtl_stim_lines.specs.Courses.{is_busy}
+use Rattle.rtl_stim_lines.specs.Inputs.{input_at}
+use Rattle.rtl_stim_lines.specs.Times.{nets_of}
 use Rattle.rtl_stim_lines.specs.View.{course_view, course_in}
 use Rattle.rtl_stim_lines.proofs.Saying.{course_there}
 use Rattle.rtl_stim.specs.Stimuli.{StimulusView}
 use Rattle.rtl_stim.specs.Moments.{IsStimulus}
 use Rattle.rtl_stim.specs.Kept.{stimulus_view}
-use Rattle.rtl_stim.specs.Quiet.{Changes, HasAdded}
-use Rattle.rtl_stim.proofs.Quieting.{added_none, added_one, changed_of, unchanged_of}
+use Rattle.rtl_stim.specs.Quiet.{Changes}
+use Rattle.rtl_stim.proofs.Places.{nets_seen}
+use Rattle.rtl_stim.proofs.Quieting.{added_none, added_one}
 use Rattle.rtl_stim.proofs.stimulus.Stimulus.add_changes.Goals as goal
 
 pub index-requires : goal.index-requires
@@ -27,15 +31,15 @@ loop-time-preserved-in_ok-insert c =
     let is = course_there c.self.inside.schedule.courses.items c.args.place c.index.result.now (omega (arith, c.self.invariant.stimulus.each_course, within, length-map c.self.inside.schedule.courses.items course_view)) ∙ ap course_view (sym c.index.ensures) in
     let stimulus = subst IsStimulus (sym view) c.self.invariant.stimulus in
     let clocks = c.args.clocks.now in
-    let nets = c.args.nets.now in
+    let nets = nets_of (input_at v.inputs c.args.place) in
+    let seen : nets ≡ map (λ (e : KeptElement). e.net) c.elements_at-elements.result.now =
+    ap (λ (w : StimulusView). nets_of (input_at w.inputs c.args.place)) view ∙ nets_seen s.inputs c.args.place within c.elements_at-elements.result.now c.elements_at-elements.ensures in
     let now = c.loop-time.now in
     let next = c.in-Some.time in
     let idle : (b : ℕ) → now < b → b < next → is_busy (course_in v.schedule c.args.place) b ≡ false =
     λ b after before. ap (λ (w : StimulusView). is_busy (course_in w.schedule c.args.place) b) view ∙ ap (λ k. is_busy k b) is ∙ c.in-Some.ensures.idle b after before in
-    let old = c.args.times.now in
-    let mid = c.loop-time.times in
-    let changes = changed_of v clocks _ nets next c.changed_input.result (sym c.is_some.ensures ∙ c.if-is_some.true) c.changed_input.ensures.found in
-    added_one v clocks stimulus c.args.place now next c.requires.there nets c.requires.nets old mid c.insert.new.self c.loop-time.invariant idle changes c.in_ok-insert.ensures.updates
+    let changes = subst (λ ns. Changes v clocks ns next) (sym seen) (c.some_change.ensures.changed c.if-some_change.true) in
+    added_one v clocks stimulus c.args.place c.args.from now next c.requires.there c.args.times.now c.loop-time.times c.loop-time.invariant c.insert.new.self idle changes c.in_ok-insert.ensures.updates
 
 pub loop-time-preserved : goal.loop-time-preserved
 loop-time-preserved c =
@@ -46,16 +50,16 @@ loop-time-preserved c =
     let is = course_there c.self.inside.schedule.courses.items c.args.place c.index.result.now (omega (arith, c.self.invariant.stimulus.each_course, within, length-map c.self.inside.schedule.courses.items course_view)) ∙ ap course_view (sym c.index.ensures) in
     let stimulus = subst IsStimulus (sym view) c.self.invariant.stimulus in
     let clocks = c.args.clocks.now in
-    let nets = c.args.nets.now in
+    let nets = nets_of (input_at v.inputs c.args.place) in
+    let seen : nets ≡ map (λ (e : KeptElement). e.net) c.elements_at-elements.result.now =
+    ap (λ (w : StimulusView). nets_of (input_at w.inputs c.args.place)) view ∙ nets_seen s.inputs c.args.place within c.elements_at-elements.result.now c.elements_at-elements.ensures in
     let now = c.loop-time.now in
     let next = c.in-Some.time in
     let idle : (b : ℕ) → now < b → b < next → is_busy (course_in v.schedule c.args.place) b ≡ false =
     λ b after before. ap (λ (w : StimulusView). is_busy (course_in w.schedule c.args.place) b) view ∙ ap (λ k. is_busy k b) is ∙ c.in-Some.ensures.idle b after before in
-    let old = c.args.times.now in
-    let mid = c.loop-time.times in
-    let unchanged = unchanged_of v clocks nets next c.changed_input.result (sym c.is_some.ensures ∙ c.if-is_some.false) c.changed_input.ensures.none in
-    added_none v clocks stimulus c.args.place now next c.requires.there nets c.requires.nets old mid c.loop-time.invariant
-    (λ b after le changes. ⊎_elim (λ e. absurd (unchanged (subst (Changes v clocks nets) e changes))) (idle b after) (eq-or-lt_of_le le))
+    let unchanged = c.some_change.ensures.unchanged c.if-some_change.false in
+    added_none v clocks stimulus c.args.place c.args.from now next c.requires.there c.args.times.now c.loop-time.times c.loop-time.invariant
+    (λ b after le changes. ⊎_elim (λ e. absurd (unchanged (subst (Changes v clocks (map (λ (e : KeptElement). e.net) c.elements_at-elements.result.now)) e (subst (λ ns. Changes v clocks ns b) seen changes)))) (idle b after) (eq-or-lt_of_le le))
 
 pub returns : goal.returns
 returns c =
@@ -64,5 +68,11 @@ returns c =
     let view : v ≡ s = search rules in
     let within : c.args.place < length s.inputs = subst (λ (w : StimulusView). c.args.place < length w.inputs) view c.requires.there in
     let is = course_there c.self.inside.schedule.courses.items c.args.place c.index.result.now (omega (arith, c.self.invariant.stimulus.each_course, within, length-map c.self.inside.schedule.courses.items course_view)) ∙ ap course_view (sym c.index.ensures) in
-    added_none v c.args.clocks.now (subst IsStimulus (sym view) c.self.invariant.stimulus) c.args.place c.loop-time.now v.schedule.stop c.requires.there c.args.nets.now c.requires.nets c.args.times.now c.loop-time.times c.loop-time.invariant
-    (λ b after le changes. ap (λ (w : StimulusView). is_busy (course_in w.schedule c.args.place) b) view ∙ ap (λ k. is_busy k b) is ∙ c.in_default.ensures.idle b after (omega (arith, le, ap (λ (w : StimulusView). w.schedule.stop) view)))
+    let stimulus = subst IsStimulus (sym view) c.self.invariant.stimulus in
+    let clocks = c.args.clocks.now in
+    let nets = nets_of (input_at v.inputs c.args.place) in
+    let seen : nets ≡ map (λ (e : KeptElement). e.net) c.elements_at-elements.result.now =
+    ap (λ (w : StimulusView). nets_of (input_at w.inputs c.args.place)) view ∙ nets_seen s.inputs c.args.place within c.elements_at-elements.result.now c.elements_at-elements.ensures in
+    let now = c.loop-time.now in
+    added_none v clocks stimulus c.args.place c.args.from now c.args.last c.requires.there c.args.times.now c.loop-time.times c.loop-time.invariant
+    (λ b after le changes. ap (λ (w : StimulusView). is_busy (course_in w.schedule c.args.place) b) view ∙ ap (λ k. is_busy k b) is ∙ c.in_default.ensures.idle b after (omega (arith, le)))

@@ -1,11 +1,7 @@
-use Rattle.std.proofs.Common.{◌≡◌, ℕ, suc, ◌+◌, ◌<◌, ◌≤◌, ⊎_elim, ap, sym, subst, ◌∙◌, arith}
-use Rattle.std.proofs.Math.Nat.{eq-or-lt_of_le}
-use Rattle.std.proofs.lemmas.Bool.{cases_lt}
-use Rattle.rtl_stim.specs.Quiet.{IsActiveAt, IsAmong}
 use Rattle.rtl_stim.proofs.Meeting.{searched_more}
 use Rattle.rtl_stim.proofs.stimulus.Stimulus.first_time.Goals as goal
 
 pub loop-clock-preserved : goal.loop-clock-preserved
 loop-clock-preserved c =
     let told = c.edge_before-past.ensures in
-    searched_more c.args.self.now c.args.clocks.now c.args.times.now c.loop-clock.clock-index c.loop-clock.past c.edge_before-past.result c.loop-clock-test.true c.loop-clock.invariant told.later told.within told.edge told.none
+    searched_more c.args.self.now c.args.clocks.now c.args.times.now c.args.last c.loop-clock.clock-index c.loop-clock.past c.edge_before-past.result c.loop-clock-test.true c.loop-clock.invariant told.later told.within told.edge told.none
