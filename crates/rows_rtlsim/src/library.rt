@@ -6,46 +6,31 @@ use crate::opened::Opened;
 use rows_calls::bytes_of;
 use rows_on_net::{Run, run_by_trees};
 use rtlsim::{
-    Fault, Forward, Order, Pick, Request, Reverse, Sink, Status, eval, halves_at_line, run,
+    Call, Fault, Forward, Order, Pick, Request, Reverse, Sink, Status, eval, halves_at_line, run,
     run_event, run_levels, show_check, show_check_dot, show_net,
 };
 use std::alloc::Global;
 use vhdl_source::Vhdl;
 
-/// Makes the call of a request, and gives the status, which stands for its fault if it has one.
-pub fn answer_by_library<S: Sink>(
-    alloc: Global,
-    request: &Request<'_>,
-    input: &[u8],
-    out: &mut S,
-) -> u8
+/// Makes a call, and gives the status, which stands for its fault if it has one.
+pub fn answer_by_library<S: Sink>(alloc: Global, call: &Call<'_>, input: &[u8], out: &mut S) -> u8
     requires { IsIntact (S.state out.old) }
 {
-    match request {
-        Request::Eval { top, sets, .. } => evaluate(alloc, input, top, sets, out),
-        Request::Net { top, .. } => {
-            status_of(show_net::<Vhdl, _>(alloc, input, top.as_bytes(), out))
-        }
-        Request::Check { top, .. } => {
-            status_of_check(show_check::<Vhdl, _>(alloc, input, top.as_bytes(), out))
-        }
-        Request::Dot { top, .. } => {
-            status_of_check(show_check_dot::<Vhdl, _>(alloc, input, top.as_bytes(), out))
-        }
+    let top = call.top.as_bytes();
+    match call.request {
+        Request::Eval => evaluate(alloc, input, top, &call.sets, out),
+        Request::Net => status_of(show_net::<Vhdl, _>(alloc, input, top, out)),
+        Request::Check => status_of_check(show_check::<Vhdl, _>(alloc, input, top, out)),
+        Request::Dot => status_of_check(show_check_dot::<Vhdl, _>(alloc, input, top, out)),
         // The library has no call that writes the object of a source's verdict.
-        Request::Json { .. } => Status::Failed.code(),
-        Request::Run {
-            is_event,
-            order,
-            top,
-            ..
-        } => match order {
-            Order::Forward => simulate(alloc, *is_event, input, top, &mut Forward, out),
-            Order::Reverse => simulate(alloc, *is_event, input, top, &mut Reverse, out),
+        Request::Json => Status::Failed.code(),
+        Request::Run { is_event, order } => match order {
+            Order::Forward => simulate(alloc, is_event, input, top, &mut Forward, out),
+            Order::Reverse => simulate(alloc, is_event, input, top, &mut Reverse, out),
         },
-        Request::Levels { top, .. } => {
+        Request::Levels => {
             let (source, stimulus) = halves_at_line(input);
-            status_of(run_levels::<Vhdl, _>(alloc, source, top.as_bytes(), stimulus, out))
+            status_of(run_levels::<Vhdl, _>(alloc, source, top, stimulus, out))
         }
     }
 }
@@ -53,28 +38,22 @@ pub fn answer_by_library<S: Sink>(
 /// Makes a run by delta cycles over trees and a map, if that is asked for, and gives the status.
 pub fn answer_by_trees<S: Sink, E: Sink>(
     alloc: Global,
-    request: &Request<'_>,
+    call: &Call<'_>,
     input: &[u8],
     out: &mut S,
     err: &mut E,
 ) -> Option<u8>
     requires { IsIntact (S.state out.old) }
 {
-    let Request::Run {
-        is_event,
-        order,
-        top,
-        ..
-    } = request
-    else {
+    let Request::Run { is_event, order } = call.request else {
         return None;
     };
     let (source, stimulus) = halves_at_line(input);
     let run = Run {
         source,
-        top: top.as_bytes(),
+        top: call.top.as_bytes(),
         stimulus,
-        is_event: *is_event,
+        is_event,
     };
     Some(match order {
         Order::Forward => run_by_trees(alloc, &Opened, &run, &mut Forward, out, err),
@@ -83,11 +62,11 @@ pub fn answer_by_trees<S: Sink, E: Sink>(
 }
 
 /// Evaluates a source under the words of its inputs.
-fn evaluate<S: Sink>(alloc: Global, input: &[u8], top: &str, sets: &[&str], out: &mut S) -> u8
+fn evaluate<S: Sink>(alloc: Global, input: &[u8], top: &[u8], sets: &[&str], out: &mut S) -> u8
     requires { IsIntact (S.state out.old) }
 {
     match bytes_of(alloc, sets) {
-        Ok(sets) => status_of(eval::<Vhdl, _>(alloc, input, top.as_bytes(), &sets, out)),
+        Ok(sets) => status_of(eval::<Vhdl, _>(alloc, input, top, &sets, out)),
         Err(_) => Status::Memory.code(),
     }
 }
@@ -97,14 +76,13 @@ fn simulate<P: Pick, S: Sink>(
     alloc: Global,
     is_event: bool,
     input: &[u8],
-    top: &str,
+    top: &[u8],
     pick: &mut P,
     out: &mut S,
 ) -> u8
     requires { IsIntact (S.state out.old) }
 {
     let (source, stimulus) = halves_at_line(input);
-    let top = top.as_bytes();
     if is_event {
         status_of(run_event::<Vhdl, _, _>(alloc, source, top, stimulus, pick, out))
     } else {

@@ -61,7 +61,7 @@ impl Program for Rtlsim {
         let Ok(call) = parse_words(alloc, words) else {
             return None;
         };
-        Some(answer_by_library(alloc, &call.request, input, out))
+        Some(answer_by_library(alloc, &call, input, out))
     }
 
     fn by_trees<O: Sink, E: Sink>(
@@ -75,6 +75,6 @@ impl Program for Rtlsim {
         let Ok(call) = parse_words(alloc, words) else {
             return None;
         };
-        answer_by_trees(alloc, &call.request, input, out, err)
+        answer_by_trees(alloc, &call, input, out, err)
     }
 }

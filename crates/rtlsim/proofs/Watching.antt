@@ -1,5 +1,5 @@
 -- What holds of what was seen of a run, by what else does.
-use Rattle.std.proofs.Common.{◌≡◌, ℕ, Bool, true, false, List, Option, Some, None, Result, Ok, Err, inl, inr, ◌++◌, sym, subst}
+use Rattle.std.proofs.Common.{◌≡◌, ℕ, Bool, true, false, List, Option, Result, Ok, Err, inl, inr, ◌++◌, sym, subst}
 use Rattle.rtl_net.specs.Nets.{NetlistView}
 use Rattle.rtl_progress.specs.Shown.{HasShown, shown_after, shown_text, text_of_end, whole_text}
 use Rattle.rtl_progress.specs.Stops.{stop_of}
@@ -15,8 +15,8 @@ use Rattle.rtlsim_faults.specs.declared.faults.Fault.{Fault}
 use Rattle.rtlsim_faults.specs.declared.faults.Fault.TheVariants.{Differs}
 use Rattle.rtlsim_faults.specs.declared.status.Status.{Status}
 use Rattle.rtlsim_faults.specs.declared.telling.Telling.{Telling}
-use Rattle.rtlsim_words.specs.declared.request.Request.{Request}
-use Rattle.rtlsim_words.specs.declared.request.Request.TheVariants.{Eval, Net, Check, Dot, Json, Run, Levels}
+use Rattle.rtlsim_words.specs.declared.call.Request.{Request}
+use Rattle.rtlsim_words.specs.declared.call.Request.TheVariants.{Eval, Net, Check, Dot, Json, Run, Levels}
 
 -- of an answer with the whole trace, or of another
 whole_more : {A P Q : Type 0} → (P → Q) → (answer : Result A Fault) → IfWhole answer P → IfWhole answer Q
@@ -76,14 +76,14 @@ module _ {P Q : List Stand → Type 0} (f : (stands : List Stand) → P stands �
     -- this holds of what was seen, and so that does
     pub serves_by : (request : Request) (sets : List (List ℕ)) (text : List ℕ) (expected : Option (List ℕ))
         → ServesBy telling source top outcome o P request sets text expected → ServesBy telling source top outcome o Q request sets text expected
-    serves_by (Eval file entity words) sets text expected s = s
-    serves_by (Net file entity) sets text expected s = s
-    serves_by (Check file entity) sets text expected s = s
-    serves_by (Dot file entity) sets text expected s = s
-    serves_by (Json file entity) sets text expected s = s
-    serves_by (Run true order file entity stimulus) sets text expected s = serves_events text expected s
-    serves_by (Run false order file entity stimulus) sets text expected s = serves_machine text expected s
-    serves_by (Levels file entity stimulus) sets text expected s = serves_levels text expected s
+    serves_by Eval sets text expected s = s
+    serves_by Net sets text expected s = s
+    serves_by Check sets text expected s = s
+    serves_by Dot sets text expected s = s
+    serves_by Json sets text expected s = s
+    serves_by (Run true order) sets text expected s = serves_events text expected s
+    serves_by (Run false order) sets text expected s = serves_machine text expected s
+    serves_by Levels sets text expected s = serves_levels text expected s
 
 -- nothing is to be shown
 pub shows_none : (shows : Bool) → shows ≡ false → (stimulus : List ℕ) (s : Sinks) (stands : List Stand) → ShowsIf shows stimulus s stands

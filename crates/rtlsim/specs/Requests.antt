@@ -1,42 +1,9 @@
--- What a call names, and what is read for it.
-use Rattle.std.specs.Prelude.{ℕ, List, [], ◌∷◌, ◌++◌, Option, Some, None, codes, map}
+-- What is read for a call.
+use Rattle.std.specs.Prelude.{ℕ, List, [], ◌∷◌, ◌++◌, Option, codes}
 use Rattle.rtlsim.specs.Inputs.{Reading}
 use Rattle.rtlsim.specs.Reads.{Given, GivesAll, GivesMain, GivesMaybe, Made, Then}
 use Rattle.rtlsim_files.specs.Files.{FileView}
-use Rattle.rtlsim_words.specs.Extras.{expected_of, with_of}
-use Rattle.rtlsim_words.specs.declared.extras.Call.{Call}
-use Rattle.rtlsim_words.specs.declared.request.Request.{Request}
-use Rattle.rtlsim_words.specs.declared.request.Request.TheVariants.{Eval, Net, Check, Dot, Json, Run, Levels}
-
--- the name of the source
-abbrev pub file_of : Request → List ℕ
-file_of (Eval file top sets) = file.now
-file_of (Net file top) = file.now
-file_of (Check file top) = file.now
-file_of (Dot file top) = file.now
-file_of (Json file top) = file.now
-file_of (Run is_event order file top stimulus) = file.now
-file_of (Levels file top stimulus) = file.now
-
-abbrev pub top_of : Request → List ℕ
-top_of (Eval file top sets) = top.now
-top_of (Net file top) = top.now
-top_of (Check file top) = top.now
-top_of (Dot file top) = top.now
-top_of (Json file top) = top.now
-top_of (Run is_event order file top stimulus) = top.now
-top_of (Levels file top stimulus) = top.now
-
--- the name of the stimulus
-abbrev pub stimulus_of : Request → Option (List ℕ)
-stimulus_of (Run is_event order file top stimulus) = Some stimulus.now
-stimulus_of (Levels file top stimulus) = Some stimulus.now
-stimulus_of _ = None
-
--- the words that set inputs
-abbrev pub sets_of : Request → List (List ℕ)
-sets_of (Eval file top sets) = map (λ set. set.now) sets.items
-sets_of _ = []
+use Rattle.rtlsim_words.specs.Words.{CallView}
 
 -- what stands for the name of a stimulus where there is none
 abbrev pub set_form : List ℕ
@@ -57,8 +24,6 @@ texts file read = record {
 }
 
 -- The files of a call, in the order in which they are read.
-abbrev pub GivesTexts : Reading → Call → Given TextsView
+abbrev pub GivesTexts : Reading → CallView → Given TextsView
 GivesTexts Gives call =
-    Made (texts (file_of call.request))
-    (Then (GivesAll Gives (with_of call.extras))
-    (Then (GivesMain Gives (file_of call.request) (stimulus_of call.request)) (GivesMaybe Gives (expected_of call.extras))))
+    Made (texts call.file) (Then (GivesAll Gives call.with) (Then (GivesMain Gives call.file call.stimulus) (GivesMaybe Gives call.expected)))

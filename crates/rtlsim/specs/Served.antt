@@ -1,6 +1,6 @@
 -- What commands do with what was read.
-use Rattle.std.specs.Prelude.{◌≡◌, ℕ, Bool, true, false, List, Option, Some, None, map, option_map, unwrap_or}
-use Rattle.rtlsim.specs.Requests.{TextsView, set_form, sets_of, stimulus_of, top_of}
+use Rattle.std.specs.Prelude.{◌≡◌, ℕ, Bool, true, false, List, Option, map, option_map, unwrap_or}
+use Rattle.rtlsim.specs.Requests.{TextsView, set_form}
 use Rattle.rtl_sink.specs.Stands.{Stand}
 use Rattle.rtlsim.specs.Sinks.{Sinks, IsSilent, ShowsIf, outputs}
 use Rattle.rtlsim_commands.specs.Expected.{Comparing}
@@ -15,16 +15,16 @@ use Rattle.rtlsim_commands.specs.Watched.{OfEvents, OfMachine, Watched}
 use Rattle.rtlsim_faults.specs.declared.status.Status.{Status}
 use Rattle.rtlsim_faults.specs.declared.telling.Telling.{Telling}
 use Rattle.rtlsim_files.specs.Files.{file_view, joined}
-use Rattle.rtlsim_words.specs.declared.extras.Call.{Call}
-use Rattle.rtlsim_words.specs.declared.request.Request.{Request}
-use Rattle.rtlsim_words.specs.declared.request.Request.TheVariants.{Eval, Net, Check, Dot, Json, Run, Levels}
+use Rattle.rtlsim_words.specs.Words.{CallView}
+use Rattle.rtlsim_words.specs.declared.call.Request.{Request}
+use Rattle.rtlsim_words.specs.declared.call.Request.TheVariants.{Eval, Net, Check, Dot, Json, Run, Levels}
 
 -- the commands tell of these files, this stimulus, and explain faults where that is asked for
-pub record IsToldOf (call : Call) (texts : TextsView) (telling : Telling) : Type 0 where
+pub record IsToldOf (call : CallView) (texts : TextsView) (telling : Telling) : Type 0 where
   pub files : map file_view telling.files.now ≡ texts.files
-  pub stimulus : telling.stimulus.now ≡ unwrap_or (stimulus_of call.request) set_form
-  pub text : option_map (λ text. text.now) telling.stimulus_text ≡ option_map (λ name. texts.stimulus) (stimulus_of call.request)
-  pub explains : telling.explains ≡ call.extras.explains
+  pub stimulus : telling.stimulus.now ≡ unwrap_or call.stimulus set_form
+  pub text : option_map (λ text. text.now) telling.stimulus_text ≡ option_map (λ name. texts.stimulus) call.stimulus
+  pub explains : telling.explains ≡ call.explains
 
 module _ (telling : Telling) (source top : List ℕ) (outcome : Status) (o : Outputs) (Holds : List Stand → Type 0) where
   -- A run under the text of a stimulus, compared with what is expected if that is given. This holds of what is seen of it where it writes the
@@ -45,18 +45,18 @@ module _ (telling : Telling) (source top : List ℕ) (outcome : Status) (o : Out
 
   -- the command of a request serves the source, with the words that set inputs, the text of the stimulus and that of what is expected
   abbrev pub ServesBy : Request → (sets : List (List ℕ)) → (text : List ℕ) → (expected : Option (List ℕ)) → Type 0
-  ServesBy (Eval file entity words) sets text expected = ServesSource (EvaluatesMachine sets) quiet telling source top outcome o
-  ServesBy (Net file entity) sets text expected = ServesSource ListsNet quiet telling source top outcome o
-  ServesBy (Check file entity) sets text expected = ServesSource (ChecksNetTold telling) verdict telling source top outcome o
-  ServesBy (Dot file entity) sets text expected = ServesSource (DrawsNetTold telling) verdict telling source top outcome o
-  ServesBy (Json file entity) sets text expected = ServesSource (ChecksNetJson telling) verdict telling source top outcome o
-  ServesBy (Run is_event order file entity stimulus) sets text expected = ServesRun is_event text expected
-  ServesBy (Levels file entity stimulus) sets text expected = ServesLevels text expected
+  ServesBy Eval sets text expected = ServesSource (EvaluatesMachine sets) quiet telling source top outcome o
+  ServesBy Net sets text expected = ServesSource ListsNet quiet telling source top outcome o
+  ServesBy Check sets text expected = ServesSource (ChecksNetTold telling) verdict telling source top outcome o
+  ServesBy Dot sets text expected = ServesSource (DrawsNetTold telling) verdict telling source top outcome o
+  ServesBy Json sets text expected = ServesSource (ChecksNetJson telling) verdict telling source top outcome o
+  ServesBy (Run is_event order) sets text expected = ServesRun is_event text expected
+  ServesBy Levels sets text expected = ServesLevels text expected
 
 -- The command of a call serves the source of the files. Where the call asks for it, it is shown how far a run is, and else nothing.
-pub record ServesTexts (call : Call) (texts : TextsView) (outcome : Status) (s : Sinks) : Type 0 where
+pub record ServesTexts (call : CallView) (texts : TextsView) (outcome : Status) (s : Sinks) : Type 0 where
   pub telling : Telling
   pub told : IsToldOf call texts telling
-  pub serves : ServesBy telling (joined texts.files) (top_of call.request) outcome (outputs s) (ShowsIf call.extras.shows_progress texts.stimulus s)
-      call.request (sets_of call.request) texts.stimulus texts.expected
-  pub silent : call.extras.shows_progress ≡ false → IsSilent s
+  pub serves : ServesBy telling (joined texts.files) call.top outcome (outputs s) (ShowsIf call.shows_progress texts.stimulus s)
+      call.request call.sets texts.stimulus texts.expected
+  pub silent : call.shows_progress ≡ false → IsSilent s

@@ -7,8 +7,8 @@ use Rattle.rtlsim_faults.specs.declared.status.Status.{Status}
 use Rattle.rtlsim_faults.specs.declared.status.Status.TheVariants as status
 use Rattle.rtl_sink.specs.Read.{ReaderState}
 use Rattle.rtl_sink.specs.Written.{Goes}
-use Rattle.rtlsim_words.specs.Extras.{Says, SayNothing}
-use Rattle.rtlsim_words.specs.declared.extras.Call.{Call}
+use Rattle.rtlsim_words.specs.Words.{CallView, Says, SayNothing, call_view}
+use Rattle.rtlsim_words.specs.declared.call.Call.{Call}
 use Rattle.rtlsim.specs.Inputs.{Reading, GivesWhole, held}
 use Rattle.rtlsim.specs.Requests.{GivesTexts}
 use Rattle.rtlsim.specs.Served.{ServesTexts}
@@ -35,9 +35,9 @@ ReadsInputs {A} {Why} Gives text_of Served outcome s =
     ⊎ ((given : A) × Gives (Ok given) × Served given)
 
 -- What is done for a call. Its files are read first; then its command serves the source.
-unfoldable pub Performs : Reading → Call → (old new : ReaderState) → (outcome : Status) → Sinks → Type 0
+unfoldable pub Performs : Reading → CallView → (old new : ReaderState) → (outcome : Status) → Sinks → Type 0
 Performs Gives call old new outcome s =
-    ReadsInputs (GivesTexts Gives call old new) (input_text call.extras.explains) (λ texts. ServesTexts call texts outcome s) outcome s
+    ReadsInputs (GivesTexts Gives call old new) (input_text call.explains) (λ texts. ServesTexts call texts outcome s) outcome s
 
 -- the words are refused for this reason, or for want of memory, with a text on the standard error and nothing else
 pub record RefusesWords (Reason : Type 0) (outcome : Status) (o : Outputs) : Type 0 where
@@ -50,7 +50,7 @@ pub record RefusesWords (Reason : Type 0) (outcome : Status) (o : Outputs) : Typ
 -- what the program does: it serves a call that its words say, or refuses words that say none
 abbrev pub ServesCall : Reading → (words : List (List ℕ)) → (old new : ReaderState) → (outcome : Status) → Sinks → Type 0
 ServesCall Gives words old new outcome s =
-    ((call : Call) × Says words call × Performs Gives call old new outcome s) ⊎ Silently (RefusesWords (SayNothing words) outcome) s
+    ((call : Call) × Says words call × Performs Gives (call_view call) old new outcome s) ⊎ Silently (RefusesWords (SayNothing words) outcome) s
 
 -- ---- words in the first line of the input
 

@@ -7,13 +7,13 @@ ghost use Rattle.rtlsim.specs.Served.{ServesBy, ServesTexts};
 ghost use Rattle.rtlsim.specs.Sinks.{Sinks, ShowsIf, outputs};
 ghost use Rattle.rtlsim.specs.Texts.{texts_view};
 ghost use Rattle.rtlsim.specs.Tools.{Silently, TellsInput};
+ghost use Rattle.rtlsim_words.specs.Words.{call_view};
 ghost use Rattle.rtlsim_faults.specs.Lines.{memory_line};
 ghost use Rattle.rtlsim_faults.specs.declared.status.Status.TheVariants as status;
 
 use crate::job::Job;
 use crate::prepared::prepare;
 use crate::refusals::refuse_input;
-use crate::requests::{stimulus_of, top_of};
 use crate::simulating::{serve_job, simulate, simulate_levels};
 use crate::texts::Texts;
 use crate::unread::ReadFault;
@@ -34,23 +34,30 @@ pub(crate) fn perform_texts<'b, F: Front, O: Sink, E: Sink, G: Sink>(
 ) -> Status
     requires out { IsIntact (O.state out.old) }
     requires err { IsIntact (E.state err.old) }
-    ensures { let s : Sinks = record { out = O.state out.old; out_after = O.state out.new; err = E.state err.old; err_after = E.state err.new; progress = G.state progress.old; progress_after = G.state progress.new } in
-        Silently (TellsInput memory_line status.Memory result) s ⊎ ServesTexts call.now (texts_view texts.now) result s }
+    ensures { let s : Sinks = record {
+      out = O.state out.old;
+      out_after = O.state out.new;
+      err = E.state err.old;
+      err_after = E.state err.new;
+      progress = G.state progress.old;
+      progress_after = G.state progress.new;
+    } in
+        Silently (TellsInput memory_line status.Memory result) s
+        ⊎ ServesTexts (call_view call.now) (texts_view texts.now) result s }
 {
-    let request = &call.request;
-    let Ok(prepared) = prepare(alloc, request, texts) else {
+    let Ok(prepared) = prepare(alloc, &call.sets, texts) else {
         return refuse_input(ReadFault::NoMemory, false, out, err);
     };
     let (_source, stimulus) = texts.main.texts();
     let telling = Telling {
         files: &prepared.files,
-        stimulus: stimulus_name(request),
-        stimulus_text: stimulus_of(request).map(|_name| stimulus),
-        explains: call.extras.explains,
+        stimulus: stimulus_name(call),
+        stimulus_text: call.stimulus.map(|_name| stimulus),
+        explains: call.explains,
     };
     let job = Job {
         source: prepared.source(),
-        top: top_of(request).as_bytes(),
+        top: call.top.as_bytes(),
         telling: &telling,
         sets: &prepared.sets,
         stimulus,
@@ -58,9 +65,9 @@ pub(crate) fn perform_texts<'b, F: Front, O: Sink, E: Sink, G: Sink>(
     };
     perform_shown::<F, _, _, _>(
         alloc,
-        request,
+        call.request,
         &job,
-        call.extras.shows_progress,
+        call.shows_progress,
         out,
         err,
         progress,
@@ -68,10 +75,10 @@ pub(crate) fn perform_texts<'b, F: Front, O: Sink, E: Sink, G: Sink>(
 }
 
 /// The name of the stimulus, or what stands for it.
-fn stimulus_name<'b>(request: &'b Request<'_>) -> &'b [u8]
-    ensures { result.now ≡ unwrap_or (requests.stimulus_of request.now) requests.set_form }
+fn stimulus_name<'b>(call: &'b Call<'_>) -> &'b [u8]
+    ensures { result.now ≡ unwrap_or (call_view call.now).stimulus requests.set_form }
 {
-    match stimulus_of(request) {
+    match call.stimulus {
         Some(name) => name.as_bytes(),
         None => b"NAME=VALUE",
     }
@@ -80,7 +87,7 @@ fn stimulus_name<'b>(request: &'b Request<'_>) -> &'b [u8]
 /// Does what is asked for, and shows how far a run is where `shows` says so.
 fn perform_shown<F: Front, O: Sink, E: Sink, G: Sink>(
     alloc: Global,
-    request: &Request<'_>,
+    request: Request,
     job: &Job<'_>,
     shows: bool,
     out: &mut O,
@@ -89,9 +96,17 @@ fn perform_shown<F: Front, O: Sink, E: Sink, G: Sink>(
 ) -> Status
     requires out { IsIntact (O.state out.old) }
     requires err { IsIntact (E.state err.old) }
-    ensures serves { let s : Sinks = record { out = O.state out.old; out_after = O.state out.new; err = E.state err.old; err_after = E.state err.new; progress = G.state progress.old; progress_after = G.state progress.new } in
-        ServesBy job.now.telling.now job.now.source.now job.now.top.now result (outputs s) (ShowsIf shows job.now.stimulus.now s)
-        request.now (map (λ set. set.now) job.now.sets.now) job.now.stimulus.now (option_map (λ text. text.now) job.now.expected) }
+    ensures serves { let s : Sinks = record {
+      out = O.state out.old;
+      out_after = O.state out.new;
+      err = E.state err.old;
+      err_after = E.state err.new;
+      progress = G.state progress.old;
+      progress_after = G.state progress.new;
+    } in
+        ServesBy job.now.telling.now job.now.source.now job.now.top.now result (outputs s)
+        (ShowsIf shows job.now.stimulus.now s) request
+        (map (λ set. set.now) job.now.sets.now) job.now.stimulus.now (option_map (λ text. text.now) job.now.expected) }
     ensures silent { shows ≡ false → G.state progress.new ≡ G.state progress.old }
 {
     if !shows {
@@ -106,7 +121,7 @@ fn perform_shown<F: Front, O: Sink, E: Sink, G: Sink>(
 /// Does what is asked for, while this watch looks on where it is a run.
 fn perform_job<F: Front, V: Watch, O: Sink, E: Sink>(
     alloc: Global,
-    request: &Request<'_>,
+    request: Request,
     job: &Job<'_>,
     watch: &mut V,
     out: &mut O,
@@ -116,40 +131,31 @@ fn perform_job<F: Front, V: Watch, O: Sink, E: Sink>(
     requires err { IsIntact (E.state err.old) }
     ensures { ServesBy job.now.telling.now job.now.source.now job.now.top.now result
         (record { out = O.state out.old; out_after = O.state out.new; err = E.state err.old; err_after = E.state err.new })
-        (λ stands. V.told watch.old stands watch.new)
-        request.now (map (λ set. set.now) job.now.sets.now) job.now.stimulus.now (option_map (λ text. text.now) job.now.expected) }
+        (λ stands. V.told watch.old stands watch.new) request
+        (map (λ set. set.now) job.now.sets.now) job.now.stimulus.now (option_map (λ text. text.now) job.now.expected) }
 {
     let telling = job.telling;
     match request {
-        Request::Eval { .. } => {
+        Request::Eval => {
             let mut command = EvalNet { sets: job.sets };
             serve_job::<F, _, _, _, _>(alloc, &mut command, job, watch, out, err)
         }
-        Request::Net { .. } => serve_job::<F, _, _, _, _>(
-            alloc,
-            &mut ListNet,
-            job,
-            watch,
-            out,
-            err,
-        ),
-        Request::Check { .. } => {
+        Request::Net => serve_job::<F, _, _, _, _>(alloc, &mut ListNet, job, watch, out, err),
+        Request::Check => {
             let mut command = CheckNet { telling };
             serve_job::<F, _, _, _, _>(alloc, &mut command, job, watch, out, err)
         }
-        Request::Dot { .. } => {
+        Request::Dot => {
             let mut command = DrawNet { telling };
             serve_job::<F, _, _, _, _>(alloc, &mut command, job, watch, out, err)
         }
-        Request::Json { .. } => {
+        Request::Json => {
             let mut command = DescribeNet { telling };
             serve_job::<F, _, _, _, _>(alloc, &mut command, job, watch, out, err)
         }
-        Request::Run {
-            is_event,
-            order,
-            ..
-        } => simulate::<F, _, _, _>(alloc, *is_event, *order, job, watch, out, err),
-        Request::Levels { .. } => simulate_levels::<F, _, _, _>(alloc, job, watch, out, err),
+        Request::Run { is_event, order } => {
+            simulate::<F, _, _, _>(alloc, is_event, order, job, watch, out, err)
+        }
+        Request::Levels => simulate_levels::<F, _, _, _>(alloc, job, watch, out, err),
     }
 }

@@ -1,15 +1,12 @@
 //! What commands are given of what was read.
 
-ghost use Rattle.std.specs.Prelude.{◌≡◌, ◌∷◌, ◌++◌, [], IfOk, map};
-ghost use Rattle.rtlsim.specs.Requests as requests;
+ghost use Rattle.std.specs.Prelude.{◌≡◌, IfOk, map};
 ghost use Rattle.rtlsim.specs.Texts.{source_by, texts_view};
 ghost use Rattle.rtlsim_files.specs.Files as joining;
 ghost use Rattle.rtlsim_files.specs.Files.{file_view};
 
-use crate::requests::sets_of;
 use crate::texts::Texts;
 use rtlsim_files::{SourceFile, joined};
-use rtlsim_words::Request;
 use std::alloc::{AllocError, Global};
 
 /// The files of a source, and the words that set inputs as bytes.
@@ -50,16 +47,16 @@ impl Prepared<'_> {
 /// What commands are given. It takes memory for the files' list and the words', and for the text where it is that of several files.
 pub(crate) fn prepare<'b>(
     alloc: Global,
-    request: &'b Request<'_>,
+    sets: &[&'b str],
     texts: &'b Texts<'_>,
 ) -> Result<Prepared<'b>, AllocError>
     ensures files { IfOk result (λ p. map file_view p.files.items ≡ (texts_view texts.now).files) }
     ensures source { IfOk result (λ p. source_by p.joined.items (map file_view p.files.items) ≡ joining.joined (texts_view texts.now).files) }
-    ensures sets { IfOk result (λ p. map (λ set. set.now) p.sets.items ≡ requests.sets_of request.now) }
+    ensures sets { IfOk result (λ p. map (λ set. set.now) p.sets.items ≡ map (λ set. set.now) sets.now) }
 {
     let files = files_of(alloc, texts)?;
     let joined = joined_where_several(alloc, &files)?;
-    let sets = bytes_of(alloc, sets_of(request))?;
+    let sets = bytes_of(alloc, sets)?;
     Ok(Prepared {
         files,
         joined,

@@ -5,10 +5,10 @@ ghost use Rattle.rtlsim.specs.Requests.{GivesTexts};
 ghost use Rattle.rtlsim.specs.Reads.{GivesAll, GivesBoth, GivesMain, GivesMaybe, GivesOne};
 ghost use Rattle.rtlsim.specs.Texts.{read_view, texts_of, texts_view};
 ghost use Rattle.rtlsim.specs.Unread.{Unread, unread_of};
+ghost use Rattle.rtlsim_words.specs.Words.{call_view};
 
 use crate::halves::halves_at_line;
 use crate::inputs::Inputs;
-use crate::requests::{file_of, stimulus_of};
 use crate::unread::ReadFault;
 use rtlsim_files::SourceFile;
 use rtlsim_words::Call;
@@ -127,16 +127,17 @@ pub(crate) fn read_texts<'a, I: Inputs>(
     call: &Call<'a>,
     inputs: &mut I,
 ) -> Result<Texts<'a>, ReadFault<'a>>
-    ensures given { IfOk result (λ texts. GivesTexts I.gives call.now (I.state inputs.old) (I.state inputs.new) (Ok (texts_view texts))) }
-    ensures failed { IfErr result (λ fault. (unread : Unread) → unread_of fault ≡ Some unread → GivesTexts I.gives call.now (I.state inputs.old) (I.state inputs.new) (Err unread)) }
+    ensures given { IfOk result (λ texts.
+        GivesTexts I.gives (call_view call.now) (I.state inputs.old) (I.state inputs.new) (Ok (texts_view texts))) }
+    ensures failed { IfErr result (λ fault. (unread : Unread) → unread_of fault ≡ Some unread
+        → GivesTexts I.gives (call_view call.now) (I.state inputs.old) (I.state inputs.new) (Err unread)) }
 {
-    let file = file_of(&call.request);
-    let before = read_files(alloc, &call.extras.with, inputs)?;
-    let main = read_main(alloc, file, stimulus_of(&call.request), inputs)?;
-    let expected = read_maybe(alloc, call.extras.expected, inputs)?;
+    let before = read_files(alloc, &call.with, inputs)?;
+    let main = read_main(alloc, call.file, call.stimulus, inputs)?;
+    let expected = read_maybe(alloc, call.expected, inputs)?;
     Ok(Texts {
         before,
-        file,
+        file: call.file,
         main,
         expected,
     })

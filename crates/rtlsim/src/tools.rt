@@ -6,6 +6,7 @@ ghost use Rattle.rtlsim_faults.specs.declared.status.Status.{Status};
 ghost use Rattle.rtl_sink.specs.Written.{IsIntact};
 ghost use Rattle.rtlsim.specs.Inputs.{GivesStandardAlone};
 ghost use Rattle.rtlsim.specs.Tools.{Performs, ServesCall, ServesWords};
+ghost use Rattle.rtlsim_words.specs.Words.{call_view};
 
 use crate::first_line::serve_reader_line;
 use crate::inputs::{Inputs, Standard};
@@ -82,11 +83,18 @@ pub fn perform<F: Front, I: Inputs, O: Sink, E: Sink, G: Sink>(
 ) -> Status
     requires out { IsIntact (O.state out.old) }
     requires err { IsIntact (E.state err.old) }
-    ensures { Performs I.gives call.now (I.state inputs.old) (I.state inputs.new) result
-        (record { out = O.state out.old; out_after = O.state out.new; err = E.state err.old; err_after = E.state err.new; progress = G.state progress.old; progress_after = G.state progress.new }) }
+    ensures { Performs I.gives (call_view call.now) (I.state inputs.old) (I.state inputs.new) result
+        (record {
+          out = O.state out.old;
+          out_after = O.state out.new;
+          err = E.state err.old;
+          err_after = E.state err.new;
+          progress = G.state progress.old;
+          progress_after = G.state progress.new;
+        }) }
 {
     match read_texts(alloc, call, inputs) {
         Ok(texts) => perform_texts::<F, _, _, _>(alloc, call, &texts, out, err, progress),
-        Err(fault) => refuse_input(fault, call.extras.explains, out, err),
+        Err(fault) => refuse_input(fault, call.explains, out, err),
     }
 }

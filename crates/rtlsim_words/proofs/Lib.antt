@@ -1,2 +1,0 @@
-pub mod Complete
-pub mod Parted

@@ -1,4 +1,1 @@
 pub mod Words
-pub mod Reading
-pub mod Extras
-pub mod Taking

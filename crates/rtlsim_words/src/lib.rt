@@ -1,15 +1,14 @@
-//! The words of the command line: which request they say.
+//! The words of the command line: which call they say.
 //!
-//! `specs/Words.antt` has the words of each request, and `specs/Extras.antt` the options beside them. For words
-//! that say none clap writes the text, which is the help where that is asked for.
+//! The table of `parts.rt` has what each command takes, and `specs/Words.antt` which call words say by it. For words
+//! that say none clap writes the text, by the same table, which is the help where that is asked for.
 #![tactic(auto)]
 
-mod arguments;
+mod call;
 mod commands;
-mod extras;
+mod parsed;
+mod parts;
 mod reading;
-mod request;
 
-pub use extras::{Call, Extras};
+pub use call::{Call, Order, Refused, Request};
 pub use reading::parse_words;
-pub use request::{Order, Refused, Request};

@@ -1,20 +1,15 @@
-//! The request that words say.
+//! The call that words say.
 
-ghost use Rattle.std.specs.Prelude.{◌≡◌, ◌∷◌, ◌≢◌, ◌<◌, IfOk, IfErr, IsErr, IfSome, IfNone, Some, None, length, codes, map};
-ghost use Rattle.rtlsim_words.specs.Extras as extras;
-ghost use Rattle.rtlsim_words.specs.Extras.{SaysParts};
-ghost use Rattle.rtlsim_words.specs.Taking.{taken_parts};
-ghost use Rattle.rtlsim_words.specs.declared.extras.Call.{Call};
-ghost use Rattle.rtlsim_words.specs.Words.{Says, SayNothing, Asks, IsOfWords, event_flag};
-ghost use Rattle.rtlsim_words.specs.declared.arguments.Flag.TheVariants.{Levels, Dot, Json};
-ghost use Rattle.rtlsim_words.specs.declared.request.Request.{Request};
+ghost use Rattle.std.specs.Prelude.{◌≡◌, ◌≤◌, IfOk, IfErr, IsErr, codes, length, map, option_map};
+ghost use Rattle.rtlsim_words.specs.Words as words;
+ghost use Rattle.rtlsim_words.specs.Words.{Says, SayNothing, IsOfWords, call_view, parsed_view, row_of, said_by, text_of, use_view};
 ghost use Rattle.clap.specs.Values.{kind_of};
 ghost use Rattle.clap.specs.declared.error.kind.ErrorKind.TheVariants.{OutOfMemory};
 
-use crate::arguments::{Arguments, Flag, read_arguments};
+use crate::call::{Call, Order, Refused, Request};
 use crate::commands::command;
-use crate::extras::{Call, Taken, take_extras};
-use crate::request::{Order, Refused, Request};
+use crate::parsed::{Parsed, read_words};
+use crate::parts::{Part, table};
 use clap::Error;
 use clap::error::ErrorKind;
 use std::alloc::{AllocError, Global};
@@ -32,229 +27,143 @@ For more information, try '--help'.
 ///
 /// - `Words` where they say no call, as where they ask for help.
 /// - `NoMemory` where memory was refused.
+#[tactic(auto, unfolding(crate::specs::Words::Says, crate::specs::Words::SayNothing))]
 pub fn parse_words<'a>(alloc: Global, words: &'a [&'a str]) -> Result<Call<'a>, Refused>
-    ensures said { IfOk result (λ call. extras.Says (map (λ word. word.now) words.now) call) }
-    ensures refused { IfErr result (λ refused. IsOfWords refused → extras.SayNothing (map (λ word. word.now) words.now)) }
+    ensures said { IfOk result (λ call. Says (map (λ word. word.now) words.now) call) }
+    ensures refused { IfErr result (λ refused. IsOfWords refused → SayNothing (map (λ word. word.now) words.now)) }
 {
-    match call_of(alloc, words)? {
+    match call_of(alloc, table(), words)? {
         Some(call) => Ok(call),
         None => Err(Refused::Words(refusal_text(alloc, words)?)),
     }
 }
 
 /// The call that the words say.
-#[tactic(auto, unfolding(crate::specs::Extras::SayNothing))]
-fn call_of<'a>(alloc: Global, words: &[&'a str]) -> Result<Option<Call<'a>>, AllocError>
-    ensures said { IfOk result (λ asked. IfSome asked (λ call. extras.Says (map (λ word. word.now) words.now) call)) }
-    ensures none { IfOk result (λ asked. IfNone asked (extras.SayNothing (map (λ word. word.now) words.now))) }
+fn call_of<'a>(
+    alloc: Global,
+    parts: &[Part<&str>],
+    words: &[&'a str],
+) -> Result<Option<Call<'a>>, AllocError>
+    ensures { IfOk result (λ call.
+        option_map call_view call ≡ said_by (map row_of parts.now) (map text_of words.now)) }
 {
     let [command, others @ ..] = words else {
         return Ok(None);
     };
-    let Some(taken) = take_extras(alloc, others)? else {
+    let Some(given) = read_words(alloc, parts, others)? else {
         return Ok(None);
     };
-    call_with(alloc, command, taken)
+    if !given.fits(parts, command) {
+        return Ok(None);
+    }
+    call_with(alloc, command, &given)
 }
 
-/// The call of a command, with what was taken out of the words behind it.
+/// The call of a command, with what is given behind it.
 fn call_with<'a>(
     alloc: Global,
-    command: &'a str,
-    taken: Taken<'a>,
-) -> Result<Option<Call<'a>>, AllocError>
-    ensures said { IfOk result (λ asked. IfSome asked (λ call. SaysParts command.now (taken_parts taken.entry) call)) }
-    ensures none { IfOk result (λ asked. IfNone asked ((call : Call) → SaysParts command.now (taken_parts taken.entry) call → ⊥)) }
-{
-    if !(taken.may_stand_with(command) && taken.is_read_once()) {
-        return Ok(None);
-    }
-    let words = begun_with(alloc, command, &taken.left)?;
-    let Some(request) = request_of(alloc, &words)? else {
-        return Ok(None);
-    };
-    let extras = taken.extras;
-    Ok(Some(Call { request, extras }))
-}
-
-/// A command and the words behind it.
-fn begun_with<'a>(
-    alloc: Global,
-    command: &'a str,
-    others: &[&'a str],
-) -> Result<Vec<&'a str>, AllocError>
-    ensures { IfOk result (λ words. map (λ word. word.now) words.items ≡ command.now ∷ map (λ word. word.now) others.now) }
-{
-    let mut words = Vec::with_capacity(alloc, others.len().saturating_add(1))?;
-    words.push(command)?;
-    words.extend_from_slice(others)?;
-    Ok(words)
-}
-
-/// The request that the words say.
-#[tactic(auto, unfolding(crate::specs::Words::SayNothing))]
-fn request_of<'a>(alloc: Global, words: &[&'a str]) -> Result<Option<Request<'a>>, AllocError>
-    ensures said { IfOk result (λ asked. IfSome asked (λ request. Says (map (λ word. word.now) words.now) request)) }
-    ensures none { IfOk result (λ asked. IfNone asked (SayNothing (map (λ word. word.now) words.now))) }
-{
-    let [command, others @ ..] = words else {
-        return Ok(None);
-    };
-    let Some(arguments) = read_arguments(alloc, others)? else {
-        return Ok(None);
-    };
-    asked(alloc, command, &arguments)
-}
-
-/// The request of a command, with these options and operands.
-fn asked<'a>(
-    alloc: Global,
     command: &str,
-    arguments: &Arguments<'a>,
-) -> Result<Option<Request<'a>>, AllocError>
-    ensures asked { IfOk result (λ asked. IfSome asked (λ request.
-        Asks request command.now arguments.now.flag arguments.now.order (map (λ word. word.now) arguments.now.operands.items))) }
-    ensures none { IfOk result (λ asked. IfNone asked ((request : Request)
-        → Asks request command.now arguments.now.flag arguments.now.order (map (λ word. word.now) arguments.now.operands.items) → ⊥)) }
+    given: &Parsed<'a>,
+) -> Result<Option<Call<'a>>, AllocError>
+    ensures { IfOk result (λ call. option_map call_view call ≡ words.call_with command.now (parsed_view given.now)) }
 {
-    let operands = arguments.operands.as_slice();
-    if command == "run" {
-        return Ok(run_with(arguments.flag, arguments.order, operands));
-    }
-    if command == "check" {
-        return Ok(check_with(arguments.flag, arguments.order, operands));
-    }
-    if arguments.flag.is_some() || arguments.order.is_some() {
+    let [file, top, rest @ ..] = given.operands.as_slice() else {
+        return Ok(None);
+    };
+    let Some(request) = request_of(command, given) else {
+        return Ok(None);
+    };
+    let Some((sets, stimulus)) = parted(request, rest) else {
+        return Ok(None);
+    };
+    let (with, expected) = (given.values(alloc, "with")?, given.value("expect"));
+    if !is_read_once(&with, expected, &given.operands) {
         return Ok(None);
     }
-    if command == "eval" {
-        return eval_of(alloc, operands);
-    }
-    if command == "net" {
-        return Ok(net_of(operands));
-    }
-    Ok(None)
+    Ok(Some(Call {
+        request,
+        file,
+        top,
+        sets: sets.to_vec(alloc)?,
+        stimulus,
+        with,
+        explains: given.has("explain"),
+        expected,
+        shows_progress: given.has("progress"),
+    }))
 }
 
-/// The run of these options and operands.
-fn run_with<'a>(
-    flag: Option<Flag>,
-    order: Option<Order>,
-    operands: &[&'a str],
-) -> Option<Request<'a>>
-    ensures asked { IfSome result (λ request. Asks request (codes "run") flag order (map (λ word. word.now) operands.now)) }
-    ensures none { IfNone result ((request : Request) → Asks request (codes "run") flag order (map (λ word. word.now) operands.now) → ⊥) }
+/// The request of a command with these options.
+fn request_of(command: &str, given: &Parsed<'_>) -> Option<Request>
+    ensures { result ≡ words.request_of command.now (map use_view given.now.uses.items) }
 {
-    match flag {
-        None => run_of(false, order, operands),
-        Some(Flag::Event) => run_of(true, order, operands),
-        Some(Flag::Levels) if order.is_none() => levels_of(operands),
-        _ => None,
-    }
-}
-
-/// The check of these options and operands.
-fn check_with<'a>(
-    flag: Option<Flag>,
-    order: Option<Order>,
-    operands: &[&'a str],
-) -> Option<Request<'a>>
-    ensures asked { IfSome result (λ request. Asks request (codes "check") flag order (map (λ word. word.now) operands.now)) }
-    ensures none { IfNone result ((request : Request) → Asks request (codes "check") flag order (map (λ word. word.now) operands.now) → ⊥) }
-{
-    if order.is_some() {
-        return None;
-    }
-    match flag {
-        None => check_of(operands),
-        Some(Flag::Dot) => dot_of(operands),
-        Some(Flag::Json) => json_of(operands),
-        _ => None,
-    }
-}
-
-fn run_of<'a>(is_event: bool, order: Option<Order>, operands: &[&'a str]) -> Option<Request<'a>>
-    ensures asked { IfSome result (λ request. Asks request (codes "run") (event_flag is_event) order (map (λ word. word.now) operands.now)) }
-    ensures none { IfNone result (length operands.now ≢ 3) }
-{
-    match operands {
-        [file, top, stimulus] => Some(Request::Run {
-            is_event,
-            order: order.unwrap_or(Order::Forward),
-            file,
-            top,
-            stimulus,
+    match command {
+        "eval" => Some(Request::Eval),
+        "net" => Some(Request::Net),
+        "check" if given.has("dot") => Some(Request::Dot),
+        "check" if given.has("json") => Some(Request::Json),
+        "check" => Some(Request::Check),
+        "run" if given.has("levels") => Some(Request::Levels),
+        "run" => Some(Request::Run {
+            is_event: given.has("event"),
+            order: order_of(given)?,
         }),
         _ => None,
     }
 }
 
-fn levels_of<'a>(operands: &[&'a str]) -> Option<Request<'a>>
-    ensures asked { IfSome result (λ request. Asks request (codes "run") (Some Levels) None (map (λ word. word.now) operands.now)) }
-    ensures none { IfNone result (length operands.now ≢ 3) }
+/// The order of a run, which may be given.
+fn order_of(given: &Parsed<'_>) -> Option<Order>
+    ensures { result ≡ words.order_of (words.value (map use_view given.now.uses.items) (codes "order")) }
 {
-    match operands {
-        [file, top, stimulus] => Some(Request::Levels {
-            file,
-            top,
-            stimulus,
-        }),
+    match given.value("order") {
+        None | Some("forward") => Some(Order::Forward),
+        Some("reverse") => Some(Order::Reverse),
+        Some(_) => None,
+    }
+}
+
+/// The words that set inputs, and the stimulus, of those behind FILE and TOP.
+fn parted<'r, 'a>(request: Request, rest: &'r [&'a str]) -> Option<(&'r [&'a str], Option<&'a str>)>
+    ensures { option_map words.parted_view result ≡ words.parted request (map text_of rest.now) }
+{
+    match (request, rest) {
+        (Request::Eval, _) => Some((rest, None)),
+        (Request::Run { .. } | Request::Levels, [stimulus]) => Some((&[], Some(*stimulus))),
+        (Request::Net | Request::Check | Request::Dot | Request::Json, []) => Some((&[], None)),
         _ => None,
     }
 }
 
-fn eval_of<'a>(alloc: Global, operands: &[&'a str]) -> Result<Option<Request<'a>>, AllocError>
-    ensures asked { IfOk result (λ asked. IfSome asked (λ request.
-        Asks request (codes "eval") None None (map (λ word. word.now) operands.now))) }
-    ensures none { IfOk result (λ asked. IfNone asked (length operands.now < 2)) }
+/// Whether the standard input is read once at most: by one of the files beside the source and the stimulus, or by
+/// operands.
+fn is_read_once(with: &[&str], expected: Option<&str>, operands: &[&str]) -> bool
+    ensures { result
+        ≡ words.is_read_once (map text_of with.now) (option_map text_of expected.entry) (map text_of operands.now) }
 {
-    match operands {
-        [file, top, sets @ ..] => {
-            let sets = sets.to_vec(alloc)?;
-            Ok(Some(Request::Eval { file, top, sets }))
+    let named = standard_count(with);
+    let count = if expected == Some("@") {
+        1 + named
+    } else {
+        named
+    };
+    count == 0 || count == 1 && standard_count(operands) == 0
+}
+
+/// How many of these names are the standard input's.
+fn standard_count(names: &[&str]) -> usize
+    ensures count { result ≡ words.standard_count (map text_of names.now) }
+    ensures within { result ≤ length names.now }
+{
+    let mut count = 0;
+    let mut left = names;
+    while let [name, others @ ..] = left {
+        if *name == "@" {
+            count += 1;
         }
-        _ => Ok(None),
+        left = others;
     }
-}
-
-fn net_of<'a>(operands: &[&'a str]) -> Option<Request<'a>>
-    ensures asked { IfSome result (λ request. Asks request (codes "net") None None (map (λ word. word.now) operands.now)) }
-    ensures none { IfNone result (length operands.now ≢ 2) }
-{
-    match operands {
-        [file, top] => Some(Request::Net { file, top }),
-        _ => None,
-    }
-}
-
-fn check_of<'a>(operands: &[&'a str]) -> Option<Request<'a>>
-    ensures asked { IfSome result (λ request. Asks request (codes "check") None None (map (λ word. word.now) operands.now)) }
-    ensures none { IfNone result (length operands.now ≢ 2) }
-{
-    match operands {
-        [file, top] => Some(Request::Check { file, top }),
-        _ => None,
-    }
-}
-
-fn dot_of<'a>(operands: &[&'a str]) -> Option<Request<'a>>
-    ensures asked { IfSome result (λ request. Asks request (codes "check") (Some Dot) None (map (λ word. word.now) operands.now)) }
-    ensures none { IfNone result (length operands.now ≢ 2) }
-{
-    match operands {
-        [file, top] => Some(Request::Dot { file, top }),
-        _ => None,
-    }
-}
-
-fn json_of<'a>(operands: &[&'a str]) -> Option<Request<'a>>
-    ensures asked { IfSome result (λ request. Asks request (codes "check") (Some Json) None (map (λ word. word.now) operands.now)) }
-    ensures none { IfNone result (length operands.now ≢ 2) }
-{
-    match operands {
-        [file, top] => Some(Request::Json { file, top }),
-        _ => None,
-    }
+    count
 }
 
 /// What clap tells of words that say no request: a mistake, or the help that is asked for.
