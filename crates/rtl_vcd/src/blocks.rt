@@ -25,7 +25,7 @@ const REACH: usize = 128;
 const SPAN: usize = NAMES * REACH;
 
 /// How many blocks are looked at as fast as those are marked that have nets which differ.
-pub(crate) const MANY: usize = 64;
+pub(crate) const MANY: usize = 1024;
 
 /// Names one behind the other, and the least and the greatest of their nets.
 #[derive(Clone, Copy)]
