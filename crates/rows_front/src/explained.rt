@@ -4,7 +4,9 @@ ghost use Rattle.vhdl_lexer.specs.Cut.{AreWithin};
 
 use crate::source::{push_written, source_of};
 use rows_calls::Text;
-use rtlsim_explain::{Place, Title, explain_lex, explain_syntax};
+use rtl_report::{LexRule, Place, Report, Rule, Subject, SyntaxRule};
+use rtlsim_explain::{Lexed, explain_refusal, explain_source};
+use rtlsim_files::SourceFile;
 use std::alloc::Global;
 use vhdl_lexer::{LexFault, Token, lex};
 use vhdl_parser::{SyntaxFault, parse};
@@ -23,8 +25,8 @@ pub fn push_explanation(found: &mut Text, alloc: Global, written: &str) {
 /// Adds the explanation of a fault of the lexer.
 fn push_lexed(found: &mut Text, alloc: Global, source: &[u8], fault: LexFault) {
     let mut out = Text::new(alloc);
-    let title = titled("lex", fault.number());
-    explain_lex(placed(source, fault.byte()), title, fault, &mut out);
+    let report = reported(lex_rule(fault), fault.byte(), Subject::Word);
+    explain_refusal(&file_of(source), report, &mut out);
     push_written(found, &out);
 }
 
@@ -34,32 +36,84 @@ fn push_parsed(found: &mut Text, alloc: Global, source: &[u8], tokens: &[Token])
 {
     match parse(alloc, source, tokens) {
         Ok(_) => found.push("read"),
-        Err(fault) => push_refused(found, alloc, source, fault),
+        Err(fault) => push_refused(found, alloc, source, tokens, fault),
     }
 }
 
 /// Adds the explanation of a fault of the parser.
-fn push_refused(found: &mut Text, alloc: Global, source: &[u8], fault: SyntaxFault) {
+fn push_refused(
+    found: &mut Text,
+    alloc: Global,
+    source: &[u8],
+    tokens: &[Token],
+    fault: SyntaxFault,
+) {
     let mut out = Text::new(alloc);
-    let title = titled("syntax", fault.number());
-    explain_syntax(placed(source, fault.byte()), title, fault, &mut out);
+    let at = fault.byte().unwrap_or(0);
+    explain_at(
+        source,
+        tokens,
+        syntax_rule(fault),
+        at,
+        Subject::Word,
+        &mut out,
+    );
     push_written(found, &out);
 }
 
-/// A byte of a source, as the file `d.vhd`.
-pub fn placed(source: &[u8], at: Option<usize>) -> Place<'_> {
-    Place {
-        file: b"d.vhd",
+/// Explains a rule at a byte of a source with these tokens, as the file `d.vhd`.
+pub fn explain_at(
+    source: &[u8],
+    tokens: &[Token],
+    rule: Rule,
+    at: usize,
+    subject: Subject,
+    out: &mut Text,
+) {
+    let lexed = Lexed {
         text: source,
-        at: at.unwrap_or(0),
+        tokens,
+    };
+    explain_source(
+        &file_of(source),
+        lexed,
+        reported(rule, Some(at), subject),
+        out,
+    );
+}
+
+/// A source as the file `d.vhd`.
+fn file_of(source: &[u8]) -> [SourceFile<'_>; 1] {
+    [SourceFile {
+        name: b"d.vhd",
+        text: source,
+    }]
+}
+
+fn reported(rule: Rule, at: Option<usize>, subject: Subject) -> Report {
+    Report {
+        rule,
+        place: Place::Byte(at.unwrap_or(0)),
+        subject,
     }
 }
 
-/// The title of a fault, by its number alone.
-pub fn titled(layer: &'static str, number: u8) -> Title {
-    Title {
-        layer,
-        number,
-        name: "Name",
-    }
+/// The rule of a fault of the lexer; of want of memory none is shown here.
+fn lex_rule(fault: LexFault) -> Rule {
+    Rule::Lex(match fault {
+        LexFault::BadByte { .. } => LexRule::BadByte,
+        LexFault::OpenComment { .. } => LexRule::OpenComment,
+        LexFault::OpenString { .. } => LexRule::OpenString,
+        LexFault::BadIdentifier { .. } => LexRule::BadIdentifier,
+        LexFault::BadNumber { .. } => LexRule::BadNumber,
+        LexFault::TooLong { .. } | LexFault::NoMemory => LexRule::TooLong,
+    })
+}
+
+fn syntax_rule(fault: SyntaxFault) -> Rule {
+    Rule::Syntax(match fault {
+        SyntaxFault::Unexpected { .. } => SyntaxRule::Unexpected,
+        SyntaxFault::TooDeep { .. } => SyntaxRule::TooDeep,
+        SyntaxFault::EndOfFile { .. } | SyntaxFault::NoMemory => SyntaxRule::EndOfFile,
+    })
 }

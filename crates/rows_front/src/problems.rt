@@ -1,45 +1,41 @@
 //! Explanations of problems of names and types and of elaboration.
 
-use crate::explained::{placed, titled};
+use crate::explained::explain_at;
 use crate::source::{push_source, push_written, source_of};
 use rows_calls::Text;
-use rtlsim_explain::{Place, explain_elab, explain_name};
+use rtl_report::{ElabRule, NameRule, Rule, Subject};
 use std::alloc::Global;
-use vhdl_expand_rules::ElabProblem;
-use vhdl_names_rules::NameProblem;
+use vhdl_lexer::lex;
 
-/// The problems of names and types, in the order of their numbers.
-static NAME_PROBLEMS: [NameProblem; 11] = [
-    NameProblem::Undeclared,
-    NameProblem::Twice,
-    NameProblem::WrongKind,
-    NameProblem::TypeMismatch,
-    NameProblem::NotVisible,
-    NameProblem::WriteOfIn,
-    NameProblem::NoOthers,
-    NameProblem::ChoiceTwice,
-    NameProblem::SecondArchitecture,
-    NameProblem::NoSensitivity,
-    NameProblem::LeftOut,
+/// The rules on names and types, in the order of their numbers.
+static NAME_RULES: [NameRule; 11] = [
+    NameRule::Undeclared,
+    NameRule::Twice,
+    NameRule::WrongKind,
+    NameRule::TypeMismatch,
+    NameRule::NotVisible,
+    NameRule::WriteOfIn,
+    NameRule::NoOthers,
+    NameRule::ChoiceTwice,
+    NameRule::SecondArchitecture,
+    NameRule::NoSensitivity,
+    NameRule::LeftOut,
 ];
 
-/// The problems of elaboration, in the order of their numbers.
-static ELAB_PROBLEMS: [ElabProblem; 12] = [
-    ElabProblem::NoTop,
-    ElabProblem::NoGeneric,
-    ElabProblem::GenericRange,
-    ElabProblem::StaticError,
-    ElabProblem::Length {
-        found: 3,
-        needed: 4,
-    },
-    ElabProblem::Index,
-    ElabProblem::TooWide,
-    ElabProblem::Unassociated,
-    ElabProblem::TwoUnresolved,
-    ElabProblem::ReadOfShared,
-    ElabProblem::TooDeep,
-    ElabProblem::TooMany,
+/// The rules of elaboration, in the order of their numbers.
+static ELAB_RULES: [ElabRule; 12] = [
+    ElabRule::NoTop,
+    ElabRule::NoGeneric,
+    ElabRule::GenericRange,
+    ElabRule::StaticError,
+    ElabRule::Length,
+    ElabRule::Index,
+    ElabRule::TooWide,
+    ElabRule::Unassociated,
+    ElabRule::TwoUnresolved,
+    ElabRule::ReadOfShared,
+    ElabRule::TooDeep,
+    ElabRule::TooMany,
 ];
 
 /// Adds the explanation of a problem at the mark of a text: `name NUMBER TEXT` or `elab NUMBER TEXT`.
@@ -51,20 +47,36 @@ pub fn push_problem(found: &mut Text, alloc: Global, written: &str) {
     let at = source.as_bytes().len();
     push_source(&mut source, after);
     let mut out = Text::new(alloc);
-    let place = placed(source.as_bytes(), Some(at));
-    push_explained(&mut out, place, layer, number.parse::<u8>().unwrap_or(0));
+    if let Ok(tokens) = lex(alloc, source.as_bytes()) {
+        let number = number.parse::<u8>().unwrap_or(0);
+        if let Some((rule, subject)) = rule_of(layer, number) {
+            explain_at(source.as_bytes(), &tokens, rule, at, subject, &mut out);
+        }
+    }
     found.heed(&source);
     push_written(found, &out);
 }
 
-/// Adds the explanation of the problem of a number.
-fn push_explained(out: &mut Text, place: Place<'_>, layer: &str, number: u8) {
+/// The rule of a number, and what is told of it.
+fn rule_of(layer: &str, number: u8) -> Option<(Rule, Subject)> {
     let index = usize::from(number.saturating_sub(1));
     if layer == "name" {
-        if let Some(problem) = NAME_PROBLEMS.get(index) {
-            explain_name(place, titled("name", number), *problem, out);
-        }
-    } else if let Some(problem) = ELAB_PROBLEMS.get(index) {
-        explain_elab(place, titled("elab", number), *problem, out);
+        let rule = NAME_RULES.get(index)?;
+        Some((Rule::Name(*rule), Subject::Word))
+    } else {
+        let rule = ELAB_RULES.get(index)?;
+        Some((Rule::Elab(*rule), elab_subject(*rule)))
+    }
+}
+
+/// What is told of a rule of elaboration.
+fn elab_subject(rule: ElabRule) -> Subject {
+    match rule {
+        ElabRule::NoTop => Subject::Nothing,
+        ElabRule::Length => Subject::Lengths {
+            found: 3,
+            needed: 4,
+        },
+        _ => Subject::Word,
     }
 }

@@ -20,10 +20,6 @@ abbrev pub statement_assigns : (these : Target → Bool) → Statement → Bool
 statement_assigns these x = stmt_assigns these (statement_view x)
 
 module _ (these : Target → Bool) where
-  pub assigns_sequence : (xs : List Statement) → stmts_assign these (statements_of xs) ≡ list_any (statement_assigns these) xs
-  assigns_sequence [] = refl
-  assigns_sequence (x ∷ xs) = ap (λ (b : Bool). statement_assigns these x || b) (assigns_sequence xs)
-
   branches-any : (last : bodies.Branches) (bs : List Branch)
       → branches_assign these (branches_of last bs) ≡ (list_any (branch_assigns these) bs || branches_assign these last)
   branches-any last [] = refl

@@ -1,5 +1,6 @@
 mod Runs
 pub mod Assigned
 pub mod Rows
-mod Walking
+mod Telling
+mod Statements
 mod There

@@ -1,4 +1,4 @@
 pub mod Assigning
 pub mod Omissions
-pub mod Walks
+pub mod Parts
 pub mod Laws

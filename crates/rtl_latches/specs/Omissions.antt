@@ -14,6 +14,12 @@ use Rattle.rtl_latches.specs.Assigning.{stmt_assigns, stmts_assign}
 use Rattle.rtl_latches.specs.declared.omission.Omission.{Omission}
 use Rattle.rtl_latches.specs.declared.omission.Omission.TheVariants as o
 
+-- the byte of the source at which the statement starts
+abbrev pub at_of : Omission → ℕ
+at_of (o.NoElse at) = at
+at_of (o.Branch at number) = at
+at_of (o.Alternative at number) = at
+
 -- one of these is assigned on some path, and not on all
 abbrev pub leaves_out : (these : Target → Bool) → Statement → Bool
 leaves_out these x = stmt_assigns these (statement_view x) && not (stmt_must_assign these (statement_view x))

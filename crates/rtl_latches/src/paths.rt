@@ -44,7 +44,7 @@ fn list_has(drives: &[Driver], net: usize, places: &[u32]) -> bool
 }
 
 /// Whether one of these places among a process's drivers is one of a driver of the net.
-pub(crate) fn places_have(drives: &[Driver], net: usize, places: &Indices) -> bool
+fn places_have(drives: &[Driver], net: usize, places: &Indices) -> bool
     ensures { result ≡ list_any (p.covers drives.now net) (numbers places.now) }
 {
     match places {
@@ -55,7 +55,7 @@ pub(crate) fn places_have(drives: &[Driver], net: usize, places: &Indices) -> bo
 
 /// Whether a statement of a process with these drivers assigns a net on every syntactic path. It takes no memory.
 #[cycle(covering)]
-pub(crate) fn statement_covers(statement: &Statement, drives: &[Driver], net: usize) -> bool
+fn statement_covers(statement: &Statement, drives: &[Driver], net: usize) -> bool
     ensures { result ≡ m.stmt_must_assign (p.to_net drives.now net) (statement_view statement.now) }
 {
     match statement {

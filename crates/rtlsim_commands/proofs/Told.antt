@@ -1,6 +1,6 @@
 -- What is told of an answer.
 use Rattle.std.proofs.Common.{◌≡◌, ℕ, List, [], length, Option, Result, Ok, Err, inl, inr, refl, sym, subst, ◌∙◌, true≢false}
-use Rattle.rtlsim_faults.specs.Faults.{of_source, status_of}
+use Rattle.rtlsim_faults.specs.Faults.{of_source}
 use Rattle.rtlsim_faults.specs.Places.{IsTold}
 use Rattle.rtlsim_faults.specs.Told.{TellsFault}
 use Rattle.rtlsim_faults.specs.declared.telling.Telling.{Telling}
@@ -51,18 +51,18 @@ no_net = record { types = []; starts = []; idle = []; inputs = []; processes = [
 module _ {A : Type 0} (Does : NetlistView → Result A Fault → SinkState → SinkState → Type 0) (done : Done A) (telling : Telling) (source top : List ℕ) (outcome : Status) (o : Outputs) where
   -- the source is refused
   pub serves_refused : (fault : SourceFault) → Refuses source top fault → LiesIn (length source) fault → o.out_after ≡ o.out
-      → RefusesSource telling source top fault o.err o.err_after → outcome ≡ ended (status_of (of_source fault)) o.out_after o.err_after
+      → (said : Status) → RefusesSource telling source top fault o.err o.err_after said → outcome ≡ ended said o.out_after o.err_after
       → Serves Does done telling source top outcome o
-  serves_refused fault refuses lies same tells ends = record {
+  serves_refused fault refuses lies same said tells ends = record {
     answer = Err (of_source fault);
     output = inr (fault, refl, refuses, same);
     placed = source_told (length source) fault lies;
-    said = status_of (of_source fault);
+    said = said;
     told = (
       no_net,
       (λ named. absurd (true≢false (sym named ∙ nameless fault))),
       tells.between,
-      inl (tells.first no_net, refl),
+      tells.first no_net,
       behind_others done.events telling source top fault tells.between o.err_after tells.others,
     );
     ends = ends;

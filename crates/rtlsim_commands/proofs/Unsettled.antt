@@ -6,7 +6,7 @@ use Rattle.rtl_net.specs.Nets.{NetlistView}
 use Rattle.rtl_machine.specs.simulations.Simulated.{changing}
 use Rattle.rtl_sink.specs.Written.{SinkState, Goes}
 use Rattle.rtl_sink.specs.Stands.{Stand}
-use Rattle.rtlsim_explain_check.specs.Ranges.{follows, range_text}
+use Rattle.rtlsim_findings.specs.Ranges.{follows, range_text}
 use Rattle.rtlsim_faults.specs.Changing.{names_from, changing_line}
 use Rattle.rtlsim_faults.specs.Lines.{memory_line}
 use Rattle.rtlsim_faults.specs.Places.{IsTold}

@@ -2,7 +2,7 @@
 
 ghost use Rattle.std.specs.Prelude.{◌≡◌};
 ghost use Rattle.rtl_sink.specs.Written.{IsIntact};
-ghost use Rattle.rtlsim_faults.specs.Faults.{of_source, status_of};
+ghost use Rattle.rtlsim_faults.specs.Faults.{of_source};
 ghost use Rattle.rtlsim_commands.specs.Refused.{RefusesSource};
 ghost use Rattle.rtlsim_commands.specs.Served.{ended};
 ghost use Rattle.rtlsim_commands.specs.Told as told;
@@ -28,10 +28,10 @@ pub(crate) fn refuse_source<F: Front, O: Sink, E: Sink>(
     out: &O,
     err: &mut E,
 ) -> Status
-    ensures told { RefusesSource telling.now source.now top.now fault (E.state err.old) (E.state err.new) }
-    ensures status { result ≡ ended (status_of (of_source fault)) (O.state out.now) (E.state err.new) }
+    ensures { (said : Status) × RefusesSource telling.now source.now top.now fault (E.state err.old) (E.state err.new) said
+        × (result ≡ ended said (O.state out.now) (E.state err.new)) }
 {
-    let said = tell_source_fault(telling, fault, err);
+    let said = tell_source_fault(alloc, telling, fault, err);
     tell_others::<F, E>(alloc, source, top, telling, fault, err);
     ended_by_writes(said, out, err)
 }

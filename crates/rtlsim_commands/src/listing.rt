@@ -13,11 +13,10 @@ ghost use Rattle.rtlsim_verdict.specs.RemarkText.{remarks_text};
 use rtl_check::{Verdict, check};
 use rtl_net::Net;
 use rtl_sink::{Sink, finish};
-use rtlsim_explain_check::explain_rejection;
 use rtlsim_faults::{Fault, Telling};
 use rtlsim_listing;
 use rtlsim_listing::ListingFault;
-use rtlsim_verdict::{show_check_json, show_remarks};
+use rtlsim_verdict::{explain_rejection, show_check_json, show_remarks};
 use std::alloc::Global;
 
 /// Writes the lines of a netlist. It takes memory for one name at a time.

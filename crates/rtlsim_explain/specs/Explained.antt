@@ -1,87 +1,111 @@
 -- What is written of a fault of a source: where it is, what is wrong, the line with a mark under the place, and what to do about it.
-use Rattle.std.specs.Prelude.{ℕ, List, ◌++◌, take, drop, codes, decimal}
-use Rattle.rtlsim_explain.specs.Faults.{lex_sentence, lex_help, syntax_sentence, syntax_help, name_sentence, name_help, elab_sentence, elab_help}
-use Rattle.rtlsim_explain.specs.Forms.{unexpected_form, left_out_form}
-use Rattle.rtlsim_explain.specs.Places.{position_behind, line_text, caret_text}
-use Rattle.rtlsim_explain.specs.Words.{subject}
-use Rattle.rtlsim_explain.specs.declared.explaining.Title.{Title}
-use Rattle.rtlsim_explain.specs.declared.place.Place.{Place}
+use Rattle.std.specs.Prelude.{ℕ, List, [], ◌++◌, codes, decimal}
+use Rattle.rtl_report.specs.Rules.{words_of}
+use Rattle.rtl_report.specs.declared.elaboration.ElabRule.TheVariants as elaboration
+use Rattle.rtl_report.specs.declared.grammar.SyntaxRule.TheVariants as grammar
+use Rattle.rtl_report.specs.declared.naming.NameRule.TheVariants as naming
+use Rattle.rtl_report.specs.declared.report.Place.{Place}
+use Rattle.rtl_report.specs.declared.report.Place.TheVariants.{Byte}
+use Rattle.rtl_report.specs.declared.report.Report.{Report}
+use Rattle.rtl_report.specs.declared.report.Rule.{Rule}
+use Rattle.rtl_report.specs.declared.report.Rule.TheVariants as rule
+use Rattle.rtl_report.specs.declared.report.Subject.{Subject}
+use Rattle.rtl_report.specs.declared.report.Subject.TheVariants.{Lengths, Nothing}
+use Rattle.rtlsim_explain.specs.Choices.{missing_line}
+use Rattle.rtlsim_explain.specs.Entities.{entities_line}
+use Rattle.rtlsim_explain.specs.Forms.{Said, left_out_form, unexpected_form}
+use Rattle.rtlsim_explain.specs.Places.{begins_line, line_shown, position_behind}
+use Rattle.rtlsim_explain.specs.Words.{Read, first_text, from, read_of, refused, subject}
+use Rattle.rtlsim_explain.specs.Words as words
+use Rattle.rtlsim_explain.specs.declared.explaining.Site.{Site}
 use Rattle.rtlsim_explain.specs.declared.place.Position.{Position}
-use Rattle.vhdl_expand_rules.specs.declared.fault.ElabProblem.{ElabProblem}
-use Rattle.vhdl_expand_rules.specs.declared.fault.ElabProblem.TheVariants.{Length, NoTop}
-use Rattle.vhdl_lexer.specs.declared.fault.LexFault.{LexFault}
-use Rattle.vhdl_names_rules.specs.declared.fault.NameProblem.{NameProblem}
-use Rattle.vhdl_parser.specs.declared.fault.SyntaxFault.{SyntaxFault}
+use Rattle.rtlsim_files.specs.Files.{FileView, Spot, after, before, spot_in, spot_view}
 
--- a byte of a file's text
-pub record Spot : Type 0 where
-  pub file : List ℕ
-  pub text : List ℕ
-  pub at : ℕ
+-- a byte of a source that has tokens: where it stands in its own file, and the tokens before it and from it on
+pub record Seen : Type 0 where
+  pub spot : Spot
+  pub before : Read
+  pub from : Read
 
-abbrev pub spot_of : Place → Spot
-spot_of place = record { file = place.file.now; text = place.text.now; at = place.at }
+abbrev pub site_of : Site → Seen
+site_of site = record { spot = spot_view site.place; before = read_of site.before; from = read_of site.from }
 
--- under what a fault is told
-pub record Heading : Type 0 where
-  pub layer : List ℕ
-  pub number : ℕ
-  pub name : List ℕ
+abbrev pub seen_at : List FileView → Read → (at : ℕ) → Seen
+seen_at files source at = record { spot = spot_in files at; before = words.before at source; from = from at source }
 
-abbrev pub heading_of : Title → Heading
-heading_of title = record { layer = title.layer.now; number = title.number; name = title.name.now }
-
-abbrev pub before : Spot → List ℕ
-before spot = take spot.at spot.text
-
-abbrev pub after : Spot → List ℕ
-after spot = drop spot.at spot.text
+-- ---- the parts of a paragraph
 
 -- "FILE:LINE:COLUMN: "
 abbrev pub position_text : (file : List ℕ) → Position → List ℕ
 position_text file p = file ++ codes ":" ++ decimal p.line ++ codes ":" ++ decimal p.column ++ codes ": "
 
 -- "LAYER NUMBER NAME: "
-abbrev pub title_text : Heading → List ℕ
-title_text h = h.layer ++ codes " " ++ decimal h.number ++ codes " " ++ h.name ++ codes ": "
+abbrev pub title_text : Rule → List ℕ
+title_text rule = (words_of rule).layer.now ++ codes " " ++ decimal (words_of rule).number ++ codes " " ++ (words_of rule).name.now ++ codes ": "
 
 abbrev pub help_line : (help : List ℕ) → List ℕ
 help_line help = codes "help: " ++ help ++ codes "\n"
 
 -- the first line up to its sentence, which editors read
-abbrev pub head_text : (file before : List ℕ) → Heading → List ℕ
-head_text file before h = position_text file (position_behind before) ++ title_text h
+abbrev pub head_text : Spot → Rule → List ℕ
+head_text spot rule = position_text spot.file.name (position_behind (before spot)) ++ title_text rule
 
 -- what is wrong; the line of the source, and the mark; the help
-abbrev pub said_text : (before after sentence help : List ℕ) → List ℕ
-said_text before after sentence help = sentence ++ codes "\n" ++ line_text before after ++ caret_text before ++ help_line help
+abbrev pub said_text : Spot → Said → List ℕ
+said_text spot said = said.0 ++ codes "\n" ++ line_shown spot ++ help_line said.1
 
-abbrev pub explained : Spot → Heading → (subject sentence help : List ℕ) → List ℕ
-explained spot h subject sentence help = head_text spot.file (before spot) h ++ subject ++ said_text (before spot) (after spot) sentence help
+-- ---- what is said of a rule
 
--- ---- of each layer
+-- two lengths that differ
+abbrev pub lengths_text : Rule → (found needed : ℕ) → List ℕ
+lengths_text rule found needed = (words_of rule).middle.now ++ decimal found ++ codes " and " ++ decimal needed
 
-abbrev pub lex_explained : Spot → Heading → LexFault → List ℕ
-lex_explained spot h fault = explained spot h (subject (after spot)) (lex_sentence fault) (lex_help fault)
+abbrev pub reported_of : (from : Read) → Rule → Subject → List ℕ
+reported_of from rule Nothing = codes ""
+reported_of from rule (Lengths found needed) = subject from ++ lengths_text rule found needed
+reported_of from rule _ = subject from
 
-abbrev pub syntax_explained : Spot → Heading → SyntaxFault → List ℕ
-syntax_explained spot h fault =
-    explained spot h (subject (after spot)) (syntax_sentence fault (unexpected_form (before spot) (after spot)))
-    (syntax_help fault (unexpected_form (before spot) (after spot)))
+-- the word, and of lengths both; of an entity that isn't there the word says nothing
+abbrev pub reported : (from : Read) → Report → List ℕ
+reported from r = reported_of from r.rule r.subject
 
-abbrev pub name_explained : Spot → Heading → NameProblem → List ℕ
-name_explained spot h problem =
-    explained spot h (subject (after spot)) (name_sentence problem (left_out_form (after spot))) (name_help problem (left_out_form (after spot)))
+-- behind the word or the lengths
+abbrev pub said_of : Rule → Said
+said_of (rule.Elab elaboration.Length) = ((words_of (rule.Elab elaboration.Length)).closing.now, (words_of (rule.Elab elaboration.Length)).help.now)
+said_of rule = ((words_of rule).middle.now, (words_of rule).help.now)
 
--- both lengths, of which the sentence goes on to speak
-abbrev pub lengths_text : (found needed : ℕ) → List ℕ
-lengths_text found needed = codes "stands where lengths of " ++ decimal found ++ codes " and " ++ decimal needed ++ codes " "
+-- of a token that can't stand there, and of what is left out, what is said of the form
+abbrev pub said_at : Seen → Rule → Said
+said_at s (rule.Syntax grammar.Unexpected) = unexpected_form s.before.tokens (begins_line s.spot) (first_text s.from)
+said_at s (rule.Name naming.LeftOut) = left_out_form s.before.tokens (first_text s.from)
+said_at s rule = said_of rule
 
--- of an entity that isn't there the word says nothing
-abbrev pub elab_subject : ElabProblem → (after : List ℕ) → List ℕ
-elab_subject NoTop after = codes ""
-elab_subject (Length found needed) after = subject after ++ lengths_text found needed
-elab_subject problem after = subject after
+-- a choice that is missing, where not each value has one; the entities, where the top is none of them
+abbrev pub below : Seen → (source : Read) → Rule → List ℕ
+below s source (rule.Name naming.NoOthers) = missing_line s.before s.from
+below s source (rule.Elab elaboration.NoTop) = entities_line source
+below s source rule = []
 
-abbrev pub elab_explained : Spot → Heading → ElabProblem → List ℕ
-elab_explained spot h problem = explained spot h (elab_subject problem (after spot)) (elab_sentence problem) (elab_help problem)
+-- ---- explanations
+
+-- why a source has no tokens
+abbrev pub refusal_text : Spot → Rule → List ℕ
+refusal_text spot rule = head_text spot rule ++ refused (after spot) ++ said_text spot (said_of rule)
+
+abbrev pub refusal_at : List FileView → Rule → Place → List ℕ
+refusal_at files rule (Byte at) = refusal_text (spot_in files at) rule
+refusal_at files rule _ = []
+
+abbrev pub refusal_explained : List FileView → Report → List ℕ
+refusal_explained files r = refusal_at files r.rule r.place
+
+-- which rule it breaks
+abbrev pub paragraph : Seen → Report → List ℕ
+paragraph s r = head_text s.spot r.rule ++ reported s.from r ++ said_text s.spot (said_at s r.rule)
+
+abbrev pub explained_at : List FileView → (source : Read) → Report → Place → List ℕ
+explained_at files source r (Byte at) = paragraph (seen_at files source at) r ++ below (seen_at files source at) source r.rule
+explained_at files source r _ = []
+
+abbrev pub source_explained : List FileView → (source : Read) → Report → List ℕ
+source_explained files source r = explained_at files source r r.place

@@ -1,231 +1,138 @@
--- Forms of VHDL that aren't read, and slips of the pen: which of them stands at a byte, and what is said of each.
-use Rattle.std.specs.Prelude.{ℕ, ◌==◌, ◌||◌, Bool, false, if◌then◌else◌, List, [], ◌∷◌, codes}
+-- Forms of VHDL that aren't read, and slips of the pen: which of them stands at a word.
+use Rattle.std.specs.Prelude.{ℕ, ◌&&◌, ◌||◌, not, Bool, true, false, if◌then◌else◌, List, [], ◌∷◌, Option, Some, None, map, length, ◌==◌}
 use Rattle.std.specs.Str.{str_eq_ignore_ascii_case}
-use Rattle.rtlsim_explain.specs.Places.{line_before}
-use Rattle.rtlsim_explain.specs.Words.{word_at, word_before_name, last_solid, begins_line, ends_operand}
-use Rattle.rtlsim_explain.specs.declared.form.Form.{Form}
-use Rattle.rtlsim_explain.specs.declared.form.Form.TheVariants.{WholeNumbers, RangeAttribute, Array, Record, OtherType, Subprogram, Package, Attribute, Alias, Subtype, Mode, Wait, Delay, Message, Block, OtherLoop, Conditional, Alternative, Aggregate, Comma, Reduction, MixedLogic, Shift, Absolute, Power, Qualified, SecondIndex, Equality, Equalities, Declaration, ListEnd, NewLine, Slip, DynamicIndex, Signed, Other}
+use Rattle.rtlsim_explain.specs.declared.form.Behind.{Behind}
+use Rattle.rtlsim_explain.specs.declared.form.Behind.TheVariants as behind
+use Rattle.rtlsim_explain.specs.declared.form.TheConstants.{NEW_LINE, OTHER, SLIP}
+use Rattle.rtlsim_explain.specs.declared.table.TheConstants.{LEFT_OUT, SLIPS, UNREAD}
+use Rattle.rtlsim_explain.specs.declared.unread.Context.{Context}
+use Rattle.vhdl_lexer.specs.declared.token.Token.{Token}
+use Rattle.vhdl_lexer.specs.declared.token.TokenKind.{TokenKind}
+use Rattle.vhdl_lexer.specs.declared.token.TokenKind.TheVariants as k
+use Rattle.vhdl_tree.specs.Lexeme.{same_kind}
 
--- ---- words
+-- what is said behind the word, and what a designer does about it
+abbrev pub Said : Type 0
+Said = List ℕ × List ℕ
 
+-- a form begins at this word, in letters of either case, behind that; the empty word stands for any
 abbrev pub FormWord : Type 0
-FormWord = List ℕ × Form
+FormWord = List ℕ × Behind × Said
 
--- the words at which a form begins that the grammar hasn't, each with the form
+-- ---- what stands before a token
+
+abbrev pub at_front : (begins_line : Bool) → Context
+at_front begins_line = record { last = None; in_index = false; word = None; opener = None; begins_line = begins_line }
+
+abbrev pub is_kind : Option TokenKind → TokenKind → Bool
+is_kind None kind = false
+is_kind (Some last) kind = same_kind last kind
+
+-- a name's index opens with this token, and goes to the next `)`
+abbrev pub opens_index : Context → TokenKind → Bool
+opens_index c kind = same_kind kind k.LeftParen && is_kind c.last k.Identifier
+
+-- one token more
+abbrev pub context_behind : Context → TokenKind → Context
+context_behind c kind =
+    if c.in_index || opens_index c kind then record c { last = Some kind; in_index = not (same_kind kind k.RightParen) }
+    else record c { last = Some kind; word = Some kind; opener = c.word }
+
+abbrev pub context_from : Context → List Token → Context
+context_from c [] = c
+context_from c (t ∷ ts) = context_from (context_behind c t.kind) ts
+
+abbrev pub context_of : (begins_line : Bool) → List Token → Context
+context_of begins_line tokens = context_from (at_front begins_line) tokens
+
+-- a name, a literal or `)` ends with it
+abbrev pub ends_operand : Option TokenKind → Bool
+ends_operand (Some k.Identifier) = true
+ends_operand (Some k.Integer) = true
+ends_operand (Some k.Character) = true
+ends_operand (Some k.String) = true
+ends_operand (Some k.BitString) = true
+ends_operand (Some k.RightParen) = true
+ends_operand _ = false
+
+-- a word with which a statement may end
+abbrev pub is_last_word : Option TokenKind → Bool
+is_last_word (Some k.End) = true
+is_last_word (Some k.Null) = true
+is_last_word (Some k.Open) = true
+is_last_word (Some k.All) = true
+is_last_word _ = false
+
+-- the word behind an `end` is the last
+abbrev pub is_end : Context → Bool
+is_end c = is_kind c.opener k.End && not (is_kind c.last k.Semicolon)
+
+-- a declaration, a statement or its head may end with the last token
+abbrev pub ends_statement : Context → Bool
+ends_statement c = ends_operand c.last || is_last_word c.last || is_end c
+
+-- a statement or the type in a declaration may begin behind it
+abbrev pub opens : Option TokenKind → Bool
+opens (Some k.Semicolon) = true
+opens (Some k.Colon) = true
+opens (Some k.Arrow) = true
+opens (Some k.Then) = true
+opens (Some k.Else) = true
+opens (Some k.Begin) = true
+opens (Some k.Loop) = true
+opens (Some k.Generate) = true
+opens (Some k.Is) = true
+opens _ = false
+
+-- the line before the token may lack its `;` or its last word
+abbrev pub is_new_line : Context → Bool
+is_new_line c = c.begins_line && ends_statement c
+
+-- the last token, or the last but for an index, is a name, with which a statement begins, or a type in a declaration
+abbrev pub is_target : Context → Bool
+is_target c = not c.in_index && is_kind c.word k.Identifier && opens c.opener
+
+-- this stands before the token
+abbrev pub holds : Behind → Context → Bool
+holds behind.Anything c = true
+holds (behind.Kind kind) c = is_kind c.last kind
+holds behind.Operand c = ends_operand c.last
+holds (behind.Opener kind) c = not c.in_index && is_kind c.opener kind
+holds behind.Target c = is_target c
+holds behind.NewLine c = is_new_line c
+
+-- ---- which form it is
+
+-- a form begins at the word
+abbrev pub fits : (form : List ℕ) → Behind → Context → (word : List ℕ) → Bool
+fits form behind c word = (length form == 0 || str_eq_ignore_ascii_case form word) && holds behind c
+
+-- the first that fits in such a table
+abbrev pub form_among : List FormWord → Context → (word : List ℕ) → (fallback : Said) → Said
+form_among [] c word fallback = fallback
+form_among (w ∷ words) c word fallback = if fits w.0 w.1 c word then w.2 else form_among words c word fallback
+
+abbrev pub slips : List FormWord
+slips = map (λ w. (w.0.now, w.1, (w.2.0.now, w.2.1.now))) SLIPS
+
 abbrev pub unread : List FormWord
-unread =
-    (codes "range", WholeNumbers) ∷
-    (codes "array", Array) ∷
-    (codes "record", Record) ∷
-    (codes ".", Record) ∷
-    (codes "units", OtherType) ∷
-    (codes "access", OtherType) ∷
-    (codes "file", OtherType) ∷
-    (codes "shared", OtherType) ∷
-    (codes "function", Subprogram) ∷
-    (codes "procedure", Subprogram) ∷
-    (codes "pure", Subprogram) ∷
-    (codes "impure", Subprogram) ∷
-    (codes "return", Subprogram) ∷
-    (codes "package", Package) ∷
-    (codes "attribute", Attribute) ∷
-    (codes "group", Attribute) ∷
-    (codes "alias", Alias) ∷
-    (codes "subtype", Subtype) ∷
-    (codes "inout", Mode) ∷
-    (codes "buffer", Mode) ∷
-    (codes "linkage", Mode) ∷
-    (codes "wait", Wait) ∷
-    (codes "after", Delay) ∷
-    (codes "transport", Delay) ∷
-    (codes "inertial", Delay) ∷
-    (codes "reject", Delay) ∷
-    (codes "assert", Message) ∷
-    (codes "report", Message) ∷
-    (codes "configuration", Block) ∷
-    (codes "block", Block) ∷
-    (codes "guarded", Block) ∷
-    (codes "disconnect", Block) ∷
-    (codes "register", Block) ∷
-    (codes "bus", Block) ∷
-    (codes "while", OtherLoop) ∷
-    (codes "loop", OtherLoop) ∷
-    (codes "next", OtherLoop) ∷
-    (codes "exit", OtherLoop) ∷
-    (codes "when", Conditional) ∷
-    (codes "=>", Aggregate) ∷
-    (codes "others", Aggregate) ∷
-    (codes ",", Comma) ∷
-    (codes "and", Reduction) ∷
-    (codes "or", Reduction) ∷
-    (codes "xor", Reduction) ∷
-    (codes "nand", Reduction) ∷
-    (codes "nor", Reduction) ∷
-    (codes "xnor", Reduction) ∷
-    (codes "sll", Shift) ∷
-    (codes "srl", Shift) ∷
-    (codes "sla", Shift) ∷
-    (codes "sra", Shift) ∷
-    (codes "rol", Shift) ∷
-    (codes "ror", Shift) ∷
-    (codes "abs", Absolute) ∷
-    (codes "*", Power) ∷
-    (codes "(", SecondIndex) ∷
-    (codes "=", Equality) ∷
-    (codes "constant", Declaration) ∷
-    (codes "type", Declaration) ∷
-    (codes "signal", Declaration) ∷
-    (codes "component", Declaration) ∷
-    (codes ")", ListEnd) ∷
-    []
+unread = map (λ w. (w.0.now, w.1, (w.2.0.now, w.2.1.now))) UNREAD
 
--- the names of packages and types that are left out
 abbrev pub left_out : List FormWord
-left_out =
-    (codes "to_integer", DynamicIndex) ∷
-    (codes "signed", Signed) ∷
-    (codes "integer", WholeNumbers) ∷
-    (codes "natural", WholeNumbers) ∷
-    (codes "positive", WholeNumbers) ∷
-    (codes "boolean", OtherType) ∷
-    (codes "bit", OtherType) ∷
-    (codes "bit_vector", OtherType) ∷
-    (codes "real", OtherType) ∷
-    (codes "string", OtherType) ∷
-    (codes "character", OtherType) ∷
-    (codes "time", OtherType) ∷
-    []
+left_out = map (λ w. (w.0.now, w.1, (w.2.0.now, w.2.1.now))) LEFT_OUT
 
--- a word's form in such a table, in capitals or small letters
-abbrev pub form_among : List FormWord → (word : List ℕ) → (fallback : Form) → Form
-form_among [] word fallback = fallback
-form_among (w ∷ words) word fallback = if str_eq_ignore_ascii_case w.0 word then w.1 else form_among words word fallback
+-- what is said where neither is told: it may be that the line before lacks its `;` or its last word
+abbrev pub slip : Context → Said
+slip c = if is_new_line c then (NEW_LINE.0.now, NEW_LINE.1.now) else (SLIP.0.now, SLIP.1.now)
 
--- the words and signs behind which a statement begins, or the type in a declaration
-abbrev pub openers : List (List ℕ)
-openers =
-    codes ";" ∷
-    codes ":" ∷
-    codes "=>" ∷
-    codes "then" ∷
-    codes "else" ∷
-    codes "begin" ∷
-    codes "loop" ∷
-    codes "generate" ∷
-    codes "is" ∷
-    []
+-- a slip of the pen at the word, or a form that isn't read
+abbrev pub form_behind : Context → (word : List ℕ) → Said
+form_behind c word = form_among slips c word (form_among unread c word (slip c))
 
-abbrev pub is_among : List (List ℕ) → (word : List ℕ) → Bool
-is_among [] word = false
-is_among (w ∷ words) word = str_eq_ignore_ascii_case w word || is_among words word
+-- what stands at a word where nothing of the language can stand, behind these tokens
+unfoldable pub unexpected_form : (before : List Token) → (begins_line : Bool) → (word : List ℕ) → Said
+unexpected_form before begins_line word = form_behind (context_of begins_line before) word
 
--- ---- what stands before the word
-
--- a name stands before it with which a statement begins, or a type in a declaration, so that `=` may have been meant to assign
-abbrev pub may_assign : (before : List ℕ) → Bool
-may_assign before = is_among openers (word_before_name (line_before before))
-
--- what no form begins with: it may be that the line before lacks its `;` or its last word
-abbrev pub slip : (before : List ℕ) → Form
-slip before = if begins_line before then (if ends_operand (last_solid before) then NewLine else Slip) else Slip
-
--- some words are told by what stands before them as well: by a tick, an operand's end, a `;` or a star, by a name that may be assigned,
--- or as the first of their line
-abbrev pub form_behind : (last : ℕ) (assigns : Bool) → (fallback form : Form) → Form
-form_behind last assigns fallback WholeNumbers = if last == 39 then RangeAttribute else WholeNumbers
-form_behind last assigns fallback Reduction = if ends_operand last then MixedLogic else Reduction
-form_behind last assigns fallback SecondIndex = if last == 39 then Qualified else if last == 41 then SecondIndex else fallback
-form_behind last assigns fallback ListEnd = if last == 59 then ListEnd else fallback
-form_behind last assigns fallback Power = if last == 42 then Power else fallback
-form_behind last assigns fallback Equality = if last == 61 then Equalities else if assigns then Equality else fallback
-form_behind last assigns NewLine Conditional = NewLine
-form_behind last assigns fallback Conditional = if last == 59 then Alternative else Conditional
-form_behind last assigns NewLine Declaration = NewLine
-form_behind last assigns fallback form = form
-
--- what stands at a byte where nothing of the language can stand
-abbrev pub unexpected_form : (before after : List ℕ) → Form
-unexpected_form before after = form_behind (last_solid before) (may_assign before) (slip before) (form_among unread (word_at after) (slip before))
-
--- what stands at a byte where something is left out
-abbrev pub left_out_form : (after : List ℕ) → Form
-left_out_form after = form_among left_out (word_at after) Other
-
--- ---- what is said
-
-abbrev pub form_sentence : Form → List ℕ
-form_sentence WholeNumbers = codes "isn't read here: signals, ports and variables of whole numbers aren't served"
-form_sentence RangeAttribute = codes "isn't read here: of the attributes only 'event is served"
-form_sentence Array = codes "isn't read here: array types aren't served"
-form_sentence Record = codes "isn't read here: records and selected names aren't served"
-form_sentence OtherType = codes "isn't read here: such types and objects aren't served"
-form_sentence Subprogram = codes "isn't read here: functions and procedures aren't served"
-form_sentence Package = codes "isn't read here: packages of one's own aren't served"
-form_sentence Attribute = codes "isn't read here: attributes aren't declared or specified here"
-form_sentence Alias = codes "isn't read here: aliases aren't served"
-form_sentence Subtype = codes "isn't read here: subtypes aren't declared here"
-form_sentence Mode = codes "isn't read here: ports are in or out"
-form_sentence Wait = codes "isn't read here: a process doesn't wait"
-form_sentence Delay = codes "isn't read here: assignments have no delay"
-form_sentence Message = codes "isn't read here: messages and assertions aren't served"
-form_sentence Block = codes "isn't read here: blocks, guards and configurations aren't served"
-form_sentence OtherLoop = codes "isn't read here: a loop is `for i in range loop`, and goes through its whole range"
-form_sentence Conditional = codes "isn't read here: inside a process an assignment has no when"
-form_sentence Alternative = codes "can't stand here: an if or loop above it lacks its end"
-form_sentence Aggregate = codes "isn't read here: the only aggregate is (others => value), and a formal is a whole port"
-form_sentence Comma = codes "can't stand here: (a, b) isn't read, and ports, generics and statements are parted by `;`"
-form_sentence Reduction = codes "isn't read here: a logical operator stands between two operands"
-form_sentence MixedLogic = codes "can't follow here: different logical operators need parentheses between them, and so do nand and nor"
-form_sentence Shift = codes "isn't read here: shifts and rotations aren't operators here"
-form_sentence Absolute = codes "isn't read here: there are no absolute values"
-form_sentence Power = codes "isn't read here: ** isn't served"
-form_sentence Qualified = codes "isn't read here: qualified expressions aren't served"
-form_sentence SecondIndex = codes "isn't read here: a name has one index or slice"
-form_sentence Equality = codes "doesn't assign: it compares two values"
-form_sentence Equalities = codes "follows another =, and one = compares"
-form_sentence Declaration = codes "can't stand here: a process declares variables alone, and no declaration stands among statements"
-form_sentence ListEnd = codes "ends the list, but a `;` stands before it"
-form_sentence NewLine = codes "can't stand here, at the beginning of a line"
-form_sentence Slip = codes "can't stand here"
-form_sentence DynamicIndex = codes "isn't served: indices are static"
-form_sentence Signed = codes "isn't served: numbers are unsigned"
-form_sentence Other = codes "is VHDL that isn't served here, or not in this place"
-
--- what a designer does about it
-abbrev pub form_help : Form → List ℕ
-form_help WholeNumbers = codes "declare it as unsigned(7 downto 0), as wide as it needs, and write n + 1 or n = 5 as before"
-form_help RangeAttribute = codes "write the bounds themselves, or a generic in their place"
-form_help Array = codes "take one vector of at most 64 elements and slices of it, or a signal for each word"
-form_help Record = codes "declare a signal for each element of the record, and write names without a library or package before them"
-form_help OtherType = codes "use std_logic, std_logic_vector, unsigned or an enumeration"
-form_help Subprogram = codes "write the computation as a process with a variable, or as an entity of its own"
-form_help Package = codes "declare its constants and types in the architecture that uses them"
-form_help Attribute = codes "leave the line out; it changes nothing that is simulated"
-form_help Alias = codes "write the name itself, or assign it to a signal of the other name"
-form_help Subtype = codes "write the type with its range at each declaration"
-form_help Mode = codes "take an in port and an out port; an out port can be read"
-form_help Wait = codes "give the process a sensitivity list, or write process (all); what a testbench waits for stands in the stimulus"
-form_help Delay = codes "leave out the delay; inputs change at times that the stimulus says"
-form_help Message = codes "leave it out, and look at the trace"
-form_help Block = codes "write the statements in the architecture, and name the entity in the instance: entity work.name"
-form_help OtherLoop = codes "write a for loop over all turns, with an if inside it"
-form_help Conditional = codes "write if .. then .. else .. end if, or the assignment outside of the process"
-form_help Alternative = codes "write end if; or end loop; above it; else if opens an if of its own, which needs its own end: write elsif"
-form_help Aggregate = codes "write a & b for (a, b); assign (others => '0') first and then the element that differs"
-form_help Comma = codes "write a & b for the vector (a, b), or `;` where one declaration ends and the next begins"
-form_help Reduction = codes "assign a variable the first element, and go on in a loop: for i in 1 to 7 loop p := p xor v(i); end loop;"
-form_help MixedLogic = codes "put parentheses: (a and b) or c"
-form_help Shift = codes "write shift_left(p, 1) or shift_right(p, 1) of unsigned, or slices and &"
-form_help Absolute = codes "compare with 0, and subtract in the branch where the number is negative"
-form_help Power = codes "write the power as a number or as a generic"
-form_help Qualified = codes "leave out the type and the tick, or write a conversion: unsigned(..)"
-form_help SecondIndex = codes "assign the first part to a signal or variable, and index that"
-form_help Equality = codes "assign a signal by <= and a variable by :=, and write := before the value in a declaration"
-form_help Equalities = codes "write a = b where both are equal, and a /= b where they differ"
-form_help Declaration = codes "declare it in the architecture, before its begin"
-form_help ListEnd = codes "drop the `;` behind the last port or generic"
-form_help NewLine = codes "put at the end of the line before what is missing there: a `;`, or then, is, loop or generate"
-form_help Slip = codes "see whether a word as then or is, an end if, a parenthesis or a `;` before it is missing or misspelt"
-form_help DynamicIndex = codes "compare in a loop: for i in 0 to 3 loop if p = i then y <= v(i); end if; end loop;"
-form_help Signed = codes "use unsigned, with the sign extended by hand"
-form_help Other = codes "see docs/LANGUAGE.md for what is read, and for the way round"
+-- what stands at a word where something is left out
+unfoldable pub left_out_form : (before : List Token) → (word : List ℕ) → Said
+left_out_form before word = form_among left_out (context_of false before) word (OTHER.0.now, OTHER.1.now)

@@ -4,8 +4,11 @@ pub mod Places
 pub mod Words
 -- what is said of it
 pub mod Forms
-pub mod Faults
 pub mod Races
+pub mod Choices
+pub mod Statements
+pub mod Entities
+pub mod Telling
 -- explanations
 pub mod Explained
 pub mod Stimuli

@@ -1,8 +1,11 @@
 -- Where a byte stands in a text, as editors tell it: lines and columns count from 1, and each byte is a column, a tab too.
-use Rattle.std.specs.Prelude.{ℕ, ◌+◌, ◌==◌, not, Bool, if◌then◌else◌, List, [], ◌∷◌, ◌++◌, take, codes, flat_map}
-use Rattle.std.specs.List.{prefix_len}
+use Rattle.std.specs.Prelude.{ℕ, ◌+◌, ◌==◌, ◌&&◌, not, Bool, if◌then◌else◌, List, [], ◌∷◌, ◌++◌, take, codes, flat_map}
+use Rattle.std.specs.List.{list_all, prefix_len}
 use Rattle.rtl_stim_lines.specs.Lines.{ends_line, without_return}
 use Rattle.rtlsim_explain.specs.declared.place.Position.{Position}
+use Rattle.rtlsim_files.specs.Files.{Spot, after, before}
+use Rattle.rtlsim_files.specs.Cutting.{shown_before, shown_after}
+use Rattle.vhdl_lexer.specs.Bytes.{is_separator}
 
 -- where the byte behind these bytes stands, the first of which has this line and column; a line feed ends a line
 abbrev pub position_from : (line column : ℕ) → List ℕ → Position
@@ -30,14 +33,23 @@ in_line byte = not (ends_line byte)
 abbrev pub line_after : (after : List ℕ) → List ℕ
 line_after after = without_return (take (prefix_len in_line after) after)
 
--- the whole line
-abbrev pub line_text : (before after : List ℕ) → List ℕ
-line_text before after = line_before before ++ line_after after ++ codes "\n"
-
 -- as wide as the byte: a tab stays a tab
 abbrev pub blank : ℕ → List ℕ
 blank byte = if byte == 9 then codes "\t" else codes " "
 
--- a line that points at the byte in the line above
-abbrev pub caret_text : (before : List ℕ) → List ℕ
-caret_text before = flat_map blank (line_before before) ++ codes "^\n"
+-- the two halves of a line as they are shown, and a mark under the byte at which they meet
+abbrev pub halves_shown : (before after : List ℕ) → List ℕ
+halves_shown before after =
+    shown_before before after ++ shown_after before after ++ codes "\n" ++ (flat_map blank (shown_before before after) ++ codes "^\n")
+
+-- the line of a byte of a file, and the mark
+abbrev pub line_shown : Spot → List ℕ
+line_shown s = halves_shown (line_before (before s)) (line_after (after s))
+
+-- separators alone
+abbrev pub is_blank : List ℕ → Bool
+is_blank bytes = list_all is_separator bytes
+
+-- nothing stands before the byte in its line, but something in the lines before
+abbrev pub begins_line : Spot → Bool
+begins_line s = is_blank (line_before (before s)) && not (is_blank (before s))

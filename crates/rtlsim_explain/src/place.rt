@@ -1,37 +1,14 @@
 //! Where a byte stands in a text.
 
-ghost use Rattle.std.specs.Prelude.{◌≡◌, ◌≤◌, length, take, drop, flat_map};
+ghost use Rattle.std.specs.Prelude.{◌≡◌, ◌≤◌, flat_map, length};
 ghost use Rattle.std.specs.List.{prefix_len};
 ghost use Rattle.rtl_sink.specs.Written.{Goes};
-ghost use Rattle.rtl_stim_lines.specs.Lines as lines;
 ghost use Rattle.rtlsim_explain.specs.Places as spec;
+ghost use Rattle.rtlsim_files.specs.Files.{spot_view};
 
 use rtl_sink::{Sink, push_text};
-
-/// A byte of a file.
-#[derive(Clone, Copy)]
-pub struct Place<'a> {
-    /// The file's name.
-    pub file: &'a [u8],
-    /// Its text.
-    pub text: &'a [u8],
-    /// The byte, counted from 0; the end of the text where it is past that.
-    pub at: usize,
-}
-
-impl<'a> Place<'a> {
-    /// What stands before the byte, and what stands from it on.
-    pub fn halves(self) -> (&'a [u8], &'a [u8])
-        ensures before { result.0.now ≡ take self.entry.at self.entry.text.now }
-        ensures after { result.1.now ≡ drop self.entry.at self.entry.text.now }
-    {
-        if self.at <= self.text.len() {
-            self.text.split_at(self.at)
-        } else {
-            (self.text, &[])
-        }
-    }
-}
+use rtl_stim_lines::without_return;
+use rtlsim_files::{FilePlace, cut_line};
 
 /// A place as editors tell it, from line 1 and column 1 on.
 #[derive(Clone, Copy)]
@@ -88,30 +65,19 @@ fn line_len(after: &[u8]) -> usize
     after.iter().take_while(|byte| **byte != b'\n').count()
 }
 
-/// A line without the carriage return at its end.
-fn without_return(line: &[u8]) -> &[u8]
-    ensures { result.now ≡ lines.without_return line.now }
+/// Writes the line of a byte, and below it a mark at the byte; of a long line what stands round the byte.
+pub(crate) fn push_shown<S: Sink>(place: FilePlace<'_>, sink: &mut S)
+    ensures { Goes (S.state sink.old) (S.state sink.new) (spec.line_shown (spot_view place.entry)) }
 {
-    match line {
-        [front @ .., b'\r'] => front,
-        _ => line,
-    }
-}
-
-/// Writes the line of a byte.
-pub(crate) fn push_line_text<S: Sink>(before: &[u8], after: &[u8], sink: &mut S)
-    ensures { Goes (S.state sink.old) (S.state sink.new) (spec.line_text before.now after.now) }
-{
-    push_text(sink, line_before(before));
-    push_text(sink, line_after(after));
+    let (before, from) = place.halves();
+    let line = cut_line(line_before(before), line_after(from));
+    push_text(sink, line.cut);
+    push_text(sink, line.before);
+    push_text(sink, line.after);
+    push_text(sink, line.more);
     push_text(sink, b"\n");
-}
-
-/// Writes a line that points at the byte in the line above.
-pub(crate) fn push_caret<S: Sink>(before: &[u8], sink: &mut S)
-    ensures { Goes (S.state sink.old) (S.state sink.new) (spec.caret_text before.now) }
-{
-    push_blanks(line_before(before), sink);
+    push_blanks(line.cut, sink);
+    push_blanks(line.before, sink);
     push_text(sink, b"^\n");
 }
 
@@ -133,4 +99,22 @@ fn push_blank<S: Sink>(byte: u8, sink: &mut S)
     } else {
         push_text(sink, b" ");
     }
+}
+
+/// Whether nothing stands before a byte in its line, but something in the lines before.
+pub(crate) fn begins_line(place: FilePlace<'_>) -> bool
+    ensures { result ≡ spec.begins_line (spot_view place.entry) }
+{
+    let (before, _) = place.halves();
+    is_blank(line_before(before)) && !is_blank(before)
+}
+
+/// Whether these bytes are separators alone.
+fn is_blank(mut bytes: &[u8]) -> bool
+    ensures { result ≡ spec.is_blank bytes.entry.now }
+{
+    while let [b' ' | b'\t' | b'\n'..=b'\r', rest @ ..] = bytes {
+        bytes = rest;
+    }
+    bytes.is_empty()
 }

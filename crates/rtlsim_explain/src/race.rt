@@ -6,7 +6,7 @@ ghost use Rattle.rtl_stim_lines.specs.Bounded.{IsFormOf};
 ghost use Rattle.rtl_stim_lines.specs.Forms as forms;
 ghost use Rattle.rtlsim_explain.specs.Races as spec;
 
-use crate::unread::is_same_word;
+use crate::lexed::is_same_word;
 use rtl_net::{Net, Signal};
 use rtl_stim_lines::{Form, Time, form_of, line_end, without_return, words_of};
 use std::alloc::{AllocError, Global};

@@ -1,103 +1,215 @@
-//! Which form stands at a byte where nothing of the language can stand.
+//! Which form stands at a token where nothing of the language can stand.
 
 ghost use Rattle.std.specs.Prelude.{◌≡◌, map};
-ghost use Rattle.std.specs.Str.{str_eq_ignore_ascii_case};
 ghost use Rattle.rtlsim_explain.specs.Forms as spec;
 
-use crate::form::{Form, LEFT_OUT, OPENERS, UNREAD};
-use crate::place::line_before;
-use crate::word::{begins_line, ends_operand, last_solid, word_at, word_before_name};
+use crate::form::{Behind, FormWord, NEW_LINE, OTHER, SLIP, Said};
+use crate::lexed::{is_same_kind, is_same_word};
+use crate::table::{LEFT_OUT, SLIPS, UNREAD};
+use vhdl_lexer::{Token, TokenKind};
 
-/// What stands at the byte between these halves of a text where no file goes on.
-pub(crate) fn unexpected_form(before: &[u8], after: &[u8]) -> Form
-    ensures { result ≡ spec.unexpected_form before.now after.now }
-{
-    let last = last_solid(before);
-    let slip = slip(before);
-    let form = unread_among(word_at(after), slip);
-    form_behind(last, may_assign(before), slip, form)
+/// What stands before a token.
+#[derive(Clone, Copy)]
+pub(crate) struct Context {
+    /// The kind of the token before it.
+    last: Option<TokenKind>,
+    /// Whether an index is open, which goes from a name's `(` to the next `)`.
+    in_index: bool,
+    /// The kind of the last token outside of an index.
+    word: Option<TokenKind>,
+    /// The kind of the one before that.
+    opener: Option<TokenKind>,
+    /// Whether nothing stands before it in its line.
+    begins_line: bool,
 }
 
-/// What stands where something is left out.
-pub(crate) fn left_out_form(after: &[u8]) -> Form
-    ensures { result ≡ spec.left_out_form after.now }
+/// What stands at a word where no file goes on, behind these tokens.
+pub(crate) fn unexpected_form(before: &[Token], begins_line: bool, word: &[u8]) -> Said
+    ensures { (result.0.now, result.1.now) ≡ spec.unexpected_form before.now begins_line word.now }
 {
-    form_among(&LEFT_OUT, word_at(after), Form::Other)
+    let context = context_of(before, begins_line);
+    let unread = form_among(&UNREAD, context, word, slip(context));
+    form_among(&SLIPS, context, word, unread)
 }
 
-/// The form that begins with a word.
-fn unread_among(word: &[u8], fallback: Form) -> Form
-    ensures { result ≡ spec.form_among spec.unread word.now fallback }
+/// What stands where something is left out, behind these tokens.
+pub(crate) fn left_out_form(before: &[Token], word: &[u8]) -> Said
+    ensures { (result.0.now, result.1.now) ≡ spec.left_out_form before.now word.now }
 {
-    form_among(&UNREAD, word, fallback)
+    form_among(&LEFT_OUT, context_of(before, false), word, OTHER)
 }
 
-/// Whether two texts are one word, in capitals or small letters.
-pub(crate) fn is_same_word(first: &[u8], second: &[u8]) -> bool
-    ensures { result ≡ str_eq_ignore_ascii_case first.now second.now }
-{
-    first.eq_ignore_ascii_case(second)
-}
-
-/// The form of a word in a table, or the other form.
-fn form_among(mut words: &[(&[u8], Form)], word: &[u8], fallback: Form) -> Form
-    ensures { result ≡ spec.form_among (map (λ w. (w.0.now, w.1)) words.entry.now) word.now fallback }
+/// The form of a word in a table, or another one.
+fn form_among(mut words: &[FormWord], context: Context, word: &[u8], fallback: Said) -> Said
+    ensures { (result.0.now, result.1.now) ≡ spec.form_among
+        (map (λ w. (w.0.now, w.1, (w.2.0.now, w.2.1.now))) words.entry.now) context word.now
+        (fallback.entry.0.now, fallback.entry.1.now) }
 {
     while let [first, rest @ ..] = words {
-        if is_same_word(first.0, word) {
-            return first.1;
+        if fits(*first, context, word) {
+            return first.2;
         }
         words = rest;
     }
     fallback
 }
 
-/// What no form begins with.
-fn slip(before: &[u8]) -> Form
-    ensures { result ≡ spec.slip before.now }
+/// Whether a form begins at a word.
+fn fits(form: FormWord, context: Context, word: &[u8]) -> bool
+    ensures { result ≡ spec.fits form.entry.0.now form.entry.1 context word.now }
 {
-    if begins_line(before) && ends_operand(last_solid(before)) {
-        Form::NewLine
-    } else {
-        Form::Slip
+    (form.0.is_empty() || is_same_word(form.0, word)) && holds(form.1, context)
+}
+
+/// Whether this stands before a token.
+fn holds(behind: Behind, context: Context) -> bool
+    ensures { result ≡ spec.holds behind context }
+{
+    match behind {
+        Behind::Anything => true,
+        Behind::Kind(kind) => is_kind(context.last, kind),
+        Behind::Operand => ends_operand(context.last),
+        Behind::Opener(kind) => !context.in_index && is_kind(context.opener, kind),
+        Behind::Target => is_target(context),
+        Behind::NewLine => is_new_line(context),
     }
 }
 
-/// Whether a name stands before it with which a statement begins, or a type in a declaration.
-fn may_assign(before: &[u8]) -> bool
-    ensures { result ≡ spec.may_assign before.now }
+/// What is said where no form begins.
+fn slip(context: Context) -> Said
+    ensures { (result.0.now, result.1.now) ≡ spec.slip context }
 {
-    is_among(&OPENERS, word_before_name(line_before(before)))
+    if is_new_line(context) { NEW_LINE } else { SLIP }
 }
 
-/// Whether a word is one of these.
-fn is_among(mut words: &[&[u8]], word: &[u8]) -> bool
-    ensures { result ≡ spec.is_among (map (λ w. w.now) words.entry.now) word.now }
+/// Whether the line before the token may lack its `;` or its last word.
+fn is_new_line(context: Context) -> bool
+    ensures { result ≡ spec.is_new_line context }
 {
-    while let [first, rest @ ..] = words {
-        if is_same_word(first, word) {
-            return true;
+    context.begins_line && ends_statement(context)
+}
+
+/// Whether a name stands before the token with which a statement begins, or a type in a declaration.
+fn is_target(context: Context) -> bool
+    ensures { result ≡ spec.is_target context }
+{
+    !context.in_index && is_kind(context.word, TokenKind::Identifier) && opens(context.opener)
+}
+
+// ---- what stands before a token
+
+/// These tokens.
+fn context_of(mut tokens: &[Token], begins_line: bool) -> Context
+    ensures { result ≡ spec.context_of begins_line tokens.entry.now }
+{
+    let mut context = Context {
+        last: None,
+        in_index: false,
+        word: None,
+        opener: None,
+        begins_line,
+    };
+    while let [token, rest @ ..] = tokens {
+        context = context_behind(context, token.kind);
+        tokens = rest;
+    }
+    context
+}
+
+/// One token more.
+fn context_behind(context: Context, kind: TokenKind) -> Context
+    ensures { result ≡ spec.context_behind context kind }
+{
+    let last = Some(kind);
+    if context.in_index || opens_index(context, kind) {
+        Context {
+            last,
+            in_index: !is_same_kind(kind, TokenKind::RightParen),
+            ..context
         }
-        words = rest;
+    } else {
+        Context {
+            last,
+            word: last,
+            opener: context.word,
+            ..context
+        }
     }
-    false
 }
 
-/// The form of a word behind a text that ends with this byte, and with a name that an assignment may begin with or not.
-fn form_behind(last: u8, assigns: bool, fallback: Form, form: Form) -> Form
-    ensures { result ≡ spec.form_behind last assigns fallback form }
+/// Whether a name's index opens with this token.
+fn opens_index(context: Context, kind: TokenKind) -> bool
+    ensures { result ≡ spec.opens_index context kind }
 {
-    match (fallback, form) {
-        (_, Form::WholeNumbers) if last == b'\'' => Form::RangeAttribute,
-        (_, Form::Reduction) if ends_operand(last) => Form::MixedLogic,
-        (_, Form::SecondIndex) if last == b'\'' => Form::Qualified,
-        (_, Form::SecondIndex) if last != b')' => fallback,
-        (_, Form::ListEnd) if last != b';' => fallback,
-        (_, Form::Power) if last != b'*' => fallback,
-        (_, Form::Equality) if last == b'=' => Form::Equalities,
-        (_, Form::Equality) if !assigns => fallback,
-        (Form::NewLine, Form::Conditional | Form::Declaration) => Form::NewLine,
-        (_, Form::Conditional) if last == b';' => Form::Alternative,
-        _ => form,
+    is_same_kind(kind, TokenKind::LeftParen) && is_kind(context.last, TokenKind::Identifier)
+}
+
+fn is_kind(last: Option<TokenKind>, kind: TokenKind) -> bool
+    ensures { result ≡ spec.is_kind last kind }
+{
+    match last {
+        Some(last) => is_same_kind(last, kind),
+        None => false,
     }
+}
+
+/// Whether a name, a literal or `)` ends with it.
+fn ends_operand(last: Option<TokenKind>) -> bool
+    ensures { result ≡ spec.ends_operand last }
+{
+    matches!(
+        last,
+        Some(
+            TokenKind::Identifier
+                | TokenKind::Integer
+                | TokenKind::Character
+                | TokenKind::String
+                | TokenKind::BitString
+                | TokenKind::RightParen
+        )
+    )
+}
+
+/// Whether a declaration, a statement or its head may end with the last token.
+fn ends_statement(context: Context) -> bool
+    ensures { result ≡ spec.ends_statement context }
+{
+    ends_operand(context.last) || is_last_word(context.last) || is_end(context)
+}
+
+/// Whether it is a word with which a statement may end.
+fn is_last_word(last: Option<TokenKind>) -> bool
+    ensures { result ≡ spec.is_last_word last }
+{
+    matches!(
+        last,
+        Some(TokenKind::End | TokenKind::Null | TokenKind::Open | TokenKind::All)
+    )
+}
+
+/// Whether the word behind an `end` is the last.
+fn is_end(context: Context) -> bool
+    ensures { result ≡ spec.is_end context }
+{
+    is_kind(context.opener, TokenKind::End) && !is_kind(context.last, TokenKind::Semicolon)
+}
+
+/// Whether a statement or the type in a declaration may begin behind it.
+fn opens(before: Option<TokenKind>) -> bool
+    ensures { result ≡ spec.opens before }
+{
+    matches!(
+        before,
+        Some(
+            TokenKind::Semicolon
+                | TokenKind::Colon
+                | TokenKind::Arrow
+                | TokenKind::Then
+                | TokenKind::Else
+                | TokenKind::Begin
+                | TokenKind::Loop
+                | TokenKind::Generate
+                | TokenKind::Is
+        )
+    )
 }

@@ -1,11 +1,10 @@
 -- What is told behind a fault, by what is found.
-use Rattle.std.proofs.Common.{◌≡◌, ◌⊎◌, inl, inr, ℕ, zero, suc, ◌-◌, ◌==◌, Bool, true, false, List, [], ◌++◌, Option, Some, None, refl, sym, ◌∙◌, subst, arith, true≢false}
+use Rattle.std.proofs.Common.{◌≡◌, inl, inr, ℕ, zero, suc, ◌-◌, ◌==◌, Bool, true, false, List, [], ◌++◌, Option, Some, None, refl, sym, ◌∙◌, subst, arith, true≢false}
 use Rattle.std.proofs.lemmas.Bool.Decides.{nat_tests}
 use Rattle.std.specs.Global.{Vec}
 use Rattle.rtl_sink.proofs.Writing.{Goes-append}
 use Rattle.rtl_sink.specs.Written.{SinkState, Goes}
-use Rattle.rtlsim_faults.specs.Explanations.{name_said}
-use Rattle.rtlsim_faults.specs.Further.{Asked, Further, HasNames, Reads, Says, more_line, past}
+use Rattle.rtlsim_faults.specs.Further.{Asked, Further, HasNames, Reads, Says, more_line, name_said, past}
 use Rattle.rtlsim_faults.specs.Next.{Finds, TellsBehind}
 use Rattle.rtlsim_faults.specs.Words.{is_known}
 use Rattle.rtlsim_faults.specs.declared.next.Next.TheVariants as n
@@ -116,11 +115,11 @@ module _ (a : Asked) (more : ℕ) (left next : List ℕ) (fault other : NameFaul
 
   -- one is said, and then the others
   pub behind_one : (whole : Bool) (steps : ℕ) (between : SinkState) → (steps == 0) ≡ false → FindsFault a.top (past a.tokens left fault) next other
-      → is_known a.source a.tokens next other ≡ false → (more == 0) ≡ false → Goes old between (name_said a.files other)
+      → is_known a.source a.tokens next other ≡ false → (more == 0) ≡ false → Goes old between (name_said a other)
       → TellsBehind a whole (steps - 1) (more - 1) next other between new → TellsBehind a whole steps more left fault old new
   behind_one whole zero between some finds known enough said tells = absurd (true≢false some)
   behind_one whole (suc steps) between some finds known enough said tells = record {
-    text = name_said a.files other ++ tells.text;
+    text = name_said a other ++ tells.text;
     is = reads_fault whole a.top _ (past a.tokens left fault) _ next other finds (says_one _ more _ _ tells.text known enough (subst (λ (k : ℕ). Further a whole k (more - 1) next other tells.text) (less steps) tells.is));
     goes = Goes-append old between new _ _ said tells.goes;
   }

@@ -4,7 +4,7 @@ use Rattle.std.specs.Prelude.{if◌then◌else◌, OnOk, slice_index, drop, take
 use Rattle.std.proofs.Math.Seq.{take-length}
 use Rattle.rtl_net.specs.Names.{net_name}
 use Rattle.rtl_net.specs.Nets.{NetlistView}
-use Rattle.rtlsim_explain_check.specs.Ranges.{follows, range_text}
+use Rattle.rtlsim_findings.specs.Ranges.{follows, range_text}
 use Rattle.rtlsim_faults.specs.Changing.{names_from}
 
 -- ---- the text, net by net

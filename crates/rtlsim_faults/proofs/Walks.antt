@@ -1,5 +1,5 @@
 -- One token more.
-use Rattle.std.proofs.Common.{◌≡◌, ℕ, ◌-◌, ◌<◌, ◌≤◌, ◌==◌, ◌||◌, Bool, true, false, List, [], ◌∷◌, length, take, drop, refl, slice_index_or, arith}
+use Rattle.std.proofs.Common.{◌≡◌, ℕ, ◌-◌, ◌≤◌, ◌==◌, false, List, [], ◌∷◌, length, take, drop, refl, slice_index_or, arith}
 use Rattle.std.proofs.lemmas.List.{take_all}
 use Rattle.rtlsim_faults.specs.Words.{is_this_out, is_word_out, word_at}
 use Rattle.vhdl_lexer.specs.Cut.{AreWithin}

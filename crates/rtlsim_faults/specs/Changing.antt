@@ -2,7 +2,7 @@
 use Rattle.std.specs.Prelude.{ℕ, zero, suc, if◌then◌else◌, List, [], ◌∷◌, ◌++◌, codes}
 use Rattle.rtl_net.specs.Names.{net_name}
 use Rattle.rtl_net.specs.Nets.{NetlistView}
-use Rattle.rtlsim_explain_check.specs.Ranges.{follows, range_text}
+use Rattle.rtlsim_findings.specs.Ranges.{follows, range_text}
 
 -- The elements from the one of this name to the net `last`, as a range, and then the nets of these numbers, so many of them at most.
 abbrev pub names_from : NetlistView → (first : List ℕ) → (last room : ℕ) → (numbers : List ℕ) → List ℕ

@@ -70,6 +70,13 @@ status_of (NoSettling time) = status.Unsettled
 status_of Memory = status.Memory
 status_of Output = status.Failed
 
+-- one of the checker, of a stimulus or of a value, whose lines may name signals, nets or processes
+abbrev pub is_of_names : Fault → Bool
+is_of_names (Rejected faults) = true
+is_of_names (Stim fault) = true
+is_of_names (Differs difference) = true
+is_of_names _ = false
+
 -- the lines of a fault name signals, nets or processes
 abbrev pub has_names : Fault → Bool
 has_names (Rejected faults) = true

@@ -3,8 +3,10 @@
 use Rattle.std.specs.Prelude.{◌≡◌, ◌⊎◌, ℕ, zero, suc, Bool, true, false, List, [], ◌++◌, Option, Some, None, codes}
 use Rattle.rtl_net.specs.Nets.{NetlistView}
 use Rattle.rtl_sink.specs.Written.{SinkState, Goes}
-use Rattle.rtlsim_faults.specs.Explanations.{files_of, name_said}
+use Rattle.rtlsim_faults.specs.Explanations.{files_of, source_said}
+use Rattle.rtlsim_faults.specs.Reports.{name_report}
 use Rattle.rtlsim_faults.specs.declared.telling.Telling.{Telling}
+use Rattle.rtlsim_explain.specs.Words.{with_tokens}
 use Rattle.rtlsim_files.specs.Files.{FileView}
 use Rattle.rtlsim_faults.specs.Words.{is_known}
 use Rattle.vhdl_lexer.specs.Extents.{statement_at, blanked}
@@ -37,6 +39,10 @@ pub record Asked : Type 0 where
   pub source : List ℕ
   pub tokens : List Token
   pub top : List ℕ
+
+-- what is said of a fault of names
+abbrev pub name_said : Asked → NameFault → List ℕ
+name_said a fault = source_said a.files (with_tokens a.source a.tokens) (name_report fault)
 
 -- ---- what is taken out
 
@@ -86,7 +92,7 @@ abbrev pub Further : Asked → (whole : Bool) → (steps more : ℕ) → (left :
 Further a whole zero more left fault text = text ≡ more_line
 Further a whole (suc steps) more left fault text =
     Reads whole a.top
-    (λ next other. Says (is_known a.source a.tokens next other) more (name_said a.files other) (λ fewer others. Further a whole steps fewer next other others) text)
+    (λ next other. Says (is_known a.source a.tokens next other) more (name_said a other) (λ fewer others. Further a whole steps fewer next other others) text)
     (past a.tokens left fault) text
 
 -- ---- of a source

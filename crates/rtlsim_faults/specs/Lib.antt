@@ -1,8 +1,7 @@
 -- faults, and how they are told
 pub mod Faults
 pub mod Places
-pub mod Titles
-pub mod Notices
+pub mod Reports
 pub mod Lines
 pub mod Explanations
 pub mod Changing

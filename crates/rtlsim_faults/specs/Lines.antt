@@ -1,10 +1,15 @@
 -- The lines that tell faults.
 use Rattle.std.specs.Prelude.{ℕ, List, [], ◌∷◌, Option, Some, None, ◌++◌, codes, decimal}
-use Rattle.rtlsim_faults.specs.Notices.{Entry, lex_entry, syntax_entry, names_entry, elab_entry, stim_entry, expect_entry, settle_entry}
+use Rattle.rtl_report.specs.Rules.{words_of}
+use Rattle.rtl_report.specs.declared.report.Place.{Place}
+use Rattle.rtl_report.specs.declared.report.Place.TheVariants.{Byte, Line, Time}
+use Rattle.rtl_report.specs.declared.report.Report.{Report}
+use Rattle.rtl_report.specs.declared.report.Rule.{Rule}
+use Rattle.rtl_report.specs.declared.report.Rule.TheVariants as rules
+use Rattle.rtl_report.specs.declared.stimuli.StimRule.TheVariants as stimuli
+use Rattle.rtlsim_faults.specs.Reports.{lex_report, syntax_report, name_report, elab_report, stim_report, expect_report, settle_report}
 use Rattle.rtlsim_faults.specs.declared.faults.Fault.{Fault}
 use Rattle.rtlsim_faults.specs.declared.faults.Fault.TheVariants.{Lex, Syntax, Name, Elab, Rejected, Stim, Expect, Differs, NoSettling, Memory, Output}
-use Rattle.rtlsim_faults.specs.declared.faults.notice.FaultPlace.{FaultPlace}
-use Rattle.rtlsim_faults.specs.declared.faults.notice.FaultPlace.TheVariants.{Nowhere, Byte, Line, Time}
 use Rattle.rtl_expect.specs.Telling.{difference_line}
 use Rattle.rtl_expect.specs.Watching.{difference_view}
 use Rattle.rtlsim_listing.specs.CheckText.{rejection_text}
@@ -24,23 +29,27 @@ byte_text (file ∷ next ∷ files) at = spot_text (spot_in (file ∷ next ∷ f
 byte_text _ at = codes " at " ++ decimal at
 
 -- where a fault is found
-abbrev pub place_text : List FileView → FaultPlace → List ℕ
-place_text files Nowhere = []
+abbrev pub place_text : List FileView → Place → List ℕ
 place_text files (Byte at) = byte_text files at
 place_text files (Line line) = codes " line " ++ decimal line
 place_text files (Time time) = codes " " ++ decimal time
+place_text files _ = []
 
--- "rtlsim: LAYER NUMBER NAME", and where
-abbrev pub notice_text : List FileView → Entry → List ℕ
-notice_text files e = codes "rtlsim: " ++ e.layer ++ codes " " ++ decimal e.number ++ codes " " ++ e.name ++ place_text files e.place
+-- "rtlsim: LAYER NUMBER NAME"
+abbrev pub rule_text : Rule → List ℕ
+rule_text rule = codes "rtlsim: " ++ (words_of rule).layer.now ++ codes " " ++ decimal (words_of rule).number ++ codes " " ++ (words_of rule).name.now
+
+-- the rule, and where it is broken
+abbrev pub report_text : List FileView → Report → List ℕ
+report_text files r = rule_text r.rule ++ place_text files r.place
 
 abbrev pub memory_line : List ℕ
 memory_line = codes "rtlsim: memory\n"
 
--- a layer's notice, or its want of memory
-abbrev pub told_line : List FileView → Option Entry → List ℕ
+-- a layer's report, or its want of memory
+abbrev pub told_line : List FileView → Option Report → List ℕ
 told_line files None = memory_line
-told_line files (Some e) = notice_text files e ++ codes "\n"
+told_line files (Some r) = report_text files r ++ codes "\n"
 
 abbrev pub input_line : List ℕ
 input_line = codes "rtlsim: input\n"
@@ -51,22 +60,22 @@ output_line = codes "rtlsim: output\n"
 -- the data input that changes, and then the clock
 abbrev pub race_line : NetlistView → (time input clock : ℕ) → List ℕ
 race_line net time input clock =
-    codes "rtlsim: stim 8 Race " ++ decimal time ++ codes " " ++ net_name net input ++ codes " " ++ net_name net clock ++ codes "\n"
+    rule_text (rules.Stim stimuli.Race) ++ codes " " ++ decimal time ++ codes " " ++ net_name net input ++ codes " " ++ net_name net clock ++ codes "\n"
 
 abbrev pub stim_line : List FileView → NetlistView → StimFault → List ℕ
 stim_line files net (Race time input clock) = race_line net time input clock
-stim_line files net fault = told_line files (stim_entry fault)
+stim_line files net fault = told_line files (stim_report fault)
 
 -- what tells a fault, with the names of the netlist that has it
 abbrev pub fault_lines : List FileView → NetlistView → Fault → List ℕ
-fault_lines files net (Lex fault) = told_line files (lex_entry fault)
-fault_lines files net (Syntax fault) = told_line files (syntax_entry fault)
-fault_lines files net (Name fault) = told_line files (names_entry fault)
-fault_lines files net (Elab fault) = told_line files (elab_entry fault)
+fault_lines files net (Lex fault) = told_line files (lex_report fault)
+fault_lines files net (Syntax fault) = told_line files (syntax_report fault)
+fault_lines files net (Name fault) = told_line files (name_report fault)
+fault_lines files net (Elab fault) = told_line files (elab_report fault)
 fault_lines files net (Rejected faults) = rejection_text net faults.items
 fault_lines files net (Stim fault) = stim_line files net fault
-fault_lines files net (Expect fault) = told_line files (expect_entry fault)
+fault_lines files net (Expect fault) = told_line files (expect_report fault)
 fault_lines files net (Differs difference) = difference_line net (difference_view difference)
-fault_lines files net (NoSettling time) = told_line files (Some (settle_entry time))
+fault_lines files net (NoSettling time) = told_line files (Some (settle_report time))
 fault_lines files net Memory = memory_line
 fault_lines files net Output = output_line

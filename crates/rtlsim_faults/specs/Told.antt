@@ -1,8 +1,11 @@
 -- What is told of a fault and of a run that is done, on the standard error.
-use Rattle.std.specs.Prelude.{◌≡◌, ◌⊎◌, ℕ, true, List, ◌++◌, codes, decimal}
+use Rattle.std.specs.Prelude.{◌≡◌, ◌⊎◌, ℕ, Bool, true, false, List, Option, ◌++◌, codes, decimal}
+use Rattle.rtl_report.specs.declared.report.Report.{Report}
+use Rattle.rtlsim_explain.specs.Words.{Read}
+use Rattle.rtlsim_files.specs.Files.{FileView}
 use Rattle.rtlsim_faults.specs.Faults.{status_of, takes_memory}
-use Rattle.rtlsim_faults.specs.Explanations.{told}
-use Rattle.rtlsim_faults.specs.Lines.{memory_line}
+use Rattle.rtlsim_faults.specs.Explanations.{IsRead, explanation, files_of, is_read, source_said, told, unread}
+use Rattle.rtlsim_faults.specs.Lines.{fault_lines, memory_line}
 use Rattle.rtlsim_faults.specs.declared.faults.Fault.{Fault}
 use Rattle.rtlsim_faults.specs.declared.status.Status.{Status}
 use Rattle.rtlsim_faults.specs.declared.status.Status.TheVariants as status
@@ -12,18 +15,45 @@ use Rattle.rtl_net.specs.Nets.{NetlistView}
 use Rattle.rtl_machine.specs.declared.summary.Summary.{Summary}
 use Rattle.rtl_sink.specs.Written.{SinkState, TakesBeginning, Goes}
 
+-- ---- explanations of faults that name no net
+
+-- the source is read, and its fault explained; or memory for that is refused, and nothing is written
+abbrev pub ExplainsRead : List FileView → Option Report → (whole : Bool) → (old new : SinkState) → Type 0
+ExplainsRead files report true old new = (read : Read) × IsRead files read × Goes old new (source_said files read report)
+ExplainsRead files report false old new = new ≡ old
+
+-- the fault is explained, whichever netlist is looked at; or memory to read the source is refused, and nothing is written
+abbrev pub Explains : Telling → Fault → (whole : Bool) → (old new : SinkState) → Type 0
+Explains telling fault true old new =
+    (read : Read) × (is_read fault ≡ true → IsRead (files_of telling) read) × ((net : NetlistView) → Goes old new (explanation telling read net fault))
+Explains telling fault false old new = (is_read fault ≡ true) × (new ≡ old)
+
+-- ---- what is told of a fault
+
+-- The fault is told whole; where its explanation is asked for, the source is read for that.
+pub record TellsWhole (telling : Telling) (net : NetlistView) (fault : Fault) (old new : SinkState) : Type 0 where
+  pub read : Read
+  pub is : telling.explains ≡ true → is_read fault ≡ true → IsRead (files_of telling) read
+  pub goes : Goes old new (told telling read net fault)
+
 -- The fault is told, with the netlist's names; or, where memory for its names is refused, a beginning of that,
 -- and then the refusal.
 pub record TellsInPart (telling : Telling) (net : NetlistView) (fault : Fault) (old new : SinkState) : Type 0 where
   pub named : takes_memory fault ≡ true
   pub between : SinkState
-  pub part : TakesBeginning old between (told telling net fault)
+  pub part : TakesBeginning old between (told telling unread net fault)
   pub memory : Goes between new memory_line
+
+-- Where memory to read the source is refused, the refusal stands in place of the explanation.
+pub record TellsUnread (telling : Telling) (net : NetlistView) (fault : Fault) (old new : SinkState) : Type 0 where
+  pub asked : telling.explains ≡ true
+  pub source : is_read fault ≡ true
+  pub goes : Goes old new (fault_lines (files_of telling) net fault ++ memory_line)
 
 abbrev pub TellsFault : Telling → NetlistView → Fault → (old new : SinkState) → (outcome : Status) → Type 0
 TellsFault telling net fault old new outcome =
-    (Goes old new (told telling net fault) × (outcome ≡ status_of fault))
-    ⊎ (TellsInPart telling net fault old new × (outcome ≡ status.Memory))
+    (TellsWhole telling net fault old new × (outcome ≡ status_of fault))
+    ⊎ ((TellsInPart telling net fault old new ⊎ TellsUnread telling net fault old new) × (outcome ≡ status.Memory))
 
 -- ---- of a run that is done
 

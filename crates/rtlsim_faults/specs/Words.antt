@@ -1,4 +1,4 @@
--- Which faults of a source have a cause that is told already: those of a word that stands in what was taken out.
+-- Which faults of a source aren't told, since they may have a cause that is told already: those of a word that stands in what was taken out.
 use Rattle.std.specs.Prelude.{ℕ, ◌==◌, ◌&&◌, ◌||◌, nat_lt, Bool, true, false, if◌then◌else◌, List, [], ◌∷◌, length, slice_index_or, slice_range}
 use Rattle.std.specs.Str.{str_eq_ignore_ascii_case}
 use Rattle.vhdl_lexer.specs.declared.token.Token.{Token}

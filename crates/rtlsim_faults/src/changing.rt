@@ -1,7 +1,7 @@
 //! The nets that still change where a moment doesn't settle.
 
 ghost use Rattle.std.specs.Prelude.{◌≡◌, ◌++◌, if◌then◌else◌, IfOk, OnOk, codes};
-ghost use Rattle.rtlsim_explain_check.specs.Ranges.{range_text};
+ghost use Rattle.rtlsim_findings.specs.Ranges.{range_text};
 ghost use Rattle.rtl_sink.specs.Written.{Goes};
 ghost use Rattle.rtlsim_faults.specs.Changing as spec;
 ghost use Rattle.rtlsim_faults.specs.Lines.{memory_line};
@@ -9,7 +9,7 @@ ghost use Rattle.rtlsim_faults.specs.Lines.{memory_line};
 use crate::lines::push_memory;
 use rtl_net::{Net, NoMemory};
 use rtl_sink::{Sink, push_text};
-use rtlsim_explain_check::{follows, push_range};
+use rtlsim_findings::{follows, push_range};
 use rtlsim_listing::net_name;
 use std::alloc::Global;
 

@@ -4,15 +4,7 @@ ghost use Rattle.std.specs.Prelude.{◌≡◌};
 ghost use Rattle.rtlsim_faults.specs.Faults.{of_source, of_stim, of_expect, of_run, of_machine, of_listing};
 ghost use Rattle.rtlsim_faults.specs.declared.faults.Fault.TheVariants.{Memory};
 
-mod layers;
-mod notice;
-mod titles;
-
 use crate::status::Status;
-pub(crate) use layers::{
-    elab_notice, expect_notice, lex_notice, name_notice, settle_notice, stim_notice, syntax_notice,
-};
-pub(crate) use notice::{FaultPlace, Notice};
 use rtl_check::CheckFault;
 use rtl_expect::{Difference, ExpectFault};
 use rtl_machine::{MachineFault, RunFault};

@@ -7,11 +7,13 @@ ghost use Rattle.rtlsim_faults.specs.Further.{TellsFurther};
 ghost use Rattle.rtlsim_faults.specs.Next.{TellsBehind, asked_of};
 ghost use Rattle.vhdl_lexer.specs.Cut.{AreWithin};
 
-use crate::explaining::explain_names;
+use crate::explaining::explain_report;
 use crate::next::{Next, next_fault};
+use crate::reports::name_report;
 use crate::telling::Telling;
 use crate::words::is_known;
 use rtl_sink::{Sink, push_text};
+use rtlsim_explain::Lexed;
 use std::alloc::Global;
 use vhdl_lexer::{Token, lex};
 use vhdl_names_rules::NameFault;
@@ -91,7 +93,11 @@ fn push_behind<F: Front, S: Sink>(
                 push_more(sink);
                 return true;
             }
-            explain_names(search.telling.files, fault, sink);
+            let source = Lexed {
+                text: search.source,
+                tokens: search.tokens,
+            };
+            explain_report(search.telling.files, source, name_report(fault), sink);
             push_behind::<F, S>(alloc, search, left, fault, steps - 1, more - 1, sink)
         }
         Next::Nothing => {

@@ -1,29 +1,28 @@
 //! The lines that tell faults.
 
-ghost use Rattle.std.specs.Prelude.{◌≡◌, ◌++◌, codes, decimal, map, true, false, IfErr};
-ghost use Rattle.std.specs.Option.{option_map};
+ghost use Rattle.std.specs.Prelude.{◌≡◌, ◌++◌, decimal, map, true, false, IfErr};
 ghost use Rattle.rtlsim_listing.specs.Printing.{IsListed};
 ghost use Rattle.rtlsim_listing.specs.declared.fault.ListingFault.TheVariants.{Memory};
 ghost use Rattle.rtl_net.specs.Nets.{NetlistView};
 ghost use Rattle.rtl_sink.specs.Written.{Goes, IsIntact};
 ghost use Rattle.rtlsim_faults.specs.Faults.{has_names, takes_memory, of_source};
-ghost use Rattle.rtlsim_faults.specs.Explanations.{told};
+ghost use Rattle.rtlsim_faults.specs.Explanations.{told, unread};
 ghost use Rattle.rtlsim_files.specs.Files.{file_view, spot_view};
-ghost use Rattle.rtlsim_faults.specs.Lines.{byte_text, spot_text, place_text, notice_text, told_line, race_line, stim_line, fault_lines, memory_line};
-ghost use Rattle.rtlsim_faults.specs.Notices.{entry_of};
+ghost use Rattle.rtlsim_faults.specs.Lines.{byte_text, spot_text, place_text, rule_text, told_line, race_line, stim_line, fault_lines, memory_line};
 ghost use Rattle.rtlsim_faults.specs.Told.{TellsFault, summary_line, levels_line};
 ghost use Rattle.rtlsim_faults.specs.Faults as faults;
 
 use crate::explaining::{explain_fault, explain_nameless};
-use crate::faults::{
-    Fault, FaultPlace, Notice, elab_notice, expect_notice, lex_notice, name_notice, settle_notice,
-    stim_notice, syntax_notice,
+use crate::faults::Fault;
+use crate::reports::{
+    elab_report, expect_report, lex_report, name_report, settle_report, stim_report, syntax_report,
 };
 use crate::status::Status;
 use crate::telling::Telling;
 use rtl_expect::push_difference;
 use rtl_machine::{LevelSummary, Summary};
 use rtl_net::Net;
+use rtl_report::{Place, Report, Rule, StimRule};
 use rtl_sink::{Sink, finish, push_number, push_text};
 use rtl_stim::StimFault;
 use rtlsim_files::{FilePlace, SourceFile, place_in};
@@ -32,8 +31,8 @@ use std::alloc::Global;
 use vhdl_source_rules::SourceFault;
 
 /// Writes the lines that tell a fault, with the names of the netlist that has it, and its explanation where that is asked for, and answers
-/// the status. It takes the memory of a few
-/// names at a time; where that is refused it tells so in their place.
+/// the status. It takes the memory of a few names at a time, or of the source and its tokens for the explanation of its own fault; where
+/// that is refused it tells so in their place.
 pub fn tell_fault<E: Sink>(
     alloc: Global,
     telling: &Telling<'_>,
@@ -42,6 +41,49 @@ pub fn tell_fault<E: Sink>(
     err: &mut E,
 ) -> Status
     requires intact { IsIntact (E.state err.old) }
+    ensures { TellsFault telling.now net.now fault.now (E.state err.old) (E.state err.new) result }
+{
+    if is_of_names(fault) {
+        tell_named(alloc, telling, net, fault, err)
+    } else {
+        tell_nameless(alloc, telling, fault, err)
+    }
+}
+
+/// Writes the line that tells why a source is refused, and its explanation where that is asked for, and answers the status. The explanation
+/// takes the memory of the source and of its tokens; where that is refused it tells so in its place.
+pub fn tell_source_fault<E: Sink>(
+    alloc: Global,
+    telling: &Telling<'_>,
+    fault: SourceFault,
+    err: &mut E,
+) -> Status
+    ensures { (net : NetlistView) → TellsFault telling.now net (of_source fault) (E.state err.old) (E.state err.new)
+        result }
+{
+    let fault = Fault::from(fault);
+    tell_nameless(alloc, telling, &fault, err)
+}
+
+fn is_of_names(fault: &Fault) -> bool
+    ensures { result ≡ faults.is_of_names fault.now }
+{
+    matches!(
+        fault,
+        Fault::Rejected(_) | Fault::Stim(_) | Fault::Differs(_)
+    )
+}
+
+/// Writes the lines that tell a fault that may have names, and its explanation where that is asked for, and answers the status.
+fn tell_named<E: Sink>(
+    alloc: Global,
+    telling: &Telling<'_>,
+    net: &Net,
+    fault: &Fault,
+    err: &mut E,
+) -> Status
+    requires intact { IsIntact (E.state err.old) }
+    requires names { faults.is_of_names fault.now ≡ true }
     ensures { TellsFault telling.now net.now fault.now (E.state err.old) (E.state err.new) result }
 {
     match push_told(alloc, telling, net, fault, err) {
@@ -54,15 +96,26 @@ pub fn tell_fault<E: Sink>(
     }
 }
 
-/// Writes the line that tells why a source is refused, and its explanation where that is asked for, and answers the status.
-pub fn tell_source_fault<E: Sink>(telling: &Telling<'_>, fault: SourceFault, err: &mut E) -> Status
-    ensures told { (net : NetlistView) → Goes (E.state err.old) (E.state err.new) (told telling.now net (of_source fault)) }
-    ensures status { result ≡ faults.status_of (of_source fault) }
+/// Writes the line of any other fault, and its explanation where that is asked for, and answers the status.
+fn tell_nameless<E: Sink>(
+    alloc: Global,
+    telling: &Telling<'_>,
+    fault: &Fault,
+    err: &mut E,
+) -> Status
+    requires { faults.is_of_names fault.now ≡ false }
+    ensures { (net : NetlistView) → TellsFault telling.now net fault.now (E.state err.old) (E.state err.new) result }
 {
-    let fault = Fault::from(fault);
-    push_nameless(telling.files, &fault, err);
-    explain_nameless(telling, &fault, err);
-    fault.status()
+    push_nameless(telling.files, fault, err);
+    if !telling.explains {
+        return fault.status();
+    }
+    if explain_nameless(alloc, telling, fault, err) {
+        fault.status()
+    } else {
+        push_memory(err);
+        Status::Memory
+    }
 }
 
 /// Writes how many moments there were, and how many delta cycles one took at most.
@@ -101,7 +154,8 @@ fn push_told<S: Sink>(
     sink: &mut S,
 ) -> Result<(), ListingFault>
     requires intact { IsIntact (S.state sink.old) }
-    ensures listed { IsListed result (S.state sink.old) (S.state sink.new) (told telling.now net.now fault.now) }
+    requires names { faults.is_of_names fault.now ≡ true }
+    ensures listed { IsListed result (S.state sink.old) (S.state sink.new) (told telling.now unread net.now fault.now) }
     ensures named { IfErr result (λ e. e ≡ Memory → takes_memory fault.now ≡ true) }
 {
     push_fault(alloc, telling.files, net, fault, sink)?;
@@ -117,7 +171,8 @@ fn push_fault<S: Sink>(
     sink: &mut S,
 ) -> Result<(), ListingFault>
     requires intact { IsIntact (S.state sink.old) }
-    ensures listed { IsListed result (S.state sink.old) (S.state sink.new) (fault_lines (map file_view files.now) net.now fault.now) }
+    ensures listed { IsListed result (S.state sink.old) (S.state sink.new)
+        (fault_lines (map file_view files.now) net.now fault.now) }
     ensures named { IfErr result (λ e. e ≡ Memory → takes_memory fault.now ≡ true) }
 {
     match fault {
@@ -143,7 +198,8 @@ fn push_stim<S: Sink>(
     sink: &mut S,
 ) -> Result<(), ListingFault>
     requires intact { IsIntact (S.state sink.old) }
-    ensures listed { IsListed result (S.state sink.old) (S.state sink.new) (stim_line (map file_view files.now) net.now stim) }
+    ensures listed { IsListed result (S.state sink.old) (S.state sink.new)
+        (stim_line (map file_view files.now) net.now stim) }
     ensures named { IfErr result (λ e. e ≡ Memory → takes_memory (Fault.Stim stim) ≡ true) }
 {
     match stim {
@@ -169,7 +225,9 @@ fn push_race<S: Sink>(
 {
     let input = net_name(alloc, net, input)?;
     let clock = net_name(alloc, net, clock)?;
-    push_counted(sink, b"rtlsim: stim 8 Race ", time);
+    push_rule(Rule::Stim(StimRule::Race), sink);
+    push_text(sink, b" ");
+    push_number(sink, time);
     push_text(sink, b" ");
     push_text(sink, &input);
     push_text(sink, b" ");
@@ -181,56 +239,58 @@ fn push_race<S: Sink>(
 /// Writes what tells a fault whose line has no names.
 fn push_nameless<S: Sink>(files: &[SourceFile<'_>], fault: &Fault, sink: &mut S)
     requires nameless { has_names fault.now ≡ false }
-    ensures { (net : NetlistView) → Goes (S.state sink.old) (S.state sink.new) (fault_lines (map file_view files.now) net fault.now) }
+    ensures { (net : NetlistView) → Goes (S.state sink.old) (S.state sink.new)
+        (fault_lines (map file_view files.now) net fault.now) }
 {
     match fault {
-        Fault::Lex(lex) => push_notice(files, lex_notice(lex), sink),
-        Fault::Syntax(syntax) => push_notice(files, syntax_notice(syntax), sink),
-        Fault::Name(names) => push_notice(files, name_notice(names), sink),
-        Fault::Elab(elab) => push_notice(files, elab_notice(elab), sink),
-        Fault::Stim(stim) => push_notice(files, stim_notice(stim), sink),
-        Fault::Expect(expect) => push_notice(files, expect_notice(expect), sink),
-        Fault::NoSettling { time } => push_notice(files, settle_notice(*time), sink),
+        Fault::Lex(lex) => push_reported(files, lex_report(*lex), sink),
+        Fault::Syntax(syntax) => push_reported(files, syntax_report(*syntax), sink),
+        Fault::Name(name) => push_reported(files, name_report(*name), sink),
+        Fault::Elab(elab) => push_reported(files, elab_report(*elab), sink),
+        Fault::Stim(stim) => push_reported(files, stim_report(*stim), sink),
+        Fault::Expect(expect) => push_reported(files, expect_report(*expect), sink),
+        Fault::NoSettling { time } => push_reported(files, Some(settle_report(*time)), sink),
         Fault::Output => push_text(sink, b"rtlsim: output\n"),
         Fault::Memory | Fault::Rejected(_) | Fault::Differs(_) => push_memory(sink),
     }
 }
 
-/// Writes the line of a notice, or that memory was refused.
-fn push_notice<S: Sink>(files: &[SourceFile<'_>], notice: Option<Notice>, sink: &mut S)
-    ensures { Goes (S.state sink.old) (S.state sink.new) (told_line (map file_view files.now) (option_map entry_of notice)) }
+/// Writes the line of a report, or that memory was refused.
+fn push_reported<S: Sink>(files: &[SourceFile<'_>], report: Option<Report>, sink: &mut S)
+    ensures { Goes (S.state sink.old) (S.state sink.new) (told_line (map file_view files.now) report) }
 {
-    match notice {
-        Some(notice) => {
-            push_noticed(files, &notice, sink);
+    match report {
+        Some(report) => {
+            push_rule(report.rule, sink);
+            push_place(files, report.place, sink);
             push_text(sink, b"\n");
         }
         None => push_memory(sink),
     }
 }
 
-/// Writes a notice.
-fn push_noticed<S: Sink>(files: &[SourceFile<'_>], notice: &Notice, sink: &mut S)
-    ensures { Goes (S.state sink.old) (S.state sink.new) (notice_text (map file_view files.now) (entry_of notice.now)) }
+/// Writes which rule is broken.
+fn push_rule<S: Sink>(rule: Rule, sink: &mut S)
+    ensures { Goes (S.state sink.old) (S.state sink.new) (rule_text rule) }
 {
+    let words = rule.words();
     push_text(sink, b"rtlsim: ");
-    push_text(sink, notice.layer.as_bytes());
+    push_text(sink, words.layer.as_bytes());
     push_text(sink, b" ");
-    push_number(sink, u64::from(notice.number));
+    push_number(sink, u64::from(words.number));
     push_text(sink, b" ");
-    push_text(sink, notice.name.as_bytes());
-    push_place(files, notice.place, sink);
+    push_text(sink, words.name.as_bytes());
 }
 
 /// Writes where a fault is found.
-fn push_place<S: Sink>(files: &[SourceFile<'_>], place: FaultPlace, sink: &mut S)
+fn push_place<S: Sink>(files: &[SourceFile<'_>], place: Place, sink: &mut S)
     ensures { Goes (S.state sink.old) (S.state sink.new) (place_text (map file_view files.now) place) }
 {
     match place {
-        FaultPlace::Nowhere => {}
-        FaultPlace::Byte(at) => push_byte(files, at, sink),
-        FaultPlace::Line(line) => push_counted(sink, b" line ", line as u64),
-        FaultPlace::Time(time) => push_counted(sink, b" ", time),
+        Place::Byte(at) => push_byte(files, at, sink),
+        Place::Line(line) => push_counted(sink, b" line ", line as u64),
+        Place::Time(time) => push_counted(sink, b" ", time),
+        _ => {}
     }
 }
 

@@ -1,3 +1,3 @@
 pub mod Told
 pub mod Placed
-pub mod Names
+pub mod Cuts

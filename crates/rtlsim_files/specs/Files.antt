@@ -32,6 +32,13 @@ spot file at = record { file = file; at = at }
 abbrev pub spot_view : FilePlace → Spot
 spot_view place = spot (file_view place.file) place.at
 
+-- what stands in the file before the byte, and what stands from it on
+abbrev pub before : Spot → List ℕ
+before s = take s.at s.file.text
+
+abbrev pub after : Spot → List ℕ
+after s = drop s.at s.file.text
+
 -- the file without name and bytes
 abbrev pub no_file : FileView
 no_file = record { name = []; text = [] }

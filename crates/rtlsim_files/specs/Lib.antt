@@ -1,5 +1,4 @@
 -- A source of several files.
 pub mod Files
 pub mod Laws
-pub mod Entities
-pub mod Telling
+pub mod Cutting

@@ -3,8 +3,7 @@
 -- nothing is printed in its place.
 use Rattle.std.specs.Prelude.{ℕ, nat_lt, if◌then◌else◌, max, List, [], ◌∷◌, ◌++◌, length, flat_map, slice_get, slice_index_or, Option, Some, None, codes, decimal}
 use Rattle.std.specs.Option.{unwrap_or}
-use Rattle.rtl_model.specs.simulation.Netlist.{Source, Driver, Idle}
-use Rattle.rtl_model.specs.simulation.Accepted.{Fault, TwoDrivers, MixedProcess, ClockNotInput, EdgeNotSensitive, ClockAsData, MissingSensitivity, Latch, Loop, StoredVariable}
+use Rattle.rtl_model.specs.simulation.Accepted.{Fault}
 use Rattle.rtl_net.specs.declared.process.Process.{Process}
 use Rattle.rtl_net.specs.declared.process.Variable.{Variable}
 use Rattle.rtl_net.specs.Nets.{NetlistView}
@@ -14,7 +13,12 @@ use Rattle.rtl_check.specs.declared.reporting.Report.{Report}
 use Rattle.rtl_check.specs.declared.checking.Verdict.{Verdict}
 use Rattle.rtl_check.specs.declared.checking.Verdict.TheVariants.{Yes, No}
 use Rattle.rtl_check.specs.Views.{fault_view}
+use Rattle.rtl_report.specs.Rules.{Text, words_of}
+use Rattle.rtl_report.specs.declared.report.Subject.{Subject}
+use Rattle.rtl_report.specs.declared.report.Subject.TheVariants.{Sources, ProcessNet, Element, Process as Process', Circle}
+use Rattle.rtl_report.specs.declared.words.Words.{Words}
 use Rattle.rtlsim_listing.specs.NetText.{lines}
+use Rattle.rtlsim_listing.specs.Reports.{report_of, circle_of}
 
 -- ---- yes
 
@@ -49,13 +53,10 @@ report_text net r =
 
 -- ---- no
 
-abbrev pub source_name : NetlistView → Source → List ℕ
-source_name net (Driver process place) = process_name net process
-source_name net (Idle value) = codes "idle"
-
--- a fault of a process at a net
-abbrev pub at_net : NetlistView → (title : List ℕ) → (process n : ℕ) → List ℕ
-at_net net title process n = title ++ process_name net process ++ codes " net " ++ net_name net n ++ codes "\n"
+-- the process whose driver a source is; an idle port by that word
+abbrev pub source_name : NetlistView → Option ℕ → List ℕ
+source_name net None = codes "idle"
+source_name net (Some process) = process_name net process
 
 -- a process of a loop
 abbrev pub member_text : NetlistView → (process : ℕ) → List ℕ
@@ -73,18 +74,25 @@ variable_of variable (Some p) = slice_get p.variables.items variable
 abbrev pub variable_name : NetlistView → (process variable place : ℕ) → List ℕ
 variable_name net process variable place = element_name place (variable_of variable (slice_get net.processes process))
 
+-- "fault 7 Latch"
+abbrev pub title_text : Words Text → List ℕ
+title_text words = words.layer.now ++ codes " " ++ decimal words.number ++ codes " " ++ words.name.now
+
+-- what the fault is told of, by its shape
+abbrev pub subject_text : NetlistView → (circle : List ℕ) → Subject → List ℕ
+subject_text net circle (Sources n first second) =
+    codes " net " ++ net_name net n ++ codes " by " ++ source_name net first ++ codes " and " ++ source_name net second
+subject_text net circle (ProcessNet process n) = codes " " ++ process_name net process ++ codes " net " ++ net_name net n
+subject_text net circle (Element process variable place) =
+    codes " " ++ process_name net process ++ codes " variable " ++ variable_name net process variable place
+subject_text net circle (Process' process) = codes " " ++ process_name net process
+subject_text net circle Circle = flat_map (member_text net) circle
+-- the checker tells of nothing else
+subject_text net circle _ = []
+
 abbrev pub line_of : NetlistView → Fault → List ℕ
-line_of net (TwoDrivers n first second) =
-    codes "fault 1 TwoDrivers net " ++ net_name net n ++ codes " by " ++ source_name net first ++ codes " and " ++ source_name net second ++ codes "\n"
-line_of net (MixedProcess process) = codes "fault 2 Mixed " ++ process_name net process ++ codes "\n"
-line_of net (ClockNotInput process n) = at_net net (codes "fault 3 ClockNotInput ") process n
-line_of net (EdgeNotSensitive process n) = at_net net (codes "fault 4 EdgeNotSensitive ") process n
-line_of net (ClockAsData process n) = at_net net (codes "fault 5 ClockAsData ") process n
-line_of net (MissingSensitivity process n) = at_net net (codes "fault 6 MissingSensitivity ") process n
-line_of net (Latch process n) = at_net net (codes "fault 7 Latch ") process n
-line_of net (Loop processes) = codes "fault 8 Loop" ++ flat_map (member_text net) processes ++ codes "\n"
-line_of net (StoredVariable process variable place) =
-    codes "fault 9 StoredVariable " ++ process_name net process ++ codes " variable " ++ variable_name net process variable place ++ codes "\n"
+line_of net fault =
+    title_text (words_of (report_of fault).rule) ++ subject_text net (circle_of fault) (report_of fault).subject ++ codes "\n"
 
 abbrev pub fault_line : NetlistView → CheckFault → List ℕ
 fault_line net fault = line_of net (fault_view fault)

@@ -12,10 +12,16 @@ mod levels;
 mod names;
 mod nets;
 mod rejection;
+mod report;
 mod sources;
+mod texts;
+mod variables;
 
 pub use checking::{show_check, show_dot, show_faults};
 pub use fault::ListingFault;
 pub use names::{net_name, process_name, source_name};
 pub use nets::show_net;
+pub use report::{circle_of, report_of};
 pub use rtl_sink::{Out, Sink, WriteFailed};
+pub use texts::{push_decimal, push_title};
+pub use variables::element_of;

@@ -1,11 +1,10 @@
 //! Names of what a verdict speaks of.
 
 ghost use Rattle.std.specs.Prelude.{◌≡◌, IfOk};
-ghost use Rattle.rtl_net.specs.Nets.{source_view};
 ghost use Rattle.rtl_net.specs.Names as spec;
 ghost use Rattle.rtlsim_listing.specs.CheckText as text;
 
-use rtl_net::{Net, NoMemory, Source};
+use rtl_net::{Net, NoMemory};
 use std::alloc::Global;
 
 /// The name of a net, empty where there is no net of this number. It takes the memory of the name.
@@ -28,12 +27,12 @@ pub fn process_name(alloc: Global, net: &Net, number: usize) -> Result<Vec<u8>, 
     Ok(Vec::new(alloc))
 }
 
-/// The name of the process whose driver a source is, or `idle`.
-pub fn source_name(alloc: Global, net: &Net, source: Source) -> Result<Vec<u8>, NoMemory>
-    ensures { IfOk result (λ name. name.items ≡ text.source_name net.now (source_view source)) }
+/// The name of the process whose driver a source is, or `idle` of a port's without one.
+pub fn source_name(alloc: Global, net: &Net, process: Option<usize>) -> Result<Vec<u8>, NoMemory>
+    ensures { IfOk result (λ name. name.items ≡ text.source_name net.now process) }
 {
-    match source {
-        Source::Driven { process, .. } => process_name(alloc, net, process),
-        Source::Idle { .. } => Vec::from_slice(alloc, b"idle"),
+    match process {
+        Some(process) => process_name(alloc, net, process),
+        None => Ok(Vec::from_slice(alloc, b"idle")?),
     }
 }

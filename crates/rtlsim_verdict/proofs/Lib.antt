@@ -1,1 +1,3 @@
-mod Walking
+pub mod Walking
+pub mod Texts
+pub mod Lines

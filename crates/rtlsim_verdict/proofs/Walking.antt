@@ -1,6 +1,6 @@
 -- Lines and columns, counted on from a mark.
 use Rattle.std.proofs.Common.{◌≡◌, ℕ, suc, ◌+◌, ◌-◌, ◌*◌, ◌<◌, ◌≤◌, Bool, true, false, if◌then◌else◌, List, [], ◌∷◌, ◌++◌, length, get_or, take, drop, refl, sym, ap, subst, ◌∙◌, arith, ◌⊎◌, inl, inr}
-use Rattle.std.proofs.lemmas.Bool.{cases_lt, lt-leb}
+use Rattle.std.proofs.lemmas.Bool.{cases_lt, le-leb, lt-leb}
 use Rattle.std.proofs.lemmas.List.{length-append, length-take-le}
 use Rattle.std.proofs.Math.ListN.{get_or-append}
 use Rattle.std.proofs.Math.Seq.{take-add, get_or-append_seam}
@@ -63,6 +63,14 @@ marked_on text old new p at e counted stands each k d l = ap (λ xs. get_or xs k
         ap (λ n. get_or (old ++ p ∷ []) n d) last ∙ get_or-append_seam old p [] d ∙ stands ∙ ap (λ n. position_behind (take n text)) (counted ∙ ap (λ n. n * step) (sym last))
 
 -- ---- from file to file
+
+pub spot_last : (f : FileView) (fs : List FileView) (at : ℕ) → length fs ≡ 0 → spot f at ≡ spot_in (f ∷ fs) at
+spot_last f [] at none = refl
+spot_last f (g ∷ fs) at none = absurd (omega (arith, none))
+
+pub spot_within : (f : FileView) (fs : List FileView) (at : ℕ) → at ≤ length f.text → spot f at ≡ spot_in (f ∷ fs) at
+spot_within f [] at within = refl
+spot_within f (g ∷ fs) at within = sym (ap (λ b. if b then spot f at else spot_in (g ∷ fs) (at - length f.text - 1)) (le-leb at (length f.text) within))
 
 pub spot_next : (f : FileView) (fs : List FileView) (at left : ℕ) → 0 < length fs → length f.text < at → left ≡ at - length f.text - 1 → spot_in fs left ≡ spot_in (f ∷ fs) at
 spot_next f [] at left some past e = absurd (omega arith)

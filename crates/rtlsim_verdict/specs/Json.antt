@@ -1,116 +1,113 @@
--- The checker's verdict on a netlist as an object of JSON on one line. A fault is an object of its own: what it is, its process or
--- processes, its net or variable, and the place of its first process.
-use Rattle.std.specs.Prelude.{ℕ, List, ◌++◌, Option, Some, None, codes, decimal}
-use Rattle.rtl_check.specs.Views.{fault_view}
+-- The checker's verdict on a netlist, and the remarks on it, as an object of JSON on one line. A finding is an object of its own.
+use Rattle.std.specs.Prelude.{ℕ, Bool, true, false, if◌then◌else◌, List, [], ◌∷◌, ◌++◌, map, Option, Some, None, codes, decimal}
 use Rattle.rtl_check.specs.declared.checking.Verdict.{Verdict}
 use Rattle.rtl_check.specs.declared.checking.Verdict.TheVariants.{Yes, No}
-use Rattle.rtl_check.specs.declared.fault.CheckFault.{CheckFault}
-use Rattle.rtl_model.specs.simulation.Accepted.{Fault, TwoDrivers, MixedProcess, ClockNotInput, EdgeNotSensitive, ClockAsData, MissingSensitivity, Latch, Loop, StoredVariable}
-use Rattle.rtl_model.specs.simulation.Netlist.{Source, Driver, Idle}
-use Rattle.rtl_net.specs.Names.{net_name, process_name}
+use Rattle.rtl_net.specs.Names.{process_name}
 use Rattle.rtl_net.specs.Nets.{NetlistView}
+use Rattle.rtl_remarks.specs.Remarks.{remarks_of}
+use Rattle.rtl_report.specs.Rules.{Text, words_of}
+use Rattle.rtl_report.specs.declared.report.Subject.{Subject}
+use Rattle.rtl_report.specs.declared.report.Subject.TheVariants.{Sources, ProcessNet, Element}
+use Rattle.rtl_report.specs.declared.words.Words.{Words}
 use Rattle.rtlsim_explain.specs.Places.{position_behind}
 use Rattle.rtlsim_explain.specs.declared.place.Position.{Position}
-use Rattle.rtlsim_explain_check.specs.Placed.{before, place_of}
-use Rattle.rtlsim_files.specs.Files.{FileView, Spot, spot_in}
-use Rattle.rtlsim_verdict.specs.Values.{array_text, string_text}
-use Rattle.rtlsim_listing.specs.CheckText.{greatest_level, variable_name}
+use Rattle.rtlsim_files.specs.Files.{FileView, Spot, before, spot_in}
+use Rattle.rtlsim_findings.specs.Causes.{at_process}
+use Rattle.rtlsim_findings.specs.Findings.{FindingView, findings}
+use Rattle.rtlsim_findings.specs.Remarked as remarked
+use Rattle.rtlsim_findings.specs.Sayings.{message, note_at, note_text, processes, ranges_of}
+use Rattle.rtlsim_listing.specs.CheckText.{greatest_level}
+use Rattle.rtlsim_listing.specs.Reports.{report_of}
+use Rattle.rtlsim_verdict.specs.Explained.{words_for}
+use Rattle.rtlsim_verdict.specs.Values.{array_text, items_text, string_text}
 
--- ---- faults
-
--- the number and the name by which `check` tells the fault
-abbrev pub title : Fault → List ℕ
-title (TwoDrivers n first second) = codes "{\"number\":1,\"name\":\"TwoDrivers\""
-title (MixedProcess process) = codes "{\"number\":2,\"name\":\"Mixed\""
-title (ClockNotInput process n) = codes "{\"number\":3,\"name\":\"ClockNotInput\""
-title (EdgeNotSensitive process n) = codes "{\"number\":4,\"name\":\"EdgeNotSensitive\""
-title (ClockAsData process n) = codes "{\"number\":5,\"name\":\"ClockAsData\""
-title (MissingSensitivity process n) = codes "{\"number\":6,\"name\":\"MissingSensitivity\""
-title (Latch process n) = codes "{\"number\":7,\"name\":\"Latch\""
-title (Loop processes) = codes "{\"number\":8,\"name\":\"Loop\""
-title (StoredVariable process variable place) = codes "{\"number\":9,\"name\":\"StoredVariable\""
-
-abbrev pub process_text : NetlistView → (process : ℕ) → List ℕ
-process_text net process = string_text (process_name net process)
-
--- the process that drives; an idle port has none
-abbrev pub source_text : NetlistView → Source → List ℕ
-source_text net (Driver process place) = process_text net process
-source_text net (Idle value) = codes "null"
-
-abbrev pub one_process : NetlistView → (process : ℕ) → List ℕ
-one_process net process = codes ",\"process\":" ++ process_text net process
-
-abbrev pub both_sources : NetlistView → (first second : Source) → List ℕ
-both_sources net first second = codes ",\"processes\":[" ++ source_text net first ++ codes "," ++ source_text net second ++ codes "]"
-
-abbrev pub members : NetlistView → (processes : List ℕ) → List ℕ
-members net processes = codes ",\"processes\":" ++ array_text (process_text net) processes
-
--- the process that it is told of; or the processes of two drivers, or of a loop
-abbrev pub culprits : NetlistView → Fault → List ℕ
-culprits net (TwoDrivers n first second) = both_sources net first second
-culprits net (MixedProcess process) = one_process net process
-culprits net (ClockNotInput process n) = one_process net process
-culprits net (EdgeNotSensitive process n) = one_process net process
-culprits net (ClockAsData process n) = one_process net process
-culprits net (MissingSensitivity process n) = one_process net process
-culprits net (Latch process n) = one_process net process
-culprits net (Loop processes) = members net processes
-culprits net (StoredVariable process variable place) = one_process net process
-
-abbrev pub no_net : List ℕ
-no_net = codes ",\"net\":null"
-
-abbrev pub at_net : NetlistView → (n : ℕ) → List ℕ
-at_net net n = codes ",\"net\":" ++ string_text (net_name net n)
-
-abbrev pub at_variable : NetlistView → (process variable place : ℕ) → List ℕ
-at_variable net process variable place = codes ",\"net\":null,\"variable\":" ++ string_text (variable_name net process variable place)
-
--- the net that it is told of, or the element of a variable
-abbrev pub subject : NetlistView → Fault → List ℕ
-subject net (TwoDrivers n first second) = at_net net n
-subject net (MixedProcess process) = no_net
-subject net (ClockNotInput process n) = at_net net n
-subject net (EdgeNotSensitive process n) = at_net net n
-subject net (ClockAsData process n) = at_net net n
-subject net (MissingSensitivity process n) = at_net net n
-subject net (Latch process n) = at_net net n
-subject net (Loop processes) = no_net
-subject net (StoredVariable process variable place) = at_variable net process variable place
+-- ---- places
 
 abbrev pub position_text : Position → List ℕ
 position_text p = codes ",\"line\":" ++ decimal p.line ++ codes ",\"column\":" ++ decimal p.column
 
--- a byte of a file, as editors count lines and columns
-abbrev pub spot_text : Spot → List ℕ
-spot_text spot = codes ",\"file\":" ++ string_text spot.file.name ++ position_text (position_behind (before spot))
+-- a byte of a file, as editors count lines and columns, and the note that stands there
+unfoldable pub spot_text : Spot → (note : List ℕ) → List ℕ
+spot_text spot note =
+    codes "{\"file\":" ++ string_text spot.file.name ++ position_text (position_behind (before spot)) ++ codes ",\"note\":" ++ note ++ codes "}"
 
-abbrev pub place_text : List FileView → Option ℕ → List ℕ
-place_text files None = codes ",\"file\":null,\"line\":null,\"column\":null"
-place_text files (Some at) = spot_text (spot_in files at)
+abbrev pub placed : List FileView → (at : Option ℕ) → (note : List ℕ) → List (List ℕ)
+placed files None note = []
+placed files (Some at) note = spot_text (spot_in files at) note ∷ []
 
--- a fault, with the text of its place
-abbrev pub fault_at : NetlistView → (place : List ℕ) → Fault → List ℕ
-fault_at net place fault = title fault ++ culprits net fault ++ subject net fault ++ place ++ codes "}"
+abbrev pub itself : List ℕ → List ℕ
+itself text = text
 
-abbrev pub fault_text : List FileView → NetlistView → Fault → List ℕ
-fault_text files net fault = fault_at net (place_text files (place_of net fault)) fault
+-- ---- faults
 
-abbrev pub found_text : List FileView → NetlistView → CheckFault → List ℕ
-found_text files net fault = fault_text files net (fault_view fault)
+-- the name of a process; an idle port has none
+abbrev pub process_text : NetlistView → Option ℕ → List ℕ
+process_text net None = codes "null"
+process_text net (Some process) = string_text (process_name net process)
+
+abbrev pub is_net : Subject → Bool
+is_net (Sources n first second) = true
+is_net (ProcessNet process n) = true
+is_net _ = false
+
+abbrev pub is_variable : Subject → Bool
+is_variable (Element process variable place) = true
+is_variable _ = false
+
+abbrev pub names_if : (told : Bool) → NetlistView → FindingView → List ℕ
+names_if told net f = array_text string_text (if told then ranges_of net f else [])
+
+-- the place of the first process, and that of the note
+abbrev pub places_of : List FileView → NetlistView → FindingView → List (List ℕ)
+places_of files net f = placed files f.cause.first (codes "null") ++ placed files (note_at net f) (string_text (note_text net f))
+
+unfoldable pub title_text : Words Text → List ℕ
+title_text words =
+    codes "{\"layer\":" ++ string_text words.layer.now ++ codes ",\"number\":" ++ decimal words.number ++ codes ",\"name\":" ++ string_text words.name.now
+
+unfoldable pub said_text : NetlistView → FindingView → List ℕ
+said_text net f = codes ",\"message\":" ++ string_text (message net f) ++ codes ",\"help\":" ++ string_text (words_for f).help.now
+
+unfoldable pub named_text : NetlistView → FindingView → List ℕ
+named_text net f =
+    codes ",\"processes\":" ++ array_text (process_text net) (processes f)
+    ++ codes ",\"nets\":" ++ names_if (is_net (report_of f.first).subject) net f
+    ++ codes ",\"variables\":" ++ names_if (is_variable (report_of f.first).subject) net f
+
+unfoldable pub places_text : List (List ℕ) → List ℕ
+places_text places = codes ",\"places\":" ++ array_text itself places ++ codes "}"
+
+unfoldable pub finding_text : List FileView → NetlistView → FindingView → List ℕ
+finding_text files net f = title_text (words_for f) ++ said_text net f ++ named_text net f ++ places_text (places_of files net f)
+
+-- ---- remarks
+
+unfoldable pub remark_text : List FileView → NetlistView → remarked.RemarkView → List ℕ
+remark_text files net f =
+    codes "{\"name\":" ++ string_text (words_of (remarked.report_of f.remark).rule).name.now
+    ++ codes ",\"message\":" ++ string_text (remarked.message net f)
+    ++ codes ",\"process\":" ++ process_text net (remarked.process_of f.remark)
+    ++ codes ",\"nets\":[" ++ string_text f.nets ++ codes "]"
+    ++ places_text (placed files (at_process net (remarked.process_of f.remark)) (codes "null"))
 
 -- ---- verdicts
 
 -- the greatest level, and the bound on the delta cycles of a moment
 abbrev pub yes_text : (levels bound : ℕ) → List ℕ
-yes_text levels bound = codes "{\"verdict\":\"yes\",\"levels\":" ++ decimal levels ++ codes ",\"bound\":" ++ decimal bound ++ codes ",\"faults\":[]}\n"
+yes_text levels bound = codes "{\"version\":2,\"verdict\":\"yes\",\"levels\":" ++ decimal levels ++ codes ",\"bound\":" ++ decimal bound
 
-abbrev pub no_text : List FileView → NetlistView → List CheckFault → List ℕ
-no_text files net faults =
-    codes "{\"verdict\":\"no\",\"levels\":null,\"bound\":null,\"faults\":" ++ array_text (found_text files net) faults ++ codes "}\n"
+abbrev pub verdict_text : Verdict → List ℕ
+verdict_text (Yes report) = yes_text (greatest_level report.levels.items) report.bound
+verdict_text (No faults) = codes "{\"version\":2,\"verdict\":\"no\",\"levels\":null,\"bound\":null"
+
+abbrev pub found : NetlistView → Verdict → List FindingView
+found net (Yes report) = []
+found net (No faults) = findings net faults.items
+
+abbrev pub end_text : List FileView → NetlistView → List ℕ
+end_text files net =
+    codes ",\"remarks\":" ++ array_text itself (map (remark_text files net) (remarked.found net (remarks_of net))) ++ codes "}\n"
 
 abbrev pub json_text : List FileView → NetlistView → Verdict → List ℕ
-json_text files net (Yes report) = yes_text (greatest_level report.levels.items) report.bound
-json_text files net (No faults) = no_text files net faults.items
+json_text files net verdict =
+    verdict_text verdict ++ codes ",\"faults\":[" ++ items_text (finding_text files net) (found net verdict) ++ codes "]" ++ end_text files net

@@ -1,4 +1,6 @@
--- Verdicts as JSON. In order of reading:
+-- Verdicts as paragraphs and as JSON. In order of reading:
+pub mod Placed
+pub mod Explained
 pub mod Values
 pub mod Json
 pub mod RemarkText

@@ -1,9 +1,10 @@
 -- Marks in a file's text, from which a place is found without a walk over all that stands before it.
-use Rattle.std.specs.Prelude.{◌≡◌, ℕ, ◌+◌, ◌*◌, ◌<◌, List, length, map, take, All, slice_index_or}
+use Rattle.std.specs.Prelude.{◌≡◌, ℕ, ◌*◌, ◌<◌, List, length, map, take, All, slice_index_or}
 use Rattle.rtlsim_explain.specs.Places.{position_behind}
 use Rattle.rtlsim_explain.specs.declared.place.Position.{Position}
-use Rattle.rtlsim_files.specs.Files.{FileView, file_view}
+use Rattle.rtlsim_files.specs.Files.{FileView, before, file_view, spot_view}
 use Rattle.rtlsim_verdict.specs.declared.places.MarkedFile.{MarkedFile}
+use Rattle.rtlsim_verdict.specs.declared.places.PlacedByte.{PlacedByte}
 
 -- so many bytes stand between two marks
 abbrev pub step : ℕ
@@ -24,3 +25,7 @@ IsMarked m = AreMarks m.file.text.now m.marks.items
 pub record AreMarked (files : List FileView) (marked : List MarkedFile) : Type 0 where
   pub are : map view marked ≡ files
   pub marks : All IsMarked marked
+
+-- it stands there
+abbrev pub Stands : PlacedByte → Type 0
+Stands p = p.position ≡ position_behind (before (spot_view p.byte))

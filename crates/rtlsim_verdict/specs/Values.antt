@@ -17,7 +17,7 @@ byte_text byte =
     if byte == 34 then codes "\\\""
     else (if byte == 92 then codes "\\\\" else (if nat_lt byte 32 then control_text byte else byte ∷ []))
 
-abbrev pub string_text : (bytes : List ℕ) → List ℕ
+unfoldable pub string_text : (bytes : List ℕ) → List ℕ
 string_text bytes = codes "\"" ++ flat_map byte_text bytes ++ codes "\""
 
 -- ---- arrays
@@ -30,5 +30,5 @@ abbrev pub items_text : {A : Type 0} → (text : A → List ℕ) → List A → 
 items_text text [] = []
 items_text text (item ∷ items) = text item ++ flat_map (next_text text) items
 
-abbrev pub array_text : {A : Type 0} → (text : A → List ℕ) → List A → List ℕ
+unfoldable pub array_text : {A : Type 0} → (text : A → List ℕ) → List A → List ℕ
 array_text text items = codes "[" ++ items_text text items ++ codes "]"

@@ -1,19 +1,20 @@
-//! What `check` tells of a netlist beside the lines of its verdict: the verdict as an object of JSON, for programs, and the lines of
-//! remarks, as `check --explain` prints them.
+//! What `check` tells of a netlist beside the lines of its verdict: a paragraph for each finding of a rejection, remarks in lines, and
+//! all of it as an object of JSON, for programs.
 //!
-//! `specs/Json.antt` says what is written of the verdict, and `specs/Values.antt` how strings and arrays are; `specs/RemarkText.antt`
-//! what is written of remarks. Which remarks there are is defined by rtl_remarks.
+//! `specs/Explained.antt` says what is written of a rejection, `specs/RemarkText.antt` what of remarks, and `specs/Json.antt` the object;
+//! `specs/Placed.antt` and `specs/Values.antt` how places, strings and arrays are written. Which findings there are is defined by
+//! rtlsim_findings.
 #![tactic(auto)]
 
-mod lines;
-mod naming;
+mod object;
+mod paragraph;
 mod places;
-mod placing;
-mod said;
+mod rejection;
 mod showing;
+mod shown;
 mod values;
-mod variables;
 mod verdict;
 
+pub use rejection::explain_rejection;
 pub use showing::show_remarks;
 pub use verdict::show_check_json;

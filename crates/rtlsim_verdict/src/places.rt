@@ -1,16 +1,17 @@
 //! Places in files, found without a walk over the whole file for each.
 
-ghost use Rattle.std.specs.Prelude.{◌≡◌, ◌+◌, ◌<◌, ◌^◌, All, length, map, take, IfOk};
+ghost use Rattle.std.specs.Prelude.{◌≡◌, ◌++◌, ◌+◌, ◌<◌, ◌^◌, All, length, map, take, IfOk, OnOk};
+ghost use Rattle.rtlsim_explain.specs.Explained as said;
 ghost use Rattle.rtlsim_explain.specs.Places as spec;
-ghost use Rattle.rtlsim_explain_check.specs.Placed as placed;
 ghost use Rattle.rtlsim_files.specs.Files as spots;
 ghost use Rattle.rtlsim_files.specs.Files.{file_view};
-ghost use Rattle.rtlsim_verdict.specs.Marks.{AreMarks, AreMarked, IsMarked, view};
+ghost use Rattle.rtlsim_verdict.specs.Marks.{AreMarks, AreMarked, IsMarked, Stands, view};
+ghost use Rattle.rtlsim_verdict.specs.Placed as placed;
 
 use rtl_net::NoMemory;
-use rtlsim_explain::Position;
-use rtlsim_explain_check::push_position;
-use rtlsim_files::SourceFile;
+use rtlsim_explain::{Position, line_after};
+use rtlsim_files::{FilePlace, SourceFile};
+use rtlsim_listing::push_decimal;
 use std::alloc::Global;
 
 /// So many bytes stand between two marks.
@@ -86,47 +87,125 @@ fn position_at(file: &MarkedFile<'_>, at: usize) -> Position
     position_from(file.marks[mark], &text[mark * STEP..at])
 }
 
-/// A byte of a file as editors read it.
-fn text_in(alloc: Global, file: &MarkedFile<'_>, at: usize) -> Result<Vec<u8>, NoMemory>
-    requires marked { IsMarked file.now }
-    ensures { IfOk result (λ text. text.items ≡ placed.spot_text (spots.spot (view file.now) at)) }
-{
-    let mut text = Vec::from_slice(alloc, file.file.name)?;
-    push_position(position_at(file, at), &mut text)?;
-    Ok(text)
+/// A byte of a file, and where it stands.
+#[derive(Clone, Copy)]
+pub(crate) struct PlacedByte<'a> {
+    pub byte: FilePlace<'a>,
+    pub position: Position,
 }
 
-/// A byte of the files' joined text as editors read it.
-fn spot_text(alloc: Global, files: &[MarkedFile<'_>], at: usize) -> Result<Vec<u8>, NoMemory>
+/// A byte of a file, with where it stands.
+fn placed_in<'a>(file: &MarkedFile<'a>, at: usize) -> PlacedByte<'a>
+    requires marked { IsMarked file.now }
+    ensures is { spots.spot_view result.byte ≡ spots.spot (view file.now) at }
+    ensures stands { Stands result }
+{
+    PlacedByte {
+        byte: FilePlace {
+            file: file.file,
+            at,
+        },
+        position: position_at(file, at),
+    }
+}
+
+/// A byte of the files' joined text.
+pub(crate) fn place_at<'a>(files: &[MarkedFile<'a>], at: usize) -> PlacedByte<'a>
     requires marked { All IsMarked files.now }
-    ensures { IfOk result (λ text. text.items ≡ placed.spot_text (spots.spot_in (map view files.now) at)) }
+    ensures is { spots.spot_view result.byte ≡ spots.spot_in (map view files.now) at }
+    ensures stands { Stands result }
 {
     let mut at = at;
     for number in 0..files.len() {
         let file = &files[number];
         let length = file.file.text.len();
         if number + 1 == files.len() || at <= length {
-            return text_in(alloc, file, at);
+            return placed_in(file, at);
         }
         at -= length + 1;
     }
-    let mut text = Vec::new(alloc);
-    push_position(Position { line: 1, column: 1 }, &mut text)?;
-    Ok(text)
+    PlacedByte {
+        byte: FilePlace {
+            file: SourceFile {
+                name: &[],
+                text: &[],
+            },
+            at,
+        },
+        position: Position { line: 1, column: 1 },
+    }
 }
 
-/// A place as editors read it; the source's name where there is none.
-pub(crate) fn place_text(
-    alloc: Global,
-    files: &[SourceFile<'_>],
-    marked: &[MarkedFile<'_>],
+/// What stands in its line before a byte of the files' joined text, and what stands there from it on.
+pub(crate) fn halves_at<'a>(files: &[MarkedFile<'a>], at: usize) -> (&'a [u8], &'a [u8])
+    requires marked { All IsMarked files.now }
+    ensures before { result.0.now ≡ spec.line_before (spots.before (spots.spot_in (map view files.now) at)) }
+    ensures after { result.1.now ≡ spec.line_after (spots.after (spots.spot_in (map view files.now) at)) }
+{
+    let place = place_at(files, at);
+    let (before, after) = place.byte.halves();
+    (ending(before, place.position), line_after(after))
+}
+
+/// What stands behind the last line feed of the bytes before a byte that stands here.
+fn ending(before: &[u8], position: Position) -> &[u8]
+    requires here { position ≡ spec.position_behind before.now }
+    ensures { result.now ≡ spec.line_before before.now }
+{
+    let width = position.column - 1;
+    let start = before.len() - width;
+    &before[start..]
+}
+
+/// Appends a place as editors read it; the source's name where there is none.
+#[tactic(auto, unfolding(crate::specs::Placed::place_text))]
+pub(crate) fn push_place(
+    files: &[MarkedFile<'_>],
     place: Option<usize>,
-) -> Result<Vec<u8>, NoMemory>
-    requires marked { AreMarked (map file_view files.now) marked.now }
-    ensures { IfOk result (λ text. text.items ≡ placed.place_text (map file_view files.now) place) }
+    text: &mut Vec<u8>,
+) -> Result<(), NoMemory>
+    requires marked { All IsMarked files.now }
+    ensures { OnOk result (text.new.items ≡ text.old.items ++ placed.place_text (map view files.now) place) }
 {
     match place {
-        Some(at) => spot_text(alloc, marked, at),
-        None => rtlsim_explain_check::place_text(alloc, files, None),
+        Some(at) => push_spot(place_at(files, at), text),
+        None => {
+            text.extend_from_slice(last_name(files))?;
+            Ok(text.extend_from_slice(b": ")?)
+        }
     }
+}
+
+/// Appends a byte of a file as editors read it.
+fn push_spot(place: PlacedByte<'_>, text: &mut Vec<u8>) -> Result<(), NoMemory>
+    requires stands { Stands place }
+    ensures { OnOk result (text.new.items ≡ text.old.items ++ placed.spot_text (spots.spot_view place.entry.byte)) }
+{
+    text.extend_from_slice(place.byte.file.name)?;
+    push_position(place.position, text)
+}
+
+/// The name by which the source as a whole is told: that of its last file.
+fn last_name<'a>(files: &[MarkedFile<'a>]) -> &'a [u8]
+    ensures { result.now ≡ spots.source_name (map view files.now) }
+{
+    let mut name: &[u8] = &[];
+    let mut left = files;
+    while let [file, others @ ..] = left {
+        name = file.file.name;
+        left = others;
+    }
+    name
+}
+
+/// Appends a line and a column, `:LINE:COLUMN: `.
+fn push_position(position: Position, text: &mut Vec<u8>) -> Result<(), NoMemory>
+    ensures { OnOk result (text.new.items ≡ said.position_text text.old.items position) }
+{
+    text.extend_from_slice(b":")?;
+    push_decimal(position.line, text)?;
+    text.extend_from_slice(b":")?;
+    push_decimal(position.column, text)?;
+    text.extend_from_slice(b": ")?;
+    Ok(())
 }

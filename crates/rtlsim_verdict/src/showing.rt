@@ -1,17 +1,19 @@
 //! Remarks on a netlist, written.
 
-ghost use Rattle.std.specs.Prelude.{◌≡◌, map, IfOk};
+ghost use Rattle.std.specs.Prelude.{◌≡◌, ◌++◌, All, map, flat_map, IfOk, OnOk};
 ghost use Rattle.rtl_sink.specs.Written.{IsIntact};
 ghost use Rattle.rtlsim_files.specs.Files.{file_view};
+ghost use Rattle.rtlsim_findings.specs.Remarked.{remark_view};
 ghost use Rattle.rtlsim_listing.specs.Printing.{IsListed};
+ghost use Rattle.rtlsim_verdict.specs.Marks.{IsMarked, view};
 ghost use Rattle.rtlsim_verdict.specs.RemarkText as spec;
 
-use crate::lines::lines;
-use crate::places::mark_files;
+use crate::places::{MarkedFile, mark_files, push_place};
 use rtl_net::{Net, NoMemory};
 use rtl_remarks::remarks;
 use rtl_sink::{Sink, finish, push_text};
 use rtlsim_files::SourceFile;
+use rtlsim_findings::{RemarkFinding, at_process, remark_findings, remark_message, remark_process};
 use rtlsim_listing::ListingFault;
 use std::alloc::Global;
 
@@ -29,7 +31,8 @@ pub fn show_remarks<S: Sink>(
     out: &mut S,
 ) -> Result<(), ListingFault>
     requires intact { IsIntact (S.state out.old) }
-    ensures { IsListed result (S.state out.old) (S.state out.new) (spec.remarks_text (map file_view files.now) net.now) }
+    ensures { IsListed result (S.state out.old) (S.state out.new)
+        (spec.remarks_text (map file_view files.now) net.now) }
 {
     let text = text_of(alloc, files, net)?;
     push_text(out, &text);
@@ -42,6 +45,48 @@ fn text_of(alloc: Global, files: &[SourceFile<'_>], net: &Net) -> Result<Vec<u8>
     ensures { IfOk result (λ text. text.items ≡ spec.remarks_text (map file_view files.now) net.now) }
 {
     let remarks = remarks(alloc, net)?;
+    let found = remark_findings(alloc, net, &remarks)?;
     let marked = mark_files(alloc, files)?;
-    lines(alloc, files, &marked, net, &remarks)
+    let mut text = Vec::new(alloc);
+    push_lines(alloc, &marked, net, &found, &mut text)?;
+    Ok(text)
+}
+
+/// Appends the lines of these remarks.
+fn push_lines(
+    alloc: Global,
+    files: &[MarkedFile<'_>],
+    net: &Net,
+    found: &[RemarkFinding],
+    text: &mut Vec<u8>,
+) -> Result<(), NoMemory>
+    requires marked { All IsMarked files.now }
+    ensures { OnOk result (text.new.items
+        ≡ text.old.items ++ flat_map (spec.line (map view files.now) net.now) (map remark_view found.now)) }
+{
+    let mut left = found;
+    while let [remark, others @ ..] = left {
+        push_line(alloc, files, net, remark, text)?;
+        left = others;
+    }
+    Ok(())
+}
+
+/// Appends the line of a remark.
+fn push_line(
+    alloc: Global,
+    files: &[MarkedFile<'_>],
+    net: &Net,
+    found: &RemarkFinding,
+    text: &mut Vec<u8>,
+) -> Result<(), NoMemory>
+    requires marked { All IsMarked files.now }
+    ensures { OnOk result (text.new.items
+        ≡ text.old.items ++ spec.line (map view files.now) net.now (remark_view found.now)) }
+{
+    push_place(files, at_process(net, remark_process(found.remark)), text)?;
+    text.extend_from_slice(b"remark: ")?;
+    text.extend_from_slice(&remark_message(alloc, net, found)?)?;
+    text.extend_from_slice(b"\n")?;
+    Ok(())
 }

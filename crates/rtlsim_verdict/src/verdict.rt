@@ -1,32 +1,35 @@
 //! The object of a verdict.
 
-ghost use Rattle.std.specs.Prelude.{◌≡◌, ◌++◌, flat_map, map, IfOk, OnOk};
-ghost use Rattle.rtl_check.specs.Views.{fault_view};
+ghost use Rattle.std.specs.Prelude.{◌≡◌, All, flat_map, map, IfOk};
 ghost use Rattle.rtl_sink.specs.Written.{IsIntact};
 ghost use Rattle.rtlsim_files.specs.Files.{file_view};
-ghost use Rattle.rtlsim_verdict.specs.Json as spec;
-ghost use Rattle.rtlsim_verdict.specs.Values.{array_text, next_text};
+ghost use Rattle.rtlsim_findings.specs.Findings.{finding_view};
+ghost use Rattle.rtlsim_findings.specs.Remarked as remarked;
 ghost use Rattle.rtlsim_listing.specs.CheckText as listing;
-ghost use Rattle.rtlsim_listing.specs.Printing.{IsListed};
+ghost use Rattle.rtlsim_listing.specs.Printing.{IsListed, Prints};
+ghost use Rattle.rtlsim_verdict.specs.Json as spec;
+ghost use Rattle.rtlsim_verdict.specs.Marks.{IsMarked, view};
+ghost use Rattle.rtlsim_verdict.specs.Values.{items_text, next_text};
 
-use crate::naming::{push_culprits, push_subject, title};
-use crate::placing::{PlaceText, next_text_at, text_at};
-use crate::values::push_number;
-use rtl_check::{CheckFault, Report, Verdict};
+use crate::object::{finding_text, remark_text};
+use crate::places::{MarkedFile, mark_files};
+use crate::values::{push_number, push_texts};
+use rtl_check::Verdict;
 use rtl_net::{Net, NoMemory};
+use rtl_remarks::remarks;
 use rtl_sink::{Sink, finish, push_text};
-use rtlsim_explain_check::place_of;
 use rtlsim_files::SourceFile;
+use rtlsim_findings::{Finding, RemarkFinding, findings, remark_findings};
 use rtlsim_listing::ListingFault;
 use std::alloc::Global;
 
-/// Writes the checker's verdict on a netlist as an object of JSON on one line: `yes` with the greatest level and the bound, or `no` with
-/// an object for each fault, at the place of its first process in these files, whose texts joined are the netlist's source. It takes memory
-/// for the text.
+/// Writes the checker's verdict on a netlist and the remarks on it as an object of JSON on one line: `yes` with the greatest level and
+/// the bound, or `no` with an object for each finding, at its place in these files, whose texts joined are the netlist's source. It takes
+/// memory for the findings and the remarks, and for the text of one at a time.
 ///
 /// # Errors
 ///
-/// `Memory` where memory was refused: nothing was written. `Write` where the sink failed: what went out is a beginning of the text.
+/// `Memory` where memory was refused, and `Write` where the sink failed: what went out is a beginning of the text.
 pub fn show_check_json<S: Sink>(
     alloc: Global,
     files: &[SourceFile<'_>],
@@ -35,38 +38,68 @@ pub fn show_check_json<S: Sink>(
     out: &mut S,
 ) -> Result<(), ListingFault>
     requires intact { IsIntact (S.state out.old) }
-    ensures { IsListed result (S.state out.old) (S.state out.new) (spec.json_text (map file_view files.now) net.now verdict.now) }
+    ensures { IsListed result (S.state out.old) (S.state out.new)
+        (spec.json_text (map file_view files.now) net.now verdict.now) }
 {
-    let text = verdict_text(alloc, files, net, verdict)?;
-    push_text(out, &text);
+    push_verdict(alloc, files, net, verdict, out)?;
     finish(out)?;
     Ok(())
 }
 
-/// The whole text.
-fn verdict_text(
+/// Writes the object.
+fn push_verdict<S: Sink>(
     alloc: Global,
     files: &[SourceFile<'_>],
     net: &Net,
     verdict: &Verdict,
-) -> Result<Vec<u8>, NoMemory>
-    ensures { IfOk result (λ text. text.items ≡ spec.json_text (map file_view files.now) net.now verdict.now) }
+    out: &mut S,
+) -> Result<(), NoMemory>
+    ensures { Prints result (S.state out.old) (S.state out.new)
+        (spec.json_text (map file_view files.now) net.now verdict.now) }
+{
+    let found = found(alloc, net, verdict)?;
+    let marked = mark_files(alloc, files)?;
+    let begin = verdict_text(alloc, verdict)?;
+    let end = end_text(alloc, &marked, net)?;
+    push_text(out, &begin);
+    push_text(out, b",\"faults\":[");
+    push_findings(alloc, &marked, net, &found, out)?;
+    push_text(out, b"]");
+    push_text(out, &end);
+    Ok(())
+}
+
+/// The findings of a verdict.
+fn found<'a>(alloc: Global, net: &Net, verdict: &'a Verdict) -> Result<Vec<Finding<'a>>, NoMemory>
+    ensures { IfOk result (λ found. map finding_view found.items ≡ spec.found net.now verdict.now) }
 {
     match verdict {
-        Verdict::Yes(report) => yes_text(alloc, report),
-        Verdict::No(faults) => no_text(alloc, files, net, faults),
+        Verdict::Yes(_) => Ok(Vec::new(alloc)),
+        Verdict::No(faults) => findings(alloc, net, faults),
     }
 }
 
-/// The object of a yes.
-fn yes_text(alloc: Global, report: &Report) -> Result<Vec<u8>, NoMemory>
-    ensures { IfOk result (λ text. text.items ≡ spec.yes_text (listing.greatest_level report.now.levels.items) report.now.bound) }
+/// How the object begins.
+fn verdict_text(alloc: Global, verdict: &Verdict) -> Result<Vec<u8>, NoMemory>
+    ensures { IfOk result (λ text. text.items ≡ spec.verdict_text verdict.now) }
 {
-    let mut text = Vec::from_slice(alloc, b"{\"verdict\":\"yes\",\"levels\":")?;
-    push_number(greatest_level(&report.levels) as usize, &mut text)?;
+    match verdict {
+        Verdict::Yes(report) => yes_text(alloc, greatest_level(&report.levels), report.bound),
+        Verdict::No(_) => Ok(Vec::from_slice(
+            alloc,
+            b"{\"version\":2,\"verdict\":\"no\",\"levels\":null,\"bound\":null",
+        )?),
+    }
+}
+
+/// How the object of a yes begins.
+fn yes_text(alloc: Global, levels: u32, bound: u32) -> Result<Vec<u8>, NoMemory>
+    ensures { IfOk result (λ text. text.items ≡ spec.yes_text levels bound) }
+{
+    let mut text = Vec::from_slice(alloc, b"{\"version\":2,\"verdict\":\"yes\",\"levels\":")?;
+    push_number(levels as usize, &mut text)?;
     text.extend_from_slice(b",\"bound\":")?;
-    push_number(report.bound as usize, &mut text)?;
-    text.extend_from_slice(b",\"faults\":[]}\n")?;
+    push_number(bound as usize, &mut text)?;
     Ok(text)
 }
 
@@ -83,82 +116,76 @@ fn greatest_level(levels: &[Option<u32>]) -> u32
     greatest
 }
 
-/// The object of a no.
-fn no_text(
+/// Writes the objects of findings, with a comma between two.
+fn push_findings<W: Sink>(
     alloc: Global,
-    files: &[SourceFile<'_>],
+    files: &[MarkedFile<'_>],
     net: &Net,
-    faults: &[CheckFault],
-) -> Result<Vec<u8>, NoMemory>
-    ensures { IfOk result (λ text. text.items ≡ spec.no_text (map file_view files.now) net.now faults.now) }
+    found: &[Finding<'_>],
+    out: &mut W,
+) -> Result<(), NoMemory>
+    requires marked { All IsMarked files.now }
+    ensures { Prints result (W.state out.old) (W.state out.new)
+        (items_text (spec.finding_text (map view files.now) net.now) (map finding_view found.now)) }
 {
-    let mut text = Vec::from_slice(
-        alloc,
-        b"{\"verdict\":\"no\",\"levels\":null,\"bound\":null,\"faults\":",
-    )?;
-    push_faults(alloc, files, net, faults, &mut text)?;
+    let [first, others @ ..] = found else {
+        return Ok(());
+    };
+    let text = finding_text(alloc, files, net, first)?;
+    push_text(out, &text);
+    push_others(alloc, files, net, others, out)
+}
+
+/// Writes the objects of findings, each behind a comma.
+fn push_others<W: Sink>(
+    alloc: Global,
+    files: &[MarkedFile<'_>],
+    net: &Net,
+    found: &[Finding<'_>],
+    out: &mut W,
+) -> Result<(), NoMemory>
+    requires marked { All IsMarked files.now }
+    ensures { Prints result (W.state out.old) (W.state out.new)
+        (flat_map (next_text (spec.finding_text (map view files.now) net.now)) (map finding_view found.now)) }
+{
+    for finding in found {
+        let text = finding_text(alloc, files, net, finding)?;
+        push_text(out, b",");
+        push_text(out, &text);
+    }
+    Ok(())
+}
+
+/// How the object ends: the remarks.
+fn end_text(alloc: Global, files: &[MarkedFile<'_>], net: &Net) -> Result<Vec<u8>, NoMemory>
+    requires marked { All IsMarked files.now }
+    ensures { IfOk result (λ text. text.items ≡ spec.end_text (map view files.now) net.now) }
+{
+    let remarks = remarks(alloc, net)?;
+    let found = remark_findings(alloc, net, &remarks)?;
+    let objects = objects(alloc, files, net, &found)?;
+    let mut text = Vec::from_slice(alloc, b",\"remarks\":")?;
+    push_texts(&objects, &mut text)?;
     text.extend_from_slice(b"}\n")?;
     Ok(text)
 }
 
-/// Appends the array of all faults.
-fn push_faults(
+/// The objects of remarks.
+fn objects(
     alloc: Global,
-    files: &[SourceFile<'_>],
+    files: &[MarkedFile<'_>],
     net: &Net,
-    faults: &[CheckFault],
-    text: &mut Vec<u8>,
-) -> Result<(), NoMemory>
-    ensures { OnOk result (text.new.items ≡ text.old.items ++ array_text (spec.found_text (map file_view files.now) net.now) faults.now) }
+    found: &[RemarkFinding],
+) -> Result<Vec<Vec<u8>>, NoMemory>
+    requires marked { All IsMarked files.now }
+    ensures { IfOk result (λ texts. map (λ t. t.items) texts.items
+        ≡ map (spec.remark_text (map view files.now) net.now) (map remarked.remark_view found.now)) }
 {
-    text.extend_from_slice(b"[")?;
-    if let [first, others @ ..] = faults {
-        let place = text_at(alloc, files, place_of(net, first))?;
-        push_fault(alloc, net, &place.text, first, text)?;
-        push_others(alloc, files, net, place, others, text)?;
-    }
-    text.extend_from_slice(b"]")?;
-    Ok(())
-}
-
-/// Appends the faults behind the first, whose place's text is given.
-fn push_others(
-    alloc: Global,
-    files: &[SourceFile<'_>],
-    net: &Net,
-    first: PlaceText,
-    faults: &[CheckFault],
-    text: &mut Vec<u8>,
-) -> Result<(), NoMemory>
-    requires first { first.text.items ≡ spec.place_text (map file_view files.now) first.at }
-    ensures { OnOk result (text.new.items
-        ≡ text.old.items ++ flat_map (next_text (spec.found_text (map file_view files.now) net.now)) faults.now) }
-{
-    let mut place = first;
-    let mut left = faults;
-    while let [fault, others @ ..] = left {
-        place = next_text_at(alloc, files, place, place_of(net, fault))?;
-        text.extend_from_slice(b",")?;
-        push_fault(alloc, net, &place.text, fault, text)?;
+    let mut texts = Vec::new(alloc);
+    let mut left = found;
+    while let [remark, others @ ..] = left {
+        texts.push(remark_text(alloc, files, net, remark)?)?;
         left = others;
     }
-    Ok(())
-}
-
-/// Appends the object of a fault, with the text of its place.
-fn push_fault(
-    alloc: Global,
-    net: &Net,
-    place: &[u8],
-    fault: &CheckFault,
-    text: &mut Vec<u8>,
-) -> Result<(), NoMemory>
-    ensures { OnOk result (text.new.items ≡ text.old.items ++ spec.fault_at net.now place.now (fault_view fault.now)) }
-{
-    text.extend_from_slice(title(fault).as_bytes())?;
-    push_culprits(alloc, net, fault, text)?;
-    push_subject(alloc, net, fault, text)?;
-    text.extend_from_slice(place)?;
-    text.extend_from_slice(b"}")?;
-    Ok(())
+    Ok(texts)
 }

@@ -8,7 +8,7 @@ use Rattle.rtlsim_commands.proofs.serving.serve.Goals as goal
 
 pub returns-in-Err : goal.returns-in-Err
 returns-in-Err g c =
-    serves_refused _ _ c.args.telling.now _ _ _ _ c.in-Err.fault c.in-Err.ensures.refused c.in-Err.ensures.told refl c.refuse_source.ensures.told c.refuse_source.ensures.status
+    serves_refused _ _ c.args.telling.now _ _ _ _ c.in-Err.fault c.in-Err.ensures.refused c.in-Err.ensures.told refl c.refuse_source.ensures.0 c.refuse_source.ensures.1 c.refuse_source.ensures.2
 
 pub returns-in-Ok-answer : goal.returns-in-Ok-answer
 returns-in-Ok-answer g c =

@@ -1,7 +1,17 @@
+use Rattle.std.proofs.Common.{◌∙◌, ap}
 use Rattle.rtl_sink.proofs.Writing.{Goes-append}
+use Rattle.rtlsim_explain.specs.Places.{position_behind}
 use Rattle.rtlsim_explain.proofs.explaining.push_head.Goals as goal
 
 pub returns : goal.returns
 returns g c =
-    let position = rw c.position_behind.ensures at c.push_position.ensures in
-    Goes-append _ _ _ _ _ position c.push_title.ensures
+    let position = c.position_behind-position.ensures ∙ ap position_behind c.halves.ensures.before in
+    let line = rw position at c.push_number.ensures in
+    let column = rw position at c.push_number-2.ensures in
+    Goes-append _ _ _ _ _
+    (Goes-append _ _ _ _ _
+    (Goes-append _ _ _ _ _
+    (Goes-append _ _ _ _ _ (Goes-append _ _ _ _ _ (Goes-append _ _ _ _ _ c.push_text.ensures c.push_text-2.ensures) line) c.push_text-3.ensures)
+    column)
+    c.push_text-4.ensures)
+    c.push_title.ensures

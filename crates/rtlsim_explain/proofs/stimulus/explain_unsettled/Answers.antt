@@ -2,7 +2,4 @@ use Rattle.rtl_sink.proofs.Writing.{Goes-append}
 use Rattle.rtlsim_explain.proofs.stimulus.explain_unsettled.Goals as goal
 
 pub returns : goal.returns
-returns g c =
-    Goes-append _ _ _ _ _
-    (Goes-append _ _ _ _ _ (Goes-append _ _ _ _ _ (Goes-append _ _ _ _ _ c.push_file_head.ensures c.push_text.ensures) c.push_number.ensures) c.push_text-2.ensures)
-    c.push_help.ensures
+returns g c = Goes-append _ _ _ _ _ (Goes-append _ _ _ _ _ c.push_head.ensures c.push_time.ensures) c.push_rest.ensures

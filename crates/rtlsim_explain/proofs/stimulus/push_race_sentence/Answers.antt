@@ -3,10 +3,5 @@ use Rattle.rtlsim_explain.proofs.stimulus.push_race_sentence.Goals as goal
 
 pub returns : goal.returns
 returns g c =
-    Goes-append _ _ _ _ _
-    (Goes-append _ _ _ _ _
-    (Goes-append _ _ _ _ _
-    (Goes-append _ _ _ _ _ (Goes-append _ _ _ _ _ (Goes-append _ _ _ _ _ c.push_text.ensures c.push_number.ensures) c.push_text-2.ensures) c.push_text-3.ensures)
-    c.push_text-4.ensures)
-    c.push_text-5.ensures)
-    c.push_text-6.ensures
+    let closing = rw (c.as_bytes.ensures.value, c.words.ensures.closing) at c.push_text-2.ensures in
+    Goes-append _ _ _ _ _ (Goes-append _ _ _ _ _ (Goes-append _ _ _ _ _ c.push_time.ensures c.push_text.ensures) closing) c.push_text-3.ensures

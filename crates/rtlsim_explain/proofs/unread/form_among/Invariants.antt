@@ -3,7 +3,8 @@ use Rattle.rtlsim_explain.specs.Forms.{form_among}
 use Rattle.rtlsim_explain.proofs.unread.form_among.Given as goal
 
 abbrev pub invariant-loop-words : goal.invariant-loop-words
-invariant-loop-words l = form_among (map (λ w. (w.0.now, w.1)) l.words) l.word l.fallback ≡ form_among (map (λ w. (w.0.now, w.1)) l.initial.words) l.word l.fallback
+invariant-loop-words l = form_among (map (λ w. (w.0.now, w.1, (w.2.0.now, w.2.1.now))) l.words) l.context l.word (l.fallback.0.now, l.fallback.1.now)
+    ≡ form_among (map (λ w. (w.0.now, w.1, (w.2.0.now, w.2.1.now))) l.initial.words) l.context l.word (l.fallback.0.now, l.fallback.1.now)
 
 abbrev pub decreases-loop-words : goal.decreases-loop-words
 decreases-loop-words l = length l.words

@@ -1,5 +1,13 @@
-use Rattle.std.proofs.Common.{refl}
+use Rattle.std.proofs.Common.{ap, ◌∙◌}
+use Rattle.rtlsim_explain.specs.Forms.{Said, form_among, form_behind, slips, unexpected_form, unread}
+use Rattle.rtlsim_explain.specs.declared.unread.Context.{Context}
 use Rattle.rtlsim_explain.proofs.unread.unexpected_form.Goals as goal
 
 pub returns : goal.returns
-returns c = rw (c.form_behind.ensures, c.unread_among-form.ensures, c.last_solid-last.ensures, c.slip-slip.ensures, c.word_at.ensures, c.may_assign.ensures) refl
+unfolding unexpected_form
+returns c =
+    c.form_among.ensures
+    ∙ ap (λ (fallback : Said). form_among slips c.context_of-context.result c.args.word.now fallback) (
+    c.form_among-unread.ensures ∙ ap (λ (fallback : Said). form_among unread c.context_of-context.result c.args.word.now fallback) c.slip.ensures
+    )
+    ∙ ap (λ (context : Context). form_behind context c.args.word.now) c.context_of-context.ensures

@@ -3,7 +3,7 @@ use Rattle.std.specs.Prelude.{if◌then◌else◌, slice_index, drop, take}
 use Rattle.std.proofs.Math.Seq.{take-length}
 use Rattle.rtl_net.specs.Names.{net_name}
 use Rattle.rtl_net.specs.Nets.{NetlistView}
-use Rattle.rtlsim_explain_check.specs.Ranges.{follows, range_text}
+use Rattle.rtlsim_findings.specs.Ranges.{follows, range_text}
 use Rattle.rtlsim_faults.specs.Changing.{names_from}
 use Rattle.rtlsim_faults.proofs.Names.{on_ok_so, ends_range}
 use Rattle.rtlsim_faults.proofs.changing.+push_names.Goals as goal

@@ -21,7 +21,7 @@ returns-else-is_none-2 g t c =
     behind_one (asked_of c.args.search.now) c.args.more c.args.left.items c.in-Found.left.items c.args.fault c.in-Found.fault _ _ c.push_behind-in-Found.result c.args.steps _
     (sym c.is_none.ensures ∙ c.if-is_none.false) (as_fault _ _ _ _ c.in-Found.ensures)
     (rw (← c.deref.ensures.value) (sym c.is_known.ensures ∙ c.if-is_known.false)) (sym c.is_none-in-Found.ensures ∙ c.if-is_none-2.false)
-    c.explain_names.ensures c.push_behind-in-Found.ensures
+    (rw c.name_report.ensures at c.explain_report.ensures) c.push_behind-in-Found.ensures
 
 pub returns-in-Nothing : goal.returns-in-Nothing
 returns-in-Nothing g t c =

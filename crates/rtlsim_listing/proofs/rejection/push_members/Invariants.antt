@@ -1,9 +1,12 @@
-use Rattle.std.specs.Prelude.{flat_map, take}
-use Rattle.rtl_sink.specs.Written.{Goes}
+use Rattle.std.proofs.Common.{◌≡◌, ◌++◌, length}
+use Rattle.std.specs.Prelude.{flat_map}
 use Rattle.rtlsim_listing.specs.CheckText.{member_text}
 use Rattle.rtlsim_listing.proofs.rejection.push_members.Given as goal
 
--- the processes before this one went out
-abbrev pub invariant-loop-process : goal.invariant-loop-process
-invariant-loop-process g l =
-    Goes (g.W.Sink.state l.initial.out) (g.W.Sink.state l.out) (flat_map (member_text l.net) (take l.process-index l.processes))
+-- what was appended, and then the processes that are left, are the whole
+abbrev pub invariant-loop-left : goal.invariant-loop-left
+invariant-loop-left l =
+    l.line.items ++ flat_map (member_text l.net) l.left ≡ l.initial.line.items ++ flat_map (member_text l.net) l.processes
+
+abbrev pub decreases-loop-left : goal.decreases-loop-left
+decreases-loop-left l = length l.left

@@ -1,8 +1,8 @@
-use Rattle.std.proofs.Common.{◌≡◌, ℕ, ◌+◌, ◌-◌, ◌*◌, ◌/◌, ◌<◌, ◌≤◌, length, min, take, drop, ap, ◌∙◌, arith}
+use Rattle.std.proofs.Common.{◌≡◌, ◌+◌, ◌-◌, ◌*◌, ◌/◌, ◌<◌, ◌≤◌, length, take, drop, ap, ◌∙◌, arith}
 use Rattle.std.proofs.lemmas.List.{length-drop, length-take, take_min}
 use Rattle.std.proofs.lemmas.Nat.{div-add-mod'}
 use Rattle.rtlsim_explain.specs.Places.{position_behind}
-use Rattle.rtlsim_verdict.proofs.Walking.{on, Fits, walked, further}
+use Rattle.rtlsim_verdict.proofs.Walking.{Fits, walked, further}
 use Rattle.rtlsim_verdict.proofs.places.position_at.Goals as goal
 
 pub position_from-requires-clause-line : goal.position_from-requires-clause-line

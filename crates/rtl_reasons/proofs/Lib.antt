@@ -1,0 +1,3 @@
+mod Searches
+mod Branching
+mod Law

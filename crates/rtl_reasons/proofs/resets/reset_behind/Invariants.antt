@@ -1,0 +1,6 @@
+use Rattle.std.proofs.Common.{◌≡◌, drop}
+use Rattle.rtl_reasons.specs.Reasons.{first_in, reset_behind}
+use Rattle.rtl_reasons.proofs.resets.reset_behind.Given as goal
+
+abbrev pub invariant-loop-statement : goal.invariant-loop-statement
+invariant-loop-statement l = first_in reset_behind (drop l.statement-index l.statements) ≡ first_in reset_behind l.statements

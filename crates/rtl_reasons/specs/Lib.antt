@@ -1,0 +1,4 @@
+pub mod Edges
+pub mod Reasons
+pub mod Notes
+pub mod Laws

@@ -1,0 +1,251 @@
+//! The first reason that fits a process.
+
+ghost use Rattle.std.specs.Prelude.{◌≡◌, ◌<◌, ◌||◌, nat_lt, drop, length, is_some, option_map};
+ghost use Rattle.rtl_model.specs.bodies.Body.{no_else};
+ghost use Rattle.rtl_net.specs.Bodies.{branches_of, otherwise_of};
+ghost use Rattle.rtl_net_facts.specs.Reading.{some};
+ghost use Rattle.rtl_reasons.specs.Reasons as spec;
+
+use crate::ifs::{EdgeIf, first_edge, gated_edge, second_edge};
+use crate::reads::first_number;
+use crate::reason::Reason;
+use crate::resets::{computes, other_before, reset_behind, reset_of};
+use rtl_net::{Branch, Net, Process, Source, Statement};
+use rtl_net_facts::{ProcessKind, body_has_event, contains_rising, kind_of};
+use std::slice;
+
+/// The first process that drives a net.
+fn driven_by(net: &Net, number: usize) -> Option<usize>
+    ensures { result ≡ spec.driven_by net.now number }
+{
+    if number >= net.nets() {
+        return None;
+    }
+    match net.sources(number) {
+        [Source::Driven { process, .. }, ..] => Some(*process),
+        _ => None,
+    }
+}
+
+/// What is told of a reset that is no in port of the top.
+fn made_inside(net: &Net, at: u32, reset: usize) -> Option<Reason>
+    ensures { result ≡ spec.made_inside net.now at reset }
+{
+    net.is_elaborated();
+    let inputs = net.inputs();
+    if contains_rising(inputs, reset) {
+        return None;
+    }
+    Some(Reason::ResetMadeInside {
+        at,
+        net: reset,
+        driver: driven_by(net, reset),
+    })
+}
+
+/// What is told of the reset of an if with an edge.
+fn reset_reason(net: &Net, found: EdgeIf, branches: &[Branch]) -> Option<Reason>
+    ensures { result ≡ spec.reset_reason net.now found (spec.tests_of branches.now)
+        (spec.first_branch (branches_of no_else branches.now)) }
+{
+    let reset = reset_of(found.before, branches)?;
+    if let Some(reason) = made_inside(net, found.at, reset) {
+        return Some(reason);
+    }
+    computes(found.at, &branches[0].statements)
+}
+
+/// Whether an elsif or an else stands behind an edge.
+fn stands_behind(before: usize, branches: &[Branch], otherwise: &Option<Vec<Statement>>) -> bool
+    ensures { result ≡ (nat_lt 1 (length (drop before (spec.tests_of branches.now))) || is_some otherwise.now) }
+{
+    branches.len().saturating_sub(before) > 1 || otherwise.is_some()
+}
+
+/// What is told of an if with an edge itself, by its branches.
+fn branches_reason(
+    net: &Net,
+    found: EdgeIf,
+    branches: &[Branch],
+    otherwise: &Option<Vec<Statement>>,
+) -> Option<Reason>
+    ensures { result ≡ spec.first_that_fits (spec.own_reasons net.now found
+        (branches_of (otherwise_of (option_map (λ v. v.items) otherwise.now)) branches.now)) }
+{
+    let at = found.at;
+    if let Some(reason) = reset_reason(net, found, branches) {
+        return Some(reason);
+    }
+    if let Some(reason) = other_before(at, found.before, branches) {
+        return Some(reason);
+    }
+    if stands_behind(found.before, branches, otherwise) {
+        return Some(Reason::BehindEdge { at });
+    }
+    None
+}
+
+/// The same of a statement.
+fn own_reason(net: &Net, found: EdgeIf, statement: &Statement) -> Option<Reason>
+    ensures { result ≡ spec.own_reason net.now found statement.now }
+{
+    match statement {
+        Statement::If {
+            branches,
+            otherwise,
+            ..
+        } => branches_reason(net, found, branches, otherwise),
+        _ => None,
+    }
+}
+
+/// The first net that a statement assigns, if it is an assignment.
+fn first_assigned(process: &Process, statement: &Statement) -> Option<usize>
+    ensures { result ≡ spec.first_assigned process.now statement.now }
+{
+    match statement {
+        Statement::Assign { places, .. } => {
+            let place = first_number(places)?;
+            let driver = process.drives.get(place)?;
+            Some(driver.net)
+        }
+        _ => None,
+    }
+}
+
+/// The first net that an assignment among these assigns.
+fn first_net(process: &Process, statements: &[Statement]) -> Option<usize>
+    ensures { result ≡ spec.first_in (spec.first_assigned process.now) statements.now }
+{
+    for statement in statements {
+        if let Some(net) = first_assigned(process, statement) {
+            return Some(net);
+        }
+    }
+    None
+}
+
+/// What is told of statements beside an if with an edge.
+fn beside_edge(process: &Process, found: EdgeIf) -> Option<Reason>
+    requires { found.number < length process.now.body.items }
+    ensures { result ≡ spec.beside_edge process.now found }
+{
+    let body = process.body.as_slice();
+    if body.len() == 1 {
+        return None;
+    }
+    let net = match first_net(process, &body[..found.number]) {
+        Some(net) => Some(net),
+        None => first_net(process, &body[found.number + 1..]),
+    };
+    Some(Reason::Beside { at: found.at, net })
+}
+
+/// What is told of the first if with an edge.
+fn edge_reason(net: &Net, process: &Process, found: EdgeIf) -> Option<Reason>
+    requires { found.number < length process.now.body.items }
+    ensures { result ≡ spec.first_that_fits (spec.edge_reasons net.now process.now found) }
+{
+    let behind = &process.body[found.number + 1..];
+    if let Some(second) = first_edge(behind) {
+        return Some(second_edge(found, second));
+    }
+    if let Some(reason) = reset_behind(behind) {
+        return Some(reason);
+    }
+    if let Some(reason) = own_reason(net, found, &process.body[found.number]) {
+        return Some(reason);
+    }
+    beside_edge(process, found)
+}
+
+/// Whether an edge or `'event` stands in a branch, or in the else.
+fn has_inner(branches: &[Branch], otherwise: &Option<Vec<Statement>>) -> bool
+    ensures { result ≡ some (spec.inner_events
+        (branches_of (otherwise_of (option_map (λ v. v.items) otherwise.now)) branches.now)) }
+{
+    for branch in branches {
+        if body_has_event(&branch.statements) {
+            return true;
+        }
+    }
+    match otherwise {
+        Some(last) => body_has_event(last),
+        None => false,
+    }
+}
+
+/// What is told of a statement with an edge or `'event` in it.
+fn event_in(statement: &Statement) -> Option<Reason>
+    ensures { result ≡ spec.elsewhere statement.now }
+{
+    if !body_has_event(slice::from_ref(statement)) {
+        return None;
+    }
+    match statement {
+        Statement::If {
+            at,
+            branches,
+            otherwise,
+        } => {
+            if has_inner(branches, otherwise) {
+                return Some(Reason::EdgeInside { at: *at });
+            }
+            Some(Reason::NoEdge { at: *at })
+        }
+        Statement::Case { at, .. } => Some(Reason::EdgeInside { at: *at }),
+        _ => Some(Reason::EdgeInside { at: 0 }),
+    }
+}
+
+/// What is told of the first such statement.
+fn elsewhere(statements: &[Statement]) -> Option<Reason>
+    ensures { result ≡ spec.first_in spec.elsewhere statements.now }
+{
+    for statement in statements {
+        if let Some(reason) = event_in(statement) {
+            return Some(reason);
+        }
+    }
+    None
+}
+
+/// The first reason that fits a body.
+fn reason_of_body(net: &Net, process: &Process) -> Option<Reason>
+    ensures { result ≡ spec.reason_of_body net.now process.now }
+{
+    if let Some(reason) = gated_edge(&process.body) {
+        return Some(reason);
+    }
+    if let Some(found) = first_edge(&process.body) {
+        if let Some(reason) = edge_reason(net, process, found) {
+            return Some(reason);
+        }
+    }
+    elsewhere(&process.body)
+}
+
+/// Whether a process is neither clocked nor combinational.
+fn is_mixed(net: &Net, process: &Process) -> bool
+    ensures { result ≡ spec.is_mixed net.now process.now }
+{
+    net.is_elaborated();
+    let inputs = net.inputs();
+    match kind_of(inputs, &process.body) {
+        ProcessKind::Combinational => false,
+        ProcessKind::Clocked(_) => false,
+        ProcessKind::Mixed => true,
+    }
+}
+
+/// Why a process is neither clocked nor combinational: the first reason that fits it; `None` where it is one of these, or isn't
+/// there. It takes no memory, and time in proportion to its body.
+pub fn reason_of(net: &Net, process: usize) -> Option<Reason>
+    ensures { result ≡ spec.reason_of net.now process }
+{
+    let process = net.processes().get(process)?;
+    if !is_mixed(net, process) {
+        return None;
+    }
+    reason_of_body(net, process)
+}

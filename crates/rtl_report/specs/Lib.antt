@@ -1,0 +1,2 @@
+-- The words of rules.
+pub mod Rules

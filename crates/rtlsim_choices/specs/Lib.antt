@@ -1,3 +1,0 @@
-pub mod Choices
-pub mod Elements
-pub mod Statements

@@ -1,0 +1,4 @@
+pub mod Joining
+pub mod Lists
+pub mod Numbered
+pub mod Sentences

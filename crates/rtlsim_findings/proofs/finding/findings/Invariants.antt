@@ -1,0 +1,14 @@
+use Rattle.std.proofs.Common.{◌≡◌, [], length, map}
+use Rattle.rtlsim_findings.specs.Findings.{finding_view, found_from}
+use Rattle.rtlsim_findings.specs.steps.Walked.{AreOf}
+use Rattle.rtlsim_findings.proofs.finding.findings.Given as goal
+
+-- what is found with the faults that are left is found with all
+abbrev pub invariant-loop-left : goal.invariant-loop-left
+invariant-loop-left l = record {
+  are : AreOf l.net l.walked;
+  same : found_from l.net l.faults (map finding_view l.found.items) l.left ≡ found_from l.net l.faults [] l.faults;
+}
+
+abbrev pub decreases-loop-left : goal.decreases-loop-left
+decreases-loop-left l = length l.left

@@ -1,0 +1,66 @@
+-- What faults have in common that are told together: the rule, the lines that declare their processes, and of a latch the statement
+-- that leaves the assignment out. So a fault that each instance of an entity has is told once.
+use Rattle.std.specs.Prelude.{ℕ, ◌==◌, ◌&&◌, Bool, true, false, slice_get, Option, Some, None}
+use Rattle.rtl_model.specs.simulation.Accepted.{Fault}
+use Rattle.rtl_net.specs.Nets.{NetlistView}
+use Rattle.rtl_net.specs.declared.process.Process.{Process}
+use Rattle.rtl_report.specs.Rules.{words_of}
+use Rattle.rtl_report.specs.declared.report.Place.{Place}
+use Rattle.rtl_report.specs.declared.report.Place.TheVariants as place
+use Rattle.rtl_report.specs.declared.report.Subject.{Subject}
+use Rattle.rtl_report.specs.declared.report.Subject.TheVariants.{Sources}
+use Rattle.rtlsim_findings.specs.Omitted.{left_out, are_same}
+use Rattle.rtlsim_findings.specs.declared.cause.Cause.{Cause}
+use Rattle.rtlsim_listing.specs.Reports.{report_of}
+
+-- ---- processes
+
+-- the process at whose place it is told
+abbrev pub process_at : Place → Option ℕ
+process_at (place.Process process) = Some process
+process_at _ = None
+
+abbrev pub first_process : Fault → Option ℕ
+first_process fault = process_at (report_of fault).place
+
+abbrev pub second_of : Subject → Option ℕ
+second_of (Sources n first second) = second
+second_of _ = None
+
+-- of two drivers the process of the second
+abbrev pub second_process : Fault → Option ℕ
+second_process fault = second_of (report_of fault).subject
+
+abbrev pub is_same_number : Option ℕ → Option ℕ → Bool
+is_same_number None None = true
+is_same_number (Some a) (Some b) = a == b
+is_same_number _ _ = false
+
+-- both are told of the same processes
+abbrev pub is_of : (before fault : Fault) → Bool
+is_of before fault =
+    is_same_number (first_process before) (first_process fault) && is_same_number (second_process before) (second_process fault)
+
+-- ---- causes
+
+abbrev pub declared_at : Option Process → Option ℕ
+declared_at None = None
+declared_at (Some process) = Some process.at
+
+-- the byte of the source at which a process is declared
+abbrev pub at_process : NetlistView → Option ℕ → Option ℕ
+at_process net None = None
+at_process net (Some process) = declared_at (slice_get net.processes process)
+
+abbrev pub cause_of : NetlistView → Fault → Cause
+cause_of net fault = record {
+  number = (words_of (report_of fault).rule).number;
+  first = at_process net (first_process fault);
+  second = at_process net (second_process fault);
+  omission = left_out net fault;
+}
+
+abbrev pub is_same : (before cause : Cause) → Bool
+is_same before cause =
+    before.number == cause.number && is_same_number before.first cause.first && is_same_number before.second cause.second
+    && are_same before.omission cause.omission

@@ -1,0 +1,54 @@
+-- The findings of a rejection: each fault joins the first finding of its cause, or begins one. A clock that is read as data is left out
+-- where it is told that it is no clock that may be.
+use Rattle.std.specs.Prelude.{ℕ, ◌==◌, ◌||◌, Bool, false, if◌then◌else◌, List, [], ◌∷◌, ◌++◌, map}
+use Rattle.rtl_check.specs.Views.{fault_view}
+use Rattle.rtl_check.specs.declared.fault.CheckFault.{CheckFault}
+use Rattle.rtl_model.specs.simulation.Accepted.{Fault, ClockNotInput, ClockAsData}
+use Rattle.rtl_net.specs.Nets.{NetlistView}
+use Rattle.rtlsim_findings.specs.Causes.{cause_of, is_same}
+use Rattle.rtlsim_findings.specs.declared.cause.Cause.{Cause}
+use Rattle.rtlsim_findings.specs.declared.finding.Finding.{Finding}
+
+-- the faults of one cause, in order
+pub record FindingView : Type 0 where
+  pub cause : Cause
+  pub first : Fault
+  pub others : List Fault
+
+abbrev pub finding_view : Finding → FindingView
+finding_view f = record { cause = f.cause; first = fault_view f.first.now; others = map (λ o. fault_view o.now) f.others.items }
+
+abbrev pub begun : NetlistView → Fault → FindingView
+begun net fault = record { cause = cause_of net fault; first = fault; others = [] }
+
+abbrev pub with_other : FindingView → Fault → FindingView
+with_other f fault = record { cause = f.cause; first = f.first; others = f.others ++ fault ∷ [] }
+
+abbrev pub joined : NetlistView → List FindingView → Fault → List FindingView
+joined net [] fault = begun net fault ∷ []
+joined net (f ∷ found) fault =
+    if is_same f.cause (cause_of net fault) then with_other f fault ∷ found else f ∷ joined net found fault
+
+abbrev pub is_gated : (n : ℕ) → Fault → Bool
+is_gated n (ClockNotInput process m) = m == n
+is_gated n _ = false
+
+abbrev pub any_gated : (n : ℕ) → List CheckFault → Bool
+any_gated n [] = false
+any_gated n (fault ∷ faults) = is_gated n (fault_view fault) || any_gated n faults
+
+abbrev pub is_left_out : (all : List CheckFault) → Fault → Bool
+is_left_out all (ClockAsData process n) = any_gated n all
+is_left_out all _ = false
+
+-- what is found once this fault is taken
+abbrev pub taken : NetlistView → (all : List CheckFault) → List FindingView → CheckFault → List FindingView
+taken net all found fault = if is_left_out all (fault_view fault) then found else joined net found (fault_view fault)
+
+-- what is found once these faults are taken behind what was found before
+abbrev pub found_from : NetlistView → (all : List CheckFault) → List FindingView → List CheckFault → List FindingView
+found_from net all found [] = found
+found_from net all found (fault ∷ faults) = found_from net all (taken net all found fault) faults
+
+abbrev pub findings : NetlistView → List CheckFault → List FindingView
+findings net faults = found_from net faults [] faults

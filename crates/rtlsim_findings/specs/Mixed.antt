@@ -1,0 +1,23 @@
+-- Why the process of a fault is neither clocked nor combinational, and what is said of it.
+use Rattle.std.specs.Prelude.{ℕ, List, [], ◌++◌, Option, Some, None}
+use Rattle.rtl_model.specs.simulation.Accepted.{Fault, MixedProcess}
+use Rattle.rtl_net.specs.Names.{process_name}
+use Rattle.rtl_net.specs.Nets.{NetlistView}
+use Rattle.rtl_reasons.specs.Notes.{note_of, net_of, driver_of}
+use Rattle.rtl_reasons.specs.Reasons.{reason_of}
+use Rattle.rtl_reasons.specs.declared.reason.Reason.{Reason}
+use Rattle.rtlsim_findings.specs.Circles.{name_of_net}
+
+abbrev pub why : NetlistView → Fault → Option Reason
+why net (MixedProcess process) = reason_of net process
+why net _ = None
+
+abbrev pub name_of_process : NetlistView → Option ℕ → List ℕ
+name_of_process net None = []
+name_of_process net (Some process) = process_name net process
+
+-- with the net and the process that it names, where it names one
+abbrev pub reason_text : NetlistView → Reason → List ℕ
+reason_text net reason =
+    (note_of reason).opening.now ++ name_of_net net (net_of reason) ++ (note_of reason).middle.now
+    ++ name_of_process net (driver_of reason) ++ (note_of reason).closing.now

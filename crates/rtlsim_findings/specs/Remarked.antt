@@ -1,0 +1,80 @@
+-- What is told of remarks, as data: one of them tells elements of a vector that stand side by side and of which the same is said.
+use Rattle.std.specs.Prelude.{ℕ, ◌==◌, ◌&&◌, Bool, if◌then◌else◌, List, [], ◌∷◌, ◌++◌, Option, Some, None}
+use Rattle.rtl_net.specs.Nets.{NetlistView}
+use Rattle.rtl_remarks.specs.declared.remark.Remark.{Remark}
+use Rattle.rtl_remarks.specs.declared.remark.Remark.TheVariants as r
+use Rattle.rtl_report.specs.Rules.{words_of}
+use Rattle.rtl_report.specs.declared.remarking.RemarkRule.{RemarkRule}
+use Rattle.rtl_report.specs.declared.remarking.RemarkRule.TheVariants as rule
+use Rattle.rtl_report.specs.declared.report.Place.TheVariants as place
+use Rattle.rtl_report.specs.declared.report.Report.{Report}
+use Rattle.rtl_report.specs.declared.report.Rule.TheVariants.{Remark as Remark'}
+use Rattle.rtl_report.specs.declared.report.Subject.TheVariants as subject
+use Rattle.rtlsim_findings.specs.Causes.{process_at, is_same_number}
+use Rattle.rtlsim_findings.specs.Mixed.{name_of_process}
+use Rattle.rtlsim_findings.specs.Ranges.{follows, range_text}
+use Rattle.rtlsim_findings.specs.Sayings.{name_of, sentence}
+use Rattle.rtlsim_findings.specs.declared.remarked.RemarkFinding.{RemarkFinding}
+
+abbrev pub at_process : RemarkRule → (process net : ℕ) → Report
+at_process kind process net = record { rule = Remark' kind; place = place.Process process; subject = subject.ProcessNet process net }
+
+abbrev pub at_net : RemarkRule → (net : ℕ) → Report
+at_net kind net = record { rule = Remark' kind; place = place.Nowhere; subject = subject.Net net }
+
+abbrev pub report_of : Remark → Report
+report_of (r.Undriven process net) = at_process rule.Undriven process net
+report_of (r.Unassigned net) = at_net rule.Unassigned net
+report_of (r.IdlePort net) = at_net rule.IdlePort net
+report_of (r.NotReset process net) = at_process rule.NotReset process net
+report_of (r.ClockRead process net) = at_process rule.ClockRead process net
+
+abbrev pub number_of : Remark → ℕ
+number_of remark = (words_of (report_of remark).rule).number
+
+abbrev pub process_of : Remark → Option ℕ
+process_of remark = process_at (report_of remark).place
+
+abbrev pub name : NetlistView → Remark → List ℕ
+name net remark = name_of net (report_of remark).subject
+
+-- of one kind, and of one process where they have one
+abbrev pub is_same : (before remark : Remark) → Bool
+is_same before remark = number_of before == number_of remark && is_same_number (process_of before) (process_of remark)
+
+abbrev pub goes_on : NetlistView → (before remark : Remark) → Bool
+goes_on net before remark = is_same before remark && follows (name net before) (name net remark)
+
+-- the last remark that is told, and the range of nets up to its own
+pub record RemarkView : Type 0 where
+  pub remark : Remark
+  pub nets : List ℕ
+
+abbrev pub remark_view : RemarkFinding → RemarkView
+remark_view f = record { remark = f.remark; nets = f.nets.items }
+
+abbrev pub told : NetlistView → (first : List ℕ) → (last : Remark) → RemarkView
+told net first last = record { remark = last; nets = range_text first (name net last) }
+
+-- what is told that ends before a remark
+abbrev pub ended : NetlistView → (first : List ℕ) → (before remark : Remark) → List RemarkView
+ended net first before remark = if goes_on net before remark then [] else told net first before ∷ []
+
+-- the name of the first net of those with which a remark is told
+abbrev pub begun_by : NetlistView → (first : List ℕ) → (before remark : Remark) → List ℕ
+begun_by net first before remark = if goes_on net before remark then first else name net remark
+
+-- these remarks behind the one before, with which the elements from the one of this name are told
+abbrev pub found_from : NetlistView → (first : List ℕ) → (before : Remark) → List Remark → List RemarkView
+found_from net first before [] = told net first before ∷ []
+found_from net first before (remark ∷ remarks) =
+    ended net first before remark ++ found_from net (begun_by net first before remark) remark remarks
+
+abbrev pub found : NetlistView → List Remark → List RemarkView
+found net [] = []
+found net (remark ∷ remarks) = found_from net (name net remark) remark remarks
+
+-- ---- what is said
+
+abbrev pub message : NetlistView → RemarkView → List ℕ
+message net f = sentence (words_of (report_of f.remark).rule) (name_of_process net (process_of f.remark)) f.nets

@@ -1,0 +1,144 @@
+-- What a finding says: its sentence, with the processes and nets of its first fault, the other instances that have it, and the note that
+-- stands beside it.
+use Rattle.std.specs.Prelude.{ℕ, ◌||◌, Bool, if◌then◌else◌, List, [], ◌∷◌, ◌++◌, bytes_eq, flat_map, map, Option, Some, None, codes}
+use Rattle.rtl_latches.specs.Omissions as omissions
+use Rattle.rtl_latches.specs.declared.omission.Omission.{Omission}
+use Rattle.rtl_model.specs.simulation.Accepted.{Fault}
+use Rattle.rtl_net.specs.Names.{net_name, process_name}
+use Rattle.rtl_net.specs.Nets.{NetlistView}
+use Rattle.rtl_reasons.specs.Notes as reasons
+use Rattle.rtl_reasons.specs.declared.reason.Reason.{Reason}
+use Rattle.rtl_report.specs.Rules.{Text, words_of}
+use Rattle.rtl_report.specs.declared.report.Subject.{Subject}
+use Rattle.rtl_report.specs.declared.report.Subject.TheVariants.{Sources, ProcessNet, Element, Net, Process as Process', Circle}
+use Rattle.rtl_report.specs.declared.words.Words.{Words}
+use Rattle.rtlsim_findings.specs.Causes.{is_of, second_process}
+use Rattle.rtlsim_findings.specs.Circles.{loop_text}
+use Rattle.rtlsim_findings.specs.Findings.{FindingView}
+use Rattle.rtlsim_findings.specs.Mixed.{why, reason_text}
+use Rattle.rtlsim_findings.specs.Omitted.{said}
+use Rattle.rtlsim_findings.specs.Ranges.{follows, range_text}
+use Rattle.rtlsim_listing.specs.CheckText.{source_name, variable_name}
+use Rattle.rtlsim_listing.specs.Reports.{report_of, circle_of}
+
+-- ---- nets
+
+-- the net, or the element of a variable
+abbrev pub name_of : NetlistView → Subject → List ℕ
+name_of net (Sources n first second) = net_name net n
+name_of net (ProcessNet process n) = net_name net n
+name_of net (Net n) = net_name net n
+name_of net (Element process variable place) = variable_name net process variable place
+name_of net _ = []
+
+abbrev pub name : NetlistView → Fault → List ℕ
+name net fault = name_of net (report_of fault).subject
+
+-- the name, where the fault is told of the first one's processes
+abbrev pub own_name : NetlistView → (first : Fault) → Fault → List (List ℕ)
+own_name net first fault = if is_of first fault then name net fault ∷ [] else []
+
+abbrev pub is_beside : (before name : List ℕ) → Bool
+is_beside before name = bytes_eq before name || follows before name
+
+-- the range that ends before a name
+abbrev pub ended : (first last name : List ℕ) → List (List ℕ)
+ended first last name = if is_beside last name then [] else range_text first last ∷ []
+
+-- with which name the range begins in which a name is
+abbrev pub begun_by : (first last name : List ℕ) → List ℕ
+begun_by first last name = if is_beside last name then first else name
+
+-- names that stand side by side as ranges, from the range that begins with the first name
+abbrev pub ranges_from : (first last : List ℕ) → List (List ℕ) → List (List ℕ)
+ranges_from first last [] = range_text first last ∷ []
+ranges_from first last (name ∷ names) = ended first last name ++ ranges_from (begun_by first last name) name names
+
+-- its nets or elements of variables: that of its first fault, and those of the others
+abbrev pub ranges_of : NetlistView → FindingView → List (List ℕ)
+ranges_of net f = ranges_from (name net f.first) (name net f.first) (flat_map (own_name net f.first) f.others)
+
+-- ---- the sentence
+
+-- the processes that it is told of, and idle ports by that word; of a circle the nets too
+abbrev pub culprits_of : NetlistView → (circle : List ℕ) → Subject → List ℕ
+culprits_of net circle (Sources n first second) = source_name net first ++ codes " and " ++ source_name net second
+culprits_of net circle (ProcessNet process n) = process_name net process
+culprits_of net circle (Process' process) = process_name net process
+culprits_of net circle (Element process variable place) = process_name net process
+culprits_of net circle Circle = loop_text net circle
+culprits_of net circle _ = []
+
+abbrev pub culprits : NetlistView → Fault → List ℕ
+culprits net fault = culprits_of net (circle_of fault) (report_of fault).subject
+
+-- behind a comma
+abbrev pub another : List ℕ → List ℕ
+another text = codes ", " ++ text
+
+abbrev pub listed : List (List ℕ) → List ℕ
+listed [] = []
+listed (text ∷ texts) = text ++ flat_map another texts
+
+abbrev pub sentence : Words Text → (culprits nets : List ℕ) → List ℕ
+sentence words culprits nets = words.opening.now ++ culprits ++ words.middle.now ++ nets ++ words.closing.now
+
+abbrev pub message : NetlistView → FindingView → List ℕ
+message net f = sentence (words_of (report_of f.first).rule) (culprits net f.first) (listed (ranges_of net f))
+
+-- ---- the other instances
+
+-- a fault that is told neither of the first one's processes nor of those of the fault before
+abbrev pub apart : (first before fault : Fault) → List Fault
+apart first before fault = if is_of first fault || is_of before fault then [] else fault ∷ []
+
+-- the first fault of each run of faults of another process, or pair of drivers, in order: a pair that comes again behind another is named
+-- again
+abbrev pub also_from : (first before : Fault) → List Fault → List Fault
+also_from first before [] = []
+also_from first before (fault ∷ faults) = apart first before fault ++ also_from first fault faults
+
+abbrev pub also : FindingView → List Fault
+also f = also_from f.first f.first f.others
+
+-- ---- all processes
+
+abbrev pub one : ℕ → Option ℕ
+one process = Some process
+
+-- two drivers in order, without a process where a port is idle; a circle in order
+abbrev pub processes_of : (circle : List ℕ) → Subject → List (Option ℕ)
+processes_of circle (Sources n first second) = first ∷ second ∷ []
+processes_of circle (ProcessNet process n) = Some process ∷ []
+processes_of circle (Process' process) = Some process ∷ []
+processes_of circle (Element process variable place) = Some process ∷ []
+processes_of circle Circle = map one circle
+processes_of circle _ = []
+
+abbrev pub processes_in : Fault → List (Option ℕ)
+processes_in fault = processes_of (circle_of fault) (report_of fault).subject
+
+-- those of the first fault, and those of the other instances
+abbrev pub processes : FindingView → List (Option ℕ)
+processes f = processes_in f.first ++ flat_map processes_in (also f)
+
+-- ---- the note: at the second driver, where a latch leaves the assignment out, or at the reason of a process that is neither clocked
+-- nor combinational
+
+abbrev pub start_of : (second : Option ℕ) → Option Omission → Option Reason → Option ℕ
+start_of (Some at) omission reason = Some at
+start_of None (Some omission) reason = Some (omissions.at_of omission)
+start_of None None (Some reason) = Some (reasons.at_of reason)
+start_of None None None = None
+
+abbrev pub note_at : NetlistView → FindingView → Option ℕ
+note_at net f = start_of f.cause.second f.cause.omission (why net f.first)
+
+abbrev pub note_of : NetlistView → (second : Option ℕ) → Option Omission → Option Reason → List ℕ
+note_of net (Some process) omission reason = codes "the other driver is " ++ process_name net process
+note_of net None (Some omission) reason = said omission
+note_of net None None (Some reason) = reason_text net reason
+note_of net None None None = []
+
+abbrev pub note_text : NetlistView → FindingView → List ℕ
+note_text net f = note_of net (second_process f.first) f.cause.omission (why net f.first)

@@ -1,0 +1,3 @@
+-- What functions of the code do on their way.
+pub mod Joining
+pub mod Walked

@@ -1,0 +1,120 @@
+//! What faults have in common that are told together.
+
+ghost use Rattle.std.specs.Prelude.{◌≡◌, slice_get, IfOk, OnOk};
+ghost use Rattle.rtl_check.specs.Views.{fault_view};
+ghost use Rattle.rtlsim_findings.specs.Causes as spec;
+ghost use Rattle.rtlsim_findings.specs.steps.Walked.{AreOf};
+
+use crate::omitted::{Omissions, are_same};
+use rtl_check::CheckFault;
+use rtl_latches::Omission;
+use rtl_net::{Net, NoMemory};
+use rtl_report::{Place, Subject};
+use rtlsim_listing::report_of;
+use std::alloc::Global;
+
+/// What faults have in common that are told together.
+#[derive(Clone, Copy)]
+pub struct Cause {
+    /// The number of the rule.
+    pub number: u8,
+    /// The byte at which the first process is declared, if there is one.
+    pub first: Option<usize>,
+    /// Of two drivers, the same of the second.
+    pub second: Option<usize>,
+    /// Of a latch, where the assignment is left out.
+    pub omission: Option<Omission>,
+}
+
+/// The cause of a fault.
+pub(crate) fn cause_of(
+    alloc: Global,
+    net: &Net,
+    fault: &CheckFault,
+    walked: &mut Omissions,
+) -> Result<Cause, NoMemory>
+    requires { AreOf net.now walked.old }
+    ensures is { IfOk result (λ cause. cause ≡ spec.cause_of net.now (fault_view fault.now)) }
+    ensures are { OnOk result (AreOf net.now walked.new) }
+{
+    let omission = walked.left_out(alloc, net, fault)?;
+    Ok(Cause {
+        number: report_of(fault).rule.words().number,
+        first: at_process(net, first_process(fault)),
+        second: at_process(net, second_process(fault)),
+        omission,
+    })
+}
+
+/// Whether two causes are one.
+pub(crate) fn is_same(before: Cause, cause: Cause) -> bool
+    ensures { result ≡ spec.is_same before cause }
+{
+    before.number == cause.number
+        && is_same_number(before.first, cause.first)
+        && is_same_number(before.second, cause.second)
+        && are_same(before.omission, cause.omission)
+}
+
+/// Whether two faults are told of the same processes.
+pub(crate) fn is_of(before: &CheckFault, fault: &CheckFault) -> bool
+    ensures { result ≡ spec.is_of (fault_view before.now) (fault_view fault.now) }
+{
+    is_same_number(first_process(before), first_process(fault))
+        && is_same_number(second_process(before), second_process(fault))
+}
+
+/// Whether both are one number, or neither is.
+pub(crate) fn is_same_number(first: Option<usize>, second: Option<usize>) -> bool
+    ensures { result ≡ spec.is_same_number first second }
+{
+    match (first, second) {
+        (None, None) => true,
+        (Some(first), Some(second)) => first == second,
+        _ => false,
+    }
+}
+
+/// The first process that a fault is told of; of an idle port there is none.
+pub fn first_process(fault: &CheckFault) -> Option<usize>
+    ensures { result ≡ spec.first_process (fault_view fault.now) }
+{
+    process_at(report_of(fault).place)
+}
+
+/// The process of a place.
+pub(crate) fn process_at(place: Place) -> Option<usize>
+    ensures { result ≡ spec.process_at place }
+{
+    match place {
+        Place::Process(process) => Some(process),
+        _ => None,
+    }
+}
+
+/// Of two drivers the process of the second.
+pub(crate) fn second_process(fault: &CheckFault) -> Option<usize>
+    ensures { result ≡ spec.second_process (fault_view fault.now) }
+{
+    match report_of(fault).subject {
+        Subject::Sources { second, .. } => second,
+        _ => None,
+    }
+}
+
+/// The byte of the source at which a process is declared, where one is named that is there.
+pub fn at_process(net: &Net, process: Option<usize>) -> Option<usize>
+    ensures { result ≡ spec.at_process net.now process }
+{
+    declared_at(net, process?)
+}
+
+/// The byte of the source at which a process starts, behind its label.
+fn declared_at(net: &Net, process: usize) -> Option<usize>
+    ensures { result ≡ spec.declared_at (slice_get net.now.processes process) }
+{
+    match net.processes().get(process) {
+        Some(process) => Some(process.at as usize),
+        None => None,
+    }
+}

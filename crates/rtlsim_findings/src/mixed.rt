@@ -1,0 +1,49 @@
+//! Why the process of a fault is neither clocked nor combinational.
+
+ghost use Rattle.std.specs.Prelude.{◌≡◌, IfOk};
+ghost use Rattle.rtl_check.specs.Views.{fault_view};
+ghost use Rattle.rtlsim_findings.specs.Mixed as spec;
+
+use crate::rounds::name_of_net;
+use rtl_check::CheckFault;
+use rtl_net::{Net, NoMemory};
+use rtl_reasons::{Reason, reason_of};
+use rtlsim_listing::process_name;
+use std::alloc::Global;
+
+/// Why the process is neither clocked nor combinational, where a fault tells that.
+pub(crate) fn why(net: &Net, fault: &CheckFault) -> Option<Reason>
+    ensures { result ≡ spec.why net.now (fault_view fault.now) }
+{
+    match fault {
+        CheckFault::Mixed { process } => reason_of(net, *process),
+        _ => None,
+    }
+}
+
+/// What is said of a reason.
+pub(crate) fn reason_text(alloc: Global, net: &Net, reason: Reason) -> Result<Vec<u8>, NoMemory>
+    ensures { IfOk result (λ text. text.items ≡ spec.reason_text net.now reason) }
+{
+    let note = reason.note();
+    let mut text = Vec::from_slice(alloc, note.opening.as_bytes())?;
+    text.extend_from_slice(&name_of_net(alloc, net, reason.net())?)?;
+    text.extend_from_slice(note.middle.as_bytes())?;
+    text.extend_from_slice(&name_of_process(alloc, net, reason.driver())?)?;
+    text.extend_from_slice(note.closing.as_bytes())?;
+    Ok(text)
+}
+
+/// The name of a process, empty where there is none.
+pub(crate) fn name_of_process(
+    alloc: Global,
+    net: &Net,
+    process: Option<usize>,
+) -> Result<Vec<u8>, NoMemory>
+    ensures { IfOk result (λ text. text.items ≡ spec.name_of_process net.now process) }
+{
+    match process {
+        Some(process) => process_name(alloc, net, process),
+        None => Ok(Vec::new(alloc)),
+    }
+}

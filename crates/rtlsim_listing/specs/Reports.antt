@@ -1,0 +1,49 @@
+-- What each fault of the checker tells: the rule that is broken, where its first process is declared, and what it is told of.
+use Rattle.std.specs.Prelude.{ℕ, List, [], ◌∷◌, Option, Some, None}
+use Rattle.rtl_model.specs.simulation.Accepted as f
+use Rattle.rtl_model.specs.simulation.Netlist.{Source, Driver, Idle}
+use Rattle.rtl_report.specs.declared.checking.CheckRule.{CheckRule}
+use Rattle.rtl_report.specs.declared.checking.CheckRule.TheVariants as rule
+use Rattle.rtl_report.specs.declared.report.Place.{Place}
+use Rattle.rtl_report.specs.declared.report.Place.TheVariants as place
+use Rattle.rtl_report.specs.declared.report.Report.{Report}
+use Rattle.rtl_report.specs.declared.report.Rule.TheVariants.{Check}
+use Rattle.rtl_report.specs.declared.report.Subject.{Subject}
+use Rattle.rtl_report.specs.declared.report.Subject.TheVariants as subject
+
+-- the process of a driver; an idle port has none
+abbrev pub process_of : Source → Option ℕ
+process_of (Driver process place) = Some process
+process_of (Idle value) = None
+
+abbrev pub place_of : Option ℕ → Place
+place_of None = place.Nowhere
+place_of (Some process) = place.Process process
+
+abbrev pub told : CheckRule → (first : Option ℕ) → Subject → Report
+told r first s = record { rule = Check r; place = place_of first; subject = s }
+
+-- of a process and a net
+abbrev pub at_net : CheckRule → (process net : ℕ) → Report
+at_net r process net = told r (Some process) (subject.ProcessNet process net)
+
+-- the first process of a circle
+abbrev pub first_of : List ℕ → Option ℕ
+first_of [] = None
+first_of (process ∷ processes) = Some process
+
+abbrev pub report_of : f.Fault → Report
+report_of (f.TwoDrivers net first second) = told rule.TwoDrivers (process_of first) (subject.Sources net (process_of first) (process_of second))
+report_of (f.MixedProcess process) = told rule.Mixed (Some process) (subject.Process process)
+report_of (f.ClockNotInput process net) = at_net rule.ClockNotInput process net
+report_of (f.EdgeNotSensitive process net) = at_net rule.EdgeNotSensitive process net
+report_of (f.ClockAsData process net) = at_net rule.ClockAsData process net
+report_of (f.MissingSensitivity process net) = at_net rule.MissingSensitivity process net
+report_of (f.Latch process net) = at_net rule.Latch process net
+report_of (f.Loop processes) = told rule.Loop (first_of processes) subject.Circle
+report_of (f.StoredVariable process variable place) = told rule.StoredVariable (Some process) (subject.Element process variable place)
+
+-- the processes of the circle that it is told of
+abbrev pub circle_of : f.Fault → List ℕ
+circle_of (f.Loop processes) = processes
+circle_of _ = []

@@ -1,0 +1,141 @@
+//! What the checker's faults tell.
+
+ghost use Rattle.std.specs.Prelude.{◌≡◌};
+ghost use Rattle.rtl_check.specs.Views.{fault_view};
+ghost use Rattle.rtl_net.specs.Nets.{source_view};
+ghost use Rattle.rtlsim_listing.specs.Reports as spec;
+
+use rtl_check::CheckFault;
+use rtl_net::Source;
+use rtl_report::{CheckRule, Place, Report, Rule, Subject};
+
+/// What a fault tells.
+pub fn report_of(fault: &CheckFault) -> Report
+    ensures { result ≡ spec.report_of (fault_view fault.now) }
+{
+    match fault {
+        CheckFault::TwoDrivers { net, first, second } => of_sources(*net, *first, *second),
+        CheckFault::Mixed { process } => {
+            let process = *process;
+            told(
+                CheckRule::Mixed,
+                Some(process),
+                Subject::Process { process },
+            )
+        }
+        CheckFault::ClockNotInput { process, net } => at_net(
+            CheckRule::ClockNotInput,
+            *process,
+            *net,
+        ),
+        CheckFault::EdgeNotSensitive { process, net } => at_net(
+            CheckRule::EdgeNotSensitive,
+            *process,
+            *net,
+        ),
+        CheckFault::ClockAsData { process, net } => at_net(CheckRule::ClockAsData, *process, *net),
+        CheckFault::MissingSensitivity { process, net } => at_net(
+            CheckRule::MissingSensitivity,
+            *process,
+            *net,
+        ),
+        CheckFault::Latch { process, net } => at_net(CheckRule::Latch, *process, *net),
+        CheckFault::Loop { processes } => of_circle(processes),
+        CheckFault::StoredVariable {
+            process,
+            variable,
+            place,
+        } => of_element(*process, *variable, *place),
+    }
+}
+
+/// The processes of the circle that a fault is told of.
+pub fn circle_of(fault: &CheckFault) -> &[usize]
+    ensures { result.now ≡ spec.circle_of (fault_view fault.now) }
+{
+    match fault {
+        CheckFault::Loop { processes } => processes,
+        _ => &[],
+    }
+}
+
+/// What is told of two sources of a net.
+fn of_sources(net: usize, first: Source, second: Source) -> Report
+    ensures { result ≡ spec.told CheckRule.TwoDrivers (spec.process_of (source_view first))
+        (Subject.Sources net (spec.process_of (source_view first)) (spec.process_of (source_view second))) }
+{
+    let first = process_of(first);
+    let second = process_of(second);
+    told(
+        CheckRule::TwoDrivers,
+        first,
+        Subject::Sources { net, first, second },
+    )
+}
+
+/// What is told of a circle of processes.
+fn of_circle(processes: &[usize]) -> Report
+    ensures { result ≡ spec.told CheckRule.Loop (spec.first_of processes.now) Subject.Circle }
+{
+    told(CheckRule::Loop, first_of(processes), Subject::Circle)
+}
+
+/// The first process of a circle.
+fn first_of(processes: &[usize]) -> Option<usize>
+    ensures { result ≡ spec.first_of processes.now }
+{
+    match processes {
+        [process, ..] => Some(*process),
+        [] => None,
+    }
+}
+
+/// What is told of an element of a variable.
+fn of_element(process: usize, variable: usize, place: usize) -> Report
+    ensures { result ≡ spec.told CheckRule.StoredVariable (Some process) (Subject.Element process variable place) }
+{
+    let subject = Subject::Element {
+        process,
+        variable,
+        place,
+    };
+    told(CheckRule::StoredVariable, Some(process), subject)
+}
+
+/// What is told of a process and a net.
+fn at_net(rule: CheckRule, process: usize, net: usize) -> Report
+    ensures { result ≡ spec.at_net rule process net }
+{
+    told(rule, Some(process), Subject::ProcessNet { process, net })
+}
+
+/// What is told of something, at the place of its first process.
+fn told(rule: CheckRule, first: Option<usize>, subject: Subject) -> Report
+    ensures { result ≡ spec.told rule first subject }
+{
+    Report {
+        rule: Rule::Check(rule),
+        place: place_of(first),
+        subject,
+    }
+}
+
+/// The place of a process, if there is one.
+fn place_of(process: Option<usize>) -> Place
+    ensures { result ≡ spec.place_of process }
+{
+    match process {
+        Some(process) => Place::Process(process),
+        None => Place::Nowhere,
+    }
+}
+
+/// The process of a driver; an idle port has none.
+fn process_of(source: Source) -> Option<usize>
+    ensures { result ≡ spec.process_of (source_view source) }
+{
+    match source {
+        Source::Driven { process, .. } => Some(process),
+        Source::Idle { .. } => None,
+    }
+}

@@ -1,0 +1,30 @@
+-- Texts of what a view shows, and of parts one behind another.
+use Rattle.std.proofs.Common.{◌≡◌, ℕ, List, [], ◌∷◌, ◌++◌, append_assoc, map, refl, ap, ◌∙◌}
+use Rattle.std.specs.Prelude.{flat_map}
+
+pub texts_of : {A B : Type 0} (text : B → List ℕ) (view : A → B) (xs : List A) → flat_map (λ x. text (view x)) xs ≡ flat_map text (map view xs)
+texts_of text view [] = refl
+texts_of text view (x ∷ xs) = ap (λ t. text (view x) ++ t) (texts_of text view xs)
+
+-- ---- parts of a text, one behind another
+
+-- a part that is another
+pub part : (old new x y : List ℕ) → new ≡ old ++ x → x ≡ y → new ≡ old ++ y
+part old new x y pushed is = pushed ∙ ap (λ t. old ++ t) is
+
+pub two : (t s a k b : List ℕ) → s ≡ t ++ a → s ++ (k ++ b) ≡ t ++ (a ++ k ++ b)
+two t s a k b i = rw i (simp append_assoc)
+
+pub four : (t s r q a b k x l y : List ℕ) → s ≡ t ++ a → r ≡ s ++ b → q ≡ r ++ (k ++ x) → q ++ (l ++ y) ≡ t ++ (a ++ b ++ k ++ x ++ l ++ y)
+four t s r q a b k x l y i j e = rw (e, j, i) (simp append_assoc)
+
+pub six : (t s r q p o a b c d e f : List ℕ) → s ≡ t ++ a → r ≡ s ++ b → q ≡ r ++ c → p ≡ q ++ d → o ≡ p ++ e → o ++ f ≡ t ++ (a ++ b ++ c ++ d ++ e ++ f)
+six t s r q p o a b c d e f i j k l m = rw (m, l, k, j, i) (simp append_assoc)
+
+-- from the beginning of a text
+pub all_four : (t s r q p a b c d : List ℕ) → t ≡ [] → s ≡ t ++ a → r ≡ s ++ b → q ≡ r ++ c → p ≡ q ++ d → p ≡ a ++ b ++ c ++ d
+all_four t s r q p a b c d none i j k l = rw (l, k, j, i, none) refl
+
+pub all_eight : (t s r q p o n m l k a j b c d e f g h : List ℕ) → t ≡ [] → s ≡ t ++ (k ++ a) → r ≡ s ++ (j ++ b) → q ≡ r ++ c → p ≡ q ++ d → o ≡ p ++ e → n ≡ o ++ f
+    → m ≡ n ++ g → l ≡ m ++ h → l ≡ k ++ a ++ j ++ b ++ c ++ d ++ e ++ f ++ g ++ h
+all_eight t s r q p o n m l k a j b c d e f g h none e1 e2 e3 e4 e5 e6 e7 e8 = rw (e8, e7, e6, e5, e4, e3, e2, e1, none) (simp append_assoc)
