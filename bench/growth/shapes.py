@@ -234,6 +234,12 @@ def clocks_apart(n):
     return clocks(n)._replace(stimulus=f"{stimulus}stop {n + 10}\n")
 
 
+def clocks_of_one_remainder(n):
+    """n clocks, which toggle some three times each, all at times that 256 divides."""
+    toggles = "".join(f"clock c{k} {256 * (k + 1)} {128 * n}\n" for k in range(n))
+    return clocks(n)._replace(stimulus=f"{toggles}stop {512 * n}\n")
+
+
 def clocks_and_data(n):
     """n clocks, which toggle n / 5 times each, and n / 10 changes of one input."""
     process = "process (c#) begin if rising_edge(c#) then q# <= d; end if; end process;"
@@ -392,6 +398,7 @@ SHAPES = {
     "drivers": Shape(drivers, 512, REFUSED),
     "clocks": Shape(clocks, 256, EACH),
     "clocks_apart": Shape(clocks_apart, 256, RUNS),
+    "clocks_of_one_remainder": Shape(clocks_of_one_remainder, 256, RUNS),
     "clocks_and_data": Shape(clocks_and_data, 256, RUNS, grows=lambda size: size * size),
     "clocks_beside_data": Shape(clocks_beside_data, 256, RUNS),
     "inputs_apart": Shape(inputs_apart, 1024, RUNS),

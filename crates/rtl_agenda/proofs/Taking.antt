@@ -1,82 +1,112 @@
--- A chain whose first change is taken.
-use Rattle.std.proofs.Common.{◌≡◌, ◌≢◌, ℕ, suc, ◌+◌, ◌<◌, ◌≤◌, ◌%◌, List, [], ◌∷◌, length, map, get_or, set, Option, Some, None, refl, sym, ap, subst, ◌∙◌, arith}
-use Rattle.std.specs.Prelude.{All, AllPairs}
-use Rattle.std.proofs.lemmas.List.{get_or-set_same, get_or-set_other, length-set}
-use Rattle.std.proofs.lemmas.List.Elements.{All-head, All-tail, recursion_from_All}
-use Rattle.slab.specs.Slab.{Slab, get, slab_len, Updates}
-use Rattle.rtl_agenda.specs.Chains.{Timed, links_of, held, chain_at, BeginsAt, last_of, IsChained, IsClosed, IsRechained}
-use Rattle.rtl_agenda.specs.declared.cell.Cell.{Cell}
-use Rattle.rtl_agenda.proofs.Paths.{IsPath, path_from, path_kept, path_lacks_first, path_lacks_placed}
-use Rattle.rtl_agenda.proofs.Places.{links_some}
-use Rattle.rtl_agenda.proofs.Heads.{held_some}
-use Rattle.rtl_agenda.proofs.Chained.{rechained, chained_new, closed_new}
+-- What waits on a wheel once a time is taken or drawn near, or a change is pushed.
+use Rattle.std.proofs.Common.{◌≡◌, ℕ, ◌-◌, ◌%◌, ◌<◌, ◌≤◌, true, false, List, [], ◌∷◌, ◌++◌, length, get_or, set, Option, Result, sym, ap, subst, ◌∙◌, arith}
+use Rattle.std.specs.Prelude.{All, OnErr, OnOk, unwrap_or}
+use Rattle.std.specs.List.{AllByRecursion}
+use Rattle.std.specs.Map.{keys_of}
+use Rattle.std.proofs.lemmas.List.Elements.{All-from_recursion}
+use Rattle.rtl_agenda.specs.Agenda.{Change, IsAfter, IsOrderly, LeavesAlone, changes_at, with_change}
+use Rattle.rtl_agenda.specs.MapState.{IsInOrder}
+use Rattle.rtl_agenda.specs.Wheel.{IsAhead, IsFilled, IsParted, IsRing, entries_of, is_filled, slot_at, turned_to, waiting_in}
+use Rattle.rtl_agenda.specs.declared.slot.Slot.{Slot}
+use Rattle.rtl_agenda.proofs.InOrder.{Rises, in_order_head, in_order_rest, keys_weaker, rises_from}
+use Rattle.rtl_agenda.proofs.Ordering.{of_either, on_err, on_ok, orderly_pushed}
+use Rattle.rtl_agenda.proofs.Ringing.{ahead_drawn, ahead_far, ahead_taken, entry_read, far_ahead, free_slot, parted_far, parted_near, pushed_far, pushed_near}
+use Rattle.rtl_agenda.proofs.Slots.{filled_some, waiting_none}
+use Rattle.rtl_agenda.proofs.Turning.{waiting_drawn, waiting_taken}
 
-pub AllPairs-tail : {X : Type 0} (R : X → X → Type 0) (x : X) (xs : List X) → AllPairs R (x ∷ xs) → AllPairs R xs
-AllPairs-tail R x xs h = λ i j d before within. h (suc i) (suc j) d (omega arith) (omega arith)
+-- ---- the least time is taken
 
--- no change comes first in an empty chain, and where one does, one time alone
-pub begins_nowhere : (chain : List Timed) (time : ℕ) → chain ≡ [] → (other : ℕ) → BeginsAt chain other → other ≢ time
-begins_nowhere chain time empty other begins = absurd (omega (arith, ap (λ (xs : List Timed). length xs) (sym empty ∙ begins.2)))
+module _ (items : List Slot) (words : List ℕ) (far : List (ℕ × List Change)) (from s : ℕ) (old : Slot) (new : List (ℕ × List Change)) (taken : List Change) (ring : IsRing (entries_of items) words)
+    (parted : IsParted far (entries_of items) from) (within : s < length items) (read : old ≡ get_or items s old) (filled : IsFilled (entries_of items) s)
+    (least : (k : ℕ) → IsFilled (entries_of items) k → (slot_at (entries_of items) s).0 ≤ (slot_at (entries_of items) k).0) (written : new ≡ set (entries_of items) s ((slot_at (entries_of items) s).0, [])) where
+  pub near_taken : IsInOrder far → taken ≡ (slot_at (entries_of items) s).1 → waiting_in far (entries_of items) ≡ (old.time, taken) ∷ waiting_in far new
+  near_taken in_order these =
+      let entry = entry_read items s old within read in
+      let later = keys_weaker (λ u. length (entries_of items) ≤ u - from) (λ u. (slot_at (entries_of items) s).0 < u) (λ u more. omega (arith, (parted.near s filled).1, more)) (keys_of far) (far_ahead far (entries_of items) from parted) in
+      waiting_taken (entries_of items) words ring far (rises_from far in_order) s filled least later
+      ∙ ap (λ (e : ℕ × List Change). e ∷ waiting_in far (set (entries_of items) s ((slot_at (entries_of items) s).0, []))) entry
+      ∙ ap (λ (cs : List Change). (old.time, cs) ∷ waiting_in far (set (entries_of items) s ((slot_at (entries_of items) s).0, []))) (sym (these ∙ ap (λ (e : ℕ × List Change). e.1) entry))
+      ∙ ap (λ (es : List (ℕ × List Change)). (old.time, taken) ∷ waiting_in far es) (sym written)
 
-pub begins_otherwise : (chain : List Timed) (time : ℕ) (x : Timed) (rest : List Timed) → chain ≡ x ∷ rest → x.0 ≢ time → (other : ℕ) → BeginsAt chain other → other ≢ time
-begins_otherwise chain time x rest is apart other begins =
-    let both : x ∷ rest ≡ (other, begins.0) ∷ begins.1 = sym is ∙ begins.2 in
-    let first : x.0 ≡ other = cc in
-    λ same. apart (first ∙ same)
+  pub near_ahead : IsAhead far new old.time
+  near_ahead =
+      let entry = entry_read items s old within read in
+      let P : List (ℕ × List Change) → Type 0 = λ es. IsAhead far es old.time in
+      let Q : ℕ → Type 0 = λ t. IsAhead far (set (entries_of items) s ((slot_at (entries_of items) s).0, [])) t in
+      subst P (sym written) (subst Q (ap (λ (e : ℕ × List Change). e.0) entry) (ahead_taken far (entries_of items) from s parted filled least))
 
-module _ (cells new : Slab Cell) (firsts : List (Option ℕ)) (slot key : ℕ) (cell : Cell) (chained : IsChained cells firsts) (within : slot < length firsts)
-    (at : get_or firsts slot None ≡ Some key) (there : get cells key ≡ Some cell) (updates : Updates cells new key None) (fewer : slab_len new + 1 ≡ slab_len cells) where
-  pub held_whole : chain_at cells firsts slot ≡ (cell.time, cell.change) ∷ held cells cell.next
-  held_whole = held_some cells (get_or firsts slot None) key cell at (chained.ended slot) there
+module _ (far rest slots : List (ℕ × List Change)) (time : ℕ) (taken : List Change) (none : (s : ℕ) → is_filled (slot_at slots s).1 ≡ false) (first : far ≡ (time, taken) ∷ rest) where
+  pub far_taken : waiting_in far slots ≡ (time, taken) ∷ waiting_in rest slots
+  far_taken = waiting_none far slots none ∙ first ∙ ap (λ (w : List (ℕ × List Change)). (time, taken) ∷ w) (sym (waiting_none rest slots none))
 
-  placed_whole : All (λ (x : Timed). x.0 % length firsts ≡ slot) ((cell.time, cell.change) ∷ held cells cell.next)
-  placed_whole = let whole = held_whole in rw whole at (chained.placed slot)
+  pub far_taken_ahead : IsInOrder far → IsAhead rest slots time
+  far_taken_ahead in_order = ahead_far (time, taken) rest slots (in_order_rest (time, taken) far rest first in_order) none
 
-  rising_whole : AllPairs (λ (x y : Timed). x.0 ≤ y.0) ((cell.time, cell.change) ∷ held cells cell.next)
-  rising_whole = let whole = held_whole in rw whole at (chained.rising slot)
+-- ---- a time is drawn near
 
-  same_else : (k : ℕ) → k ≢ key → k ≢ key → get new k ≡ get cells k
-  same_else k apart _ = updates.others k apart
+pub first_filled : (far rest : List (ℕ × List Change)) (time : ℕ) (changes : List Change) → far ≡ (time, changes) ∷ rest → IsInOrder far → is_filled changes ≡ true
+first_filled far rest time changes first in_order = filled_some changes (in_order_head (time, changes) rest (in_order_rest (time, changes) far rest first in_order)).0
 
-  here : IsPath (get new) (get_or (set firsts slot cell.next) slot None) (links_of cells cell.next)
-  here =
-      let some = links_some (get cells) (slab_len cells) (get_or firsts slot None) key cell at (chained.ended slot) there in
-      let path = path_from (get cells) (slab_len cells) cell.next some.1 in
-      let lacks = path_lacks_first (get cells) (key, (cell.time, cell.change)) cell.next (links_of cells cell.next) there path in
-      let P : Option ℕ → Type 0 = λ o. IsPath (get new) o (links_of cells cell.next) in
-      subst P (sym (get_or-set_same firsts slot cell.next None within)) (path_kept (get cells) (get new) key key cell.next (links_of cells cell.next) same_else lacks lacks path)
+module _ (far rest slots new : List (ℕ × List Change)) (words : List ℕ) (from time : ℕ) (changes : List Change) (ring : IsRing slots words) (in_order : IsInOrder far) (ahead : IsAhead far slots from)
+    (first : far ≡ (time, changes) ∷ rest) (near : time - from < length slots) (written : new ≡ set slots (time % length slots) (time, changes)) where
+  before : IsAhead ((time, changes) ∷ rest) slots from
+  before = let P : List (ℕ × List Change) → Type 0 = λ w. IsAhead w slots from in subst P first ahead
 
-  others : (s : ℕ) → s ≢ slot → IsPath (get new) (get_or (set firsts slot cell.next) s None) (links_of cells (get_or firsts s None))
-  unfolding held
-  others s apart =
-      let path = path_from (get cells) (slab_len cells) (get_or firsts s None) (chained.ended s) in
-      let placed = recursion_from_All (λ (x : Timed). x.0 % length firsts ≡ s) (map (λ (e : ℕ × Timed). e.1) (links_of cells (get_or firsts s None))) (chained.placed s) in
-      let in_slot : cell.time % length firsts ≡ slot = All-head (λ (x : Timed). x.0 % length firsts ≡ slot) (cell.time, cell.change) (held cells cell.next) placed_whole in
-      let lacks = path_lacks_placed (get cells) (length firsts) s key cell (get_or firsts s None) (links_of cells (get_or firsts s None)) path placed there (λ is. apart (sym is ∙ in_slot)) in
-      let P : Option ℕ → Type 0 = λ o. IsPath (get new) o (links_of cells (get_or firsts s None)) in
-      subst P (sym (get_or-set_other firsts slot s cell.next None apart)) (path_kept (get cells) (get new) key key _ _ same_else lacks lacks path)
+  rises : Rises ((time, changes) ∷ rest)
+  rises = in_order_rest (time, changes) far rest first in_order
 
-  fits : slab_len new + length (links_of cells (get_or firsts slot None)) ≡ slab_len cells + length (links_of cells cell.next)
-  fits =
-      let some = links_some (get cells) (slab_len cells) (get_or firsts slot None) key cell at (chained.ended slot) there in
-      omega (arith, fewer, ap (λ (xs : List (ℕ × Timed)). length xs) some.0)
+  pub drawn_waiting : waiting_in rest new ≡ waiting_in far slots
+  drawn_waiting =
+      ap (λ (es : List (ℕ × List Change)). waiting_in rest es) written
+      ∙ waiting_drawn slots words ring time changes rest rises (free_slot rest slots words from time changes ring before near)
+      ∙ ap (λ (w : List (ℕ × List Change)). waiting_in w slots) (sym first)
 
-  pub rechained_taken : IsRechained cells firsts new (set firsts slot cell.next) slot (held cells cell.next)
-  unfolding held
-  rechained_taken = rechained cells new firsts (set firsts slot cell.next) slot (links_of cells cell.next) chained within (length-set firsts slot cell.next) here others fits
+  pub drawn_ahead : IsAhead rest new from
+  drawn_ahead =
+      let P : List (ℕ × List Change) → Type 0 = λ es. IsAhead rest es from in
+      subst P (sym written) (ahead_drawn rest slots words from time changes ring before near rises)
 
-  pub chained_taken : IsChained new (set firsts slot cell.next)
-  unfolding held
-  chained_taken = chained_new cells new firsts (set firsts slot cell.next) slot (links_of cells cell.next) chained within (length-set firsts slot cell.next) here others fits
-      (All-tail (λ (x : Timed). x.0 % length firsts ≡ slot) (cell.time, cell.change) (held cells cell.next) placed_whole)
-      (AllPairs-tail (λ (x y : Timed). x.0 ≤ y.0) (cell.time, cell.change) (held cells cell.next) rising_whole)
+-- all that is near has been drawn
+pub all_drawn : (far slots : List (ℕ × List Change)) (from turn : ℕ) → IsAhead far slots from → turn ≡ length slots → AllByRecursion (λ t. turn ≤ t - from) (keys_of far) → IsParted far slots from
+all_drawn far slots from turn ahead is left =
+    let P : ℕ → Type 0 = λ n. All (λ t. n ≤ t - from) (keys_of far) in
+    record { near = ahead.near; ahead = subst P is (All-from_recursion (λ t. turn ≤ t - from) (keys_of far) left) }
 
-  pub closed_taken : (lasts : List ℕ) → IsClosed cells firsts lasts → IsClosed new (set firsts slot cell.next) lasts
-  unfolding held
-  closed_taken lasts closed =
-      closed_new cells new firsts (set firsts slot cell.next) slot (links_of cells cell.next) chained within (length-set firsts slot cell.next) here others fits lasts lasts closed refl (λ s apart. refl)
-      (by (links_of cells cell.next) (links_some (get cells) (slab_len cells) (get_or firsts slot None) key cell at (chained.ended slot) there).0)
-    where
-      by : (rest : List (ℕ × Timed)) → links_of cells (get_or firsts slot None) ≡ (key, (cell.time, cell.change)) ∷ rest → last_of (get_or lasts slot 0) rest ≡ get_or lasts slot 0
-      by [] is = refl
-      by (e ∷ rest) is = sym (ap (λ (xs : List (ℕ × Timed)). last_of (get_or lasts slot 0) xs) is) ∙ closed.last slot
+-- ---- a change is pushed, or refused
+
+module _ {T E : Type 0} (far slots : List (ℕ × List Change)) (words : List ℕ) (last : Option ℕ) (taken : List Change) (time : ℕ) (change : Change) (r : Result T E) (ring : IsRing slots words) (in_order : IsInOrder far)
+    (parted : IsParted far slots (unwrap_or last 0)) where
+  module _ (new : List (ℕ × List Change)) (le : unwrap_or last 0 ≤ time) (near : time - unwrap_or last 0 < length slots)
+      (ok : OnOk r (new ≡ set slots (time % length slots) (time, (slot_at slots (time % length slots)).1 ++ change ∷ []))) where
+    pub near_pushed : OnOk r (waiting_in far new ≡ with_change (waiting_in far slots) time change)
+    near_pushed =
+        on_ok r (λ is. ap (λ (es : List (ℕ × List Change)). waiting_in far es) is ∙ pushed_near far slots (unwrap_or last 0) time change words (rises_from far in_order) ring parted le near) ok
+
+    module _ (refused : OnErr r (new ≡ slots)) where
+      pub near_refused : OnErr r (waiting_in far new ≡ waiting_in far slots)
+      near_refused = on_err r (λ is. ap (λ (es : List (ℕ × List Change)). waiting_in far es) is) refused
+
+      pub near_parted : IsParted far new (unwrap_or last 0)
+      near_parted =
+          of_either (λ (es : List (ℕ × List Change)). IsParted far es (unwrap_or last 0)) r new _ slots ok refused
+          (parted_near far slots (unwrap_or last 0) time ((slot_at slots (time % length slots)).1 ++ change ∷ []) parted le near) parted
+
+      pub near_orderly : IsOrderly (turned_to far slots last taken) → IsAfter last time → LeavesAlone (changes_at (waiting_in far slots) time) change.0 → IsOrderly (turned_to far new last taken)
+      near_orderly orderly later once = orderly_pushed (turned_to far slots last taken) time change (waiting_in far new) r orderly later once near_pushed near_refused
+
+  module _ (new : List (ℕ × List Change)) (more : length slots ≤ time - unwrap_or last 0) (ok : OnOk r (new ≡ with_change far time change)) where
+    pub far_pushed : OnOk r (waiting_in new slots ≡ with_change (waiting_in far slots) time change)
+    far_pushed =
+        on_ok r (λ is. ap (λ (w : List (ℕ × List Change)). waiting_in w slots) is ∙ pushed_far far slots (unwrap_or last 0) time change words (rises_from far in_order) ring parted more) ok
+
+    module _ (refused : OnErr r (new ≡ far)) where
+      pub far_refused : OnErr r (waiting_in new slots ≡ waiting_in far slots)
+      far_refused = on_err r (λ is. ap (λ (w : List (ℕ × List Change)). waiting_in w slots) is) refused
+
+      pub far_parted : IsParted new slots (unwrap_or last 0)
+      far_parted =
+          of_either (λ (w : List (ℕ × List Change)). IsParted w slots (unwrap_or last 0)) r new (with_change far time change) far ok refused
+          (parted_far far slots (unwrap_or last 0) time change words (rises_from far in_order) ring parted more) parted
+
+      pub far_orderly : IsOrderly (turned_to far slots last taken) → IsAfter last time → LeavesAlone (changes_at (waiting_in far slots) time) change.0 → IsOrderly (turned_to new slots last taken)
+      far_orderly orderly later once = orderly_pushed (turned_to far slots last taken) time change (waiting_in new slots) r orderly later once far_pushed far_refused

@@ -1,109 +1,127 @@
--- What waits in chains, by the changes of each time.
-use Rattle.std.proofs.Common.{◌≡◌, ◌≢◌, ◌⊎◌, ℕ, zero, suc, ◌<◌, ◌≤◌, ◌%◌, Bool, true, false, cond, List, [], ◌∷◌, ◌++◌, length, get_or, Option, None, refl, sym, ap, subst, ◌∙◌, arith, inl, inr, append-nil}
-use Rattle.std.proofs.Math.Dec.{leb}
-use Rattle.std.specs.Prelude.{All, AllPairs}
-use Rattle.std.specs.List.{AllByRecursion, flat_map}
-use Rattle.std.specs.Ordering.{nat_cmp}
-use Rattle.std.specs.BTreeMap.{is_at}
-use Rattle.std.proofs.lemmas.Bool.{cases_eq, leb-false}
-use Rattle.std.proofs.lemmas.List.Elements.{recursion_from_All}
-use Rattle.slab.specs.Slab.{Slab}
+-- What waits once a slot has been written.
+use Rattle.std.proofs.Common.{◌≡◌, ◌≢◌, ◌⊎◌, ℕ, ◌<◌, ◌≤◌, ◌%◌, true, false, List, [], ◌∷◌, ◌++◌, length, set, sym, ap, subst, ◌∙◌, arith, inl, inr}
+use Rattle.std.specs.List.{AllByRecursion}
+use Rattle.std.specs.Map.{keys_of}
+use Rattle.std.proofs.lemmas.Bool.{cases_eq}
+use Rattle.std.proofs.lemmas.List.{get_or-set_same, get_or-set_other}
+use Rattle.std.proofs.lemmas.Nat.{mod_below}
 use Rattle.rtl_agenda.specs.Agenda.{Change, changes_at, with_change}
-use Rattle.rtl_agenda.specs.Chains.{Timed, held, chain_at, put_in, pushed, waiting_in, IsChained, IsRechained}
-use Rattle.rtl_agenda.specs.declared.cell.Cell.{Cell}
-use Rattle.rtl_agenda.proofs.Heads.{held_none}
-use Rattle.rtl_agenda.proofs.Taking.{AllPairs-tail}
-use Rattle.rtl_agenda.proofs.Pushed.{at_time, same_time, other_time, at_time-append, changes_at_with, changes_at_pushed, same_waiting, in_order_pushed, in_order_with, in_order_none}
+use Rattle.rtl_agenda.specs.Wheel.{IsFilled, IsRing, is_filled, slot_at, waiting_in}
+use Rattle.rtl_agenda.proofs.Pushing.{each_push_is_last}
+use Rattle.rtl_agenda.proofs.InOrder.{Rises, at_head, past_head, same_waiting, in_order_cons, in_order_head, in_order_with}
+use Rattle.rtl_agenda.proofs.Slots.{at_slot, at_slot-here, at_slot-free, changes_at_waiting, filled_push, filled_some, filled_within, found, found_none, found_only, found_set, in_order_waiting, later_waiting, some_filled}
 
-at_time_none : (q : ℕ) (f : Option ℕ → List Timed) (os : List (Option ℕ)) → ((i : ℕ) → at_time q (f (get_or os i None)) ≡ []) → at_time q (flat_map f os) ≡ []
-at_time_none q f [] none = refl
-at_time_none q f (o ∷ os) none =
-    at_time-append q (f o) (flat_map f os) ∙ ap (λ cs. cs ++ at_time q (flat_map f os)) (none 0) ∙ at_time_none q f os (λ i. none (suc i))
+module _ (slots : List (ℕ × List Change)) (words : List ℕ) (ring : IsRing slots words) where
+  -- a time has changes in its slot alone
+  elsewhere : (t k : ℕ) → k ≢ t % length slots → IsFilled slots k → t ≢ (slot_at slots k).0
+  elsewhere t k apart filled same = apart (sym (ring.placed k filled) ∙ ap (λ q. q % length slots) (sym same))
 
--- the changes of a time, where one chain alone has some
-at_time_flat : (q : ℕ) (f : Option ℕ → List Timed) (os : List (Option ℕ)) (s : ℕ) → f None ≡ [] → ((i : ℕ) → i ≢ s → at_time q (f (get_or os i None)) ≡ [])
-    → at_time q (flat_map f os) ≡ at_time q (f (get_or os s None))
-at_time_flat q f [] s empty others = sym (ap (λ (xs : List Timed). at_time q xs) empty)
-at_time_flat q f (o ∷ os) zero empty others =
-    at_time-append q (f o) (flat_map f os) ∙ ap (λ cs. at_time q (f o) ++ cs) (at_time_none q f os (λ i. others (suc i) (omega arith))) ∙ append-nil (at_time q (f o))
-at_time_flat q f (o ∷ os) (suc s) empty others =
-    at_time-append q (f o) (flat_map f os) ∙ ap (λ cs. cs ++ at_time q (flat_map f os)) (others 0 (omega arith))
-    ∙ at_time_flat q f os s empty (λ i apart. others (suc i) (omega arith))
+  found_written : (t : ℕ) (cs : List Change) (e : ℕ × List Change) → found t cs (set slots (t % length slots) e) ≡ at_slot t e cs
+  found_written t cs e =
+      found_only t cs (set slots (t % length slots) e) (t % length slots) others
+      ∙ ap (λ (x : ℕ × List Change). at_slot t x cs) (get_or-set_same slots (t % length slots) e (0, []) (mod_below t (length slots) ring.some))
+    where
+      others : (k : ℕ) → k ≢ t % length slots → IsFilled (set slots (t % length slots) e) k → t ≢ (slot_at (set slots (t % length slots) e) k).0
+      others k apart =
+          let Q : ℕ × List Change → Type 0 = λ x. is_filled x.1 ≡ true → t ≢ x.0 in
+          subst Q (sym (get_or-set_other slots (t % length slots) k e (0, []) apart)) (elsewhere t k apart)
 
-at_time_apart : (n i q : ℕ) (xs : List Timed) → AllByRecursion (λ (x : Timed). x.0 % n ≡ i) xs → q % n ≢ i → at_time q xs ≡ []
-at_time_apart n i q [] all apart = refl
-at_time_apart n i q (x ∷ xs) all apart =
-    ap (λ b. cond b (x.1 ∷ at_time q xs) (at_time q xs)) (other_time q x.0 (λ same. apart (ap (λ t. t % n) same ∙ all.0))) ∙ at_time_apart n i q xs all.1 apart
+  module _ (far : List (ℕ × List Change)) (in_order : Rises far) where
+    -- a change more in its slot
+    pub waiting_near : (t : ℕ) (c : Change) → (IsFilled slots (t % length slots) → (slot_at slots (t % length slots)).0 ≡ t) → changes_at far t ≡ []
+        → waiting_in far (set slots (t % length slots) (t, (slot_at slots (t % length slots)).1 ++ c ∷ [])) ≡ with_change (waiting_in far slots) t c
+    waiting_near t c free none =
+        same_waiting _ _ (in_order_waiting far (set slots (t % length slots) (t, (slot_at slots (t % length slots)).1 ++ c ∷ [])) in_order) (in_order_with (waiting_in far slots) t c (in_order_waiting far slots in_order))
+        (λ q. changes_at_waiting far (set slots (t % length slots) (t, (slot_at slots (t % length slots)).1 ++ c ∷ [])) q ∙ by q (cases_eq q t))
+      where
+        was : changes_at (waiting_in far slots) t ≡ (slot_at slots (t % length slots)).1
+        was =
+            changes_at_waiting far slots t ∙ found_only t (changes_at far t) slots (t % length slots) (elsewhere t)
+            ∙ at_slot-free t (slot_at slots (t % length slots)).0 (slot_at slots (t % length slots)).1 (changes_at far t) free none
 
--- the changes of a time stand in one chain
-pub waiting_at : (cells : Slab Cell) (firsts : List (Option ℕ)) → IsChained cells firsts → (q : ℕ) → changes_at (waiting_in cells firsts) q ≡ at_time q (chain_at cells firsts (q % length firsts))
-waiting_at cells firsts chained q =
-    changes_at_pushed [] (flat_map (held cells) firsts) q
-    ∙ at_time_flat q (held cells) firsts (q % length firsts) (held_none cells None refl)
-    (λ i apart. at_time_apart (length firsts) i q (chain_at cells firsts i) (recursion_from_All (λ (x : Timed). x.0 % length firsts ≡ i) (chain_at cells firsts i) (chained.placed i)) (λ is. apart (sym is)))
+        by : (q : ℕ) → (q ≡ t) ⊎ (q ≡ t → ⊥) → found q (changes_at far q) (set slots (t % length slots) (t, (slot_at slots (t % length slots)).1 ++ c ∷ [])) ≡ changes_at (with_change (waiting_in far slots) t c) q
+        by q (inl is) =
+            let P : ℕ → Type 0 = λ k. found k (changes_at far k) (set slots (t % length slots) (t, (slot_at slots (t % length slots)).1 ++ c ∷ [])) ≡ changes_at (with_change (waiting_in far slots) t c) k in
+            subst P (sym is)
+            (found_written t (changes_at far t) (t, (slot_at slots (t % length slots)).1 ++ c ∷ [])
+            ∙ at_slot-here t ((slot_at slots (t % length slots)).1 ++ c ∷ []) (changes_at far t) (filled_push (slot_at slots (t % length slots)).1 c)
+            ∙ ap (λ cs. cs ++ c ∷ []) (sym was) ∙ sym (each_push_is_last (waiting_in far slots) t c).0)
+        by q (inr apart) =
+            found_set q (changes_at far q) slots (t % length slots) (t, (slot_at slots (t % length slots)).1 ++ c ∷ []) (λ filled same. apart (same ∙ free filled)) (λ filled same. apart same)
+            ∙ sym (changes_at_waiting far slots q) ∙ sym ((each_push_is_last (waiting_in far slots) t c).1 q apart)
 
-pub at_time_above : (q : ℕ) (xs : List Timed) → AllByRecursion (λ (x : Timed). q < x.0) xs → at_time q xs ≡ []
-at_time_above q [] above = refl
-at_time_above q (x ∷ xs) above =
-    ap (λ b. cond b (x.1 ∷ at_time q xs) (at_time q xs)) (other_time q x.0 (let h = above.0 in omega arith)) ∙ at_time_above q xs above.1
+    -- a change more far ahead
+    pub waiting_far : (t : ℕ) (c : Change) → ((s : ℕ) → IsFilled slots s → t ≢ (slot_at slots s).0) → waiting_in (with_change far t c) slots ≡ with_change (waiting_in far slots) t c
+    waiting_far t c none =
+        same_waiting _ _ (in_order_waiting (with_change far t c) slots (in_order_with far t c in_order)) (in_order_with (waiting_in far slots) t c (in_order_waiting far slots in_order))
+        (λ q. changes_at_waiting (with_change far t c) slots q ∙ by q (cases_eq q t))
+      where
+        by : (q : ℕ) → (q ≡ t) ⊎ (q ≡ t → ⊥) → found q (changes_at (with_change far t c) q) slots ≡ changes_at (with_change (waiting_in far slots) t c) q
+        by q (inl is) =
+            let P : ℕ → Type 0 = λ k. found k (changes_at (with_change far t c) k) slots ≡ changes_at (with_change (waiting_in far slots) t c) k in
+            subst P (sym is)
+            (found_none t (changes_at (with_change far t c) t) slots none ∙ (each_push_is_last far t c).0
+            ∙ ap (λ cs. cs ++ c ∷ []) (sym (changes_at_waiting far slots t ∙ found_none t (changes_at far t) slots none)) ∙ sym (each_push_is_last (waiting_in far slots) t c).0)
+        by q (inr apart) =
+            ap (λ cs. found q cs slots) ((each_push_is_last far t c).1 q apart) ∙ sym (changes_at_waiting far slots q)
+            ∙ sym ((each_push_is_last (waiting_in far slots) t c).1 q apart)
 
-pub all_above : (q : ℕ) (y : Timed) (ys : List Timed) → q < y.0 → AllPairs (λ (x y : Timed). x.0 ≤ y.0) (y ∷ ys) → All (λ (x : Timed). q < x.0) (y ∷ ys)
-all_above q y ys less rising zero d within = less
-all_above q y ys less rising (suc k) d within = let least = rising 0 (suc k) d (omega arith) within in omega arith
+    -- the changes of a slot that has the least time are taken
+    pub waiting_taken : (s : ℕ) → IsFilled slots s → ((k : ℕ) → IsFilled slots k → (slot_at slots s).0 ≤ (slot_at slots k).0) → AllByRecursion (λ t. (slot_at slots s).0 < t) (keys_of far)
+        → waiting_in far slots ≡ slot_at slots s ∷ waiting_in far (set slots s ((slot_at slots s).0, []))
+    waiting_taken s filled least above =
+        same_waiting (waiting_in far slots) (slot_at slots s ∷ waiting_in far (set slots s ((slot_at slots s).0, []))) (in_order_waiting far slots in_order)
+        (in_order_cons (slot_at slots s) (waiting_in far (set slots s ((slot_at slots s).0, []))) (some_filled (slot_at slots s).1 filled)
+        (later_waiting (slot_at slots s).0 far (set slots s ((slot_at slots s).0, [])) above later) (in_order_waiting far (set slots s ((slot_at slots s).0, [])) in_order))
+        (λ q. changes_at_waiting far slots q ∙ by q (cases_eq q (slot_at slots s).0))
+      where
+        apart_from : (k : ℕ) → k ≢ s → IsFilled slots k → (slot_at slots s).0 ≢ (slot_at slots k).0
+        apart_from k apart there same = apart (sym (ring.placed k there) ∙ ap (λ q. q % length slots) (sym same) ∙ ring.placed s filled)
 
--- a change that is put in comes last among those of its time
-at_put_in : (q : ℕ) (xs : List Timed) (x : Timed) → AllPairs (λ (x y : Timed). x.0 ≤ y.0) xs → at_time q (put_in xs x) ≡ at_time q xs ++ at_time q (x ∷ [])
-at_put_in q [] x rising = refl
-at_put_in q (y ∷ ys) x rising = by (leb y.0 x.0) refl (at_put_in q ys x (AllPairs-tail (λ (x y : Timed). x.0 ≤ y.0) y ys rising))
-  where
-    split : (b : Bool) (front back : List Change) → cond b (y.1 ∷ (front ++ back)) (front ++ back) ≡ cond b (y.1 ∷ front) front ++ back
-    split true front back = refl
-    split false front back = refl
+        later : (k : ℕ) → IsFilled (set slots s ((slot_at slots s).0, [])) k → (slot_at slots s).0 < (slot_at (set slots s ((slot_at slots s).0, [])) k).0
+        later k = at (cases_eq k s)
+          where
+            at : (k ≡ s) ⊎ (k ≡ s → ⊥) → IsFilled (set slots s ((slot_at slots s).0, [])) k → (slot_at slots s).0 < (slot_at (set slots s ((slot_at slots s).0, [])) k).0
+            at (inl is) =
+                let Q : ℕ × List Change → Type 0 = λ x. is_filled x.1 ≡ true → (slot_at slots s).0 < x.0 in
+                subst Q (sym (ap (λ i. slot_at (set slots s ((slot_at slots s).0, [])) i) is ∙ get_or-set_same slots s ((slot_at slots s).0, []) (0, []) (filled_within slots s filled))) (λ none. absurd (cc))
+            at (inr apart) =
+                let Q : ℕ × List Change → Type 0 = λ x. is_filled x.1 ≡ true → (slot_at slots s).0 < x.0 in
+                subst Q (sym (get_or-set_other slots s k ((slot_at slots s).0, []) (0, []) apart)) (λ there. omega (arith, least k there, apart_from k apart there))
 
-    first : x.0 < y.0 → (q ≡ x.0) ⊎ (q ≡ x.0 → ⊥) → at_time q (x ∷ y ∷ ys) ≡ at_time q (y ∷ ys) ++ at_time q (x ∷ [])
-    first less (inl is) =
-        let none = at_time_above q (y ∷ ys) (recursion_from_All (λ (x : Timed). q < x.0) (y ∷ ys) (all_above q y ys (omega arith) rising)) in
-        let here : is_at (nat_cmp q) x.0 ≡ true = ap (λ t. is_at (nat_cmp q) t) (sym is) ∙ same_time q in
-        ap (λ b. cond b (x.1 ∷ at_time q (y ∷ ys)) (at_time q (y ∷ ys))) here ∙ ap (λ cs. x.1 ∷ cs) none
-        ∙ ap (λ b. cond b (x.1 ∷ []) []) (sym here) ∙ ap (λ cs. cs ++ at_time q (x ∷ [])) (sym none)
-    first less (inr apart) =
-        let other = other_time q x.0 apart in
-        ap (λ b. cond b (x.1 ∷ at_time q (y ∷ ys)) (at_time q (y ∷ ys))) other ∙ sym (append-nil (at_time q (y ∷ ys)))
-        ∙ ap (λ b. at_time q (y ∷ ys) ++ cond b (x.1 ∷ []) []) (sym other)
+        by : (q : ℕ) → (q ≡ (slot_at slots s).0) ⊎ (q ≡ (slot_at slots s).0 → ⊥) → found q (changes_at far q) slots ≡ changes_at (slot_at slots s ∷ waiting_in far (set slots s ((slot_at slots s).0, []))) q
+        by q (inl is) =
+            let P : ℕ → Type 0 = λ k. found k (changes_at far k) slots ≡ changes_at (slot_at slots s ∷ waiting_in far (set slots s ((slot_at slots s).0, []))) k in
+            subst P (sym is)
+            (found_only (slot_at slots s).0 (changes_at far (slot_at slots s).0) slots s apart_from
+            ∙ at_slot-here (slot_at slots s).0 (slot_at slots s).1 (changes_at far (slot_at slots s).0) filled
+            ∙ sym (at_head (slot_at slots s) (waiting_in far (set slots s ((slot_at slots s).0, [])))))
+        by q (inr apart) =
+            sym (found_set q (changes_at far q) slots s ((slot_at slots s).0, []) (λ there same. apart same) (λ none. absurd (cc)))
+            ∙ sym (changes_at_waiting far (set slots s ((slot_at slots s).0, [])) q) ∙ sym (past_head (slot_at slots s) (waiting_in far (set slots s ((slot_at slots s).0, []))) q apart)
 
-    by : (b : Bool) → leb y.0 x.0 ≡ b → at_time q (put_in ys x) ≡ at_time q ys ++ at_time q (x ∷ []) → at_time q (cond b (y ∷ put_in ys x) (x ∷ y ∷ ys)) ≡ at_time q (y ∷ ys) ++ at_time q (x ∷ [])
-    by true is later =
-        ap (λ cs. cond (is_at (nat_cmp q) y.0) (y.1 ∷ cs) cs) later ∙ split (is_at (nat_cmp q) y.0) (at_time q ys) (at_time q (x ∷ []))
-    by false is later = first (leb-false y.0 x.0 is) (cases_eq q x.0)
+  -- the first of the far times is drawn into its slot
+  pub waiting_drawn : (t : ℕ) (ds : List Change) (far : List (ℕ × List Change)) → Rises ((t, ds) ∷ far) → is_filled (slot_at slots (t % length slots)).1 ≡ false
+      → waiting_in far (set slots (t % length slots) (t, ds)) ≡ waiting_in ((t, ds) ∷ far) slots
+  waiting_drawn t ds far in_order free =
+      same_waiting _ _ (in_order_waiting far (set slots (t % length slots) (t, ds)) (in_order_head (t, ds) far in_order).2) (in_order_waiting ((t, ds) ∷ far) slots in_order)
+      (λ q. changes_at_waiting far (set slots (t % length slots) (t, ds)) q ∙ by q (cases_eq q t) ∙ sym (changes_at_waiting ((t, ds) ∷ far) slots q))
+    where
+      none : (k : ℕ) → IsFilled slots k → t ≢ (slot_at slots k).0
+      none k = at (cases_eq k (t % length slots))
+        where
+          at : (k ≡ t % length slots) ⊎ (k ≡ t % length slots → ⊥) → IsFilled slots k → t ≢ (slot_at slots k).0
+          at (inl is) filled =
+              let empty : is_filled (slot_at slots k).1 ≡ false = ap (λ i. is_filled (slot_at slots i).1) is ∙ free in
+              absurd (cc)
+          at (inr apart) filled = elsewhere t k apart filled
 
--- what waits once a change has been put into its chain
-pub waiting_put : (cells new : Slab Cell) (firsts new_firsts : List (Option ℕ)) (x : Timed) → IsChained cells firsts → IsChained new new_firsts
-    → IsRechained cells firsts new new_firsts (x.0 % length firsts) (put_in (chain_at cells firsts (x.0 % length firsts)) x)
-    → waiting_in new new_firsts ≡ with_change (waiting_in cells firsts) x.0 x.1
-waiting_put cells new firsts new_firsts x chained chained_new put =
-    same_waiting (waiting_in new new_firsts) (with_change (waiting_in cells firsts) x.0 x.1) (in_order_pushed [] (flat_map (held new) new_firsts) in_order_none)
-    (in_order_with (waiting_in cells firsts) x (in_order_pushed [] (flat_map (held cells) firsts) in_order_none)) each
-  where
-    in_chain : (q : ℕ) → (q % length firsts ≡ x.0 % length firsts) ⊎ (q % length firsts ≡ x.0 % length firsts → ⊥)
-        → at_time q (chain_at new new_firsts (q % length firsts)) ≡ at_time q (chain_at cells firsts (q % length firsts)) ++ at_time q (x ∷ [])
-    in_chain q (inl is) =
-        let P : ℕ → Type 0 = λ s. at_time q (chain_at new new_firsts s) ≡ at_time q (chain_at cells firsts s) ++ at_time q (x ∷ []) in
-        subst P (sym is) (ap (λ (xs : List Timed). at_time q xs) put.at ∙ at_put_in q (chain_at cells firsts (x.0 % length firsts)) x (chained.rising (x.0 % length firsts)))
-    in_chain q (inr apart) =
-        let other = other_time q x.0 (λ same. apart (ap (λ t. t % length firsts) same)) in
-        ap (λ (xs : List Timed). at_time q xs) (put.others (q % length firsts) apart) ∙ sym (append-nil (at_time q (chain_at cells firsts (q % length firsts))))
-        ∙ ap (λ b. at_time q (chain_at cells firsts (q % length firsts)) ++ cond b (x.1 ∷ []) []) (sym other)
-
-    each : (q : ℕ) → changes_at (waiting_in new new_firsts) q ≡ changes_at (with_change (waiting_in cells firsts) x.0 x.1) q
-    each q =
-        waiting_at new new_firsts chained_new q ∙ ap (λ n. at_time q (chain_at new new_firsts (q % n))) put.chains ∙ in_chain q (cases_eq (q % length firsts) (x.0 % length firsts))
-        ∙ ap (λ cs. cs ++ at_time q (x ∷ [])) (sym (waiting_at cells firsts chained q)) ∙ sym (changes_at_with (waiting_in cells firsts) x q)
-
--- nothing waits in empty chains
-pub waiting_none : (cells : Slab Cell) (firsts : List (Option ℕ)) → ((s : ℕ) → chain_at cells firsts s ≡ []) → waiting_in cells firsts ≡ []
-unfolding pushed
-waiting_none cells firsts none = ap (λ (xs : List Timed). pushed [] xs) (flat_none firsts none)
-  where
-    flat_none : (os : List (Option ℕ)) → ((s : ℕ) → chain_at cells os s ≡ []) → flat_map (held cells) os ≡ []
-    flat_none [] none = refl
-    flat_none (o ∷ os) none = ap (λ (xs : List Timed). xs ++ flat_map (held cells) os) (none 0) ∙ flat_none os (λ s. none (suc s))
+      by : (q : ℕ) → (q ≡ t) ⊎ (q ≡ t → ⊥) → found q (changes_at far q) (set slots (t % length slots) (t, ds)) ≡ found q (changes_at ((t, ds) ∷ far) q) slots
+      by q (inl is) =
+          let P : ℕ → Type 0 = λ k. found k (changes_at far k) (set slots (t % length slots) (t, ds)) ≡ found k (changes_at ((t, ds) ∷ far) k) slots in
+          subst P (sym is)
+          (found_written t (changes_at far t) (t, ds) ∙ at_slot-here t ds (changes_at far t) (filled_some ds (in_order_head (t, ds) far in_order).0)
+          ∙ sym (found_none t (changes_at ((t, ds) ∷ far) t) slots none ∙ at_head (t, ds) far))
+      by q (inr apart) =
+          found_set q (changes_at far q) slots (t % length slots) (t, ds) (λ filled. absurd (cc)) (λ filled same. apart same)
+          ∙ ap (λ cs. found q cs slots) (sym (past_head (t, ds) far q apart))

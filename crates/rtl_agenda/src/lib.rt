@@ -6,11 +6,12 @@
 #![tactic(auto)]
 
 mod agenda;
-mod cell;
-mod chains;
 mod laws;
 mod map_agenda;
 mod occupied;
+mod ring;
+mod slot;
+mod time_map;
 mod wheel;
 
 pub use agenda::{Agenda, Change, NoMemory};

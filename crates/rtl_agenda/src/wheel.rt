@@ -1,31 +1,33 @@
-//! An agenda over chains by remainders of the times.
+//! An agenda over a ring of slots.
 
-ghost use Rattle.std.specs.Prelude.{◌≡◌, ◌⊎◌, ◌+◌, ◌-◌, ◌%◌, ◌≤◌, ◌<◌, ℕ, [], Some, None, All, IfOk, IfSome, IsTrue, List, length, vec_capacity};
+ghost use Rattle.std.specs.Prelude.{◌≡◌, ◌∷◌, ◌≤◌, ◌<◌, [], Some, None, IfOk, IfSome, IfNone, unwrap_or};
 ghost use Rattle.rtl_agenda.specs.Agenda.{IsOrderly};
-ghost use Rattle.rtl_agenda.specs.Chains.{BeginsAt, NoneIsEarlier, Timed, chain_at};
+ghost use Rattle.rtl_agenda.specs.MapState.{waiting_of};
 ghost use Rattle.rtl_agenda.specs.Occupied.{most_slots};
-ghost use Rattle.rtl_agenda.specs.Wheel.{IsWheel, turned_to};
+ghost use Rattle.rtl_agenda.specs.Wheel.{IsAhead, IsParted, entries_of, turned_to, waiting_in};
 
 use crate::agenda::{Agenda, Change, NoMemory};
-use crate::chains::Chains;
-use crate::occupied::Occupied;
+use crate::ring::Ring;
+use crate::time_map::TimeMap;
 use std::alloc::Global;
 
-/// An agenda that keeps its changes in a ring of slots: each stands in the slot of its time modulo their number.
+/// An agenda that keeps the times of one turn in a ring of slots, each in the slot of its remainder modulo their
+/// number, and later times in an ordered map. A turn is as many ns as there are slots.
 pub struct Wheel {
-    chains: Chains,
-    occupied: Occupied,
+    near: Ring,
+    far: TimeMap,
     last: Option<u64>,
     taken: Vec<Change>,
-    ghost wheel: { IsWheel chains.cells chains.firsts.items occupied.words.items (vec_capacity taken) },
-    ghost orderly: { IsOrderly (turned_to chains.cells chains.firsts.items last taken.items) },
+    ghost parted: { IsParted (waiting_of far.times.entries) (entries_of near.slots.items) (unwrap_or last 0) },
+    ghost orderly: { IsOrderly
+        (turned_to (waiting_of far.times.entries) (entries_of near.slots.items) last taken.items) },
 }
 
 impl Drop for Wheel {
     fn drop(self) {
         let Wheel {
-            chains: _,
-            occupied: _,
+            near: _,
+            far: _,
             last: _,
             taken: _,
         } = self;
@@ -40,102 +42,72 @@ impl Wheel {
         ensures { IfOk result (λ w. ⟦<Wheel as Agenda>⟧.state w ≡ record { waiting = []; last = None; taken = [] }) }
     {
         Ok(Wheel {
-            chains: Chains::new(alloc, slots)?,
-            occupied: Occupied::new(alloc, slots)?,
+            near: Ring::new(alloc, slots)?,
+            far: TimeMap::new(alloc),
             last: None,
             taken: Vec::new(alloc),
         })
     }
-
-    // The slot of a time.
-    fn slot_of(&self, time: u64) -> usize
-        ensures { result ≡ time % length self.now.chains.firsts.items }
-    {
-        (time % self.chains.firsts.len() as u64) as usize
-    }
-
-    // The least time of all, from the slot of the time taken last round.
-    fn least(&self) -> Option<u64>
-        ensures there { IfSome result (λ time. BeginsAt (chain_at self.now.chains.cells self.now.chains.firsts.items (time % length self.now.chains.firsts.items)) time) }
-        ensures least { (s : ℕ) → NoneIsEarlier result (chain_at self.now.chains.cells self.now.chains.firsts.items s) }
-    {
-        let slots = self.chains.firsts.len();
-        let last = self.last.unwrap_or(0);
-        let start = self.slot_of(last);
-        let found = self.least_within(start, slots, last, None);
-        let turned = last.saturating_add((slots - start) as u64);
-        self.least_within(0, start, turned, found)
-    }
-
-    // The least of a time and those of the slots from one to another, of which the first has none before the earliest
-    // time, the next none before one later, and so on. It looks no further than none can be less.
-    fn least_within(&self, from: usize, to: usize, earliest: u64, found: Option<u64>) -> Option<u64>
-        requires within { to ≤ length self.now.chains.firsts.items }
-        requires later { (s : ℕ) → from ≤ s → s < to
-            → All (λ x. earliest + (s - from) ≤ x.0) (chain_at self.now.chains.cells self.now.chains.firsts.items s) }
-        requires there { IfSome found (λ time. BeginsAt (chain_at self.now.chains.cells self.now.chains.firsts.items (time % length self.now.chains.firsts.items)) time) }
-        ensures there { IfSome result (λ time. BeginsAt (chain_at self.now.chains.cells self.now.chains.firsts.items (time % length self.now.chains.firsts.items)) time) }
-        ensures least { (s : ℕ) → from ≤ s → s < to → NoneIsEarlier result (chain_at self.now.chains.cells self.now.chains.firsts.items s) }
-        ensures kept { (chain : List Timed) → NoneIsEarlier found chain → NoneIsEarlier result chain }
-    {
-        let mut least = found;
-        let mut next = from;
-        while let Some(slot) = self.occupied.next_from(next) {
-            if to <= slot || is_within(least, earliest, slot - from) {
-                return least;
-            }
-            least = lesser(least, self.chains.first(slot));
-            next = slot + 1;
-        }
-        least
-    }
-}
-
-// A time is at most so much after another.
-fn is_within(time: Option<u64>, earliest: u64, distance: usize) -> bool
-    ensures { IsTrue result → (t : ℕ) × (time ≡ Some t) × (t ≤ earliest + distance) }
-{
-    time.is_some_and(|time| time.saturating_sub(earliest) <= distance as u64)
-}
-
-// The lesser of two times.
-fn lesser(left: Option<u64>, right: Option<u64>) -> Option<u64>
-    ensures either { (result ≡ left) ⊎ (result ≡ right) }
-    ensures left { (chain : List Timed) → NoneIsEarlier left chain → NoneIsEarlier result chain }
-    ensures right { (chain : List Timed) → NoneIsEarlier right chain → NoneIsEarlier result chain }
-{
-    match (left, right) {
-        (Some(l), Some(r)) if l <= r => left,
-        (Some(_), None) => left,
-        _ => right,
-    }
 }
 
 impl Agenda for Wheel {
-    ghost state = { λ w. turned_to w.chains.cells w.chains.firsts.items w.last w.taken.items };
+    ghost state = { λ w.
+        turned_to (waiting_of w.far.times.entries) (entries_of w.near.slots.items) w.last w.taken.items };
 
     ghost orderly = { λ w. w.orderly };
 
     fn push(&mut self, time: u64, change: Change) -> Result<(), NoMemory> {
-        let room = self.chains.reserve()?;
-        self.taken.reserve(room.saturating_sub(self.taken.len()))?;
-        let slot = self.slot_of(time);
-        self.chains.put(time, change);
-        self.occupied.set(slot, true);
-        Ok(())
+        if time - self.last.unwrap_or(0) < self.near.slots.len() as u64 {
+            return self.near.push(time, change);
+        }
+        self.far.push(time, change)
     }
 
     fn next(&mut self) -> Option<u64> {
-        let time = self.least()?;
-        let slot = self.slot_of(time);
-        self.taken.clear();
-        self.chains.take_all(slot, time, &mut self.taken);
-        self.occupied.set(slot, self.chains.first(slot).is_some());
+        let from = self.last.unwrap_or(0);
+        let time = take_least(&mut self.near, &mut self.far, from, &mut self.taken)?;
+        draw_near(&mut self.near, &mut self.far, time);
         self.last = Some(time);
         Some(time)
     }
 
     fn changes(&self) -> &[Change] {
         &self.taken
+    }
+}
+
+// Takes the least time off, which a slot has where any has one, and its changes.
+fn take_least(near: &mut Ring, far: &mut TimeMap, from: u64, taken: &mut Vec<Change>) -> Option<u64>
+    requires { IsParted (waiting_of far.old.times.entries) (entries_of near.old.slots.items) from }
+    ensures least { IfSome result (λ time.
+        waiting_in (waiting_of far.old.times.entries) (entries_of near.old.slots.items)
+        ≡ (time, taken.new.items) ∷ waiting_in (waiting_of far.new.times.entries) (entries_of near.new.slots.items)) }
+    ensures ahead { IfSome result (λ time.
+        IsAhead (waiting_of far.new.times.entries) (entries_of near.new.slots.items) time) }
+    ensures empty { IfNone result
+        (waiting_in (waiting_of far.old.times.entries) (entries_of near.old.slots.items) ≡ []) }
+    ensures near { IfNone result (entries_of near.new.slots.items ≡ entries_of near.old.slots.items) }
+    ensures far { IfNone result (waiting_of far.new.times.entries ≡ waiting_of far.old.times.entries) }
+    ensures taken { IfNone result (taken.new.items ≡ taken.old.items) }
+{
+    if let Some(slot) = near.first_from(from) {
+        let time = near.slots[slot].time;
+        near.take(slot, taken);
+        return Some(time);
+    }
+    let (time, changes) = far.take_first()?;
+    *taken = changes;
+    Some(time)
+}
+
+// Draws the times that are within a turn from one on into their slots.
+fn draw_near(near: &mut Ring, far: &mut TimeMap, from: u64)
+    requires { IsAhead (waiting_of far.old.times.entries) (entries_of near.old.slots.items) from }
+    ensures waiting { waiting_in (waiting_of far.new.times.entries) (entries_of near.new.slots.items)
+        ≡ waiting_in (waiting_of far.old.times.entries) (entries_of near.old.slots.items) }
+    ensures parted { IsParted (waiting_of far.new.times.entries) (entries_of near.new.slots.items) from }
+{
+    while let Some((time, changes)) = far.take_near(from, near.slots.len()) {
+        near.put(time, changes);
     }
 }
