@@ -1,8 +1,8 @@
 """Shapes of sources and stimuli that grow with one number, to measure what the program takes of each.
 
 A shape is a function of its size; it gives a Case, whose top is `t`. SHAPES has for each shape the least size that is measured and
-the commands that are, of which LATER are left out but where they are asked for. `exempt` names the commands of which more than linear
-growth is no fault, and why; `grows` tells by what a shape grows, where it isn't its size.
+the commands that are. `exempt` names the commands of which more than linear growth is no fault, and why; `grows` tells by what a shape
+grows, where it isn't its size.
 """
 import math
 import random
@@ -235,9 +235,9 @@ def clocks_apart(n):
 
 
 def clocks_of_one_remainder(n):
-    """n clocks, which toggle some three times each, all at times that 256 divides."""
-    toggles = "".join(f"clock c{k} {256 * (k + 1)} {128 * n}\n" for k in range(n))
-    return clocks(n)._replace(stimulus=f"{toggles}stop {512 * n}\n")
+    """n clocks at times that 256 divides: one toggles at the stop alone, the others twenty times together."""
+    toggles = "".join(f"clock c{k} 256 256\n" for k in range(1, n))
+    return clocks(n)._replace(stimulus=f"clock c0 5120 5120\n{toggles}stop 5120\n")
 
 
 def clocks_and_data(n):
@@ -363,7 +363,6 @@ def undeclared(n):
 
 NOTHING = Case(design("a : in std_logic", "", ""), "stop 0\n")
 RUNS = ("run", "run --event", "run --levels")
-LATER = ("check --json", "check --explain")
 EACH = ("net", "check", "check --dot", "check --json", "check --explain", *RUNS)
 JUDGED = ("check", "check --json", "check --explain")
 REFUSED = (*JUDGED, "run --event")

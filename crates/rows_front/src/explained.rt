@@ -8,6 +8,7 @@ use rtl_report::{LexRule, Place, Report, Rule, Subject, SyntaxRule};
 use rtlsim_explain::{Lexed, explain_refusal, explain_source};
 use rtlsim_files::SourceFile;
 use std::alloc::Global;
+use vhdl_expected::{Expected, expected_at};
 use vhdl_lexer::{LexFault, Token, lex};
 use vhdl_parser::{SyntaxFault, parse};
 
@@ -47,12 +48,19 @@ fn push_refused(
     source: &[u8],
     tokens: &[Token],
     fault: SyntaxFault,
-) {
+)
+    requires within { AreWithin source.now tokens.now }
+{
     let mut out = Text::new(alloc);
     let at = fault.byte().unwrap_or(0);
+    let expected = match fault {
+        SyntaxFault::Unexpected { at } => expected_at(alloc, source, tokens, at),
+        _ => Ok(Expected::Nothing),
+    };
     explain_at(
         source,
         tokens,
+        expected.unwrap_or(Expected::Nothing),
         syntax_rule(fault),
         at,
         Subject::Word,
@@ -65,6 +73,7 @@ fn push_refused(
 pub fn explain_at(
     source: &[u8],
     tokens: &[Token],
+    expected: Expected,
     rule: Rule,
     at: usize,
     subject: Subject,
@@ -77,6 +86,7 @@ pub fn explain_at(
     explain_source(
         &file_of(source),
         lexed,
+        expected,
         reported(rule, Some(at), subject),
         out,
     );

@@ -5,6 +5,7 @@ use crate::source::{push_source, push_written, source_of};
 use rows_calls::Text;
 use rtl_report::{ElabRule, NameRule, Rule, Subject};
 use std::alloc::Global;
+use vhdl_expected::Expected;
 use vhdl_lexer::lex;
 
 /// The rules on names and types, in the order of their numbers.
@@ -50,7 +51,15 @@ pub fn push_problem(found: &mut Text, alloc: Global, written: &str) {
     if let Ok(tokens) = lex(alloc, source.as_bytes()) {
         let number = number.parse::<u8>().unwrap_or(0);
         if let Some((rule, subject)) = rule_of(layer, number) {
-            explain_at(source.as_bytes(), &tokens, rule, at, subject, &mut out);
+            explain_at(
+                source.as_bytes(),
+                &tokens,
+                Expected::Nothing,
+                rule,
+                at,
+                subject,
+                &mut out,
+            );
         }
     }
     found.heed(&source);

@@ -43,8 +43,10 @@ fn tell_agenda<A: Agenda, S: Sink>(agenda: &mut A, out: &mut S)
 
 /// Takes the next time off, and tells it with its changes.
 fn tell_next<A: Agenda, S: Sink>(agenda: &mut A, out: &mut S)
-    ensures waiting { (time : ℕ) (changes : List Change) (rest : List (ℕ × List Change)) → (A.state agenda.old).waiting ≡ (time, changes) ∷ rest → (A.state agenda.new).waiting ≡ rest }
-    ensures last { (time : ℕ) (changes : List Change) (rest : List (ℕ × List Change)) → (A.state agenda.old).waiting ≡ (time, changes) ∷ rest → (A.state agenda.new).last ≡ Some time }
+    ensures waiting { (time : ℕ) (changes : List Change) (rest : List (ℕ × List Change))
+        → (A.state agenda.old).waiting ≡ (time, changes) ∷ rest → (A.state agenda.new).waiting ≡ rest }
+    ensures last { (time : ℕ) (changes : List Change) (rest : List (ℕ × List Change))
+        → (A.state agenda.old).waiting ≡ (time, changes) ∷ rest → (A.state agenda.new).last ≡ Some time }
 {
     match agenda.next() {
         Some(time) => push_count(out, "  ", time),
@@ -99,7 +101,8 @@ fn push_some<A: Agenda>(agenda: &mut A) -> Result<(), NoMemory>
 fn push_apart<A: Agenda>(agenda: &mut A) -> Result<(), NoMemory>
     requires waiting { (A.state agenda.old).waiting ≡ [] }
     requires last { (A.state agenda.old).last ≡ None }
-    ensures { OnOk result ((A.state agenda.new).waiting ≡ (1, (7, nine.Zero) ∷ []) ∷ (2, (7, nine.One) ∷ []) ∷ (5, (3, nine.H) ∷ []) ∷ (9, (2, nine.U) ∷ []) ∷ []) }
+    ensures { OnOk result ((A.state agenda.new).waiting ≡
+        (1, (7, nine.Zero) ∷ []) ∷ (2, (7, nine.One) ∷ []) ∷ (5, (3, nine.H) ∷ []) ∷ (9, (2, nine.U) ∷ []) ∷ []) }
 {
     agenda.push(5, (3, Nine::H))?;
     agenda.push(1, (7, Nine::Zero))?;
@@ -112,7 +115,8 @@ fn push_apart<A: Agenda>(agenda: &mut A) -> Result<(), NoMemory>
 fn push_between<A: Agenda>(agenda: &mut A) -> Result<(), NoMemory>
     requires waiting { (A.state agenda.old).waiting ≡ (5, (3, nine.H) ∷ []) ∷ (9, (2, nine.U) ∷ []) ∷ [] }
     requires last { (A.state agenda.old).last ≡ Some 2 }
-    ensures { OnOk result ((A.state agenda.new).waiting ≡ (4, (6, nine.One) ∷ []) ∷ (5, (3, nine.H) ∷ (2, nine.Z) ∷ []) ∷ (9, (2, nine.U) ∷ []) ∷ []) }
+    ensures { OnOk result ((A.state agenda.new).waiting ≡
+        (4, (6, nine.One) ∷ []) ∷ (5, (3, nine.H) ∷ (2, nine.Z) ∷ []) ∷ (9, (2, nine.U) ∷ []) ∷ []) }
 {
     agenda.push(5, (2, Nine::Z))?;
     agenda.push(4, (6, Nine::One))?;

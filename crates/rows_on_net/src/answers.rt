@@ -98,8 +98,17 @@ fn push_refused<S: Sink>(told: &mut S, fault: StimFault) {
 
 /// Writes what is wrong with a line of a stimulus.
 fn push_problem<S: Sink>(told: &mut S, problem: StimProblem, line: usize) {
-    push_count(told, "stim ", problem.number() as u64);
-    push_text(told, b" ");
-    push_text(told, problem.title().as_bytes());
+    push_text(told, problem_text(problem));
     push_count(told, " line ", line as u64);
+}
+
+fn problem_text(problem: StimProblem) -> &'static [u8] {
+    match problem {
+        StimProblem::BadLine => b"stim 1 BadLine",
+        StimProblem::NotAnInput => b"stim 2 NotAnInput",
+        StimProblem::BadValue => b"stim 3 BadValue",
+        StimProblem::SetTwice => b"stim 4 SetTwice",
+        StimProblem::ClockAndSet => b"stim 5 ClockAndSet",
+        StimProblem::TimeTooLarge => b"stim 7 TimeTooLarge",
+    }
 }

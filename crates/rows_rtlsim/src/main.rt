@@ -32,13 +32,14 @@ use std::{fs, io};
 use tries::Tries;
 
 /// The tables of calls, in the folder in which the program runs.
-const TABLES: [&str; 23] = [
+const TABLES: [&str; 24] = [
     "values.txt",
     "refused.txt",
     "inputs.txt",
     "words.txt",
     "several.txt",
     "explain.txt",
+    "remarks.txt",
     "net.txt",
     "check.txt",
     "check_faults.txt",

@@ -5,6 +5,5 @@ pub mod Lines
 pub mod Naming
 pub mod Differences
 pub mod Telling
-pub mod Faults
 pub mod Watching
 pub mod Reading

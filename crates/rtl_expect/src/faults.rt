@@ -19,32 +19,6 @@ pub enum ExpectProblem {
 }
 
 impl ExpectProblem {
-    ghost use Rattle.rtl_expect.specs.Faults.{problem_number, problem_title};
-
-    /// The number under which it is told. 1 and 2 are a value that differs, and a time behind the stop.
-    pub fn number(self) -> u8
-        ensures { result ≡ problem_number self }
-    {
-        match self {
-            ExpectProblem::BadLine => 3,
-            ExpectProblem::NotASignal => 4,
-            ExpectProblem::BadValue => 5,
-            ExpectProblem::TimeTooLarge => 6,
-        }
-    }
-
-    /// The name under which it is told.
-    pub fn title(self) -> &'static str
-        ensures { result.now ≡ problem_title self }
-    {
-        match self {
-            ExpectProblem::BadLine => "BadLine",
-            ExpectProblem::NotASignal => "NotASignal",
-            ExpectProblem::BadValue => "BadValue",
-            ExpectProblem::TimeTooLarge => "TimeTooLarge",
-        }
-    }
-
     /// The fault of this problem in a line.
     pub(crate) fn in_line(self, line: usize) -> ExpectFault
         ensures { result ≡ ExpectFault.InLine self line }

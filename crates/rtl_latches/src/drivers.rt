@@ -1,17 +1,22 @@
-//! Where a body leaves out the assignments of all nets of its process.
+//! What a body does to all nets of its process: which of them it assigns, and where it leaves an assignment out.
 
 ghost use Rattle.std.specs.Prelude.{◌≡◌, ℕ, nat_eq, IfOk};
 ghost use Rattle.std.specs.HashMap.{get};
+ghost use Rattle.std.specs.List.Sorted.{IsStrictlyIncreasing};
+ghost use Rattle.rtl_net.specs.Bodies.{statements_of};
 ghost use Rattle.rtl_net_facts.specs.Paths.{to_net};
+ghost use Rattle.rtl_net_facts.specs.Reading.{is_in};
+ghost use Rattle.rtl_latches.specs.Assigning.{stmts_assign};
 ghost use Rattle.rtl_latches.specs.Omissions.{omission_of};
 ghost use Rattle.rtl_latches.specs.Parts.{left_at};
 
 use crate::gathering::gather;
 use crate::omission::Omission;
-use crate::parts::Left;
+use crate::parts::{Left, touched};
 use rtl_net::{Driver, Statement};
 use std::alloc::{AllocError, Global};
 use std::collections::HashMap;
+use std::slice;
 
 /// Of each net the first place that leaves it out.
 fn first_places(alloc: Global, left: &[Left]) -> Result<HashMap<usize, Omission>, AllocError>
@@ -36,4 +41,19 @@ pub fn omissions(
 {
     let part = gather(alloc, drives, statements)?;
     first_places(alloc, &part.left)
+}
+
+/// The nets that a sequence of a process with these drivers assigns on some path, rising. It takes the time and memory that `omissions`
+/// takes.
+pub fn assigned_on_some_path(
+    alloc: Global,
+    statements: &[Statement],
+    drives: &[Driver],
+) -> Result<Vec<usize>, AllocError>
+    ensures rise { IfOk result (λ nets. IsStrictlyIncreasing nets.items) }
+    ensures are { IfOk result (λ nets. (n : ℕ) → is_in n nets.items
+        ≡ stmts_assign (to_net drives.now n) (statements_of statements.now)) }
+{
+    let part = gather(alloc, drives, statements)?;
+    touched(alloc, slice::from_ref(&part))
 }

@@ -1,6 +1,6 @@
 -- Ifs of a body by their branches, and conditions by their chains.
-use Rattle.std.proofs.Common.{◌≡◌, ℕ, ◌+◌, ◌<◌, ◌≤◌, subst, Bool, true, false, ◌||◌, List, [], ◌∷◌, ◌++◌, length, get_or, take, drop, Option, Some, None, Vec, Global, refl, sym, ap, ◌∙◌, vec_len, ◌==◌, arith}
-use Rattle.std.specs.Prelude.{is_some, nat_lt, if◌then◌else◌, option_map, option_and_then, flat_map}
+use Rattle.std.proofs.Common.{◌≡◌, ℕ, zero, suc, ◌+◌, ◌<◌, ◌≤◌, subst, Bool, true, false, ◌&&◌, ◌||◌, List, [], ◌∷◌, ◌++◌, length, get_or, take, drop, Option, Some, None, Vec, Global, refl, sym, ap, ◌∙◌, vec_len, ◌==◌, arith}
+use Rattle.std.specs.Prelude.{is_some, is_none, nat_lt, if◌then◌else◌, option_map, option_and_then, flat_map}
 use Rattle.std.specs.Option.{option_or}
 use Rattle.std.proofs.lemmas.List.{take_more, length-map, get_or-map}
 use Rattle.std.proofs.lemmas.Bool.{eqb-true}
@@ -22,10 +22,11 @@ use Rattle.rtl_reasons.specs.Edges.{is_gated}
 use Rattle.rtl_reasons.specs.declared.reason.Reason.{Reason}
 use Rattle.rtl_reasons.specs.declared.reason.Reason.TheVariants.{GatedEdge, ResetBehind, BehindEdge, EdgeInside, NoEdge}
 use Rattle.rtl_model.specs.bodies.Reads.{events}
+use Rattle.rtl_net.specs.declared.process.Process.{Process}
 use Rattle.rtl_net.specs.Nets.{NetlistView}
 use Rattle.rtl_reasons.specs.declared.ifs.EdgeIf.{EdgeIf}
 use Rattle.rtl_reasons.specs.declared.reads.First.{First}
-use Rattle.rtl_reasons.specs.Reasons.{at_of, branches_of_if, if_branches, conditions, first_branch, has_else, tests_of, inner_events, head_of, gated_edge, elsewhere, elsewhere_in, reset_net, sole_reset, reset_behind, first_that_fits, own_reasons, reset_reason, reset_of, other_before}
+use Rattle.rtl_reasons.specs.Reasons.{at_or, at_of, branches_of_if, if_branches, conditions, branch_of, edge_branch, has_else, tests_of, inner_events, head_of, gated_edge, elsewhere, elsewhere_in, reset_net, sole_reset, reset_behind, first_that_fits, own_reasons, reset_reason, reset_of, other_before, computes, assigns_alike}
 
 -- ---- ifs
 
@@ -37,9 +38,12 @@ pub if-branches : (x : Statement) (at : ℕ) (branches : Vec Branch Global) (las
     → if_branches x ≡ Some (whole branches last)
 if-branches x at branches last is = ap if_branches is ∙ ap branches_of_if (view_if at branches last)
 
-pub if-at : (x : Statement) (at : ℕ) (branches : Vec Branch Global) (last : Option (Vec Statement Global)) → x ≡ vs.If at branches last → at_of x ≡ at
-if-at x at branches None is = ap at_of is
-if-at x at branches (Some v) is = ap at_of is
+pub if-at-or : (given : ℕ) (x : Statement) (at : ℕ) (branches : Vec Branch Global) (last : Option (Vec Statement Global)) → x ≡ vs.If at branches last → at_or given x ≡ at
+if-at-or given x at branches None is = ap (at_or given) is
+if-at-or given x at branches (Some v) is = ap (at_or given) is
+
+if-at : (x : Statement) (at : ℕ) (branches : Vec Branch Global) (last : Option (Vec Statement Global)) → x ≡ vs.If at branches last → at_of x ≡ at
+if-at x at branches last is = if-at-or 0 x at branches last is
 
 -- what is told of an if by its place and its branches
 pub of-if : {A : Type 0} (f : ℕ → bodies.Branches → Option A) (x : Statement) (at : ℕ) (branches : Vec Branch Global) (last : Option (Vec Statement Global)) → x ≡ vs.If at branches last
@@ -88,26 +92,38 @@ elsewhere-if x at branches last is =
 
 -- ---- the branches of an if, told by its list of them
 
-pub sole-many : (last : Option (List Statement)) (bs : List Branch) → (length bs ≡ 1 → ⊥) → None ≡ sole_reset (branches_of (otherwise_of last) bs)
-sole-many None [] n = refl
-sole-many (Some xs) [] n = refl
-sole-many last (b ∷ []) n = absurd (n refl)
-sole-many last (b ∷ d ∷ bs) n = refl
+module _ (p : Process) (edge : ℕ → Bool) where
+  pub sole-many : (last : Option (List Statement)) (bs : List Branch) → (length bs ≡ 1 → ⊥) → None ≡ sole_reset p edge (branches_of (otherwise_of last) bs)
+  sole-many None [] n = refl
+  sole-many (Some xs) [] n = refl
+  sole-many last (b ∷ []) n = absurd (n refl)
+  sole-many last (b ∷ d ∷ bs) n = refl
 
-pub sole-else : (last : Option (Vec Statement Global)) (bs : List Branch) → is_some last ≡ true → None ≡ sole_reset (branches_of (otherwise_of (option_map (λ v. v.items) last)) bs)
-sole-else None bs e = absurd (let k : false ≡ true = e in cc)
-sole-else (Some v) [] e = refl
-sole-else (Some v) (b ∷ []) e = refl
-sole-else (Some v) (b ∷ d ∷ bs) e = refl
+  pub sole-else : (last : Option (Vec Statement Global)) (bs : List Branch) → is_some last ≡ true → None ≡ sole_reset p edge (branches_of (otherwise_of (option_map (λ v. v.items) last)) bs)
+  sole-else None bs e = absurd (let k : false ≡ true = e in cc)
+  sole-else (Some v) [] e = refl
+  sole-else (Some v) (b ∷ []) e = refl
+  sole-else (Some v) (b ∷ d ∷ bs) e = refl
 
-pub behind-is : (x : Statement) (at : ℕ) (branches : Vec Branch Global) (last : Option (Vec Statement Global)) → x ≡ vs.If at branches last
-    → option_map (ResetBehind at) (sole_reset (whole branches last)) ≡ reset_behind x
-behind-is x at branches last is =
-    sym (ap (λ (o : Option bodies.Branches). option_map (ResetBehind (at_of x)) (option_and_then sole_reset o)) (if-branches x at branches last is)
-    ∙ ap (λ (a : ℕ). option_map (ResetBehind a) (sole_reset (whole branches last))) (if-at x at branches last is))
+  -- an if with one branch and no else
+  pub sole-one : (last : Option (Vec Statement Global)) (bs : List Branch) (b : Branch) (so : Bool) → length bs ≡ 1 → is_some last ≡ false → b ≡ get_or bs 0 b
+      → (is_none (computes 0 (statements_of b.statements.items)) && assigns_alike p edge (statements_of b.statements.items)) ≡ so
+      → (if so then reset_net (test_view b.test) else None) ≡ sole_reset p edge (branches_of (otherwise_of (option_map (λ v. v.items) last)) bs)
+  sole-one (Some v) bs b so one none is e = absurd (let k : true ≡ false = none in cc)
+  sole-one None [] b so one none is e = absurd (omega arith)
+  sole-one None (x ∷ y ∷ bs) b so one none is e = absurd (omega arith)
+  sole-one None (x ∷ []) b so one none is e =
+      sym (ap (λ (a : Bool). if a then reset_net (test_view b.test) else None) e)
+      ∙ ap (λ (y : Branch). if is_none (computes 0 (statements_of y.statements.items)) && assigns_alike p edge (statements_of y.statements.items) then reset_net (test_view y.test) else None) is
+
+  pub behind-is : (x : Statement) (at : ℕ) (branches : Vec Branch Global) (last : Option (Vec Statement Global)) → x ≡ vs.If at branches last
+      → option_map (ResetBehind at) (sole_reset p edge (whole branches last)) ≡ reset_behind p edge x
+  behind-is x at branches last is =
+      sym (ap (λ (o : Option bodies.Branches). option_map (ResetBehind (at_of x)) (option_and_then (sole_reset p edge) o)) (if-branches x at branches last is)
+      ∙ ap (λ (a : ℕ). option_map (ResetBehind a) (sole_reset p edge (whole branches last))) (if-at x at branches last is))
 
 -- what is told of an if with an edge itself, by the list of its branches
-first-is : (last : Option (List Statement)) (bs : List Branch) → first_branch (branches_of (otherwise_of last) bs) ≡ first_branch (branches_of bodies.no_else bs)
+first-is : (last : Option (List Statement)) (bs : List Branch) → branch_of (branches_of (otherwise_of last) bs) 0 ≡ branch_of (branches_of bodies.no_else bs) 0
 first-is None [] = refl
 first-is (Some xs) [] = refl
 first-is last (b ∷ bs) = refl
@@ -117,25 +133,46 @@ told_by at first second behind = first_that_fits (first ∷ second ∷ (if behin
 
 pub own-is : (net : NetlistView) (i : EdgeIf) (last : Option (Vec Statement Global)) (bs : List Branch)
     → first_that_fits (own_reasons net i (branches_of (otherwise_of (option_map (λ v. v.items) last)) bs))
-    ≡ told_by i.at (reset_reason net i (tests_of bs) (first_branch (branches_of bodies.no_else bs))) (other_before i.at i.before (tests_of bs)) (nat_lt 1 (length (drop i.before (tests_of bs))) || is_some last)
-own-is net i last bs = go (option_map (λ v. v.items) last) ∙ ap (λ (b : Bool). told_by i.at (reset_reason net i (tests_of bs) (first_branch (branches_of bodies.no_else bs))) (other_before i.at i.before (tests_of bs)) (nat_lt 1 (length (drop i.before (tests_of bs))) || b)) (same last)
+    ≡ told_by i.at (reset_reason net i (tests_of bs) (branch_of (branches_of bodies.no_else bs) 0)) (other_before i.at i.before (tests_of bs)) (nat_lt 1 (length (drop i.before (tests_of bs))) || is_some last)
+own-is net i last bs = go (option_map (λ v. v.items) last) ∙ ap (λ (b : Bool). told_by i.at (reset_reason net i (tests_of bs) (branch_of (branches_of bodies.no_else bs) 0)) (other_before i.at i.before (tests_of bs)) (nat_lt 1 (length (drop i.before (tests_of bs))) || b)) (same last)
   where
     same : (o : Option (Vec Statement Global)) → is_some (option_map (λ v. v.items) o) ≡ is_some o
     same None = refl
     same (Some v) = refl
 
     go : (o : Option (List Statement)) → first_that_fits (own_reasons net i (branches_of (otherwise_of o) bs))
-        ≡ told_by i.at (reset_reason net i (tests_of bs) (first_branch (branches_of bodies.no_else bs))) (other_before i.at i.before (tests_of bs)) (nat_lt 1 (length (drop i.before (tests_of bs))) || is_some o)
+        ≡ told_by i.at (reset_reason net i (tests_of bs) (branch_of (branches_of bodies.no_else bs) 0)) (other_before i.at i.before (tests_of bs)) (nat_lt 1 (length (drop i.before (tests_of bs))) || is_some o)
     go o = λ k. told_by i.at (reset_reason net i (conditions-are o bs k) (first-is o bs k)) (other_before i.at i.before (conditions-are o bs k)) (nat_lt 1 (length (drop i.before (conditions-are o bs k))) || else-is o bs k)
 
 pub first-there : (before : ℕ) (bs : List Branch) (b : Branch) (n : ℕ) → reset_of before (tests_of bs) ≡ Some n → b ≡ get_or bs 0 b
-    → statements_of b.statements.items ≡ first_branch (branches_of bodies.no_else bs)
+    → statements_of b.statements.items ≡ branch_of (branches_of bodies.no_else bs) 0
 first-there before [] b n h e = absurd (none (before == 1) h)
   where
     none : (y : Bool) → (if y then None else None) ≡ Some n → ⊥
     none true k = cc
     none false k = cc
 first-there before (x ∷ bs) b n h e = ap (λ (y : Branch). statements_of y.statements.items) e
+
+-- the branch before which so many stand
+branch-there : (last : bodies.Branches) (bs : List Branch) (before : ℕ) (b : Branch) → before < length bs → b ≡ get_or bs before b
+    → branch_of (branches_of last bs) before ≡ statements_of b.statements.items
+branch-there last [] before b l is = absurd (omega arith)
+branch-there last (x ∷ bs) zero b l is = sym (ap (λ (y : Branch). statements_of y.statements.items) is)
+branch-there last (x ∷ bs) (suc before) b l is = branch-there last bs before b (omega arith) is
+
+branch-missing : (last : Option (List Statement)) (bs : List Branch) (before : ℕ) → length bs ≤ before → branch_of (branches_of (otherwise_of last) bs) before ≡ bodies.done
+branch-missing None [] before l = refl
+branch-missing (Some xs) [] before l = refl
+branch-missing last (x ∷ bs) zero l = absurd (omega arith)
+branch-missing last (x ∷ bs) (suc before) l = branch-missing last bs before (omega arith)
+
+module _ (x : Statement) (at : ℕ) (branches : Vec Branch Global) (last : Option (Vec Statement Global)) (is : x ≡ vs.If at branches last) (before : ℕ) where
+  pub edge-branch : (b : Branch) → before < length branches.items → b ≡ get_or branches.items before b → edge_branch before (if_branches x) ≡ statements_of b.statements.items
+  edge-branch b l e =
+      ap (edge_branch before) (if-branches x at branches last is) ∙ branch-there (otherwise_of (option_map (λ v. v.items) last)) branches.items before b l e
+
+  pub no-edge-branch : length branches.items ≤ before → edge_branch before (if_branches x) ≡ bodies.done
+  no-edge-branch l = ap (edge_branch before) (if-branches x at branches last is) ∙ branch-missing (option_map (λ v. v.items) last) branches.items before l
 
 -- ---- chains
 

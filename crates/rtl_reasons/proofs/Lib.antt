@@ -1,3 +1,4 @@
 mod Searches
 mod Branching
+mod Driven
 mod Law

@@ -1,14 +1,18 @@
 -- Searches over statements and conditions, one further.
-use Rattle.std.proofs.Common.{◌≡◌, ℕ, ◌+◌, ◌<◌, ◌≤◌, List, [], ◌∷◌, length, get_or, drop, take, zero, suc, Bool, true, false, not, ◌||◌, Option, Some, None, refl, sym, ap, ◌∙◌, arith}
+use Rattle.std.proofs.Common.{◌≡◌, ℕ, ◌+◌, ◌-◌, ◌<◌, ◌≤◌, List, [], ◌∷◌, ◌++◌, length, get_or, drop, take, zero, suc, Bool, true, false, not, ◌&&◌, ◌||◌, ◌==◌, Option, Some, None, refl, sym, ap, ◌∙◌, arith}
 use Rattle.std.specs.Prelude.{is_some, if◌then◌else◌, option_map, option_and_then}
 use Rattle.std.specs.List.{list_any}
-use Rattle.std.proofs.lemmas.List.{at_drop_more, at_drop_all}
+use Rattle.std.proofs.lemmas.List.{at_drop_more, at_drop_all, take_all}
 use Rattle.rtl_model.specs.bodies.Body.{Test, Branches}
 use Rattle.rtl_net.specs.declared.body.Statement.{Statement}
 use Rattle.rtl_reasons.specs.Edges.{edge_of}
 use Rattle.rtl_reasons.specs.declared.edges.EdgeTest.{EdgeTest}
 use Rattle.rtl_reasons.specs.declared.ifs.EdgeIf.{EdgeIf}
-use Rattle.rtl_reasons.specs.Reasons.{at_of, if_branches, conditions, first_edge, edge_if, edge_in}
+use Rattle.std.specs.Option.{option_or}
+use Rattle.rtl_reasons.specs.declared.reason.Reason.{Reason}
+use Rattle.rtl_reasons.specs.declared.reason.Reason.TheVariants.{OtherEdge, EdgeInLoop, SecondEdge}
+use Rattle.rtl_net.specs.declared.process.Process.{Process}
+use Rattle.rtl_reasons.specs.Reasons.{at_of, if_branches, conditions, first_edge, edge_if, edge_in, first_in, first_net, assigns_in, same_edge, second_edge, second_if, first_that_fits}
 
 -- one of two, by whether the first is there
 pub one-is : {A : Type 0} (a b : Option A) (x : A) → a ≡ Some x → (if is_some a then a else b) ≡ Some x
@@ -28,6 +32,12 @@ module _ {X A : Type 0} (f : X → Option A) (search next : List X → Option A)
 
   pub passed : (x : X) (all : Option A) → i < length xs → x ≡ get_or xs i x → search (drop i xs) ≡ all → f x ≡ None → next (drop (i + 1) xs) ≡ all
   passed x all l e inv is = sym (one-none (f x) (next (drop (i + 1) xs)) is) ∙ (sym (here x l e) ∙ inv)
+
+  pub found-so : (x : X) (a all : Option A) → i < length xs → x ≡ get_or xs i x → search (drop i xs) ≡ all → a ≡ f x → is_some a ≡ true → a ≡ all
+  found-so x a all l e inv is so = is ∙ (sym (ap (λ (b : Bool). if b then f x else next (drop (i + 1) xs)) (ap is_some (sym is) ∙ so)) ∙ (sym (here x l e) ∙ inv))
+
+  pub passed-so : (x : X) (a all : Option A) → i < length xs → x ≡ get_or xs i x → search (drop i xs) ≡ all → a ≡ f x → is_some a ≡ false → next (drop (i + 1) xs) ≡ all
+  passed-so x a all l e inv is so = sym (ap (λ (b : Bool). if b then f x else next (drop (i + 1) xs)) (ap is_some (sym is) ∙ so)) ∙ (sym (here x l e) ∙ inv)
 
 pub ended : {X A : Type 0} (search : List X → Option A) (xs : List X) (i : ℕ) (all : Option A) → length xs ≤ i → search [] ≡ None → search (drop i xs) ≡ all → None ≡ all
 ended search xs i all l none inv = sym none ∙ (sym (at_drop_all search xs i l) ∙ inv)
@@ -107,3 +117,75 @@ edge-there number (x ∷ xs) i h = go (edge_if number x) refl h (edge-there (num
         → (first_edge (number + 1) xs ≡ Some i → i.number < (number + 1) + length xs) → i.number < number + length (x ∷ xs)
     go None e k behind = let rest : i.number < (number + 1) + length xs = behind k in omega arith
     go (Some j) e k behind = let same : j.number ≡ i.number = ap number_of k in let here : j.number ≡ number = if-number number x j e in omega arith
+
+-- ---- the first of some that fits
+
+pub first-fits : (a r : Option Reason) (rs : List (Option Reason)) → a ≡ r → is_some a ≡ true → a ≡ first_that_fits (r ∷ rs)
+first-fits a r rs e so = e ∙ sym (ap (λ (b : Bool). if b then r else first_that_fits rs) (sym (ap is_some e) ∙ so))
+
+pub later-fits : (a r b : Option Reason) (rs : List (Option Reason)) → a ≡ r → is_some a ≡ false → b ≡ first_that_fits rs → b ≡ first_that_fits (r ∷ rs)
+later-fits a r b rs e none is = is ∙ sym (ap (λ (y : Bool). if y then r else first_that_fits rs) (sym (ap is_some e) ∙ none))
+
+pub only-fits : (r : Option Reason) → r ≡ first_that_fits (r ∷ [])
+only-fits None = refl
+only-fits (Some x) = refl
+
+pub in-both : {A : Type 0} (f : Statement → Option A) (xs ys : List Statement) → first_in f (xs ++ ys) ≡ option_or (first_in f xs) (first_in f ys)
+in-both f [] ys = refl
+in-both f (x ∷ xs) ys = go (f x) (in-both f xs ys)
+  where
+    go : (a : Option _) → first_in f (xs ++ ys) ≡ option_or (first_in f xs) (first_in f ys)
+        → (if is_some a then a else first_in f (xs ++ ys)) ≡ option_or (if is_some a then a else first_in f xs) (first_in f ys)
+    go None e = e
+    go (Some y) e = refl
+
+module _ {A : Type 0} (f : Statement → Option A) (xs ys : List Statement) (a : Option A) (first : a ≡ first_in f xs) where
+  kept : (a b : Option A) → is_some a ≡ true → a ≡ option_or a b
+  kept None b so = absurd cc
+  kept (Some x) b so = refl
+
+  other : (a b : Option A) → is_some a ≡ false → b ≡ option_or a b
+  other None b none = refl
+  other (Some x) b none = absurd cc
+
+  pub both-first : is_some a ≡ true → a ≡ first_in f (xs ++ ys)
+  both-first so = kept a (first_in f ys) so ∙ (ap (λ o. option_or o (first_in f ys)) first ∙ sym (in-both f xs ys))
+
+  pub both-later : (b : Option A) → is_some a ≡ false → b ≡ first_in f ys → b ≡ first_in f (xs ++ ys)
+  both-later b none is = is ∙ (other a (first_in f ys) none ∙ (ap (λ o. option_or o (first_in f ys)) first ∙ sym (in-both f xs ys)))
+
+-- what stands behind a statement, as a slice
+drop-length : {A : Type 0} (k : ℕ) (xs : List A) → length (drop k xs) ≤ length xs - k
+drop-length zero xs = omega arith
+drop-length (suc k) [] = omega arith
+drop-length (suc k) (x ∷ xs) = let l : length (drop k xs) ≤ length xs - k = drop-length k xs in omega arith
+
+pub behind-is : {A : Type 0} (k : ℕ) (xs ys : List A) → xs ≡ ys → take (length xs - k) (drop k xs) ≡ drop k ys
+behind-is k xs ys e = take_all (length xs - k) (drop k xs) (drop-length k xs) ∙ ap (drop k) e
+
+-- ---- what is told of a further statement
+
+module _ (p : Process) (x y : Statement) (i : EdgeIf) where
+  pub no-second : edge_if 0 y ≡ None → None ≡ second_if p x i y
+  no-second e = sym (ap (option_map (second_edge p x y i)) e)
+
+  module _ (j : EdgeIf) (is : edge_if 0 y ≡ Some j) where
+    told : (r : Reason) → second_edge p x y i j ≡ r → Some r ≡ second_if p x i y
+    told r e = sym (ap (option_map (second_edge p x y i)) is ∙ ap (λ (a : Reason). Some a) e)
+
+    pub other-edge : (net : Option ℕ) → same_edge i.edge j.edge ≡ false → net ≡ first_net p (λ n. assigns_in p x n && assigns_in p y n)
+        → Some (OtherEdge j.at net) ≡ second_if p x i y
+    other-edge net e n =
+        told (OtherEdge j.at net) (ap (λ (b : Bool). if not b then OtherEdge j.at (first_net p (λ n. assigns_in p x n && assigns_in p y n)) else if i.at == j.at then EdgeInLoop j.at else SecondEdge j.at) e
+        ∙ sym (ap (OtherEdge j.at) n))
+
+    same : (so : Bool) → same_edge i.edge j.edge ≡ true → (i.at == j.at) ≡ so → Some (if so then EdgeInLoop j.at else SecondEdge j.at) ≡ second_if p x i y
+    same so e at =
+        told (if so then EdgeInLoop j.at else SecondEdge j.at)
+        (λ k. if not (e k) then OtherEdge j.at (first_net p (λ n. assigns_in p x n && assigns_in p y n)) else if at k then EdgeInLoop j.at else SecondEdge j.at)
+
+    pub in-loop : same_edge i.edge j.edge ≡ true → (i.at == j.at) ≡ true → Some (EdgeInLoop j.at) ≡ second_if p x i y
+    in-loop e at = same true e at
+
+    pub the-same : same_edge i.edge j.edge ≡ true → (i.at == j.at) ≡ false → Some (SecondEdge j.at) ≡ second_if p x i y
+    the-same e at = same false e at

@@ -1,9 +1,8 @@
 -- Why a process is neither clocked nor combinational: the first of eight reasons that fits its body. A register is one if (IEEE
 -- 1076-2008, 10.8) and nothing else. Its condition is an edge, alone; or an asynchronous reset's comes first and the edge behind it,
 -- and it has no else (docs/LANGUAGE.md, "Registers"). Each reason tells what stands in the way.
-use Rattle.std.specs.Prelude.{ℕ, ◌+◌, Bool, true, false, not, ◌&&◌, ◌||◌, ◌==◌, nat_lt, if◌then◌else◌, List, [], ◌∷◌, ◌++◌, length, map, take, drop, slice_get, Option, Some, None, is_some, is_none, option_map, option_and_then}
+use Rattle.std.specs.Prelude.{ℕ, zero, suc, ◌+◌, Bool, true, false, not, ◌&&◌, ◌||◌, ◌==◌, nat_lt, if◌then◌else◌, List, [], ◌∷◌, ◌++◌, length, map, take, drop, find, slice_get, Option, Some, None, is_some, is_none, option_map, option_and_then}
 use Rattle.std.specs.List.{list_any}
-use Rattle.std.specs.Option.{option_or}
 use Rattle.vhdl_values.specs.declared.kinds.Edge.{Edge}
 use Rattle.vhdl_values.specs.declared.kinds.Edge.TheVariants.{Rising, Falling, To1, To0}
 use Rattle.rtl_model.specs.bodies.Body.{Test, level, Stmt, null_of, assign, if_of, Stmts, done, step, Branches, no_else, otherwise, branch}
@@ -17,21 +16,25 @@ use Rattle.rtl_net.specs.declared.body.Branch.{Branch}
 use Rattle.rtl_net.specs.declared.process.Process.{Process}
 use Rattle.rtl_net.specs.Bodies.{test_view, statement_view, statements_of}
 use Rattle.rtl_net.specs.Nets.{NetlistView, flat, body_of}
-use Rattle.rtl_net_facts.specs.Paths.{driven}
+use Rattle.rtl_latches.specs.Assigning.{stmts_assign}
+use Rattle.rtl_net_facts.specs.Paths.{driven, to_net}
 use Rattle.rtl_net_facts.specs.Reading.{is_in, some}
 use Rattle.rtl_reasons.specs.Edges.{edge_of, is_gated}
 use Rattle.rtl_reasons.specs.declared.ifs.EdgeIf.{EdgeIf}
 use Rattle.rtl_reasons.specs.declared.edges.EdgeTest.{EdgeTest}
 use Rattle.rtl_reasons.specs.declared.reason.Reason.{Reason}
-use Rattle.rtl_reasons.specs.declared.reason.Reason.TheVariants.{GatedEdge, SecondEdge, EdgeInLoop, OtherEdge, ResetBehind, ResetMadeInside, ResetReads, ResetComputes, NoResetTest, SeveralResets, BehindEdge, Beside, NoEdge, EdgeInside}
+use Rattle.rtl_reasons.specs.declared.reason.Reason.TheVariants.{GatedEdge, SecondEdge, EdgeInLoop, OtherEdge, ResetBehind, ResetMadeInside, ResetReads, ResetComputes, NoResetTest, SeveralResets, BehindEdge, Beside, BesideToo, StandsBeside, NoEdge, EdgeInside}
 
 -- ---- the ifs of a body
 
--- the byte at which an if or a case starts; nothing else is asked
+-- the byte at which an if or a case starts; of another statement the netlist has none, and the one that is given stands for it
+abbrev pub at_or : (given : ℕ) → Statement → ℕ
+at_or given (s.If' at shape branches last) = at
+at_or given (s.Case' at selector shape alternatives of_last last) = at
+at_or given _ = given
+
 abbrev pub at_of : Statement → ℕ
-at_of (s.If' at shape branches last) = at
-at_of (s.Case' at selector shape alternatives of_last last) = at
-at_of _ = 0
+at_of x = at_or 0 x
 
 abbrev pub branches_of_if : Stmt → Option Branches
 branches_of_if (if_of bs) = Some bs
@@ -40,7 +43,7 @@ branches_of_if _ = None
 abbrev pub if_branches : Statement → Option Branches
 if_branches x = branches_of_if (statement_view x)
 
--- its conditions, the branch of the first, and whether it has an else; and the conditions of branches in a list
+-- its conditions, the branch of the one before which so many stand, and whether it has an else; and the conditions of branches in a list
 abbrev pub conditions : Branches → List Test
 conditions (branch t s bs) = t ∷ conditions bs
 conditions _ = []
@@ -48,9 +51,11 @@ conditions _ = []
 abbrev pub tests_of : List Branch → List Test
 tests_of bs = map (λ (b : Branch). test_view b.test) bs
 
-abbrev pub first_branch : Branches → Stmts
-first_branch (branch t s bs) = s
-first_branch _ = done
+abbrev pub branch_of : Branches → (before : ℕ) → Stmts
+branch_of no_else before = done
+branch_of (otherwise s) before = done
+branch_of (branch t s bs) zero = s
+branch_of (branch t s bs) (suc before) = branch_of bs before
 
 abbrev pub has_else : Branches → Bool
 has_else no_else = false
@@ -77,6 +82,20 @@ first_edge number (x ∷ xs) = if is_some (edge_if number x) then edge_if number
 abbrev pub first_in : {A : Type 0} → (found : Statement → Option A) → List Statement → Option A
 first_in found [] = None
 first_in found (x ∷ xs) = if is_some (found x) then found x else first_in found xs
+
+-- ---- what a process assigns
+
+-- somewhere in these statements, on whatever path, it assigns this net
+abbrev pub assigns : Process → Stmts → (n : ℕ) → Bool
+assigns p s n = stmts_assign (to_net p.drives.items n) s
+
+-- the same of one statement
+abbrev pub assigns_in : Process → Statement → (n : ℕ) → Bool
+assigns_in p x n = assigns p (statements_of (x ∷ [])) n
+
+-- of the nets that it drives, in order of declaration, the first such
+abbrev pub first_net : Process → (such : ℕ → Bool) → Option ℕ
+first_net p such = find such (driven p.drives.items)
 
 -- ---- resets
 
@@ -116,7 +135,8 @@ computes at (step s rest) = if is_some (computes_in at s) then computes_in at s 
 abbrev pub gated_edge : Statement → Option Reason
 gated_edge x = option_and_then (λ bs. if list_any is_gated (conditions bs) then Some (GatedEdge (at_of x)) else None) (if_branches x)
 
--- ---- 2. A second if with an edge: the same one, in two ifs or in two turns of a loop, which start at one byte; or another one
+-- ---- 2. A second if with an edge: the same one, in two ifs or in two turns of a loop, which start at one byte; or another one, told with
+-- the first net that both ifs assign
 
 abbrev pub same_kind : Edge → Edge → Bool
 same_kind Rising Rising = true
@@ -128,20 +148,33 @@ same_kind _ _ = false
 abbrev pub same_edge : EdgeTest → EdgeTest → Bool
 same_edge a b = (a.clock == b.clock) && same_kind a.edge b.edge
 
-abbrev pub second_edge : EdgeIf → EdgeIf → Reason
-second_edge a b =
-    if not (same_edge a.edge b.edge) then OtherEdge b.at
-    else if a.at == b.at then EdgeInLoop b.at
-    else SecondEdge b.at
+abbrev pub second_edge : Process → (x y : Statement) → (of_x of_y : EdgeIf) → Reason
+second_edge p x y i j =
+    if not (same_edge i.edge j.edge) then OtherEdge j.at (first_net p (λ n. assigns_in p x n && assigns_in p y n))
+    else if i.at == j.at then EdgeInLoop j.at
+    else SecondEdge j.at
 
--- ---- 3. A reset behind the edge: an if with a reset's test alone, whose branch assigns constants
+-- what is told of a further statement, if it is an if with an edge
+abbrev pub second_if : Process → (x : Statement) → (of_x : EdgeIf) → Statement → Option Reason
+second_if p x i y = option_map (second_edge p x y i) (edge_if 0 y)
 
-abbrev pub sole_reset : Branches → Option ℕ
-sole_reset (branch t s no_else) = if is_none (computes 0 s) then reset_net t else None
-sole_reset _ = None
+-- ---- 3. A reset behind the edge: an if with a reset's test alone, whose branch assigns constants, to a net at least, and to none that
+-- the edge's branch doesn't assign too
 
-abbrev pub reset_behind : Statement → Option Reason
-reset_behind x = option_map (ResetBehind (at_of x)) (option_and_then sole_reset (if_branches x))
+abbrev pub edge_branch : (before : ℕ) → Option Branches → Stmts
+edge_branch before None = done
+edge_branch before (Some bs) = branch_of bs before
+
+-- `edge` are the nets that the edge's branch assigns
+abbrev pub assigns_alike : Process → (edge : ℕ → Bool) → Stmts → Bool
+assigns_alike p edge s = is_some (first_net p (assigns p s)) && is_none (first_net p (λ n. assigns p s n && not (edge n)))
+
+abbrev pub sole_reset : Process → (edge : ℕ → Bool) → Branches → Option ℕ
+sole_reset p edge (branch t s no_else) = if is_none (computes 0 s) && assigns_alike p edge s then reset_net t else None
+sole_reset p edge _ = None
+
+abbrev pub reset_behind : Process → (edge : ℕ → Bool) → Statement → Option Reason
+reset_behind p edge x = option_map (ResetBehind (at_of x)) (option_and_then (sole_reset p edge) (if_branches x))
 
 -- ---- 4. The reset is no in port of the top: told with the first process that drives it, if one does
 
@@ -171,19 +204,26 @@ abbrev pub behind_edge : (at before : ℕ) → Branches → Option Reason
 behind_edge at before bs =
     if nat_lt 1 (length (drop before (conditions bs))) || has_else bs then Some (BehindEdge at) else None
 
--- ---- 8. Statements beside the if with the edge: told with the first net that an assignment among them assigns
+-- ---- 8. Statements beside the if with the edge, which are before it or behind it: told of the first of them that assigns a net, with the
+-- first that it assigns; of the first, where none does
 
-abbrev pub first_place : Stmt → Option ℕ
-first_place (assign places v) = head_of places
-first_place _ = None
+abbrev pub statements_beside : Process → (number : ℕ) → List Statement
+statements_beside p number = take number p.body.items ++ drop (number + 1) p.body.items
 
-abbrev pub first_assigned : Process → Statement → Option ℕ
-first_assigned p x = option_and_then (slice_get (driven p.drives.items)) (first_place (statement_view x))
+-- the if with the edge assigns the net too
+abbrev pub beside : (too : Bool) → (at net : ℕ) → Reason
+beside too at net = if too then BesideToo at net else Beside at net
 
-abbrev pub beside_edge : Process → EdgeIf → Option Reason
-beside_edge p i =
-    if length p.body.items == 1 then None
-    else Some (Beside i.at (option_or (first_in (first_assigned p) (take i.number p.body.items)) (first_in (first_assigned p) (drop (i.number + 1) p.body.items))))
+-- `edge` are the nets that the if with the edge assigns
+abbrev pub assigns_beside : Process → (edge : ℕ → Bool) → (at : ℕ) → Statement → Option Reason
+assigns_beside p edge at x = option_map (λ n. beside (edge n) (at_or at x) n) (first_net p (assigns_in p x))
+
+abbrev pub stands_beside : (at : ℕ) → Statement → Option Reason
+stands_beside at x = Some (StandsBeside (at_or at x))
+
+abbrev pub beside_reasons : Process → EdgeIf → (edge : ℕ → Bool) → List (Option Reason)
+beside_reasons p i edge =
+    first_in (assigns_beside p edge i.at) (statements_beside p i.number) ∷ first_in (stands_beside i.at) (statements_beside p i.number) ∷ []
 
 -- ---- What is left, of the first statement with an edge or `'event` in it: it stands in a condition, which is then no edge, or deeper,
 -- under one of any kind or in a case.
@@ -215,23 +255,23 @@ reset_reason net i ts first = first_that_fits
 
 abbrev pub own_reasons : NetlistView → EdgeIf → Branches → List (Option Reason)
 own_reasons net i bs =
-    reset_reason net i (conditions bs) (first_branch bs) ∷ other_before i.at i.before (conditions bs) ∷ behind_edge i.at i.before bs ∷ []
+    reset_reason net i (conditions bs) (branch_of bs 0) ∷ other_before i.at i.before (conditions bs) ∷ behind_edge i.at i.before bs ∷ []
 
 abbrev pub own_reason : NetlistView → EdgeIf → Statement → Option Reason
 own_reason net i x = option_and_then (λ bs. first_that_fits (own_reasons net i bs)) (if_branches x)
 
 -- 2 to 8 are of the first if with an edge
-abbrev pub edge_reasons : NetlistView → Process → EdgeIf → List (Option Reason)
-edge_reasons net p i =
-    option_map (second_edge i) (first_edge 0 (drop (i.number + 1) p.body.items))
-    ∷ first_in reset_behind (drop (i.number + 1) p.body.items)
-    ∷ option_and_then (own_reason net i) (slice_get p.body.items i.number)
-    ∷ beside_edge p i
+abbrev pub edge_reasons : NetlistView → Process → EdgeIf → Statement → List (Option Reason)
+edge_reasons net p i x =
+    first_in (second_if p x i) (drop (i.number + 1) p.body.items)
+    ∷ first_in (reset_behind p (assigns p (edge_branch i.before (if_branches x)))) (drop (i.number + 1) p.body.items)
+    ∷ own_reason net i x
+    ∷ first_that_fits (beside_reasons p i (assigns_in p x))
     ∷ []
 
 abbrev pub edge_reason : NetlistView → Process → Option EdgeIf → Option Reason
 edge_reason net p None = None
-edge_reason net p (Some i) = first_that_fits (edge_reasons net p i)
+edge_reason net p (Some i) = option_and_then (λ x. first_that_fits (edge_reasons net p i x)) (slice_get p.body.items i.number)
 
 abbrev pub reason_of_body : NetlistView → Process → Option Reason
 reason_of_body net p = first_that_fits

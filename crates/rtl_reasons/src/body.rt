@@ -1,17 +1,19 @@
 //! The first reason that fits a process.
 
-ghost use Rattle.std.specs.Prelude.{◌≡◌, ◌<◌, ◌||◌, nat_lt, drop, length, is_some, option_map};
+ghost use Rattle.std.specs.Prelude.{◌≡◌, ◌<◌, ◌||◌, nat_lt, drop, length, is_some, Some, option_map, IfOk};
 ghost use Rattle.rtl_model.specs.bodies.Body.{no_else};
-ghost use Rattle.rtl_net.specs.Bodies.{branches_of, otherwise_of};
+ghost use Rattle.rtl_net.specs.Bodies.{statements_of, branches_of, otherwise_of};
 ghost use Rattle.rtl_net_facts.specs.Reading.{some};
 ghost use Rattle.rtl_reasons.specs.Reasons as spec;
 
+use crate::beside::beside_edge;
 use crate::ifs::{EdgeIf, first_edge, gated_edge, second_edge};
-use crate::reads::first_number;
+use crate::nets::nets_of;
 use crate::reason::Reason;
 use crate::resets::{computes, other_before, reset_behind, reset_of};
 use rtl_net::{Branch, Net, Process, Source, Statement};
 use rtl_net_facts::{ProcessKind, body_has_event, contains_rising, kind_of};
+use std::alloc::{AllocError, Global};
 use std::slice;
 
 /// The first process that drives a net.
@@ -46,7 +48,7 @@ fn made_inside(net: &Net, at: u32, reset: usize) -> Option<Reason>
 /// What is told of the reset of an if with an edge.
 fn reset_reason(net: &Net, found: EdgeIf, branches: &[Branch]) -> Option<Reason>
     ensures { result ≡ spec.reset_reason net.now found (spec.tests_of branches.now)
-        (spec.first_branch (branches_of no_else branches.now)) }
+        (spec.branch_of (branches_of no_else branches.now) 0) }
 {
     let reset = reset_of(found.before, branches)?;
     if let Some(reason) = made_inside(net, found.at, reset) {
@@ -99,64 +101,46 @@ fn own_reason(net: &Net, found: EdgeIf, statement: &Statement) -> Option<Reason>
     }
 }
 
-/// The first net that a statement assigns, if it is an assignment.
-fn first_assigned(process: &Process, statement: &Statement) -> Option<usize>
-    ensures { result ≡ spec.first_assigned process.now statement.now }
+/// The statements of the branch of an if before which so many stand.
+fn branch_of(statement: &Statement, before: usize) -> &[Statement]
+    ensures { statements_of result.now ≡ spec.edge_branch before (spec.if_branches statement.now) }
 {
     match statement {
-        Statement::Assign { places, .. } => {
-            let place = first_number(places)?;
-            let driver = process.drives.get(place)?;
-            Some(driver.net)
+        Statement::If { branches, .. } => {
+            if before >= branches.len() {
+                return &[];
+            }
+            &branches[before].statements
         }
-        _ => None,
+        _ => &[],
     }
-}
-
-/// The first net that an assignment among these assigns.
-fn first_net(process: &Process, statements: &[Statement]) -> Option<usize>
-    ensures { result ≡ spec.first_in (spec.first_assigned process.now) statements.now }
-{
-    for statement in statements {
-        if let Some(net) = first_assigned(process, statement) {
-            return Some(net);
-        }
-    }
-    None
-}
-
-/// What is told of statements beside an if with an edge.
-fn beside_edge(process: &Process, found: EdgeIf) -> Option<Reason>
-    requires { found.number < length process.now.body.items }
-    ensures { result ≡ spec.beside_edge process.now found }
-{
-    let body = process.body.as_slice();
-    if body.len() == 1 {
-        return None;
-    }
-    let net = match first_net(process, &body[..found.number]) {
-        Some(net) => Some(net),
-        None => first_net(process, &body[found.number + 1..]),
-    };
-    Some(Reason::Beside { at: found.at, net })
 }
 
 /// What is told of the first if with an edge.
-fn edge_reason(net: &Net, process: &Process, found: EdgeIf) -> Option<Reason>
+fn edge_reason(
+    alloc: Global,
+    net: &Net,
+    process: &Process,
+    found: EdgeIf,
+) -> Result<Option<Reason>, AllocError>
     requires { found.number < length process.now.body.items }
-    ensures { result ≡ spec.first_that_fits (spec.edge_reasons net.now process.now found) }
+    ensures { IfOk result (λ reason. reason ≡ spec.edge_reason net.now process.now (Some found)) }
 {
+    let statement = &process.body[found.number];
     let behind = &process.body[found.number + 1..];
-    if let Some(second) = first_edge(behind) {
-        return Some(second_edge(found, second));
+    let second = second_edge(alloc, process, statement, found, behind)?;
+    if second.is_some() {
+        return Ok(second);
     }
-    if let Some(reason) = reset_behind(behind) {
-        return Some(reason);
+    let edge = nets_of(alloc, process, branch_of(statement, found.before))?;
+    let reset = reset_behind(alloc, process, &edge, behind)?;
+    if reset.is_some() {
+        return Ok(reset);
     }
-    if let Some(reason) = own_reason(net, found, &process.body[found.number]) {
-        return Some(reason);
+    if let Some(reason) = own_reason(net, found, statement) {
+        return Ok(Some(reason));
     }
-    beside_edge(process, found)
+    beside_edge(alloc, process, found, statement)
 }
 
 /// Whether an edge or `'event` stands in a branch, or in the else.
@@ -211,18 +195,19 @@ fn elsewhere(statements: &[Statement]) -> Option<Reason>
 }
 
 /// The first reason that fits a body.
-fn reason_of_body(net: &Net, process: &Process) -> Option<Reason>
-    ensures { result ≡ spec.reason_of_body net.now process.now }
+fn reason_of_body(alloc: Global, net: &Net, process: &Process) -> Result<Option<Reason>, AllocError>
+    ensures { IfOk result (λ reason. reason ≡ spec.reason_of_body net.now process.now) }
 {
     if let Some(reason) = gated_edge(&process.body) {
-        return Some(reason);
+        return Ok(Some(reason));
     }
     if let Some(found) = first_edge(&process.body) {
-        if let Some(reason) = edge_reason(net, process, found) {
-            return Some(reason);
+        let reason = edge_reason(alloc, net, process, found)?;
+        if reason.is_some() {
+            return Ok(reason);
         }
     }
-    elsewhere(&process.body)
+    Ok(elsewhere(&process.body))
 }
 
 /// Whether a process is neither clocked nor combinational.
@@ -239,13 +224,16 @@ fn is_mixed(net: &Net, process: &Process) -> bool
 }
 
 /// Why a process is neither clocked nor combinational: the first reason that fits it; `None` where it is one of these, or isn't
-/// there. It takes no memory, and time in proportion to its body.
-pub fn reason_of(net: &Net, process: usize) -> Option<Reason>
-    ensures { result ≡ spec.reason_of net.now process }
+/// there. It takes time in proportion to its drivers and to its body times how deep it is nested, but for the logarithms of sorted
+/// lists, and memory for the nets that it assigns.
+pub fn reason_of(alloc: Global, net: &Net, process: usize) -> Result<Option<Reason>, AllocError>
+    ensures { IfOk result (λ reason. reason ≡ spec.reason_of net.now process) }
 {
-    let process = net.processes().get(process)?;
+    let Some(process) = net.processes().get(process) else {
+        return Ok(None);
+    };
     if !is_mixed(net, process) {
-        return None;
+        return Ok(None);
     }
-    reason_of_body(net, process)
+    reason_of_body(alloc, net, process)
 }

@@ -1,13 +1,15 @@
 //! Ifs of a body, and the edges among their conditions.
 
-ghost use Rattle.std.specs.Prelude.{◌≡◌};
+ghost use Rattle.std.specs.Prelude.{◌≡◌, ◌&&◌, IfOk};
 ghost use Rattle.std.specs.List.{list_any};
 ghost use Rattle.rtl_reasons.specs.Edges as edges;
 ghost use Rattle.rtl_reasons.specs.Reasons as spec;
 
 use crate::edges::{EdgeTest, edge_of, is_gated};
+use crate::nets::{first_common, nets_in};
 use crate::reason::Reason;
-use rtl_net::{Branch, Statement};
+use rtl_net::{Branch, Process, Statement};
+use std::alloc::{AllocError, Global};
 use vhdl_values::Edge;
 
 /// An if of a body with an edge among its conditions.
@@ -81,18 +83,63 @@ fn is_same_kind(left: Edge, right: Edge) -> bool
     }
 }
 
-/// What is told of two ifs with an edge.
-pub(crate) fn second_edge(left: EdgeIf, right: EdgeIf) -> Reason
-    ensures { result ≡ spec.second_edge left right }
+/// The first net that a process assigns in both of two statements.
+fn common_net(
+    alloc: Global,
+    process: &Process,
+    first: &Statement,
+    second: &Statement,
+) -> Result<Option<usize>, AllocError>
+    ensures { IfOk result (λ net. net ≡ spec.first_net process.now
+        (λ n. spec.assigns_in process.now first.now n && spec.assigns_in process.now second.now n)) }
 {
-    let at = right.at;
-    if !is_same_edge(left.edge, right.edge) {
-        return Reason::OtherEdge { at };
+    let these = nets_in(alloc, process, first)?;
+    let those = nets_in(alloc, process, second)?;
+    Ok(first_common(process, &these, &those))
+}
+
+/// What is told of a statement behind the if with the edge, if it is one too.
+fn second_if(
+    alloc: Global,
+    process: &Process,
+    first: &Statement,
+    found: EdgeIf,
+    statement: &Statement,
+) -> Result<Option<Reason>, AllocError>
+    ensures { IfOk result (λ reason. reason ≡ spec.second_if process.now first.now found statement.now) }
+{
+    let Some(second) = edge_if(0, statement) else {
+        return Ok(None);
+    };
+    let at = second.at;
+    if !is_same_edge(found.edge, second.edge) {
+        let net = common_net(alloc, process, first, statement)?;
+        return Ok(Some(Reason::OtherEdge { at, net }));
     }
-    if left.at == at {
-        return Reason::EdgeInLoop { at };
+    if found.at == at {
+        return Ok(Some(Reason::EdgeInLoop { at }));
     }
-    Reason::SecondEdge { at }
+    Ok(Some(Reason::SecondEdge { at }))
+}
+
+/// What is told of the first such statement.
+pub(crate) fn second_edge(
+    alloc: Global,
+    process: &Process,
+    first: &Statement,
+    found: EdgeIf,
+    statements: &[Statement],
+) -> Result<Option<Reason>, AllocError>
+    ensures { IfOk result (λ reason. reason
+        ≡ spec.first_in (spec.second_if process.now first.now found) statements.now) }
+{
+    for statement in statements {
+        let reason = second_if(alloc, process, first, found, statement)?;
+        if reason.is_some() {
+            return Ok(reason);
+        }
+    }
+    Ok(None)
 }
 
 /// Whether a condition has an edge and more.

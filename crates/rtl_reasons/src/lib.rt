@@ -3,10 +3,12 @@
 //! `specs/Reasons.antt` defines each reason in a line or two, and their order; `src/words.rt` has what is said of each.
 #![tactic(auto)]
 
+mod beside;
 mod body;
 mod edges;
 mod ifs;
 mod laws;
+mod nets;
 mod reads;
 mod reason;
 mod resets;

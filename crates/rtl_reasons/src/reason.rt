@@ -1,9 +1,10 @@
 //! Reasons.
 
 ghost use Rattle.std.specs.Prelude.{◌≡◌};
-ghost use Rattle.rtl_reasons.specs.Notes.{at_of, net_of, driver_of};
+ghost use Rattle.rtl_reasons.specs.Notes.{number_of, at_of, net_of, driver_of};
 
-/// Why a process is neither clocked nor combinational. `at` is the byte of the source at which the statement starts of which it is told.
+/// Why a process is neither clocked nor combinational. `at` is the byte of the source at which the statement starts of which it is told, or,
+/// where the netlist has no place for that, the if with the edge.
 #[derive(Clone, Copy)]
 pub enum Reason {
     /// In a condition of this if `and` joins an edge with something else.
@@ -18,11 +19,12 @@ pub enum Reason {
     EdgeInLoop {
         at: u32,
     },
-    /// This if tests another edge than an if before it.
+    /// This if tests another edge than an if before it. The net is the first that both assign, if there is one.
     OtherEdge {
         at: u32,
+        net: Option<usize>,
     },
-    /// This if resets by the net, and stands behind the one with the edge.
+    /// This if resets by the net what the edge's branch assigns, and stands behind the one with the edge.
     ResetBehind {
         at: u32,
         net: usize,
@@ -54,10 +56,19 @@ pub enum Reason {
     BehindEdge {
         at: u32,
     },
-    /// Other statements stand beside this if, which has an edge. The net is the first that they assign.
+    /// A statement beside the if with the edge assigns the net, which that if doesn't assign.
     Beside {
         at: u32,
-        net: Option<usize>,
+        net: usize,
+    },
+    /// A statement beside the if with the edge assigns the net, which that if assigns too.
+    BesideToo {
+        at: u32,
+        net: usize,
+    },
+    /// A statement stands beside the if with the edge, and none beside it assigns a net.
+    StandsBeside {
+        at: u32,
     },
     /// A condition of this if looks for an event, and isn't an edge.
     NoEdge {
@@ -70,6 +81,30 @@ pub enum Reason {
 }
 
 impl Reason {
+    /// The number of its kind, in the order in which reasons are told.
+    pub fn number(self) -> u8
+        ensures { result ≡ number_of self }
+    {
+        match self {
+            Reason::GatedEdge { .. } => 1,
+            Reason::SecondEdge { .. } => 2,
+            Reason::EdgeInLoop { .. } => 3,
+            Reason::OtherEdge { .. } => 4,
+            Reason::ResetBehind { .. } => 5,
+            Reason::ResetMadeInside { .. } => 6,
+            Reason::ResetReads { .. } => 7,
+            Reason::ResetComputes { .. } => 8,
+            Reason::NoResetTest { .. } => 9,
+            Reason::SeveralResets { .. } => 10,
+            Reason::BehindEdge { .. } => 11,
+            Reason::Beside { .. } => 12,
+            Reason::BesideToo { .. } => 13,
+            Reason::StandsBeside { .. } => 14,
+            Reason::NoEdge { .. } => 15,
+            Reason::EdgeInside { .. } => 16,
+        }
+    }
+
     /// The byte of the source at which the statement starts of which it is told.
     pub fn at(self) -> u32
         ensures { result ≡ at_of self }
@@ -78,7 +113,7 @@ impl Reason {
             Reason::GatedEdge { at }
             | Reason::SecondEdge { at }
             | Reason::EdgeInLoop { at }
-            | Reason::OtherEdge { at }
+            | Reason::OtherEdge { at, .. }
             | Reason::ResetBehind { at, .. }
             | Reason::ResetMadeInside { at, .. }
             | Reason::ResetReads { at, .. }
@@ -87,6 +122,8 @@ impl Reason {
             | Reason::SeveralResets { at }
             | Reason::BehindEdge { at }
             | Reason::Beside { at, .. }
+            | Reason::BesideToo { at, .. }
+            | Reason::StandsBeside { at }
             | Reason::NoEdge { at }
             | Reason::EdgeInside { at } => at,
         }
@@ -99,8 +136,10 @@ impl Reason {
         match self {
             Reason::ResetBehind { net, .. }
             | Reason::ResetMadeInside { net, .. }
-            | Reason::ResetReads { net, .. } => Some(net),
-            Reason::Beside { net, .. } => net,
+            | Reason::ResetReads { net, .. }
+            | Reason::Beside { net, .. }
+            | Reason::BesideToo { net, .. } => Some(net),
+            Reason::OtherEdge { net, .. } => net,
             _ => None,
         }
     }

@@ -1,14 +1,18 @@
 //! Resets, and what stands in their branches.
 
-ghost use Rattle.std.specs.Prelude.{◌≡◌, not, take, option_map};
+ghost use Rattle.std.specs.Prelude.{◌≡◌, not, take, option_map, IfOk};
 ghost use Rattle.std.specs.List.{list_any};
+ghost use Rattle.std.specs.List.Sorted.{IsStrictlyIncreasing};
 ghost use Rattle.rtl_net.specs.Bodies.{test_view, statement_view, statements_of, branches_of, otherwise_of};
+ghost use Rattle.rtl_net_facts.specs.Reading.{is_in};
 ghost use Rattle.rtl_reasons.specs.Reasons as spec;
 
 use crate::edges::edge_to;
+use crate::nets::{are_among, nets_of};
 use crate::reads::first_read;
 use crate::reason::Reason;
-use rtl_net::{Branch, Statement, Test};
+use rtl_net::{Branch, Process, Statement, Test};
+use std::alloc::{AllocError, Global};
 
 /// The net of a reset's test.
 fn reset_net(test: &Test) -> Option<usize>
@@ -92,24 +96,58 @@ pub(crate) fn computes(at: u32, statements: &[Statement]) -> Option<Reason>
     None
 }
 
-/// The reset of an if that only resets.
-fn sole_reset(branches: &[Branch], otherwise: &Option<Vec<Statement>>) -> Option<usize>
-    ensures { result ≡ spec.sole_reset
-        (branches_of (otherwise_of (option_map (λ v. v.items) otherwise.now)) branches.now) }
+/// Whether a process assigns a net in these statements, and none but these, which rise.
+fn assigns_alike(
+    alloc: Global,
+    process: &Process,
+    edge: &[usize],
+    statements: &[Statement],
+) -> Result<bool, AllocError>
+    requires { IsStrictlyIncreasing edge.now }
+    ensures { IfOk result (λ so. so
+        ≡ spec.assigns_alike process.now (λ n. is_in n edge.now) (statements_of statements.now)) }
+{
+    let nets = nets_of(alloc, process, statements)?;
+    if nets.is_empty() {
+        return Ok(false);
+    }
+    Ok(are_among(&nets, edge))
+}
+
+/// The reset of an if that only resets what the edge's branch assigns, which are these nets, rising.
+fn sole_reset(
+    alloc: Global,
+    process: &Process,
+    edge: &[usize],
+    branches: &[Branch],
+    otherwise: &Option<Vec<Statement>>,
+) -> Result<Option<usize>, AllocError>
+    requires { IsStrictlyIncreasing edge.now }
+    ensures { IfOk result (λ net. net ≡ spec.sole_reset process.now (λ n. is_in n edge.now)
+        (branches_of (otherwise_of (option_map (λ v. v.items) otherwise.now)) branches.now)) }
 {
     if branches.len() != 1 || otherwise.is_some() {
-        return None;
+        return Ok(None);
     }
     let branch = &branches[0];
     if computes(0, &branch.statements).is_some() {
-        return None;
+        return Ok(None);
     }
-    reset_net(&branch.test)
+    if !assigns_alike(alloc, process, edge, &branch.statements)? {
+        return Ok(None);
+    }
+    Ok(reset_net(&branch.test))
 }
 
-/// What is told of an if that only resets.
-fn reset_if(statement: &Statement) -> Option<Reason>
-    ensures { result ≡ spec.reset_behind statement.now }
+/// What is told of an if that only resets so.
+fn reset_if(
+    alloc: Global,
+    process: &Process,
+    edge: &[usize],
+    statement: &Statement,
+) -> Result<Option<Reason>, AllocError>
+    requires { IsStrictlyIncreasing edge.now }
+    ensures { IfOk result (λ reason. reason ≡ spec.reset_behind process.now (λ n. is_in n edge.now) statement.now) }
 {
     match statement {
         Statement::If {
@@ -117,21 +155,32 @@ fn reset_if(statement: &Statement) -> Option<Reason>
             branches,
             otherwise,
         } => {
-            let net = sole_reset(branches, otherwise)?;
-            Some(Reason::ResetBehind { at: *at, net })
+            let net = sole_reset(alloc, process, edge, branches, otherwise)?;
+            match net {
+                Some(net) => Ok(Some(Reason::ResetBehind { at: *at, net })),
+                None => Ok(None),
+            }
         }
-        _ => None,
+        _ => Ok(None),
     }
 }
 
 /// What is told of the first such if.
-pub(crate) fn reset_behind(statements: &[Statement]) -> Option<Reason>
-    ensures { result ≡ spec.first_in spec.reset_behind statements.now }
+pub(crate) fn reset_behind(
+    alloc: Global,
+    process: &Process,
+    edge: &[usize],
+    statements: &[Statement],
+) -> Result<Option<Reason>, AllocError>
+    requires { IsStrictlyIncreasing edge.now }
+    ensures { IfOk result (λ reason. reason
+        ≡ spec.first_in (spec.reset_behind process.now (λ n. is_in n edge.now)) statements.now) }
 {
     for statement in statements {
-        if let Some(reason) = reset_if(statement) {
-            return Some(reason);
+        let reason = reset_if(alloc, process, edge, statement)?;
+        if reason.is_some() {
+            return Ok(reason);
         }
     }
-    None
+    Ok(None)
 }

@@ -23,7 +23,7 @@ pub const GATED_EDGE: Note<&str> = Note {
 
 /// Two ifs of one edge.
 pub const SECOND_EDGE: Note<&str> = Note {
-    opening: "a second if tests the same edge; make them one",
+    opening: "a second if tests the same edge; make them one, or give it a process of its own",
     middle: "",
     closing: "",
 };
@@ -35,17 +35,24 @@ pub const EDGE_IN_LOOP: Note<&str> = Note {
     closing: "",
 };
 
-/// Two ifs of two edges.
+/// Two ifs of two edges that assign no net both.
 pub const OTHER_EDGE: Note<&str> = Note {
     opening: "a second if tests another edge; give it a process of its own",
     middle: "",
     closing: "",
 };
 
+/// Two ifs of two edges that assign one net.
+pub const OTHER_EDGE_TOO: Note<&str> = Note {
+    opening: "a second if tests another edge and assigns ",
+    middle: " too; a net is clocked by one edge",
+    closing: "",
+};
+
 /// A reset behind the edge.
 pub const RESET_BEHIND: Note<&str> = Note {
     opening: "the reset ",
-    middle: " stands behind the edge; put it first",
+    middle: " stands behind the edge; put it first, and give what it doesn't reset a process of its own",
     closing: "",
 };
 
@@ -99,15 +106,22 @@ pub const BEHIND_EDGE: Note<&str> = Note {
 };
 
 /// An assignment beside the if with the edge.
-pub const ASSIGNS_BESIDE: Note<&str> = Note {
+pub const BESIDE: Note<&str> = Note {
     opening: "beside the edge it assigns ",
     middle: "; give that a process of its own",
     closing: "",
 };
 
+/// An assignment beside the if with the edge, of a net that this assigns too.
+pub const BESIDE_TOO: Note<&str> = Note {
+    opening: "beside the edge it assigns ",
+    middle: ", as the if with the edge does; put both into one if",
+    closing: "",
+};
+
 /// Another statement beside it.
 pub const STANDS_BESIDE: Note<&str> = Note {
-    opening: "something stands beside this if; a register is one if and nothing else",
+    opening: "something stands beside the if with the edge; a register is one if and nothing else",
     middle: "",
     closing: "",
 };
@@ -137,7 +151,10 @@ impl Reason {
             Reason::GatedEdge { .. } => GATED_EDGE,
             Reason::SecondEdge { .. } => SECOND_EDGE,
             Reason::EdgeInLoop { .. } => EDGE_IN_LOOP,
-            Reason::OtherEdge { .. } => OTHER_EDGE,
+            Reason::OtherEdge { net, .. } => match net {
+                Some(_) => OTHER_EDGE_TOO,
+                None => OTHER_EDGE,
+            },
             Reason::ResetBehind { .. } => RESET_BEHIND,
             Reason::ResetMadeInside { driver, .. } => match driver {
                 Some(_) => RESET_DRIVEN,
@@ -148,10 +165,9 @@ impl Reason {
             Reason::NoResetTest { .. } => NO_RESET_TEST,
             Reason::SeveralResets { .. } => SEVERAL_RESETS,
             Reason::BehindEdge { .. } => BEHIND_EDGE,
-            Reason::Beside { net, .. } => match net {
-                Some(_) => ASSIGNS_BESIDE,
-                None => STANDS_BESIDE,
-            },
+            Reason::Beside { .. } => BESIDE,
+            Reason::BesideToo { .. } => BESIDE_TOO,
+            Reason::StandsBeside { .. } => STANDS_BESIDE,
             Reason::NoEdge { .. } => NO_EDGE,
             Reason::EdgeInside { .. } => EDGE_INSIDE,
         }

@@ -1,4 +1,4 @@
--- The nets that a reset leaves out, as a list.
+-- The nets that a reset leaves out, and those that stay undefined, as lists.
 use Rattle.std.proofs.Common.{◌≡◌, ℕ, suc, ◌<◌, Bool, true, false, not, ◌==◌, ◌&&◌, List, [], ◌∷◌, length, get_or, map, refl, sym, ap, ◌∙◌, subst, arith, Option, Some, None, Result, Ok, Err}
 use Rattle.std.specs.Prelude.{All, ◌||◌, IfOk}
 use Rattle.std.specs.List.{filter}
@@ -7,11 +7,13 @@ use Rattle.std.proofs.lemmas.List.{length-map}
 use Rattle.std.proofs.lemmas.Option.{slice_get_within}
 use Rattle.std.proofs.lemmas.List.Kept.{IsStrictlyIncreasing-filter}
 use Rattle.std.specs.List.Sorted.{IsStrictlyIncreasing}
+use Rattle.vhdl_values.specs.Scalar.{code_of}
+use Rattle.vhdl_values.specs.declared.scalar.Nine.TheVariants.{U}
 use Rattle.rtl_model.specs.bodies.Assigns.{must_assign}
 use Rattle.rtl_model.specs.bodies.Body.{Stmts}
 use Rattle.rtl_model.specs.bodies.Kinds.{clocking}
-use Rattle.rtl_model.specs.bodies.Types.{ElementType, HasType}
-use Rattle.rtl_model.specs.nets.FlatNetlist.{FlatProcess, DriverInRange, ProcessInRange}
+use Rattle.rtl_model.specs.bodies.Types.{ElementType}
+use Rattle.rtl_model.specs.nets.FlatNetlist.{DriverInRange, ProcessInRange}
 use Rattle.rtl_model.proofs.basics.Lists.{get_or-map_within}
 use Rattle.rtl_net.specs.declared.body.Statement.{Statement}
 use Rattle.rtl_net.specs.declared.process.Driver.{Driver}
@@ -22,9 +24,9 @@ use Rattle.rtl_net.specs.Elaborated.{IsNet}
 use Rattle.rtl_net_facts.specs.Paths.{driven, to_net}
 use Rattle.rtl_net_facts.specs.Reading.{is_in}
 use Rattle.rtl_net_facts.proofs.EveryPath.{in_filter}
-use Rattle.rtl_remarks.specs.declared.remark.Remark.{Remark}
-use Rattle.rtl_remarks.specs.declared.remark.Remark.TheVariants.{NotReset}
-use Rattle.rtl_remarks.specs.Remarks.{leaves_out, reset_branch, not_reset}
+use Rattle.rtl_remarks.specs.declared.remark.Remark.TheVariants.{NotReset, NeverKnown}
+use Rattle.rtl_remarks.specs.Remarks.{leaves_out, reset_branch, not_reset, starts_undefined, stays_undefined, edge_branch, never_known}
+use Rattle.rtl_remarks.specs.Undefined.{may_assign}
 use Rattle.rtl_remarks.specs.Tables.{AreThose}
 use Rattle.rtl_remarks.proofs.Rising.{those_are}
 
@@ -45,6 +47,20 @@ left_are p o branch v t a targets assigned ds es is et ea those are ed ee eo = r
       ∙ ap (λ x. leaves_out p x n) eo;
 }
 
+-- of the nets that are kept undefined those that aren't freed and start so
+pub stay_are : (p : Process) (s : Stmts) (v held kept freed starting : List ℕ) → v ≡ filter (λ n. is_in n starting) held → held ≡ filter (λ n. not (is_in n freed)) kept
+    → IsStrictlyIncreasing kept → ((n : ℕ) → is_in n kept ≡ may_assign p.drives.items true n s) → ((n : ℕ) → is_in n freed ≡ may_assign p.drives.items false n s)
+    → ((n : ℕ) → is_in n starting ≡ starts_undefined p.drives.items n) → AreThose (stays_undefined p (Some s)) v
+stay_are p s v held kept freed starting is from rise keep free start = record {
+  rise = subst IsStrictlyIncreasing (sym (is ∙ ap (filter (λ n. is_in n starting)) from))
+      (IsStrictlyIncreasing-filter (λ n. is_in n starting) (filter (λ n. not (is_in n freed)) kept) (IsStrictlyIncreasing-filter (λ n. not (is_in n freed)) kept rise));
+  are = λ n.
+      ap (is_in n) is ∙ in_filter (λ m. is_in m starting) held n
+      ∙ ap (λ b. b && is_in n starting) (ap (is_in n) from ∙ in_filter (λ m. not (is_in m freed)) kept n)
+      ∙ ap (λ b. (b && not (is_in n freed)) && is_in n starting) (keep n) ∙ ap (λ b. (may_assign p.drives.items true n s && not b) && is_in n starting) (free n)
+      ∙ ap (λ b. (may_assign p.drives.items true n s && not (may_assign p.drives.items false n s)) && b) (start n);
+}
+
 -- ---- they are nets that are there
 
 driven_there : (types : List ElementType) (ds : List Driver) → All (DriverInRange types) (map driver_view ds) → (n : ℕ) → is_in n (driven ds) ≡ true → n < length types
@@ -56,6 +72,15 @@ driven_there types (d ∷ ds) all n t = by (d.net == n) refl t (driven_there typ
         let (ty, has, low) = all 0 (driver_view d) (omega arith) in
         subst (λ m. m < length types) (eqb-true d.net n e) (slice_get_within types d.net ty has)
     by false e t later = later t
+
+starting_driven : (ds : List Driver) (n : ℕ) → starts_undefined ds n ≡ true → is_in n (driven ds) ≡ true
+starting_driven [] n t = absurd cc
+starting_driven (d ∷ ds) n t = by (d.start == code_of U) (d.net == n) t (starting_driven ds n)
+  where
+    by : (a b : Bool) → ((a && b) || starts_undefined ds n) ≡ true → (starts_undefined ds n ≡ true → is_in n (driven ds) ≡ true) → (b || is_in n (driven ds)) ≡ true
+    by a true t later = refl
+    by true false t later = later t
+    by false false t later = later t
 
 module _ (net : NetlistView) (elaborated : IsNet net) (number : ℕ) (p : Process) (there : number < length net.processes) (at : p ≡ get_or net.processes number p) where
   in_range : ProcessInRange net.types (process_view p)
@@ -74,3 +99,14 @@ module _ (net : NetlistView) (elaborated : IsNet net) (number : ℕ) (p : Proces
   left_remarks left those =
       let o = reset_branch (clocking net.inputs (body_of p)) in
       ap (map (λ n. NotReset number n)) (those_are (leaves_out p o) left (length net.types) those (below o))
+
+  starting_below : (o : Option Stmts) (n : ℕ) → stays_undefined p o n ≡ true → n < length net.types
+  starting_below None n t = absurd cc
+  starting_below (Some s) n t =
+      let (a, b) = and_parts (may_assign p.drives.items true n s && not (may_assign p.drives.items false n s)) (starts_undefined p.drives.items n) t in
+      driven_there net.types p.drives.items in_range.drivers n (starting_driven p.drives.items n b)
+
+  pub stay_remarks : (stay : List ℕ) → AreThose (stays_undefined p (edge_branch (clocking net.inputs (body_of p)))) stay → map (λ n. NeverKnown number n) stay ≡ never_known net number p
+  stay_remarks stay those =
+      let o = edge_branch (clocking net.inputs (body_of p)) in
+      ap (map (λ n. NeverKnown number n)) (those_are (stays_undefined p o) stay (length net.types) those (starting_below o))

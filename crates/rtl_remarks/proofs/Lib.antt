@@ -1,4 +1,5 @@
 mod LeftOut
-mod Listed
+pub mod Listed
+mod Meanwhile
 mod ResetBranches
 mod Rising

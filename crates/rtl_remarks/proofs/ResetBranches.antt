@@ -1,23 +1,22 @@
 -- Clocked bodies with a reset, and the first branch of their if.
-use Rattle.std.proofs.Common.{◌≡◌, ℕ, ◌+◌, ◌<◌, Bool, true, false, List, [], ◌∷◌, length, get_or, vec_len, ◌==◌, refl, sym, ap, ◌∙◌, subst, arith, Vec, Global, Option, Some, None, ◌⊎◌, inl, inr}
-use Rattle.std.specs.Prelude.{option_map}
+use Rattle.std.proofs.Common.{◌≡◌, ℕ, Bool, true, false, List, [], ◌∷◌, length, get_or, vec_len, ◌==◌, refl, sym, ap, ◌∙◌, arith, Vec, Global, Option, Some, None, ◌⊎◌, inl, inr}
+use Rattle.std.specs.Prelude.{option_map, not}
 use Rattle.std.specs.Option.{is_some}
 use Rattle.std.proofs.lemmas.Bool.{eqb-true}
-use Rattle.rtl_model.specs.bodies.Body as bodies
-use Rattle.rtl_model.specs.bodies.Body.{Stmt, Stmts, done, step, if_of, branch, no_else, otherwise}
+use Rattle.rtl_model.specs.bodies.Body.{Stmt, Stmts, done, step, if_of, branch}
 use Rattle.rtl_model.specs.bodies.Kinds as k
 use Rattle.rtl_model.specs.bodies.Kinds.{clocking, IsClockedAlone, IsClockedWithReset}
 use Rattle.rtl_model.proofs.bodies.Clocking.{clocked_is}
 use Rattle.rtl_net.specs.declared.body.Branch.{Branch}
 use Rattle.rtl_net.specs.declared.body.Statement.{Statement}
 use Rattle.rtl_net.specs.declared.body.Statement.TheVariants as vs
-use Rattle.rtl_net.specs.Bodies.{test_view, statement_view, statements_of, branches_of, otherwise_of}
+use Rattle.rtl_net.specs.Bodies.{statement_view, statements_of, branches_of, otherwise_of}
 use Rattle.rtl_net.proofs.Rows.{view_if}
 use Rattle.rtl_net_facts.specs.declared.kinds.Clocking.{Clocking}
 use Rattle.rtl_net_facts.specs.declared.kinds.ProcessKind.TheVariants as d
 use Rattle.rtl_net_facts.specs.Timing.{part_net, clocking_view, kind_view}
-use Rattle.rtl_remarks.specs.Remarks.{reset_branch, branch_of_reset, is_clock_of}
-use Rattle.rtl_remarks.specs.Tables.{is_there, has_reset, first_branch}
+use Rattle.rtl_remarks.specs.Remarks.{reset_branch, branch_of_reset, is_clock_of, edge_branch, without_reset}
+use Rattle.rtl_remarks.specs.Tables.{is_there, has_reset, is_without_reset, first_branch}
 
 -- ---- by kinds
 
@@ -37,6 +36,25 @@ pub as_clocked : (o : Option k.Clocking) (ns : List ℕ) (c : Clocking) → d.Cl
 as_clocked None [] c e = absurd cc
 as_clocked None (n ∷ ns) c e = absurd cc
 as_clocked (Some x) ns c e = let same : c ≡ clocking_view x = cc in ap (λ (y : Clocking). is_some y.reset) same ∙ reset_there x.reset
+
+pub open_combinational : (o : Option k.Clocking) (ns : List ℕ) → d.Combinational ≡ kind_view o ns → false ≡ is_without_reset o
+open_combinational None ns e = refl
+open_combinational (Some c) ns e = absurd cc
+
+pub open_mixed : (o : Option k.Clocking) (ns : List ℕ) → d.Mixed ≡ kind_view o ns → false ≡ is_without_reset o
+open_mixed None ns e = refl
+open_mixed (Some c) ns e = absurd cc
+
+reset_missing : (r : Option k.ResetPart) (s : Stmts) (b : Bool) → is_some (option_map part_net r) ≡ not b → b ≡ is_there (without_reset r s)
+reset_missing None s true h = refl
+reset_missing None s false h = absurd cc
+reset_missing (Some r) s true h = absurd cc
+reset_missing (Some r) s false h = refl
+
+pub open_clocked : (o : Option k.Clocking) (ns : List ℕ) (c : Clocking) (b : Bool) → d.Clocked c ≡ kind_view o ns → is_some c.reset ≡ not b → b ≡ is_without_reset o
+open_clocked None [] c b e h = absurd cc
+open_clocked None (n ∷ ns) c b e h = absurd cc
+open_clocked (Some x) ns c b e h = let same : c ≡ clocking_view x = cc in reset_missing x.reset x.branch b (sym (ap (λ (y : Clocking). is_some y.reset) same) ∙ h)
 
 pub clock_of_combinational : (n : ℕ) (o : Option k.Clocking) (ns : List ℕ) → d.Combinational ≡ kind_view o ns → is_clock_of n o ≡ false
 clock_of_combinational n None ns e = refl
@@ -70,6 +88,20 @@ first_of_reset inputs body (Some c) e h = go (clocked_is inputs body c e)
 
 pub first_is_reset : (inputs : List ℕ) (body : Stmts) → has_reset (clocking inputs body) ≡ true → first_branch body ≡ reset_branch (clocking inputs body)
 first_is_reset inputs body h = first_of_reset inputs body (clocking inputs body) refl h
+
+-- of one without a reset it is the one under the edge
+first_of_edge : (inputs : List ℕ) (body : Stmts) (o : Option k.Clocking) → clocking inputs body ≡ o → is_without_reset o ≡ true → first_branch body ≡ edge_branch o
+first_of_edge inputs body None e h = absurd cc
+first_of_edge inputs body (Some c) e h = go (clocked_is inputs body c e)
+  where
+    go : IsClockedAlone body c ⊎ IsClockedWithReset inputs body c → first_branch body ≡ edge_branch (Some c)
+    go (inl alone) = ap first_branch alone.is ∙ sym (ap (λ (r : Option k.ResetPart). without_reset r c.branch) alone.no_reset)
+    go (inr both) =
+        let none : false ≡ true = sym (ap (λ (r : Option k.ResetPart). is_there (without_reset r c.branch)) both.reset_is) ∙ h in
+        absurd cc
+
+pub first_is_edge : (inputs : List ℕ) (body : Stmts) → is_without_reset (clocking inputs body) ≡ true → first_branch body ≡ edge_branch (clocking inputs body)
+first_is_edge inputs body h = first_of_edge inputs body (clocking inputs body) refl h
 
 two_statements : (s t : Stmt) (rest : Stmts) → first_branch (step s (step t rest)) ≡ None
 two_statements (if_of (branch t s bs)) u rest = refl

@@ -1,9 +1,9 @@
 -- Rising lists: one is known by what is in it.
-use Rattle.std.proofs.Common.{◌≡◌, ℕ, zero, suc, ◌+◌, ◌<◌, ◌≤◌, Bool, true, false, ◌==◌, ◌&&◌, ltb, eq-eqb, cond, List, [], ◌∷◌, length, Contains, refl, sym, ap, ◌∙◌, subst, arith, ◌⊎◌, inl, inr}
+use Rattle.std.proofs.Common.{◌≡◌, ℕ, zero, suc, ◌+◌, ◌<◌, ◌≤◌, Bool, true, false, ◌==◌, ◌&&◌, ltb, eq-eqb, cond, List, [], ◌∷◌, length, refl, sym, ap, ◌∙◌, subst, arith}
 use Rattle.std.specs.Prelude.{⊤, slice_index, ◌||◌}
 use Rattle.std.specs.List.{range_with_len, filter}
 use Rattle.std.specs.List.Sorted.{IsStrictlyIncreasing}
-use Rattle.std.proofs.lemmas.Bool.{eqb-true, ltb-true, ltb-false, cases_Bool, ne_eqb}
+use Rattle.std.proofs.lemmas.Bool.{eqb-true, ltb-true, ltb-false}
 use Rattle.rtl_net_facts.specs.Reading.{is_in}
 use Rattle.rtl_net_facts.proofs.EveryPath.{in_filter}
 use Rattle.rtl_remarks.specs.Tables.{AreThose}

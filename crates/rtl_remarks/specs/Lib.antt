@@ -1,2 +1,3 @@
 pub mod Remarks
 pub mod Tables
+pub mod Undefined

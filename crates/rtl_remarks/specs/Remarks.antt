@@ -1,7 +1,11 @@
 -- Remarks on a netlist, whatever the checker says of it: a signal that is read and that nothing drives; an out port that nothing assigns,
--- of the top or of an instance; a register that its reset's branch leaves out; a clock that combinational logic reads as data.
-use Rattle.std.specs.Prelude.{ℕ, suc, Bool, true, false, not, ◌&&◌, ◌==◌, if◌then◌else◌, List, [], ◌∷◌, ◌++◌, length, map, flat_map, slice_get, Option, Some, None}
+-- of the top or of an instance; a register that its reset's branch leaves out; a clock that combinational logic reads as data; a register
+-- that starts undefined and stays so; an element of an in port that nothing reads, though others are read.
+use Rattle.std.specs.Prelude.{ℕ, suc, Bool, true, false, not, ◌&&◌, ◌==◌, if◌then◌else◌, List, [], ◌∷◌, ◌++◌, length, map, flat_map, Option, Some, None}
 use Rattle.std.specs.List.{list_any, filter, range_with_len}
+use Rattle.std.specs.Option.{is_some}
+use Rattle.vhdl_values.specs.Scalar.{code_of}
+use Rattle.vhdl_values.specs.declared.scalar.Nine.TheVariants.{U}
 use Rattle.rtl_model.specs.basics.Lists.{is_empty}
 use Rattle.rtl_model.specs.bodies.Assigns.{must_assign}
 use Rattle.rtl_model.specs.bodies.Body.{Stmts}
@@ -9,12 +13,14 @@ use Rattle.rtl_model.specs.bodies.Kinds.{Clocking, ResetPart, clocking}
 use Rattle.rtl_model.specs.bodies.Reads.{events}
 use Rattle.rtl_model.specs.nets.FlatNetlist.{flat_sources}
 use Rattle.rtl_model.specs.simulation.Netlist.{Source, Driver, Idle}
+use Rattle.rtl_net.specs.declared.process.Driver.{Driver as Driver'}
 use Rattle.rtl_net.specs.declared.process.Process.{Process}
 use Rattle.rtl_net.specs.Nets.{NetlistView, SignalView, flat, body_of}
 use Rattle.rtl_net_facts.specs.Paths.{driven, to_net}
 use Rattle.rtl_net_facts.specs.Reading.{is_in}
 use Rattle.rtl_remarks.specs.declared.remark.Remark.{Remark}
-use Rattle.rtl_remarks.specs.declared.remark.Remark.TheVariants.{Undriven, Unassigned, IdlePort, NotReset, ClockRead}
+use Rattle.rtl_remarks.specs.declared.remark.Remark.TheVariants.{Undriven, Unassigned, IdlePort, NotReset, ClockRead, NeverKnown, UnreadElement}
+use Rattle.rtl_remarks.specs.Undefined.{may_assign}
 
 -- ---- nets
 
@@ -57,6 +63,17 @@ is_idle (Idle value) = true
 abbrev pub idle : NetlistView → (n : ℕ) → List Remark
 idle net n = if list_any is_idle (flat_sources (flat net) n) then IdlePort n ∷ [] else []
 
+abbrev pub is_read : NetlistView → (n : ℕ) → Bool
+is_read net n = is_some (reader_from 0 net.processes n)
+
+-- a port of the top with an element that some process reads
+abbrev pub is_read_port : NetlistView → SignalView → Bool
+is_read_port net s = is_top_port s && list_any (is_read net) s.nets
+
+-- an element of such an in port that no process reads
+abbrev pub unread : NetlistView → (n : ℕ) → List Remark
+unread net n = if is_in n net.inputs && (is_of (is_read_port net) net.signals n && not (is_read net n)) then UnreadElement n ∷ [] else []
+
 -- ---- processes
 
 abbrev pub branch_of_reset : Option ResetPart → Option Stmts
@@ -89,6 +106,30 @@ is_clock net n = list_any (λ p. is_clock_of n (clocking net.inputs (body_of p))
 abbrev pub clocks_read : NetlistView → (number : ℕ) → Process → List Remark
 clocks_read net number p = if is_empty (events (body_of p)) then map (λ n. ClockRead number n) (filter (is_clock net) p.reads.items) else []
 
+abbrev pub without_reset : Option ResetPart → Stmts → Option Stmts
+without_reset None s = Some s
+without_reset (Some r) s = None
+
+-- the branch that a clocked process without a reset runs at its edge
+abbrev pub edge_branch : Option Clocking → Option Stmts
+edge_branch None = None
+edge_branch (Some c) = without_reset c.reset c.branch
+
+-- one of these drivers is the net's, and starts with `U`
+abbrev pub starts_undefined : List Driver' → (n : ℕ) → Bool
+starts_undefined drives n = list_any (λ (d : Driver'). (d.start == code_of U) && (d.net == n)) drives
+
+-- A driver of the net starts undefined, some assignment keeps the net so, and none that may run then frees it: it is undefined for ever.
+abbrev pub stays_undefined : Process → Option Stmts → (n : ℕ) → Bool
+stays_undefined p None n = false
+stays_undefined p (Some s) n =
+    (may_assign p.drives.items true n s && not (may_assign p.drives.items false n s)) && starts_undefined p.drives.items n
+
+-- the registers without a reset that do
+abbrev pub never_known : NetlistView → (number : ℕ) → Process → List Remark
+never_known net number p =
+    map (λ n. NeverKnown number n) (filter (stays_undefined p (edge_branch (clocking net.inputs (body_of p)))) (range_with_len 0 (length net.types)))
+
 -- ---- the netlist
 
 -- of these processes, the first of which has this number
@@ -104,3 +145,4 @@ abbrev pub remarks_of : NetlistView → List Remark
 remarks_of net =
     of_nets (undriven net) (length net.types) ++ of_nets (unassigned net) (length net.types) ++ of_nets (idle net) (length net.types)
     ++ of_processes (not_reset net) 0 net.processes ++ of_processes (clocks_read net) 0 net.processes
+    ++ of_processes (never_known net) 0 net.processes ++ of_nets (unread net) (length net.types)

@@ -1,11 +1,20 @@
 -- What the code keeps of a netlist while it looks for remarks.
-use Rattle.std.specs.Prelude.{◌≡◌, ℕ, ◌<◌, Bool, true, false, List, length, slice_index_or, Option, Some, None}
+use Rattle.std.specs.Prelude.{◌≡◌, ℕ, ◌<◌, Bool, true, false, not, ◌&&◌, ◌||◌, List, [], ◌∷◌, length, slice_index_or, Option, Some, None}
 use Rattle.std.specs.List.Sorted.{IsStrictlyIncreasing}
-use Rattle.rtl_model.specs.bodies.Body.{if_of, Stmts, done, step, branch}
+use Rattle.rtl_model.specs.bodies.Body.{Expr, if_of, Stmts, done, step, branch}
 use Rattle.rtl_model.specs.bodies.Kinds.{Clocking}
+use Rattle.rtl_net.specs.Bodies.{operator_view, expr_view, test_view, statement_view, statements_of}
 use Rattle.rtl_net.specs.Nets.{NetlistView, SignalView}
+use Rattle.rtl_net.specs.declared.body.Alternative.{Alternative}
+use Rattle.rtl_net.specs.declared.body.Branch.{Branch}
+use Rattle.rtl_net.specs.declared.body.Link.{Link}
+use Rattle.rtl_net.specs.declared.body.Statement.{Statement}
+use Rattle.rtl_net.specs.declared.body.TestLink.{TestLink}
+use Rattle.rtl_net.specs.declared.process.Driver.{Driver}
 use Rattle.rtl_net_facts.specs.Reading.{is_in}
-use Rattle.rtl_remarks.specs.Remarks.{is_signal, is_top_port, reader_from, reset_branch}
+use Rattle.rtl_remarks.specs.Remarks.{is_signal, is_top_port, reader_from, reset_branch, edge_branch}
+use Rattle.rtl_remarks.specs.Undefined.{passes, whole_of, some_is, is_whole, is_and, fails, stmt_may, may_assign}
+use Rattle.rtl_remarks.specs.declared.undefined.Makers.{Makers}
 use Rattle.rtl_remarks.specs.declared.signals.Which.{Which}
 use Rattle.rtl_remarks.specs.declared.signals.Which.TheVariants.{Signals, TopPorts}
 
@@ -37,3 +46,36 @@ has_reset c = is_there (reset_branch c)
 abbrev pub first_branch : Stmts → Option Stmts
 first_branch (step (if_of (branch t s bs)) done) = Some s
 first_branch _ = None
+
+abbrev pub is_without_reset : Option Clocking → Bool
+is_without_reset c = is_there (edge_branch c)
+
+-- ---- what is undefined while a net is
+
+-- these make the expression so
+pub record MakeUndefined (e : Expr) (found : Makers) : Type 0 where
+  pub nets : (n : ℕ) → is_in n found.nets.items ≡ some_is n e
+  pub whole : found.whole ≡ is_whole e
+
+-- of a chain, where it is known of the operands before these
+abbrev pub links_some : (n : ℕ) → (left : Bool) → List Link → Bool
+links_some n left [] = left
+links_some n left (l ∷ ls) = links_some n (passes (operator_view l.operator) && (left || some_is n (expr_view l.operand))) ls
+
+abbrev pub links_whole : (left : Bool) → List Link → Bool
+links_whole left [] = left
+links_whole left (l ∷ ls) = links_whole (whole_of (operator_view l.operator) left (is_whole (expr_view l.operand))) ls
+
+abbrev pub tests_fail : (n : ℕ) → (left : Bool) → List TestLink → Bool
+tests_fail n left [] = left
+tests_fail n left (l ∷ ls) = tests_fail n (is_and l.operator && (left || fails n (test_view l.operand))) ls
+
+-- a statement of a sequence, a branch of an if, and an alternative of a case
+abbrev pub statement_may : List Driver → (kept : Bool) → (n : ℕ) → Statement → Bool
+statement_may drives kept n s = stmt_may drives kept n (statement_view s)
+
+abbrev pub branch_may : List Driver → (kept : Bool) → (n : ℕ) → Branch → Bool
+branch_may drives kept n b = not (fails n (test_view b.test)) && may_assign drives kept n (statements_of b.statements.items)
+
+abbrev pub alternative_may : List Driver → (kept : Bool) → (n : ℕ) → Alternative → Bool
+alternative_may drives kept n a = may_assign drives kept n (statements_of a.statements.items)

@@ -3,13 +3,19 @@
 //! `specs/Remarks.antt` defines each in a line or two, and their order.
 #![tactic(auto)]
 
+mod assigned;
+mod failing;
 mod listing;
+mod lists;
 mod nets;
 mod processes;
 mod readers;
+mod registers;
 mod remark;
 mod resets;
 mod signals;
+mod undefined;
 
 pub use listing::remarks;
+pub use processes::clocks_of;
 pub use remark::Remark;

@@ -135,3 +135,44 @@ pub(crate) fn push_idle(net: &Net, remarks: &mut Vec<Remark>) -> Result<(), NoMe
     }
     Ok(())
 }
+
+/// Appends the remark on a net that nothing reads, of an in port of the top that is among these ports.
+fn push_unread_at(
+    net: &Net,
+    ports: &[usize],
+    readers: &[Option<usize>],
+    number: usize,
+    remarks: &mut Vec<Remark>,
+) -> Result<(), NoMemory>
+    requires ports { AreThose (spec.is_of (spec.is_read_port net.now) net.now.signals) ports.now }
+    requires readers { AreReaders net.now readers.now }
+    requires there { number < length net.now.types }
+    ensures { OnOk result (remarks.new.items ≡ remarks.old.items ++ spec.unread net.now number) }
+{
+    net.is_elaborated();
+    if contains_rising(net.inputs(), number)
+        && contains_rising(ports, number)
+        && readers[number].is_none()
+    {
+        remarks.push(Remark::UnreadElement { net: number })?;
+    }
+    Ok(())
+}
+
+/// Appends the remarks on elements of in ports that nothing reads, though others are read.
+pub(crate) fn push_unread(
+    net: &Net,
+    ports: &[usize],
+    readers: &[Option<usize>],
+    remarks: &mut Vec<Remark>,
+) -> Result<(), NoMemory>
+    requires ports { AreThose (spec.is_of (spec.is_read_port net.now) net.now.signals) ports.now }
+    requires readers { AreReaders net.now readers.now }
+    ensures { OnOk result (remarks.new.items
+        ≡ remarks.old.items ++ spec.of_nets (spec.unread net.now) (length net.now.types)) }
+{
+    for number in 0..net.nets() {
+        push_unread_at(net, ports, readers, number, remarks)?;
+    }
+    Ok(())
+}

@@ -63,7 +63,7 @@ fn push_clock(inputs: &[usize], process: &Process, clocks: &mut Vec<usize>) -> R
 }
 
 /// The clocks of a netlist, rising.
-pub(crate) fn clocks_of(alloc: Global, net: &Net) -> Result<Vec<usize>, NoMemory>
+pub fn clocks_of(alloc: Global, net: &Net) -> Result<Vec<usize>, NoMemory>
     ensures { IfOk result (λ clocks. AreThose (spec.is_clock net.now) clocks.items) }
 {
     net.is_elaborated();

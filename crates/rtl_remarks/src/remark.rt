@@ -1,6 +1,6 @@
 //! Remarks.
 
-/// A remark on a netlist, by the numbers of what it names.
+/// A remark on a netlist, or on a stimulus of it, by the numbers of what it names.
 #[derive(Clone, Copy)]
 pub enum Remark {
     /// A signal, no port, that nothing drives. The process is the first that reads it.
@@ -13,4 +13,13 @@ pub enum Remark {
     NotReset { process: usize, net: usize },
     /// The combinational process reads the net, which is the clock of another.
     ClockRead { process: usize, net: usize },
+    /// The process drives the net at a clock's edge, from `U` on, and no assignment that may run while it is undefined makes
+    /// it anything else.
+    NeverKnown { process: usize, net: usize },
+    /// No process reads the net, which is an element of an in port of the top of which others are read.
+    UnreadElement { net: usize },
+    /// No line of a stimulus names the port of the net, which is a clock.
+    ClockWithoutLine { net: usize },
+    /// The same of another input.
+    InputWithoutLine { net: usize },
 }

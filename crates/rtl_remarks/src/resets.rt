@@ -1,7 +1,6 @@
 //! Registers that the branch of a reset leaves out.
 
-ghost use Rattle.std.specs.Prelude.{◌≡◌, option_map, not, ◌++◌, map, IfOk, OnOk};
-ghost use Rattle.std.specs.List.{filter};
+ghost use Rattle.std.specs.Prelude.{◌≡◌, option_map, IfOk};
 ghost use Rattle.std.specs.List.Sorted.{IsStrictlyIncreasing};
 ghost use Rattle.rtl_model.specs.bodies.Kinds.{clocking};
 ghost use Rattle.rtl_net.specs.Bodies.{statements_of};
@@ -11,8 +10,9 @@ ghost use Rattle.rtl_net_facts.specs.Reading.{is_in};
 ghost use Rattle.rtl_remarks.specs.Remarks as spec;
 ghost use Rattle.rtl_remarks.specs.Tables.{AreThose, has_reset, first_branch};
 
+use crate::lists::chosen;
 use rtl_net::{Driver, NoMemory, Process, Statement};
-use rtl_net_facts::{ProcessKind, assigned_nets, contains_rising, kind_of, sort_once};
+use rtl_net_facts::{ProcessKind, assigned_nets, kind_of, sort_once};
 use std::alloc::Global;
 
 /// Whether a process is clocked and has a reset.
@@ -28,7 +28,7 @@ fn has_reset(inputs: &[usize], process: &Process) -> bool
 }
 
 /// The statements of the first branch of a body that is one if.
-fn first_branch(body: &[Statement]) -> Option<&[Statement]>
+pub(crate) fn first_branch(body: &[Statement]) -> Option<&[Statement]>
     ensures { option_map (λ statements. statements_of statements.now) result ≡ first_branch (statements_of body.now) }
 {
     if body.len() != 1 {
@@ -68,20 +68,6 @@ fn targets_of(alloc: Global, drives: &[Driver]) -> Result<Vec<usize>, NoMemory>
     Ok(nets)
 }
 
-/// Those of some nets that aren't among others.
-fn outside(alloc: Global, nets: &[usize], others: &[usize]) -> Result<Vec<usize>, NoMemory>
-    requires { IsStrictlyIncreasing others.now }
-    ensures { IfOk result (λ left. left.items ≡ filter (λ n. not (is_in n others.now)) nets.now) }
-{
-    let mut left = Vec::new(alloc);
-    for net in nets {
-        if !contains_rising(others, *net) {
-            left.push(*net)?;
-        }
-    }
-    Ok(left)
-}
-
 /// The nets that a process drives and the branch of its reset doesn't assign, rising.
 pub(crate) fn left_out(
     alloc: Global,
@@ -95,7 +81,7 @@ pub(crate) fn left_out(
         Some(branch) => {
             let assigned = assigned_nets(alloc, &process.drives, branch)?;
             let targets = targets_of(alloc, &process.drives)?;
-            outside(alloc, &targets, &assigned)
+            chosen(alloc, &targets, &assigned, false)
         }
         None => Ok(Vec::new(alloc)),
     }

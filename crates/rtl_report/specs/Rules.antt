@@ -124,6 +124,10 @@ remarking_words remarking.Unassigned = the_remarking.UNASSIGNED
 remarking_words remarking.IdlePort = the_remarking.IDLE_PORT
 remarking_words remarking.NotReset = the_remarking.NOT_RESET
 remarking_words remarking.ClockRead = the_remarking.CLOCK_READ
+remarking_words remarking.NeverKnown = the_remarking.NEVER_KNOWN
+remarking_words remarking.UnreadElement = the_remarking.UNREAD_ELEMENT
+remarking_words remarking.ClockWithoutLine = the_remarking.CLOCK_WITHOUT_LINE
+remarking_words remarking.InputWithoutLine = the_remarking.INPUT_WITHOUT_LINE
 
 abbrev pub words_of : Rule → Words Text
 words_of (r.Lex rule) = lexing_words rule

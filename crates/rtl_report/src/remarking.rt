@@ -17,6 +17,14 @@ pub enum RemarkRule {
     NotReset,
     /// A combinational process reads a clock.
     ClockRead,
+    /// A register without a reset or an initial value is computed from itself.
+    NeverKnown,
+    /// Nothing reads an element of an in port of the top.
+    UnreadElement,
+    /// No line of the stimulus drives a clock.
+    ClockWithoutLine,
+    /// No line of the stimulus drives another input.
+    InputWithoutLine,
 }
 
 /// What each of these rules begins with.
@@ -70,6 +78,37 @@ const CLOCK_READ: Words<&str> = Words {
     ..REMARKING
 };
 
+const NEVER_KNOWN: Words<&str> = Words {
+    number: 6,
+    name: "NeverKnown",
+    opening: "process ",
+    middle: " computes ",
+    closing: " from its own value, but it has no reset and no initial value, and so is never 0 or 1",
+    ..REMARKING
+};
+
+const UNREAD_ELEMENT: Words<&str> = Words {
+    number: 7,
+    name: "UnreadElement",
+    opening: "nothing reads ",
+    closing: ", though other elements of this in port are read",
+    ..REMARKING
+};
+
+const CLOCK_WITHOUT_LINE: Words<&str> = Words {
+    number: 8,
+    name: "ClockWithoutLine",
+    opening: "no line of the stimulus drives the clock ",
+    ..REMARKING
+};
+
+const INPUT_WITHOUT_LINE: Words<&str> = Words {
+    number: 9,
+    name: "InputWithoutLine",
+    opening: "no line of the stimulus drives the input ",
+    ..REMARKING
+};
+
 impl RemarkRule {
     /// What is said of it.
     pub fn words(self) -> Words<&'static str>
@@ -81,6 +120,10 @@ impl RemarkRule {
             RemarkRule::IdlePort => IDLE_PORT,
             RemarkRule::NotReset => NOT_RESET,
             RemarkRule::ClockRead => CLOCK_READ,
+            RemarkRule::NeverKnown => NEVER_KNOWN,
+            RemarkRule::UnreadElement => UNREAD_ELEMENT,
+            RemarkRule::ClockWithoutLine => CLOCK_WITHOUT_LINE,
+            RemarkRule::InputWithoutLine => INPUT_WITHOUT_LINE,
         }
     }
 }

@@ -105,6 +105,7 @@ fn push_elements<A: Agenda>(
 }
 
 /// The first time after now, up to the stop, at which a course is busy.
+#[inline]
 pub fn next_busy(course: &Course, now: u64, stop: u64) -> Option<u64>
     ensures within { IsWithin now stop result }
     ensures busy { IfSome result (λ t. IsTrue (is_busy (course_view course.now) t)) }

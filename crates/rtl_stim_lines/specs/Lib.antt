@@ -6,6 +6,5 @@ pub mod Reading
 pub mod Pairs
 pub mod Times
 pub mod Filling
-pub mod StimFaults
 pub mod Bounded
 pub mod View

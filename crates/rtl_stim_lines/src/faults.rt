@@ -25,36 +25,6 @@ pub enum StimProblem {
 }
 
 impl StimProblem {
-    ghost use Rattle.rtl_stim_lines.specs.StimFaults.{number_of, title_of};
-
-    /// The number under which it is told. NoStop has 6, and Race 8.
-    pub fn number(self) -> u8
-        ensures { result ≡ number_of self }
-    {
-        match self {
-            StimProblem::BadLine => 1,
-            StimProblem::NotAnInput => 2,
-            StimProblem::BadValue => 3,
-            StimProblem::SetTwice => 4,
-            StimProblem::ClockAndSet => 5,
-            StimProblem::TimeTooLarge => 7,
-        }
-    }
-
-    /// The name under which it is told.
-    pub fn title(self) -> &'static str
-        ensures { result.now ≡ title_of self }
-    {
-        match self {
-            StimProblem::BadLine => "BadLine",
-            StimProblem::NotAnInput => "NotAnInput",
-            StimProblem::BadValue => "BadValue",
-            StimProblem::SetTwice => "SetTwice",
-            StimProblem::ClockAndSet => "ClockAndSet",
-            StimProblem::TimeTooLarge => "TimeTooLarge",
-        }
-    }
-
     /// The fault of this problem in a line.
     pub fn in_line(self, line: usize) -> StimFault
         ensures { result ≡ StimFault.InLine self line }

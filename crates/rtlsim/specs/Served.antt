@@ -4,9 +4,9 @@ use Rattle.rtlsim.specs.Requests.{TextsView, set_form}
 use Rattle.rtl_sink.specs.Stands.{Stand}
 use Rattle.rtlsim.specs.Sinks.{Sinks, IsSilent, ShowsIf, outputs}
 use Rattle.rtlsim_commands.specs.Expected.{Comparing}
-use Rattle.rtlsim_commands.specs.Listed.{ListsNet, ChecksNetJson, ChecksNetTold, DrawsNetTold}
+use Rattle.rtlsim_commands.specs.Listed.{ListsNet, ChecksNetTold, DrawsNetTold}
 use Rattle.rtlsim_commands.specs.Machine.{RunsMachine, RunsMachineByLevels, EvaluatesMachine}
-use Rattle.rtlsim_commands.specs.Served.{Outputs, Serves as ServesSource}
+use Rattle.rtlsim_commands.specs.Served.{Outputs, Serves as ServesSource, ServesObject}
 use Rattle.rtlsim_commands.specs.Sights.{machine}
 use Rattle.rtlsim_commands.specs.Sights as by
 use Rattle.rtlsim_commands.specs.Simulated.{RunsEvents}
@@ -49,7 +49,7 @@ module _ (telling : Telling) (source top : List ℕ) (outcome : Status) (o : Out
   ServesBy Net sets text expected = ServesSource ListsNet quiet telling source top outcome o
   ServesBy Check sets text expected = ServesSource (ChecksNetTold telling) verdict telling source top outcome o
   ServesBy Dot sets text expected = ServesSource (DrawsNetTold telling) verdict telling source top outcome o
-  ServesBy Json sets text expected = ServesSource (ChecksNetJson telling) verdict telling source top outcome o
+  ServesBy Json sets text expected = ServesObject telling source top outcome o
   ServesBy (Run is_event order) sets text expected = ServesRun is_event text expected
   ServesBy Levels sets text expected = ServesLevels text expected
 

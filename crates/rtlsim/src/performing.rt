@@ -19,7 +19,7 @@ use crate::texts::Texts;
 use crate::unread::ReadFault;
 use rtl_progress::{Progress, stop_of};
 use rtl_sink::{Sink, Unwatched, Watch};
-use rtlsim_commands::{CheckNet, DescribeNet, DrawNet, EvalNet, Front, ListNet, Status, Telling};
+use rtlsim_commands::{CheckNet, DrawNet, EvalNet, Front, ListNet, Status, Telling, describe};
 use rtlsim_words::{Call, Request};
 use std::alloc::Global;
 
@@ -149,10 +149,7 @@ fn perform_job<F: Front, V: Watch, O: Sink, E: Sink>(
             let mut command = DrawNet { telling };
             serve_job::<F, _, _, _, _>(alloc, &mut command, job, watch, out, err)
         }
-        Request::Json => {
-            let mut command = DescribeNet { telling };
-            serve_job::<F, _, _, _, _>(alloc, &mut command, job, watch, out, err)
-        }
+        Request::Json => describe::<F, _, _>(alloc, job.source, job.top, telling, out, err),
         Request::Run { is_event, order } => {
             simulate::<F, _, _, _>(alloc, is_event, order, job, watch, out, err)
         }

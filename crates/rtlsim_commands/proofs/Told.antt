@@ -1,5 +1,5 @@
 -- What is told of an answer.
-use Rattle.std.proofs.Common.{◌≡◌, ℕ, List, [], length, Option, Result, Ok, Err, inl, inr, refl, sym, subst, ◌∙◌, true≢false}
+use Rattle.std.proofs.Common.{◌≡◌, ℕ, List, [], length, Option, Result, Ok, Err, ◌⊎◌, inl, inr, refl, sym, subst, ◌∙◌, true≢false}
 use Rattle.rtlsim_faults.specs.Faults.{of_source}
 use Rattle.rtlsim_faults.specs.Places.{IsTold}
 use Rattle.rtlsim_faults.specs.Told.{TellsFault}
@@ -9,9 +9,10 @@ use Rattle.rtlsim_faults.specs.declared.faults.Fault.TheVariants.{Lex, Syntax, N
 use Rattle.rtlsim_faults.specs.declared.status.Status.{Status}
 use Rattle.rtlsim_faults.proofs.Refused.{nameless, source_told}
 use Rattle.rtlsim_commands.specs.Refused.{RefusesSource}
-use Rattle.rtlsim_commands.specs.Served.{Outputs, Serves, ended}
+use Rattle.rtlsim_commands.specs.Served.{Outputs, ServesOr, Unrefused, ended}
 use Rattle.rtlsim_commands.specs.Answered.{TellsText}
-use Rattle.rtlsim_commands.specs.Told.{Done, TellsNets, TellsOthers, TellsBehind, first_of}
+use Rattle.rtlsim_commands.specs.Told.{Done, TellsNets, TellsOthers, TellsBehind, asks_others}
+use Rattle.rtlsim_commands.specs.Remarked.{TellsRemarks}
 use Rattle.rtlsim_commands.specs.Unsettled.{TellsChanging}
 use Rattle.rtl_net.specs.Nets.{NetlistView}
 use Rattle.rtl_sink.specs.Written.{SinkState}
@@ -22,40 +23,58 @@ use Rattle.vhdl_source_rules.specs.declared.fault.SourceFault.{SourceFault}
 use Rattle.vhdl_source_rules.specs.declared.fault.SourceFault.TheVariants as front
 
 -- what is told behind the fault of a source that has a netlist
-behind_nets : (events : Option (List ℕ)) (telling : Telling) (source top : List ℕ) (fault : Fault) (old new : SinkState)
-    → TellsNets events telling source top fault old new → TellsBehind events telling source top fault old new
-behind_nets events telling source top (Lex x) old new h = inl h
-behind_nets events telling source top (Syntax x) old new h = inl h
-behind_nets events telling source top (Name x) old new h = inl h
-behind_nets events telling source top (Elab x) old new h = inl h
-behind_nets events telling source top (Rejected x) old new h = inl h
-behind_nets events telling source top (Stim x) old new h = inl h
-behind_nets events telling source top (Expect x) old new h = inl h
-behind_nets events telling source top (Differs x) old new h = inl h
-behind_nets events telling source top (NoSettling time) old new h = h
-behind_nets events telling source top Memory old new h = inl h
-behind_nets events telling source top Output old new h = inl h
+behind_nets : (events : Option (List ℕ)) (telling : Telling) (source top : List ℕ) (fault : Fault) (said : Status) (old new : SinkState)
+    → TellsNets events telling source top fault old new → TellsBehind events telling source top fault said old new
+behind_nets events telling source top (Lex x) said old new h = inl h
+behind_nets events telling source top (Syntax x) said old new h = inl h
+behind_nets events telling source top (Name x) said old new h = inl h
+behind_nets events telling source top (Elab x) said old new h = inl h
+behind_nets events telling source top (Rejected x) said old new h = inl h
+behind_nets events telling source top (Stim x) said old new h = inl h
+behind_nets events telling source top (Expect x) said old new h = inl h
+behind_nets events telling source top (Differs x) said old new h = inl h
+behind_nets events telling source top (NoSettling time) said old new h = h
+behind_nets events telling source top Memory said old new h = inl h
+behind_nets events telling source top Output said old new h = inl h
 
 -- behind that of one that is refused
-behind_others : (events : Option (List ℕ)) (telling : Telling) (source top : List ℕ) (fault : SourceFault) (old new : SinkState)
-    → TellsOthers telling source top (first_of (of_source fault) telling.explains) old new → TellsBehind events telling source top (of_source fault) old new
-behind_others events telling source top (front.Lex x) old new h = inr h
-behind_others events telling source top (front.Syntax x) old new h = inr h
-behind_others events telling source top (front.Name x) old new h = inr h
-behind_others events telling source top (front.Elab x) old new h = inr h
-behind_others events telling source top front.NoMemory old new h = inr h
+behind_others : (events : Option (List ℕ)) (telling : Telling) (source top : List ℕ) (fault : SourceFault) (said : Status) (old new : SinkState)
+    → TellsOthers (asks_others telling.explains (of_source fault) said) telling source top (of_source fault) old new
+    → TellsBehind events telling source top (of_source fault) said old new
+behind_others events telling source top (front.Lex x) said old new h = inr h
+behind_others events telling source top (front.Syntax x) said old new h = inr h
+behind_others events telling source top (front.Name x) said old new h = inr h
+behind_others events telling source top (front.Elab x) said old new h = inr h
+behind_others events telling source top front.NoMemory said old new h = inr h
 
 no_net : NetlistView
 no_net = record { types = []; starts = []; idle = []; inputs = []; processes = []; scopes = []; signals = [] }
 
-module _ {A : Type 0} (Does : NetlistView → Result A Fault → SinkState → SinkState → Type 0) (done : Done A) (telling : Telling) (source top : List ℕ) (outcome : Status) (o : Outputs) where
+-- the fault that is told is the one of the source, or a want of memory
+pub told_so : (So : SourceFault → Type 0) (fault told : SourceFault) → (told ≡ fault) ⊎ (told ≡ front.NoMemory) → So front.NoMemory → So fault → So told
+told_so So fault told (inl same) memory so = subst So (sym same) so
+told_so So fault told (inr is) memory so = subst So (sym is) memory
+
+module _ {A : Type 0} (Refused : SourceFault → SinkState → SinkState → Type 0) (Does : NetlistView → Result A Fault → SinkState → SinkState → Type 0) (done : Done A)
+    (telling : Telling) (source top : List ℕ) (outcome : Status) (o : Outputs) where
+  -- what is so of a source that is never refused
+  pub serves_so : ServesOr Unrefused Does done telling source top outcome o → ServesOr Refused Does done telling source top outcome o
+  serves_so s = record {
+    answer = s.answer;
+    output = elim (s.output) [ inl x ↦ inl x | inr y ↦ absurd (y.3) ];
+    placed = s.placed;
+    said = s.said;
+    told = s.told;
+    ends = s.ends;
+  }
+
   -- the source is refused
-  pub serves_refused : (fault : SourceFault) → Refuses source top fault → LiesIn (length source) fault → o.out_after ≡ o.out
-      → (said : Status) → RefusesSource telling source top fault o.err o.err_after said → outcome ≡ ended said o.out_after o.err_after
-      → Serves Does done telling source top outcome o
-  serves_refused fault refuses lies same said tells ends = record {
+  pub serves_refused : (fault : SourceFault) → Refuses source top fault → LiesIn (length source) fault → Refused fault o.out o.out_after
+      → (said : Status) → RefusesSource telling source top (of_source fault) o.err o.err_after said → outcome ≡ ended said o.out_after o.err_after
+      → ServesOr Refused Does done telling source top outcome o
+  serves_refused fault refuses lies refused said tells ends = record {
     answer = Err (of_source fault);
-    output = inr (fault, refl, refuses, same);
+    output = inr (fault, refl, refuses, refused);
     placed = source_told (length source) fault lies;
     said = said;
     told = (
@@ -63,32 +82,33 @@ module _ {A : Type 0} (Does : NetlistView → Result A Fault → SinkState → S
       (λ named. absurd (true≢false (sym named ∙ nameless fault))),
       tells.between,
       tells.first no_net,
-      behind_others done.events telling source top fault tells.between o.err_after tells.others,
+      behind_others done.events telling source top fault said tells.between o.err_after tells.others,
     );
     ends = ends;
   }
 
   -- the work on its netlist is done
   pub serves_done : (net : NetlistView) (answer : Result A Fault) (x : A) → answer ≡ Ok x → IsNetOf source top net → Does net answer o.out o.out_after
-      → TellsText (done.text x) o.err o.err_after → outcome ≡ ended (done.status x) o.out_after o.err_after → Serves Does done telling source top outcome o
-  serves_done net answer x at is does tells ends = record {
+      → (between : SinkState) → TellsText (done.text x) o.err between → TellsRemarks telling net between o.err_after
+      → outcome ≡ ended (done.status x) o.out_after o.err_after → ServesOr Refused Does done telling source top outcome o
+  serves_done net answer x at is does between tells remarks ends = record {
     answer = Ok x;
     output = inl (net, is, subst (λ (r : Result A Fault). Does net r o.out o.out_after) at does);
     placed = tt;
     said = done.status x;
-    told = (tells, refl);
+    told = (net, is, between, tells, remarks, refl);
     ends = ends;
   }
 
   -- it ends with a fault, behind which this is told
   pub serves_told : (net : NetlistView) (answer : Result A Fault) (fault : Fault) → answer ≡ Err fault → IsNetOf source top net → Does net answer o.out o.out_after
       → IsTold (length source) fault → (said : Status) (between : SinkState) → TellsFault telling net fault o.err between said
-      → TellsChanging done.events telling.explains net fault between o.err_after → outcome ≡ ended said o.out_after o.err_after → Serves Does done telling source top outcome o
+      → TellsChanging done.events telling.explains net fault between o.err_after → outcome ≡ ended said o.out_after o.err_after → ServesOr Refused Does done telling source top outcome o
   serves_told net answer fault at is does placed said between tells behind ends = record {
     answer = Err fault;
     output = inl (net, is, subst (λ (r : Result A Fault). Does net r o.out o.out_after) at does);
     placed = placed;
     said = said;
-    told = (net, (λ named. is), between, tells, behind_nets done.events telling source top fault between o.err_after (net, is, behind));
+    told = (net, (λ named. is), between, tells, behind_nets done.events telling source top fault said between o.err_after (net, is, behind));
     ends = ends;
   }

@@ -12,6 +12,7 @@ pub mod Runs
 pub mod Opened
 -- what is told of it
 pub mod Unsettled
+pub mod Remarked
 pub mod Told
 pub mod Served
 pub mod Refused

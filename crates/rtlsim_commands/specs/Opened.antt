@@ -8,9 +8,17 @@ use Rattle.vhdl_source_rules.specs.Designs.{IsNetOf}
 use Rattle.vhdl_source_rules.specs.Refusals.{Refuses}
 use Rattle.vhdl_source_rules.specs.declared.fault.SourceFault.{SourceFault}
 
--- The source has this netlist, and the command does its work on it; or the source is refused, and nothing is written.
+-- The source has this netlist, and the command does its work on it; or the source is refused, and this is so of what is written.
+abbrev pub OpensOr : {A : Type 0} → (Refused : SourceFault → (old new : SinkState) → Type 0) → (Does : NetlistView → Result A Fault → SinkState → SinkState → Type 0)
+    → (source top : List ℕ) → Result A Fault → (old new : SinkState) → Type 0
+OpensOr {A} Refused Does source top answer old new =
+    ((net : NetlistView) × IsNetOf source top net × Does net answer old new)
+    ⊎ ((fault : SourceFault) × (answer ≡ Err (of_source fault)) × Refuses source top fault × Refused fault old new)
+
+-- nothing is written of a source that is refused
+abbrev pub Writeless : SourceFault → (old new : SinkState) → Type 0
+Writeless fault old new = new ≡ old
+
 abbrev pub Opens : {A : Type 0} → (Does : NetlistView → Result A Fault → SinkState → SinkState → Type 0) → (source top : List ℕ) → Result A Fault
     → (old new : SinkState) → Type 0
-Opens {A} Does source top answer old new =
-    ((net : NetlistView) × IsNetOf source top net × Does net answer old new)
-    ⊎ ((fault : SourceFault) × (answer ≡ Err (of_source fault)) × Refuses source top fault × (new ≡ old))
+Opens Does source top answer old new = OpensOr Writeless Does source top answer old new

@@ -1,14 +1,19 @@
 -- What a command leaves on both outputs, and the status that it ends with.
 use Rattle.std.specs.Prelude.{◌≡◌, ◌||◌, ℕ, Bool, true, false, List, length, Result, IfErr}
-use Rattle.rtlsim_commands.specs.Opened.{Opens}
+use Rattle.rtlsim_commands.specs.Listed.{ChecksNetJson}
+use Rattle.rtlsim_commands.specs.Opened.{OpensOr, Writeless}
+use Rattle.rtlsim_faults.specs.Explanations.{files_of}
 use Rattle.rtlsim_faults.specs.Places.{IsTold}
-use Rattle.rtlsim_commands.specs.Told.{Done, Tells}
+use Rattle.rtlsim_commands.specs.Told.{Done, Tells, verdict}
+use Rattle.rtlsim_faults.specs.Refusal.{Describes}
 use Rattle.rtlsim_faults.specs.declared.faults.Fault.{Fault}
 use Rattle.rtlsim_faults.specs.declared.status.Status.{Status}
 use Rattle.rtlsim_faults.specs.declared.status.Status.TheVariants as status
 use Rattle.rtlsim_faults.specs.declared.telling.Telling.{Telling}
 use Rattle.rtl_net.specs.Nets.{NetlistView}
 use Rattle.rtl_sink.specs.Written.{SinkState}
+use Rattle.vhdl_source_rules.specs.Designs.{IsNetOf}
+use Rattle.vhdl_source_rules.specs.declared.fault.SourceFault.{SourceFault}
 
 -- both outputs before a call and after it
 pub record Outputs : Type 0 where
@@ -26,11 +31,31 @@ abbrev pub ended : Status → (out err : SinkState) → Status
 ended outcome out err = ended_by (out.failed || err.failed) outcome
 
 -- The command answers on the source; what is told of the answer goes to the standard error, and decides the status.
-pub record Serves {A : Type 0} (Does : NetlistView → Result A Fault → SinkState → SinkState → Type 0) (done : Done A) (telling : Telling) (source top : List ℕ)
-    (outcome : Status) (o : Outputs) : Type 0 where
+pub record ServesOr {A : Type 0} (Refused : SourceFault → (old new : SinkState) → Type 0) (Does : NetlistView → Result A Fault → SinkState → SinkState → Type 0)
+    (done : Done A) (telling : Telling) (source top : List ℕ) (outcome : Status) (o : Outputs) : Type 0 where
   pub answer : Result A Fault
-  pub output : Opens Does source top answer o.out o.out_after
+  pub output : OpensOr Refused Does source top answer o.out o.out_after
   pub placed : IfErr answer (IsTold (length source))
   pub said : Status
   pub told : Tells done telling source top answer o.err o.err_after said
   pub ends : outcome ≡ ended said o.out_after o.err_after
+
+-- nothing is written to the standard output where the source is refused
+abbrev pub Serves : {A : Type 0} → (Does : NetlistView → Result A Fault → SinkState → SinkState → Type 0) → Done A → Telling → (source top : List ℕ)
+    → (outcome : Status) → Outputs → Type 0
+Serves Does done telling source top outcome o = ServesOr Writeless Does done telling source top outcome o
+
+-- the verdict as an object, or that of a source that is refused
+abbrev pub ServesObject : Telling → (source top : List ℕ) → (outcome : Status) → Outputs → Type 0
+ServesObject telling source top outcome o =
+    ServesOr (Describes (files_of telling) source top) (ChecksNetJson telling) verdict telling source top outcome o
+
+-- ---- a step of the code: on the netlist of whichever source
+
+abbrev pub Unrefused : SourceFault → (old new : SinkState) → Type 0
+Unrefused fault old new = ⊥
+
+abbrev pub ServesNet : {A : Type 0} → (Does : NetlistView → Result A Fault → SinkState → SinkState → Type 0) → Done A → Telling → NetlistView
+    → (outcome : Status) → Outputs → Type 0
+ServesNet Does done telling net outcome o =
+    (source top : List ℕ) → IsNetOf source top net → ServesOr Unrefused Does done telling source top outcome o

@@ -3,6 +3,7 @@
 ghost use Rattle.std.specs.Prelude.{◌≡◌};
 ghost use Rattle.rtl_sink.specs.Written.{IsIntact};
 ghost use Rattle.rtlsim_faults.specs.Faults.{of_source};
+ghost use Rattle.rtlsim_faults.specs.Behind as behind;
 ghost use Rattle.rtlsim_commands.specs.Refused.{RefusesSource};
 ghost use Rattle.rtlsim_commands.specs.Served.{ended};
 ghost use Rattle.rtlsim_commands.specs.Told as told;
@@ -14,11 +15,9 @@ use rtlsim_faults::{
     Fault, Status, Telling, push_further_faults, tell_changing, tell_fault, tell_source_fault,
 };
 use std::alloc::Global;
-use vhdl_names_rules::NameFault;
 use vhdl_source_rules::{Front, SourceFault};
 
-/// Tells why a source is refused, where it is for a name or type and explanations are asked for its other faults too, and answers the
-/// status.
+/// Tells why a source is refused, and its other faults too where that is told whole and explanations are asked for, and answers the status.
 pub(crate) fn refuse_source<F: Front, O: Sink, E: Sink>(
     alloc: Global,
     source: &[u8],
@@ -28,38 +27,51 @@ pub(crate) fn refuse_source<F: Front, O: Sink, E: Sink>(
     out: &O,
     err: &mut E,
 ) -> Status
-    ensures { (said : Status) × RefusesSource telling.now source.now top.now fault (E.state err.old) (E.state err.new) said
+    ensures { (said : Status) × RefusesSource telling.now source.now top.now (of_source fault) (E.state err.old) (E.state err.new) said
         × (result ≡ ended said (O.state out.now) (E.state err.new)) }
 {
     let said = tell_source_fault(alloc, telling, fault, err);
-    tell_others::<F, E>(alloc, source, top, telling, fault, err);
+    tell_others::<F, E>(alloc, source, top, telling, &Fault::from(fault), said, err);
     ended_by_writes(said, out, err)
 }
 
-/// Tells the other faults of names and types of a source that is refused, where explanations are asked for.
+/// Tells the other faults of a source that is refused behind its first, where they are asked for.
 fn tell_others<F: Front, E: Sink>(
     alloc: Global,
     source: &[u8],
     top: &[u8],
     telling: &Telling<'_>,
-    fault: SourceFault,
+    first: &Fault,
+    said: Status,
     err: &mut E,
 )
-    ensures { told.TellsOthers telling.now source.now top.now (told.first_of (of_source fault) telling.now.explains) (E.state err.old) (E.state err.new) }
+    ensures { told.TellsOthers (told.asks_others telling.now.explains first.now said) telling.now source.now top.now first.now
+        (E.state err.old) (E.state err.new) }
 {
-    if let Some(first) = first_of(fault, telling.explains) {
-        let _whole = push_further_faults::<F, E>(alloc, telling, source, top, first, err);
+    if asks_others(telling.explains, first, said) {
+        push_further_faults::<F, E>(alloc, telling, source, top, first, err);
     }
 }
 
-/// The fault of names or types behind which the others are told.
-fn first_of(fault: SourceFault, explains: bool) -> Option<NameFault>
-    ensures { result ≡ told.first_of (of_source fault) explains }
+/// Whether the others are told behind this first fault, which was told with this status.
+fn asks_others(explains: bool, first: &Fault, said: Status) -> bool
+    ensures { result ≡ told.asks_others explains first.now said }
 {
-    match fault {
-        SourceFault::Name(first) => { if explains { Some(first) } else { None } }
-        _ => None,
-    }
+    explains && has_others(first) && !is_memory(said)
+}
+
+/// Whether others are looked for behind it.
+fn has_others(first: &Fault) -> bool
+    ensures { result ≡ behind.has_others first.now }
+{
+    matches!(first, Fault::Syntax(_) | Fault::Name(_))
+}
+
+/// Whether memory was refused.
+fn is_memory(said: Status) -> bool
+    ensures { result ≡ told.is_memory said }
+{
+    matches!(said, Status::Memory)
 }
 
 /// Tells a fault of a netlist with its names, and below its explanation the nets of these numbers where a moment doesn't settle, and answers

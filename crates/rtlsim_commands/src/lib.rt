@@ -17,6 +17,7 @@ mod listing;
 mod noting;
 mod opening;
 mod printing;
+mod remarking;
 mod running;
 mod serving;
 
@@ -27,7 +28,7 @@ pub use listing::{check_net, check_net_dot};
 pub use opening::{
     eval, on_source, run, run_event, run_levels, show_check, show_check_dot, show_net,
 };
-pub use printing::{CheckNet, DescribeNet, DrawNet, EvalNet, ListNet};
+pub use printing::{CheckNet, DrawNet, EvalNet, ListNet};
 pub use rtl_check::CheckFault;
 pub use rtl_kernel::{Forward, Pick, Reverse};
 pub use rtl_machine::{LevelSummary, Summary};
@@ -39,7 +40,7 @@ pub use rtlsim_faults::{
 };
 pub use rtlsim_files::SourceFile;
 pub use running::{MAX_DELTAS, RunEvents, RunLevels, RunMachine};
-pub use serving::serve;
+pub use serving::{describe, serve};
 pub use vhdl_expand_rules::{ElabFault, ElabProblem};
 pub use vhdl_names_rules::{NameFault, NameProblem};
 pub use vhdl_source_rules::{Front, SourceFault};

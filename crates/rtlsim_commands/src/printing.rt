@@ -85,8 +85,8 @@ impl Command for DrawNet<'_, '_> {
 
 /// `check --json`: the verdict as an object.
 #[derive(Drop)]
-pub struct DescribeNet<'a, 'b> {
-    pub telling: &'a Telling<'b>,
+pub(crate) struct DescribeNet<'a, 'b> {
+    pub(crate) telling: &'a Telling<'b>,
 }
 
 impl Command for DescribeNet<'_, '_> {

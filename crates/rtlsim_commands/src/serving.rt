@@ -5,14 +5,16 @@ ghost use Rattle.rtl_machine.specs.simulations.Simulated as spec;
 ghost use Rattle.rtl_sink.specs.Written.{IsIntact};
 ghost use Rattle.rtl_stim.specs.Ports.{HasOwnPorts};
 ghost use Rattle.rtlsim_commands.specs.Sights.{Seeing, IsOfNet, events_of};
-ghost use Rattle.rtlsim_commands.specs.Served.{Serves};
+ghost use Rattle.rtlsim_commands.specs.Served.{Serves, ServesNet, ServesObject};
 
 use crate::command::{Answer, Command};
 use crate::ending::{ended_by_writes, refuse_net, refuse_source};
 use crate::noting::{Noting, Numbers};
+use crate::printing::DescribeNet;
+use crate::remarking::tell_remarks;
 use rtl_net::Net;
-use rtl_sink::{Sink, Watch};
-use rtlsim_faults::{Fault, Status, Telling};
+use rtl_sink::{Sink, Unwatched, Watch};
+use rtlsim_faults::{Fault, Status, Telling, describe_refusal};
 use std::alloc::Global;
 use vhdl_source_rules::Front;
 
@@ -34,17 +36,65 @@ pub fn serve<F: Front, C: Command, V: Watch, O: Sink, E: Sink>(
         (record { text = C.Answer.text; status = C.Answer.said; events = events_of (C.sight command.old) }) telling.now source.now top.now result
         (record { out = O.state out.old; out_after = O.state out.new; err = E.state err.old; err_after = E.state err.new }) }
 {
-    let net = match F::open(alloc, source, top) {
-        Ok(net) => net,
-        Err(fault) => return refuse_source::<F, O, E>(alloc, source, top, telling, fault, out, err),
-    };
-    let (answer, changing) = on_net_noting(alloc, &net, command, watch, out);
+    match F::open(alloc, source, top) {
+        Ok(net) => serve_net(alloc, telling, &net, command, watch, out, err),
+        Err(fault) => refuse_source::<F, O, E>(alloc, source, top, telling, fault, out, err),
+    }
+}
+
+/// Serves the object of `check`: opens the source, and writes the verdict on its netlist as an object, or that of a source that is refused.
+/// What is told of a fault goes to `err`, and it answers the status. Where memory for the object is refused, that is told in place of the
+/// fault.
+pub fn describe<F: Front, O: Sink, E: Sink>(
+    alloc: Global,
+    source: &[u8],
+    top: &[u8],
+    telling: &Telling<'_>,
+    out: &mut O,
+    err: &mut E,
+) -> Status
+    requires out { IsIntact (O.state out.old) }
+    requires err { IsIntact (E.state err.old) }
+    ensures { ServesObject telling.now source.now top.now result
+        (record { out = O.state out.old; out_after = O.state out.new; err = E.state err.old; err_after = E.state err.new }) }
+{
+    match F::open(alloc, source, top) {
+        Ok(net) => {
+            let mut command = DescribeNet { telling };
+            serve_net(alloc, telling, &net, &mut command, &mut Unwatched, out, err)
+        }
+        Err(fault) => {
+            let told = describe_refusal::<F, O>(alloc, telling.files, source, top, fault, out);
+            refuse_source::<F, O, E>(alloc, source, top, telling, told, out, err)
+        }
+    }
+}
+
+/// Serves a command on the netlist of a source.
+fn serve_net<C: Command, V: Watch, O: Sink, E: Sink>(
+    alloc: Global,
+    telling: &Telling<'_>,
+    net: &Net,
+    command: &mut C,
+    watch: &mut V,
+    out: &mut O,
+    err: &mut E,
+) -> Status
+    requires ports { HasOwnPorts net.now }
+    requires out { IsIntact (O.state out.old) }
+    requires err { IsIntact (E.state err.old) }
+    ensures { ServesNet (Seeing (C.sight command.old) (C.does command.old) (λ stands. V.told watch.old stands watch.new))
+        (record { text = C.Answer.text; status = C.Answer.said; events = events_of (C.sight command.old) }) telling.now net.now result
+        (record { out = O.state out.old; out_after = O.state out.new; err = E.state err.old; err_after = E.state err.new }) }
+{
+    let (answer, changing) = on_net_noting(alloc, net, command, watch, out);
     match answer {
         Ok(answer) => {
             let status = answer.tell(err);
+            tell_remarks(alloc, telling, net, err);
             ended_by_writes(status, out, err)
         }
-        Err(fault) => refuse_net(alloc, telling, &net, &fault, &changing, out, err),
+        Err(fault) => refuse_net(alloc, telling, net, &fault, &changing, out, err),
     }
 }
 

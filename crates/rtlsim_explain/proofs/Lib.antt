@@ -1,5 +1,1 @@
-pub mod Rest
 pub mod Races
-pub mod Choices
-pub mod Forms
-pub mod Names

@@ -1,25 +1,21 @@
 //! Explanations of faults, for a designer: the file, line and column, what is wrong in the design's own words, the line with a mark
 //! under the place, and what to do about it.
 //!
-//! `specs/Explained.antt` says what is written of a fault of a source, and `specs/Stimuli.antt` of those of a stimulus and a run;
-//! `specs/Races.antt` says which line of a stimulus a race is told at, `specs/Choices.antt` which choice a statement lacks, and
-//! `specs/Entities.antt` which entities are listed. `specs/Places.antt` has lines and columns. What is said of a rule are rtl_report's texts;
-//! of a form that isn't read those in `form`, by the words in `table`, of which `specs/Forms.antt` says when they are told.
+//! `specs/Explained.antt` says what is told of a fault of a source, and what is written of that, and `specs/Stimuli.antt` what of those of a
+//! stimulus and a run; `specs/Refused.antt` says what is told where a source has no tokens, and `specs/Races.antt` which line of a stimulus a
+//! race is told at. `specs/Places.antt` has lines and columns. What is said of a rule are rtl_report's texts; what is said of forms and slips is
+//! rtlsim_forms', and what the tokens around a fault tell rtlsim_hints'.
 #![tactic(auto)]
 
-mod choice;
-mod entity;
-mod enumeration;
 mod explaining;
-mod form;
-mod lexed;
 mod place;
 mod race;
+mod refused;
 mod stimulus;
-mod table;
-mod unread;
+mod told;
 
 pub use explaining::{explain_refusal, explain_source};
-pub use lexed::{Lexed, text_of};
 pub use place::{Position, line_after, line_before, position_behind};
+pub use rtlsim_forms::{Lexed, text_of};
 pub use stimulus::{explain_stim, explain_unsettled};
+pub use told::{Told, push_paragraph, told_refusal, told_source};

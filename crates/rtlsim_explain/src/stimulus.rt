@@ -161,7 +161,7 @@ fn push_rest<S: Sink>(text: Option<&[u8]>, rule: Rule, line: Option<usize>, sink
 {
     push_text(sink, b"\n");
     push_shown(line, text, sink);
-    push_help(rule.words().help, sink);
+    push_help(rule.words().help.as_bytes(), sink);
 }
 
 /// Writes the line of this number of a text, where there are both.

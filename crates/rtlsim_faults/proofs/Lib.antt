@@ -3,5 +3,6 @@ pub mod Told
 pub mod Places
 pub mod Parts
 pub mod Names
-pub mod Walks
 pub mod Behind
+pub mod Grammar
+pub mod Described

@@ -7,8 +7,7 @@ use Rattle.rtl_sink.proofs.Writing.{Goes-append}
 use Rattle.rtl_stim_lines.specs.declared.faults.StimFault.{StimFault}
 use Rattle.rtl_stim_lines.specs.declared.faults.StimFault.TheVariants as stim
 use Rattle.rtlsim_explain.specs.Stimuli.{is_race}
-use Rattle.rtlsim_explain.specs.Words.{Read}
-use Rattle.rtlsim_faults.specs.Explanations.{explanation, files_of, is_read, source_said, told, unread}
+use Rattle.rtlsim_faults.specs.Explanations.{IsRead, Source, explanation, files_of, is_read, source_report, source_said, told, unread}
 use Rattle.rtlsim_faults.specs.Faults.{has_names, is_of_names, status_of, takes_memory}
 use Rattle.rtlsim_faults.specs.Lines.{fault_lines, memory_line, stim_line, told_line}
 use Rattle.rtlsim_faults.specs.Reports.{stim_report}
@@ -68,10 +67,11 @@ explains_plain telling fault true old new plain all goes = (unread, (λ read. ab
 explains_plain telling fault false old new plain all goes = absurd (true≢false (sym all))
 
 pub explains_read : (telling : Telling) (fault : Fault) (report : Option Report) (whole : Bool) (old new : SinkState) → is_read fault ≡ true
-    → ((read : Read) (net : NetlistView) → source_said (files_of telling) read report ≡ explanation telling read net fault)
+    → report ≡ source_report fault → ((read : Source) (net : NetlistView) → source_said (files_of telling) read report ≡ explanation telling read net fault)
     → ExplainsRead (files_of telling) report whole old new → Explains telling fault whole old new
-explains_read telling fault report true old new reads same h = (h.0, (λ _. h.1), λ net. goes_along old new _ _ (same h.0 net) h.2)
-explains_read telling fault report false old new reads same h = (reads, h)
+explains_read telling fault report true old new reads is same h =
+    (h.0, (λ _. subst (λ (r : Option Report). IsRead (files_of telling) r h.0) is h.1), λ net. goes_along old new _ _ (same h.0 net) h.2)
+explains_read telling fault report false old new reads is same h = (reads, h)
 
 -- of a fault that is none of these nothing is said
 pub explains_none : (telling : Telling) (fault : Fault) (old new : SinkState) → is_of_names fault ≡ false → ((x : LexFault) → fault ≡ f.Lex x → ⊥)
@@ -116,7 +116,7 @@ nameless_stim files net stim.NoMemory quiet = refl
 -- ---- what is told of a fault
 
 module _ (telling : Telling) (net : NetlistView) (fault : Fault) (old between new : SinkState) where
-  below : (read : Read) → (b : Bool) → telling.explains ≡ b
+  below : (read : Source) → (b : Bool) → telling.explains ≡ b
       → fault_lines (files_of telling) net fault ++ (if b then explanation telling read net fault else []) ≡ told telling read net fault
   below read b is = ap (λ (b : Bool). fault_lines (files_of telling) net fault ++ (if b then explanation telling read net fault else [])) (sym is)
 

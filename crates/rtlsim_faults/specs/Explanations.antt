@@ -4,6 +4,7 @@ use Rattle.rtl_check.specs.declared.checking.Verdict.{Verdict}
 use Rattle.rtl_check.specs.declared.checking.Verdict.TheVariants as verdict
 use Rattle.rtl_net.specs.Nets.{NetlistView}
 use Rattle.rtl_report.specs.declared.report.Report.{Report}
+use Rattle.rtlsim_faults.specs.Expecting.{IsExpectedBy}
 use Rattle.rtlsim_faults.specs.Lines.{fault_lines}
 use Rattle.rtlsim_faults.specs.Reports.{lex_report, syntax_report, name_report, elab_report, stim_report}
 use Rattle.rtlsim_faults.specs.declared.faults.Fault.{Fault}
@@ -11,9 +12,10 @@ use Rattle.rtlsim_faults.specs.declared.faults.Fault.TheVariants.{Lex, Syntax, N
 use Rattle.rtlsim_faults.specs.declared.telling.Telling.{Telling}
 use Rattle.rtlsim_explain.specs.Explained.{refusal_explained, source_explained}
 use Rattle.rtlsim_explain.specs.Stimuli.{stim_explained, settle_explained}
-use Rattle.rtlsim_explain.specs.Words.{Read}
+use Rattle.rtlsim_forms.specs.Words.{Read}
 use Rattle.rtlsim_verdict.specs.Explained.{rejection_explained}
 use Rattle.rtlsim_files.specs.Files.{FileView, file_view, joined, source_name}
+use Rattle.vhdl_expected.specs.Told.{Expected, nothing}
 use Rattle.vhdl_lexer.specs.Cut.{Cuts}
 
 abbrev pub files_of : Telling → List FileView
@@ -21,13 +23,19 @@ files_of telling = map file_view telling.files.now
 
 -- ---- a fault of the source
 
--- the source of these files, with its tokens
-abbrev pub IsRead : List FileView → Read → Type 0
-IsRead files read = (read.text ≡ joined files) × Cuts None 0 read.text read.tokens
+-- a source with its tokens, and what was expected at the one that the parser refuses
+pub record Source : Type 0 where
+  pub read : Read
+  pub expected : Expected
+
+-- the source of these files, which has this report
+abbrev pub IsRead : List FileView → Option Report → Source → Type 0
+IsRead files report source =
+    (source.read.text ≡ joined files) × Cuts None 0 source.read.text source.read.tokens × IsExpectedBy source.read report source.expected
 
 -- a source that isn't read
-abbrev pub unread : Read
-unread = record { text = []; tokens = [] }
+abbrev pub unread : Source
+unread = record { read = record { text = []; tokens = [] }; expected = nothing }
 
 -- what is said of a report, if there is one
 abbrev pub reported : (said : Report → List ℕ) → Option Report → List ℕ
@@ -37,13 +45,13 @@ reported said (Some report) = said report
 abbrev pub refusal_said : List FileView → Option Report → List ℕ
 refusal_said files report = reported (refusal_explained files) report
 
-abbrev pub source_said : List FileView → Read → Option Report → List ℕ
-source_said files read report = reported (source_explained files read) report
+abbrev pub source_said : List FileView → Source → Option Report → List ℕ
+source_said files source report = reported (source_explained files source.read source.expected) report
 
 -- ---- each fault
 
 -- `read`: the source, of a fault of grammar, of names or of elaboration
-abbrev pub explanation : Telling → (read : Read) → NetlistView → Fault → List ℕ
+abbrev pub explanation : Telling → (read : Source) → NetlistView → Fault → List ℕ
 explanation telling read net (Lex fault) = refusal_said (files_of telling) (lex_report fault)
 explanation telling read net (Syntax fault) = source_said (files_of telling) read (syntax_report fault)
 explanation telling read net (Name fault) = source_said (files_of telling) read (name_report fault)
@@ -64,8 +72,15 @@ is_read (Name fault) = true
 is_read (Elab fault) = true
 is_read _ = false
 
+-- what such a fault reports
+abbrev pub source_report : Fault → Option Report
+source_report (Syntax fault) = syntax_report fault
+source_report (Name fault) = name_report fault
+source_report (Elab fault) = elab_report fault
+source_report _ = None
+
 -- what is told of a fault: its lines, and below them its explanation where that is asked for
-abbrev pub told : Telling → (read : Read) → NetlistView → Fault → List ℕ
+abbrev pub told : Telling → (read : Source) → NetlistView → Fault → List ℕ
 told telling read net fault = fault_lines (files_of telling) net fault ++ (if telling.explains then explanation telling read net fault else [])
 
 -- ---- verdicts

@@ -1,21 +1,20 @@
--- What is told of the faults of names and types of a source behind its first. What is at fault is taken out of the source, and the next fault
--- is one of what is left; so it goes on until what is left is refused for no name or type.
-use Rattle.std.specs.Prelude.{◌≡◌, ◌⊎◌, ℕ, zero, suc, Bool, true, false, List, [], ◌++◌, Option, Some, None, codes}
+-- Which faults of names and types of a source follow its first, and what is told of them. What is at fault is taken out of the source, and
+-- the next fault is one of what is left; so it goes on until what is left is refused for no name or type.
+use Rattle.std.specs.Prelude.{◌≡◌, ◌⊎◌, ℕ, zero, suc, Bool, true, false, List, [], ◌++◌, Option, Some, None, option_to_list}
 use Rattle.rtl_net.specs.Nets.{NetlistView}
-use Rattle.rtl_sink.specs.Written.{SinkState, Goes}
-use Rattle.rtlsim_faults.specs.Explanations.{files_of, source_said}
+use Rattle.rtl_report.specs.declared.report.Report.{Report}
 use Rattle.rtlsim_faults.specs.Reports.{name_report}
-use Rattle.rtlsim_faults.specs.declared.telling.Telling.{Telling}
-use Rattle.rtlsim_explain.specs.Words.{with_tokens}
+use Rattle.rtlsim_faults.specs.declared.search.End.{End}
+use Rattle.rtlsim_faults.specs.declared.search.End.TheVariants as end
+use Rattle.rtlsim_explain.specs.Explained.{Told, told_of_source}
+use Rattle.rtlsim_forms.specs.Words.{Read, with_tokens}
 use Rattle.rtlsim_files.specs.Files.{FileView}
-use Rattle.rtlsim_faults.specs.Words.{is_known}
-use Rattle.vhdl_lexer.specs.Extents.{statement_at, blanked}
-use Rattle.vhdl_lexer.specs.declared.extent.Extent.{Extent}
+use Rattle.vhdl_expected.specs.Told.{Expected, nothing}
 use Rattle.vhdl_lexer.specs.Cut.{Cuts}
 use Rattle.vhdl_lexer.specs.declared.token.Token.{Token}
+use Rattle.vhdl_names_further.specs.Known.{is_known}
+use Rattle.vhdl_names_further.specs.Taken.{past}
 use Rattle.vhdl_names_rules.specs.declared.fault.NameFault.{NameFault}
-use Rattle.vhdl_names_rules.specs.declared.fault.NameFault.TheVariants as names
-use Rattle.vhdl_names_rules.specs.declared.fault.NameProblem.TheVariants.{Twice}
 use Rattle.vhdl_source_rules.specs.Designs.{IsNetOf}
 use Rattle.vhdl_source_rules.specs.Refusals.{Refuses}
 use Rattle.vhdl_source_rules.specs.declared.fault.SourceFault.{SourceFault}
@@ -29,10 +28,6 @@ most_told = 20
 abbrev pub most_steps : ℕ
 most_steps = 100
 
--- the line below the last fault that is told, where there are more, or where no more are looked for
-abbrev pub more_line : List ℕ
-more_line = codes "and more\n"
-
 -- what faults are looked for in
 pub record Asked : Type 0 where
   pub files : List FileView
@@ -40,25 +35,30 @@ pub record Asked : Type 0 where
   pub tokens : List Token
   pub top : List ℕ
 
--- what is said of a fault of names
-abbrev pub name_said : Asked → NameFault → List ℕ
-name_said a fault = source_said a.files (with_tokens a.source a.tokens) (name_report fault)
+-- what is told of a report, if there is one
+abbrev pub told_by : (tell : Report → Option Told) → Option Report → Option Told
+told_by tell None = None
+told_by tell (Some report) = tell report
 
--- ---- what is taken out
+abbrev pub told_of : List FileView → Read → Expected → Option Report → Option Told
+told_of files read expected report = told_by (told_of_source files read expected) report
 
--- What is taken out with a fault; nothing with a name that is declared twice, since nobody knows which of its declarations is meant.
-abbrev pub extent_of : List Token → NameFault → Option Extent
-extent_of tokens (names.At Twice at) = None
-extent_of tokens (names.At problem at) = statement_at tokens at
-extent_of tokens names.NoMemory = None
+-- what is told of a fault of names
+abbrev pub name_told : Asked → NameFault → List Told
+name_told a fault = option_to_list (told_of a.files (with_tokens a.source a.tokens) nothing (name_report fault))
 
-abbrev pub without : (left : List ℕ) → Option Extent → Option (List ℕ)
-without left None = None
-without left (Some extent) = Some (blanked extent left)
+-- what is told of the faults that are found, in order, and how the search for them ends
+pub record Found : Type 0 where
+  pub told : List Told
+  pub end : End
 
--- what is left of the source behind a fault; None where nothing is taken out
-abbrev pub past : List Token → (left : List ℕ) → NameFault → Option (List ℕ)
-past tokens left fault = without left (extent_of tokens fault)
+-- none
+abbrev pub ended : End → Found
+ended e = record { told = []; end = e }
+
+-- these, and then the others
+abbrev pub before : List Told → Found → Found
+before told others = record { told = told ++ others.told; end = others.end }
 
 -- ---- what follows
 
@@ -73,39 +73,32 @@ abbrev pub HasNames : (text top : List ℕ) → Type 0
 HasNames text top =
     ((net : NetlistView) × IsNetOf text top net) ⊎ ((fault : SourceFault) × IsOther fault × Refuses text top fault)
 
--- What is left is read: memory is refused, and so not the whole is told; or its names are in order; or they have a fault, and this is told.
-abbrev pub Reads : (whole : Bool) → (top : List ℕ) → (Tells : (left : List ℕ) → NameFault → Type 0) → Option (List ℕ) → (text : List ℕ) → Type 0
-Reads whole top Tells None text = text ≡ []
-Reads whole top Tells (Some left) text =
-    ((whole ≡ false) × (text ≡ []))
-    ⊎ ((HasNames left top × (text ≡ []))
-    ⊎ ((fault : NameFault) × Refuses left top (Name fault) × Tells left fault))
+-- What is left is read: memory is refused; or its names are in order; or they have a fault, and this is so of it.
+abbrev pub Reads : (top : List ℕ) → (So : (left : List ℕ) → NameFault → Type 0) → Option (List ℕ) → Found → Type 0
+Reads top So None found = found ≡ ended end.Whole
+Reads top So (Some left) found =
+    (found ≡ ended end.NoMemory)
+    ⊎ ((HasNames left top × (found ≡ ended end.Whole)) ⊎ ((fault : NameFault) × Refuses left top (Name fault) × So left fault))
 
--- A fault whose cause is told already isn't told. Else it is said, where so many may be said still, and then the others are told.
-abbrev pub Says : (known : Bool) → (more : ℕ) → (said : List ℕ) → (Tells : (more : ℕ) → (text : List ℕ) → Type 0) → (text : List ℕ) → Type 0
-Says true more said Tells text = Tells more text
-Says false zero said Tells text = text ≡ more_line
-Says false (suc more) said Tells text = (others : List ℕ) × (text ≡ said ++ others) × Tells more others
+-- A fault whose cause is told already isn't told. Else it is, where so many may be told still, and then the others are.
+abbrev pub Tells : (known : Bool) → (more : ℕ) → (told : List Told) → (So : (more : ℕ) → Found → Type 0) → Found → Type 0
+Tells true more told So found = So more found
+Tells false zero told So found = found ≡ ended end.More
+Tells false (suc more) told So found = (others : Found) × (found ≡ before told others) × So more others
 
--- what is told behind a fault of what is left of the source, in so many readings and of so many faults at most
-abbrev pub Further : Asked → (whole : Bool) → (steps more : ℕ) → (left : List ℕ) → NameFault → (text : List ℕ) → Type 0
-Further a whole zero more left fault text = text ≡ more_line
-Further a whole (suc steps) more left fault text =
-    Reads whole a.top
-    (λ next other. Says (is_known a.source a.tokens next other) more (name_said a other) (λ fewer others. Further a whole steps fewer next other others) text)
-    (past a.tokens left fault) text
+-- what is found behind a fault of what is left of the source, in so many readings and of so many faults at most
+abbrev pub Further : Asked → (steps more : ℕ) → (left : List ℕ) → NameFault → Found → Type 0
+Further a zero more left fault found = found ≡ ended end.More
+Further a (suc steps) more left fault found =
+    Reads a.top
+    (λ next other. Tells (is_known a.source a.tokens next other) more (name_told a other) (λ fewer others. Further a steps fewer next other others) found)
+    (past a.source a.tokens left fault) found
 
 -- ---- of a source
 
--- what is told behind this first fault; memory for the tokens may be refused
-abbrev pub FurtherOf : Telling → (source top : List ℕ) → (first : NameFault) → (whole : Bool) → (text : List ℕ) → Type 0
-FurtherOf telling source top first whole text =
+-- behind a first fault of names or types; memory for the tokens may be refused
+abbrev pub NamesBehind : List FileView → (source top : List ℕ) → (first : NameFault) → Found → Type 0
+NamesBehind files source top first found =
     ((tokens : List Token) × Cuts None 0 source tokens
-    × Further (record { files = files_of telling; source = source; tokens = tokens; top = top }) whole most_steps 19 source first text)
-    ⊎ ((whole ≡ false) × (text ≡ []))
-
--- the further faults are told; `whole`: no memory was refused
-pub record TellsFurther (telling : Telling) (source top : List ℕ) (first : NameFault) (whole : Bool) (old new : SinkState) : Type 0 where
-  pub text : List ℕ
-  pub is : FurtherOf telling source top first whole text
-  pub goes : Goes old new text
+    × Further (record { files = files; source = source; tokens = tokens; top = top }) most_steps 19 source first found)
+    ⊎ (found ≡ ended end.NoMemory)

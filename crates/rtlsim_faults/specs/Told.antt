@@ -1,10 +1,9 @@
 -- What is told of a fault and of a run that is done, on the standard error.
 use Rattle.std.specs.Prelude.{◌≡◌, ◌⊎◌, ℕ, Bool, true, false, List, Option, ◌++◌, codes, decimal}
 use Rattle.rtl_report.specs.declared.report.Report.{Report}
-use Rattle.rtlsim_explain.specs.Words.{Read}
 use Rattle.rtlsim_files.specs.Files.{FileView}
 use Rattle.rtlsim_faults.specs.Faults.{status_of, takes_memory}
-use Rattle.rtlsim_faults.specs.Explanations.{IsRead, explanation, files_of, is_read, source_said, told, unread}
+use Rattle.rtlsim_faults.specs.Explanations.{IsRead, Source, explanation, files_of, is_read, source_report, source_said, told, unread}
 use Rattle.rtlsim_faults.specs.Lines.{fault_lines, memory_line}
 use Rattle.rtlsim_faults.specs.declared.faults.Fault.{Fault}
 use Rattle.rtlsim_faults.specs.declared.status.Status.{Status}
@@ -19,21 +18,21 @@ use Rattle.rtl_sink.specs.Written.{SinkState, TakesBeginning, Goes}
 
 -- the source is read, and its fault explained; or memory for that is refused, and nothing is written
 abbrev pub ExplainsRead : List FileView → Option Report → (whole : Bool) → (old new : SinkState) → Type 0
-ExplainsRead files report true old new = (read : Read) × IsRead files read × Goes old new (source_said files read report)
+ExplainsRead files report true old new = (read : Source) × IsRead files report read × Goes old new (source_said files read report)
 ExplainsRead files report false old new = new ≡ old
 
 -- the fault is explained, whichever netlist is looked at; or memory to read the source is refused, and nothing is written
 abbrev pub Explains : Telling → Fault → (whole : Bool) → (old new : SinkState) → Type 0
 Explains telling fault true old new =
-    (read : Read) × (is_read fault ≡ true → IsRead (files_of telling) read) × ((net : NetlistView) → Goes old new (explanation telling read net fault))
+    (read : Source) × (is_read fault ≡ true → IsRead (files_of telling) (source_report fault) read) × ((net : NetlistView) → Goes old new (explanation telling read net fault))
 Explains telling fault false old new = (is_read fault ≡ true) × (new ≡ old)
 
 -- ---- what is told of a fault
 
 -- The fault is told whole; where its explanation is asked for, the source is read for that.
 pub record TellsWhole (telling : Telling) (net : NetlistView) (fault : Fault) (old new : SinkState) : Type 0 where
-  pub read : Read
-  pub is : telling.explains ≡ true → is_read fault ≡ true → IsRead (files_of telling) read
+  pub read : Source
+  pub is : telling.explains ≡ true → is_read fault ≡ true → IsRead (files_of telling) (source_report fault) read
   pub goes : Goes old new (told telling read net fault)
 
 -- The fault is told, with the netlist's names; or, where memory for its names is refused, a beginning of that,

@@ -2,14 +2,16 @@
 
 ghost use Rattle.std.specs.Prelude.{◌≡◌, [], if◌then◌else◌, false, true, IfErr, map};
 ghost use Rattle.rtl_sink.specs.Written.{Goes, IsIntact};
-ghost use Rattle.rtlsim_explain.specs.Words.{read_of};
+ghost use Rattle.rtlsim_forms.specs.Words.{read_of};
 ghost use Rattle.rtlsim_faults.specs.Explanations as spec;
 ghost use Rattle.rtlsim_faults.specs.Faults.{is_of_names, takes_memory};
 ghost use Rattle.rtlsim_faults.specs.Told.{Explains, ExplainsRead};
 ghost use Rattle.rtlsim_files.specs.Files.{file_view};
 ghost use Rattle.rtlsim_listing.specs.Printing.{IsListed};
+ghost use Rattle.vhdl_expected.specs.Told.{expected_of};
 ghost use Rattle.rtlsim_listing.specs.declared.fault.ListingFault.TheVariants.{Memory};
 
+use crate::expecting::expected_by;
 use crate::faults::Fault;
 use crate::reports::{elab_report, lex_report, name_report, stim_report, syntax_report};
 use crate::telling::Telling;
@@ -22,6 +24,7 @@ use rtlsim_files::{SourceFile, joined, source_name};
 use rtlsim_listing::ListingFault;
 use rtlsim_verdict::explain_rejection;
 use std::alloc::Global;
+use vhdl_expected::Expected;
 use vhdl_lexer::lex;
 
 /// Explains a fault of the checker or of a stimulus, where that is asked for.
@@ -141,26 +144,30 @@ fn explain_read<S: Sink>(
     let Ok(tokens) = lex(alloc, &source) else {
         return false;
     };
+    let Ok(expected) = expected_by(alloc, &source, &tokens, report) else {
+        return false;
+    };
     let source = Lexed {
         text: &source,
         tokens: &tokens,
     };
-    explain_report(files, source, report, sink);
+    explain_report(files, source, expected, report, sink);
     true
 }
 
 /// Explains which rule of a source is broken, by its text and tokens. Of want of memory nothing is said.
-pub(crate) fn explain_report<S: Sink>(
+fn explain_report<S: Sink>(
     files: &[SourceFile<'_>],
     source: Lexed<'_>,
+    expected: Expected,
     report: Option<Report>,
     sink: &mut S,
 )
-    ensures { Goes (S.state sink.old) (S.state sink.new)
-        (spec.source_said (map file_view files.now) (read_of source.entry) report) }
+    ensures { Goes (S.state sink.old) (S.state sink.new) (spec.source_said (map file_view files.now)
+        (record { read = read_of source.entry; expected = expected_of expected }) report) }
 {
     match report {
-        Some(report) => explain_source(files, source, report, sink),
+        Some(report) => explain_source(files, source, expected, report, sink),
         None => push_text(sink, b""),
     }
 }

@@ -1,12 +1,14 @@
 //! The next fault of a source.
 
-ghost use Rattle.std.specs.Prelude.{◌≡◌, Some, option_map};
-ghost use Rattle.rtlsim_faults.specs.Further as spec;
+ghost use Rattle.std.specs.Prelude.{None, Some};
 ghost use Rattle.rtlsim_faults.specs.Next.{Finds};
+ghost use Rattle.vhdl_lexer.specs.Cut.{Cuts};
+ghost use Rattle.vhdl_names_further.specs.Taken.{past};
 
 use std::alloc::Global;
-use vhdl_lexer::{Extent, Token, blanked, statement_at};
-use vhdl_names_rules::{NameFault, NameProblem};
+use vhdl_lexer::Token;
+use vhdl_names_further::take_out;
+use vhdl_names_rules::NameFault;
 use vhdl_source_rules::{Front, SourceFault};
 
 /// What is found behind a fault of names.
@@ -20,36 +22,22 @@ pub(crate) enum Next {
     NoMemory,
 }
 
-/// Takes out what is at fault, and reads what is left of the source. It takes the memory of one more copy.
+/// Takes out what is at fault, and reads what is left of the source.
 pub(crate) fn next_fault<F: Front>(
     alloc: Global,
+    source: &[u8],
     tokens: &[Token],
     top: &[u8],
-    left: Vec<u8>,
+    mut left: Vec<u8>,
     fault: NameFault,
 ) -> Next
-    ensures { Finds top.now (spec.past tokens.now left.items fault) result }
+    requires { Cuts None 0 source.now tokens.now }
+    ensures { Finds top.now (past source.now tokens.now left.items fault) result }
 {
-    let Some(extent) = extent_of(tokens, fault) else {
-        return Next::Nothing;
-    };
-    match blanked(alloc, &left, extent) {
-        Ok(next) => read::<F>(alloc, top, next),
-        Err(_refused) => Next::NoMemory,
-    }
-}
-
-/// What is taken out with a fault.
-fn extent_of(tokens: &[Token], fault: NameFault) -> Option<Extent>
-    ensures { result ≡ spec.extent_of tokens.now fault }
-{
-    match fault {
-        NameFault::At {
-            problem: NameProblem::Twice,
-            ..
-        }
-        | NameFault::NoMemory => None,
-        NameFault::At { at, .. } => statement_at(tokens, at),
+    if take_out(source, tokens, fault, &mut left) {
+        read::<F>(alloc, top, left)
+    } else {
+        Next::Nothing
     }
 }
 

@@ -1,4 +1,6 @@
+pub mod Keys
 pub mod Joining
 pub mod Lists
+pub mod News
 pub mod Numbered
 pub mod Sentences

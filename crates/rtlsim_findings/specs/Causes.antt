@@ -1,16 +1,21 @@
--- What faults have in common that are told together: the rule, the lines that declare their processes, and of a latch the statement
--- that leaves the assignment out. So a fault that each instance of an entity has is told once.
-use Rattle.std.specs.Prelude.{ℕ, ◌==◌, ◌&&◌, Bool, true, false, slice_get, Option, Some, None}
+-- What faults have in common that are told together: the rule, the lines that declare their processes, of a latch the statement that
+-- leaves the assignment out, and what makes a process neither clocked nor combinational. So a fault that each instance of an entity has
+-- is told once.
+use Rattle.std.specs.Prelude.{ℕ, ◌==◌, ◌&&◌, Bool, true, false, slice_get, Option, Some, None, option_map}
 use Rattle.rtl_model.specs.simulation.Accepted.{Fault}
 use Rattle.rtl_net.specs.Nets.{NetlistView}
 use Rattle.rtl_net.specs.declared.process.Process.{Process}
+use Rattle.rtl_reasons.specs.Notes.{number_of, at_of}
+use Rattle.rtl_reasons.specs.declared.reason.Reason.{Reason}
 use Rattle.rtl_report.specs.Rules.{words_of}
 use Rattle.rtl_report.specs.declared.report.Place.{Place}
 use Rattle.rtl_report.specs.declared.report.Place.TheVariants as place
 use Rattle.rtl_report.specs.declared.report.Subject.{Subject}
 use Rattle.rtl_report.specs.declared.report.Subject.TheVariants.{Sources}
+use Rattle.rtlsim_findings.specs.Mixed.{why}
 use Rattle.rtlsim_findings.specs.Omitted.{left_out, are_same}
 use Rattle.rtlsim_findings.specs.declared.cause.Cause.{Cause}
+use Rattle.rtlsim_findings.specs.declared.cause.Obstacle.{Obstacle}
 use Rattle.rtlsim_listing.specs.Reports.{report_of}
 
 -- ---- processes
@@ -52,15 +57,25 @@ abbrev pub at_process : NetlistView → Option ℕ → Option ℕ
 at_process net None = None
 at_process net (Some process) = declared_at (slice_get net.processes process)
 
+-- of a reason its kind and its place: the nets and processes that it names are an instance's own
+abbrev pub obstacle_of : Reason → Obstacle
+obstacle_of reason = record { kind = number_of reason; at = at_of reason }
+
+abbrev pub is_same_obstacle : Option Obstacle → Option Obstacle → Bool
+is_same_obstacle None None = true
+is_same_obstacle (Some a) (Some b) = (a.kind == b.kind) && (a.at == b.at)
+is_same_obstacle _ _ = false
+
 abbrev pub cause_of : NetlistView → Fault → Cause
 cause_of net fault = record {
   number = (words_of (report_of fault).rule).number;
   first = at_process net (first_process fault);
   second = at_process net (second_process fault);
   omission = left_out net fault;
+  obstacle = option_map obstacle_of (why net fault);
 }
 
 abbrev pub is_same : (before cause : Cause) → Bool
 is_same before cause =
     before.number == cause.number && is_same_number before.first cause.first && is_same_number before.second cause.second
-    && are_same before.omission cause.omission
+    && are_same before.omission cause.omission && is_same_obstacle before.obstacle cause.obstacle

@@ -27,28 +27,29 @@ with_other f fault = record { cause = f.cause; first = f.first; others = f.other
 abbrev pub joined : NetlistView → List FindingView → Fault → List FindingView
 joined net [] fault = begun net fault ∷ []
 joined net (f ∷ found) fault =
-    if is_same f.cause (cause_of net fault) then with_other f fault ∷ found else f ∷ joined net found fault
+    if is_same (cause_of net fault) f.cause then with_other f fault ∷ found else f ∷ joined net found fault
 
 abbrev pub is_gated : (n : ℕ) → Fault → Bool
 is_gated n (ClockNotInput process m) = m == n
 is_gated n _ = false
 
-abbrev pub any_gated : (n : ℕ) → List CheckFault → Bool
-any_gated n [] = false
-any_gated n (fault ∷ faults) = is_gated n (fault_view fault) || any_gated n faults
+abbrev pub any_gated : List CheckFault → (n : ℕ) → Bool
+any_gated [] n = false
+any_gated (fault ∷ faults) n = is_gated n (fault_view fault) || any_gated faults n
 
-abbrev pub is_left_out : (all : List CheckFault) → Fault → Bool
-is_left_out all (ClockAsData process n) = any_gated n all
-is_left_out all _ = false
+-- `gated` are the nets of which it's told that they are no clock that may be
+abbrev pub is_left_out : (gated : ℕ → Bool) → Fault → Bool
+is_left_out gated (ClockAsData process n) = gated n
+is_left_out gated _ = false
 
 -- what is found once this fault is taken
-abbrev pub taken : NetlistView → (all : List CheckFault) → List FindingView → CheckFault → List FindingView
-taken net all found fault = if is_left_out all (fault_view fault) then found else joined net found (fault_view fault)
+abbrev pub taken : NetlistView → (gated : ℕ → Bool) → List FindingView → CheckFault → List FindingView
+taken net gated found fault = if is_left_out gated (fault_view fault) then found else joined net found (fault_view fault)
 
 -- what is found once these faults are taken behind what was found before
-abbrev pub found_from : NetlistView → (all : List CheckFault) → List FindingView → List CheckFault → List FindingView
-found_from net all found [] = found
-found_from net all found (fault ∷ faults) = found_from net all (taken net all found fault) faults
+abbrev pub found_from : NetlistView → (gated : ℕ → Bool) → List FindingView → List CheckFault → List FindingView
+found_from net gated found [] = found
+found_from net gated found (fault ∷ faults) = found_from net gated (taken net gated found fault) faults
 
 abbrev pub findings : NetlistView → List CheckFault → List FindingView
-findings net faults = found_from net faults [] faults
+findings net faults = found_from net (any_gated faults) [] faults

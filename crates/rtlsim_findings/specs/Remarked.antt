@@ -28,6 +28,10 @@ report_of (r.Unassigned net) = at_net rule.Unassigned net
 report_of (r.IdlePort net) = at_net rule.IdlePort net
 report_of (r.NotReset process net) = at_process rule.NotReset process net
 report_of (r.ClockRead process net) = at_process rule.ClockRead process net
+report_of (r.NeverKnown process net) = at_process rule.NeverKnown process net
+report_of (r.UnreadElement net) = at_net rule.UnreadElement net
+report_of (r.ClockWithoutLine net) = at_net rule.ClockWithoutLine net
+report_of (r.InputWithoutLine net) = at_net rule.InputWithoutLine net
 
 abbrev pub number_of : Remark → ℕ
 number_of remark = (words_of (report_of remark).rule).number

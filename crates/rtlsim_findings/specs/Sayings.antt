@@ -6,7 +6,6 @@ use Rattle.rtl_latches.specs.declared.omission.Omission.{Omission}
 use Rattle.rtl_model.specs.simulation.Accepted.{Fault}
 use Rattle.rtl_net.specs.Names.{net_name, process_name}
 use Rattle.rtl_net.specs.Nets.{NetlistView}
-use Rattle.rtl_reasons.specs.Notes as reasons
 use Rattle.rtl_reasons.specs.declared.reason.Reason.{Reason}
 use Rattle.rtl_report.specs.Rules.{Text, words_of}
 use Rattle.rtl_report.specs.declared.report.Subject.{Subject}
@@ -17,7 +16,9 @@ use Rattle.rtlsim_findings.specs.Circles.{loop_text}
 use Rattle.rtlsim_findings.specs.Findings.{FindingView}
 use Rattle.rtlsim_findings.specs.Mixed.{why, reason_text}
 use Rattle.rtlsim_findings.specs.Omitted.{said}
+use Rattle.rtlsim_findings.specs.Once.{each_new}
 use Rattle.rtlsim_findings.specs.Ranges.{follows, range_text}
+use Rattle.rtlsim_findings.specs.declared.cause.Obstacle.{Obstacle}
 use Rattle.rtlsim_listing.specs.CheckText.{source_name, variable_name}
 use Rattle.rtlsim_listing.specs.Reports.{report_of, circle_of}
 
@@ -54,9 +55,13 @@ abbrev pub ranges_from : (first last : List ℕ) → List (List ℕ) → List (L
 ranges_from first last [] = range_text first last ∷ []
 ranges_from first last (name ∷ names) = ended first last name ++ ranges_from (begun_by first last name) name names
 
--- its nets or elements of variables: that of its first fault, and those of the others
+-- its nets or elements of variables: that of its first fault, and those of the others of the same processes
 abbrev pub ranges_of : NetlistView → FindingView → List (List ℕ)
 ranges_of net f = ranges_from (name net f.first) (name net f.first) (flat_map (own_name net f.first) f.others)
+
+-- the same of all instances, each once
+abbrev pub all_ranges_of : NetlistView → FindingView → List (List ℕ)
+all_ranges_of net f = ranges_from (name net f.first) (name net f.first) (each_new bytes_eq (name net f.first ∷ []) (map (name net) f.others))
 
 -- ---- the sentence
 
@@ -88,18 +93,9 @@ message net f = sentence (words_of (report_of f.first).rule) (culprits net f.fir
 
 -- ---- the other instances
 
--- a fault that is told neither of the first one's processes nor of those of the fault before
-abbrev pub apart : (first before fault : Fault) → List Fault
-apart first before fault = if is_of first fault || is_of before fault then [] else fault ∷ []
-
--- the first fault of each run of faults of another process, or pair of drivers, in order: a pair that comes again behind another is named
--- again
-abbrev pub also_from : (first before : Fault) → List Fault → List Fault
-also_from first before [] = []
-also_from first before (fault ∷ faults) = apart first before fault ++ also_from first fault faults
-
+-- of the faults those of which none before in the finding is told of the same processes, in order, the first left out
 abbrev pub also : FindingView → List Fault
-also f = also_from f.first f.first f.others
+also f = each_new is_of (f.first ∷ []) f.others
 
 -- ---- all processes
 
@@ -125,17 +121,17 @@ processes f = processes_in f.first ++ flat_map processes_in (also f)
 -- ---- the note: at the second driver, where a latch leaves the assignment out, or at the reason of a process that is neither clocked
 -- nor combinational
 
-abbrev pub start_of : (second : Option ℕ) → Option Omission → Option Reason → Option ℕ
-start_of (Some at) omission reason = Some at
-start_of None (Some omission) reason = Some (omissions.at_of omission)
-start_of None None (Some reason) = Some (reasons.at_of reason)
+abbrev pub start_of : (second : Option ℕ) → Option Omission → Option Obstacle → Option ℕ
+start_of (Some at) omission obstacle = Some at
+start_of None (Some omission) obstacle = Some (omissions.at_of omission)
+start_of None None (Some obstacle) = Some obstacle.at
 start_of None None None = None
 
-abbrev pub note_at : NetlistView → FindingView → Option ℕ
-note_at net f = start_of f.cause.second f.cause.omission (why net f.first)
+abbrev pub note_at : FindingView → Option ℕ
+note_at f = start_of f.cause.second f.cause.omission f.cause.obstacle
 
 abbrev pub note_of : NetlistView → (second : Option ℕ) → Option Omission → Option Reason → List ℕ
-note_of net (Some process) omission reason = codes "the other driver is " ++ process_name net process
+note_of net (Some process) omission reason = process_name net process ++ codes " drives it too"
 note_of net None (Some omission) reason = said omission
 note_of net None None (Some reason) = reason_text net reason
 note_of net None None None = []

@@ -1,3 +1,4 @@
 -- What functions of the code do on their way.
 pub mod Joining
+pub mod Pairs
 pub mod Walked

@@ -1,20 +1,31 @@
 //! What faults have in common that are told together.
 
-ghost use Rattle.std.specs.Prelude.{◌≡◌, slice_get, IfOk, OnOk};
+ghost use Rattle.std.specs.Prelude.{◌≡◌, slice_get, option_map, IfOk, OnOk};
 ghost use Rattle.rtl_check.specs.Views.{fault_view};
 ghost use Rattle.rtlsim_findings.specs.Causes as spec;
 ghost use Rattle.rtlsim_findings.specs.steps.Walked.{AreOf};
 
-use crate::omitted::{Omissions, are_same};
+use crate::mixed::why;
+use crate::omitted::Omissions;
 use rtl_check::CheckFault;
 use rtl_latches::Omission;
 use rtl_net::{Net, NoMemory};
+use rtl_reasons::Reason;
 use rtl_report::{Place, Subject};
 use rtlsim_listing::report_of;
 use std::alloc::Global;
 
+/// What makes a process neither clocked nor combinational.
+#[derive(Clone, Copy, PartialEq, Eq, Hash)]
+pub struct Obstacle {
+    /// The number of the reason's kind.
+    pub kind: u8,
+    /// The byte of the source at which it's told.
+    pub at: u32,
+}
+
 /// What faults have in common that are told together.
-#[derive(Clone, Copy)]
+#[derive(Clone, Copy, PartialEq, Eq, Hash)]
 pub struct Cause {
     /// The number of the rule.
     pub number: u8,
@@ -24,6 +35,8 @@ pub struct Cause {
     pub second: Option<usize>,
     /// Of a latch, where the assignment is left out.
     pub omission: Option<Omission>,
+    /// Of a process that is neither clocked nor combinational, what makes it so.
+    pub obstacle: Option<Obstacle>,
 }
 
 /// The cause of a fault.
@@ -38,22 +51,25 @@ pub(crate) fn cause_of(
     ensures are { OnOk result (AreOf net.now walked.new) }
 {
     let omission = walked.left_out(alloc, net, fault)?;
+    let obstacle = obstacle_of(why(alloc, net, fault)?);
     Ok(Cause {
         number: report_of(fault).rule.words().number,
         first: at_process(net, first_process(fault)),
         second: at_process(net, second_process(fault)),
         omission,
+        obstacle,
     })
 }
 
-/// Whether two causes are one.
-pub(crate) fn is_same(before: Cause, cause: Cause) -> bool
-    ensures { result ≡ spec.is_same before cause }
+/// The kind and the place of a reason.
+fn obstacle_of(reason: Option<Reason>) -> Option<Obstacle>
+    ensures { result ≡ option_map spec.obstacle_of reason }
 {
-    before.number == cause.number
-        && is_same_number(before.first, cause.first)
-        && is_same_number(before.second, cause.second)
-        && are_same(before.omission, cause.omission)
+    let reason = reason?;
+    Some(Obstacle {
+        kind: reason.number(),
+        at: reason.at(),
+    })
 }
 
 /// Whether two faults are told of the same processes.

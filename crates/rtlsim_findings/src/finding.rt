@@ -1,16 +1,20 @@
 //! Findings: the faults of one cause.
 
-ghost use Rattle.std.specs.Prelude.{◌≡◌, map, IfOk, OnOk};
+ghost use Rattle.std.specs.Prelude.{◌≡◌, ◌||◌, ℕ, map, IfOk, OnOk};
+ghost use Rattle.std.specs.List.Sorted.{IsStrictlyIncreasing};
 ghost use Rattle.rtl_check.specs.Views.{fault_view};
+ghost use Rattle.rtl_net_facts.specs.Reading.{is_in};
 ghost use Rattle.rtlsim_findings.specs.Findings as spec;
 ghost use Rattle.rtlsim_findings.specs.Findings.{finding_view};
-ghost use Rattle.rtlsim_findings.specs.steps.Joining.{place_in};
+ghost use Rattle.rtlsim_findings.specs.steps.Joining.{causes_of};
 ghost use Rattle.rtlsim_findings.specs.steps.Walked.{AreOf};
 
-use crate::cause::{Cause, cause_of, is_same};
+use crate::cause::{Cause, cause_of};
 use crate::omitted::Omissions;
+use indexmap::IndexSet;
 use rtl_check::CheckFault;
 use rtl_net::{Net, NoMemory};
+use rtl_net_facts::{contains_rising, sort_once};
 use std::alloc::Global;
 
 /// The faults of one cause.
@@ -25,7 +29,7 @@ pub struct Finding<'a> {
 }
 
 /// The findings of a rejection with these faults. It takes memory for each fault and for the body of one process at a time, which is
-/// walked over once while its latches follow each other.
+/// walked over once while its latches follow each other; and time in proportion to these, but for the logarithms of sorted lists.
 pub fn findings<'a>(
     alloc: Global,
     net: &Net,
@@ -33,34 +37,18 @@ pub fn findings<'a>(
 ) -> Result<Vec<Finding<'a>>, NoMemory>
     ensures { IfOk result (λ found. map finding_view found.items ≡ spec.findings net.now faults.now) }
 {
-    let mut found = Vec::new(alloc);
+    let gated = gated_nets(alloc, faults)?;
     let mut walked = Omissions::new(alloc, net);
+    let mut causes = IndexSet::new(alloc);
+    let mut found = Vec::new(alloc);
     let mut left = faults;
     while let [fault, rest @ ..] = left {
-        take(alloc, net, faults, fault, &mut walked, &mut found)?;
+        if !is_left_out(&gated, fault) {
+            join(alloc, net, fault, &mut walked, &mut causes, &mut found)?;
+        }
         left = rest;
     }
     Ok(found)
-}
-
-/// Takes a fault, but for one whose cause another tells.
-fn take<'a>(
-    alloc: Global,
-    net: &Net,
-    all: &[CheckFault],
-    fault: &'a CheckFault,
-    walked: &mut Omissions,
-    found: &mut Vec<Finding<'a>>,
-) -> Result<(), NoMemory>
-    requires { AreOf net.now walked.old }
-    ensures are { OnOk result (AreOf net.now walked.new) }
-    ensures is { OnOk result (map finding_view found.new.items
-        ≡ spec.taken net.now all.now (map finding_view found.old.items) fault.now) }
-{
-    if is_left_out(all, fault) {
-        return Ok(());
-    }
-    join(alloc, net, fault, walked, found)
 }
 
 /// Puts a fault to the first finding of its cause, or begins one.
@@ -69,15 +57,18 @@ fn join<'a>(
     net: &Net,
     fault: &'a CheckFault,
     walked: &mut Omissions,
+    causes: &mut IndexSet<Cause>,
     found: &mut Vec<Finding<'a>>,
 ) -> Result<(), NoMemory>
-    requires { AreOf net.now walked.old }
+    requires are { AreOf net.now walked.old }
+    requires causes { causes.old.keys ≡ causes_of (map finding_view found.old.items) }
     ensures are { OnOk result (AreOf net.now walked.new) }
+    ensures causes { OnOk result (causes.new.keys ≡ causes_of (map finding_view found.new.items)) }
     ensures is { OnOk result (map finding_view found.new.items
         ≡ spec.joined net.now (map finding_view found.old.items) (fault_view fault.now)) }
 {
     let cause = cause_of(alloc, net, fault, walked)?;
-    let number = place_in(cause, found);
+    let (number, _) = causes.insert_full(cause)?;
     if number < found.len() {
         let finding = &mut found[number];
         finding.others.push(fault)?;
@@ -92,51 +83,39 @@ fn join<'a>(
     Ok(())
 }
 
-/// The place of the first finding of a cause, or their number.
-fn place_in(cause: Cause, found: &[Finding<'_>]) -> usize
-    ensures { result ≡ place_in cause (map finding_view found.now) }
+/// Whether a fault tells of one of these nets, which rise, that it is read as data.
+fn is_left_out(gated: &[usize], fault: &CheckFault) -> bool
+    requires { IsStrictlyIncreasing gated.now }
+    ensures { result ≡ spec.is_left_out (λ n. is_in n gated.now) (fault_view fault.now) }
 {
-    let mut place = 0;
-    let mut left = found;
-    while let [finding, rest @ ..] = left {
-        if is_same(finding.cause, cause) {
-            return place;
-        }
-        place += 1;
+    match fault {
+        CheckFault::ClockAsData { net, .. } => contains_rising(gated, *net),
+        _ => false,
+    }
+}
+
+/// The nets of which these faults tell that they are no clock that may be, rising.
+fn gated_nets(alloc: Global, faults: &[CheckFault]) -> Result<Vec<usize>, NoMemory>
+    ensures rise { IfOk result (λ nets. IsStrictlyIncreasing nets.items) }
+    ensures are { IfOk result (λ nets. (n : ℕ) → is_in n nets.items ≡ spec.any_gated faults.now n) }
+{
+    let mut nets = Vec::new(alloc);
+    let mut left = faults;
+    while let [fault, rest @ ..] = left {
+        push_gated(fault, &mut nets)?;
         left = rest;
     }
-    place
+    sort_once(&mut nets);
+    Ok(nets)
 }
 
-/// Whether another of these faults tells the cause of a fault.
-fn is_left_out(all: &[CheckFault], fault: &CheckFault) -> bool
-    ensures { result ≡ spec.is_left_out all.now (fault_view fault.now) }
+/// Appends the net of which a fault tells that, if it does.
+fn push_gated(fault: &CheckFault, nets: &mut Vec<usize>) -> Result<(), NoMemory>
+    ensures { OnOk result ((n : ℕ) → is_in n nets.new.items
+        ≡ (is_in n nets.old.items || spec.is_gated n (fault_view fault.now))) }
 {
     match fault {
-        CheckFault::ClockAsData { net, .. } => any_gated(*net, all),
-        _ => false,
-    }
-}
-
-/// Whether one of these faults tells that this net is no clock that may be.
-fn any_gated(number: usize, mut faults: &[CheckFault]) -> bool
-    ensures { result ≡ spec.any_gated number faults.entry.now }
-{
-    while let [fault, rest @ ..] = faults {
-        if is_gated(number, fault) {
-            return true;
-        }
-        faults = rest;
-    }
-    false
-}
-
-/// Whether a fault tells that this net is no clock that may be.
-fn is_gated(number: usize, fault: &CheckFault) -> bool
-    ensures { result ≡ spec.is_gated number (fault_view fault.now) }
-{
-    match fault {
-        CheckFault::ClockNotInput { net, .. } => *net == number,
-        _ => false,
+        CheckFault::ClockNotInput { net, .. } => Ok(nets.push(*net)?),
+        _ => Ok(()),
     }
 }

@@ -15,9 +15,9 @@ mod remarked;
 mod rounds;
 mod saying;
 
-pub use cause::{Cause, at_process, first_process};
+pub use cause::{Cause, Obstacle, at_process, first_process};
 pub use finding::{Finding, findings};
-pub use naming::{culprits, ranges_of};
+pub use naming::{all_ranges_of, culprits, ranges_of};
 pub use ranges::{follows, push_range};
 pub use remarked::{RemarkFinding, remark_findings, remark_message, remark_process, remark_report};
 pub use saying::{also, message, note_at, note_text, processes};

@@ -12,12 +12,12 @@ use rtlsim_listing::process_name;
 use std::alloc::Global;
 
 /// Why the process is neither clocked nor combinational, where a fault tells that.
-pub(crate) fn why(net: &Net, fault: &CheckFault) -> Option<Reason>
-    ensures { result ≡ spec.why net.now (fault_view fault.now) }
+pub(crate) fn why(alloc: Global, net: &Net, fault: &CheckFault) -> Result<Option<Reason>, NoMemory>
+    ensures { IfOk result (λ reason. reason ≡ spec.why net.now (fault_view fault.now)) }
 {
     match fault {
-        CheckFault::Mixed { process } => reason_of(net, *process),
-        _ => None,
+        CheckFault::Mixed { process } => reason_of(alloc, net, *process),
+        _ => Ok(None),
     }
 }
 

@@ -1,8 +1,9 @@
 //! The names of what a finding is told of.
 
-ghost use Rattle.std.specs.Prelude.{◌≡◌, ◌++◌, codes, flat_map, map, IfOk, OnOk};
+ghost use Rattle.std.specs.Prelude.{◌≡◌, if◌then◌else◌, [], ◌∷◌, ◌++◌, bytes_eq, codes, flat_map, map, IfOk, OnOk};
 ghost use Rattle.rtl_check.specs.Views.{fault_view};
 ghost use Rattle.rtlsim_findings.specs.Findings.{finding_view};
+ghost use Rattle.rtlsim_findings.specs.Once.{each_new};
 ghost use Rattle.rtlsim_findings.specs.Ranges.{range_text};
 ghost use Rattle.rtlsim_findings.specs.Sayings as spec;
 ghost use Rattle.rtlsim_listing.specs.CheckText.{source_name};
@@ -11,6 +12,7 @@ use crate::cause::is_of;
 use crate::finding::Finding;
 use crate::ranges::{follows, push_range};
 use crate::rounds::loop_text;
+use indexmap::IndexSet;
 use rtl_check::CheckFault;
 use rtl_net::{Net, NoMemory};
 use rtl_report::Subject;
@@ -45,6 +47,56 @@ pub fn ranges_of(alloc: Global, net: &Net, finding: &Finding<'_>) -> Result<Vec<
     let mut texts = Vec::new(alloc);
     push_ranges(alloc, &name, &others, &mut texts)?;
     Ok(texts)
+}
+
+/// The same of all instances, each once.
+pub fn all_ranges_of(
+    alloc: Global,
+    net: &Net,
+    finding: &Finding<'_>,
+) -> Result<Vec<Vec<u8>>, NoMemory>
+    ensures { IfOk result (λ texts. map (λ t. t.items) texts.items
+        ≡ spec.all_ranges_of net.now (finding_view finding.now)) }
+{
+    let name = name_of(alloc, net, report_of(finding.first).subject)?;
+    let others = new_names(alloc, net, &name, &finding.others)?;
+    let mut texts = Vec::new(alloc);
+    push_ranges(alloc, &name, &others, &mut texts)?;
+    Ok(texts)
+}
+
+/// The names of what these faults are told of, each once, but for this one.
+fn new_names(
+    alloc: Global,
+    net: &Net,
+    first: &[u8],
+    faults: &[&CheckFault],
+) -> Result<Vec<Vec<u8>>, NoMemory>
+    ensures { IfOk result (λ names. map (λ t. t.items) names.items
+        ≡ each_new bytes_eq (first.now ∷ []) (map (spec.name net.now) (map (λ f. fault_view f.now) faults.now))) }
+{
+    let mut told: IndexSet<Vec<u8>> = IndexSet::new(alloc);
+    told.insert(Vec::from_slice(alloc, first)?)?;
+    let mut names = Vec::new(alloc);
+    let mut left = faults;
+    while let [fault, rest @ ..] = left {
+        let name = name_of(alloc, net, report_of(fault).subject)?;
+        let (_, is_new) = told.insert_full(Vec::from_slice(alloc, &name)?)?;
+        push_if(is_new, name, &mut names)?;
+        left = rest;
+    }
+    Ok(names)
+}
+
+/// Appends a name, if so.
+fn push_if(so: bool, name: Vec<u8>, names: &mut Vec<Vec<u8>>) -> Result<(), NoMemory>
+    ensures { OnOk result (map (λ t. t.items) names.new.items
+        ≡ map (λ t. t.items) names.old.items ++ (if so then name.items ∷ [] else [])) }
+{
+    if so {
+        names.push(name)?;
+    }
+    Ok(())
 }
 
 /// Appends the names of those of these faults that are told of the first one's processes.

@@ -80,41 +80,6 @@ fn places_of(alloc: Global, net: &Net, process: usize) -> Result<HashMap<usize, 
     }
 }
 
-/// Whether both leave it out at the same place, or neither does.
-pub(crate) fn are_same(omission: Option<Omission>, other: Option<Omission>) -> bool
-    ensures { result ≡ spec.are_same omission other }
-{
-    match (omission, other) {
-        (None, None) => true,
-        (Some(omission), Some(other)) => is_same(omission, other),
-        _ => false,
-    }
-}
-
-/// Whether both are the same place.
-fn is_same(omission: Omission, other: Omission) -> bool
-    ensures { result ≡ spec.is_same omission other }
-{
-    match (omission, other) {
-        (Omission::NoElse { at }, Omission::NoElse { at: by }) => at == by,
-        (
-            Omission::Branch { at, number },
-            Omission::Branch {
-                at: by,
-                number: other,
-            },
-        ) => at == by && number == other,
-        (
-            Omission::Alternative { at, number },
-            Omission::Alternative {
-                at: by,
-                number: other,
-            },
-        ) => at == by && number == other,
-        _ => false,
-    }
-}
-
 /// What leaves it out.
 pub(crate) fn said(alloc: Global, omission: Omission) -> Result<Vec<u8>, NoMemory>
     ensures { IfOk result (λ text. text.items ≡ spec.said omission) }

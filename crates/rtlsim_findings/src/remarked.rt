@@ -33,6 +33,10 @@ pub fn remark_report(remark: Remark) -> Report
         Remark::IdlePort { net } => of_net(RemarkRule::IdlePort, net),
         Remark::NotReset { process, net } => of_process(RemarkRule::NotReset, process, net),
         Remark::ClockRead { process, net } => of_process(RemarkRule::ClockRead, process, net),
+        Remark::NeverKnown { process, net } => of_process(RemarkRule::NeverKnown, process, net),
+        Remark::UnreadElement { net } => of_net(RemarkRule::UnreadElement, net),
+        Remark::ClockWithoutLine { net } => of_net(RemarkRule::ClockWithoutLine, net),
+        Remark::InputWithoutLine { net } => of_net(RemarkRule::InputWithoutLine, net),
     }
 }
 

@@ -1,17 +1,19 @@
 //! What a finding says.
 
-ghost use Rattle.std.specs.Prelude.{◌≡◌, ◌++◌, codes, flat_map, map, IfOk, OnOk};
+ghost use Rattle.std.specs.Prelude.{◌≡◌, if◌then◌else◌, [], ◌∷◌, ◌++◌, codes, flat_map, map, IfOk, OnOk};
 ghost use Rattle.rtl_check.specs.Views.{fault_view};
 ghost use Rattle.rtl_net.specs.Names.{process_name};
 ghost use Rattle.rtl_report.specs.Rules.{words_of};
 ghost use Rattle.rtlsim_findings.specs.Findings.{finding_view};
 ghost use Rattle.rtlsim_findings.specs.Sayings as spec;
+ghost use Rattle.rtlsim_findings.specs.steps.Pairs as steps;
 
-use crate::cause::{is_of, second_process};
+use crate::cause::{first_process, second_process};
 use crate::finding::Finding;
 use crate::mixed::{reason_text, why};
 use crate::naming::{culprits, ranges_of};
 use crate::omitted::said;
+use indexmap::IndexSet;
 use rtl_check::CheckFault;
 use rtl_net::{Net, NoMemory};
 use rtl_report::{Rule, Subject};
@@ -72,50 +74,44 @@ fn push_others(texts: &[Vec<u8>], text: &mut Vec<u8>) -> Result<(), NoMemory>
     Ok(())
 }
 
-/// The first fault of each other process that a finding is told of, or pair of drivers, in order.
+/// Of each process that a finding is told of, or pair of drivers, but those of its first fault, the first fault, in order.
 pub fn also<'a>(alloc: Global, finding: &Finding<'a>) -> Result<Vec<&'a CheckFault>, NoMemory>
     ensures { IfOk result (λ faults. map (λ f. fault_view f.now) faults.items ≡ spec.also (finding_view finding.now)) }
 {
+    let mut told: Told = IndexSet::new(alloc);
+    told.insert(pair_of(finding.first))?;
     let mut faults = Vec::new(alloc);
-    push_apart(finding.first, &finding.others, &mut faults)?;
+    let mut left = finding.others.as_slice();
+    while let [fault, rest @ ..] = left {
+        let (_, is_new) = told.insert_full(pair_of(fault))?;
+        push_if(is_new, *fault, &mut faults)?;
+        left = rest;
+    }
     Ok(faults)
 }
 
-/// Appends the first fault of each process but that of the first, in order.
-fn push_apart<'a>(
-    first: &CheckFault,
-    others: &[&'a CheckFault],
-    faults: &mut Vec<&'a CheckFault>,
-) -> Result<(), NoMemory>
-    ensures { OnOk result (map (λ f. fault_view f.now) faults.new.items
-        ≡ map (λ f. fault_view f.now) faults.old.items
-        ++ spec.also_from (fault_view first.now) (fault_view first.now) (map (λ f. fault_view f.now) others.now)) }
+/// The processes, or pairs of drivers, of some faults.
+type Told = IndexSet<(Option<usize>, Option<usize>)>;
+
+/// The processes that tell apart the faults of a finding.
+fn pair_of(fault: &CheckFault) -> (Option<usize>, Option<usize>)
+    ensures { result ≡ steps.pair_of (fault_view fault.now) }
 {
-    let mut before = first;
-    let mut left = others;
-    while let [fault, rest @ ..] = left {
-        push_if_apart(first, before, *fault, faults)?;
-        before = *fault;
-        left = rest;
-    }
-    Ok(())
+    (first_process(fault), second_process(fault))
 }
 
-/// Appends a fault that is told neither of the first one's processes nor of those of the fault before.
-fn push_if_apart<'a>(
-    first: &CheckFault,
-    before: &CheckFault,
+/// Appends a fault, if so.
+fn push_if<'a>(
+    so: bool,
     fault: &'a CheckFault,
     faults: &mut Vec<&'a CheckFault>,
 ) -> Result<(), NoMemory>
     ensures { OnOk result (map (λ f. fault_view f.now) faults.new.items
-        ≡ map (λ f. fault_view f.now) faults.old.items
-        ++ spec.apart (fault_view first.now) (fault_view before.now) (fault_view fault.now)) }
+        ≡ map (λ f. fault_view f.now) faults.old.items ++ (if so then fault_view fault.now ∷ [] else [])) }
 {
-    if is_of(first, fault) || is_of(before, fault) {
-        return Ok(());
+    if so {
+        faults.push(fault)?;
     }
-    faults.push(fault)?;
     Ok(())
 }
 
@@ -173,14 +169,14 @@ fn push_circle(circle: &[usize], processes: &mut Vec<Option<usize>>) -> Result<(
 
 /// The byte at which the note beside a finding stands, if it has one: where the second driver is declared, where a latch leaves the
 /// assignment out, or where a process has what makes it neither clocked nor combinational.
-pub fn note_at(net: &Net, finding: &Finding<'_>) -> Option<usize>
-    ensures { result ≡ spec.note_at net.now (finding_view finding.now) }
+pub fn note_at(finding: &Finding<'_>) -> Option<usize>
+    ensures { result ≡ spec.note_at (finding_view finding.now) }
 {
-    let reason = why(net, finding.first);
-    match (finding.cause.second, finding.cause.omission, reason) {
+    let cause = finding.cause;
+    match (cause.second, cause.omission, cause.obstacle) {
         (Some(at), _, _) => Some(at),
         (None, Some(omission), _) => Some(omission.at() as usize),
-        (None, None, Some(reason)) => Some(reason.at() as usize),
+        (None, None, Some(obstacle)) => Some(obstacle.at as usize),
         (None, None, None) => None,
     }
 }
@@ -190,20 +186,20 @@ pub fn note_text(alloc: Global, net: &Net, finding: &Finding<'_>) -> Result<Vec<
     ensures { IfOk result (λ text. text.items ≡ spec.note_text net.now (finding_view finding.now)) }
 {
     let second = second_process(finding.first);
-    let reason = why(net, finding.first);
+    let reason = why(alloc, net, finding.first)?;
     match (second, finding.cause.omission, reason) {
-        (Some(process), _, _) => other_text(alloc, net, process),
+        (Some(process), _, _) => too_text(alloc, net, process),
         (None, Some(omission), _) => said(alloc, omission),
         (None, None, Some(reason)) => reason_text(alloc, net, reason),
         (None, None, None) => Ok(Vec::new(alloc)),
     }
 }
 
-/// Which the other driver is.
-fn other_text(alloc: Global, net: &Net, process: usize) -> Result<Vec<u8>, NoMemory>
-    ensures { IfOk result (λ text. text.items ≡ codes "the other driver is " ++ process_name net.now process) }
+/// What is said of another driver.
+fn too_text(alloc: Global, net: &Net, process: usize) -> Result<Vec<u8>, NoMemory>
+    ensures { IfOk result (λ text. text.items ≡ process_name net.now process ++ codes " drives it too") }
 {
-    let mut text = Vec::from_slice(alloc, b"the other driver is ")?;
-    text.extend_from_slice(&process_name(alloc, net, process)?)?;
+    let mut text = process_name(alloc, net, process)?;
+    text.extend_from_slice(b" drives it too")?;
     Ok(text)
 }

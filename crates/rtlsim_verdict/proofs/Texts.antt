@@ -1,10 +1,17 @@
 -- Texts of what a view shows, and of parts one behind another.
-use Rattle.std.proofs.Common.{◌≡◌, ℕ, List, [], ◌∷◌, ◌++◌, append_assoc, map, refl, ap, ◌∙◌}
+use Rattle.std.proofs.Common.{◌≡◌, ℕ, List, [], ◌∷◌, ◌++◌, append_assoc, map, refl, sym, ap, ◌∙◌}
 use Rattle.std.specs.Prelude.{flat_map}
 
 pub texts_of : {A B : Type 0} (text : B → List ℕ) (view : A → B) (xs : List A) → flat_map (λ x. text (view x)) xs ≡ flat_map text (map view xs)
 texts_of text view [] = refl
 texts_of text view (x ∷ xs) = ap (λ t. text (view x) ++ t) (texts_of text view xs)
+
+-- the text of the first behind those before, and then those of the others
+pub one_text_more : {A V : Type 0} (left others : List A) (x : A) (old new all : List (List ℕ)) → left ≡ x ∷ others → (seen : A → V) (text : V → List ℕ)
+    → new ≡ old ++ text (seen x) ∷ [] → old ++ map text (map seen left) ≡ all → new ++ map text (map seen others) ≡ all
+one_text_more left others x old new all are seen text pushed so_far =
+    ap (λ t. t ++ map text (map seen others)) pushed ∙ append_assoc old (text (seen x) ∷ []) (map text (map seen others))
+    ∙ sym (ap (λ ls. old ++ map text (map seen ls)) are) ∙ so_far
 
 -- ---- parts of a text, one behind another
 
@@ -22,8 +29,15 @@ pub six : (t s r q p o a b c d e f : List ℕ) → s ≡ t ++ a → r ≡ s ++ b
 six t s r q p o a b c d e f i j k l m = rw (m, l, k, j, i) (simp append_assoc)
 
 -- from the beginning of a text
+pub all_three : (t s r a b c : List ℕ) → t ≡ a → s ≡ t ++ b → r ≡ s ++ c → r ≡ a ++ b ++ c
+all_three t s r a b c i j k = rw (k, j, i) refl
+
 pub all_four : (t s r q p a b c d : List ℕ) → t ≡ [] → s ≡ t ++ a → r ≡ s ++ b → q ≡ r ++ c → p ≡ q ++ d → p ≡ a ++ b ++ c ++ d
 all_four t s r q p a b c d none i j k l = rw (l, k, j, i, none) refl
+
+pub all_five : (t s r q p o a j b k c d e : List ℕ) → t ≡ [] → s ≡ t ++ a → r ≡ s ++ (j ++ b) → q ≡ r ++ (k ++ c) → p ≡ q ++ d → o ≡ p ++ e
+    → o ≡ a ++ j ++ b ++ k ++ c ++ d ++ e
+all_five t s r q p o a j b k c d e none e1 e2 e3 e4 e5 = rw (e5, e4, e3, e2, e1, none) (simp append_assoc)
 
 pub all_eight : (t s r q p o n m l k a j b c d e f g h : List ℕ) → t ≡ [] → s ≡ t ++ (k ++ a) → r ≡ s ++ (j ++ b) → q ≡ r ++ c → p ≡ q ++ d → o ≡ p ++ e → n ≡ o ++ f
     → m ≡ n ++ g → l ≡ m ++ h → l ≡ k ++ a ++ j ++ b ++ c ++ d ++ e ++ f ++ g ++ h

@@ -43,7 +43,7 @@ also_text net (fault ∷ faults) = codes "also in " ++ culprits net fault ++ oth
 
 unfoldable pub paragraph : List FileView → NetlistView → FindingView → List ℕ
 paragraph files net f =
-    told_text files net f ++ noted files (note_at net f) (note_text net f) ++ also_text net (also f) ++ help_line (words_for f).help.now
+    told_text files net f ++ noted files (note_at f) (note_text net f) ++ also_text net (also f) ++ help_line (words_for f).help.now
 
 -- ---- the end
 

@@ -15,10 +15,10 @@ use Rattle.rtlsim_files.specs.Files.{FileView, Spot, before, spot_in}
 use Rattle.rtlsim_findings.specs.Causes.{at_process}
 use Rattle.rtlsim_findings.specs.Findings.{FindingView, findings}
 use Rattle.rtlsim_findings.specs.Remarked as remarked
-use Rattle.rtlsim_findings.specs.Sayings.{message, note_at, note_text, processes, ranges_of}
+use Rattle.rtlsim_findings.specs.Sayings.{message, note_at, note_text, processes, all_ranges_of}
 use Rattle.rtlsim_listing.specs.CheckText.{greatest_level}
 use Rattle.rtlsim_listing.specs.Reports.{report_of}
-use Rattle.rtlsim_verdict.specs.Explained.{words_for}
+use Rattle.rtlsim_verdict.specs.Explained.{words_for, any_stored}
 use Rattle.rtlsim_verdict.specs.Values.{array_text, items_text, string_text}
 
 -- ---- places
@@ -55,11 +55,11 @@ is_variable (Element process variable place) = true
 is_variable _ = false
 
 abbrev pub names_if : (told : Bool) → NetlistView → FindingView → List ℕ
-names_if told net f = array_text string_text (if told then ranges_of net f else [])
+names_if told net f = array_text string_text (if told then all_ranges_of net f else [])
 
 -- the place of the first process, and that of the note
 abbrev pub places_of : List FileView → NetlistView → FindingView → List (List ℕ)
-places_of files net f = placed files f.cause.first (codes "null") ++ placed files (note_at net f) (string_text (note_text net f))
+places_of files net f = placed files f.cause.first (codes "null") ++ placed files (note_at f) (string_text (note_text net f))
 
 unfoldable pub title_text : Words Text → List ℕ
 title_text words =
@@ -92,13 +92,19 @@ remark_text files net f =
 
 -- ---- verdicts
 
--- the greatest level, and the bound on the delta cycles of a moment
+-- the greatest level, the bound on the delta cycles of a moment, and the command that simulates the netlist
 abbrev pub yes_text : (levels bound : ℕ) → List ℕ
-yes_text levels bound = codes "{\"version\":2,\"verdict\":\"yes\",\"levels\":" ++ decimal levels ++ codes ",\"bound\":" ++ decimal bound
+yes_text levels bound =
+    codes "{\"version\":2,\"verdict\":\"yes\",\"levels\":" ++ decimal levels ++ codes ",\"bound\":" ++ decimal bound ++ codes ",\"simulates\":\"run\""
+
+-- where no variable keeps its value, the simulation cycle itself runs what is rejected
+abbrev pub no_text : (stored : Bool) → List ℕ
+no_text stored =
+    codes "{\"version\":2,\"verdict\":\"no\",\"levels\":null,\"bound\":null,\"simulates\":" ++ (if stored then codes "null" else codes "\"run --event\"")
 
 abbrev pub verdict_text : Verdict → List ℕ
 verdict_text (Yes report) = yes_text (greatest_level report.levels.items) report.bound
-verdict_text (No faults) = codes "{\"version\":2,\"verdict\":\"no\",\"levels\":null,\"bound\":null"
+verdict_text (No faults) = no_text (any_stored faults.items)
 
 abbrev pub found : NetlistView → Verdict → List FindingView
 found net (Yes report) = []

@@ -3,5 +3,6 @@ pub mod Placed
 pub mod Explained
 pub mod Values
 pub mod Json
+pub mod Refusals
 pub mod RemarkText
 pub mod Marks

@@ -2,6 +2,8 @@
 use Rattle.std.specs.Prelude.{ℕ, List, ◌++◌, flat_map, codes}
 use Rattle.rtl_net.specs.Nets.{NetlistView}
 use Rattle.rtl_remarks.specs.Remarks.{remarks_of}
+use Rattle.rtl_remarks.specs.declared.remark.Remark.{Remark}
+use Rattle.rtl_stim_remarks.specs.Naming.{stimulus_remarks_of}
 use Rattle.rtlsim_files.specs.Files.{FileView}
 use Rattle.rtlsim_findings.specs.Causes.{at_process}
 use Rattle.rtlsim_findings.specs.Remarked.{RemarkView, process_of, message, found}
@@ -11,5 +13,12 @@ use Rattle.rtlsim_verdict.specs.Placed.{place_text}
 abbrev pub line : List FileView → NetlistView → RemarkView → List ℕ
 line files net f = place_text files (at_process net (process_of f.remark)) ++ codes "remark: " ++ message net f ++ codes "\n"
 
+abbrev pub lines : List FileView → NetlistView → List Remark → List ℕ
+lines files net remarks = flat_map (line files net) (found net remarks)
+
 abbrev pub remarks_text : List FileView → NetlistView → List ℕ
-remarks_text files net = flat_map (line files net) (found net (remarks_of net))
+remarks_text files net = lines files net (remarks_of net)
+
+-- of the stimulus of this text
+abbrev pub stimulus_remarks_text : List FileView → NetlistView → (stimulus : List ℕ) → List ℕ
+stimulus_remarks_text files net stimulus = lines files net (stimulus_remarks_of net stimulus)

@@ -17,7 +17,7 @@ use rtl_net::{Net, NoMemory};
 use rtl_report::{Rule, Subject};
 use rtlsim_explain::Position;
 use rtlsim_findings::{
-    Finding, RemarkFinding, at_process, message, note_at, note_text, processes, ranges_of,
+    Finding, RemarkFinding, all_ranges_of, at_process, message, note_at, note_text, processes,
     remark_message, remark_process, remark_report,
 };
 use rtlsim_listing::report_of;
@@ -46,7 +46,7 @@ pub(crate) fn finding_text(
 
 /// Appends the layer, the number and the name of a rule.
 #[tactic(auto, unfolding(crate::specs::Json::title_text))]
-fn push_title(rule: Rule, text: &mut Vec<u8>) -> Result<(), NoMemory>
+pub(crate) fn push_title(rule: Rule, text: &mut Vec<u8>) -> Result<(), NoMemory>
     ensures { OnOk result (text.new.items ≡ text.old.items ++ spec.title_text (words_of rule)) }
 {
     let words = rule.words();
@@ -72,7 +72,7 @@ fn push_said(
 }
 
 /// Appends a member of an object: its name, as it stands there, and a string of these bytes.
-fn push_member(name: &[u8], bytes: &[u8], text: &mut Vec<u8>) -> Result<(), NoMemory>
+pub(crate) fn push_member(name: &[u8], bytes: &[u8], text: &mut Vec<u8>) -> Result<(), NoMemory>
     ensures { OnOk result (text.new.items ≡ text.old.items ++ (name.now ++ string_text bytes.now)) }
 {
     text.extend_from_slice(name)?;
@@ -103,7 +103,7 @@ fn push_named(
     )
 }
 
-/// Appends the member of this name: the names that a finding is told of, if they are told here.
+/// Appends the member of this name: the names that all faults of a finding are told of, if they are told here.
 #[tactic(auto, unfolding(crate::specs::Values::array_text))]
 fn push_names(
     alloc: Global,
@@ -118,7 +118,7 @@ fn push_names(
 {
     text.extend_from_slice(name)?;
     if told {
-        push_strings(&ranges_of(alloc, net, finding)?, text)
+        push_strings(&all_ranges_of(alloc, net, finding)?, text)
     } else {
         Ok(text.extend_from_slice(b"[]")?)
     }
@@ -156,7 +156,7 @@ fn places_of(
     push_placed(alloc, files, finding.cause.first, b"null", &mut texts)?;
     let mut note = Vec::new(alloc);
     push_string(&note_text(alloc, net, finding)?, &mut note)?;
-    push_placed(alloc, files, note_at(net, finding), &note, &mut texts)?;
+    push_placed(alloc, files, note_at(finding), &note, &mut texts)?;
     Ok(texts)
 }
 
@@ -181,7 +181,11 @@ fn push_placed(
 
 /// The object of a place with this note.
 #[tactic(auto, unfolding(crate::specs::Json::spot_text))]
-fn spot_text(alloc: Global, place: PlacedByte<'_>, note: &[u8]) -> Result<Vec<u8>, NoMemory>
+pub(crate) fn spot_text(
+    alloc: Global,
+    place: PlacedByte<'_>,
+    note: &[u8],
+) -> Result<Vec<u8>, NoMemory>
     requires stands { Stands place }
     ensures { IfOk result (λ text. text.items ≡ spec.spot_text (spot_view place.entry.byte) note.now) }
 {
@@ -206,7 +210,7 @@ fn push_position(position: Position, text: &mut Vec<u8>) -> Result<(), NoMemory>
 
 /// Appends the array of places, with which an object ends.
 #[tactic(auto, unfolding(crate::specs::Json::places_text))]
-fn push_places(places: &[Vec<u8>], text: &mut Vec<u8>) -> Result<(), NoMemory>
+pub(crate) fn push_places(places: &[Vec<u8>], text: &mut Vec<u8>) -> Result<(), NoMemory>
     ensures { OnOk result (text.new.items ≡ text.old.items ++ spec.places_text (map (λ t. t.items) places.now)) }
 {
     text.extend_from_slice(b",\"places\":")?;

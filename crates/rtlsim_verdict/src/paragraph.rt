@@ -35,7 +35,7 @@ pub(crate) fn paragraph(
     let mut text = Vec::new(alloc);
     push_told(alloc, files, net, finding, &mut text)?;
     let note = note_text(alloc, net, finding)?;
-    push_noted(files, note_at(net, finding), &note, &mut text)?;
+    push_noted(files, note_at(finding), &note, &mut text)?;
     push_also(alloc, net, &also(alloc, finding)?, &mut text)?;
     push_help(report_of(finding.first).rule, &mut text)?;
     Ok(text)

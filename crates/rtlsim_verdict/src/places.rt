@@ -10,12 +10,15 @@ ghost use Rattle.rtlsim_verdict.specs.Placed as placed;
 
 use rtl_net::NoMemory;
 use rtlsim_explain::{Position, line_after};
-use rtlsim_files::{FilePlace, SourceFile};
+use rtlsim_files::{FilePlace, SourceFile, halves};
 use rtlsim_listing::push_decimal;
 use std::alloc::Global;
 
 /// So many bytes stand between two marks.
 const STEP: usize = 1024;
+
+/// So many bytes from a byte on decide what is shown of its line: one more than are shown whole, and a carriage return.
+const AHEAD: usize = 202;
 
 /// A file, and where the byte at each mark of it stands.
 #[derive(Drop)]
@@ -136,15 +139,17 @@ pub(crate) fn place_at<'a>(files: &[MarkedFile<'a>], at: usize) -> PlacedByte<'a
     }
 }
 
-/// What stands in its line before a byte of the files' joined text, and what stands there from it on.
+/// What stands in its line before a byte of the files' joined text, and what stands there from it on, of which the next 202 bytes are looked
+/// at.
 pub(crate) fn halves_at<'a>(files: &[MarkedFile<'a>], at: usize) -> (&'a [u8], &'a [u8])
     requires marked { All IsMarked files.now }
     ensures before { result.0.now ≡ spec.line_before (spots.before (spots.spot_in (map view files.now) at)) }
-    ensures after { result.1.now ≡ spec.line_after (spots.after (spots.spot_in (map view files.now) at)) }
+    ensures after { result.1.now ≡ spec.line_after (take 202 (spots.after (spots.spot_in (map view files.now) at))) }
 {
     let place = place_at(files, at);
     let (before, after) = place.byte.halves();
-    (ending(before, place.position), line_after(after))
+    let (next, _) = halves(after, AHEAD);
+    (ending(before, place.position), line_after(next))
 }
 
 /// What stands behind the last line feed of the bytes before a byte that stands here.

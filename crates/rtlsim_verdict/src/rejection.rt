@@ -91,7 +91,7 @@ fn push_ending<S: Sink>(faults: &[CheckFault], sink: &mut S)
 }
 
 /// Whether one of these faults is of a variable that keeps its value.
-fn any_stored(faults: &[CheckFault]) -> bool
+pub(crate) fn any_stored(faults: &[CheckFault]) -> bool
     ensures { result ≡ spec.any_stored faults.now }
 {
     let mut left = faults;

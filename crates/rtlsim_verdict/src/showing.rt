@@ -1,4 +1,4 @@
-//! Remarks on a netlist, written.
+//! Remarks on a netlist and on its stimulus, written.
 
 ghost use Rattle.std.specs.Prelude.{◌≡◌, ◌++◌, All, map, flat_map, IfOk, OnOk};
 ghost use Rattle.rtl_sink.specs.Written.{IsIntact};
@@ -10,8 +10,9 @@ ghost use Rattle.rtlsim_verdict.specs.RemarkText as spec;
 
 use crate::places::{MarkedFile, mark_files, push_place};
 use rtl_net::{Net, NoMemory};
-use rtl_remarks::remarks;
+use rtl_remarks::{Remark, remarks};
 use rtl_sink::{Sink, finish, push_text};
+use rtl_stim_remarks::stimulus_remarks;
 use rtlsim_files::SourceFile;
 use rtlsim_findings::{RemarkFinding, at_process, remark_findings, remark_message, remark_process};
 use rtlsim_listing::ListingFault;
@@ -34,18 +35,38 @@ pub fn show_remarks<S: Sink>(
     ensures { IsListed result (S.state out.old) (S.state out.new)
         (spec.remarks_text (map file_view files.now) net.now) }
 {
-    let text = text_of(alloc, files, net)?;
+    let remarks = remarks(alloc, net)?;
+    let text = text_of(alloc, files, net, &remarks)?;
     push_text(out, &text);
     finish(out)?;
     Ok(())
 }
 
-/// The whole text.
-fn text_of(alloc: Global, files: &[SourceFile<'_>], net: &Net) -> Result<Vec<u8>, NoMemory>
-    ensures { IfOk result (λ text. text.items ≡ spec.remarks_text (map file_view files.now) net.now) }
+/// The lines of the remarks on a stimulus of a netlist, by its text: none where there are none. It takes memory for the remarks and
+/// the lines.
+pub fn stimulus_remarks_text(
+    alloc: Global,
+    files: &[SourceFile<'_>],
+    net: &Net,
+    stimulus: &[u8],
+) -> Result<Vec<u8>, NoMemory>
+    ensures { IfOk result (λ text. text.items
+        ≡ spec.stimulus_remarks_text (map file_view files.now) net.now stimulus.now) }
 {
-    let remarks = remarks(alloc, net)?;
-    let found = remark_findings(alloc, net, &remarks)?;
+    let remarks = stimulus_remarks(alloc, net, stimulus)?;
+    text_of(alloc, files, net, &remarks)
+}
+
+/// The lines of these remarks.
+fn text_of(
+    alloc: Global,
+    files: &[SourceFile<'_>],
+    net: &Net,
+    remarks: &[Remark],
+) -> Result<Vec<u8>, NoMemory>
+    ensures { IfOk result (λ text. text.items ≡ spec.lines (map file_view files.now) net.now remarks.now) }
+{
+    let found = remark_findings(alloc, net, remarks)?;
     let marked = mark_files(alloc, files)?;
     let mut text = Vec::new(alloc);
     push_lines(alloc, &marked, net, &found, &mut text)?;

@@ -13,6 +13,7 @@ ghost use Rattle.rtlsim_verdict.specs.Values.{items_text, next_text};
 
 use crate::object::{finding_text, remark_text};
 use crate::places::{MarkedFile, mark_files};
+use crate::rejection::any_stored;
 use crate::values::{push_number, push_texts};
 use rtl_check::Verdict;
 use rtl_net::{Net, NoMemory};
@@ -85,10 +86,7 @@ fn verdict_text(alloc: Global, verdict: &Verdict) -> Result<Vec<u8>, NoMemory>
 {
     match verdict {
         Verdict::Yes(report) => yes_text(alloc, greatest_level(&report.levels), report.bound),
-        Verdict::No(_) => Ok(Vec::from_slice(
-            alloc,
-            b"{\"version\":2,\"verdict\":\"no\",\"levels\":null,\"bound\":null",
-        )?),
+        Verdict::No(faults) => no_text(alloc, any_stored(faults)),
     }
 }
 
@@ -100,6 +98,21 @@ fn yes_text(alloc: Global, levels: u32, bound: u32) -> Result<Vec<u8>, NoMemory>
     push_number(levels as usize, &mut text)?;
     text.extend_from_slice(b",\"bound\":")?;
     push_number(bound as usize, &mut text)?;
+    text.extend_from_slice(b",\"simulates\":\"run\"")?;
+    Ok(text)
+}
+
+/// How the object of a no begins, where a variable is stored or none is.
+fn no_text(alloc: Global, stored: bool) -> Result<Vec<u8>, NoMemory>
+    ensures { IfOk result (λ text. text.items ≡ spec.no_text stored) }
+{
+    let begin = b"{\"version\":2,\"verdict\":\"no\",\"levels\":null,\"bound\":null,\"simulates\":";
+    let mut text = Vec::from_slice(alloc, begin)?;
+    if stored {
+        text.extend_from_slice(b"null")?;
+    } else {
+        text.extend_from_slice(b"\"run --event\"")?;
+    }
     Ok(text)
 }
 

@@ -1,8 +1,15 @@
+use Rattle.rtlsim_commands.specs.Told.{TellsOthers, asks_others}
+use Rattle.rtlsim_faults.specs.declared.faults.Fault.{Fault}
+use Rattle.std.proofs.Common.{subst}
 use Rattle.rtlsim_commands.proofs.ending.refuse_source.Goals as goal
 
 pub returns : goal.returns
-returns g c = (
-  c.tell_source_fault-said.result,
-  record { between = _; first = c.tell_source_fault-said.ensures; others = c.tell_others.ensures },
-  c.ended_by_writes.ensures,
-)
+returns g c =
+    let said = c.tell_source_fault-said.result in
+    let telling = c.args.telling.now in
+    let others = λ (f : Fault). TellsOthers (asks_others telling.explains f said) telling c.args.source.now c.args.top.now f (g.E.Sink.state c.tell_source_fault-said.new.err)
+    (g.E.Sink.state c.tell_others.new.err) in (
+      said,
+      record { between = _; first = c.tell_source_fault-said.ensures; others = subst others c.from.ensures c.tell_others.ensures },
+      c.ended_by_writes.ensures,
+    )

@@ -1,11 +1,11 @@
 use Rattle.std.proofs.Common.{subst}
 use Rattle.rtl_sink.specs.Written.{Goes}
-use Rattle.rtlsim_explain.specs.Explained.{refusal_text}
+use Rattle.rtlsim_explain.specs.Explained.{paragraph, refusal_told}
 use Rattle.rtlsim_files.specs.Files.{Spot}
 use Rattle.rtlsim_explain.proofs.explaining.explain_refusal.Goals as goal
 
 pub returns-in-Byte : goal.returns-in-Byte
 returns-in-Byte g c =
     let state = g.S.Sink.state in
-    let told = subst (λ (s : Spot). Goes (state c.args.sink.now) (state c.push_refusal.new.sink) (refusal_text s c.args.report.rule)) c.place_in.ensures c.push_refusal.ensures in
+    let told = subst (λ (s : Spot). Goes (state c.args.sink.now) (state c.push_refusal.new.sink) (paragraph (refusal_told s c.args.report.rule))) c.place_in.ensures c.push_refusal.ensures in
     rw c.in-Byte.is told

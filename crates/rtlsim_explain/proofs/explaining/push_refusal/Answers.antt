@@ -1,14 +1,7 @@
-use Rattle.std.proofs.Common.{subst}
-use Rattle.rtl_sink.specs.Written.{Goes}
 use Rattle.rtl_sink.proofs.Writing.{Goes-append}
-use Rattle.rtlsim_explain.specs.Explained.{said_text}
-use Rattle.rtlsim_explain.specs.Forms.{Said}
-use Rattle.rtlsim_files.specs.Files.{spot_view}
 use Rattle.rtlsim_explain.proofs.explaining.push_refusal.Goals as goal
 
 pub returns : goal.returns
 returns g c =
-    let state = g.S.Sink.state in
-    let word = rw c.halves.ensures.after at c.push_refused.ensures in
-    let said = subst (λ (s : Said). Goes (state c.push_refused.new.sink) (state c.push_said.new.sink) (said_text (spot_view c.args.place) s)) c.said_of.ensures c.push_said.ensures in
-    Goes-append _ _ _ _ _ (Goes-append _ _ _ _ _ c.push_head.ensures word) said
+    let rest = rw c.refusal_help.ensures at c.push_rest.ensures in
+    Goes-append _ _ _ _ _ (Goes-append _ _ _ _ _ (Goes-append _ _ _ _ _ c.push_head.ensures c.push_refusal_sentence.ensures) rest) c.push_text.ensures

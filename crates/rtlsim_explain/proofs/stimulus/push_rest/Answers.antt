@@ -3,5 +3,5 @@ use Rattle.rtlsim_explain.proofs.stimulus.push_rest.Goals as goal
 
 pub returns : goal.returns
 returns g c =
-    let help = rw c.words.ensures.help at c.push_help.ensures in
+    let help = rw (c.as_bytes.ensures.value, c.words.ensures.help) at c.push_help.ensures in
     Goes-append _ _ _ _ _ (Goes-append _ _ _ _ _ c.push_text.ensures c.push_shown.ensures) help

@@ -12,19 +12,19 @@ pub returns-in-Syntax : goal.returns-in-Syntax
 returns-in-Syntax g c =
     let state = g.S.Sink.state in
     rw c.in-Syntax.is (explains_read c.args.telling.now (f.Syntax c.in-Syntax.told) (syntax_report c.in-Syntax.told) c.explain_read.result (state c.args.sink.now)
-    (state c.explain_read.new.sink) refl (λ read net. refl) (rw c.syntax_report.ensures at c.explain_read.ensures))
+    (state c.explain_read.new.sink) refl refl (λ read net. refl) (rw c.syntax_report.ensures at c.explain_read.ensures))
 
 pub returns-in-Name : goal.returns-in-Name
 returns-in-Name g c =
     let state = g.S.Sink.state in
     rw c.in-Name.is (explains_read c.args.telling.now (f.Name c.in-Name.told) (name_report c.in-Name.told) c.explain_read-in-Name.result (state c.args.sink.now)
-    (state c.explain_read-in-Name.new.sink) refl (λ read net. refl) (rw c.name_report.ensures at c.explain_read-in-Name.ensures))
+    (state c.explain_read-in-Name.new.sink) refl refl (λ read net. refl) (rw c.name_report.ensures at c.explain_read-in-Name.ensures))
 
 pub returns-in-Elab : goal.returns-in-Elab
 returns-in-Elab g c =
     let state = g.S.Sink.state in
     rw c.in-Elab.is (explains_read c.args.telling.now (f.Elab c.in-Elab.told) (elab_report c.in-Elab.told) c.explain_read-in-Elab.result (state c.args.sink.now)
-    (state c.explain_read-in-Elab.new.sink) refl (λ read net. refl) (rw c.elab_report.ensures at c.explain_read-in-Elab.ensures))
+    (state c.explain_read-in-Elab.new.sink) refl refl (λ read net. refl) (rw c.elab_report.ensures at c.explain_read-in-Elab.ensures))
 
 pub returns-in-NoSettling : goal.returns-in-NoSettling
 returns-in-NoSettling g c =

@@ -1,5 +1,6 @@
 use Rattle.std.proofs.Common.{◌≡◌, [], length, map}
-use Rattle.rtlsim_findings.specs.Findings.{finding_view, found_from}
+use Rattle.rtlsim_findings.specs.Findings.{finding_view, any_gated, found_from}
+use Rattle.rtlsim_findings.specs.steps.Joining.{causes_of}
 use Rattle.rtlsim_findings.specs.steps.Walked.{AreOf}
 use Rattle.rtlsim_findings.proofs.finding.findings.Given as goal
 
@@ -7,7 +8,8 @@ use Rattle.rtlsim_findings.proofs.finding.findings.Given as goal
 abbrev pub invariant-loop-left : goal.invariant-loop-left
 invariant-loop-left l = record {
   are : AreOf l.net l.walked;
-  same : found_from l.net l.faults (map finding_view l.found.items) l.left ≡ found_from l.net l.faults [] l.faults;
+  causes : l.causes.keys ≡ causes_of (map finding_view l.found.items);
+  same : found_from l.net (any_gated l.faults) (map finding_view l.found.items) l.left ≡ found_from l.net (any_gated l.faults) [] l.faults;
 }
 
 abbrev pub decreases-loop-left : goal.decreases-loop-left

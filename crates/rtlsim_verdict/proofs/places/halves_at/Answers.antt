@@ -1,4 +1,4 @@
-use Rattle.std.proofs.Common.{sym, ap, ◌∙◌}
+use Rattle.std.proofs.Common.{ℕ, List, take, sym, ap, ◌∙◌}
 use Rattle.rtlsim_explain.specs.Places.{position_behind, line_before, line_after}
 use Rattle.rtlsim_files.specs.Files.{Spot, before, after}
 use Rattle.rtlsim_verdict.proofs.places.halves_at.Goals as goal
@@ -12,4 +12,5 @@ returns-clause-before c =
 
 pub returns-clause-after : goal.returns-clause-after
 returns-clause-after c =
-    c.line_after.ensures ∙ ap line_after c.halves.ensures.after ∙ ap (λ (s : Spot). line_after (after s)) c.place_at-place.ensures.is
+    c.line_after.ensures ∙ ap line_after (c.halves-2.ensures.before ∙ ap (λ (bytes : List ℕ). take 202 bytes) c.halves.ensures.after)
+    ∙ ap (λ (s : Spot). line_after (take 202 (after s))) c.place_at-place.ensures.is

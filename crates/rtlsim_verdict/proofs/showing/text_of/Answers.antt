@@ -17,11 +17,10 @@ same files net marked given told passed kept g m t f =
     ap (λ fs. flat_map (line fs net) (map remark_view passed)) (ap (map view) g ∙ m) ∙ ap (flat_map (line files net)) (ap (map remark_view) t ∙ f)
 
 pub push_lines-requires : goal.push_lines-requires
-push_lines-requires c = record { marked = subst (All IsMarked) (sym c.deref-2.ensures.value) c.in_ok-marked.ensures.marks }
+push_lines-requires c = record { marked = subst (All IsMarked) (sym c.deref.ensures.value) c.in_ok-marked.ensures.marks }
 
 pub returns : goal.returns
 returns c =
     let net = c.args.net.now in
-    let kept = c.in_ok-found.ensures ∙ ap (λ (rs : List Remark). found net rs) (c.deref.ensures.value ∙ c.in_ok-remarks.ensures) in
-    c.in_ok-push_lines.ensures ∙ ap (λ t. t ++ flat_map (line (map view c.deref-2.result.now) net) (map remark_view c.deref-3.result.now)) c.new-text.ensures.items
-    ∙ same _ net _ _ _ _ _ c.deref-2.ensures.value c.in_ok-marked.ensures.are c.deref-3.ensures.value kept
+    c.in_ok-push_lines.ensures ∙ ap (λ t. t ++ flat_map (line (map view c.deref.result.now) net) (map remark_view c.deref-2.result.now)) c.new-text.ensures.items
+    ∙ same _ net _ _ _ _ _ c.deref.ensures.value c.in_ok-marked.ensures.are c.deref-2.ensures.value c.in_ok-found.ensures

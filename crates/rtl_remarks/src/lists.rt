@@ -1,0 +1,63 @@
+//! Lists of numbers.
+
+ghost use Rattle.std.specs.Prelude.{◌≡◌, IfOk};
+ghost use Rattle.std.specs.List.{filter, range_with_len};
+ghost use Rattle.std.specs.List.Sorted.{IsStrictlyIncreasing};
+ghost use Rattle.rtl_net.specs.Indices.{numbers};
+ghost use Rattle.rtl_net_facts.specs.Reading.{is_in};
+ghost use Rattle.rtl_remarks.specs.Undefined.{is_same};
+
+use rtl_net::{Indices, NoMemory};
+use rtl_net_facts::contains_rising;
+use std::alloc::Global;
+
+/// Whether a number is among others, or isn't, as is asked.
+fn is_chosen(others: &[usize], number: usize, among: bool) -> bool
+    requires { IsStrictlyIncreasing others.now }
+    ensures { result ≡ is_same among (is_in number others.now) }
+{
+    if among {
+        return contains_rising(others, number);
+    }
+    !contains_rising(others, number)
+}
+
+/// Those of some numbers that are among others, or that aren't.
+pub(crate) fn chosen(
+    alloc: Global,
+    from: &[usize],
+    others: &[usize],
+    among: bool,
+) -> Result<Vec<usize>, NoMemory>
+    requires { IsStrictlyIncreasing others.now }
+    ensures { IfOk result (λ left. left.items ≡ filter (λ n. is_same among (is_in n others.now)) from.now) }
+{
+    let mut left = Vec::new(alloc);
+    for number in from {
+        if is_chosen(others, *number, among) {
+            left.push(*number)?;
+        }
+    }
+    Ok(left)
+}
+
+/// So many numbers from the first on.
+fn run_of(alloc: Global, first: u32, len: u32) -> Result<Vec<usize>, NoMemory>
+    ensures { IfOk result (λ found. found.items ≡ range_with_len first len) }
+{
+    let mut found = Vec::new(alloc);
+    for i in 0..len {
+        found.push(first as usize + i as usize)?;
+    }
+    Ok(found)
+}
+
+/// The numbers of a name, from the left.
+pub(crate) fn numbers_of(alloc: Global, indices: &Indices) -> Result<Vec<usize>, NoMemory>
+    ensures { IfOk result (λ found. found.items ≡ numbers indices.now) }
+{
+    match indices {
+        Indices::Run { first, len } => run_of(alloc, *first, *len),
+        Indices::List(listed) => listed.as_slice().iter().map(|n| *n as usize).collect(alloc),
+    }
+}

@@ -1,0 +1,4 @@
+pub mod Choices
+pub mod Folds
+pub mod Names
+pub mod Searches

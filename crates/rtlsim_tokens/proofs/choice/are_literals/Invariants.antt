@@ -1,0 +1,14 @@
+use Rattle.std.proofs.Common.{◌≡◌, length}
+use Rattle.std.specs.List.{list_all}
+use Rattle.rtlsim_tokens.specs.Choices.{is_among}
+use Rattle.rtlsim_tokens.specs.Statements.{choices_in, HasRoom}
+use Rattle.rtlsim_forms.specs.Words.{read_of, text_of}
+use Rattle.rtlsim_tokens.proofs.choice.are_literals.Given as goal
+
+-- the choices that are left decide
+abbrev pub invariant-loop-choice : goal.invariant-loop-choice
+invariant-loop-choice l = (list_all (λ choice. is_among (read_of l.literals) (text_of l.text choice)) (choices_in l.left)
+    ≡ list_all (λ choice. is_among (read_of l.literals) (text_of l.text choice)) (choices_in l.fn.choices)) × HasRoom l.left
+
+abbrev pub decreases-loop-choice : goal.decreases-loop-choice
+decreases-loop-choice l = length l.left.left.now

@@ -1,0 +1,5 @@
+pub mod Walks
+pub mod Within
+pub mod Begun
+pub mod Trials
+pub mod Expectation

@@ -1,0 +1,83 @@
+-- One step of a walk over letters or tokens.
+use Rattle.std.proofs.Common.{◌≡◌, ℕ, suc, ◌+◌, ◌-◌, ◌≤◌, ◌<◌, Bool, true, false, if◌then◌else◌, List, [], ◌∷◌, length, take, drop, slice_index_or, min, flat_map, refl, sym, ap, ◌∙◌, arith}
+use Rattle.std.specs.List.{prefix_len}
+use Rattle.std.proofs.lemmas.List.{take_all, take_min}
+use Rattle.vhdl_expected.specs.Near.{is_same_letter, is_off, is_near_from}
+use Rattle.vhdl_expected.specs.Reading.{Reading, begins_unit, goes_on, statement, unit_from}
+use Rattle.vhdl_expected.specs.Told.{is_identifier, respelt_as, respelt_first, words}
+use Rattle.vhdl_lexer.specs.declared.token.Token.{Token}
+use Rattle.vhdl_lexer.specs.declared.token.TokenKind.{TokenKind}
+
+abbrev pub rest : {A : Type 0} → List A → List A
+rest xs = take (length xs - 1) (drop 1 xs)
+
+pub rest_is : {A : Type 0} (x : A) (xs : List A) → rest (x ∷ xs) ≡ xs
+rest_is x xs = take_all (length (x ∷ xs) - 1) xs (omega arith)
+
+-- ---- letters
+
+pub text_ends : (is_long : Bool) (text word : List ℕ) → length text < 1 → is_off is_long text word ≡ is_near_from is_long text word
+text_ends is_long [] word none = refl
+text_ends is_long (a ∷ text) word none = absurd (omega (arith, none))
+
+pub word_ends : (is_long : Bool) (text word : List ℕ) → 1 ≤ length text → length word < 1 → is_off is_long text word ≡ is_near_from is_long text word
+word_ends is_long [] word some none = absurd (omega (arith, some))
+word_ends is_long (a ∷ text) [] some none = refl
+word_ends is_long (a ∷ text) (b ∷ word) some none = absurd (omega (arith, none))
+
+pub letters_differ : (is_long : Bool) (text word : List ℕ) → 1 ≤ length text → 1 ≤ length word
+    → is_same_letter (slice_index_or text 0 0) (slice_index_or word 0 0) ≡ false → is_off is_long text word ≡ is_near_from is_long text word
+letters_differ is_long [] word some more not_so = absurd (omega (arith, some))
+letters_differ is_long (a ∷ text) [] some more not_so = absurd (omega (arith, more))
+letters_differ is_long (a ∷ text) (b ∷ word) some more not_so =
+    ap (λ (same : Bool). if same then is_near_from is_long text word else is_off is_long (a ∷ text) (b ∷ word)) (sym not_so)
+
+pub letters_agree : (is_long : Bool) (text word : List ℕ) → 1 ≤ length text → 1 ≤ length word
+    → is_same_letter (slice_index_or text 0 0) (slice_index_or word 0 0) ≡ true → is_near_from is_long (rest text) (rest word) ≡ is_near_from is_long text word
+letters_agree is_long [] word some more so = absurd (omega (arith, some))
+letters_agree is_long (a ∷ text) [] some more so = absurd (omega (arith, more))
+letters_agree is_long (a ∷ text) (b ∷ word) some more so =
+    ap (λ (t : List ℕ). is_near_from is_long t (rest (b ∷ word))) (rest_is a text)
+    ∙ ap (is_near_from is_long text) (rest_is b word)
+    ∙ ap (λ (same : Bool). if same then is_near_from is_long text word else is_off is_long (a ∷ text) (b ∷ word)) (sym so)
+
+-- ---- tokens
+
+pub unit_more : (last : TokenKind) (here : List Token) (d : Token) (ts : List Token) → 1 ≤ length ts
+    → unit_from (slice_index_or ts 0 d).kind (if begins_unit last (slice_index_or ts 0 d).kind then ts else here) (rest ts) ≡ unit_from last here ts
+unit_more last here d [] some = absurd (omega (arith, some))
+unit_more last here d (t ∷ ts) some = ap (unit_from t.kind (if begins_unit last t.kind then t ∷ ts else here)) (rest_is t ts)
+
+pub statement_is : (n : ℕ) (ts : List Token) → 1 ≤ length ts → n ≡ prefix_len goes_on (rest ts) → take (min (n + 2) (length ts)) ts ≡ statement ts
+statement_is n [] some is = absurd (omega (arith, some))
+statement_is n (t ∷ ts) some is =
+    let more : n + 2 ≡ suc (n + 1) = omega arith in
+    take_min (n + 2) (t ∷ ts)
+    ∙ ap (λ (m : ℕ). take m (t ∷ ts)) more
+    ∙ ap (λ (m : ℕ). t ∷ take (m + 1) ts) (is ∙ ap (prefix_len goes_on) (rest_is t ts))
+
+-- ---- the first of some tokens
+
+module _ (r : Reading) (place : ℕ) (ts : List Token) where
+  pub no_token : length ts < 1 → respelt_first r place ts ≡ []
+  no_token none = by_tokens ts none
+    where
+      by_tokens : (us : List Token) → length us < 1 → respelt_first r place us ≡ []
+      by_tokens [] few = refl
+      by_tokens (u ∷ us) few = absurd (omega (arith, few))
+
+  pub no_identifier : (d : Token) → 1 ≤ length ts → is_identifier (slice_index_or ts 0 d).kind ≡ false → respelt_first r place ts ≡ []
+  no_identifier d some not_so = by_tokens ts some not_so
+    where
+      by_tokens : (us : List Token) → 1 ≤ length us → is_identifier (slice_index_or us 0 d).kind ≡ false → respelt_first r place us ≡ []
+      by_tokens [] few n = absurd (omega (arith, few))
+      by_tokens (u ∷ us) few n = ap (λ (b : Bool). if b then flat_map (respelt_as r place u) words else []) n
+
+  pub identifier : (d : Token) → 1 ≤ length ts → is_identifier (slice_index_or ts 0 d).kind ≡ true
+      → respelt_first r place ts ≡ flat_map (respelt_as r place (slice_index_or ts 0 d)) words
+  identifier d some so = by_tokens ts some so
+    where
+      by_tokens : (us : List Token) → 1 ≤ length us → is_identifier (slice_index_or us 0 d).kind ≡ true
+          → respelt_first r place us ≡ flat_map (respelt_as r place (slice_index_or us 0 d)) words
+      by_tokens [] few n = absurd (omega (arith, few))
+      by_tokens (u ∷ us) few n = ap (λ (b : Bool). if b then flat_map (respelt_as r place u) words else []) n

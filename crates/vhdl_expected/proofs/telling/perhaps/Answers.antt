@@ -1,0 +1,17 @@
+use Rattle.std.proofs.Common.{Option, Some, None, option_map, refl, subst}
+use Rattle.vhdl_expected.specs.Changes.{Texts, said_of}
+use Rattle.vhdl_expected.specs.Reading.{reading_of}
+use Rattle.vhdl_expected.specs.Told.{Finds, otherwise}
+use Rattle.vhdl_expected.proofs.telling.perhaps.Goals as goal
+
+pub returns-in-Some : goal.returns-in-Some
+unfolding otherwise
+returns-in-Some c =
+    let r = reading_of c.args.reading in
+    (Some (said_of c.in-Some.said), subst (λ (said : Option Texts). Finds r (otherwise r) (option_map said_of said)) c.in-Some.is c.in_ok-said.ensures, refl)
+
+pub returns-in-None : goal.returns-in-None
+unfolding otherwise
+returns-in-None c =
+    let r = reading_of c.args.reading in
+    (None, subst (λ (said : Option Texts). Finds r (otherwise r) (option_map said_of said)) c.in-None.is c.in_ok-said.ensures, refl)

@@ -1,0 +1,22 @@
+use Rattle.std.proofs.Common.{◌++◌, Option, option_map, sym, ◌∙◌}
+use Rattle.std.proofs.lemmas.Result.{IfOk-weaker}
+use Rattle.vhdl_expected.specs.Changes.{Texts, said_of}
+use Rattle.vhdl_expected.specs.Reading.{reading_of}
+use Rattle.vhdl_expected.specs.Told.{Finds, missing, respelt}
+use Rattle.vhdl_expected.proofs.Trials.{some_first, none_first}
+use Rattle.vhdl_expected.proofs.telling.surely.Goals as goal
+
+pub returns-then-is_some : goal.returns-then-is_some
+returns-then-is_some c =
+    let r = reading_of c.args.reading in
+    some_first r said_of c.in_ok-said.said (respelt r) (missing r) (sym c.is_some.ensures ∙ c.if-is_some.true) c.in_ok-said.ensures
+
+pub returns : goal.returns
+unfolding missing
+returns c =
+    let r = reading_of c.args.reading in
+    IfOk-weaker c.first_said.result
+    (λ (said : Option Texts). Finds r (missing r) (option_map said_of said))
+    (λ (said : Option Texts). Finds r (respelt r ++ missing r) (option_map said_of said))
+    (λ said h. none_first r said_of c.in_ok-said.said (respelt r) (missing r) (option_map said_of said) (sym c.is_some.ensures ∙ c.if-is_some.false) c.in_ok-said.ensures h)
+    c.first_said.ensures

@@ -1,0 +1,4 @@
+pub mod Near
+pub mod Reading
+pub mod Changes
+pub mod Told

@@ -1,0 +1,149 @@
+-- What is told of a refused token: of trials in a fixed order what is said of the first with which the text goes on.
+use Rattle.std.specs.Prelude.{◌≡◌, ℕ, zero, suc, ◌+◌, ◌-◌, ◌==◌, ◌&&◌, nat_le, Bool, true, false, if◌then◌else◌, List, [], ◌∷◌, ◌++◌, ◌⊎◌, length, map, flat_map, drop, slice_range, min, Option, Some, None}
+use Rattle.std.specs.Borrow.{Bor}
+use Rattle.vhdl_lexer.specs.declared.token.Token.{Token}
+use Rattle.vhdl_lexer.specs.declared.token.TokenKind.{TokenKind}
+use Rattle.vhdl_lexer.specs.declared.token.TokenKind.TheVariants as k
+use Rattle.vhdl_parser.specs.declared.fault.SyntaxFault.{SyntaxFault}
+use Rattle.vhdl_parser.specs.declared.fault.SyntaxFault.TheVariants as fault
+use Rattle.vhdl_expected.specs.Changes.{Said, Change, change, changed, GoesOn, Breaks}
+use Rattle.vhdl_expected.specs.Near.{is_near}
+use Rattle.vhdl_expected.specs.Reading.{Reading, before, from}
+use Rattle.vhdl_expected.specs.declared.telling.Expected as code
+use Rattle.vhdl_expected.specs.declared.telling.Expected.TheVariants as variant
+use Rattle.vhdl_expected.specs.declared.reading.TheConstants.{MOST_TOKENS}
+use Rattle.vhdl_expected.specs.declared.respelling.TheConstants.{MOST_PLACES}
+use Rattle.vhdl_expected.specs.declared.table.TheConstants.{BEFORE, HERE, MISSING, OTHERWISE, WORDS}
+
+pub data Expected : Type 0 where
+  nothing : Expected
+  -- told whatever stands at the token
+  surely : Said → Expected
+  -- told where no form is known that isn't read
+  perhaps : Said → Expected
+
+abbrev pub expected_of : code.Expected → Expected
+expected_of variant.Nothing = nothing
+expected_of (variant.Surely said) = surely (said.0.now, said.1.now)
+expected_of (variant.Perhaps said) = perhaps (said.0.now, said.1.now)
+
+-- ---- trials
+
+-- a change of the token at this place
+pub record Trial : Type 0 where
+  pub place : ℕ
+  pub change : Change
+
+abbrev pub at : (place : ℕ) → Change → Trial
+at place change = record { place = place; change = change }
+
+abbrev pub tried : Reading → Trial → List Token
+tried r t = changed t.place t.change r.tokens
+
+-- what is said of the first with which the text goes on
+abbrev pub Finds : Reading → List Trial → Option Said → Type 0
+Finds r [] said = said ≡ None
+Finds r (t ∷ ts) said =
+    (GoesOn r.source (tried r t) × (said ≡ Some t.change.said)) ⊎ (Breaks r.source (tried r t) × Finds r ts said)
+
+-- the parser refuses a token
+abbrev pub is_wrong : SyntaxFault → Bool
+is_wrong (fault.Unexpected at) = true
+is_wrong (fault.TooDeep at) = true
+is_wrong _ = false
+
+-- the text goes on with it, or it doesn't
+abbrev pub Answers : Reading → Trial → Bool → Type 0
+Answers r t true = GoesOn r.source (tried r t)
+Answers r t false = Breaks r.source (tried r t)
+
+-- ---- words that are meant by others
+
+-- a word of the grammar: how it is spelled, the tokens that it is, and what is told where it is meant by the refused token or by one before
+pub record Word : Type 0 where
+  pub spelled : List ℕ
+  pub kinds : List TokenKind
+  pub here : List ℕ
+  pub before : List ℕ
+
+abbrev pub word : (spelled : List ℕ) → (kinds : List TokenKind) → (here before : List ℕ) → Word
+word spelled kinds here before = record { spelled = spelled; kinds = kinds; here = here; before = before }
+
+-- a row of the code
+abbrev pub Row : Type 0
+Row = Bor (List ℕ) × Bor (List TokenKind) × Bor (List ℕ) × Bor (List ℕ)
+
+abbrev pub word_of : Row → Word
+word_of row = word row.0.now row.1.now row.2.now row.3.now
+
+unfoldable pub words : List Word
+words = map (λ row. word row.0.now row.1.now row.2.now row.3.now) WORDS
+
+-- the word in place of the refused token, or of another
+abbrev pub in_place : (is_refused : Bool) → Word → Change
+in_place is_refused w = change w.kinds false (if is_refused then (w.here, HERE.now) else (w.before, BEFORE.now))
+
+abbrev pub is_identifier : TokenKind → Bool
+is_identifier k.Identifier = true
+is_identifier _ = false
+
+-- the word may be meant by the token
+abbrev pub is_meant : (source : List ℕ) → Token → Word → Bool
+is_meant source t w = is_near (slice_range source t.start t.end) w.spelled
+
+abbrev pub respelt_as : Reading → (place : ℕ) → Token → Word → List Trial
+respelt_as r place t w = if is_meant r.source t w then at place (in_place (place == r.refused) w) ∷ [] else []
+
+abbrev pub respelt_first : Reading → (place : ℕ) → List Token → List Trial
+respelt_first r place [] = []
+respelt_first r place (t ∷ ts) = if is_identifier t.kind then flat_map (respelt_as r place t) words else []
+
+-- each word that may be meant at this place, and then at so many places before it
+abbrev pub respelt_back : Reading → (places place : ℕ) → List Trial
+respelt_back r zero place = []
+respelt_back r (suc places) place = respelt_first r place (drop place r.tokens) ++ respelt_back r places (place - 1)
+
+abbrev pub respelt : Reading → List Trial
+respelt r = respelt_back r (min MOST_PLACES (r.refused + 1)) r.refused
+
+-- ---- in which order
+
+unfoldable pub missing : Reading → List Trial
+missing r = map (at r.refused) (map (λ row. change row.0.now row.1 (row.2.0.now, row.2.1.now)) MISSING)
+
+unfoldable pub otherwise : Reading → List Trial
+otherwise r = map (at r.refused) (map (λ row. change row.0.now row.1 (row.2.0.now, row.2.1.now)) OTHERWISE)
+
+abbrev pub perhaps_said : Option Said → Expected
+perhaps_said None = nothing
+perhaps_said (Some said) = perhaps said
+
+-- surely what is found first; where nothing is, perhaps what is found otherwise
+abbrev pub IsToldBehind : Reading → Option Said → Expected → Type 0
+IsToldBehind r (Some said) found = found ≡ surely said
+IsToldBehind r None found = (said : Option Said) × Finds r (otherwise r) said × (found ≡ perhaps_said said)
+
+abbrev pub IsTold : Reading → Expected → Type 0
+IsTold r found = (said : Option Said) × Finds r (respelt r ++ missing r) said × IsToldBehind r said found
+
+-- ---- of a token of a source
+
+abbrev pub has_some : List Token → Bool
+has_some [] = false
+has_some (t ∷ ts) = true
+
+-- a token is refused, and the text in which it is looked at is short enough
+abbrev pub is_read : (before from : List Token) → Bool
+is_read before from = has_some from && nat_le (length before + length from) MOST_TOKENS
+
+abbrev pub IsToldIf : (is_read : Bool) → Reading → Expected → Type 0
+IsToldIf true r found = IsTold r found
+IsToldIf false r found = found ≡ nothing
+
+abbrev pub IsToldOf : (source : List ℕ) → (before from : List Token) → Expected → Type 0
+IsToldOf source before from found =
+    IsToldIf (is_read before from) (record { source = source; tokens = before ++ from; refused = length before }) found
+
+-- this is told of the first token that doesn't start before the byte
+unfoldable pub IsExpected : (source : List ℕ) → List Token → (at : ℕ) → Expected → Type 0
+IsExpected source tokens byte found = IsToldOf source (before byte tokens) (from byte tokens) found

@@ -1,0 +1,19 @@
+//! What was expected at a token with which no file goes on: a reserved word for a word that is nearly the same, what lacks before the token,
+//! what stands in its place, or nothing.
+//!
+//! `specs/Reading.antt` says which tokens are looked at, `specs/Changes.antt` how they are changed and when they then go on, and
+//! `specs/Told.antt` in which order that is tried and what is told. `specs/Near.antt` says which words are nearly the same. The words and
+//! the changes stand in `table`, with what is told of each.
+#![tactic(auto)]
+
+mod change;
+mod near;
+mod reading;
+mod respelling;
+mod table;
+mod telling;
+mod trial;
+
+pub use reading::MOST_TOKENS;
+pub use table::Said;
+pub use telling::{Expected, expected_at};

@@ -1,0 +1,4 @@
+pub mod Walks
+pub mod Order
+pub mod Blanks
+pub mod Uses

@@ -1,0 +1,12 @@
+use Rattle.std.proofs.Common.{◌≡◌, false, length}
+use Rattle.vhdl_lexer.specs.Cut.{AreWithin}
+use Rattle.vhdl_names_further.specs.Known.{is_declared_out}
+use Rattle.vhdl_names_further.proofs.knowing.is_declared_out.Given as goal
+
+-- the tokens that are left decide
+abbrev pub invariant-loop-others : goal.invariant-loop-others
+invariant-loop-others l =
+    (is_declared_out l.source l.left l.name l.declares l.others ≡ is_declared_out l.source l.left l.name false l.tokens) × AreWithin l.source l.others
+
+abbrev pub decreases-loop-others : goal.decreases-loop-others
+decreases-loop-others l = length l.others

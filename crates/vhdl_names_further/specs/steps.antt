@@ -1,0 +1,2 @@
+-- What functions of the code do on their way.
+pub mod Once

@@ -1,0 +1,5 @@
+pub mod Kinds
+pub mod Units
+pub mod Statements
+pub mod Left
+pub mod Refusals

@@ -1,0 +1,97 @@
+-- The statements and declarations of an architecture, as its tokens show them without being read: where those begin in which a token
+-- stands, and where one ends (IEEE 1076-2008, 3.3.2, 10 and 11).
+use Rattle.std.specs.Prelude.{ℕ, ◌+◌, ◌-◌, ◌==◌, ◌&&◌, ◌||◌, not, nat_le, Bool, true, false, if◌then◌else◌, List, [], ◌∷◌}
+use Rattle.vhdl_lexer.specs.Extents.{depth_behind}
+use Rattle.vhdl_lexer.specs.Kinds.{is_end, is_semicolon}
+use Rattle.vhdl_lexer.specs.declared.token.Token.{Token}
+use Rattle.vhdl_lexer.specs.declared.token.TokenKind.{TokenKind}
+use Rattle.vhdl_lexer.specs.declared.token.TokenKind.TheVariants as k
+use Rattle.vhdl_parser_further.specs.Kinds.{closes, is_begin, is_boundary, is_left_paren, is_right_paren, opens}
+use Rattle.vhdl_parser_further.specs.Units.{begins_architecture, begins_entity}
+use Rattle.vhdl_parser_further.specs.declared.place.Place.{Place}
+
+-- how many with an `end` are open behind a token
+abbrev pub open_behind : (opened : ℕ) → (last kind : TokenKind) → ℕ
+open_behind opened last kind = if is_end kind then opened - 1 else (if opens last kind then opened + 1 else opened)
+
+-- ---- where they begin
+
+-- what follows this token stands in the architecture still: its own `end` isn't before
+abbrev pub in_behind : Place → TokenKind → Bool
+in_behind p kind = p.in_architecture && not ((p.opened == 0) && is_end kind)
+
+-- the `begin` of the architecture stands before what follows this token
+abbrev pub begun_behind : Place → TokenKind → Bool
+begun_behind p kind = p.begun || (p.opened == 0) && is_begin kind
+
+-- one begins behind this token: outside of parentheses and of the heads of processes
+abbrev pub begins_behind : Place → TokenKind → Bool
+begins_behind p kind = (depth_behind p.depth p.last kind == 0) && is_boundary p.last kind
+
+-- and nothing with an `end` is open there
+abbrev pub outer_behind : Place → TokenKind → Bool
+outer_behind p kind = (open_behind p.opened p.last kind == 0) && begins_behind p kind
+
+-- behind one token more of a unit
+abbrev pub step : Place → TokenKind → Place
+step p kind = record {
+  read = p.read + 1;
+  in_architecture = in_behind p kind;
+  begun = begun_behind p kind;
+  depth = depth_behind p.depth p.last kind;
+  opened = open_behind p.opened p.last kind;
+  last = kind;
+  outermost = if outer_behind p kind then p.read + 1 else p.outermost;
+  innermost = if begins_behind p kind then p.read + 1 else p.innermost;
+}
+
+-- Behind the first token of a unit, of which so many stand before. What stands in an architecture begins behind the five tokens of its head.
+abbrev pub first : (is_architecture : Bool) → (read : ℕ) → TokenKind → Place
+first is_architecture read kind = record {
+  read = read + 1;
+  in_architecture = is_architecture;
+  begun = false;
+  depth = 0;
+  opened = 0;
+  last = kind;
+  outermost = read + 5;
+  innermost = read + 5;
+}
+
+-- behind the token of this kind with which these begin
+abbrev pub behind : Place → TokenKind → List Token → Place
+behind p kind ts = if begins_architecture ts then first true p.read kind else (if begins_entity ts then first false p.read kind else step p kind)
+
+-- the place of the first token that starts at the byte or behind it
+abbrev pub place_from : (at : ℕ) → Place → List Token → Place
+place_from at p [] = p
+place_from at p (t ∷ ts) = if nat_le at t.start then p else place_from at (behind p t.kind (t ∷ ts)) ts
+
+-- before all tokens
+abbrev pub start : Place
+start = record { read = 0; in_architecture = false; begun = false; depth = 0; opened = 0; last = k.Semicolon; outermost = 0; innermost = 0 }
+
+unfoldable pub place_of : (at : ℕ) → List Token → Place
+place_of at ts = place_from at start ts
+
+-- ---- where one ends
+
+-- how many parentheses are open behind a token
+abbrev pub parens_behind : (parens : ℕ) → TokenKind → ℕ
+parens_behind parens kind = if is_left_paren kind then parens + 1 else (if is_right_paren kind then parens - 1 else parens)
+
+-- where so much with an `end` and so many parentheses are open, one ends with this token: a `;` outside of all that
+abbrev pub ends_behind : (opened parens : ℕ) → TokenKind → Bool
+ends_behind opened parens kind = (opened == 0) && (parens == 0) && is_semicolon kind
+
+-- or in front of it, whatever parentheses are open: an `end` or `begin` that isn't its own
+abbrev pub ends_before : (opened : ℕ) → TokenKind → Bool
+ends_before opened kind = (opened == 0) && closes kind
+
+-- what stands behind the statement or declaration with which these tokens begin, where so much is open
+abbrev pub behind_statement : (opened parens : ℕ) → (last : TokenKind) → List Token → List Token
+behind_statement opened parens last [] = []
+behind_statement opened parens last (t ∷ ts) =
+    if ends_behind opened parens t.kind then ts
+    else (if ends_before opened t.kind then t ∷ ts
+    else behind_statement (open_behind opened last t.kind) (parens_behind parens t.kind) t.kind ts)
