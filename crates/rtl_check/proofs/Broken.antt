@@ -16,12 +16,12 @@ use Rattle.rtl_net.specs.declared.process.Driver.{Driver}
 use Rattle.rtl_net.specs.declared.process.Process.{Process}
 use Rattle.rtl_net.specs.Nets.{NetlistView, driver_view, process_view, body_of}
 use Rattle.rtl_net.specs.Elaborated.{ReadsOfBody}
-use Rattle.rtl_net_facts.specs.declared.kinds.Clocking.{Clocking}
-use Rattle.rtl_net_facts.specs.declared.kinds.ProcessKind.{ProcessKind}
-use Rattle.rtl_net_facts.specs.declared.kinds.ProcessKind.TheVariants as k
-use Rattle.rtl_net_facts.specs.Reading.{is_in}
-use Rattle.rtl_net_facts.specs.Paths.{driven, to_net}
-use Rattle.rtl_net_facts.proofs.Members.{same_members}
+use Rattle.rtl_body_facts.specs.declared.kinds.Clocking.{Clocking}
+use Rattle.rtl_body_facts.specs.declared.kinds.ProcessKind.{ProcessKind}
+use Rattle.rtl_body_facts.specs.declared.kinds.ProcessKind.TheVariants as k
+use Rattle.rtl_body_facts.specs.Reading.{is_in}
+use Rattle.rtl_body_facts.specs.Paths.{driven, to_net}
+use Rattle.rtl_body_facts.proofs.Members.{same_members}
 use Rattle.rtl_check.specs.declared.rule.Rule.{Rule}
 use Rattle.rtl_check.specs.declared.rule.Rule.TheVariants.{ClockNotInput, EdgeNotSensitive, ClockAsData, MissingSensitivity, Latch}
 use Rattle.rtl_net.specs.Core.{core}

@@ -8,9 +8,9 @@ use Rattle.rtl_model.specs.simulation.Netlist as m
 use Rattle.rtl_model.specs.simulation.Netlist.{Netlist, Edge, Reset, process}
 use Rattle.rtl_model.specs.simulation.Accepted.{IsClock, IsClockOf}
 use Rattle.rtl_model.proofs.basics.Lists.{any_at, any_true}
-use Rattle.rtl_net_facts.specs.declared.kinds.ProcessKind.{ProcessKind}
-use Rattle.rtl_net_facts.specs.declared.kinds.ProcessKind.TheVariants as k
-use Rattle.rtl_net_facts.specs.Reading.{is_in}
+use Rattle.rtl_body_facts.specs.declared.kinds.ProcessKind.{ProcessKind}
+use Rattle.rtl_body_facts.specs.declared.kinds.ProcessKind.TheVariants as k
+use Rattle.rtl_body_facts.specs.Reading.{is_in}
 use Rattle.rtl_check.specs.Views.{IsKind, AreKinds}
 use Rattle.rtl_check.specs.Rules.{has_clock, AreClockNets}
 use Rattle.rtl_check.proofs.Processes.{clock_there}

@@ -11,9 +11,9 @@ use Rattle.rtl_model.specs.simulation.Netlist as m
 use Rattle.rtl_model.specs.simulation.Netlist.{Netlist, Edge, IsClockedBy, process}
 use Rattle.rtl_model.specs.simulation.Report.{edge_number, clock_key, AreClocks}
 use Rattle.rtl_model.proofs.basics.Lists.{any_at, any_true, in_contains, Contains-none, Contains-one}
-use Rattle.rtl_net_facts.specs.declared.kinds.ProcessKind.{ProcessKind}
-use Rattle.rtl_net_facts.specs.declared.kinds.ProcessKind.TheVariants as k
-use Rattle.rtl_net_facts.specs.Reading.{is_in}
+use Rattle.rtl_body_facts.specs.declared.kinds.ProcessKind.{ProcessKind}
+use Rattle.rtl_body_facts.specs.declared.kinds.ProcessKind.TheVariants as k
+use Rattle.rtl_body_facts.specs.Reading.{is_in}
 use Rattle.rtl_check.specs.Views.{IsKind, AreKinds}
 use Rattle.rtl_check.specs.Rules.{AreClockNets}
 use Rattle.rtl_check.specs.ClockEdges.{tests, AreEdgeNets, pair_if, tested_at, edges_at, pairs_of}

@@ -4,8 +4,8 @@ use Rattle.std.specs.Prelude.{IfOk}
 use Rattle.std.specs.List.{filter}
 use Rattle.std.specs.List.Sorted.{IsStrictlyIncreasing}
 use Rattle.std.proofs.lemmas.List.Kept.{IsStrictlyIncreasing-filter}
-use Rattle.rtl_net_facts.specs.Reading.{is_in}
-use Rattle.rtl_net_facts.proofs.EveryPath.{in_filter}
+use Rattle.rtl_body_facts.specs.Reading.{is_in}
+use Rattle.rtl_body_facts.proofs.EveryPath.{in_filter}
 
 pub if_ok : {T E : Type 0} (P Q : T → Type 0) (r : Result T E) → ((v : T) → P v → Q v) → IfOk r P → IfOk r Q
 if_ok P Q (Ok v) on h = on v h

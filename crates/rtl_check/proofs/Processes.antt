@@ -17,13 +17,13 @@ use Rattle.rtl_model.specs.simulation.Accepted.{Fault, IsFault, IsClockOf, IsRes
 use Rattle.rtl_model.specs.simulation.Faults.{fault_number}
 use Rattle.rtl_model.proofs.basics.Lists.{get_or-map_within}
 use Rattle.rtl_model.proofs.bodies.Clocking.{clocked_is, resets_read_nothing}
-use Rattle.rtl_net_facts.proofs.Members.{in_append}
+use Rattle.rtl_body_facts.proofs.Members.{in_append}
 use Rattle.rtl_net.specs.declared.process.Process.{Process}
 use Rattle.rtl_net.specs.Nets.{NetlistView, process_view, body_of}
-use Rattle.rtl_net_facts.specs.declared.kinds.ProcessKind as c
-use Rattle.rtl_net_facts.specs.declared.kinds.ProcessKind.TheVariants as ck
-use Rattle.rtl_net_facts.specs.Reading.{is_in}
-use Rattle.rtl_net_facts.specs.Timing.{part_net, kind_view}
+use Rattle.rtl_body_facts.specs.declared.kinds.ProcessKind as c
+use Rattle.rtl_body_facts.specs.declared.kinds.ProcessKind.TheVariants as ck
+use Rattle.rtl_body_facts.specs.Reading.{is_in}
+use Rattle.rtl_body_facts.specs.Timing.{part_net, kind_view}
 use Rattle.rtl_net.specs.Core.{core}
 use Rattle.rtl_check.specs.Views.{reset_net, IsKind, AreKinds}
 use Rattle.rtl_check.specs.Listing.{first_named}

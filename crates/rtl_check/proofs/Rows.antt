@@ -16,9 +16,9 @@ use Rattle.rtl_net.specs.Nets.{NetlistView, flat, process_view}
 use Rattle.rtl_net.specs.Elaborated.{IsNet}
 use Rattle.rtl_check_levels.specs.Feeding as t
 use Rattle.rtl_check_levels.specs.OfNets.{IsTableOf}
-use Rattle.rtl_net_facts.specs.declared.kinds.ProcessKind.{ProcessKind}
-use Rattle.rtl_net_facts.specs.declared.kinds.ProcessKind.TheVariants as k
-use Rattle.rtl_net_facts.specs.Reading.{is_in}
+use Rattle.rtl_body_facts.specs.declared.kinds.ProcessKind.{ProcessKind}
+use Rattle.rtl_body_facts.specs.declared.kinds.ProcessKind.TheVariants as k
+use Rattle.rtl_body_facts.specs.Reading.{is_in}
 use Rattle.rtl_net.specs.Core.{core}
 use Rattle.rtl_check.specs.Views.{IsKind, AreKinds}
 use Rattle.rtl_check.specs.Feeders.{combinational_kind, combinational_at, feeds_by, IsRow}

@@ -4,8 +4,8 @@ use Rattle.std.specs.Option.{is_some}
 use Rattle.std.specs.List.{list_any}
 use Rattle.rtl_model.specs.simulation.Netlist.{Netlist, Process, kind_reset, sources_of}
 use Rattle.rtl_model.specs.simulation.Levels.{is_driver}
-use Rattle.rtl_net_facts.specs.declared.kinds.ProcessKind.{ProcessKind}
-use Rattle.rtl_net_facts.specs.declared.kinds.ProcessKind.TheVariants as k
+use Rattle.rtl_body_facts.specs.declared.kinds.ProcessKind.{ProcessKind}
+use Rattle.rtl_body_facts.specs.declared.kinds.ProcessKind.TheVariants as k
 
 abbrev pub is_driven : Netlist → (n : ℕ) → Bool
 is_driven net n = list_any is_driver (sources_of net n)

@@ -4,9 +4,9 @@ use Rattle.std.specs.List.Sorted.{IsStrictlyIncreasing}
 use Rattle.rtl_model.specs.simulation.Netlist as m
 use Rattle.rtl_model.specs.simulation.Netlist.{Netlist, Edge, IsClockedBy}
 use Rattle.rtl_model.specs.simulation.Report.{edge_number}
-use Rattle.rtl_net_facts.specs.declared.kinds.ProcessKind.{ProcessKind}
-use Rattle.rtl_net_facts.specs.declared.kinds.ProcessKind.TheVariants as k
-use Rattle.rtl_net_facts.specs.Reading.{is_in}
+use Rattle.rtl_body_facts.specs.declared.kinds.ProcessKind.{ProcessKind}
+use Rattle.rtl_body_facts.specs.declared.kinds.ProcessKind.TheVariants as k
+use Rattle.rtl_body_facts.specs.Reading.{is_in}
 use Rattle.rtl_check.specs.declared.clock_edges.EdgeNets.{EdgeNets}
 
 -- a process of this kind is clocked by this edge of the net

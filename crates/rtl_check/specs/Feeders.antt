@@ -3,8 +3,8 @@ use Rattle.std.specs.Prelude.{◌↔◌, ℕ, Bool, true, false, ◌&&◌, ◌==
 use Rattle.std.specs.Global.{Vec}
 use Rattle.rtl_model.specs.simulation.Netlist.{Netlist, Source, Driver, Idle, IsCombinational}
 use Rattle.rtl_model.specs.simulation.Accepted.{Feeds}
-use Rattle.rtl_net_facts.specs.declared.kinds.ProcessKind.{ProcessKind}
-use Rattle.rtl_net_facts.specs.declared.kinds.ProcessKind.TheVariants as k
+use Rattle.rtl_body_facts.specs.declared.kinds.ProcessKind.{ProcessKind}
+use Rattle.rtl_body_facts.specs.declared.kinds.ProcessKind.TheVariants as k
 
 abbrev pub combinational_kind : ProcessKind → Bool
 combinational_kind k.Combinational = true

@@ -7,11 +7,11 @@ use Rattle.rtl_model.specs.bodies.Assigns.{must_assign}
 use Rattle.rtl_model.specs.simulation.Accepted as f
 use Rattle.rtl_net.specs.declared.process.Process.{Process}
 use Rattle.rtl_net.specs.Nets.{body_of}
-use Rattle.rtl_net_facts.specs.declared.kinds.Clocking.{Clocking}
-use Rattle.rtl_net_facts.specs.declared.kinds.ProcessKind.{ProcessKind}
-use Rattle.rtl_net_facts.specs.declared.kinds.ProcessKind.TheVariants as k
-use Rattle.rtl_net_facts.specs.Reading.{is_in}
-use Rattle.rtl_net_facts.specs.Paths.{driven, to_net}
+use Rattle.rtl_body_facts.specs.declared.kinds.Clocking.{Clocking}
+use Rattle.rtl_body_facts.specs.declared.kinds.ProcessKind.{ProcessKind}
+use Rattle.rtl_body_facts.specs.declared.kinds.ProcessKind.TheVariants as k
+use Rattle.rtl_body_facts.specs.Reading.{is_in}
+use Rattle.rtl_body_facts.specs.Paths.{driven, to_net}
 use Rattle.rtl_check.specs.declared.fault.CheckFault.{CheckFault}
 use Rattle.rtl_check.specs.Views.{nets_tested, fault_view}
 use Rattle.rtl_check.specs.declared.rule.Rule.{Rule}

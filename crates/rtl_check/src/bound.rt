@@ -9,8 +9,8 @@ ghost use Rattle.rtl_check.specs.Views.{AreKinds};
 ghost use Rattle.rtl_check.specs.Rules.{AreClockNets};
 ghost use Rattle.rtl_check.specs.Bounds as b;
 
+use rtl_body_facts::ProcessKind;
 use rtl_net::{Net, Source};
-use rtl_net_facts::ProcessKind;
 
 /// Whether a source is a driver.
 fn is_driver(source: Source) -> bool

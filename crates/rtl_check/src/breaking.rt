@@ -5,14 +5,14 @@ ghost use Rattle.std.specs.List.{filter};
 ghost use Rattle.std.specs.List.Sorted.{IsStrictlyIncreasing};
 ghost use Rattle.rtl_model.specs.bodies.Assigns.{must_assign};
 ghost use Rattle.rtl_net.specs.Nets.{body_of};
-ghost use Rattle.rtl_net_facts.specs.Reading.{is_in};
-ghost use Rattle.rtl_net_facts.specs.Paths.{driven, to_net};
+ghost use Rattle.rtl_body_facts.specs.Reading.{is_in};
+ghost use Rattle.rtl_body_facts.specs.Paths.{driven, to_net};
 ghost use Rattle.rtl_check.specs.Views.{nets_tested};
 ghost use Rattle.rtl_check.specs.Rules.{is_data, clocked_breaks, combinational_breaks, breaks};
 
 use crate::rule::Rule;
+use rtl_body_facts::{Clocking, ProcessKind, assigned_nets, contains_rising, sort_once};
 use rtl_net::{Driver, NoMemory, Process};
-use rtl_net_facts::{Clocking, ProcessKind, assigned_nets, contains_rising, sort_once};
 use std::alloc::Global;
 
 /// Those of some nets that aren't among others.

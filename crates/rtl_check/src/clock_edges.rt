@@ -3,14 +3,14 @@
 ghost use Rattle.std.specs.Prelude.{◌≡◌, ◌||◌, ◌++◌, ℕ, IfOk, OnOk};
 ghost use Rattle.std.specs.List.Sorted.{IsStrictlyIncreasing};
 ghost use Rattle.rtl_model.specs.simulation.Report as m;
-ghost use Rattle.rtl_net_facts.specs.Reading.{is_in};
+ghost use Rattle.rtl_body_facts.specs.Reading.{is_in};
 ghost use Rattle.rtl_net.specs.Core.{core};
 ghost use Rattle.rtl_check.specs.Views.{AreKinds};
 ghost use Rattle.rtl_check.specs.Rules.{AreClockNets};
 ghost use Rattle.rtl_check.specs.ClockEdges.{tests, pair_if, edges_at, nets_by, AreEdgeNets, AreAllEdgeNets};
 
+use rtl_body_facts::{ProcessKind, contains_rising, sort_once};
 use rtl_net::{Net, NoMemory};
-use rtl_net_facts::{ProcessKind, contains_rising, sort_once};
 use std::alloc::Global;
 use vhdl_values::Edge;
 

@@ -1,13 +1,13 @@
 //! The clocks of a netlist.
 
 ghost use Rattle.std.specs.Prelude.{◌≡◌, ◌||◌, ℕ, IfOk, OnOk};
-ghost use Rattle.rtl_net_facts.specs.Reading.{is_in};
+ghost use Rattle.rtl_body_facts.specs.Reading.{is_in};
 ghost use Rattle.rtl_net.specs.Core.{core};
 ghost use Rattle.rtl_check.specs.Views.{AreKinds};
 ghost use Rattle.rtl_check.specs.Rules.{AreClockNets, has_clock};
 
+use rtl_body_facts::{ProcessKind, sort_once};
 use rtl_net::{Net, NoMemory};
-use rtl_net_facts::{ProcessKind, sort_once};
 use std::alloc::Global;
 
 /// Appends the clock of a process of this kind, if it has one.

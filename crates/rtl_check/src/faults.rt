@@ -11,8 +11,8 @@ use crate::listing::{mixed, two_drivers};
 use crate::rule::Rule;
 use crate::rules::by_rule;
 use crate::variables::stored_variables;
+use rtl_body_facts::ProcessKind;
 use rtl_net::{Net, NoMemory};
-use rtl_net_facts::ProcessKind;
 use std::alloc::Global;
 
 /// All faults of a netlist but loops, in order.

@@ -5,13 +5,13 @@ ghost use Rattle.std.specs.List.{list_any};
 ghost use Rattle.rtl_model.specs.nets.FlatNetlist.{flat_sources};
 ghost use Rattle.rtl_net.specs.Nets.{flat, source_view};
 ghost use Rattle.rtl_check_levels.specs.OfNets.{IsTableOf};
-ghost use Rattle.rtl_net_facts.specs.Reading.{is_in};
+ghost use Rattle.rtl_body_facts.specs.Reading.{is_in};
 ghost use Rattle.rtl_net.specs.Core.{core};
 ghost use Rattle.rtl_check.specs.Views.{AreKinds};
 ghost use Rattle.rtl_check.specs.Feeders.{combinational_at, feeds_by, IsRow};
 
+use rtl_body_facts::ProcessKind;
 use rtl_net::{Net, NoMemory, Source, nets_meet_the_laws};
-use rtl_net_facts::ProcessKind;
 use std::alloc::Global;
 
 /// Whether there is a process of this number that is combinational.

@@ -9,9 +9,9 @@ ghost use Rattle.rtl_check.specs.Judging.{IsJudged, JudgesLoopsOnce};
 use crate::fault::CheckFault;
 use crate::faults::faults_of;
 use crate::graph::table_of;
+use rtl_body_facts::ProcessKind;
 use rtl_check_levels::{LevelOrder, Levels, order_of, tables_are_of_nets};
 use rtl_net::{Net, NoMemory};
-use rtl_net_facts::ProcessKind;
 use std::alloc::Global;
 
 /// What the rules find of a netlist.

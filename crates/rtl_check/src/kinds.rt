@@ -5,8 +5,8 @@ ghost use Rattle.rtl_model.specs.simulation.Netlist as m;
 ghost use Rattle.rtl_net.specs.Core.{core};
 ghost use Rattle.rtl_check.specs.Views.{AreKinds, IsKind};
 
+use rtl_body_facts::{ProcessKind, kind_of};
 use rtl_net::{Net, NoMemory};
-use rtl_net_facts::{ProcessKind, kind_of};
 use std::alloc::Global;
 
 /// The kind of each process.

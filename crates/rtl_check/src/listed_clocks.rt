@@ -11,8 +11,8 @@ ghost use Rattle.rtl_check.specs.ListedClocks as s;
 
 use crate::clock_edges::edge_number;
 use crate::kinds::kind_at;
+use rtl_body_facts::ProcessKind;
 use rtl_net::Net;
-use rtl_net_facts::ProcessKind;
 use vhdl_values::Edge;
 
 /// Whether a pair is this net and edge.

@@ -6,8 +6,8 @@ ghost use Rattle.rtl_check.specs.Views.{AreKinds};
 ghost use Rattle.rtl_check.specs.Listing.{is_of_number, one_place, AddsFaults};
 
 use crate::fault::CheckFault;
+use rtl_body_facts::ProcessKind;
 use rtl_net::{Net, NoMemory};
-use rtl_net_facts::ProcessKind;
 
 /// Appends the fault of a net that has two sources or more.
 fn two_drivers_at(net: &Net, number: usize, faults: &mut Vec<CheckFault>) -> Result<(), NoMemory>

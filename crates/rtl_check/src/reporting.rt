@@ -10,10 +10,10 @@ ghost use Rattle.rtl_check.specs.Verdicts.{IsReportOf};
 
 use crate::bound::bound_of;
 use crate::clock_edges::clock_edges;
+use rtl_body_facts::ProcessKind;
 use rtl_check_levels::{Levels, tables_are_of_nets};
 use rtl_model::simulation_laws;
 use rtl_net::{Net, NoMemory};
-use rtl_net_facts::ProcessKind;
 use std::alloc::Global;
 use vhdl_values::Edge;
 

@@ -9,8 +9,8 @@ ghost use Rattle.rtl_check.specs.Rules.{rule_number, Pushes, AreClockNets};
 use crate::breaking::breaking_nets;
 use crate::fault::CheckFault;
 use crate::rule::Rule;
+use rtl_body_facts::ProcessKind;
 use rtl_net::{Net, NoMemory};
-use rtl_net_facts::ProcessKind;
 use std::alloc::Global;
 
 /// Appends the faults of a process and these nets.

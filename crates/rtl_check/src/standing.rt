@@ -8,8 +8,8 @@ ghost use Rattle.rtl_check.specs.Views.{IsKind};
 ghost use Rattle.rtl_check.specs.Standing as s;
 
 use crate::kinds::kind_at;
+use rtl_body_facts::ProcessKind;
 use rtl_net::{Net, Source, nets_meet_the_laws};
-use rtl_net_facts::ProcessKind;
 
 /// The greatest level of some processes, and the lowest that has it; 0 and none where none has a level.
 #[derive(Clone, Copy)]

@@ -2,7 +2,7 @@
 use Rattle.std.proofs.Common.{◌≡◌, ℕ, ◌+◌, ◌-◌, ◌<◌, ◌≤◌, Bool, true, false, List, [], length, get_or, set, refl, sym, ap, subst, ◌∙◌, arith, ◌⊎◌, inl, inr, Contains}
 use Rattle.std.proofs.lemmas.Bool.{cases_eq, cases_lt}
 use Rattle.std.proofs.lemmas.List.{get_or-set_same, get_or-set_other}
-use Rattle.rtl_net_layout.specs.Groups.{Grouping}
+use Rattle.rtl_net_groups.specs.Groups.{Grouping}
 use Rattle.rtl_model.specs.nets.FlatNetlist.{FlatNetlist}
 use Rattle.rtl_net.specs.declared.process.Process.{Process}
 use Rattle.rtl_kernel.specs.drivers.Brought.{IsAlone, MarkAlone, BringsRun, at_once, later, no_new_value, IsDriver, IsBrought, is_noted, has_kept, has_value, IsBroughtByAll, all_noted, all_kept, all_value, Brings, BringsAll}

@@ -11,12 +11,12 @@ use Rattle.rtl_model.proofs.nets.Connected.{connected_is_elaborated}
 use Rattle.rtl_model.proofs.nets.Sources.{sources-core_net}
 use Rattle.rtl_model.proofs.simulation.Order.{waits_in}
 use Rattle.vhdl_values.specs.declared.scalar.Nine.{Nine}
-use Rattle.rtl_awaited.specs.declared.awaited.ClockEdge.{ClockEdge}
-use Rattle.rtl_awaited.specs.Awaiting.{IsAsleep}
-use Rattle.rtl_awaited.proofs.Following.{first_there, follower_left}
+use Rattle.rtl_awaited_edges.specs.declared.awaited.ClockEdge.{ClockEdge}
+use Rattle.rtl_awaited_edges.specs.Awaiting.{IsAsleep}
+use Rattle.rtl_awaited_edges.proofs.Following.{first_there, follower_left}
 use Rattle.rtl_eval.specs.Runs.{IsOf}
-use Rattle.rtl_net_layout.specs.Cuts.{Cutting, AreCutsOf}
-use Rattle.rtl_net_layout.specs.Groups.{Grouping}
+use Rattle.rtl_net_groups.specs.Cuts.{Cutting, AreCutsOf}
+use Rattle.rtl_net_groups.specs.Groups.{Grouping}
 use Rattle.rtl_net.specs.Nets.{NetlistView, flat}
 use Rattle.rtl_net.specs.declared.process.Process.{Process}
 use Rattle.rtl_kernel.specs.drivers.Resolved.{AreResolved}

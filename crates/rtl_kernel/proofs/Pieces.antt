@@ -1,7 +1,7 @@
 -- Pieces of cuts.
 use Rattle.std.proofs.Common.{◌≡◌, ℕ, ◌+◌, ◌-◌, ◌<◌, ◌≤◌, min, List, length, get_or, sym, ap, ◌∙◌, arith}
-use Rattle.rtl_net_layout.specs.declared.cuts.Cut.{Cut}
-use Rattle.rtl_net_layout.specs.Cuts.{AreCuts, IsCut, HasPlace, no_cut}
+use Rattle.rtl_net_groups.specs.declared.cuts.Cut.{Cut}
+use Rattle.rtl_net_groups.specs.Cuts.{AreCuts, IsCut, HasPlace, no_cut}
 
 -- so many places of a cut from `first` on
 module _ (of_net targets : List ℕ) (cut : Cut) (C : IsCut of_net targets cut) (first len : ℕ) (from : cut.place ≤ first) (to : first + len ≤ cut.place + cut.len) where

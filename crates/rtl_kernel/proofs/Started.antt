@@ -16,10 +16,10 @@ use Rattle.rtl_model.specs.simulation.Laws.{IsConsistent}
 use Rattle.rtl_model.specs.simulation.Range.{AreInputs, StateInRange}
 use Rattle.rtl_model.proofs.basics.Lists.{contains_in, in_contains, get_or-map_within}
 use Rattle.rtl_model.proofs.nets.InRange.{keeps_range, limit-at}
-use Rattle.rtl_awaited.specs.declared.awaited.ClockEdge.{ClockEdge}
-use Rattle.rtl_awaited.specs.Awaiting.{AreFollowers}
+use Rattle.rtl_awaited_edges.specs.declared.awaited.ClockEdge.{ClockEdge}
+use Rattle.rtl_awaited_edges.specs.Awaiting.{AreFollowers}
 use Rattle.rtl_eval.specs.Runs.{Outcome}
-use Rattle.rtl_net_layout.specs.Cuts.{Cutting, AreCutsOf}
+use Rattle.rtl_net_groups.specs.Cuts.{Cutting, AreCutsOf}
 use Rattle.rtl_net.specs.Core.{core}
 use Rattle.rtl_net.specs.Nets.{NetlistView, flat, driver_view, process_view}
 use Rattle.rtl_net.specs.declared.process.Driver as r

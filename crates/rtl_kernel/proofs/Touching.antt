@@ -2,8 +2,8 @@
 use Rattle.std.proofs.Common.{◌≡◌, ℕ, ◌+◌, ◌<◌, ◌≤◌, List, length, get_or, refl, sym, ap, subst, ◌∙◌, arith, ◌⊎◌, inl, inr}
 use Rattle.std.proofs.lemmas.Bool.{cases_eq, cases_lt}
 use Rattle.std.proofs.lemmas.List.{get_or_default, get_or_past}
-use Rattle.rtl_net_layout.specs.Groups.{AreNetsOf, Grouping}
-use Rattle.rtl_net_layout.specs.Touching.{Chunks, IsLeft, MarksRun, Touches}
+use Rattle.rtl_net_groups.specs.Groups.{AreNetsOf, Grouping}
+use Rattle.rtl_net_groups.specs.Touching.{Chunks, IsLeft, MarksRun, Touches}
 use Rattle.rtl_model.proofs.simulation.Rows.{differs_event}
 use Rattle.rtl_kernel.specs.values.TwoValues.{TwoValues, CoverEvents}
 

@@ -6,7 +6,7 @@ use Rattle.std.proofs.Math.Seq.{get_or-append_seam}
 use Rattle.std.proofs.lemmas.List.Elements.{Contains-push, Contains-append_left, Contains-push_cases}
 use Rattle.rtl_model.specs.basics.Valuations.{has_event}
 use Rattle.rtl_model.proofs.basics.Lists.{Contains-none}
-use Rattle.rtl_net_layout.specs.Groups.{Grouping}
+use Rattle.rtl_net_groups.specs.Groups.{Grouping}
 use Rattle.rtl_kernel.specs.values.TwoValues.{CoverEvents}
 use Rattle.rtl_kernel.specs.wakes.Woken.{AddsPlaces, AreDifferent, AreWoken, AreWokenBy, wakers_of}
 use Rattle.rtl_kernel.proofs.Grouped.{wakers_at}

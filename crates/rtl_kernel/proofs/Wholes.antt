@@ -8,8 +8,8 @@ use Rattle.rtl_eval.specs.Spans.{places_of}
 use Rattle.rtl_eval.specs.Tracked.{AreAssigned, LieWithin}
 use Rattle.rtl_eval.proofs.Places.{place_assigned}
 use Rattle.rtl_model.specs.nets.FlatNetlist.{FlatNetlist}
-use Rattle.rtl_net_layout.specs.declared.cuts.Cut.{Cut}
-use Rattle.rtl_net_layout.specs.Cuts as cutting
+use Rattle.rtl_net_groups.specs.declared.cuts.Cut.{Cut}
+use Rattle.rtl_net_groups.specs.Cuts as cutting
 use Rattle.rtl_net.specs.declared.process.Process.{Process}
 use Rattle.rtl_kernel.specs.values.TwoValues.{TwoValues, IsWritten, group_of}
 use Rattle.rtl_kernel.specs.worklists.Numbers.{Numbers}

@@ -2,11 +2,11 @@
 
 ghost use Rattle.std.specs.Prelude.{◌≡◌, ◌<◌, All, length, IfOk};
 ghost use Rattle.rtl_kernel.specs.drivers.Transactions.{all_targets, nets_of};
-ghost use Rattle.rtl_net_layout.specs.Cuts.{AreCutsOf};
+ghost use Rattle.rtl_net_groups.specs.Cuts.{AreCutsOf};
 ghost use Rattle.rtl_net.specs.declared.process.Process.{Process};
 
 use rtl_net::{Driver, Process};
-use rtl_net_layout::{Cuts, Lists};
+use rtl_net_groups::{Cuts, Lists};
 use std::alloc::{AllocError, Global};
 
 /// The cuts of the drivers of these processes, whose nets are in these groups.

@@ -16,7 +16,7 @@ ghost use Rattle.rtl_kernel.specs.drivers.Transactions.{IsActive, HasRunOf, all_
 ghost use Rattle.rtl_kernel.specs.drivers.Brought.{MarkAlone, BringsRun, Brings, BringsAll};
 ghost use Rattle.rtl_kernel.specs.drivers.Updates.{TakesEntries, IsTaken};
 ghost use Rattle.rtl_kernel.specs.values.TwoValues.{IsWritten, group_of};
-ghost use Rattle.rtl_net_layout.specs.Cuts.{AreCuts, AreCutsOf};
+ghost use Rattle.rtl_net_groups.specs.Cuts.{AreCuts, AreCutsOf};
 
 use crate::slices::replace;
 use crate::starts::{start_values, variable_starts};
@@ -24,7 +24,7 @@ use crate::values::Values;
 use crate::worklist::Worklist;
 use rtl_eval::{Drives, Exec, Span};
 use rtl_net::{Driver, Net, Process};
-use rtl_net_layout::{Cut, Cuts};
+use rtl_net_groups::{Cut, Cuts};
 use std::alloc::{AllocError, Global};
 use std::marker::Model;
 

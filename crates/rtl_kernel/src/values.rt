@@ -1,7 +1,7 @@
 //! The values of the nets.
 
 ghost use Rattle.std.specs.Prelude.{◌≡◌, ◌+◌, ◌<◌, ◌≤◌, ℕ, true, false, length, slice_index, slice_set, All, IfOk};
-ghost use Rattle.rtl_net_layout.specs.Groups.{AreRuns};
+ghost use Rattle.rtl_net_groups.specs.Groups.{AreRuns};
 ghost use Rattle.rtl_model.specs.basics.Valuations.{has_event};
 ghost use Rattle.rtl_kernel.specs.kernel.Simulation.{changes_of, each_given};
 ghost use Rattle.rtl_kernel.specs.values.TwoValues.{AreChanged, CoverEvents, HasEventIn, HasWritten, group_of};
@@ -9,7 +9,7 @@ ghost use Rattle.rtl_kernel.specs.values.TwoValues.{AreChanged, CoverEvents, Has
 use crate::comparing::are_other;
 use crate::slices::replace;
 use crate::worklist::Worklist;
-use rtl_net_layout::Groups;
+use rtl_net_groups::Groups;
 use std::alloc::{AllocError, Global};
 use std::marker::Model;
 use vhdl_values::Nine;

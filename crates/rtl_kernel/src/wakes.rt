@@ -3,12 +3,12 @@
 ghost use Rattle.std.specs.Prelude.{◌≡◌, ◌↔◌, ◌%◌, true, length, map, IfOk};
 ghost use Rattle.rtl_kernel.specs.drivers.Brought.{AreAloneAlike, AreToldApart, MarkAlone};
 ghost use Rattle.rtl_kernel.specs.wakes.Woken.{IsIndex, wakers_of};
-ghost use Rattle.rtl_net_layout.specs.Groups.{AreRuns};
+ghost use Rattle.rtl_net_groups.specs.Groups.{AreRuns};
 ghost use Rattle.rtl_net.specs.Nets.{flat};
 ghost use Rattle.rtl_net.specs.declared.process.Process.{Process};
 
 use rtl_net::{Net, Process, Signal};
-use rtl_net_layout::{Groups, Lists};
+use rtl_net_groups::{Groups, Lists};
 use std::alloc::{AllocError, Global};
 
 /// A netlist's nets in groups that the same processes wake on, and that have one source each, or none of them just

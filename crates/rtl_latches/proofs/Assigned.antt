@@ -11,8 +11,8 @@ use Rattle.rtl_net.specs.declared.body.Alternative.{Alternative}
 use Rattle.rtl_net.specs.Indices.{numbers}
 use Rattle.rtl_net.specs.Bodies.{statement_view, statements_of, branches_of, alternatives_of}
 use Rattle.rtl_net.proofs.Rows.{view_if, view_case}
-use Rattle.rtl_net_facts.specs.Paths.{to_net}
-use Rattle.rtl_net_facts.proofs.Anys.{or_assoc, or_none}
+use Rattle.rtl_body_facts.specs.Paths.{to_net}
+use Rattle.rtl_body_facts.proofs.Anys.{or_assoc, or_none}
 use Rattle.rtl_net.specs.declared.process.Driver.{Driver}
 use Rattle.rtl_latches.specs.Assigning.{stmt_assigns, stmts_assign, branches_assign, alternatives_assign, branch_assigns, alternative_assigns}
 

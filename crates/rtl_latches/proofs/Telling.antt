@@ -7,9 +7,9 @@ use Rattle.std.proofs.lemmas.Bool.{cases_eq, eq-eqb, ne_eqb}
 use Rattle.std.specs.List.Sorted.{IsStrictlyIncreasing}
 use Rattle.std.proofs.lemmas.List.{take_more}
 use Rattle.std.proofs.lemmas.List.Elements.{All-same, All-push}
-use Rattle.rtl_net_facts.specs.Reading.{is_in}
-use Rattle.rtl_net_facts.proofs.Anys.{or_assoc, or_none, and_not}
-use Rattle.rtl_net_facts.proofs.Members.{in_append}
+use Rattle.rtl_body_facts.specs.Reading.{is_in}
+use Rattle.rtl_body_facts.proofs.Anys.{or_assoc, or_none, and_not}
+use Rattle.rtl_body_facts.proofs.Members.{in_append}
 use Rattle.rtl_latches.specs.declared.omission.Omission.{Omission}
 use Rattle.rtl_latches.specs.declared.parts.Left.{Left}
 use Rattle.rtl_latches.specs.declared.parts.Part.{Part}

@@ -3,13 +3,13 @@
 ghost use Rattle.std.specs.Prelude.{◌≡◌, ◌&&◌, not, ℕ, All, map, Some, IfOk, OnOk};
 ghost use Rattle.std.specs.List.Sorted.{IsStrictlyIncreasing};
 ghost use Rattle.std.specs.Option.{option_or};
-ghost use Rattle.rtl_net_facts.specs.Reading.{is_in};
+ghost use Rattle.rtl_body_facts.specs.Reading.{is_in};
 ghost use Rattle.rtl_latches.specs.Parts as spec;
 ghost use Rattle.rtl_latches.specs.declared.parts.Part.{Part};
 
 use crate::omission::Omission;
 use crate::parts::{Left, Part, push_if, touched};
-use rtl_net_facts::{contains_rising, sort_once};
+use rtl_body_facts::{contains_rising, sort_once};
 use std::alloc::{AllocError, Global};
 
 /// What parts are counted in, and the byte at which it starts.

@@ -2,15 +2,15 @@
 
 ghost use Rattle.std.specs.Prelude.{◌≡◌, ◌∷◌, [], ℕ, All, map, IfOk, OnOk};
 ghost use Rattle.std.specs.List.Sorted.{IsStrictlyIncreasing};
-ghost use Rattle.rtl_net_facts.specs.Paths.{to_net};
+ghost use Rattle.rtl_body_facts.specs.Paths.{to_net};
 ghost use Rattle.rtl_latches.specs.Parts as spec;
 ghost use Rattle.rtl_latches.specs.declared.parts.Part.{Part};
 
 use crate::choosing::{Counted, choose};
 use crate::omission::Omission;
 use crate::parts::{Part, touched};
+use rtl_body_facts::assigned_nets;
 use rtl_net::{Alternative, Branch, Driver, Statement};
-use rtl_net_facts::assigned_nets;
 use std::alloc::{AllocError, Global};
 use std::slice;
 

@@ -3,11 +3,11 @@
 ghost use Rattle.std.specs.Prelude.{◌≡◌, ◌==◌, ◌&&◌, ◌||◌, ℕ, Some, IfOk, OnOk};
 ghost use Rattle.std.specs.List.{list_any};
 ghost use Rattle.std.specs.List.Sorted.{IsStrictlyIncreasing};
-ghost use Rattle.rtl_net_facts.specs.Reading.{is_in};
+ghost use Rattle.rtl_body_facts.specs.Reading.{is_in};
 ghost use Rattle.rtl_latches.specs.Parts as spec;
 
 use crate::omission::Omission;
-use rtl_net_facts::sort_once;
+use rtl_body_facts::sort_once;
 use std::alloc::{AllocError, Global};
 
 /// A net, and where its assignment is left out.

@@ -5,7 +5,7 @@ ghost use Rattle.std.specs.List.{list_any, list_all, range_with_len};
 ghost use Rattle.rtl_net.specs.Indices.{numbers};
 ghost use Rattle.rtl_net.specs.Bodies.{statement_view, statements_of};
 ghost use Rattle.rtl_model.specs.bodies.Assigns as m;
-ghost use Rattle.rtl_net_facts.specs.Paths as p;
+ghost use Rattle.rtl_body_facts.specs.Paths as p;
 
 use rtl_net::{Alternative, Branch, Driver, Indices, Statement};
 

@@ -16,8 +16,8 @@ use Rattle.rtl_net.specs.Visits.{Tells}
 use Rattle.rtl_net.specs.declared.body.Test.{Test}
 use Rattle.rtl_net.specs.declared.body.Test.TheVariants as vt
 use Rattle.rtl_net.proofs.Rows.{view_if}
-use Rattle.rtl_net_facts.specs.Reading.{some}
-use Rattle.rtl_net_facts.proofs.Timings.{combined_is}
+use Rattle.rtl_body_facts.specs.Reading.{some}
+use Rattle.rtl_body_facts.proofs.Timings.{combined_is}
 use Rattle.rtl_reasons.specs.Edges.{is_gated}
 use Rattle.rtl_reasons.specs.declared.reason.Reason.{Reason}
 use Rattle.rtl_reasons.specs.declared.reason.Reason.TheVariants.{GatedEdge, ResetBehind, BehindEdge, EdgeInside, NoEdge}

@@ -9,9 +9,9 @@ use Rattle.rtl_model.specs.bodies.Assigns.{Target, driver, element}
 use Rattle.rtl_model.specs.bodies.Body.{Stmt, null_of, assign, set, if_of, case_of, Stmts, done, step, Branches, no_else, otherwise, branch, Alternatives, others, alternative}
 use Rattle.rtl_model.specs.nets.CoreNetlist.{drives_net}
 use Rattle.rtl_net.specs.declared.process.Process.{Process}
-use Rattle.rtl_net_facts.specs.Paths.{driven, to_net}
-use Rattle.rtl_net_facts.specs.Reading.{is_in}
-use Rattle.rtl_net_facts.proofs.Members.{has_in}
+use Rattle.rtl_body_facts.specs.Paths.{driven, to_net}
+use Rattle.rtl_body_facts.specs.Reading.{is_in}
+use Rattle.rtl_body_facts.proofs.Members.{has_in}
 use Rattle.rtl_latches.specs.Assigning.{stmt_assigns, stmts_assign, branches_assign, alternatives_assign}
 use Rattle.rtl_reasons.specs.Reasons.{assigns, first_net, assigns_alike}
 

@@ -10,7 +10,7 @@ use Rattle.rtl_net.specs.declared.body.Statement.{Statement}
 use Rattle.rtl_net.specs.declared.process.Process.{Process}
 use Rattle.rtl_net.specs.Bodies.{statement_view, statements_of}
 use Rattle.rtl_net.specs.Nets.{NetlistView, process_view, body_of}
-use Rattle.rtl_net_facts.specs.Reading.{some}
+use Rattle.rtl_body_facts.specs.Reading.{some}
 use Rattle.rtl_reasons.specs.declared.reason.Reason.{Reason}
 use Rattle.rtl_reasons.specs.Reasons.{first_in, gated_edge, edge_reason, first_edge, elsewhere, elsewhere_in, at_of, if_branches, first_that_fits, reason_of_body, reason_at}
 

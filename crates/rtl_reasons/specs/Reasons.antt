@@ -17,8 +17,8 @@ use Rattle.rtl_net.specs.declared.process.Process.{Process}
 use Rattle.rtl_net.specs.Bodies.{test_view, statement_view, statements_of}
 use Rattle.rtl_net.specs.Nets.{NetlistView, flat, body_of}
 use Rattle.rtl_latches.specs.Assigning.{stmts_assign}
-use Rattle.rtl_net_facts.specs.Paths.{driven, to_net}
-use Rattle.rtl_net_facts.specs.Reading.{is_in, some}
+use Rattle.rtl_body_facts.specs.Paths.{driven, to_net}
+use Rattle.rtl_body_facts.specs.Reading.{is_in, some}
 use Rattle.rtl_reasons.specs.Edges.{edge_of, is_gated}
 use Rattle.rtl_reasons.specs.declared.ifs.EdgeIf.{EdgeIf}
 use Rattle.rtl_reasons.specs.declared.edges.EdgeTest.{EdgeTest}

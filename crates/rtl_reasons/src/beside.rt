@@ -2,14 +2,14 @@
 
 ghost use Rattle.std.specs.Prelude.{◌≡◌, ◌<◌, length, IfOk};
 ghost use Rattle.std.specs.List.Sorted.{IsStrictlyIncreasing};
-ghost use Rattle.rtl_net_facts.specs.Reading.{is_in};
+ghost use Rattle.rtl_body_facts.specs.Reading.{is_in};
 ghost use Rattle.rtl_reasons.specs.Reasons as spec;
 
 use crate::ifs::EdgeIf;
 use crate::nets::{first_net, nets_in};
 use crate::reason::Reason;
+use rtl_body_facts::contains_rising;
 use rtl_net::{Process, Statement};
-use rtl_net_facts::contains_rising;
 use std::alloc::{AllocError, Global};
 
 /// The byte at which an if or a case starts; of another statement the one that is given.

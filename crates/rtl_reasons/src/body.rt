@@ -3,7 +3,7 @@
 ghost use Rattle.std.specs.Prelude.{◌≡◌, ◌<◌, ◌||◌, nat_lt, drop, length, is_some, Some, option_map, IfOk};
 ghost use Rattle.rtl_model.specs.bodies.Body.{no_else};
 ghost use Rattle.rtl_net.specs.Bodies.{statements_of, branches_of, otherwise_of};
-ghost use Rattle.rtl_net_facts.specs.Reading.{some};
+ghost use Rattle.rtl_body_facts.specs.Reading.{some};
 ghost use Rattle.rtl_reasons.specs.Reasons as spec;
 
 use crate::beside::beside_edge;
@@ -11,8 +11,8 @@ use crate::ifs::{EdgeIf, first_edge, gated_edge, second_edge};
 use crate::nets::nets_of;
 use crate::reason::Reason;
 use crate::resets::{computes, other_before, reset_behind, reset_of};
+use rtl_body_facts::{ProcessKind, body_has_event, contains_rising, kind_of};
 use rtl_net::{Branch, Net, Process, Source, Statement};
-use rtl_net_facts::{ProcessKind, body_has_event, contains_rising, kind_of};
 use std::alloc::{AllocError, Global};
 use std::slice;
 

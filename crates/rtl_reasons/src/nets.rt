@@ -4,12 +4,12 @@ ghost use Rattle.std.specs.Prelude.{◌≡◌, ◌&&◌, ℕ, IfOk};
 ghost use Rattle.std.specs.List.{list_all};
 ghost use Rattle.std.specs.List.Sorted.{IsStrictlyIncreasing};
 ghost use Rattle.rtl_net.specs.Bodies.{statements_of};
-ghost use Rattle.rtl_net_facts.specs.Reading.{is_in};
+ghost use Rattle.rtl_body_facts.specs.Reading.{is_in};
 ghost use Rattle.rtl_reasons.specs.Reasons as spec;
 
+use rtl_body_facts::contains_rising;
 use rtl_latches::assigned_on_some_path;
 use rtl_net::{Process, Statement};
-use rtl_net_facts::contains_rising;
 use std::alloc::{AllocError, Global};
 use std::slice;
 

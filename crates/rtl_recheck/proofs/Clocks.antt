@@ -10,10 +10,10 @@ use Rattle.rtl_model.specs.simulation.Netlist.{Netlist, Edge, Rising}
 use Rattle.rtl_model.specs.simulation.Accepted.{IsClock}
 use Rattle.rtl_model.specs.simulation.Report.{clock_key, AreClocks}
 use Rattle.rtl_model.proofs.basics.Lists.{in_contains, contains_in, get_or-map_within}
-use Rattle.rtl_net_facts.specs.Reading.{is_in}
-use Rattle.rtl_net_facts.proofs.Anys.{any_within}
-use Rattle.rtl_net_facts.proofs.EveryPath.{in_filter}
-use Rattle.rtl_net_facts.proofs.Members.{not_in}
+use Rattle.rtl_body_facts.specs.Reading.{is_in}
+use Rattle.rtl_body_facts.proofs.Anys.{any_within}
+use Rattle.rtl_body_facts.proofs.EveryPath.{in_filter}
+use Rattle.rtl_body_facts.proofs.Members.{not_in}
 use Rattle.rtl_check.specs.Rules.{AreClockNets}
 use Rattle.rtl_recheck.specs.Kept.{clock_nets, IsBetween}
 

@@ -3,8 +3,8 @@ use Rattle.std.proofs.Common.{◌≡◌, ℕ, ◌<◌, true, List, length, get_o
 use Rattle.std.proofs.lemmas.List.{length-map}
 use Rattle.rtl_model.proofs.basics.Lists.{contains_in, get_or-map_within}
 use Rattle.rtl_net.specs.declared.process.Driver.{Driver}
-use Rattle.rtl_net_facts.specs.Reading.{is_in}
-use Rattle.rtl_net_facts.specs.Paths.{driven}
+use Rattle.rtl_body_facts.specs.Reading.{is_in}
+use Rattle.rtl_body_facts.specs.Paths.{driven}
 
 -- the net of a driver is driven
 pub is_driven : (ds : List Driver) (i : ℕ) (x : Driver) → i < length ds → x ≡ get_or ds i x → is_in x.net (driven ds) ≡ true

@@ -4,13 +4,13 @@ ghost use Rattle.std.specs.Prelude.{◌≡◌, ◌↔◌, IsTrue};
 ghost use Rattle.std.specs.List.Sorted.{IsStrictlyIncreasing};
 ghost use Rattle.rtl_model.specs.basics.Lists.{RisesBy};
 ghost use Rattle.rtl_model.specs.simulation.Report.{clock_key};
-ghost use Rattle.rtl_net_facts.specs.Reading.{is_in};
+ghost use Rattle.rtl_body_facts.specs.Reading.{is_in};
 ghost use Rattle.rtl_check.specs.Views.{nets_tested};
 ghost use Rattle.rtl_recheck.specs.Kept.{AreWithin, HasNoClockAsData, ClockedKeeps, clock_nets};
 
+use rtl_body_facts::{Clocking, contains_rising};
 use rtl_check::is_used;
 use rtl_net::Process;
-use rtl_net_facts::{Clocking, contains_rising};
 use vhdl_values::Edge;
 
 /// Whether all of some nets are among others.

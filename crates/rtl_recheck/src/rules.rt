@@ -10,10 +10,10 @@ ghost use Rattle.rtl_recheck.specs.Kept.{HasNoLatch, CombinationalKeeps, KeepsBy
 
 use crate::clocked::{are_within, clocked_keeps};
 use crate::variables::stores_nothing;
+use rtl_body_facts::ProcessKind;
 use rtl_check::kind_at;
 use rtl_latches::covers;
 use rtl_net::{Net, Process};
-use rtl_net_facts::ProcessKind;
 use vhdl_values::Edge;
 
 /// Whether a combinational process assigns each net that it drives on every syntactic path.

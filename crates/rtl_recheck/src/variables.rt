@@ -7,8 +7,8 @@ ghost use Rattle.rtl_net.specs.Core.{core};
 ghost use Rattle.rtl_check.specs.Places.{places_from, widths};
 ghost use Rattle.rtl_recheck.specs.Kept.{HasFew, StoresNone, StoresNothing};
 
+use rtl_body_facts::body_stores;
 use rtl_net::{Net, Statement, Variable};
-use rtl_net_facts::body_stores;
 
 /// How many elements a variable has: a vector has 64 at most.
 fn elements_in(variable: &Variable) -> usize

@@ -21,9 +21,9 @@ use Rattle.rtl_net.specs.declared.process.Process.{Process}
 use Rattle.rtl_net.specs.Bodies.{statements_of}
 use Rattle.rtl_net.specs.Nets.{NetlistView, body_of, driver_view, process_view}
 use Rattle.rtl_net.specs.Elaborated.{IsNet}
-use Rattle.rtl_net_facts.specs.Paths.{driven, to_net}
-use Rattle.rtl_net_facts.specs.Reading.{is_in}
-use Rattle.rtl_net_facts.proofs.EveryPath.{in_filter}
+use Rattle.rtl_body_facts.specs.Paths.{driven, to_net}
+use Rattle.rtl_body_facts.specs.Reading.{is_in}
+use Rattle.rtl_body_facts.proofs.EveryPath.{in_filter}
 use Rattle.rtl_remarks.specs.declared.remark.Remark.TheVariants.{NotReset, NeverKnown}
 use Rattle.rtl_remarks.specs.Remarks.{leaves_out, reset_branch, not_reset, starts_undefined, stays_undefined, edge_branch, never_known}
 use Rattle.rtl_remarks.specs.Undefined.{may_assign}

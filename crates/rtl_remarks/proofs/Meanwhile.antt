@@ -18,9 +18,9 @@ use Rattle.rtl_net.specs.declared.process.Driver.{Driver}
 use Rattle.rtl_net.specs.Bodies.{operator_view, expr_view, links_of, test_view, test_links_of, statements_of, branches_of, alternatives_of}
 use Rattle.rtl_net.proofs.Rows.{view_chain, view_combined, view_if, view_case}
 use Rattle.rtl_model.specs.bodies.Body as bodies
-use Rattle.rtl_net_facts.proofs.Anys.{or_assoc, or_none}
-use Rattle.rtl_net_facts.proofs.EveryPath.{in_filter}
-use Rattle.rtl_net_facts.specs.Reading.{is_in}
+use Rattle.rtl_body_facts.proofs.Anys.{or_assoc, or_none}
+use Rattle.rtl_body_facts.proofs.EveryPath.{in_filter}
+use Rattle.rtl_body_facts.specs.Reading.{is_in}
 use Rattle.rtl_remarks.specs.Undefined.{passes, whole_of, some_is, is_whole, is_and, fails, stmt_may, may_assign, branches_may, alternatives_may}
 use Rattle.rtl_remarks.specs.declared.undefined.Makers.{Makers}
 use Rattle.rtl_remarks.specs.Tables.{MakeUndefined, links_some, links_whole, tests_fail, statement_may, branch_may, alternative_may}

@@ -12,9 +12,9 @@ use Rattle.rtl_net.specs.declared.body.Statement.{Statement}
 use Rattle.rtl_net.specs.declared.body.Statement.TheVariants as vs
 use Rattle.rtl_net.specs.Bodies.{statement_view, statements_of, branches_of, otherwise_of}
 use Rattle.rtl_net.proofs.Rows.{view_if}
-use Rattle.rtl_net_facts.specs.declared.kinds.Clocking.{Clocking}
-use Rattle.rtl_net_facts.specs.declared.kinds.ProcessKind.TheVariants as d
-use Rattle.rtl_net_facts.specs.Timing.{part_net, clocking_view, kind_view}
+use Rattle.rtl_body_facts.specs.declared.kinds.Clocking.{Clocking}
+use Rattle.rtl_body_facts.specs.declared.kinds.ProcessKind.TheVariants as d
+use Rattle.rtl_body_facts.specs.Timing.{part_net, clocking_view, kind_view}
 use Rattle.rtl_remarks.specs.Remarks.{reset_branch, branch_of_reset, is_clock_of, edge_branch, without_reset}
 use Rattle.rtl_remarks.specs.Tables.{is_there, has_reset, is_without_reset, first_branch}
 

@@ -4,8 +4,8 @@ use Rattle.std.specs.Prelude.{⊤, slice_index, ◌||◌}
 use Rattle.std.specs.List.{range_with_len, filter}
 use Rattle.std.specs.List.Sorted.{IsStrictlyIncreasing}
 use Rattle.std.proofs.lemmas.Bool.{eqb-true, ltb-true, ltb-false}
-use Rattle.rtl_net_facts.specs.Reading.{is_in}
-use Rattle.rtl_net_facts.proofs.EveryPath.{in_filter}
+use Rattle.rtl_body_facts.specs.Reading.{is_in}
+use Rattle.rtl_body_facts.proofs.EveryPath.{in_filter}
 use Rattle.rtl_remarks.specs.Tables.{AreThose}
 
 -- rising, and none below this

@@ -16,8 +16,8 @@ use Rattle.rtl_model.specs.simulation.Netlist.{Source, Driver, Idle}
 use Rattle.rtl_net.specs.declared.process.Driver.{Driver as Driver'}
 use Rattle.rtl_net.specs.declared.process.Process.{Process}
 use Rattle.rtl_net.specs.Nets.{NetlistView, SignalView, flat, body_of}
-use Rattle.rtl_net_facts.specs.Paths.{driven, to_net}
-use Rattle.rtl_net_facts.specs.Reading.{is_in}
+use Rattle.rtl_body_facts.specs.Paths.{driven, to_net}
+use Rattle.rtl_body_facts.specs.Reading.{is_in}
 use Rattle.rtl_remarks.specs.declared.remark.Remark.{Remark}
 use Rattle.rtl_remarks.specs.declared.remark.Remark.TheVariants.{Undriven, Unassigned, IdlePort, NotReset, ClockRead, NeverKnown, UnreadElement}
 use Rattle.rtl_remarks.specs.Undefined.{may_assign}

@@ -11,7 +11,7 @@ use Rattle.rtl_net.specs.declared.body.Link.{Link}
 use Rattle.rtl_net.specs.declared.body.Statement.{Statement}
 use Rattle.rtl_net.specs.declared.body.TestLink.{TestLink}
 use Rattle.rtl_net.specs.declared.process.Driver.{Driver}
-use Rattle.rtl_net_facts.specs.Reading.{is_in}
+use Rattle.rtl_body_facts.specs.Reading.{is_in}
 use Rattle.rtl_remarks.specs.Remarks.{is_signal, is_top_port, reader_from, reset_branch, edge_branch}
 use Rattle.rtl_remarks.specs.Undefined.{passes, whole_of, some_is, is_whole, is_and, fails, stmt_may, may_assign}
 use Rattle.rtl_remarks.specs.declared.undefined.Makers.{Makers}

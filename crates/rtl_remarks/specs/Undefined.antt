@@ -12,8 +12,8 @@ use Rattle.rtl_model.specs.bodies.Body.{Value, elements, Test, compared, compare
 use Rattle.rtl_model.specs.bodies.Body.{Stmt, assign, if_of, case_of, Stmts, done, step}
 use Rattle.rtl_model.specs.bodies.Body.{Branches, no_else, otherwise, branch, Alternatives, others, alternative}
 use Rattle.rtl_net.specs.declared.process.Driver.{Driver}
-use Rattle.rtl_net_facts.specs.Paths.{covers}
-use Rattle.rtl_net_facts.specs.Reading.{is_in}
+use Rattle.rtl_body_facts.specs.Paths.{covers}
+use Rattle.rtl_body_facts.specs.Reading.{is_in}
 
 -- ---- values
 

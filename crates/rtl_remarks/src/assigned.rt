@@ -5,16 +5,16 @@ ghost use Rattle.std.specs.List.{list_any};
 ghost use Rattle.std.specs.List.Sorted.{IsStrictlyIncreasing};
 ghost use Rattle.rtl_model.specs.bodies.Assigns.{stmt_must_assign};
 ghost use Rattle.rtl_net.specs.Bodies.{value_view, statement_view, statements_of};
-ghost use Rattle.rtl_net_facts.specs.Paths.{to_net};
-ghost use Rattle.rtl_net_facts.specs.Reading.{is_in};
+ghost use Rattle.rtl_body_facts.specs.Paths.{to_net};
+ghost use Rattle.rtl_body_facts.specs.Reading.{is_in};
 ghost use Rattle.rtl_remarks.specs.Undefined as spec;
 ghost use Rattle.rtl_remarks.specs.Tables.{branch_may, alternative_may};
 
 use crate::failing::failing_nets;
 use crate::lists::chosen;
 use crate::undefined::keepers;
+use rtl_body_facts::{assigned_nets, sort_once};
 use rtl_net::{Alternative, Branch, Driver, NoMemory, Statement, Value};
-use rtl_net_facts::{assigned_nets, sort_once};
 use std::alloc::Global;
 
 /// Appends those of an assignment of this value.

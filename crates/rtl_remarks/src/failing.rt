@@ -3,13 +3,13 @@
 ghost use Rattle.std.specs.Prelude.{◌≡◌, not, ◌&&◌, ◌||◌, ℕ, IfOk};
 ghost use Rattle.std.specs.List.Sorted.{IsStrictlyIncreasing};
 ghost use Rattle.rtl_net.specs.Bodies.{expr_view, test_view};
-ghost use Rattle.rtl_net_facts.specs.Reading.{is_in};
+ghost use Rattle.rtl_body_facts.specs.Reading.{is_in};
 ghost use Rattle.rtl_remarks.specs.Undefined as spec;
 ghost use Rattle.rtl_remarks.specs.Tables.{tests_fail};
 
 use crate::undefined::makers_of;
+use rtl_body_facts::sort_once;
 use rtl_net::{Expr, NoMemory, Test, TestLink};
-use rtl_net_facts::sort_once;
 use std::alloc::Global;
 use vhdl_values::{Cmp, Logic};
 

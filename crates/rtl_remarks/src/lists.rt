@@ -4,11 +4,11 @@ ghost use Rattle.std.specs.Prelude.{◌≡◌, IfOk};
 ghost use Rattle.std.specs.List.{filter, range_with_len};
 ghost use Rattle.std.specs.List.Sorted.{IsStrictlyIncreasing};
 ghost use Rattle.rtl_net.specs.Indices.{numbers};
-ghost use Rattle.rtl_net_facts.specs.Reading.{is_in};
+ghost use Rattle.rtl_body_facts.specs.Reading.{is_in};
 ghost use Rattle.rtl_remarks.specs.Undefined.{is_same};
 
+use rtl_body_facts::contains_rising;
 use rtl_net::{Indices, NoMemory};
-use rtl_net_facts::contains_rising;
 use std::alloc::Global;
 
 /// Whether a number is among others, or isn't, as is asked.

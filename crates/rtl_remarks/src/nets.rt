@@ -7,8 +7,8 @@ ghost use Rattle.rtl_remarks.specs.Remarks as spec;
 ghost use Rattle.rtl_remarks.specs.Tables.{AreThose, AreReaders};
 
 use crate::remark::Remark;
+use rtl_body_facts::contains_rising;
 use rtl_net::{Net, NoMemory, Source};
-use rtl_net_facts::contains_rising;
 
 /// Whether nothing drives a net, and it is no in port of the top.
 fn has_no_driver(net: &Net, number: usize) -> bool

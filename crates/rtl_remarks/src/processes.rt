@@ -5,14 +5,14 @@ ghost use Rattle.std.specs.List.{filter};
 ghost use Rattle.std.specs.List.Sorted.{IsStrictlyIncreasing};
 ghost use Rattle.rtl_model.specs.bodies.Kinds.{clocking};
 ghost use Rattle.rtl_net.specs.Nets.{body_of};
-ghost use Rattle.rtl_net_facts.specs.Reading.{is_in};
+ghost use Rattle.rtl_body_facts.specs.Reading.{is_in};
 ghost use Rattle.rtl_remarks.specs.Remarks as spec;
 ghost use Rattle.rtl_remarks.specs.Tables.{AreThose};
 
 use crate::remark::Remark;
 use crate::resets::left_out;
+use rtl_body_facts::{ProcessKind, body_has_event, contains_rising, kind_of, sort_once};
 use rtl_net::{Net, NoMemory, Process};
-use rtl_net_facts::{ProcessKind, body_has_event, contains_rising, kind_of, sort_once};
 use std::alloc::Global;
 
 // ---- resets

@@ -1,7 +1,7 @@
 //! Which process reads a net first.
 
 ghost use Rattle.std.specs.Prelude.{◌≡◌, ◌<◌, ℕ, if◌then◌else◌, length, slice_index_or, Some, None, IfOk};
-ghost use Rattle.rtl_net_facts.specs.Reading.{is_in};
+ghost use Rattle.rtl_body_facts.specs.Reading.{is_in};
 ghost use Rattle.rtl_remarks.specs.Tables.{AreReaders};
 
 use rtl_net::{Net, NoMemory};

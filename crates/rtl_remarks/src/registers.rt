@@ -12,8 +12,8 @@ use crate::assigned::may_assign;
 use crate::lists::chosen;
 use crate::remark::Remark;
 use crate::resets::first_branch;
+use rtl_body_facts::{ProcessKind, kind_of, sort_once};
 use rtl_net::{Driver, Net, NoMemory, Process, Statement};
-use rtl_net_facts::{ProcessKind, kind_of, sort_once};
 use std::alloc::Global;
 use vhdl_values::Nine;
 

@@ -5,14 +5,14 @@ ghost use Rattle.std.specs.List.Sorted.{IsStrictlyIncreasing};
 ghost use Rattle.rtl_model.specs.bodies.Kinds.{clocking};
 ghost use Rattle.rtl_net.specs.Bodies.{statements_of};
 ghost use Rattle.rtl_net.specs.Nets.{body_of};
-ghost use Rattle.rtl_net_facts.specs.Paths.{driven};
-ghost use Rattle.rtl_net_facts.specs.Reading.{is_in};
+ghost use Rattle.rtl_body_facts.specs.Paths.{driven};
+ghost use Rattle.rtl_body_facts.specs.Reading.{is_in};
 ghost use Rattle.rtl_remarks.specs.Remarks as spec;
 ghost use Rattle.rtl_remarks.specs.Tables.{AreThose, has_reset, first_branch};
 
 use crate::lists::chosen;
+use rtl_body_facts::{ProcessKind, assigned_nets, kind_of, sort_once};
 use rtl_net::{Driver, NoMemory, Process, Statement};
-use rtl_net_facts::{ProcessKind, assigned_nets, kind_of, sort_once};
 use std::alloc::Global;
 
 /// Whether a process is clocked and has a reset.

@@ -3,12 +3,12 @@
 ghost use Rattle.std.specs.Prelude.{◌≡◌, ◌<◌, ◌&&◌, ◌||◌, ℕ, All, length, IfOk, OnOk};
 ghost use Rattle.std.specs.List.{list_any};
 ghost use Rattle.rtl_net.specs.Nets.{signal_view};
-ghost use Rattle.rtl_net_facts.specs.Reading.{is_in};
+ghost use Rattle.rtl_body_facts.specs.Reading.{is_in};
 ghost use Rattle.rtl_remarks.specs.Remarks as spec;
 ghost use Rattle.rtl_remarks.specs.Tables.{takes, AreThose, AreReaders};
 
+use rtl_body_facts::sort_once;
 use rtl_net::{Net, NoMemory, Signal};
-use rtl_net_facts::sort_once;
 use std::alloc::Global;
 
 /// Which signals.

@@ -3,13 +3,13 @@
 ghost use Rattle.std.specs.Prelude.{◌≡◌, true, false, ◌&&◌, ◌||◌, ℕ, IfOk};
 ghost use Rattle.std.specs.List.Sorted.{IsStrictlyIncreasing};
 ghost use Rattle.rtl_net.specs.Bodies.{operator_view, expr_view, value_view};
-ghost use Rattle.rtl_net_facts.specs.Reading.{is_in};
+ghost use Rattle.rtl_body_facts.specs.Reading.{is_in};
 ghost use Rattle.rtl_remarks.specs.Undefined as spec;
 ghost use Rattle.rtl_remarks.specs.Tables.{MakeUndefined, links_some, links_whole};
 
 use crate::lists::numbers_of;
+use rtl_body_facts::sort_once;
 use rtl_net::{Expr, Link, NoMemory, Operator, Value};
-use rtl_net_facts::sort_once;
 use std::alloc::Global;
 use vhdl_values::Logic;
 

@@ -8,7 +8,7 @@ use Rattle.std.proofs.lemmas.List.{at_drop_more, at_drop_all, length-drop, get_o
 use Rattle.std.proofs.lemmas.List.Folds.{list_any-append}
 use Rattle.indexmap.specs.IndexSet.{insert_key}
 use Rattle.rtl_model.proofs.basics.Lists.{get_or-map_within}
-use Rattle.rtl_net_facts.proofs.Anys.{or_assoc, or_none}
+use Rattle.rtl_body_facts.proofs.Anys.{or_assoc, or_none}
 use Rattle.rtl_stim_lines.specs.Bounded.{IsFormOf}
 use Rattle.rtl_stim_lines.specs.Forms.{Form, At, Clock, Stop}
 use Rattle.rtl_stim_lines.specs.Lines.{Word, without_return, as_lines}

@@ -2,7 +2,7 @@
 use Rattle.std.specs.Prelude.{ℕ, Bool, false, not, ◌&&◌, List, [], ◌∷◌, ◌++◌, length, Option, Some, None, bytes_eq, if◌then◌else◌}
 use Rattle.std.specs.List.{list_any}
 use Rattle.rtl_net.specs.Nets.{NetlistView, SignalView}
-use Rattle.rtl_net_facts.specs.Reading.{is_in}
+use Rattle.rtl_body_facts.specs.Reading.{is_in}
 use Rattle.rtl_remarks.specs.Remarks.{is_top_port, is_of, is_clock, of_nets}
 use Rattle.rtl_remarks.specs.declared.remark.Remark.{Remark}
 use Rattle.rtl_remarks.specs.declared.remark.Remark.TheVariants.{ClockWithoutLine, InputWithoutLine}

@@ -2,14 +2,14 @@
 
 ghost use Rattle.std.specs.Prelude.{◌≡◌, ◌<◌, ◌++◌, not, ◌&&◌, length, IfOk, OnOk};
 ghost use Rattle.std.specs.List.Sorted.{IsStrictlyIncreasing};
-ghost use Rattle.rtl_net_facts.specs.Reading.{is_in};
+ghost use Rattle.rtl_body_facts.specs.Reading.{is_in};
 ghost use Rattle.rtl_remarks.specs.Remarks.{is_clock, of_nets};
 ghost use Rattle.rtl_remarks.specs.Tables.{AreThose};
 ghost use Rattle.rtl_stim_remarks.specs.Naming as spec;
 
 use crate::ports::named_nets;
+use rtl_body_facts::contains_rising;
 use rtl_net::{Net, NoMemory};
-use rtl_net_facts::contains_rising;
 use rtl_remarks::{Remark, clocks_of};
 use std::alloc::Global;
 

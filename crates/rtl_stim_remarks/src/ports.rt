@@ -2,7 +2,7 @@
 
 ghost use Rattle.std.specs.Prelude.{◌≡◌, ◌&&◌, ◌||◌, ℕ, IfOk, OnOk};
 ghost use Rattle.rtl_net.specs.Nets.{signal_view};
-ghost use Rattle.rtl_net_facts.specs.Reading.{is_in};
+ghost use Rattle.rtl_body_facts.specs.Reading.{is_in};
 ghost use Rattle.rtl_remarks.specs.Tables.{AreThose};
 ghost use Rattle.rtl_remarks.specs.Remarks.{is_top_port, is_of};
 ghost use Rattle.rtl_stim_lines.specs.Inputs as inputs;
@@ -10,8 +10,8 @@ ghost use Rattle.rtl_stim_remarks.specs.Naming as spec;
 ghost use Rattle.rtl_stim_remarks.specs.Kept.{has_name};
 
 use crate::names::{Names, names_of, small};
+use rtl_body_facts::sort_once;
 use rtl_net::{Net, NoMemory, Signal};
-use rtl_net_facts::sort_once;
 use std::alloc::Global;
 
 /// Whether a signal is a port of the top with one of these names.

@@ -3,9 +3,9 @@ use Rattle.std.proofs.Common.{◌≡◌, ℕ, zero, suc, ◌+◌, ◌<◌, ◌�
 use Rattle.std.proofs.Math.ListN.{set, length-set}
 use Rattle.std.proofs.lemmas.Bool.{cases_eq, cases_lt, eq-eqb, ne_eqb}
 use Rattle.std.proofs.lemmas.List.{get_or-set_same, get_or-set_other, get_or_past}
-use Rattle.rtl_net_facts.specs.Reading.{is_in}
-use Rattle.rtl_net_facts.proofs.Anys.{or_none, and_not}
-use Rattle.rtl_net_facts.proofs.EveryPath.{any_more}
+use Rattle.rtl_body_facts.specs.Reading.{is_in}
+use Rattle.rtl_body_facts.proofs.Anys.{or_none, and_not}
+use Rattle.rtl_body_facts.proofs.EveryPath.{any_more}
 use Rattle.rtl_stored.specs.declared.marks.Mark.{Mark}
 use Rattle.rtl_stored.specs.Walks.{no_element, is_assigned, is_stored, Released}
 

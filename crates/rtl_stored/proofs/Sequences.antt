@@ -5,9 +5,9 @@ use Rattle.rtl_net.specs.declared.body.Statement.{Statement}
 use Rattle.rtl_net.specs.Bodies.{statement_view, statements_of}
 use Rattle.rtl_model.specs.bodies.Assigns.{is_element, stmt_must_assign, must_assign}
 use Rattle.rtl_model.specs.bodies.Stored.{stmt_stores, stores_element}
-use Rattle.rtl_net_facts.specs.Looks.{statement_assigned}
-use Rattle.rtl_net_facts.proofs.EveryPath.{any_more}
-use Rattle.rtl_net_facts.proofs.Parts.{must_is_any}
+use Rattle.rtl_body_facts.specs.Looks.{statement_assigned}
+use Rattle.rtl_body_facts.proofs.EveryPath.{any_more}
+use Rattle.rtl_body_facts.proofs.Parts.{must_is_any}
 use Rattle.rtl_stored.proofs.Marking.{none_more}
 use Rattle.rtl_stored.proofs.Walking.{one_more}
 

@@ -5,9 +5,9 @@ use Rattle.std.proofs.lemmas.List.{get_or-map, length-map, get_or-replicate, len
 use Rattle.std.proofs.lemmas.List.FromFn.{fill_by_all}
 use Rattle.rtl_model.specs.bodies.Leaves.{Leaf, leaf_looks_at}
 use Rattle.rtl_net.specs.Visits.{Tells}
-use Rattle.rtl_net_facts.specs.Reading.{is_in}
-use Rattle.rtl_net_facts.proofs.Anys.{or_none, or_assoc}
-use Rattle.rtl_net_facts.proofs.EveryPath.{in_filter}
+use Rattle.rtl_body_facts.specs.Reading.{is_in}
+use Rattle.rtl_body_facts.proofs.Anys.{or_none, or_assoc}
+use Rattle.rtl_body_facts.proofs.EveryPath.{in_filter}
 use Rattle.rtl_stored.specs.declared.marks.Mark.{Mark}
 use Rattle.rtl_stored.specs.declared.marks.Marks.{Marks}
 use Rattle.rtl_stored.specs.Walks.{unmarked, no_element, is_assigned, is_stored, never, Reads, Walked, Released, Narrows}

@@ -1,6 +1,6 @@
 -- What a walk over a part of a body makes of the marks of variable elements.
 use Rattle.std.specs.Prelude.{◌≡◌, ℕ, Bool, true, false, not, ◌&&◌, ◌||◌, List, length, slice_index_or}
-use Rattle.rtl_net_facts.specs.Reading.{is_in}
+use Rattle.rtl_body_facts.specs.Reading.{is_in}
 use Rattle.rtl_stored.specs.declared.marks.Mark.{Mark}
 
 -- neither assigned nor stored; and what stands for an element that isn't there

@@ -4,7 +4,7 @@ ghost use Rattle.std.specs.Prelude.{◌≡◌, ◌==◌, ◌<◌, ℕ, true, len
 ghost use Rattle.std.specs.List.{filter};
 ghost use Rattle.rtl_net.specs.Indices.{numbers};
 ghost use Rattle.rtl_model.specs.bodies.Leaves.{leaf_looks_at};
-ghost use Rattle.rtl_net_facts.specs.Reading.{is_in};
+ghost use Rattle.rtl_body_facts.specs.Reading.{is_in};
 ghost use Rattle.rtl_stored.specs.Walks.{unmarked, is_assigned, never, Reads, Walked, Released};
 
 use crate::numbers::{len_of, number_at};

@@ -5,8 +5,8 @@ ghost use Rattle.std.specs.List.{list_any, list_all};
 ghost use Rattle.rtl_net.specs.Bodies.{statement_view, statements_of};
 ghost use Rattle.rtl_model.specs.bodies.Assigns.{is_element, stmt_must_assign, must_assign};
 ghost use Rattle.rtl_model.specs.bodies.Stored.{stmt_stores, stores_element};
-ghost use Rattle.rtl_net_facts.specs.Reading.{is_in};
-ghost use Rattle.rtl_net_facts.specs.Looks.{branch_assigns, alternative_assigns, branch_stores, alternative_stores};
+ghost use Rattle.rtl_body_facts.specs.Reading.{is_in};
+ghost use Rattle.rtl_body_facts.specs.Looks.{branch_assigns, alternative_assigns, branch_stores, alternative_stores};
 ghost use Rattle.rtl_stored.specs.Walks.{is_assigned, Reads, Walked, Narrows};
 
 use crate::marks::Marks;

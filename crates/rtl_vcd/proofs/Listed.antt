@@ -6,7 +6,7 @@ use Rattle.std.proofs.lemmas.Grind.{flat_map-append}
 use Rattle.std.proofs.lemmas.List.{drop-drop, drop_more, drop_all, take_more}
 use Rattle.std.proofs.lemmas.List.Elements.{All-append, All-cons, All-contains_itself, All-drop, All-head, All-nil, All-tail, All-take, All-weaker, Contains-append_left, Contains-append_right}
 use Rattle.rtl_net.specs.Nets.{SignalView}
-use Rattle.rtl_net_layout.specs.Groups.{Grouping, IsListed}
+use Rattle.rtl_net_groups.specs.Groups.{Grouping, IsListed}
 use Rattle.rtl_vcd.specs.declared.blocks.Block.{Block}
 use Rattle.rtl_vcd.specs.Blocks.{AreBlocks, ListedFrom}
 use Rattle.rtl_vcd.proofs.Hulls.{Stays}

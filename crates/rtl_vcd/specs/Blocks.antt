@@ -1,7 +1,7 @@
 -- The names of a netlist in blocks.
 use Rattle.std.specs.Prelude.{◌≡◌, ℕ, ◌+◌, ◌<◌, ◌≤◌, Bool, true, false, List, [], ◌∷◌, All, take, drop, length, ⊤}
 use Rattle.rtl_net.specs.Nets.{SignalView}
-use Rattle.rtl_net_layout.specs.Groups.{Grouping, IsListed}
+use Rattle.rtl_net_groups.specs.Groups.{Grouping, IsListed}
 use Rattle.rtl_vcd.specs.declared.blocks.Block.{Block}
 use Rattle.rtl_vcd.specs.Values.{numbered}
 use Rattle.rtl_vcd.specs.Trace.{change, stamped}

@@ -3,13 +3,13 @@
 ghost use Rattle.std.specs.Prelude.{◌≡◌, ◌≤◌, ◌<◌, ◌+◌, ◌/◌, ◌++◌, ◌∷◌, [], ℕ, List, All, Contains, length, take, drop, map, slice_index, true, IfOk, OnOk};
 ghost use Rattle.std.specs.List.{flat_map};
 ghost use Rattle.rtl_net.specs.Nets.{SignalView, signal_view};
-ghost use Rattle.rtl_net_layout.specs.Touching.{KeepsLeft};
+ghost use Rattle.rtl_net_groups.specs.Touching.{KeepsLeft};
 ghost use Rattle.rtl_vcd.specs.Blocks.{IsBlockOf, AreBlocks, AreListed};
 ghost use Rattle.rtl_vcd.specs.Shown.{IsShown};
 
 use crate::characters::are_same;
 use rtl_net::{Net, Signal};
-use rtl_net_layout::{Groups, Lists, Touched};
+use rtl_net_groups::{Groups, Lists, Touched};
 use std::alloc::{AllocError, Global};
 
 /// The most names of a block whose nets are compared, and at how many others a block ends.

@@ -1,6 +1,6 @@
 //! The laws that the checker's yes rests on, over rtl_model's `specs/simulation` and `specs/nets/Laws.antt`, each the contract of a
 //! function that does nothing. They speak of netlists that are in range, connected and accepted: each `Net` is in range and
-//! connected (`nets_meet_the_laws` of rtl_net). What `run` answers says the same of one simulation (`IsSynchronous` of rtl_machine).
+//! connected (`nets_meet_the_laws` of rtl_net). What `run` answers says the same of one simulation (`IsSynchronous` of rtl_run).
 
 ghost use Rattle.rtl_model.specs.nets.Laws.{EachHasOneSolution, EachSimulatesTheMachine};
 

@@ -4,16 +4,16 @@ use Rattle.std.specs.Global.{Global}
 use Rattle.std.specs.Prelude.{IfErr, IsErrAnd, Vec}
 use Rattle.rtl_check.specs.Views.{fault_view}
 use Rattle.rtl_check.specs.declared.fault.CheckFault.{CheckFault}
-use Rattle.rtl_machine.specs.declared.fault.MachineFault.{MachineFault}
-use Rattle.rtl_machine.specs.declared.fault.MachineFault.TheVariants as machine
+use Rattle.rtl_run.specs.declared.fault.MachineFault.{MachineFault}
+use Rattle.rtl_run.specs.declared.fault.MachineFault.TheVariants as machine
 use Rattle.rtl_model.specs.simulation.Faults.{AreStored}
 use Rattle.rtl_net.specs.Core.{core}
 use Rattle.rtl_net.specs.Nets.{NetlistView}
-use Rattle.rtl_machine.specs.simulations.Answered.{Answers}
-use Rattle.rtl_machine.specs.simulations.Watched.{WasTold}
-use Rattle.rtl_machine.specs.declared.summary.RunFault.{RunFault}
-use Rattle.rtl_machine.specs.declared.summary.RunFault.TheVariants as run
-use Rattle.rtl_machine.specs.declared.summary.Summary.{Summary}
+use Rattle.rtl_run.specs.simulations.Answered.{Answers}
+use Rattle.rtl_run.specs.simulations.Watched.{WasTold}
+use Rattle.rtl_run.specs.declared.summary.RunFault.{RunFault}
+use Rattle.rtl_run.specs.declared.summary.RunFault.TheVariants as run
+use Rattle.rtl_run.specs.declared.summary.Summary.{Summary}
 use Rattle.rtl_sink.specs.Written.{SinkState}
 use Rattle.rtl_stim.specs.Stimuli.{StimulusView, IsRead}
 use Rattle.rtl_stim_lines.specs.declared.faults.StimFault.{StimFault}

@@ -5,11 +5,11 @@ use Rattle.rtlsim_commands.specs.Watched.{OfMachine, OfEvents, IfWhole, Watched}
 use Rattle.rtlsim_faults.specs.Faults.{of_machine, of_run}
 use Rattle.rtlsim_faults.specs.declared.faults.Fault.{Fault}
 use Rattle.rtlsim_faults.specs.declared.faults.Fault.TheVariants.{Lex, Syntax, Name, Elab, Rejected, Stim, Expect, Differs, NoSettling, Memory, Output}
-use Rattle.rtl_machine.specs.declared.fault.MachineFault.{MachineFault}
-use Rattle.rtl_machine.specs.declared.fault.MachineFault.TheVariants as machine
+use Rattle.rtl_run.specs.declared.fault.MachineFault.{MachineFault}
+use Rattle.rtl_run.specs.declared.fault.MachineFault.TheVariants as machine
 use Rattle.rtl_net.specs.Nets.{NetlistView}
-use Rattle.rtl_machine.specs.declared.summary.RunFault.{RunFault}
-use Rattle.rtl_machine.specs.declared.summary.RunFault.TheVariants as run
+use Rattle.rtl_run.specs.declared.summary.RunFault.{RunFault}
+use Rattle.rtl_run.specs.declared.summary.RunFault.TheVariants as run
 use Rattle.rtl_sink.specs.Written.{SinkState}
 use Rattle.rtl_sink.specs.Stands.{Stand}
 

@@ -1,8 +1,8 @@
 -- No fault of a run that isn't compared is one of what is expected.
 use Rattle.std.specs.Prelude.{◌≡◌, ℕ, List, Result, Ok, Err, IfErr}
 use Rattle.std.proofs.Common.{sym, subst}
-use Rattle.rtl_machine.specs.declared.fault.MachineFault.{MachineFault}
-use Rattle.rtl_machine.specs.declared.fault.MachineFault.TheVariants as machine
+use Rattle.rtl_run.specs.declared.fault.MachineFault.{MachineFault}
+use Rattle.rtl_run.specs.declared.fault.MachineFault.TheVariants as machine
 use Rattle.rtl_net.specs.Nets.{NetlistView}
 use Rattle.rtl_sink.specs.Written.{SinkState}
 use Rattle.rtlsim_faults.specs.declared.faults.Fault.{Fault}

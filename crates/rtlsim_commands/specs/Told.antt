@@ -11,9 +11,9 @@ use Rattle.rtlsim_faults.specs.Behind.{TellsFurther, has_others}
 use Rattle.rtlsim_commands.specs.Answered.{TellsText, verdict_status}
 use Rattle.rtlsim_commands.specs.Remarked.{TellsRemarks}
 use Rattle.rtlsim_commands.specs.Unsettled.{TellsChanging}
-use Rattle.rtl_machine.specs.declared.level_summary.LevelSummary.{LevelSummary}
+use Rattle.rtl_run.specs.declared.level_summary.LevelSummary.{LevelSummary}
 use Rattle.rtl_net.specs.Nets.{NetlistView}
-use Rattle.rtl_machine.specs.declared.summary.Summary.{Summary}
+use Rattle.rtl_run.specs.declared.summary.Summary.{Summary}
 use Rattle.rtl_sink.specs.Written.{SinkState}
 use Rattle.vhdl_source_rules.specs.Designs.{IsNetOf}
 

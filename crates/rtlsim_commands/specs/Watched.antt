@@ -2,10 +2,10 @@
 use Rattle.std.specs.Prelude.{⊤, ℕ, List, Result, Ok, Err}
 use Rattle.rtlsim_faults.specs.declared.faults.Fault.{Fault}
 use Rattle.rtlsim_faults.specs.declared.faults.Fault.TheVariants.{Differs}
-use Rattle.rtl_machine.specs.Answered.{Admits}
-use Rattle.rtl_machine.specs.Watched.{IsToldRun}
+use Rattle.rtl_run.specs.Answered.{Admits}
+use Rattle.rtl_run.specs.Watched.{IsToldRun}
 use Rattle.rtl_net.specs.Nets.{NetlistView}
-use Rattle.rtl_machine.specs.simulations.Watched.{IsToldAll}
+use Rattle.rtl_run.specs.simulations.Watched.{IsToldAll}
 use Rattle.rtl_sink.specs.Written.{SinkState}
 use Rattle.rtl_stim.specs.Stimuli.{StimulusView, IsRead}
 use Rattle.rtl_sink.specs.Stands.{Stand}

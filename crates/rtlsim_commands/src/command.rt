@@ -12,8 +12,8 @@ ghost use Rattle.rtlsim_commands.specs.Answered.{TellsText, verdict_status};
 ghost use Rattle.rtlsim_commands.specs.Expected.{IsOfRun};
 ghost use Rattle.rtlsim_commands.specs.Sights.{Sight, Seeing, IsOfNet};
 
-use rtl_machine::{LevelSummary, Summary};
 use rtl_net::Net;
+use rtl_run::{LevelSummary, Summary};
 use rtl_sink::{Sink, Watch};
 use rtlsim_faults::{Fault, Status, tell_levels, tell_summary};
 use std::alloc::Global;

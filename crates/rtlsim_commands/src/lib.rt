@@ -31,8 +31,8 @@ pub use opening::{
 pub use printing::{CheckNet, DrawNet, EvalNet, ListNet};
 pub use rtl_check::CheckFault;
 pub use rtl_kernel::{Forward, Pick, Reverse};
-pub use rtl_machine::{LevelSummary, Summary};
 pub use rtl_net::Net;
+pub use rtl_run::{LevelSummary, Summary};
 pub use rtl_sink::{Sink, Unwatched, Watch};
 pub use rtl_stim::StimFault;
 pub use rtlsim_faults::{

@@ -13,7 +13,7 @@ use crate::listing::{check_net, check_net_dot};
 use crate::printing::{EvalNet, ListNet};
 use crate::running::{RunEvents, RunLevels, RunMachine};
 use rtl_kernel::Pick;
-use rtl_machine::{LevelSummary, Summary};
+use rtl_run::{LevelSummary, Summary};
 use rtl_sink::{Sink, Unwatched};
 use rtlsim_faults::Fault;
 use std::alloc::Global;

@@ -7,8 +7,8 @@ ghost use Rattle.rtlsim_commands.specs.Sights.{nothing};
 
 use crate::command::Command;
 use crate::listing::{check_net_dot_told, check_net_json, check_net_told, list_net};
-use rtl_machine;
 use rtl_net::Net;
+use rtl_run;
 use rtl_sink::{Sink, Watch};
 use rtlsim_faults::{Fault, Telling};
 use std::alloc::Global;
@@ -127,7 +127,7 @@ impl Command for EvalNet<'_, '_> {
         _watch: &mut V,
         out: &mut S,
     ) -> Result<(), Fault> {
-        match rtl_machine::eval(alloc, net, self.sets, out) {
+        match rtl_run::eval(alloc, net, self.sets, out) {
             Ok(()) => Ok(()),
             Err(fault) => Err(Fault::from(fault)),
         }

@@ -9,9 +9,9 @@ use crate::command::{Command, Run};
 use rtl_check::stored;
 use rtl_eval_code::codes;
 use rtl_kernel::Pick;
-use rtl_machine;
-use rtl_machine::{LevelSummary, SLOTS, Simulation, Summary};
 use rtl_net::Net;
+use rtl_run;
+use rtl_run::{LevelSummary, SLOTS, Simulation, Summary};
 use rtl_sink::{Sink, Watch};
 use rtl_stim::{Stimulus, Wheel};
 use rtlsim_faults::Fault;
@@ -42,7 +42,7 @@ impl<P: Pick> Command for RunMachine<'_, P> {
         watch: &mut V,
         out: &mut S,
     ) -> Result<Summary, Fault> {
-        match rtl_machine::run_watched(alloc, net, self.stimulus, self.pick, watch, out) {
+        match rtl_run::run_watched(alloc, net, self.stimulus, self.pick, watch, out) {
             Ok(summary) => Ok(summary),
             Err(fault) => Err(Fault::from(fault)),
         }
@@ -74,7 +74,7 @@ impl Command for RunLevels<'_> {
         watch: &mut V,
         out: &mut S,
     ) -> Result<LevelSummary, Fault> {
-        match rtl_machine::run_levels_watched(alloc, net, self.stimulus, watch, out) {
+        match rtl_run::run_levels_watched(alloc, net, self.stimulus, watch, out) {
             Ok(summary) => Ok(summary),
             Err(fault) => Err(Fault::from(fault)),
         }

@@ -8,10 +8,10 @@ use Rattle.rtlsim_listing.specs.declared.fault.ListingFault.{ListingFault}
 use Rattle.rtlsim_listing.specs.declared.fault.ListingFault.TheVariants as listing
 use Rattle.rtl_expect.specs.declared.faults.ExpectFault.{ExpectFault}
 use Rattle.rtl_expect.specs.declared.faults.ExpectFault.TheVariants as expect
-use Rattle.rtl_machine.specs.declared.fault.MachineFault.{MachineFault}
-use Rattle.rtl_machine.specs.declared.fault.MachineFault.TheVariants as machine
-use Rattle.rtl_machine.specs.declared.summary.RunFault.{RunFault}
-use Rattle.rtl_machine.specs.declared.summary.RunFault.TheVariants as run
+use Rattle.rtl_run.specs.declared.fault.MachineFault.{MachineFault}
+use Rattle.rtl_run.specs.declared.fault.MachineFault.TheVariants as machine
+use Rattle.rtl_run.specs.declared.summary.RunFault.{RunFault}
+use Rattle.rtl_run.specs.declared.summary.RunFault.TheVariants as run
 use Rattle.rtl_stim_lines.specs.declared.faults.StimFault.{StimFault}
 use Rattle.rtl_stim_lines.specs.declared.faults.StimFault.TheVariants as stim
 use Rattle.vhdl_expand_rules.specs.declared.fault.ElabFault.TheVariants as elab

@@ -7,7 +7,7 @@ ghost use Rattle.rtlsim_faults.specs.declared.faults.Fault.TheVariants.{Memory};
 use crate::status::Status;
 use rtl_check::CheckFault;
 use rtl_expect::{Difference, ExpectFault};
-use rtl_machine::{MachineFault, RunFault};
+use rtl_run::{MachineFault, RunFault};
 use rtl_stim::StimFault;
 use rtlsim_listing::ListingFault;
 use std::alloc::AllocError;

@@ -20,9 +20,9 @@ use crate::reports::{
 use crate::status::Status;
 use crate::telling::Telling;
 use rtl_expect::push_difference;
-use rtl_machine::{LevelSummary, Summary};
 use rtl_net::Net;
 use rtl_report::{Place, Report, Rule, StimRule};
+use rtl_run::{LevelSummary, Summary};
 use rtl_sink::{Sink, finish, push_number, push_text};
 use rtl_stim::StimFault;
 use rtlsim_files::{FilePlace, SourceFile, place_in};

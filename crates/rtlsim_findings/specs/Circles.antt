@@ -3,8 +3,8 @@ use Rattle.std.specs.Prelude.{ℕ, if◌then◌else◌, List, [], ◌∷◌, ◌
 use Rattle.rtl_net.specs.Names.{net_name, process_name}
 use Rattle.rtl_net.specs.Nets.{NetlistView}
 use Rattle.rtl_net.specs.declared.process.Process.{Process}
-use Rattle.rtl_net_facts.specs.Paths.{driven}
-use Rattle.rtl_net_facts.specs.Reading.{is_in}
+use Rattle.rtl_body_facts.specs.Paths.{driven}
+use Rattle.rtl_body_facts.specs.Reading.{is_in}
 
 -- the first of these nets that is one of the others
 abbrev pub first_among : (others : List ℕ) → (nets : List ℕ) → Option ℕ

@@ -6,7 +6,7 @@ use Rattle.rtl_latches.specs.declared.omission.Omission.TheVariants.{NoElse, Bra
 use Rattle.rtl_model.specs.simulation.Accepted.{Fault, Latch}
 use Rattle.rtl_net.specs.Nets.{NetlistView}
 use Rattle.rtl_net.specs.declared.process.Process.{Process}
-use Rattle.rtl_net_facts.specs.Paths.{to_net}
+use Rattle.rtl_body_facts.specs.Paths.{to_net}
 
 abbrev pub omission_at : (n : ℕ) → Option Process → Option Omission
 omission_at n None = None

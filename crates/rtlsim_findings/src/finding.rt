@@ -3,7 +3,7 @@
 ghost use Rattle.std.specs.Prelude.{◌≡◌, ◌||◌, ℕ, map, IfOk, OnOk};
 ghost use Rattle.std.specs.List.Sorted.{IsStrictlyIncreasing};
 ghost use Rattle.rtl_check.specs.Views.{fault_view};
-ghost use Rattle.rtl_net_facts.specs.Reading.{is_in};
+ghost use Rattle.rtl_body_facts.specs.Reading.{is_in};
 ghost use Rattle.rtlsim_findings.specs.Findings as spec;
 ghost use Rattle.rtlsim_findings.specs.Findings.{finding_view};
 ghost use Rattle.rtlsim_findings.specs.steps.Joining.{causes_of};
@@ -12,9 +12,9 @@ ghost use Rattle.rtlsim_findings.specs.steps.Walked.{AreOf};
 use crate::cause::{Cause, cause_of};
 use crate::omitted::Omissions;
 use indexmap::IndexSet;
+use rtl_body_facts::{contains_rising, sort_once};
 use rtl_check::CheckFault;
 use rtl_net::{Net, NoMemory};
-use rtl_net_facts::{contains_rising, sort_once};
 use std::alloc::Global;
 
 /// The faults of one cause.

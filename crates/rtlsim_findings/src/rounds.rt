@@ -2,12 +2,12 @@
 
 ghost use Rattle.std.specs.Prelude.{◌≡◌, ◌++◌, ℕ, slice_get, IfOk, OnOk};
 ghost use Rattle.std.specs.List.Sorted.{IsStrictlyIncreasing};
-ghost use Rattle.rtl_net_facts.specs.Paths.{driven};
-ghost use Rattle.rtl_net_facts.specs.Reading.{is_in};
+ghost use Rattle.rtl_body_facts.specs.Paths.{driven};
+ghost use Rattle.rtl_body_facts.specs.Reading.{is_in};
 ghost use Rattle.rtlsim_findings.specs.Circles as spec;
 
+use rtl_body_facts::{contains_rising, sort_once};
 use rtl_net::{Driver, Net, NoMemory};
-use rtl_net_facts::{contains_rising, sort_once};
 use rtlsim_listing::{net_name, process_name};
 use std::alloc::Global;
 

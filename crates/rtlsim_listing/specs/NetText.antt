@@ -5,7 +5,7 @@ use Rattle.vhdl_values.specs.Scalar.{letter_of, value_of_code}
 use Rattle.rtl_model.specs.bodies.Types.{ElementType, nine_valued, enumeration}
 use Rattle.rtl_model.specs.nets.FlatNetlist.{flat_sources}
 use Rattle.rtl_model.specs.simulation.Netlist.{Source, Driver, Idle}
-use Rattle.rtl_net_facts.specs.Reading.{is_in}
+use Rattle.rtl_body_facts.specs.Reading.{is_in}
 use Rattle.rtl_net.specs.Nets.{NetlistView, flat}
 use Rattle.rtl_net.specs.Names.{net_name, process_name}
 

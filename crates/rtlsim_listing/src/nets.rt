@@ -7,8 +7,8 @@ ghost use Rattle.rtlsim_listing.specs.Printing.{Prints, IsListed};
 
 use crate::fault::ListingFault;
 use crate::sources::{push_sources, push_start};
+use rtl_body_facts::contains_rising;
 use rtl_net::{Net, NoMemory};
-use rtl_net_facts::contains_rising;
 use rtl_sink::{Sink, finish, push_number, push_text};
 
 /// Writes how many nets and processes there are, then for each net its number, name, start and sources, and for each process

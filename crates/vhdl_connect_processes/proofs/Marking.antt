@@ -7,7 +7,7 @@ use Rattle.std.proofs.lemmas.List.Sums.{sum_by-append}
 use Rattle.std.proofs.lemmas.List.Folds.{list_any-append}
 use Rattle.std.proofs.lemmas.List.{map-append}
 use Rattle.rtl_model.specs.bodies.Reads.{reads}
-use Rattle.rtl_net_facts.proofs.Members.{same_members}
+use Rattle.rtl_body_facts.proofs.Members.{same_members}
 use Rattle.vhdl_expand_rules.specs.Prefixes.{is_among}
 use Rattle.vhdl_expand_rules.specs.Tree as tree
 use Rattle.vhdl_expand_rules.specs.Tree.{Role, input, output, internal, Object}

@@ -9,7 +9,7 @@ ghost use Rattle.vhdl_expand_tree.specs.Views.{sensitivity_view};
 ghost use Rattle.vhdl_connect_processes.specs.Woken.{IsInOrder};
 
 use crate::connection::Connection;
-use rtl_net_facts::sort_once;
+use rtl_body_facts::sort_once;
 use smallvec::SmallVec;
 use std::alloc::{AllocError, Global};
 use vhdl_expand_tree::Sensitivity;

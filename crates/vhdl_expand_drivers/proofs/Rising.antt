@@ -7,8 +7,8 @@ use Rattle.std.proofs.lemmas.Bool.{eqb-true}
 use Rattle.std.proofs.lemmas.List.Elements.{All-contains, All-contains_itself}
 use Rattle.std.proofs.lemmas.List.Kept.{IsStrictlyIncreasing-filter}
 use borrow.Author.Tests.{ltb-true, ltb-false}
-use Rattle.rtl_net_facts.specs.Reading.{is_in}
-use Rattle.rtl_net_facts.proofs.Members.{same_members}
+use Rattle.rtl_body_facts.specs.Reading.{is_in}
+use Rattle.rtl_body_facts.proofs.Members.{same_members}
 use Rattle.vhdl_expand_rules.specs.Prefixes.{is_among, in_order}
 use Rattle.vhdl_expand_rules.proofs.laws.Targets.{in_order_has, in_order_all}
 use Rattle.vhdl_elab_rules.proofs.laws.Rising.{Rises, rises-run, rises-strictly}

@@ -3,8 +3,8 @@ use Rattle.std.proofs.Common.{◌≡◌, ℕ, false, List, [], ◌∷◌, ◌++�
 use Rattle.std.specs.Prelude.{◌↔◌, flat_map}
 use Rattle.rtl_model.specs.bodies.Leaves.{Leaf, read_of}
 use Rattle.rtl_net.specs.Visits.{Tells}
-use Rattle.rtl_net_facts.specs.Reading.{is_in}
-use Rattle.rtl_net_facts.proofs.Members.{in_has, has_in}
+use Rattle.rtl_body_facts.specs.Reading.{is_in}
+use Rattle.rtl_body_facts.proofs.Members.{in_has, has_in}
 use Rattle.vhdl_expand_drivers.specs.declared.reads.Reads.{Reads}
 
 pub told_all : (old new : Reads) (ls : List Leaf)

@@ -15,7 +15,7 @@ ghost use Rattle.vhdl_expand_drivers.specs.Named.{name_view};
 use crate::name::Name;
 use crate::names::names_in;
 use crate::targets::targets_of;
-use rtl_net_facts::sort_once;
+use rtl_body_facts::sort_once;
 use std::alloc::{AllocError, Global};
 use vhdl_expand_bodies::Site;
 use vhdl_expand_rules::{ElabFault, Run, is_static_part};

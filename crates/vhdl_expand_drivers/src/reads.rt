@@ -10,8 +10,8 @@ ghost use Rattle.rtl_net.specs.Bodies.{statements_of};
 ghost use Rattle.rtl_net.specs.Indices.{numbers};
 ghost use Rattle.rtl_net.specs.Visits.{leaf_view};
 
+use rtl_body_facts::sort_once;
 use rtl_net::{Indices, Leaf, Statement, Visit, walk_body};
-use rtl_net_facts::sort_once;
 use std::alloc::{AllocError, Global};
 
 /// What was read so far, unless memory was wanting.

@@ -1,7 +1,7 @@
 -- What an update of drivers does to their nets (IEEE 1076-2008, 14.7.3): nets with one source get their drivers' new values
 -- at once, and the group of nets with several is noted, so that they are resolved when all drivers have theirs.
 use Rattle.std.specs.Prelude.{◌≡◌, ◌↔◌, ◌+◌, ◌%◌, ℕ, ◌<◌, Bool, true, false, List, length, slice_index, slice_index_or, Contains}
-use Rattle.rtl_net_layout.specs.Groups.{Grouping}
+use Rattle.rtl_net_groups.specs.Groups.{Grouping}
 use Rattle.rtl_model.specs.nets.FlatNetlist.{FlatNetlist, flat_sources}
 use Rattle.rtl_net.specs.declared.process.Process.{Process}
 use Rattle.rtl_kernel.specs.drivers.Transactions.{driver_at, targets_of}

@@ -1,6 +1,6 @@
 -- What holds of every kernel.
 use Rattle.std.specs.Prelude.{◌≡◌, ℕ, ◌<◌, ◌≤◌, Bool, List, [], length, map, slice_index_or, Option}
-use Rattle.rtl_net_layout.specs.Cuts.{Cutting, AreCutsOf}
+use Rattle.rtl_net_groups.specs.Cuts.{Cutting, AreCutsOf}
 use Rattle.rtl_model.specs.bodies.Types.{ElementType}
 use Rattle.rtl_model.specs.nets.FlatNetlist.{FlatNetlist, FlatProcess, IsInRange, process_at}
 use Rattle.rtl_model.specs.nets.CoreNetlist.{core_netlist}
@@ -8,8 +8,8 @@ use Rattle.rtl_model.specs.nets.Wiring.{IsConnected}
 use Rattle.rtl_model.specs.simulation.Cycle.{State, IsToRun}
 use Rattle.rtl_model.specs.simulation.Laws.{IsConsistent}
 use Rattle.rtl_model.specs.simulation.Range.{StateInRange}
-use Rattle.rtl_awaited.specs.declared.awaited.ClockEdge.{ClockEdge}
-use Rattle.rtl_awaited.specs.Awaiting.{AreFollowers}
+use Rattle.rtl_awaited_edges.specs.declared.awaited.ClockEdge.{ClockEdge}
+use Rattle.rtl_awaited_edges.specs.Awaiting.{AreFollowers}
 use Rattle.rtl_eval.specs.Runs.{Outcome, IsOf}
 use Rattle.rtl_kernel.specs.drivers.Brought.{MarkAlone}
 use Rattle.rtl_kernel.specs.drivers.Transactions.{Transactions, IsActive, all_targets, no_outcome, pending_of}

@@ -1,6 +1,6 @@
 -- Two valuations with the list of the groups whose nets may differ.
 use Rattle.std.specs.Prelude.{◌≡◌, true, All, length}
-use Rattle.rtl_net_layout.specs.Groups.{AreRuns}
+use Rattle.rtl_net_groups.specs.Groups.{AreRuns}
 use Rattle.rtl_kernel.specs.values.TwoValues.{TwoValues, CoverEvents, HasEventIn}
 use Rattle.rtl_kernel.specs.declared.values.Values.TheInside.{Inside}
 

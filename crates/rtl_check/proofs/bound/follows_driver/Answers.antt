@@ -2,7 +2,7 @@ use Rattle.std.proofs.Common.{◌<◌, ℕ, List, length, get_or, sym, ap, subst
 use Rattle.std.specs.List.{list_any}
 use Rattle.rtl_model.specs.simulation.Netlist as m
 use Rattle.rtl_net.specs.declared.process.Process.{Process}
-use Rattle.rtl_net_facts.proofs.Anys.{any_end}
+use Rattle.rtl_body_facts.proofs.Anys.{any_end}
 use Rattle.rtl_net.specs.Core.{core}
 use Rattle.rtl_check.specs.Bounds as b
 use Rattle.rtl_check.proofs.Processes.{process_is}

@@ -2,7 +2,7 @@ use Rattle.std.proofs.Common.{sym, ◌∙◌}
 use Rattle.rtl_model.specs.simulation.Levels.{is_driver}
 use Rattle.rtl_net.specs.declared.net.Source.{Source}
 use Rattle.rtl_net.specs.Nets.{source_view}
-use Rattle.rtl_net_facts.proofs.Anys.{any_end}
+use Rattle.rtl_body_facts.proofs.Anys.{any_end}
 use Rattle.rtl_check.proofs.Bounds.{any_here, driven_by}
 use Rattle.rtl_check.proofs.bound.is_driven.Goals as goal
 

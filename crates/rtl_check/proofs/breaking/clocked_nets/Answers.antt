@@ -1,5 +1,5 @@
 use Rattle.std.proofs.Common.{◌&&◌, not, ℕ, List, sym, ap, ◌∙◌}
-use Rattle.rtl_net_facts.specs.Reading.{is_in}
+use Rattle.rtl_body_facts.specs.Reading.{is_in}
 use Rattle.rtl_check.specs.declared.rule.Rule.{Rule}
 use Rattle.rtl_check.specs.Views.{nets_tested}
 use Rattle.rtl_check.specs.Rules.{clocked_breaks}

@@ -3,7 +3,7 @@ use Rattle.std.specs.List.{filter}
 use Rattle.std.proofs.lemmas.List.{append-nil, take_all}
 use Rattle.std.proofs.lemmas.List.Elements.{filter_more}
 use Rattle.std.proofs.lemmas.Result.{IfOk-from_err}
-use Rattle.rtl_net_facts.specs.Reading.{is_in}
+use Rattle.rtl_body_facts.specs.Reading.{is_in}
 use Rattle.rtl_check.specs.Rules.{is_data}
 use Rattle.rtl_check.proofs.breaking.clocks_as_data.Goals.{then-contains_rising+then-is_used+in_ok-push, else-contains_rising, else-contains_rising-via-then-contains_rising+else-is_used, else-contains_rising-via-else-contains_rising}
 use Rattle.rtl_check.proofs.breaking.clocks_as_data.Goals as goal

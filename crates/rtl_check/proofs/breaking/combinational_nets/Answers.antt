@@ -1,5 +1,5 @@
 use Rattle.std.proofs.Common.{◌&&◌, not, ℕ, List, sym, ap, ◌∙◌}
-use Rattle.rtl_net_facts.specs.Reading.{is_in}
+use Rattle.rtl_body_facts.specs.Reading.{is_in}
 use Rattle.rtl_check.specs.declared.rule.Rule.{Rule}
 use Rattle.rtl_check.specs.Rules.{combinational_breaks}
 use Rattle.rtl_check.proofs.KeptNets.{if_ok, kept_rise, kept_are}

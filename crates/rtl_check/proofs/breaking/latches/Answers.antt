@@ -3,8 +3,8 @@ use Rattle.rtl_model.specs.bodies.Assigns.{must_assign}
 use Rattle.rtl_net.specs.declared.process.Driver.{Driver}
 use Rattle.rtl_net.specs.declared.body.Statement.{Statement}
 use Rattle.rtl_net.specs.Bodies.{statements_of}
-use Rattle.rtl_net_facts.specs.Reading.{is_in}
-use Rattle.rtl_net_facts.specs.Paths.{driven, to_net}
+use Rattle.rtl_body_facts.specs.Reading.{is_in}
+use Rattle.rtl_body_facts.specs.Paths.{driven, to_net}
 use Rattle.rtl_check.proofs.KeptNets.{if_ok, kept_rise, kept_are}
 use Rattle.rtl_check.proofs.breaking.latches.Goals as goal
 

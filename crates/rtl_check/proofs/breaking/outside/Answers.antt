@@ -3,7 +3,7 @@ use Rattle.std.specs.List.{filter}
 use Rattle.std.proofs.lemmas.List.{append-nil, take_all}
 use Rattle.std.proofs.lemmas.List.Elements.{filter_more}
 use Rattle.std.proofs.lemmas.Result.{IfOk-from_err}
-use Rattle.rtl_net_facts.specs.Reading.{is_in}
+use Rattle.rtl_body_facts.specs.Reading.{is_in}
 use Rattle.rtl_check.proofs.breaking.outside.Goals.{then-not-contains_rising+in_ok-push, else-not-contains_rising}
 use Rattle.rtl_check.proofs.breaking.outside.Goals as goal
 

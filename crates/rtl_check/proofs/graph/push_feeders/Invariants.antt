@@ -1,7 +1,7 @@
 use Rattle.std.proofs.Common.{◌≡◌, ◌||◌, ℕ, take}
 use Rattle.std.specs.List.{list_any}
 use Rattle.rtl_net.specs.Nets.{source_view}
-use Rattle.rtl_net_facts.specs.Reading.{is_in}
+use Rattle.rtl_body_facts.specs.Reading.{is_in}
 use Rattle.rtl_check.specs.Feeders.{feeds_by}
 use Rattle.rtl_check.proofs.graph.push_feeders.Given as goal
 

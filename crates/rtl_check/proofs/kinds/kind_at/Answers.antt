@@ -6,7 +6,7 @@ use Rattle.rtl_net.specs.declared.body.Statement.{Statement}
 use Rattle.rtl_net.specs.declared.process.Process.{Process}
 use Rattle.rtl_net.specs.Nets.{body_of}
 use Rattle.rtl_net.specs.Bodies.{statements_of}
-use Rattle.rtl_net_facts.specs.Timing.{kind_view}
+use Rattle.rtl_body_facts.specs.Timing.{kind_view}
 use Rattle.rtl_net.specs.Core.{core}
 use Rattle.rtl_check.specs.Views.{IsKind}
 use Rattle.rtl_check.proofs.Processes.{process_is, kind_is}

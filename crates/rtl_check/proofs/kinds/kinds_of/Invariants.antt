@@ -1,6 +1,6 @@
 use Rattle.std.proofs.Common.{◌≡◌, ◌<◌, ℕ, length, get_or}
 use Rattle.rtl_model.specs.simulation.Netlist.{process}
-use Rattle.rtl_net_facts.specs.declared.kinds.ProcessKind.TheVariants as k
+use Rattle.rtl_body_facts.specs.declared.kinds.ProcessKind.TheVariants as k
 use Rattle.rtl_net.specs.Core.{core}
 use Rattle.rtl_check.specs.Views.{IsKind}
 use Rattle.rtl_check.proofs.kinds.kinds_of.Given as goal

@@ -1,6 +1,6 @@
 use Rattle.std.proofs.Common.{◌≡◌, ◌<◌, ℕ, List, get_or, ap, subst, ◌∙◌, arith}
 use Rattle.rtl_net.specs.declared.process.Process.{Process}
-use Rattle.rtl_net_facts.specs.declared.kinds.ProcessKind.TheVariants as k
+use Rattle.rtl_body_facts.specs.declared.kinds.ProcessKind.TheVariants as k
 use Rattle.rtl_check.specs.Rules.{breaks, Pushes}
 use Rattle.rtl_check.proofs.Processes.{many_processes}
 use Rattle.rtl_check.proofs.RuleLists.{if_done, reads_listed, wakes_rise, rule_done}

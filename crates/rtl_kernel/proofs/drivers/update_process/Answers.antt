@@ -3,7 +3,7 @@ use Rattle.std.specs.List.{range_with_len}
 use Rattle.std.specs.Vec.{with_items}
 use Rattle.std.proofs.lemmas.List.{with_items_is}
 use Rattle.rtl_model.proofs.simulation.Rows.{length-driven}
-use Rattle.rtl_net_layout.specs.Cuts.{no_cut}
+use Rattle.rtl_net_groups.specs.Cuts.{no_cut}
 use Rattle.rtl_net.specs.Nets.{flat}
 use Rattle.rtl_kernel.specs.drivers.Brought.{Brings}
 use Rattle.rtl_kernel.proofs.Wholes.{own_cuts, targets_within, whole_first, whole_in_group, whole_some, whole_targets, whole_within}

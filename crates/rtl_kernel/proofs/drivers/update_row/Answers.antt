@@ -3,8 +3,8 @@ use Rattle.std.specs.Vec.{with_items}
 use Rattle.std.proofs.lemmas.List.{with_items_is}
 use Rattle.rtl_eval.specs.declared.spans.Span.{Span}
 use Rattle.rtl_eval.proofs.Places.{place_assigned}
-use Rattle.rtl_net_layout.specs.Cuts.{AreCuts}
-use Rattle.rtl_net_layout.specs.Groups.{Grouping}
+use Rattle.rtl_net_groups.specs.Cuts.{AreCuts}
+use Rattle.rtl_net_groups.specs.Groups.{Grouping}
 use Rattle.rtl_net.specs.Nets.{flat}
 use Rattle.rtl_kernel.specs.drivers.Brought.{MarkAlone}
 use Rattle.rtl_kernel.specs.drivers.Transactions.{nets_of}

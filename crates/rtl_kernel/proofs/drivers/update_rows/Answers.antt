@@ -6,8 +6,8 @@ use Rattle.rtl_model.specs.simulation.Cycle.{driver_values}
 use Rattle.rtl_eval.specs.Runs.{Outcome}
 use Rattle.rtl_net.specs.Nets.{flat}
 use Rattle.rtl_kernel.specs.drivers.Rows.{rows}
-use Rattle.rtl_net_layout.specs.Cuts.{AreCutsOf}
-use Rattle.rtl_net_layout.specs.Groups.{Grouping}
+use Rattle.rtl_net_groups.specs.Cuts.{AreCutsOf}
+use Rattle.rtl_net_groups.specs.Groups.{Grouping}
 use Rattle.rtl_kernel.specs.drivers.Brought.{MarkAlone, Brings}
 use Rattle.rtl_kernel.specs.drivers.Transactions.{all_targets, targets_of}
 use Rattle.rtl_kernel.proofs.Updating.{updating_none_yet, updating_one, updated_drivers, updated_outcomes}

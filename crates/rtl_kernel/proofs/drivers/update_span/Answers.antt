@@ -1,12 +1,12 @@
 use Rattle.std.proofs.Common.{◌≡◌, ℕ, ◌+◌, ◌-◌, ◌<◌, ◌≤◌, true, false, List, Option, Some, None, arith, length, get_or, ap, sym, subst, ◌∙◌}
 use Rattle.std.specs.Prelude.{IsSome}
 use Rattle.std.proofs.lemmas.List.{length-map}
-use Rattle.rtl_net_layout.specs.Groups.{Grouping}
+use Rattle.rtl_net_groups.specs.Groups.{Grouping}
 use Rattle.rtl_net.specs.Nets.{flat}
 use Rattle.rtl_net.specs.declared.process.Driver.{Driver}
 use Rattle.rtl_kernel.specs.drivers.Brought.{IsAlone, MarkAlone}
 use Rattle.rtl_kernel.specs.drivers.Transactions.{nets_of}
-use Rattle.rtl_net_layout.specs.Cuts.{no_cut}
+use Rattle.rtl_net_groups.specs.Cuts.{no_cut}
 use Rattle.rtl_kernel.proofs.Brought.{alone_marked, brings_run}
 use Rattle.rtl_kernel.proofs.Pieces.{cut_group_here, net_here, some_here, within_here}
 use Rattle.rtl_kernel.proofs.Updating.{net_at, taken_more, takes_none, takes_run, takes_then}

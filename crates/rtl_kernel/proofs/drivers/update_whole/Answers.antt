@@ -1,6 +1,6 @@
 use Rattle.std.proofs.Common.{◌≡◌, ℕ, ◌+◌, ◌<◌, true, false, arith, length, get_or, ap, sym, subst, ◌∙◌}
 use Rattle.rtl_eval.specs.declared.spans.Span.{Span}
-use Rattle.rtl_net_layout.specs.Groups.{Grouping}
+use Rattle.rtl_net_groups.specs.Groups.{Grouping}
 use Rattle.rtl_net.specs.Nets.{flat}
 use Rattle.rtl_kernel.specs.drivers.Brought.{IsAlone, MarkAlone}
 use Rattle.rtl_kernel.proofs.Brought.{alone_marked}

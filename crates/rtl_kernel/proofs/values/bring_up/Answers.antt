@@ -1,5 +1,5 @@
 use Rattle.std.proofs.Common.{ℕ, arith, refl, sym, subst, ◌∙◌, get_or}
-use Rattle.rtl_net_layout.specs.Groups.{AreNetsOf}
+use Rattle.rtl_net_groups.specs.Groups.{AreNetsOf}
 use Rattle.std.proofs.lemmas.List.{get_or_default}
 use Rattle.rtl_model.proofs.simulation.Rows.{differs_event}
 use Rattle.rtl_kernel.proofs.Events.{none_differ, one_behind}

@@ -3,7 +3,7 @@ use Rattle.std.specs.Option.{option_or}
 use Rattle.std.specs.List.Sorted.{IsStrictlyIncreasing}
 use Rattle.std.proofs.lemmas.List.{at_drop_more, at_drop_all}
 use Rattle.std.proofs.lemmas.List.Elements.{All-get_or}
-use Rattle.rtl_net_facts.specs.Reading.{is_in}
+use Rattle.rtl_body_facts.specs.Reading.{is_in}
 use Rattle.rtl_latches.specs.declared.parts.Part.{Part}
 use Rattle.rtl_latches.specs.Parts.{Told, told, both, only_left, where_so, rest_told, numbered}
 use Rattle.rtl_latches.proofs.Telling.{rest-goes, rest-ends}

@@ -1,6 +1,6 @@
 use Rattle.std.proofs.Common.{◌&&◌, not, ℕ, Bool, List, get_or, ap, ◌∙◌}
 use Rattle.std.proofs.lemmas.List.{take_all, get_or_default}
-use Rattle.rtl_net_facts.specs.Reading.{is_in}
+use Rattle.rtl_body_facts.specs.Reading.{is_in}
 use Rattle.rtl_latches.specs.declared.omission.Omission.TheVariants as o
 use Rattle.rtl_latches.specs.declared.parts.Left.{Left}
 use Rattle.rtl_latches.specs.Parts.{told, both, only_left, where_so, left_at}

@@ -1,5 +1,5 @@
 use Rattle.std.proofs.Common.{◌≡◌, ◌&&◌, not, ℕ, take}
-use Rattle.rtl_net_facts.specs.Reading.{is_in}
+use Rattle.rtl_body_facts.specs.Reading.{is_in}
 use Rattle.rtl_latches.specs.Parts.{told, both, only_left, where_so, left_at}
 use Rattle.rtl_latches.proofs.choosing.push_inner.Given as goal
 

@@ -1,8 +1,8 @@
 use Rattle.std.proofs.Common.{ap, sym, ◌∙◌}
 use Rattle.std.specs.List.{list_any}
 use Rattle.std.proofs.lemmas.Result.{IfOk-weaker}
-use Rattle.rtl_net_facts.proofs.Anys.{or_none}
-use Rattle.rtl_net_facts.specs.Paths.{to_net}
+use Rattle.rtl_body_facts.proofs.Anys.{or_none}
+use Rattle.rtl_body_facts.specs.Paths.{to_net}
 use Rattle.rtl_latches.specs.declared.parts.Part.{Part}
 use Rattle.rtl_latches.specs.Parts.{told, is_touched}
 use Rattle.rtl_latches.proofs.Statements.{touched-is}

@@ -8,8 +8,8 @@ use Rattle.rtl_model.specs.bodies.Assigns.{must_assign}
 use Rattle.rtl_net.specs.declared.body.Statement.{Statement}
 use Rattle.rtl_net.specs.declared.body.Statement.TheVariants as vs
 use Rattle.rtl_net.specs.Bodies.{statements_of}
-use Rattle.rtl_net_facts.specs.Paths.{to_net}
-use Rattle.rtl_net_facts.specs.Reading.{is_in}
+use Rattle.rtl_body_facts.specs.Paths.{to_net}
+use Rattle.rtl_body_facts.specs.Reading.{is_in}
 use Rattle.rtl_latches.specs.declared.omission.Omission.TheVariants as o
 use Rattle.rtl_latches.specs.declared.choosing.Counted.TheVariants as counted
 use Rattle.rtl_latches.specs.declared.parts.Part.{Part}

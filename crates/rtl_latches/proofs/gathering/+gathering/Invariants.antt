@@ -1,6 +1,6 @@
 use Rattle.std.proofs.Common.{◌≡◌, ℕ, All, map, take}
 use Rattle.std.specs.List.Sorted.{IsStrictlyIncreasing}
-use Rattle.rtl_net_facts.specs.Paths.{to_net}
+use Rattle.rtl_body_facts.specs.Paths.{to_net}
 use Rattle.rtl_latches.specs.declared.parts.Part.{Part}
 use Rattle.rtl_latches.specs.Parts.{told, told_of, of_branch, of_alternative}
 use Rattle.rtl_latches.proofs.gathering.+gathering.Given as goal

@@ -1,6 +1,6 @@
 use Rattle.std.proofs.Common.{◌==◌, ◌&&◌, ◌||◌, Bool, sym, ap, ◌∙◌}
-use Rattle.rtl_net_facts.specs.Reading.{is_in}
-use Rattle.rtl_net_facts.proofs.Anys.{or_none}
+use Rattle.rtl_body_facts.specs.Reading.{is_in}
+use Rattle.rtl_body_facts.proofs.Anys.{or_none}
 use Rattle.rtl_latches.proofs.Telling.{in-push}
 use Rattle.rtl_latches.proofs.parts.push_if.Goals as goal
 

@@ -1,8 +1,8 @@
 use Rattle.std.proofs.Common.{◌==◌, ◌||◌, List, get_or, take, ap, ◌∙◌}
 use Rattle.std.proofs.lemmas.List.{take_all, get_or_default}
-use Rattle.rtl_net_facts.specs.Reading.{is_in}
-use Rattle.rtl_net_facts.proofs.Anys.{or_none}
-use Rattle.rtl_net_facts.proofs.EveryPath.{goes_on, any_more}
+use Rattle.rtl_body_facts.specs.Reading.{is_in}
+use Rattle.rtl_body_facts.proofs.Anys.{or_none}
+use Rattle.rtl_body_facts.proofs.EveryPath.{goes_on, any_more}
 use Rattle.rtl_latches.specs.declared.omission.Omission.TheVariants as o
 use Rattle.rtl_latches.specs.declared.parts.Left.{Left}
 use Rattle.rtl_latches.specs.Parts.{has_left}

@@ -1,8 +1,8 @@
 use Rattle.std.proofs.Common.{Bool, ◌||◌, sym, ap, ◌∙◌}
 use Rattle.std.specs.List.{list_any}
 use Rattle.std.proofs.lemmas.List.{take_all}
-use Rattle.rtl_net_facts.specs.Reading.{is_in}
-use Rattle.rtl_net_facts.proofs.EveryPath.{any_more}
+use Rattle.rtl_body_facts.specs.Reading.{is_in}
+use Rattle.rtl_body_facts.proofs.EveryPath.{any_more}
 use Rattle.rtl_latches.specs.declared.parts.Part.{Part}
 use Rattle.rtl_latches.specs.Parts.{told, is_touched}
 use Rattle.rtl_latches.proofs.parts.touched.Goals as goal

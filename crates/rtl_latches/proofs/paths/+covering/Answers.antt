@@ -4,9 +4,9 @@ use Rattle.rtl_net.specs.declared.body.Statement.{Statement}
 use Rattle.rtl_net.specs.declared.body.Statement.TheVariants as vs
 use Rattle.rtl_net.specs.Bodies.{statements_of}
 use Rattle.rtl_model.specs.bodies.Assigns.{must_assign}
-use Rattle.rtl_net_facts.specs.Paths.{to_net, statement_covers, branch_covers, alternative_covers}
-use Rattle.rtl_net_facts.proofs.Anys.{any_found, any_next, any_end, all_lost, all_next, all_end, first_false, and_rest}
-use Rattle.rtl_net_facts.proofs.EveryPath.{covers_sequence, set_covers, if_covers, if_alone_covers, case_covers}
+use Rattle.rtl_body_facts.specs.Paths.{to_net, statement_covers, branch_covers, alternative_covers}
+use Rattle.rtl_body_facts.proofs.Anys.{any_found, any_next, any_end, all_lost, all_next, all_end, first_false, and_rest}
+use Rattle.rtl_body_facts.proofs.EveryPath.{covers_sequence, set_covers, if_covers, if_alone_covers, case_covers}
 use Rattle.rtl_latches.proofs.paths.+covering.Goals as goal
 
 pub covers-returns-then-statement_covers : goal.covers-returns-then-statement_covers

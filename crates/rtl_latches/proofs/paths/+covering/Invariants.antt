@@ -1,6 +1,6 @@
 use Rattle.std.proofs.Common.{◌≡◌, drop}
 use Rattle.std.specs.List.{list_any, list_all}
-use Rattle.rtl_net_facts.specs.Paths.{statement_covers, branch_covers, alternative_covers}
+use Rattle.rtl_body_facts.specs.Paths.{statement_covers, branch_covers, alternative_covers}
 use Rattle.rtl_latches.proofs.paths.+covering.Given as goal
 
 abbrev pub invariant-covers-loop-statement : goal.invariant-covers-loop-statement

@@ -1,6 +1,6 @@
 use Rattle.std.proofs.Common.{◌≡◌, drop}
 use Rattle.std.specs.List.{list_any}
-use Rattle.rtl_net_facts.specs.Paths.{covers}
+use Rattle.rtl_body_facts.specs.Paths.{covers}
 use Rattle.rtl_latches.proofs.paths.list_has.Given as goal
 
 abbrev pub invariant-loop-place : goal.invariant-loop-place

@@ -1,5 +1,5 @@
 use Rattle.std.proofs.Common.{arith, sym, ◌∙◌}
-use Rattle.rtl_net_facts.specs.Paths.{covers}
+use Rattle.rtl_body_facts.specs.Paths.{covers}
 use Rattle.rtl_latches.proofs.Runs.{run_goes}
 use Rattle.rtl_latches.proofs.paths.run_has.Goals as goal
 

@@ -1,6 +1,6 @@
 use Rattle.std.proofs.Common.{◌≡◌, ℕ, ◌+◌, List, [], ◌∷◌, ◌++◌, take, drop, ap, sym, ◌∙◌}
 use Rattle.std.specs.Option.{option_or}
-use Rattle.rtl_net_facts.specs.Reading.{is_in}
+use Rattle.rtl_body_facts.specs.Reading.{is_in}
 use Rattle.rtl_reasons.specs.Reasons.{first_in, assigns_in, assigns_beside, stands_beside}
 use Rattle.rtl_reasons.proofs.Searches.{first-fits, later-fits, only-fits, both-first, both-later, in-both, behind-is}
 use Rattle.rtl_reasons.proofs.beside.beside_edge.Goals as goal

@@ -1,5 +1,5 @@
 use Rattle.std.proofs.Common.{refl, sym, ◌∙◌}
-use Rattle.rtl_net_facts.specs.Reading.{is_in}
+use Rattle.rtl_body_facts.specs.Reading.{is_in}
 use Rattle.rtl_reasons.specs.Reasons.{first_in, assigns_beside}
 use Rattle.rtl_reasons.proofs.Searches.{found-so, passed-so, ended}
 use Rattle.rtl_reasons.proofs.beside.first_assigning.Goals as goal

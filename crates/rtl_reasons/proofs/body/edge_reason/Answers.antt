@@ -6,7 +6,7 @@ use Rattle.rtl_model.specs.bodies.Body.{Stmts}
 use Rattle.rtl_net.specs.declared.body.Statement.{Statement}
 use Rattle.rtl_net.specs.declared.process.Process.{Process}
 use Rattle.rtl_net.specs.Nets.{NetlistView}
-use Rattle.rtl_net_facts.specs.Reading.{is_in}
+use Rattle.rtl_body_facts.specs.Reading.{is_in}
 use Rattle.rtl_reasons.specs.declared.ifs.EdgeIf.{EdgeIf}
 use Rattle.rtl_reasons.specs.declared.reason.Reason.{Reason}
 use Rattle.rtl_reasons.specs.Reasons.{first_in, first_that_fits, assigns, assigns_in, edge_branch, if_branches, reset_behind, second_if, own_reason, beside_reasons, edge_reasons}

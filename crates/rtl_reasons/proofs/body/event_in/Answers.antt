@@ -4,7 +4,7 @@ use Rattle.rtl_model.specs.bodies.Reads.{events}
 use Rattle.rtl_net.specs.Bodies.{statements_of, branches_of, otherwise_of}
 use Rattle.rtl_net.specs.declared.body.Branch.{Branch}
 use Rattle.rtl_net.specs.declared.body.Statement.{Statement}
-use Rattle.rtl_net_facts.specs.Reading.{some}
+use Rattle.rtl_body_facts.specs.Reading.{some}
 use Rattle.rtl_reasons.specs.Reasons.{inner_events}
 use Rattle.rtl_reasons.specs.declared.reason.Reason.TheVariants.{EdgeInside, NoEdge}
 use Rattle.rtl_reasons.proofs.Branching.{elsewhere-is, elsewhere-if}

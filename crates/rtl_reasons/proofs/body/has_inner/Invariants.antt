@@ -1,7 +1,7 @@
 use Rattle.std.proofs.Common.{◌≡◌, drop}
 use Rattle.std.specs.Prelude.{option_map}
 use Rattle.rtl_net.specs.Bodies.{branches_of, otherwise_of}
-use Rattle.rtl_net_facts.specs.Reading.{some}
+use Rattle.rtl_body_facts.specs.Reading.{some}
 use Rattle.rtl_reasons.specs.Reasons.{inner_events}
 use Rattle.rtl_reasons.proofs.body.has_inner.Given as goal
 

@@ -3,7 +3,7 @@ use Rattle.std.proofs.lemmas.List.{take_all}
 use Rattle.rtl_net.specs.Bodies.{test_view, test_links_of}
 use Rattle.rtl_net.specs.declared.body.Test.{Test}
 use Rattle.rtl_net.specs.declared.body.TestLink.{TestLink}
-use Rattle.rtl_net_facts.proofs.Timings.{combined_is}
+use Rattle.rtl_body_facts.proofs.Timings.{combined_is}
 use Rattle.rtl_reasons.specs.Edges.{joined, joined_by}
 use Rattle.rtl_reasons.proofs.Branching.{start_view, links-more}
 use Rattle.rtl_reasons.proofs.edges.+joined.Goals as goal

@@ -1,6 +1,6 @@
 use Rattle.std.proofs.Common.{◌≡◌, length}
 use Rattle.std.specs.List.{list_all}
-use Rattle.rtl_net_facts.specs.Reading.{is_in}
+use Rattle.rtl_body_facts.specs.Reading.{is_in}
 use Rattle.rtl_reasons.proofs.nets.are_among.Given as goal
 
 abbrev pub invariant-loop-left : goal.invariant-loop-left

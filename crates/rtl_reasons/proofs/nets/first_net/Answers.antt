@@ -1,6 +1,6 @@
 use Rattle.std.proofs.Common.{List, ap, sym, ◌∙◌}
-use Rattle.rtl_net_facts.specs.Paths.{driven}
-use Rattle.rtl_net_facts.specs.Reading.{is_in}
+use Rattle.rtl_body_facts.specs.Paths.{driven}
+use Rattle.rtl_body_facts.specs.Reading.{is_in}
 use Rattle.rtl_reasons.proofs.Driven.{find-none, no-length}
 use Rattle.rtl_reasons.proofs.nets.first_net.Goals as goal
 

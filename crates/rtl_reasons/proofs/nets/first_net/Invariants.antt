@@ -1,7 +1,7 @@
 use Rattle.std.proofs.Common.{◌≡◌, length}
 use Rattle.std.specs.Prelude.{find}
-use Rattle.rtl_net_facts.specs.Paths.{driven}
-use Rattle.rtl_net_facts.specs.Reading.{is_in}
+use Rattle.rtl_body_facts.specs.Paths.{driven}
+use Rattle.rtl_body_facts.specs.Reading.{is_in}
 use Rattle.rtl_reasons.specs.Reasons.{first_net}
 use Rattle.rtl_reasons.proofs.nets.first_net.Given as goal
 

@@ -2,7 +2,7 @@ use Rattle.std.proofs.Common.{List, ap, ◌∙◌}
 use Rattle.std.proofs.lemmas.Result.{IfOk-weaker}
 use Rattle.rtl_net.specs.declared.process.Driver.{Driver}
 use Rattle.rtl_net.specs.Bodies.{statements_of}
-use Rattle.rtl_net_facts.specs.Paths.{to_net}
+use Rattle.rtl_body_facts.specs.Paths.{to_net}
 use Rattle.rtl_latches.specs.Assigning.{stmts_assign}
 use Rattle.rtl_reasons.proofs.nets.nets_of.Goals as goal
 

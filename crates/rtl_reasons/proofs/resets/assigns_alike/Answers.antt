@@ -1,7 +1,7 @@
 use Rattle.std.proofs.Common.{◌==◌, ℕ, ap, sym, ◌∙◌}
 use Rattle.std.specs.List.{list_all}
 use Rattle.rtl_net.specs.Bodies.{statements_of}
-use Rattle.rtl_net_facts.specs.Reading.{is_in}
+use Rattle.rtl_body_facts.specs.Reading.{is_in}
 use Rattle.rtl_reasons.proofs.Driven.{alike-none, alike-some}
 use Rattle.rtl_reasons.proofs.resets.assigns_alike.Goals as goal
 

@@ -1,5 +1,5 @@
 use Rattle.std.proofs.Common.{◌≡◌, drop}
-use Rattle.rtl_net_facts.specs.Reading.{is_in}
+use Rattle.rtl_body_facts.specs.Reading.{is_in}
 use Rattle.rtl_reasons.specs.Reasons.{first_in, reset_behind}
 use Rattle.rtl_reasons.proofs.resets.reset_behind.Given as goal
 

@@ -2,7 +2,7 @@ use Rattle.std.proofs.Common.{Bool, List, ℕ, ap, sym, ◌∙◌}
 use Rattle.std.specs.Prelude.{option_map}
 use Rattle.rtl_net.specs.Bodies.{branches_of, otherwise_of}
 use Rattle.rtl_net.specs.declared.body.Branch.{Branch}
-use Rattle.rtl_net_facts.specs.Reading.{is_in}
+use Rattle.rtl_body_facts.specs.Reading.{is_in}
 use Rattle.rtl_reasons.specs.Reasons.{sole_reset}
 use Rattle.rtl_reasons.specs.declared.reason.Reason.TheVariants.{ResetBehind}
 use Rattle.rtl_reasons.proofs.Branching.{behind-is}

@@ -2,7 +2,7 @@ use Rattle.std.proofs.Common.{◌≡◌, ℕ, Bool, true, false, ◌&&◌, List,
 use Rattle.std.specs.Prelude.{option_map, is_some, is_none}
 use Rattle.rtl_net.specs.Bodies.{statements_of}
 use Rattle.rtl_net.specs.declared.body.Statement.{Statement}
-use Rattle.rtl_net_facts.specs.Reading.{is_in}
+use Rattle.rtl_body_facts.specs.Reading.{is_in}
 use Rattle.rtl_reasons.specs.declared.reason.Reason.{Reason}
 use Rattle.rtl_reasons.specs.Reasons.{computes, assigns_alike}
 use Rattle.rtl_reasons.proofs.Branching.{sole-many, sole-else, sole-one}

@@ -1,5 +1,5 @@
 use Rattle.std.proofs.Common.{◌≡◌, ◌&&◌, ℕ, true, false, take}
-use Rattle.rtl_net_facts.specs.Reading.{is_in}
+use Rattle.rtl_body_facts.specs.Reading.{is_in}
 use Rattle.rtl_check.specs.Rules.{is_data}
 use Rattle.rtl_recheck.specs.Kept.{clock_nets}
 use Rattle.rtl_recheck.proofs.clocked.has_no_clock_as_data.Given as goal

@@ -5,7 +5,7 @@ use Rattle.rtl_net.specs.declared.body.Statement.{Statement}
 use Rattle.rtl_net.specs.declared.process.Driver.{Driver}
 use Rattle.rtl_net.specs.Bodies.{statements_of}
 use Rattle.rtl_net.specs.Nets.{body_of}
-use Rattle.rtl_net_facts.specs.Paths.{to_net}
+use Rattle.rtl_body_facts.specs.Paths.{to_net}
 use Rattle.rtl_recheck.proofs.Listed.{is_driven}
 use Rattle.rtl_recheck.proofs.rules.has_no_latch.Goals as goal
 

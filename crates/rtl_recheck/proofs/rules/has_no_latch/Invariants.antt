@@ -1,8 +1,8 @@
 use Rattle.std.proofs.Common.{◌≡◌, ℕ, true, take}
 use Rattle.rtl_model.specs.bodies.Assigns.{must_assign}
 use Rattle.rtl_net.specs.Nets.{body_of}
-use Rattle.rtl_net_facts.specs.Reading.{is_in}
-use Rattle.rtl_net_facts.specs.Paths.{driven, to_net}
+use Rattle.rtl_body_facts.specs.Reading.{is_in}
+use Rattle.rtl_body_facts.specs.Paths.{driven, to_net}
 use Rattle.rtl_recheck.proofs.rules.has_no_latch.Given as goal
 
 abbrev pub invariant-loop-driver : goal.invariant-loop-driver

@@ -7,9 +7,9 @@ use Rattle.rtl_net.specs.declared.body.Statement.TheVariants as vs
 use Rattle.rtl_net.specs.declared.body.Branch.{Branch}
 use Rattle.rtl_net.specs.declared.body.Alternative.{Alternative}
 use Rattle.rtl_net.specs.Bodies.{statements_of}
-use Rattle.rtl_net_facts.specs.Reading.{is_in}
-use Rattle.rtl_net_facts.proofs.Anys.{or_none}
-use Rattle.rtl_net_facts.proofs.EveryPath.{any_more, goes_on, adds_all}
+use Rattle.rtl_body_facts.specs.Reading.{is_in}
+use Rattle.rtl_body_facts.proofs.Anys.{or_none}
+use Rattle.rtl_body_facts.proofs.EveryPath.{any_more, goes_on, adds_all}
 use Rattle.rtl_remarks.specs.Undefined.{may_assign}
 use Rattle.rtl_remarks.specs.Tables.{statement_may, branch_may, alternative_may}
 use Rattle.rtl_remarks.proofs.Meanwhile.{body_may, if_may, if_alone_may, case_may, adds_both, kept_running}

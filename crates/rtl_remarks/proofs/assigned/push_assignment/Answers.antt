@@ -2,10 +2,10 @@ use Rattle.std.proofs.Common.{◌&&◌, ◌++◌, ℕ, List, ap, sym, ◌∙◌}
 use Rattle.rtl_net.specs.Bodies.{statement_view, statements_of}
 use Rattle.rtl_net.specs.declared.body.Statement.{Statement}
 use Rattle.rtl_model.specs.bodies.Assigns.{must_assign, stmt_must_assign}
-use Rattle.rtl_net_facts.specs.Paths.{to_net}
-use Rattle.rtl_net_facts.specs.Reading.{is_in}
-use Rattle.rtl_net_facts.proofs.Anys.{or_none}
-use Rattle.rtl_net_facts.proofs.EveryPath.{adds_all, in_filter}
+use Rattle.rtl_body_facts.specs.Paths.{to_net}
+use Rattle.rtl_body_facts.specs.Reading.{is_in}
+use Rattle.rtl_body_facts.proofs.Anys.{or_none}
+use Rattle.rtl_body_facts.proofs.EveryPath.{adds_all, in_filter}
 use Rattle.rtl_remarks.specs.Undefined.{is_same}
 use Rattle.rtl_remarks.proofs.assigned.push_assignment.Goals as goal
 

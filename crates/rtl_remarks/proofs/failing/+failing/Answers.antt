@@ -1,6 +1,6 @@
 use Rattle.std.proofs.Common.{◌&&◌, ◌||◌, ℕ, List, refl, ap, sym, ◌∙◌}
 use Rattle.std.proofs.lemmas.List.{at_drop_all}
-use Rattle.rtl_net_facts.specs.Reading.{is_in}
+use Rattle.rtl_body_facts.specs.Reading.{is_in}
 use Rattle.rtl_remarks.specs.Undefined.{is_and}
 use Rattle.rtl_remarks.specs.Tables.{tests_fail}
 use Rattle.rtl_remarks.proofs.LeftOut.{if_ok}

@@ -3,7 +3,7 @@ use Rattle.std.specs.List.{filter}
 use Rattle.std.proofs.lemmas.List.{append-nil, take_all}
 use Rattle.std.proofs.lemmas.List.Elements.{filter_more}
 use Rattle.std.proofs.lemmas.Result.{IfOk-from_err}
-use Rattle.rtl_net_facts.specs.Reading.{is_in}
+use Rattle.rtl_body_facts.specs.Reading.{is_in}
 use Rattle.rtl_remarks.specs.Undefined.{is_same}
 use Rattle.rtl_remarks.proofs.lists.chosen.Goals.{then-is_chosen+in_ok-push, else-is_chosen}
 use Rattle.rtl_remarks.proofs.lists.chosen.Goals as goal

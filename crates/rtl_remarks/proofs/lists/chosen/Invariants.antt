@@ -1,6 +1,6 @@
 use Rattle.std.proofs.Common.{◌≡◌, take}
 use Rattle.std.specs.List.{filter}
-use Rattle.rtl_net_facts.specs.Reading.{is_in}
+use Rattle.rtl_body_facts.specs.Reading.{is_in}
 use Rattle.rtl_remarks.specs.Undefined.{is_same}
 use Rattle.rtl_remarks.proofs.lists.chosen.Given as goal
 

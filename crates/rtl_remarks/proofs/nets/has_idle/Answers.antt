@@ -1,7 +1,7 @@
 use Rattle.std.proofs.Common.{sym, ◌∙◌}
 use Rattle.rtl_net.specs.Nets.{source_view}
 use Rattle.rtl_net.specs.declared.net.Source.{Source}
-use Rattle.rtl_net_facts.proofs.Anys.{any_end}
+use Rattle.rtl_body_facts.proofs.Anys.{any_end}
 use Rattle.rtl_remarks.specs.Remarks.{is_idle}
 use Rattle.rtl_remarks.proofs.Listed.{any_here, any_mapped}
 use Rattle.rtl_remarks.proofs.nets.has_idle.Goals as goal

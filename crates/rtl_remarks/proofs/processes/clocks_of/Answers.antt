@@ -6,8 +6,8 @@ use Rattle.std.proofs.lemmas.Result.{IfOk-from_err}
 use Rattle.rtl_model.specs.bodies.Kinds.{clocking}
 use Rattle.rtl_net.specs.Nets.{body_of}
 use Rattle.rtl_net.specs.declared.process.Process.{Process}
-use Rattle.rtl_net_facts.specs.Reading.{is_in}
-use Rattle.rtl_net_facts.proofs.EveryPath.{any_more}
+use Rattle.rtl_body_facts.specs.Reading.{is_in}
+use Rattle.rtl_body_facts.proofs.EveryPath.{any_more}
 use Rattle.rtl_remarks.specs.Remarks.{is_clock_of}
 use Rattle.rtl_remarks.proofs.processes.clocks_of.Goals as goal
 

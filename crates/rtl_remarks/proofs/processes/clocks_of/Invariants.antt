@@ -2,7 +2,7 @@ use Rattle.std.proofs.Common.{◌≡◌, ℕ, take}
 use Rattle.std.specs.List.{list_any}
 use Rattle.rtl_model.specs.bodies.Kinds.{clocking}
 use Rattle.rtl_net.specs.Nets.{body_of}
-use Rattle.rtl_net_facts.specs.Reading.{is_in}
+use Rattle.rtl_body_facts.specs.Reading.{is_in}
 use Rattle.rtl_remarks.specs.Remarks.{is_clock_of}
 use Rattle.rtl_remarks.proofs.processes.clocks_of.Given as goal
 

@@ -4,9 +4,9 @@ use Rattle.rtl_model.specs.bodies.Reads.{events}
 use Rattle.rtl_net.specs.Bodies.{statements_of}
 use Rattle.rtl_net.specs.Nets.{body_of}
 use Rattle.rtl_net.specs.declared.body.Statement.{Statement}
-use Rattle.rtl_net_facts.specs.Timing.{kind_view}
-use Rattle.rtl_net_facts.proofs.Anys.{or_none}
-use Rattle.rtl_net_facts.proofs.EveryPath.{adds_none, adds_all}
+use Rattle.rtl_body_facts.specs.Timing.{kind_view}
+use Rattle.rtl_body_facts.proofs.Anys.{or_none}
+use Rattle.rtl_body_facts.proofs.EveryPath.{adds_none, adds_all}
 use Rattle.rtl_remarks.specs.Remarks.{is_clock_of}
 use Rattle.rtl_remarks.proofs.ResetBranches.{clock_of_combinational, clock_of_clocked, clock_of_mixed}
 use Rattle.rtl_remarks.proofs.processes.push_clock.Goals as goal

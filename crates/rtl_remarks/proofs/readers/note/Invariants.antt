@@ -1,6 +1,6 @@
 use Rattle.std.proofs.Common.{◌≡◌, ℕ, ◌<◌, length, take, if◌then◌else◌}
 use Rattle.std.specs.Prelude.{slice_index_or, Some, None}
-use Rattle.rtl_net_facts.specs.Reading.{is_in}
+use Rattle.rtl_body_facts.specs.Reading.{is_in}
 use Rattle.rtl_remarks.proofs.readers.note.Given as goal
 
 -- the process stands at the nets before this one

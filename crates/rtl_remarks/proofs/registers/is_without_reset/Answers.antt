@@ -4,7 +4,7 @@ use Rattle.rtl_model.specs.bodies.Reads.{events}
 use Rattle.rtl_net.specs.Bodies.{statements_of}
 use Rattle.rtl_net.specs.Nets.{body_of}
 use Rattle.rtl_net.specs.declared.body.Statement.{Statement}
-use Rattle.rtl_net_facts.specs.Timing.{kind_view}
+use Rattle.rtl_body_facts.specs.Timing.{kind_view}
 use Rattle.rtl_remarks.proofs.ResetBranches.{open_combinational, open_mixed, open_clocked}
 use Rattle.rtl_remarks.proofs.registers.is_without_reset.Goals as goal
 

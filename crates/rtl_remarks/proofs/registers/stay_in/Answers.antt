@@ -2,7 +2,7 @@ use Rattle.std.proofs.Common.{ℕ, true, false, not, List, ap, ◌∙◌}
 use Rattle.std.specs.List.{filter}
 use Rattle.rtl_net.specs.Bodies.{statements_of}
 use Rattle.rtl_net.specs.declared.process.Driver.{Driver}
-use Rattle.rtl_net_facts.specs.Reading.{is_in}
+use Rattle.rtl_body_facts.specs.Reading.{is_in}
 use Rattle.rtl_remarks.specs.Remarks.{starts_undefined}
 use Rattle.rtl_remarks.specs.Undefined.{may_assign}
 use Rattle.rtl_remarks.proofs.LeftOut.{if_ok, stay_are}

@@ -1,7 +1,7 @@
 use Rattle.std.proofs.Common.{◌≡◌, ◌&&◌, ℕ, take}
 use Rattle.std.specs.List.{list_any}
 use Rattle.rtl_net.specs.Nets.{signal_view}
-use Rattle.rtl_net_facts.specs.Reading.{is_in}
+use Rattle.rtl_body_facts.specs.Reading.{is_in}
 use Rattle.rtl_remarks.specs.Tables.{takes}
 use Rattle.rtl_remarks.proofs.signals.nets_of.Given as goal
 

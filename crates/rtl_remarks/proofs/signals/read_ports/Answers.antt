@@ -7,7 +7,7 @@ use Rattle.rtl_model.proofs.basics.Lists.{get_or-map_within}
 use Rattle.rtl_net.specs.Elaborated.{SignalInRange}
 use Rattle.rtl_net.specs.Nets.{SignalView, signal_view, element_type}
 use Rattle.rtl_net.specs.declared.signal.Signal.{Signal}
-use Rattle.rtl_net_facts.specs.Reading.{is_in}
+use Rattle.rtl_body_facts.specs.Reading.{is_in}
 use Rattle.rtl_remarks.specs.Remarks.{is_of, is_read_port}
 use Rattle.rtl_remarks.proofs.Listed.{any_mapped}
 use Rattle.rtl_remarks.proofs.signals.read_ports.Goals as goal

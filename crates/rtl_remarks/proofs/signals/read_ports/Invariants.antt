@@ -1,7 +1,7 @@
 use Rattle.std.proofs.Common.{◌≡◌, ◌&&◌, ℕ, take}
 use Rattle.std.specs.List.{list_any}
 use Rattle.rtl_net.specs.Nets.{signal_view}
-use Rattle.rtl_net_facts.specs.Reading.{is_in}
+use Rattle.rtl_body_facts.specs.Reading.{is_in}
 use Rattle.rtl_remarks.specs.Remarks.{is_read_port}
 use Rattle.rtl_remarks.proofs.signals.read_ports.Given as goal
 

@@ -1,7 +1,7 @@
 use Rattle.std.proofs.Common.{◌&&◌, ◌||◌, ℕ, List, refl, ap, sym, ◌∙◌}
 use Rattle.std.proofs.lemmas.List.{at_drop_all}
 use Rattle.rtl_net.specs.Bodies.{operator_view}
-use Rattle.rtl_net_facts.specs.Reading.{is_in}
+use Rattle.rtl_body_facts.specs.Reading.{is_in}
 use Rattle.rtl_remarks.specs.Undefined.{passes}
 use Rattle.rtl_remarks.specs.Tables.{links_some, links_whole}
 use Rattle.rtl_remarks.proofs.Meanwhile.{both_ok, chain_makes, some_next, whole_next}

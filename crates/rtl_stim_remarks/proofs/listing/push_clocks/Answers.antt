@@ -1,5 +1,5 @@
 use Rattle.std.proofs.Common.{◌≡◌, ◌+◌, ◌++◌, length, ap, sym, ◌∙◌, append-nil, arith}
-use Rattle.rtl_net_facts.specs.Reading.{is_in}
+use Rattle.rtl_body_facts.specs.Reading.{is_in}
 use Rattle.rtl_remarks.specs.Remarks.{of_nets}
 use Rattle.rtl_remarks.proofs.Listed.{next_net}
 use Rattle.rtl_stim_remarks.specs.Naming.{clock_without}

@@ -1,5 +1,5 @@
 use Rattle.std.proofs.Common.{◌≡◌, ◌++◌}
-use Rattle.rtl_net_facts.specs.Reading.{is_in}
+use Rattle.rtl_body_facts.specs.Reading.{is_in}
 use Rattle.rtl_remarks.specs.Remarks.{of_nets}
 use Rattle.rtl_stim_remarks.specs.Naming.{clock_without}
 use Rattle.rtl_stim_remarks.proofs.listing.push_clocks.Given as goal

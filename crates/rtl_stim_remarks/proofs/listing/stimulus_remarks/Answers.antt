@@ -1,5 +1,5 @@
 use Rattle.std.proofs.Common.{◌≡◌, ◌++◌, ℕ, Bool, List, length, ap, ◌∙◌}
-use Rattle.rtl_net_facts.specs.Reading.{is_in}
+use Rattle.rtl_body_facts.specs.Reading.{is_in}
 use Rattle.rtl_remarks.specs.Remarks.{of_nets}
 use Rattle.rtl_stim_remarks.specs.Naming.{clock_without, input_without, has_line}
 use Rattle.rtl_stim_remarks.proofs.listing.stimulus_remarks.Goals as goal

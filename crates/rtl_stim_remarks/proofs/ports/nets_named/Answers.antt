@@ -3,8 +3,8 @@ use Rattle.std.specs.List.{list_any}
 use Rattle.std.proofs.lemmas.List.{take_all}
 use Rattle.rtl_net.specs.Nets.{SignalView, signal_view}
 use Rattle.rtl_net.specs.declared.signal.Signal.{Signal}
-use Rattle.rtl_net_facts.specs.Reading.{is_in}
-use Rattle.rtl_net_facts.proofs.EveryPath.{any_more}
+use Rattle.rtl_body_facts.specs.Reading.{is_in}
+use Rattle.rtl_body_facts.proofs.EveryPath.{any_more}
 use Rattle.rtl_remarks.specs.Remarks.{is_top_port, is_of}
 use Rattle.rtl_remarks.proofs.Listed.{any_mapped}
 use Rattle.rtl_stim_lines.specs.Inputs.{small}

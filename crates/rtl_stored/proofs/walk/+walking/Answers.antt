@@ -11,11 +11,11 @@ use Rattle.rtl_model.specs.bodies.Assigns.{is_element, stmt_must_assign, must_as
 use Rattle.rtl_model.specs.bodies.Stored.{value_looks_at, test_looks_at, stmt_stores, stores_element}
 use Rattle.rtl_model.specs.bodies.Leaves.{leaf_looks_at, value_leaves}
 use Rattle.rtl_model.proofs.bodies.Leaves.{leaves_tell}
-use Rattle.rtl_net_facts.specs.Looks.{branch_assigns, alternative_assigns, branch_stores, alternative_stores}
-use Rattle.rtl_net_facts.proofs.Anys.{or_none}
-use Rattle.rtl_net_facts.proofs.EveryPath.{any_more, all_more}
-use Rattle.rtl_net_facts.proofs.Parts.{assign_assigns, if_stores, if_assigns, if_alone_stores, if_alone_assigns, case_stores, case_assigns}
-use Rattle.rtl_net_facts.specs.Reading.{is_in}
+use Rattle.rtl_body_facts.specs.Looks.{branch_assigns, alternative_assigns, branch_stores, alternative_stores}
+use Rattle.rtl_body_facts.proofs.Anys.{or_none}
+use Rattle.rtl_body_facts.proofs.EveryPath.{any_more, all_more}
+use Rattle.rtl_body_facts.proofs.Parts.{assign_assigns, if_stores, if_assigns, if_alone_stores, if_alone_assigns, case_stores, case_assigns}
+use Rattle.rtl_body_facts.specs.Reading.{is_in}
 use Rattle.rtl_stored.specs.Walks.{never}
 use Rattle.rtl_stored.proofs.Walking.{then_walked, as_walked, then_reads, as_reads, reads_walked, no_walk, no_reads, no_narrows, as_narrows, then_narrows, told_reads, fresh, fresh_there, part_reads, part_narrows, whole_walked}
 use Rattle.rtl_stored.proofs.Sequences.{stores_more, assigns_more}

@@ -3,7 +3,7 @@ use Rattle.std.specs.List.{list_any, list_all}
 use Rattle.rtl_net.specs.Bodies.{statements_of}
 use Rattle.rtl_model.specs.bodies.Assigns.{is_element, must_assign}
 use Rattle.rtl_model.specs.bodies.Stored.{stores_element}
-use Rattle.rtl_net_facts.specs.Looks.{branch_assigns, alternative_assigns, branch_stores, alternative_stores}
+use Rattle.rtl_body_facts.specs.Looks.{branch_assigns, alternative_assigns, branch_stores, alternative_stores}
 use Rattle.rtl_stored.specs.Walks.{Reads, Walked, Narrows}
 use Rattle.rtl_stored.proofs.walk.+walking.Given as goal
 

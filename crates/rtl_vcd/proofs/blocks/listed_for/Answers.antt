@@ -4,7 +4,7 @@ use Rattle.std.proofs.lemmas.List.Elements.{All-weaker}
 use Rattle.std.proofs.lemmas.Result.{IfOk-weaker}
 use Rattle.rtl_net.specs.Nets.{SignalView, NetlistView}
 use Rattle.rtl_net.specs.Elaborated.{IsNet}
-use Rattle.rtl_net_layout.specs.Groups.{AreGroups, IsListed}
+use Rattle.rtl_net_groups.specs.Groups.{AreGroups, IsListed}
 use Rattle.rtl_vcd.specs.declared.blocks.Block.{Block}
 use Rattle.rtl_vcd.specs.Shown.{IsShown}
 use Rattle.rtl_vcd.specs.Blocks.{AreListed}

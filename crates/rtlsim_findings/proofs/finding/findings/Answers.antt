@@ -3,7 +3,7 @@ use Rattle.std.specs.Prelude.{if◌then◌else◌}
 use Rattle.rtl_check.specs.Views.{fault_view}
 use Rattle.rtl_check.specs.declared.fault.CheckFault.{CheckFault}
 use Rattle.rtl_net.specs.Nets.{NetlistView}
-use Rattle.rtl_net_facts.specs.Reading.{is_in}
+use Rattle.rtl_body_facts.specs.Reading.{is_in}
 use Rattle.rtlsim_findings.specs.Findings.{FindingView, any_gated, is_left_out, joined, found_from}
 use Rattle.rtlsim_findings.proofs.Lists.{first_is}
 use Rattle.rtlsim_findings.proofs.finding.findings.Goals as goal

@@ -1,5 +1,5 @@
 use Rattle.std.proofs.Common.{◌≡◌, ℕ, ◌||◌, length}
-use Rattle.rtl_net_facts.specs.Reading.{is_in}
+use Rattle.rtl_body_facts.specs.Reading.{is_in}
 use Rattle.rtlsim_findings.specs.Findings.{any_gated}
 use Rattle.rtlsim_findings.proofs.finding.gated_nets.Given as goal
 

@@ -1,7 +1,7 @@
 use Rattle.std.proofs.Common.{nat_eq, sym, ap, ◌∙◌}
 use Rattle.std.specs.Map.{lookup}
 use Rattle.rtl_latches.specs.Omissions.{omission_of}
-use Rattle.rtl_net_facts.specs.Paths.{to_net}
+use Rattle.rtl_body_facts.specs.Paths.{to_net}
 use Rattle.rtlsim_findings.specs.Omitted.{omission_at}
 use Rattle.rtlsim_findings.proofs.Numbered.{there, missing}
 use Rattle.rtlsim_findings.proofs.omitted.places_of.Goals as goal

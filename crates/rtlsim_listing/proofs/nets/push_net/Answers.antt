@@ -5,7 +5,7 @@ use Rattle.rtl_model.specs.nets.FlatNetlist.{flat_sources}
 use Rattle.rtl_sink.specs.Written.{Goes}
 use Rattle.rtl_sink.proofs.Writing.{Goes-append}
 use Rattle.rtl_net.specs.Nets.{flat, type_of}
-use Rattle.rtl_net_facts.specs.Reading.{is_in}
+use Rattle.rtl_body_facts.specs.Reading.{is_in}
 use Rattle.rtlsim_listing.specs.NetText.{net_line, start_text, sources_text}
 use Rattle.rtlsim_listing.proofs.Printing.{none, refused}
 use Rattle.rtlsim_listing.proofs.nets.push_net.Goals as goal

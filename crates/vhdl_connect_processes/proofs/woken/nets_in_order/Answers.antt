@@ -1,5 +1,5 @@
 use Rattle.std.proofs.Common.{ap, ◌∙◌}
-use Rattle.rtl_net_facts.specs.Reading.{is_in}
+use Rattle.rtl_body_facts.specs.Reading.{is_in}
 use Rattle.vhdl_connect_processes.proofs.Waking.{in_order_if}
 use Rattle.vhdl_connect_processes.proofs.woken.nets_in_order.Goals as goal
 

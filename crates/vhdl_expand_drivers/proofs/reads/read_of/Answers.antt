@@ -3,7 +3,7 @@ use Rattle.std.specs.Prelude.{flat_map}
 use Rattle.rtl_net.specs.Bodies.{statements_of}
 use Rattle.rtl_model.specs.bodies.Leaves.{leaves, read_of}
 use Rattle.rtl_model.proofs.bodies.Leaves.{leaves_tell}
-use Rattle.rtl_net_facts.specs.Reading.{is_in}
+use Rattle.rtl_body_facts.specs.Reading.{is_in}
 use Rattle.vhdl_expand_drivers.proofs.Told.{told_all, same_contained}
 use Rattle.vhdl_expand_drivers.proofs.reads.read_of.Goals as goal
 

@@ -1,7 +1,7 @@
 use Rattle.std.proofs.Common.{[], get_or, Contains, ap, subst, ◌∙◌}
 use Rattle.std.proofs.lemmas.List.{length-map}
 use Rattle.rtl_net.specs.Nets.{flat}
-use Rattle.rtl_net_layout.specs.Groups.{Grouping}
+use Rattle.rtl_net_groups.specs.Groups.{Grouping}
 use Rattle.rtl_kernel.specs.kernel.Simulation.{changes_of}
 use Rattle.rtl_kernel.specs.values.TwoValues.{TwoValues, AreChanged}
 use Rattle.rtl_kernel.specs.wakes.Woken.{wakers_of}

@@ -1,5 +1,5 @@
 use Rattle.std.proofs.Common.{◌≡◌, ◌≤◌, ℕ, length, get_or, sym, ap, subst, ◌∙◌, arith}
-use Rattle.rtl_net_layout.specs.Groups.{AreNetsOf, Grouping}
+use Rattle.rtl_net_groups.specs.Groups.{AreNetsOf, Grouping}
 use Rattle.rtl_kernel.proofs.Touching.{AreTouched, touched_none, touched_more, touches_events}
 use Rattle.rtl_kernel.proofs.kernel.Kernel.mark_changed.Goals as goal
 

@@ -1,5 +1,5 @@
 use Rattle.std.proofs.Common.{ℕ, List, [], true, length, map, replicate, ap, ◌∙◌}
-use Rattle.rtl_net_layout.specs.Groups.{Grouping}
+use Rattle.rtl_net_groups.specs.Groups.{Grouping}
 use Rattle.rtl_net.specs.declared.process.Process.{Process}
 use Rattle.rtl_kernel.specs.drivers.Starts.{start_row}
 use Rattle.rtl_kernel.specs.wakes.ToRun.{ToRun}

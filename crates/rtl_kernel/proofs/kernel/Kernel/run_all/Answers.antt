@@ -1,7 +1,7 @@
 use Rattle.std.proofs.Common.{[], ◌∙◌, ◌≡◌, Bool, false, Option, ap, sym, subst, refl, arith}
 use Rattle.std.specs.List.{count_by}
-use Rattle.rtl_awaited.specs.declared.awaited.ClockEdge.{ClockEdge}
-use Rattle.rtl_awaited.specs.Awaiting.{IsAsleep, first_edge}
+use Rattle.rtl_awaited_edges.specs.declared.awaited.ClockEdge.{ClockEdge}
+use Rattle.rtl_awaited_edges.specs.Awaiting.{IsAsleep, first_edge}
 use Rattle.rtl_eval.proofs.Counting.{count_by-set_less}
 use Rattle.rtl_model.proofs.simulation.Order.{waits_in}
 use Rattle.rtl_model.specs.nets.CoreNetlist.{core_netlist}

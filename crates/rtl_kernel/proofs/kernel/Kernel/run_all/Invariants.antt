@@ -1,6 +1,6 @@
 use Rattle.std.proofs.Common.{◌≡◌, true}
 use Rattle.std.specs.List.{count_by}
-use Rattle.rtl_awaited.specs.Awaiting.{IsAsleep, first_edge}
+use Rattle.rtl_awaited_edges.specs.Awaiting.{IsAsleep, first_edge}
 use Rattle.rtl_model.specs.nets.CoreNetlist.{core_netlist}
 use Rattle.rtl_model.specs.simulation.Cycle.{State}
 use Rattle.rtl_model.specs.simulation.Moments.{HasNoneToRun}

@@ -1,7 +1,7 @@
 use Rattle.std.proofs.Common.{false, Option, length, sym, ap, subst, ◌∙◌}
 use Rattle.std.proofs.lemmas.List.{get_or_default}
-use Rattle.rtl_awaited.specs.declared.awaited.ClockEdge.{ClockEdge}
-use Rattle.rtl_awaited.specs.Awaiting.{IsAsleep}
+use Rattle.rtl_awaited_edges.specs.declared.awaited.ClockEdge.{ClockEdge}
+use Rattle.rtl_awaited_edges.specs.Awaiting.{IsAsleep}
 use Rattle.rtl_kernel.specs.wakes.ToRun.{ToRun}
 use Rattle.rtl_kernel.proofs.Kept as kept
 use Rattle.rtl_kernel.proofs.kernel.Kernel.run_one.Goals as goal

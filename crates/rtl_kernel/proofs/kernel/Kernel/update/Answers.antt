@@ -1,7 +1,7 @@
 use Rattle.std.proofs.Common.{◌≡◌, ℕ, [], length, get_or, ap, sym, subst, ◌∙◌, Contains}
 use Rattle.std.proofs.lemmas.List.{length-map}
-use Rattle.rtl_net_layout.specs.Groups.{Grouping}
-use Rattle.rtl_net_layout.specs.Cuts.{AreCutsOf}
+use Rattle.rtl_net_groups.specs.Groups.{Grouping}
+use Rattle.rtl_net_groups.specs.Cuts.{AreCutsOf}
 use Rattle.rtl_model.specs.nets.CoreNetlist.{core_netlist}
 use Rattle.rtl_net.specs.Nets.{flat}
 use Rattle.rtl_kernel.specs.drivers.Brought.{MarkAlone}

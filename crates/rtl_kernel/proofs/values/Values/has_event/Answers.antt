@@ -1,7 +1,7 @@
 use Rattle.std.proofs.Common.{◌≡◌, ◌<◌, ◌≤◌, ℕ, true, length, sym, subst, arith}
 use Rattle.std.specs.List.{between}
 use Rattle.std.proofs.lemmas.Slice.Eq.{bytes_eq-Decides}
-use Rattle.rtl_net_layout.specs.Groups.{AreNetsOf}
+use Rattle.rtl_net_groups.specs.Groups.{AreNetsOf}
 use Rattle.rtl_model.specs.basics.Valuations.{has_event}
 use Rattle.rtl_model.proofs.simulation.Rows.{differs_event}
 use Rattle.rtl_kernel.proofs.Events.{same_no_event}

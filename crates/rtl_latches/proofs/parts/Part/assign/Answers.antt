@@ -1,6 +1,6 @@
 use Rattle.std.proofs.Common.{sym, ap, ◌∙◌}
-use Rattle.rtl_net_facts.specs.Reading.{is_in}
-use Rattle.rtl_net_facts.proofs.Members.{in_append}
+use Rattle.rtl_body_facts.specs.Reading.{is_in}
+use Rattle.rtl_body_facts.proofs.Members.{in_append}
 use Rattle.rtl_latches.specs.Parts.{left_at}
 use Rattle.rtl_latches.proofs.Telling.{told-same, first-none}
 use Rattle.rtl_latches.proofs.parts.Part.assign.Goals as goal

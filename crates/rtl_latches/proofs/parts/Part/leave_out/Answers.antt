@@ -1,7 +1,7 @@
 use Rattle.std.proofs.Common.{◌==◌, ℕ, List, Some, get_or, sym, ap, ◌∙◌}
 use Rattle.std.proofs.lemmas.List.{take_all, get_or_default}
-use Rattle.rtl_net_facts.specs.Reading.{is_in}
-use Rattle.rtl_net_facts.proofs.EveryPath.{any_more}
+use Rattle.rtl_body_facts.specs.Reading.{is_in}
+use Rattle.rtl_body_facts.proofs.EveryPath.{any_more}
 use Rattle.rtl_latches.specs.Parts.{told, both, only_left, where_so}
 use Rattle.rtl_latches.proofs.Telling.{both-nothing, leave-more}
 use Rattle.rtl_latches.proofs.parts.Part.leave_out.Goals as goal

@@ -1,5 +1,5 @@
 use Rattle.std.proofs.Common.{◌≡◌, ℕ, take, Some}
-use Rattle.rtl_net_facts.specs.Reading.{is_in}
+use Rattle.rtl_body_facts.specs.Reading.{is_in}
 use Rattle.rtl_latches.specs.Parts.{told, both, only_left, where_so}
 use Rattle.rtl_latches.proofs.parts.Part.leave_out.Given as goal
 

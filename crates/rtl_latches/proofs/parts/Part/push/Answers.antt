@@ -1,7 +1,7 @@
 use Rattle.std.proofs.Common.{◌==◌, ◌&&◌, Bool, Some, sym, ap, ◌∙◌}
 use Rattle.std.specs.Option.{option_or}
-use Rattle.rtl_net_facts.specs.Reading.{is_in}
-use Rattle.rtl_net_facts.proofs.Anys.{or_none}
+use Rattle.rtl_body_facts.specs.Reading.{is_in}
+use Rattle.rtl_body_facts.proofs.Anys.{or_none}
 use Rattle.rtl_latches.specs.Parts.{left_at, told, both, only_left, where_so}
 use Rattle.rtl_latches.proofs.Telling.{told-same, both-nothing, left-push}
 use Rattle.rtl_latches.proofs.parts.Part.push.Goals as goal

@@ -1,6 +1,6 @@
 use Rattle.std.proofs.Common.{take}
 use Rattle.rtl_net.specs.Indices.{numbers}
-use Rattle.rtl_net_facts.specs.Reading.{is_in}
+use Rattle.rtl_body_facts.specs.Reading.{is_in}
 use Rattle.rtl_stored.specs.Walks.{never, Walked}
 use Rattle.rtl_stored.proofs.marks.Marks.assign_named.Given as goal
 

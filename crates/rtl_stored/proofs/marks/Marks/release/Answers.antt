@@ -1,6 +1,6 @@
 use Rattle.std.proofs.Common.{◌≡◌, ◌<◌, ℕ, true, List, length, get_or, refl, subst, sym, ap, ◌∙◌}
 use Rattle.std.proofs.lemmas.List.{get_or_default}
-use Rattle.rtl_net_facts.specs.Reading.{is_in}
+use Rattle.rtl_body_facts.specs.Reading.{is_in}
 use Rattle.rtl_stored.specs.declared.marks.Mark.{Mark}
 use Rattle.rtl_stored.specs.Walks.{no_element}
 use Rattle.rtl_stored.proofs.Marking.{in_at, released_more}

@@ -1,5 +1,5 @@
 use Rattle.std.proofs.Common.{Ok, Err, refl, ap}
-use Rattle.rtl_machine.specs.declared.level_summary.LevelSummary.{LevelSummary}
+use Rattle.rtl_run.specs.declared.level_summary.LevelSummary.{LevelSummary}
 use Rattle.rtlsim_faults.specs.declared.faults.Fault.{Fault}
 use Rattle.rtlsim_commands.specs.Sights.{machine, IsOfNet}
 use Rattle.rtlsim_commands.proofs.Runs.{as_machine}

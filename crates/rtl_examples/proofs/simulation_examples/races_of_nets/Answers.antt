@@ -1,5 +1,0 @@
-use Rattle.rtl_examples.proofs.Nets.{races_of_nets}
-use Rattle.rtl_examples.proofs.simulation_examples.races_of_nets.Goals as goal
-
-pub returns : goal.returns
-returns c = races_of_nets

@@ -1,0 +1,172 @@
+-- What the machine takes from its netlist.
+use Rattle.std.proofs.Common.{◌≡◌, ℕ, ◌<◌, ◌≤◌, true, false, List, [], length, get_or, map, Option, sym, ap, subst, ◌∙◌, arith, ◌⊎◌, inl, inr, All}
+use Rattle.std.proofs.lemmas.Bool.{cases_Bool, cases_lt}
+use Rattle.std.proofs.lemmas.List.Elements.{All-map}
+use Rattle.std.proofs.lemmas.List.{get_or-set_same, get_or_default, get_or_past, length-map}
+use Rattle.rtl_model.specs.bodies.Types.{ElementType, KeepsTypes}
+use Rattle.rtl_model.specs.nets.CoreNetlist.{core_process, part_effect}
+use Rattle.rtl_model.specs.nets.FlatNetlist.{FlatProcess, IsInRange, element_starts, no_flat_process, process_at}
+use Rattle.rtl_model.specs.simulation.Levels.{is_clocked}
+use Rattle.rtl_model.proofs.nets.InRange.{process_in_range}
+use Rattle.rtl_model.specs.simulation.Netlist as m
+use Rattle.rtl_model.specs.simulation.Netlist.{process, IsCombinational}
+use Rattle.rtl_model.specs.simulation.Elaborated.{IsElaborated}
+use Rattle.rtl_model.proofs.basics.Lists.{get_or-map_within}
+use Rattle.rtl_model.proofs.nets.Processes.{process-core_net}
+use Rattle.rtl_model.proofs.nets.Connected.{connected_is_elaborated}
+use Rattle.rtl_model.proofs.simulation.Leveled.{Leveled}
+use Rattle.rtl_model.specs.simulation.Range.{IsValuation}
+use Rattle.rtl_eval.specs.Runs.{Outcome, IsOf}
+use Rattle.rtl_kernel.specs.drivers.Transactions.{HasRunOf, all_targets, nets_of, no_outcome}
+use Rattle.rtl_kernel.specs.wakes.Woken.{AreDifferent}
+use Rattle.rtl_kernel.proofs.Steps.{keeps_types}
+use Rattle.rtl_kernel.proofs.Wiring.{nets_there, targets_are}
+use Rattle.rtl_net_groups.specs.Cuts.{AreCuts, AreCutsOf, Cutting}
+use Rattle.rtl_net.specs.Nets.{NetlistView, flat, process_view, variable_view}
+use Rattle.rtl_net.specs.declared.process.Process.{Process}
+use Rattle.rtl_net.specs.Core.{core}
+use Rattle.rtl_levels.specs.Kept.{MayRun}
+use Rattle.rtl_levels.specs.Scheduled.{clocked_wakes, wakes_by_rank}
+use Rattle.rtl_levels.proofs.Settling.{one_place}
+
+-- what a run of a process has left, and what others had left
+module _ (entries : List (Option ℕ)) (p : ℕ) (old new : List Outcome) (R : HasRunOf entries p old new) where
+  pub ran_entries : p < length old → (get_or new p no_outcome).entries ≡ entries
+  ran_entries l =
+      ap (λ (os : List Outcome). (get_or os p no_outcome).entries) R.is
+      ∙ ap (λ (o : Outcome). o.entries) (get_or-set_same old p R.outcome no_outcome l) ∙ R.leaves.entries_are
+
+module _ (net : NetlistView) where
+  pub wakes_there : IsInRange (flat net) → (p : ℕ) → All (λ n. n < length net.types) (process (core net) p).wakes
+  wakes_there R p = by (cases_lt p (length (flat net).processes))
+    where
+      by : (p < length (flat net).processes) ⊎ (length (flat net).processes ≤ p) → All (λ n. n < length net.types) (process (core net) p).wakes
+      by (inl l) = rw (process-core_net (flat net) p) (process_in_range (flat net) R p l).wakes
+      by (inr l) = rw (process-core_net (flat net) p, get_or_past (flat net).processes p no_flat_process l) (λ k d m. absurd (omega (arith, m)))
+
+  pub rows_there : IsInRange (flat net) → (order : List ℕ) → All (λ (nets : List ℕ). All (λ n. n < length net.types) nets) (wakes_by_rank (core net) order)
+  rows_there R order = All-map (λ (nets : List ℕ). All (λ n. n < length net.types) nets) (λ (p : ℕ). (process (core net) p).wakes) order (λ k d l. wakes_there R (get_or order k d))
+
+  pub clocked_there : IsInRange (flat net) → All (λ (nets : List ℕ). All (λ n. n < length net.types) nets) (map clocked_wakes (core net).processes)
+  clocked_there R =
+      All-map (λ (nets : List ℕ). All (λ n. n < length net.types) nets) clocked_wakes (core net).processes
+      (λ k d l. subst (λ (x : m.Process). All (λ n. n < length net.types) (clocked_wakes x)) (get_or_default (core net).processes k m.no_process d l) (row k (cases_Bool (is_clocked (process (core net) k).kind))))
+    where
+      row : (p : ℕ) → (is_clocked (process (core net) p).kind ≡ true) ⊎ (is_clocked (process (core net) p).kind ≡ false) → All (λ n. n < length net.types) (clocked_wakes (process (core net) p))
+      row p (inl e) = rw e (wakes_there R p)
+      row p (inr e) = rw e (λ k d m. absurd (omega (arith, m)))
+
+  pub all_targets_there : IsInRange (flat net) → All (λ (nets : List ℕ). All (λ n. n < length net.types) nets) (all_targets net.processes)
+  all_targets_there R = All-map (λ (nets : List ℕ). All (λ n. n < length net.types) nets) (λ (p : Process). nets_of p.drives.items) net.processes (nets_there net R)
+
+  pub processes_many : length (core net).processes ≡ length net.processes
+  processes_many = length-map (flat net).processes (core_process net.inputs) ∙ length-map net.processes process_view
+
+  -- as many as a process drives have entries
+  pub driven_many : (p : ℕ) (o : Outcome) → IsOf (process_at (flat net) p) o → length (process (core net) p).drives ≡ length o.entries
+  driven_many p o own = ap (λ (x : m.Process). length x.drives) (process-core_net (flat net) p) ∙ length-map (process_at (flat net) p).drivers _ ∙ sym own.each_driver
+
+  pub own_cuts_are : (of_net : List ℕ) (cutting : Cutting) → AreCutsOf of_net (all_targets net.processes) cutting → (p : ℕ) → p < length net.processes
+      → AreCuts of_net (process (core net) p).drives (get_or cutting.cuts p []) (get_or cutting.numbers p [])
+  own_cuts_are of_net cutting C p there =
+      subst (λ (ns : List ℕ). AreCuts of_net ns (get_or cutting.cuts p []) (get_or cutting.numbers p [])) (targets_are net p)
+      (C.each p (rw (length-map net.processes (λ (x : Process). nets_of x.drives.items)) there))
+
+  pub own_targets_there : Leveled (core net) → (p : ℕ) (limit : ℕ) → limit ≡ length (core net).start → All (λ (n : ℕ). n < limit) (process (core net) p).drives
+  own_targets_there L p limit many = λ k d l. rw many (subst (λ (n : ℕ). n < length (core net).start) (get_or_default (process (core net) p).drives k 0 d l) (L.elaborated.wiring.targets_are_nets p k l))
+
+  module _ (p : ℕ) (q : Process) (there : p < length net.processes) (is : q ≡ get_or net.processes p q) where
+    pub drives_are : nets_of q.drives.items ≡ (process (core net) p).drives
+    drives_are =
+        ap (λ (x : Process). nets_of x.drives.items) is
+        ∙ sym (get_or-map_within (λ (x : Process). nets_of x.drives.items) net.processes p q [] there)
+        ∙ targets_are net p
+
+    module _ (of_net : List ℕ) (cutting : Cutting) (C : AreCutsOf of_net (all_targets net.processes) cutting) where
+      pub cuts_many : p < length cutting.cuts
+      cuts_many = rw (C.each_process, length-map net.processes (λ (x : Process). nets_of x.drives.items)) there
+
+      pub cuts_are : AreCuts of_net (nets_of q.drives.items) (get_or cutting.cuts p []) (get_or cutting.numbers p [])
+      cuts_are =
+          subst (λ (ns : List ℕ). AreCuts of_net ns (get_or cutting.cuts p []) (get_or cutting.numbers p []))
+          (get_or-map_within (λ (x : Process). nets_of x.drives.items) net.processes p q [] there ∙ sym (ap (λ (x : Process). nets_of x.drives.items) is))
+          (C.each p (rw (length-map net.processes (λ (x : Process). nets_of x.drives.items)) there))
+
+    pub drivers_many : length q.drives.items ≡ length (process_at (flat net) p).drivers
+    drivers_many =
+        sym (length-map q.drives.items _) ∙ ap (λ (x : Process). length (process_view x).drivers) is
+        ∙ sym (ap (λ (x : FlatProcess). length x.drivers) (get_or-map_within process_view net.processes p q no_flat_process there))
+
+    pub starts_are : element_starts (map variable_view q.variables.items) ≡ element_starts (process_at (flat net) p).variables
+    starts_are =
+        ap (λ (x : Process). element_starts (process_view x).variables) is
+        ∙ sym (ap (λ (x : FlatProcess). element_starts x.variables) (get_or-map_within process_view net.processes p q no_flat_process there))
+
+    pub wakes_are : q.wakes.items ≡ (process (core net) p).wakes
+    wakes_are =
+        ap (λ (x : Process). x.wakes.items) is
+        ∙ sym (ap (λ (x : FlatProcess). x.wakes) (get_or-map_within process_view net.processes p q no_flat_process there))
+        ∙ sym (ap (λ (x : m.Process). x.wakes) (process-core_net (flat net) p))
+
+module _ {E : Type 0} (process_of : E → FlatProcess) (types : E → List ElementType) (most : E → ℕ) (net : NetlistView) (bodies : List E) (runs : List Outcome)
+    (M : MayRun process_of types most net bodies runs) where
+  pub elaborated : IsElaborated (core net)
+  elaborated = connected_is_elaborated (flat net) M.in_range M.connected
+
+  pub combinational_there : (p : ℕ) → IsCombinational (core net) p → p < length net.processes
+  combinational_there p c = rw (← processes_many net) c.0
+
+  pub runs_many : length runs ≡ length net.processes
+  runs_many = M.room.as_many ∙ length-map net.processes process_view
+
+  pub bodies_many : length bodies ≡ length net.processes
+  bodies_many = M.run_bodies.as_many ∙ length-map net.processes process_view
+
+-- what the run of a process's body is given, and what it leaves
+module _ {E : Type 0} (process_of : E → FlatProcess) (types : E → List ElementType) (most : E → ℕ) (net : NetlistView) (bodies : List E) (runs : List Outcome)
+    (M : MayRun process_of types most net bodies runs) (p : ℕ) (there : p < length net.processes) (e : E) (is : e ≡ get_or bodies p e) where
+  in_bodies : p < length bodies
+  in_bodies = rw (bodies_many process_of types most net bodies runs M) there
+
+  in_runs : p < length runs
+  in_runs = rw (runs_many process_of types most net bodies runs M) there
+
+  types_are : types e ≡ (flat net).types
+  types_are = ap types is ∙ M.run_bodies.among p e in_bodies
+
+  process_is : process_of e ≡ process_at (flat net) p
+  process_is = ap process_of is ∙ M.run_bodies.each p e in_bodies
+
+  pub each_given : (v : List ℕ) → IsValuation (core net) v → length v ≡ length (types e)
+  each_given v V = V.each_net ∙ M.in_range.each_starts ∙ sym (ap length types_are)
+
+  pub typed : (v : List ℕ) → IsValuation (core net) v → KeepsTypes (types e) v
+  typed v V = subst (λ (ts : List ElementType). KeepsTypes ts v) (sym types_are) (keeps_types (flat net) M.in_range M.connected v V)
+
+  pub effect_is : (before v : List ℕ) → part_effect (process_of e) (process_of e).body before v ≡ (process (core net) p).effect before v
+  effect_is before v =
+      ap (λ (x : FlatProcess). part_effect x x.body before v) process_is
+      ∙ sym (ap (λ (x : m.Process). x.effect before v) (process-core_net (flat net) p))
+
+  -- the run that is there has its room
+  module _ (o : Outcome) (was : o ≡ get_or runs p o) where
+    pub was_run : o ≡ get_or runs p no_outcome
+    was_run = was ∙ get_or_default runs p o no_outcome in_runs
+
+    pub own : IsOf (process_of e) o
+    own = subst (λ (x : Outcome). IsOf (process_of e) x) (sym was_run)
+        (subst (λ (x : FlatProcess). IsOf x (get_or runs p no_outcome)) (sym process_is) (M.room.own p in_runs))
+
+    pub room : most e ≤ o.room
+    room = let fits = M.room.room p e in_bodies in
+        let body : most e ≡ most (get_or bodies p e) = ap most is in
+        let run : o.room ≡ (get_or runs p no_outcome).room = ap (λ (x : Outcome). x.room) was_run in
+        omega (arith, fits, body, run)
+
+module _ (net : NetlistView) (L : Leveled (core net)) (p : ℕ) (q : Process) (there : p < length net.processes) (is : q ≡ get_or net.processes p q) where
+  pub targets_differ : AreDifferent (nets_of q.drives.items)
+  targets_differ = subst AreDifferent (sym (drives_are net p q there is)) (λ j k l m e. one_place (core net) L p j k l m e)
+
+  pub targets_there : (values : List ℕ) → length values ≡ length (core net).start → All (λ n. n < length values) (nets_of q.drives.items)
+  targets_there values many =
+      subst (λ (ns : List ℕ). All (λ n. n < length values) ns) (sym (drives_are net p q there is)) (own_targets_there net L p (length values) many)

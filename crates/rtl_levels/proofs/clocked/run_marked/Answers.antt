@@ -1,0 +1,50 @@
+use Rattle.std.proofs.Common.{◌+◌, get_or, ◌∙◌, Contains, arith}
+use Rattle.rtl_kernel.specs.drivers.Transactions.{no_outcome}
+use Rattle.rtl_kernel.specs.wakes.Woken.{wakers_of}
+use Rattle.rtl_net.specs.Core.{core}
+use Rattle.rtl_levels.proofs.Awake.{all_have_run, none_has_run, others_have_run}
+use Rattle.rtl_levels.proofs.Visiting.{IsComeBy, all_come_by, followers_below, none_come_by, one_more_come_by}
+use Rattle.rtl_levels.proofs.clocked.run_marked.Goals as goal
+
+pub loop-changed-init : goal.loop-changed-init
+loop-changed-init g c = record {
+  may = c.requires.may;
+  ran = none_has_run (core c.args.net.now) c.args.before.now c.args.values.now (IsComeBy (wakers_of c.args.schedule.now.clocked) c.args.changes.now 0)
+      (none_come_by (wakers_of c.args.schedule.now.clocked) c.args.changes.now) c.args.marked.now.items (λ p. (get_or c.args.runs.now.items p no_outcome).entries);
+}
+
+pub run_each-requires-clause-there : goal.run_each-requires-clause-there
+run_each-requires-clause-there g c =
+    followers_below (wakers_of c.args.schedule.now.clocked) _ _ (λ n k f. rw (c.loop-changed.invariant.ran.as_many) (c.requires.below n k f)) c.followers_of-processes.result.now c.followers_of-processes.ensures
+
+pub run_each-requires-clause-each_process : goal.run_each-requires-clause-each_process
+run_each-requires-clause-each_process g c = c.loop-changed.invariant.ran.as_many ∙ c.requires.each_process
+
+pub loop-changed-preserved : goal.loop-changed-preserved
+loop-changed-preserved g c =
+    let index = wakers_of c.args.schedule.now.clocked in
+    let cs = c.args.changes.now in
+    let i = c.loop-changed.changed-index in
+    let processes = c.followers_of-processes.result.now in
+    record {
+      may = c.run_each.ensures.may;
+      ran = others_have_run (core c.args.net.now) c.args.before.now c.args.values.now (IsComeBy index cs i) (Contains processes) (IsComeBy index cs (i + 1))
+          c.args.marked.now.items c.loop-changed.marked.items c.run_each.new.marked.items (λ p. (get_or c.args.runs.now.items p no_outcome).entries)
+          (λ p. (get_or c.loop-changed.runs.items p no_outcome).entries) (λ p. (get_or c.run_each.new.runs.items p no_outcome).entries) c.loop-changed.invariant.ran c.run_each.ensures.ran
+          (λ p come. rw (c.followers_of-processes.ensures) (one_more_come_by index cs i p come));
+    }
+
+pub returns-clause-ran : goal.returns-clause-ran
+returns-clause-ran g c =
+    let index = wakers_of c.args.schedule.now.clocked in
+    let cs = c.args.changes.now in
+    let i = c.loop-changed.changed-index in
+    all_have_run (core c.args.net.now) c.args.before.now c.args.values.now (IsComeBy index cs i) c.args.marked.now.items c.loop-changed.marked.items
+    (λ p. (get_or c.args.runs.now.items p no_outcome).entries) (λ p. (get_or c.loop-changed.runs.items p no_outcome).entries) c.loop-changed.invariant.ran
+    (λ p m. all_come_by index cs i (omega (arith, c.loop-changed-test.false)) p (c.requires.follow p m))
+
+pub returns-clause-may : goal.returns-clause-may
+returns-clause-may g c = c.loop-changed.invariant.may
+
+pub returns-clause-each_process : goal.returns-clause-each_process
+returns-clause-each_process g c = c.loop-changed.invariant.ran.as_many

@@ -1,0 +1,71 @@
+-- What the parts of a moment do to the values of the nets.
+use Rattle.std.specs.Prelude.{◌≡◌, ℕ, Bool, false, List, length, slice_index, slice_index_or, Option, None, IsTrue}
+use Rattle.rtl_model.specs.simulation.Netlist.{Netlist, process, target, HasPlace, IsCombinational}
+use Rattle.rtl_model.specs.simulation.Machine.{entry_or}
+use Rattle.rtl_levels.specs.Running.{IsSettled}
+
+-- a marked process drives n
+abbrev pub IsDrivenByMarked : Netlist → List Bool → (n : ℕ) → Type 0
+IsDrivenByMarked net marked n =
+    (p : ℕ) × (place : ℕ) × IsTrue (slice_index_or marked p false) × HasPlace net p place × (target net p place ≡ n)
+
+-- a combinational process drives n
+abbrev pub IsCombinationallyDriven : Netlist → (n : ℕ) → Type 0
+IsCombinationallyDriven net n = (p : ℕ) × (place : ℕ) × IsCombinational net p × HasPlace net p place × (target net p place ≡ n)
+
+-- Of the marked processes those that still are have run from the values before and v, and left these entries. The others would
+-- leave none.
+pub record HaveRun (net : Netlist) (before v : List ℕ) (marked still : List Bool) (entries : ℕ → List (Option ℕ)) : Type 0 where
+  pub fewer : (p : ℕ) → IsTrue (slice_index_or still p false) → IsTrue (slice_index_or marked p false)
+  pub ran : (p : ℕ) → IsTrue (slice_index_or still p false) → entries p ≡ (process net p).effect before v
+  pub asleep : (p place : ℕ) → IsTrue (slice_index_or marked p false) → slice_index_or still p false ≡ false
+      → slice_index_or ((process net p).effect before v) place None ≡ None
+
+-- Of these processes those that still are marked have run from the values before and v, and what had run so before still
+-- has. Those that no longer are marked would leave nothing.
+pub record SomeHaveRun (net : Netlist) (before v : List ℕ) (these : ℕ → Type 0) (marked still : List Bool)
+    (was entries : ℕ → List (Option ℕ)) : Type 0 where
+  pub as_many : length still ≡ length marked
+  pub fewer : (p : ℕ) → IsTrue (slice_index_or still p false) → IsTrue (slice_index_or marked p false)
+  pub ran : (p : ℕ) → these p → IsTrue (slice_index_or still p false) → entries p ≡ (process net p).effect before v
+  pub stay : (p : ℕ) → was p ≡ (process net p).effect before v → entries p ≡ (process net p).effect before v
+  pub asleep : (p place : ℕ) → IsTrue (slice_index_or marked p false) → slice_index_or still p false ≡ false
+      → slice_index_or ((process net p).effect before v) place None ≡ None
+
+-- The marked processes' entries, taken over together.
+pub record AllTakeOver (net : Netlist) (marked : List Bool) (entries : ℕ → List (Option ℕ)) (v w : List ℕ)
+    : Type 0 where
+  pub each_net : length w ≡ length v
+  pub on_targets : (p place : ℕ) → IsTrue (slice_index_or marked p false) → HasPlace net p place
+      → slice_index w (target net p place)
+      ≡ entry_or (slice_index_or (entries p) place None) (slice_index v (target net p place))
+  pub on_others : (n : ℕ) → (IsDrivenByMarked net marked n → ⊥) → slice_index w n ≡ slice_index v n
+
+-- The same of those alone that no longer are marked.
+pub record SomeTakeOver (net : Netlist) (marked still : List Bool) (entries : ℕ → List (Option ℕ)) (v w : List ℕ)
+    : Type 0 where
+  pub as_many : length still ≡ length marked
+  pub fewer : (p : ℕ) → IsTrue (slice_index_or still p false) → IsTrue (slice_index_or marked p false)
+  pub each_net : length w ≡ length v
+  pub on_targets : (p place : ℕ) → IsTrue (slice_index_or marked p false) → slice_index_or still p false ≡ false
+      → HasPlace net p place → slice_index w (target net p place)
+      ≡ entry_or (slice_index_or (entries p) place None) (slice_index v (target net p place))
+  pub on_others : (n : ℕ)
+      → ((p place : ℕ) → IsTrue (slice_index_or marked p false) → slice_index_or still p false ≡ false
+      → HasPlace net p place → target net p place ≡ n → ⊥)
+      → slice_index w n ≡ slice_index v n
+
+-- In w every combinational process is settled, and nothing but what they drive differs from v.
+pub record IsSwept (net : Netlist) (v w : List ℕ) : Type 0 where
+  pub each_net : length w ≡ length v
+  pub settled : (p : ℕ) → IsCombinational net p → IsSettled net w p
+  pub on_others : (n : ℕ) → (IsCombinationallyDriven net n → ⊥) → slice_index w n ≡ slice_index v n
+
+-- The marked processes, which are to be clocked, have run together from the values before and v, and with what they assigned
+-- all combinational ones have settled in w.
+pub record ComesToRest (net : Netlist) (marked : List Bool) (before v w : List ℕ) : Type 0 where
+  pub each_net : length w ≡ length v
+  pub on_marked : (p place : ℕ) → IsTrue (slice_index_or marked p false) → HasPlace net p place
+      → slice_index w (target net p place) ≡ entry_or (slice_index_or ((process net p).effect before v) place None) (slice_index v (target net p place))
+  pub settled : (p : ℕ) → IsCombinational net p → IsSettled net w p
+  pub on_others : (n : ℕ) → (IsDrivenByMarked net marked n → ⊥) → (IsCombinationallyDriven net n → ⊥) → slice_index w n ≡ slice_index v n

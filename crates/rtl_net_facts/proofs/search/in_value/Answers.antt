@@ -1,5 +1,0 @@
-use Rattle.rtl_net_facts.proofs.Found.{told_any}
-use Rattle.rtl_net_facts.proofs.search.in_value.Goals as goal
-
-pub returns : goal.returns
-returns c = told_any _ _ _ c.walk_value.ensures

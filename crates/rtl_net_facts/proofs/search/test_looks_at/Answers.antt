@@ -1,7 +1,0 @@
-use Rattle.std.proofs.Common.{sym, ◌∙◌}
-use Rattle.rtl_net.specs.Bodies.{test_view}
-use Rattle.rtl_model.proofs.bodies.Leaves.{leaves_tell}
-use Rattle.rtl_net_facts.proofs.search.test_looks_at.Goals as goal
-
-pub returns : goal.returns
-returns c = c.in_test.ensures ∙ sym (leaves_tell.test_looks_are c.args.element (test_view c.args.test.now))

@@ -1,0 +1,30 @@
+-- Whatever the order of processes (IEEE 1076-2008, 14.7.5.3), a simulation answers alike and writes the same.
+use Rattle.std.specs.Prelude.{◌≡◌, ⊤, ℕ, List, Result, Ok, Err}
+use Rattle.rtl_net.specs.Nets.{NetlistView}
+use Rattle.rtl_sink.specs.Written.{SinkState, TakesAll}
+use Rattle.rtl_stim.specs.Stimuli.{StimulusView}
+use Rattle.rtl_run.specs.declared.summary.Summary.{Summary}
+use Rattle.rtl_run.specs.declared.summary.RunFault.{RunFault}
+use Rattle.rtl_run.specs.declared.summary.RunFault.TheVariants.{NoSettling, Memory, Output}
+use Rattle.rtl_run.specs.simulations.Answered.{Answers}
+
+-- the run has come to its end, or to a moment that doesn't settle, and not to want of memory nor a failed output
+abbrev pub IsComplete : Result Summary RunFault → Type 0
+IsComplete (Ok summary) = ⊤
+IsComplete (Err (NoSettling time)) = ⊤
+IsComplete (Err Memory) = ⊥
+IsComplete (Err Output) = ⊥
+
+-- the answers are the same, and both sinks took one text
+pub record AreAlike (old one other : SinkState) (answer also : Result Summary RunFault) : Type 0 where
+  pub same : answer ≡ also
+  pub text : List ℕ
+  pub one_took : TakesAll old one text
+  pub other_took : TakesAll old other text
+
+-- Of one netlist, stimulus and limit, two runs into sinks that are alike before, by whatever orders.
+abbrev pub EachOrderIsWrittenAlike : Type 0
+EachOrderIsWrittenAlike =
+    (net : NetlistView) (s : StimulusView) (limit : ℕ) (old one other : SinkState) (answer also : Result Summary RunFault)
+    → Answers net s limit old one answer → Answers net s limit old other also → IsComplete answer → IsComplete also
+    → AreAlike old one other answer also

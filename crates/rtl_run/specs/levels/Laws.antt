@@ -1,0 +1,35 @@
+-- `run` and `run_levels` write the same.
+use Rattle.std.specs.Prelude.{◌≡◌, ℕ, ◌≤◌, List, Ok}
+use Rattle.rtl_model.specs.simulation.Accepted.{IsAccepted}
+use Rattle.rtl_net.specs.Nets.{NetlistView}
+use Rattle.rtl_net.specs.Elaborated.{IsNet}
+use Rattle.rtl_sink.specs.Written.{SinkState, TakesAll}
+use Rattle.rtl_stim.specs.Stimuli.{StimulusView}
+use Rattle.rtl_net.specs.Core.{core}
+use Rattle.rtl_run.specs.declared.summary.Summary.{Summary}
+use Rattle.rtl_run.specs.Traced.{IsTrace}
+use Rattle.rtl_run.specs.Answered.{RunsNet}
+use Rattle.rtl_run.specs.declared.level_summary.LevelSummary.{LevelSummary}
+use Rattle.rtl_run.specs.levels.Answered.{RunsLevels}
+
+-- an accepted netlist has one trace under a stimulus
+abbrev pub EachTraceIsTheOne : Type 0
+EachTraceIsTheOne =
+    (net : NetlistView) (s : StimulusView) → IsNet net → IsAccepted (core net) → (bound other_bound : ℕ) (text other : List ℕ)
+    → IsTrace net s bound text → IsTrace net s other_bound other → text ≡ other
+
+-- Both sinks took one text. Both answers tell the same number of moments, and the bound that one tells is none below the greatest
+-- number of delta cycles that the other tells.
+pub record AreAlike (old one other : SinkState) (summary : Summary) (levels : LevelSummary) : Type 0 where
+  pub text : List ℕ
+  pub one_took : TakesAll old one text
+  pub other_took : TakesAll old other text
+  pub count : summary.moments ≡ levels.moments
+  pub within : summary.most_deltas ≤ levels.bound
+
+-- Of one netlist and one text, `run` and `run_levels` into sinks that are alike before: where both come to their end, they have written
+-- the same bytes.
+abbrev pub EachRunIsWrittenAlike : Type 0
+EachRunIsWrittenAlike =
+    (net : NetlistView) (text : List ℕ) → IsNet net → (old one other : SinkState) (summary : Summary) (levels : LevelSummary)
+    → RunsNet net text old one (Ok summary) → RunsLevels net text old other (Ok levels) → AreAlike old one other summary levels

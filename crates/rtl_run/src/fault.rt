@@ -1,0 +1,59 @@
+//! Why a netlist is not simulated as a machine.
+
+ghost use Rattle.std.specs.Prelude.{◌≡◌};
+ghost use Rattle.rtl_run.specs.declared.fault.MachineFault.TheVariants.{Memory, Output};
+ghost use Rattle.rtl_run.specs.Faults.{of_stim};
+
+use rtl_check::CheckFault;
+use rtl_sink::WriteFailed;
+use rtl_stim::StimFault;
+use rtl_vcd::VcdFault;
+use std::alloc::AllocError;
+
+/// Why a netlist is not simulated, or what is written of it not the whole.
+#[derive(Drop)]
+pub enum MachineFault {
+    /// What the checker found, in order.
+    Rejected(Vec<CheckFault>),
+    /// The stimulus is refused, or has a race.
+    Stim(StimFault),
+    /// Memory was refused.
+    Memory,
+    /// The output took less than the whole text.
+    Output,
+}
+
+impl From<AllocError> for MachineFault {
+    ghost from_gives = { λ _ fault. fault ≡ Memory };
+
+    fn from(_refused: AllocError) -> MachineFault {
+        MachineFault::Memory
+    }
+}
+
+impl From<StimFault> for MachineFault {
+    ghost from_gives = { λ stim fault. fault ≡ of_stim stim };
+
+    fn from(stim: StimFault) -> MachineFault {
+        match stim {
+            StimFault::NoMemory => MachineFault::Memory,
+            _ => MachineFault::Stim(stim),
+        }
+    }
+}
+
+impl From<WriteFailed> for MachineFault {
+    ghost from_gives = { λ _ fault. fault ≡ Output };
+
+    fn from(_failed: WriteFailed) -> MachineFault {
+        MachineFault::Output
+    }
+}
+
+impl From<VcdFault> for MachineFault {
+    ghost from_gives = { λ _ fault. fault ≡ Output };
+
+    fn from(_failed: VcdFault) -> MachineFault {
+        MachineFault::Output
+    }
+}

@@ -1,5 +1,0 @@
-use Rattle.rtl_synchronous.proofs.Alike.{each_machine_goes_on_alike}
-use Rattle.rtl_synchronous.proofs.laws.each_machine_goes_on_alike.Goals as goal
-
-pub returns : goal.returns
-returns c = each_machine_goes_on_alike

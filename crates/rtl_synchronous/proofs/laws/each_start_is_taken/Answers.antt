@@ -1,5 +1,0 @@
-use Rattle.rtl_synchronous.proofs.Starts.{each_start_is_taken}
-use Rattle.rtl_synchronous.proofs.laws.each_start_is_taken.Goals as goal
-
-pub returns : goal.returns
-returns c = each_start_is_taken

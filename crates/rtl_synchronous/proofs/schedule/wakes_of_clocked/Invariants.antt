@@ -1,7 +1,0 @@
-use Rattle.std.proofs.Common.{◌≡◌, map, take}
-use Rattle.rtl_net.specs.Core.{core}
-use Rattle.rtl_synchronous.specs.Scheduled.{clocked_wakes}
-use Rattle.rtl_synchronous.proofs.schedule.wakes_of_clocked.Given as goal
-
-abbrev pub invariant-loop-number : goal.invariant-loop-number
-invariant-loop-number l = l.lists ≡ map clocked_wakes (take l.number (core l.net).processes)
