@@ -1,9 +1,15 @@
 """One design beside GHDL: a random stimulus, a testbench for GHDL, both traces, and where they differ."""
-import os
 import random
 import re
 import subprocess
+import sys
 import tempfile
+from pathlib import Path
+
+TOP = Path(__file__).resolve().parents[2]
+sys.path[:0] = [str(TOP / "bench"), str(TOP / "bridge")]
+import vcd  # noqa: E402
+from raw.ghdl import called  # noqa: E402
 
 PERIOD, STEPS = 10, 40
 STATES = {"0": "0", "l": "0", "1": "1", "h": "1"}
@@ -96,30 +102,9 @@ def testbench(top, ports, types, changes):
 
 def trace(text, scope):
     """The settled values by time and name, in one scope of a VCD trace."""
-    codes, path, now, found, time, unit = {}, [], {}, {}, None, 1
-    for line in text.split("\n"):
-        words = line.split()
-        if not words:
-            continue
-        if words[0] == "$scope":
-            path.append(words[2])
-        elif words[0] == "$upscope":
-            path.pop()
-        elif words[0] == "$var" and ".".join(path) == scope:
-            codes.setdefault(words[3], []).append(re.sub(r"\[.*", "", words[4]))
-        elif words[0].startswith("#"):
-            if time is not None:
-                found[time] = dict(now)
-            time = int(words[0][1:]) // unit
-        elif words[0].lower()[0] == "b" and len(words) == 2:
-            for name in codes.get(words[1], []):
-                now[name] = words[0][1:]
-        elif len(words) == 1 and words[0][1:] in codes:
-            for name in codes[words[0][1:]]:
-                now[name] = words[0][0]
-        elif "fs" in line and "$" not in line and not codes:
-            unit = 1000000
-    if time is not None:
+    now, found = {}, {}
+    for time, changed in vcd.moments(text.split("\n")):
+        now |= {name: value for scopes, name, value in changed if ".".join(scopes) == scope}
         found[time] = dict(now)
     return found
 
@@ -134,8 +119,8 @@ def ghdl(text, bench, stop):
     with tempfile.TemporaryDirectory() as work:
         with open(f"{work}/t.vhd", "w") as file:
             file.write(text + "\n" + bench)
-        words = ["ghdl", "-c", "--std=08", "t.vhd", "-r", "tb", "--ieee-asserts=disable", f"--stop-time={stop}ns", "--vcd=t.vcd"]
-        done = subprocess.run(words, cwd=work, capture_output=True, text=True, timeout=60)
+        words = ["-c", "--std=08", "t.vhd", "-r", "tb", "--ieee-asserts=disable", f"--stop-time={stop}ns", "--vcd=t.vcd"]
+        done = called(work, *words, seconds=60)
         if done.returncode:
             return None, (done.stderr or done.stdout).strip().split("\n")[0]
         with open(f"{work}/t.vcd") as file:

@@ -14,15 +14,29 @@ concurrent assignments, enumerations, generates, and instances that share nets. 
 for each target on each path. A third of the designs break a rule of the checker on purpose: several drivers of a net,
 a clock made by logic, a latch, an edge beside other conditions, a sensitivity that is left out. They are run with --event.
 """
-import collections, json, random, re, subprocess, sys, tempfile
+import collections
+import json
+import random
+import re
+import subprocess
+import sys
+import tempfile
+from pathlib import Path
 
 import designs
 from designs import HEAD, Design, Signal, beside
 
+TOP = Path(__file__).resolve().parents[2]
+sys.path[:0] = [str(TOP / "bench"), str(TOP / "bridge")]
+import vcd  # noqa: E402
+from raw.ghdl import called  # noqa: E402
+
 NINE = "01010101010101LHXUZW-"
 BATCH = 50
+DIGITS = {"0": "0", "l": "0", "1": "1", "h": "1", "z": "z"}
 
 # stimulus and testbench
+
 
 def stimulus(r, d):
     """lines, changes (time, input, value) and the stop; data inputs are left alone at active edges"""
@@ -33,107 +47,128 @@ def stimulus(r, d):
     for name, (first, half) in clocks.items():
         for k, t in enumerate(range(first, stop + 1, half)):
             toggles.setdefault(t, []).append((name, "10"[k % 2]))
-            if (name, k % 2 == 0) in d.edges: busy.add(t)
+            if (name, k % 2 == 0) in d.edges:
+                busy.add(t)
     for s in [Signal("rst", "s", 1)] + d.in_ports:
         t = 0
         while t <= stop:
             if t not in busy and (t or r.random() < 0.95):
                 changes.append((t, s, "".join(r.choice("01" if s.name == "rst" and r.random() < 0.9 else NINE) for _ in range(s.width))))
             t += r.randint(1, 60 if s.name == "rst" else 30)
-    lines = ["at %d %s %s" % (t, s.name, v) for t, s, v in changes] + ["clock %s %d %d" % (n, f, h) for n, (f, h) in clocks.items()] + ["at 0 %s 0" % n for n in idle]
+    lines = [f"at {t} {s.name} {v}" for t, s, v in changes] + [f"clock {n} {f} {h}" for n, (f, h) in clocks.items()] + [f"at 0 {n} 0" for n in idle]
     r.shuffle(lines)
-    return "\n".join(lines + ["stop %d" % stop]) + "\n", changes, toggles, stop
+    return "\n".join(lines + [f"stop {stop}"]) + "\n", changes, toggles, stop
+
 
 def testbench(d, changes, toggles):
-    quoted = lambda s, v: "'%s'" % v if s.kind == "s" else '"%s"' % v
+    quoted = lambda s, v: f"'{v}'" if s.kind == "s" else f'"{v}"'
     inputs, events = [Signal("rst", "s", 1)] + d.in_ports, collections.defaultdict(list)
-    text = "%sentity tb_%s is end;\narchitecture t of tb_%s is\nsignal clk, ck2 : std_logic := '0';\n" % (HEAD, d.top, d.top)
+    text = "{}entity tb_{} is end;\narchitecture t of tb_{} is\nsignal clk, ck2 : std_logic := '0';\n".format(HEAD, d.top, d.top)
     for s in inputs:
         first = [v for t, x, v in changes if x.name == s.name and t == 0]
-        text += "signal %s : %s%s;\n" % (s.name, s.type(), " := " + quoted(s, first[0]) if first else "")
-    text += "begin\ndut: entity work.%s port map (%s);\nprocess begin\n" % (d.top, ", ".join("%s => %s" % (n, n) for n in ["clk", "ck2"] + [s.name for s in inputs]))
+        text += "signal {} : {}{};\n".format(s.name, s.type(), " := " + quoted(s, first[0]) if first else "")
+    text += "begin\ndut: entity work.{} port map ({});\nprocess begin\n".format(
+        d.top, ", ".join("{} => {}".format(n, n) for n in ["clk", "ck2"] + [s.name for s in inputs])
+    )
     for t, s, v in changes:
-        if t: events[t].append("%s <= %s;" % (s.name, quoted(s, v)))
-    for t, pairs in toggles.items(): events[t] += ["%s <= '%s';" % p for p in pairs]
+        if t:
+            events[t].append("{} <= {};".format(s.name, quoted(s, v)))
+    for t, pairs in toggles.items():
+        events[t] += ["%s <= '%s';" % p for p in pairs]
     last = 0
-    for t in sorted(events): text += "wait for %d ns; %s\n" % (t - last, " ".join(events[t])); last = t
+    for t in sorted(events):
+        text += f'wait for {t - last} ns; {" ".join(events[t])}\n'
+        last = t
     return text + "wait; end process;\nend;\n"
+
 
 # traces
 
+
 def trace(lines, stops, place):
     """{design: [(time, {name: digits})]}, what changes and up to its stop; place(scopes) is the design and the path in it"""
-    codes, scopes, now, last, time, unit = {}, [], {}, {}, None, 1
-    out, digit = {k: [] for k in stops}, {"0": "0", "l": "0", "1": "1", "h": "1", "z": "z"}
-    def flush():
-        for k, names in now.items():
-            new = {n: v for n, v in names.items() if last.get((k, n)) != v}
-            last.update(((k, n), v) for n, v in new.items())
-            if new and time <= stops[k]: out[k].append((time, new))
-        now.clear()
-    for line in lines:
-        w = line.split()
-        if not w: continue
-        if w[:2] == ["1", "fs"]: unit = 1000000
-        elif w[0] == "$scope": scopes.append(w[2])
-        elif w[0] == "$upscope": scopes.pop()
-        elif w[0] == "$var":
-            k, path = place(scopes)
-            name = re.sub(r"\[.*", "", w[4])
-            if k in stops: codes.setdefault(w[3], []).append((k, ".".join(path + [name[3:] if name.startswith("zz_") else name])))
-        elif w[0][0] == "#": flush(); time = int(w[0][1:]) // unit
-        elif w[0][0] in "bB" or (len(w) == 1 and w[0][0] in "01xXzZuUwWlLhH-"):
-            code, value = (w[1], w[0][1:]) if w[0][0] in "bB" else (w[0][1:], w[0][0])
-            for k, n in codes.get(code, []): now.setdefault(k, {})[n] = "".join(digit.get(c, "x") for c in value.lower())
-    flush()
+    out, last = {design: [] for design in stops}, {}
+    for time, changed in vcd.moments(lines):
+        now = {}
+        for scopes, name, value in changed:
+            design, path = place(scopes)
+            if design in stops:
+                now.setdefault(design, {})[".".join([*path, name.removeprefix("zz_")])] = "".join(DIGITS.get(it, "x") for it in value.lower())
+        for design, values in now.items():
+            new = {name: value for name, value in values.items() if last.get((design, name)) != value}
+            last.update(((design, name), value) for name, value in new.items())
+            if new and time <= stops[design]:
+                out[design].append((time, new))
     return out
 
-def ghdl(folder, *words):
-    return subprocess.run(("ghdl",) + words, cwd=folder, capture_output=True, text=True)
 
 def accepted(text):
     with tempfile.TemporaryDirectory() as folder:
         open(folder + "/t.vhd", "w").write(text)
-        p = ghdl(folder, "-s", "--std=08", "t.vhd")
+        p = called(folder, "-s", "--std=08", "t.vhd")
         return p.stderr if p.returncode else ""
+
 
 def simulated(cases):
     """[(top, text, stop)]: GHDL's values of each; halves are tried where GHDL fails"""
     with tempfile.TemporaryDirectory() as folder:
-        rows = "".join("u_%s: entity work.tb_%s;\n" % (k, k) for k, _, _ in cases)
-        open(folder + "/t.vhd", "w").write("".join(t for _, t, _ in cases) + "entity tb is end;\narchitecture t of tb is\nbegin\n%send;\n" % rows)
-        stop = "--stop-time=%dns" % max(s for _, _, s in cases)
-        for words in (["-a", "-O0", "--std=08", "t.vhd"], ["-e", "--std=08", "tb"], ["-r", "--std=08", "tb", "--ieee-asserts=disable", stop, "--vcd=o.vcd"]):
-            p = ghdl(folder, *words)
-            if p.returncode == 0: continue
-            if len(cases) == 1: print(cases[0][0], "GHDL:", (p.stdout + p.stderr)[:300], flush=True); return {}
+        rows = "".join("u_{}: entity work.tb_{};\n".format(k, k) for k, _, _ in cases)
+        open(folder + "/t.vhd", "w").write("".join(t for _, t, _ in cases) + f"entity tb is end;\narchitecture t of tb is\nbegin\n{rows}end;\n")
+        stop = f"--stop-time={max(s for _, _, s in cases)}ns"
+        for words in (
+            ["-a", "-O0", "--std=08", "t.vhd"],
+            ["-e", "--std=08", "tb"],
+            ["-r", "--std=08", "tb", "--ieee-asserts=disable", stop, "--vcd=o.vcd"],
+        ):
+            p = called(folder, *words)
+            if p.returncode == 0:
+                continue
+            if len(cases) == 1:
+                print(cases[0][0], "GHDL:", (p.stdout + p.stderr)[:300], flush=True)
+                return {}
             half = len(cases) // 2
             return {**simulated(cases[:half]), **simulated(cases[half:])}
         place = lambda s: (s[1][2:], s[3:]) if len(s) > 2 and s[0] == "tb" and s[2] == "dut" else (None, [])
-        with open(folder + "/o.vcd") as f: return trace(f, {k: s for k, _, s in cases}, place)
+        with open(folder + "/o.vcd") as f:
+            return trace(f, {k: s for k, _, s in cases}, place)
+
 
 # faulty twins
+
 
 def twins(r, text):
     """texts with one edit, each with the fault that it brings"""
     out = []
+
     def edit(kind, pattern, change):
         found = list(re.finditer(pattern, text, re.M))
         if found:
-            m = r.choice(found); out.append((kind, text[:m.start()] + change(m) + text[m.end():]))
+            m = r.choice(found)
+            out.append((kind, text[: m.start()] + change(m) + text[m.end() :]))
+
     edge = r"process \((clk|ck2)\) begin if ((?:rising|falling)_edge\(\1\)|[^;]*?'event[^;]*?) then "
-    edit("MissingSensitivity", r"^(  (?:p\d+: )?process )\(((?:[ienyr]\w+, )+)[eny]\w+\) ", lambda m: "%s(%s) " % (m.group(1), m.group(2).rstrip(", ")))
-    edit("EdgeNotSensitive", edge, lambda m: m.group().replace("process (%s)" % m.group(1), "process (i0)"))
-    edit("EdgeNotSensitive", r"process \((clk|ck2), rst\)", lambda m: "process (%s)" % m.group(1))
+    edit(
+        "MissingSensitivity",
+        r"^(  (?:p\d+: )?process )\(((?:[ienyr]\w+, )+)[eny]\w+\) ",
+        lambda m: "{}({}) ".format(m.group(1), m.group(2).rstrip(", ")),
+    )
+    edit("EdgeNotSensitive", edge, lambda m: m.group().replace(f"process ({m.group(1)})", "process (i0)"))
+    edit("EdgeNotSensitive", r"process \((clk|ck2), rst\)", lambda m: f"process ({m.group(1)})")
     edit("Mixed", edge, lambda m: m.group().replace(" begin ", " begin null; "))
-    edit("ClockAsData", edge, lambda m: m.group() + "if %s = '1' then null; end if; " % m.group(1))
-    edit("StoredVariable", r"^(  (?:p\d+: )?process \([^)]*\) (?:(?!begin ).)*begin )(v\d+) := ", lambda m: "%s%s := %s; %s := " % (m.group(1), m.group(2), m.group(2), m.group(2)))
+    edit("ClockAsData", edge, lambda m: m.group() + f"if {m.group(1)} = '1' then null; end if; ")
+    edit(
+        "StoredVariable",
+        r"^(  (?:p\d+: )?process \([^)]*\) (?:(?!begin ).)*begin )(v\d+) := ",
+        lambda m: "{}{} := {}; {} := ".format(m.group(1), m.group(2), m.group(2), m.group(2)),
+    )
     edit("TwoDrivers", r"^  (?:p\d+: )?(n\d+ <= [^;]*;)$", lambda m: m.group() + "\n  " + m.group(1))
-    edit("Loop", r"^(  (?:p\d+: )?(n\d+) <= )((?:(?! when )[^;])*);$", lambda m: "%s(%s) xor %s;" % (m.group(1), m.group(3), m.group(2)))
+    edit("Loop", r"^(  (?:p\d+: )?(n\d+) <= )((?:(?! when )[^;])*);$", lambda m: "{}({}) xor {};".format(m.group(1), m.group(3), m.group(2)))
     edit("Latch", r"^(  (?:p\d+: )?\w+ <= (?:(?! when )[^;])* when (?:(?! else )[^;])*) else [^;]*;$", lambda m: m.group(1) + ";")
     return out
 
+
 # the commands
+
 
 def make(n, seed, path):
     r, done, tried, refused = random.Random(seed), 0, 0, collections.Counter()
@@ -141,57 +176,88 @@ def make(n, seed, path):
         while done < n:
             batch = []
             while len(batch) < min(BATCH, n - done):
-                d = Design(r, "d%d" % (done + len(batch))); tried += 1
+                d = Design(r, f"d{done + len(batch)}")
+                tried += 1
                 unit = d.make(wild=r.random() < 0.33)
                 lines, changes, toggles, stop = stimulus(r, d)
                 units = d.units + [unit]
                 text, full = "".join(t for t, _ in units), "".join(beside(u) for u in units) + testbench(d, changes, toggles)
                 told = accepted(full)
-                if told: refused[re.sub(r"^[^ ]* ", "", told.split("\n")[0])[:60]] += 1; continue
-                batch.append({"top": d.top, "source": text, "stimulus": lines, "stop": stop, "fault": sorted(d.faults), "full": full, "faulty": [] if d.faults else twins(r, text)})
+                if told:
+                    refused[re.sub(r"^[^ ]* ", "", told.split("\n")[0])[:60]] += 1
+                    continue
+                batch.append(
+                    {
+                        "top": d.top,
+                        "source": text,
+                        "stimulus": lines,
+                        "stop": stop,
+                        "fault": sorted(d.faults),
+                        "full": full,
+                        "faulty": [] if d.faults else twins(r, text),
+                    }
+                )
             values = simulated([(c["top"], c.pop("full"), c["stop"]) for c in batch])
             for c in batch:
-                if c["top"] in values: f.write(json.dumps({**c, "values": values[c["top"]]}) + "\n")
-            f.flush(); done += len(batch)
-    print("made %d of %d tried" % (done, tried), dict(refused))
+                if c["top"] in values:
+                    f.write(json.dumps({**c, "values": values[c["top"]]}) + "\n")
+            f.flush()
+            done += len(batch)
+    print(f"made {done} of {tried} tried", dict(refused))
+
 
 def call(program, words, files):
     with tempfile.TemporaryDirectory() as folder:
-        for name, text in files.items(): open("%s/%s" % (folder, name), "w").write(text)
+        for name, text in files.items():
+            open("{}/{}".format(folder, name), "w").write(text)
         p = subprocess.run([program] + words, cwd=folder, capture_output=True, text=True)
     return p.returncode, p.stdout, p.stderr.strip()[:200]
+
 
 def run(path, program, words):
     bad = total = names = 0
     for c in map(json.loads, open(path)):
-        if c["fault"] and "--event" not in words: continue
+        if c["fault"] and "--event" not in words:
+            continue
         total += 1
         status, out, told = call(program, ["run"] + words + ["s.vhd", c["top"], "t.stim"], {"s.vhd": c["source"], "t.stim": c["stimulus"]})
-        if status: bad += 1; print(c["top"], "status", status, told); continue
+        if status:
+            bad += 1
+            print(c["top"], "status", status, told)
+            continue
         mine = trace(out.split("\n"), {c["top"]: c["stop"]}, lambda s: (s[0], s[1:]))[c["top"]]
         theirs, a, b, diff = {t: v for t, v in c["values"]}, {}, {}, []
         mine = dict(mine)
         for t in sorted(set(mine) | set(theirs)):
-            a.update(mine.get(t, {})); b.update(theirs.get(t, {}))
+            a.update(mine.get(t, {}))
+            b.update(theirs.get(t, {}))
             names += len(a.keys() & b.keys())
             diff += [(t, n, a[n], b[n]) for n in a.keys() & b.keys() if a[n] != b[n]]
-            if a.keys() != b.keys(): diff.append((t, "names", sorted(a.keys() ^ b.keys())[:3]))
-        if diff: bad += 1; print(c["top"], "differs:", diff[:3])
-    print("%d designs, %d bad, %d values compared" % (total, bad, names))
+            if a.keys() != b.keys():
+                diff.append((t, "names", sorted(a.keys() ^ b.keys())[:3]))
+        if diff:
+            bad += 1
+            print(c["top"], "differs:", diff[:3])
+    print(f"{total} designs, {bad} bad, {names} values compared")
     return 1 if bad else 0
+
 
 def check(path, program):
     bad, told = 0, collections.Counter()
     for c in map(json.loads, open(path)):
         for kind, text in [(" ".join(c["fault"]) or "yes", c["source"])] + c["faulty"]:
             status, out, error = call(program, ["check", "s.vhd", c["top"]], {"s.vhd": text})
-            good = out.startswith("yes\n") and status == 0 if kind == "yes" else status == 4 and all(" %s " % k in out for k in kind.split())
+            good = out.startswith("yes\n") and status == 0 if kind == "yes" else status == 4 and all(f" {k} " in out for k in kind.split())
             told[kind, good] += 1
-            if not good: bad += 1; print(c["top"], kind, "not told:", status, out[:100].replace("\n", "; "), error)
-    print("%d verdicts, %d bad" % (sum(told.values()), bad), sorted(told.items()))
+            if not good:
+                bad += 1
+                print(c["top"], kind, "not told:", status, out[:100].replace("\n", "; "), error)
+    print(f"{sum(told.values())} verdicts, {bad} bad", sorted(told.items()))
     return 1 if bad else 0
 
+
 # expected values
+
 
 def settled(c):
     """[(time, name, digits)]: GHDL's values of all names, at each time at which one changes"""
@@ -201,21 +267,27 @@ def settled(c):
         out += [(t, n, v) for n, v in now.items()]
     return out
 
+
 def turned(r, lines):
     """the lines, in one of which a 0 or a 1 is the other, and which one that is"""
     places = [(k, i) for k, l in enumerate(lines) for i in range(len(l[2])) if l[2][i] in "01" and not is_enumeration(l[1])]
-    if not places: return None
+    if not places:
+        return None
     k, i = r.choice(places)
     t, n, v = lines[k]
-    return lines[:k] + [(t, n, v[:i] + "10"[int(v[i])] + v[i + 1:])] + lines[k + 1:], k
+    return lines[:k] + [(t, n, v[:i] + "10"[int(v[i])] + v[i + 1 :])] + lines[k + 1 :], k
+
 
 def is_enumeration(name):
     return re.search(r"(^|\.)e\d+$", name)
 
+
 def expected(name, digits):
     """how a file of expected values has it: the position of an enumeration's literal in decimal, and what GHDL prints as x as any value"""
-    if is_enumeration(name): return str(int(digits, 2))
+    if is_enumeration(name):
+        return str(int(digits, 2))
     return digits.replace("x", "-").upper()
+
 
 def expect(path, program):
     bad = total = count = 0
@@ -223,25 +295,34 @@ def expect(path, program):
         r, all_values = random.Random(c["source"]), settled(c)
         lines = r.sample(all_values, min(200, len(all_values)))
         changed = turned(r, lines)
-        for words in ([["--event"]] if c["fault"] else [[], ["--levels"], ["--event"]]):
+        for words in [["--event"]] if c["fault"] else [[], ["--levels"], ["--event"]]:
             for wanted, wrong in [(lines, None)] + ([changed] if changed else []):
-                total += 1; count += len(wanted)
-                text = "".join("at %d %s %s\n" % (t, n, expected(n, v)) for t, n, v in wanted)
+                total += 1
+                count += len(wanted)
+                text = "".join(f"at {t} {n} {expected(n, v)}\n" for t, n, v in wanted)
                 files = {"s.vhd": c["source"], "t.stim": c["stimulus"], "e.expect": text}
                 status, _, told = call(program, ["run"] + words + ["--expect", "e.expect", "s.vhd", c["top"], "t.stim"], files)
                 head = "" if wrong is None else "rtlsim: expect 1 Differs %d %s is " % wanted[wrong][:2]
-                good = status == 0 if wrong is None else status == 9 and told.startswith(head) and told.endswith(" line %d" % (wrong + 1))
+                good = status == 0 if wrong is None else status == 9 and told.startswith(head) and told.endswith(f" line {wrong + 1}")
                 if good and wrong is not None:
-                    found = told[len(head):].split(" ")[0]
+                    found = told[len(head) :].split(" ")[0]
                     right = expected(*lines[wrong][1:])
                     good = all(f == w or w == "-" for f, w in zip(found, right)) and len(found) == len(right)
-                if not good: bad += 1; print(c["top"], words, "status", status, told, wanted[wrong] if wrong is not None else "")
-    print("%d runs, %d bad, %d expected values" % (total, bad, count))
+                if not good:
+                    bad += 1
+                    print(c["top"], words, "status", status, told, wanted[wrong] if wrong is not None else "")
+    print(f"{total} runs, {bad} bad, {count} expected values")
     return 1 if bad else 0
 
+
 if __name__ == "__main__":
-    if sys.argv[1] == "make_plain": NINE, designs.LETTERS, designs.IDLE = "01", "01", "Z-"
-    if sys.argv[1] in ("make", "make_plain"): make(int(sys.argv[2]), int(sys.argv[3]), sys.argv[4])
-    elif sys.argv[1] == "run": sys.exit(run(sys.argv[2], sys.argv[3], sys.argv[4:]))
-    elif sys.argv[1] == "expect": sys.exit(expect(sys.argv[2], sys.argv[3]))
-    else: sys.exit(check(sys.argv[2], sys.argv[3]))
+    if sys.argv[1] == "make_plain":
+        NINE, designs.LETTERS, designs.IDLE = "01", "01", "Z-"
+    if sys.argv[1] in ("make", "make_plain"):
+        make(int(sys.argv[2]), int(sys.argv[3]), sys.argv[4])
+    elif sys.argv[1] == "run":
+        sys.exit(run(sys.argv[2], sys.argv[3], sys.argv[4:]))
+    elif sys.argv[1] == "expect":
+        sys.exit(expect(sys.argv[2], sys.argv[3]))
+    else:
+        sys.exit(check(sys.argv[2], sys.argv[3]))

@@ -8,24 +8,31 @@ ORDER = ["=", "/=", "<", "<=", ">", ">="]
 LETTERS = "01010101LHXZ"  # of the literals
 IDLE = "ZZZZ-LHW"  # what a driver that rests gives
 
+
 class Signal:
     """kind: s one element, v std_logic_vector, u unsigned, e an enumeration, whose literals stand in words"""
+
     def __init__(self, name, kind, width, upward=False, words=None):
         self.name, self.kind, self.width, self.upward, self.words = name, kind, width, upward, words
 
     def type(self):
-        if self.kind == "s": return "std_logic"
-        if self.kind == "e": return self.words[0]
-        ends = "0 to %d" % (self.width - 1) if self.upward else "%d downto 0" % (self.width - 1)
-        return "%s(%s)" % ("std_logic_vector" if self.kind == "v" else "unsigned", ends)
+        if self.kind == "s":
+            return "std_logic"
+        if self.kind == "e":
+            return self.words[0]
+        ends = f"0 to {self.width - 1}" if self.upward else f"{self.width - 1} downto 0"
+        return "{}({})".format("std_logic_vector" if self.kind == "v" else "unsigned", ends)
 
     def element(self, right):
-        return "%s(%d)" % (self.name, self.width - 1 - right if self.upward else right)
+        return f"{self.name}({self.width - 1 - right if self.upward else right})"
 
     def slice(self, right, width):
-        if width == self.width: return self.name
-        if self.upward: return "%s(%d to %d)" % (self.name, self.width - right - width, self.width - right - 1)
-        return "%s(%d downto %d)" % (self.name, right + width - 1, right)
+        if width == self.width:
+            return self.name
+        if self.upward:
+            return f"{self.name}({self.width - right - width} to {self.width - right - 1})"
+        return f"{self.name}({right + width - 1} downto {right})"
+
 
 class Design:
     def __init__(self, random_, top, depth=0):
@@ -35,7 +42,7 @@ class Design:
 
     def fresh(self, letter):
         self.count += 1
-        return "%s%d" % (letter, self.count)
+        return f"{letter}{self.count}"
 
     def chance(self, part):
         return self.r.random() < part
@@ -46,7 +53,8 @@ class Design:
     # expressions over what is known so far
 
     def literal(self, s):
-        if s.kind == "e": return self.r.choice(s.words[1:])
+        if s.kind == "e":
+            return self.r.choice(s.words[1:])
         return ("'%s'" if s.kind == "s" else '"%s"') % "".join(self.r.choice(LETTERS) for _ in range(s.width))
 
     def scalar(self, deep):
@@ -54,9 +62,11 @@ class Design:
         if deep <= 0 or k < 0.35:
             s = r.choice(self.of_kind("suv"))
             return s.name if s.kind == "s" else s.element(r.randrange(s.width))
-        if k < 0.5: return "not (%s)" % self.scalar(deep - 1)
-        if k < 0.53: return "((%s) xor '%s')" % (self.scalar(deep - 1), r.choice("01HX"))
-        return "((%s) %s (%s))" % (self.scalar(deep - 1), r.choice(LOGIC), self.scalar(deep - 1))
+        if k < 0.5:
+            return f"not ({self.scalar(deep - 1)})"
+        if k < 0.53:
+            return "(({}) xor '{}')".format(self.scalar(deep - 1), r.choice("01HX"))
+        return "(({}) {} ({}))".format(self.scalar(deep - 1), r.choice(LOGIC), self.scalar(deep - 1))
 
     def part(self, kind, width):
         s = self.r.choice(self.of_kind(kind, width))
@@ -64,62 +74,82 @@ class Design:
 
     def leaf(self, kind, width):
         r = self.r
-        if self.of_kind(kind, width) and self.chance(0.9): return self.part(kind, width)
+        if self.of_kind(kind, width) and self.chance(0.9):
+            return self.part(kind, width)
         other = "v" if kind == "u" else "u"
-        if self.of_kind(other, width): return "%s(%s)" % ("unsigned" if kind == "u" else "std_logic_vector", self.part(other, width))
-        if kind == "u": return "to_unsigned(%d, %d)" % (r.randrange(1 << width), width)
-        return '"%s"' % "".join(r.choice("01") for _ in range(width))
+        if self.of_kind(other, width):
+            return "{}({})".format("unsigned" if kind == "u" else "std_logic_vector", self.part(other, width))
+        if kind == "u":
+            return f"to_unsigned({r.randrange(1 << width)}, {width})"
+        return f'"{"".join(r.choice("01") for _ in range(width))}"'
 
     def vector(self, kind, width, deep):
         r, k = self.r, self.r.random()
-        if deep <= 0 or k < 0.3: return self.leaf(kind, width)
+        if deep <= 0 or k < 0.3:
+            return self.leaf(kind, width)
         again = lambda n=width: self.vector(kind, n, deep - 1)
-        if k < 0.4: return "not (%s)" % again()
-        if k < 0.5: return "((%s) %s (%s))" % (again(), r.choice(LOGIC), again())
+        if k < 0.4:
+            return f"not ({again()})"
+        if k < 0.5:
+            return "(({}) {} ({}))".format(again(), r.choice(LOGIC), again())
         if k < 0.6 and width > 1:
             n = r.randrange(1, width)
-            return "((%s) & (%s))" % (self.scalar(deep - 1) if n == 1 and self.chance(0.5) else again(n), again(width - n))
-        if kind == "v": return "std_logic_vector(%s)" % self.vector("u", width, deep - 1)
-        if k < 0.65 and self.of_kind("v", width): return "unsigned(%s)" % self.part("v", width)
-        if k < 0.72: return "resize(%s, %d)" % (again(r.randint(1, 12)), width)
-        if k < 0.78: return "%s(%s, %d)" % (r.choice(["shift_left", "shift_right"]), again(), r.randrange(width + 2))
+            return "(({}) & ({}))".format(self.scalar(deep - 1) if n == 1 and self.chance(0.5) else again(n), again(width - n))
+        if kind == "v":
+            return f'std_logic_vector({self.vector("u", width, deep - 1)})'
+        if k < 0.65 and self.of_kind("v", width):
+            return f'unsigned({self.part("v", width)})'
+        if k < 0.72:
+            return f"resize({again(r.randint(1, 12))}, {width})"
+        if k < 0.78:
+            return f'{r.choice(["shift_left", "shift_right"])}({again()}, {r.randrange(width + 2)})'
         number = r.randrange(1 << min(width, 20))
         if k < 0.83 and width % 2 == 0:
-            if self.chance(0.3): return "(%d * (%s))" % (number, again(width // 2))
-            return "((%s) * (%s))" % (again(width // 2), again(width // 2))
-        if k < 0.87: return "((%s) %s %d)" % (again(), r.choice("+-"), number)
-        if k < 0.9: return "(%d %s (%s))" % (number, r.choice("+-"), again())
-        return "((%s) %s (%s))" % (again(), r.choice("+-"), again(r.randint(1, width)))
+            if self.chance(0.3):
+                return f"({number} * ({again(width // 2)}))"
+            return "(({}) * ({}))".format(again(width // 2), again(width // 2))
+        if k < 0.87:
+            return f'(({again()}) {r.choice("+-")} {number})'
+        if k < 0.9:
+            return f'({number} {r.choice("+-")} ({again()}))'
+        return "(({}) {} ({}))".format(again(), r.choice("+-"), again(r.randint(1, width)))
 
     def value(self, s, deep=2):
-        if s.kind == "s": return self.scalar(deep)
-        if s.kind != "e": return self.vector(s.kind, s.width, deep)
+        if s.kind == "s":
+            return self.scalar(deep)
+        if s.kind != "e":
+            return self.vector(s.kind, s.width, deep)
         same = [x.name for x in self.of_kind("e") if x.words is s.words]
         return self.r.choice(same) if same and self.chance(0.4) else self.r.choice(s.words[1:])
 
     def condition(self, deep=1):
         k = self.r.random()
-        if k < 0.15: return self.scalar(deep)
-        if k < 0.3: return "(%s) %s (%s)" % (self.truth(deep - 1), self.r.choice(["and", "or", "nand"]), self.truth(deep - 1))
+        if k < 0.15:
+            return self.scalar(deep)
+        if k < 0.3:
+            return "({}) {} ({})".format(self.truth(deep - 1), self.r.choice(["and", "or", "nand"]), self.truth(deep - 1))
         return self.truth(deep)
 
     def truth(self, deep):
         r, k, n = self.r, self.r.random(), self.r.randint(1, 6)
         if k < 0.2 and self.of_kind("e"):
             s = r.choice(self.of_kind("e"))
-            return "%s %s %s" % (s.name, r.choice(["=", "/="]), r.choice(s.words[1:]))
-        if k < 0.45: return "(%s) %s '%s'" % (self.scalar(deep), r.choice(["=", "=", "/="]), r.choice("0101HZ"))
+            return "{} {} {}".format(s.name, r.choice(["=", "/="]), r.choice(s.words[1:]))
+        if k < 0.45:
+            return "({}) {} '{}'".format(self.scalar(deep), r.choice(["=", "=", "/="]), r.choice("0101HZ"))
         if k < 0.6 and self.of_kind("v", n):
-            right = '"%s"' % "".join(r.choice("0101X") for _ in range(n)) if self.chance(0.3) else self.vector("v", n, deep)
-            return "%s %s %s" % (self.part("v", n), r.choice(["=", "/="]), right)
-        if k < 0.65: return "%d %s (%s)" % (r.randrange(20), r.choice(ORDER), self.vector("u", n, deep))
-        if k < 0.85: return "(%s) %s (%s)" % (self.vector("u", n, deep), r.choice(ORDER), self.vector("u", r.choice([n, r.randint(1, 6)]), deep))
-        return "(%s) %s %d" % (self.vector("u", n, deep), r.choice(ORDER), r.randrange(70))
+            right = f'"{"".join(r.choice("0101X") for _ in range(n))}"' if self.chance(0.3) else self.vector("v", n, deep)
+            return "{} {} {}".format(self.part("v", n), r.choice(["=", "/="]), right)
+        if k < 0.65:
+            return f'{r.randrange(20)} {r.choice(ORDER)} ({self.vector("u", n, deep)})'
+        if k < 0.85:
+            return "({}) {} ({})".format(self.vector("u", n, deep), r.choice(ORDER), self.vector("u", r.choice([n, r.randint(1, 6)]), deep))
+        return f'({self.vector("u", n, deep)}) {r.choice(ORDER)} {r.randrange(70)}'
 
     # statements
 
     def assign(self, s, sign, deep=2):
-        return "%s %s %s;" % (s.name, sign, self.value(s, deep))
+        return "{} {} {};".format(s.name, sign, self.value(s, deep))
 
     def choose(self, s, sign, deep, whole):
         """a case: on an enumeration, one element or a slice"""
@@ -128,40 +158,49 @@ class Design:
         if k < 0.5 and self.of_kind("e"):
             x = r.choice(self.of_kind("e"))
             words, alts = r.sample(x.words[1:], len(x.words) - 1), ""
-            left = words if self.chance(0.5) else words[:r.randint(1, len(words))]
+            left = words if self.chance(0.5) else words[: r.randint(1, len(words))]
             full = len(left) == len(words)
             while left:
                 n = r.randint(1, min(2, len(left)))
-                alts += "when %s => %s " % (" | ".join(left[:n]), below()); left = left[n:]
-            return "case %s is %send case;" % (x.name, alts + ("" if full else "when others => %s " % below()))
+                alts += "when {} => {} ".format(" | ".join(left[:n]), below())
+                left = left[n:]
+            return "case {} is {}end case;".format(x.name, alts + ("" if full else f"when others => {below()} "))
         n = r.randint(1, 3)
         near = self.of_kind("uv", n)
         if not near or k > 0.9:
-            return "case %s is when '0' | 'L' => %s when '1' => %s when others => %s end case;" % (self.scalar(0), below(), below(), below())
+            return "case {} is when '0' | 'L' => {} when '1' => {} when others => {} end case;".format(self.scalar(0), below(), below(), below())
         x = r.choice(near)
-        alts = "".join('when "%s" => %s ' % (format(v, "0%db" % n), below()) for v in sorted(r.sample(range(1 << n), r.randint(1, 1 << n))))
-        return "case %s is %swhen others => %s end case;" % (x.slice(r.randrange(x.width - n + 1), n), alts, below())
+        alts = "".join('when "{}" => {} '.format(format(v, f"0{n}b"), below()) for v in sorted(r.sample(range(1 << n), r.randint(1, 1 << n))))
+        return "case {} is {}when others => {} end case;".format(x.slice(r.randrange(x.width - n + 1), n), alts, below())
 
     def turns(self, s, sign):
         """a loop that gives each element a value, or None"""
         near = self.of_kind("uv", s.width)
-        if s.kind not in "uv" or not near: return None
+        if s.kind not in "uv" or not near:
+            return None
         x, last = self.r.choice(near), s.width - 1
-        ends = "0 to %d" % last if self.chance(0.5) else "%d downto 0" % last
-        return "for i in %s loop %s(i) %s %s(%s) %s %s; end loop;" % (ends, s.name, sign, x.name, self.r.choice(["i", "%d - i" % last]), self.r.choice(LOGIC[:3]), self.scalar(1))
+        ends = f"0 to {last}" if self.chance(0.5) else f"{last} downto 0"
+        return "for i in {} loop {}(i) {} {}({}) {} {}; end loop;".format(
+            ends, s.name, sign, x.name, self.r.choice(["i", f"{last} - i"]), self.r.choice(LOGIC[:3]), self.scalar(1)
+        )
 
     def statement(self, s, sign, deep, whole):
         """assigns s: on each path if whole is asked"""
         k = self.r.random()
-        if not whole and self.chance(0.25): return "null;"
+        if not whole and self.chance(0.25):
+            return "null;"
         if deep > 0 and k < 0.35:
-            text = "if %s then %s " % (self.condition(), self.statement(s, sign, deep - 1, whole))
-            if self.chance(0.4): text += "elsif %s then %s " % (self.condition(), self.statement(s, sign, deep - 1, whole))
-            if whole or self.chance(0.5): text += "else %s " % self.statement(s, sign, deep - 1, whole)
+            text = "if {} then {} ".format(self.condition(), self.statement(s, sign, deep - 1, whole))
+            if self.chance(0.4):
+                text += "elsif {} then {} ".format(self.condition(), self.statement(s, sign, deep - 1, whole))
+            if whole or self.chance(0.5):
+                text += f"else {self.statement(s, sign, deep - 1, whole)} "
             return text + "end if;"
-        if deep > 0 and k < 0.55: return self.choose(s, sign, deep, whole)
+        if deep > 0 and k < 0.55:
+            return self.choose(s, sign, deep, whole)
         if k < 0.65 and s.kind in "uv":
-            if self.chance(0.3) and sign == "<=": return "%s <= (others => %s);" % (s.name, self.scalar(1))
+            if self.chance(0.3) and sign == "<=":
+                return "{} <= (others => {});".format(s.name, self.scalar(1))
             return self.turns(s, sign) or self.assign(s, sign)
         return self.assign(s, sign)
 
@@ -170,16 +209,28 @@ class Design:
         decls, text, mine = "", "", []
         while self.chance(0.4) and len(mine) < 3:
             kind = self.r.choice("suve" if self.types else "suv")
-            v = Signal(self.fresh("v"), kind, 1 if kind in "se" else self.r.randint(1, 9), self.chance(0.3), self.r.choice(self.types) if kind == "e" else None)
-            decls += "variable %s : %s%s; " % (v.name, v.type(), " := " + self.literal(v) if self.chance(0.4) else "")
+            v = Signal(
+                self.fresh("v"),
+                kind,
+                1 if kind in "se" else self.r.randint(1, 9),
+                self.chance(0.3),
+                self.r.choice(self.types) if kind == "e" else None,
+            )
+            decls += "variable {} : {}{}; ".format(v.name, v.type(), " := " + self.literal(v) if self.chance(0.4) else "")
             text += self.assign(v, ":=") + " "
-            self.known.append(v); mine.append(v)
+            self.known.append(v)
+            mine.append(v)
             near = self.of_kind("uv", 2)
             if near and kind in "su" and self.chance(0.5):
                 x = self.r.choice(near)
-                step = "%s := %s xor (%s(i) and %s(j));" % (v.name, v.name, x.name, x.name) if kind == "s" else "if %s(i) = '1' and %s(j) /= '0' then %s := %s + 1; end if;" % (x.name, x.name, v.name, v.name)
-                text += "for i in 0 to %d loop for j in i to %d loop %s end loop; end loop; " % (x.width - 1, x.width - 1, step)
-            elif self.chance(0.5): text += self.statement(v, ":=", 1, False) + " "
+                step = (
+                    "{} := {} xor ({}(i) and {}(j));".format(v.name, v.name, x.name, x.name)
+                    if kind == "s"
+                    else "if {}(i) = '1' and {}(j) /= '0' then {} := {} + 1; end if;".format(x.name, x.name, v.name, v.name)
+                )
+                text += f"for i in 0 to {x.width - 1} loop for j in i to {x.width - 1} loop {step} end loop; end loop; "
+            elif self.chance(0.5):
+                text += self.statement(v, ":=", 1, False) + " "
         return decls, text, mine
 
     def label(self):
@@ -194,40 +245,53 @@ class Design:
         decls, text, mine = self.variables()
         whole = self.chance(0.5)
         for s in targets:
-            if not whole: text += self.assign(s, "<=", 1) + " "
+            if not whole:
+                text += self.assign(s, "<=", 1) + " "
             text += self.statement(s, "<=", 2, whole) + " "
         self.known = [s for s in self.known if s not in mine]
         reads = self.reads(text)
-        return "%sprocess (%s) %sbegin %send process;" % (self.label(), "all" if self.chance(0.6) or not reads else ", ".join(reads), decls, text)
+        return "{}process ({}) {}begin {}end process;".format(self.label(), "all" if self.chance(0.6) or not reads else ", ".join(reads), decls, text)
 
     def concurrent(self, s):
         """one target: an assignment, plain, conditional or selected, or a generate"""
         r, k = self.r, self.r.random()
-        if k < 0.3: return self.label() + self.assign(s, "<=", 3)
-        if k < 0.45: return "%s%s <= %s when %s else %s;" % (self.label(), s.name, self.value(s), self.condition(), self.value(s))
+        if k < 0.3:
+            return self.label() + self.assign(s, "<=", 3)
+        if k < 0.45:
+            return "{}{} <= {} when {} else {};".format(self.label(), s.name, self.value(s), self.condition(), self.value(s))
         if k < 0.52 and self.depth:
             arms = [("n > 2", self.assign(s, "<=")), ("n <= 2", self.process([s]))]
-            return " ".join("%s: if %s generate %s end generate;" % (self.fresh("h"), c, a) for c, a in arms)
+            return " ".join("{}: if {} generate {} end generate;".format(self.fresh("h"), c, a) for c, a in arms)
         near = [x for x in self.of_kind("uve") if x.kind == "e" or x.width <= 3]
         if k < 0.65 and near:
             x = r.choice(near)
-            marks = x.words[1:] if x.kind == "e" else ['"%s"' % format(v, "0%db" % x.width) for v in range(1 << x.width)]
-            arms = ", ".join("%s when %s" % (self.value(s), m) for m in r.sample(marks, r.randint(1, len(marks))))
-            return "%swith %s select %s <= %s, %s when others;" % (self.label(), x.name, s.name, arms, self.value(s))
+            marks = x.words[1:] if x.kind == "e" else [f'"{format(v, f"0{x.width}b")}"' for v in range(1 << x.width)]
+            arms = ", ".join("{} when {}".format(self.value(s), m) for m in r.sample(marks, r.randint(1, len(marks))))
+            return "{}with {} select {} <= {}, {} when others;".format(self.label(), x.name, s.name, arms, self.value(s))
         near = self.of_kind("uv", s.width)
         if k < 0.85 and near and s.kind in "uv":
             x, g = r.choice(near), self.fresh("g")
-            if self.chance(0.4): return "%s: for i in 0 to %d generate %s(i) <= %s(i) %s %s; end generate;" % (g, s.width - 1, s.name, x.name, r.choice(LOGIC), self.scalar(1))
-            inner = "process (all) begin if %s then %s(i) <= %s(%d - i); else %s(i) <= %s; end if; end process;" % (self.condition(), s.name, x.name, x.width - 1, s.name, self.scalar(1))
-            return "%s: for i in 0 to %d generate %s: if i mod 2 = 0 generate %s end generate; %s: if i mod 2 /= 0 generate %s(i) <= %s(i); end generate; end generate;" % (g, s.width - 1, self.fresh("h"), inner, self.fresh("h"), s.name, x.name)
+            if self.chance(0.4):
+                return f"{g}: for i in 0 to {s.width - 1} generate {s.name}(i) <= {x.name}(i) {r.choice(LOGIC)} {self.scalar(1)}; end generate;"
+            inner = f"process (all) begin if {self.condition()} then {s.name}(i) <= {x.name}({x.width - 1} - i); else {s.name}(i) <= {self.scalar(1)}; end if; end process;"
+            return f'{g}: for i in 0 to {s.width - 1} generate {self.fresh("h")}: if i mod 2 = 0 generate {inner} end generate; {self.fresh("h")}: if i mod 2 /= 0 generate {s.name}(i) <= {x.name}(i); end generate; end generate;'
         return self.process([s])
 
     def declare(self, kind, width, out=False, start=False):
-        s = Signal(self.fresh("y" if out else "e" if kind == "e" else "n"), kind, width, self.chance(0.25), self.r.choice(self.types) if kind == "e" else None)
-        text = "%s : %s%s%s" % (s.name, "out " if out else "", s.type(), " := " + self.literal(s) if start else "")
-        if out: self.outs.append(text)
-        else: self.decls.append("signal %s;" % text)
-        if kind == "e": self.shown.append(s)
+        s = Signal(
+            self.fresh("y" if out else "e" if kind == "e" else "n"),
+            kind,
+            width,
+            self.chance(0.25),
+            self.r.choice(self.types) if kind == "e" else None,
+        )
+        text = "{} : {}{}{}".format(s.name, "out " if out else "", s.type(), " := " + self.literal(s) if start else "")
+        if out:
+            self.outs.append(text)
+        else:
+            self.decls.append(f"signal {text};")
+        if kind == "e":
+            self.shown.append(s)
         return s
 
     def any(self, out=False, start=False):
@@ -239,8 +303,10 @@ class Design:
     def actual(self, port):
         """a net of the port's type that is known, or None"""
         known, self.known = self.known, [s for s in self.known if s.name[0] != "k"]
-        if port.kind == "s": name = self.scalar(0)
-        else: name = self.part(port.kind, port.width) if self.of_kind(port.kind, port.width) else None
+        if port.kind == "s":
+            name = self.scalar(0)
+        else:
+            name = self.part(port.kind, port.width) if self.of_kind(port.kind, port.width) else None
         self.known = known
         return name
 
@@ -253,39 +319,56 @@ class Design:
         self.edges |= c.edges
         form, generic = c.top, ""
         if self.chance(0.3):
-            ports = re.search(r"entity %s is (.*?) end;" % c.top, unit, re.S).group(1)
-            self.decls.append("component %s is %s end component;" % (c.top, ports))
-        else: form = "entity work." + c.top
+            ports = re.search(f"entity {c.top} is (.*?) end;", unit, re.S).group(1)
+            self.decls.append("component {} is {} end component;".format(c.top, ports))
+        else:
+            form = "entity work." + c.top
         fixed = ["clk => clk", "rst => rst", "ck2 => ck2"]
         times, fresh, wide = r.randint(1, 3), [], {}
         for p in c.out_ports:
-            if p.kind in "uv" and self.chance(0.5): wide[p.name] = self.declare(p.kind, p.width * times)
+            if p.kind in "uv" and self.chance(0.5):
+                wide[p.name] = self.declare(p.kind, p.width * times)
         fresh += wide.values()
         for turn in range(times):
             maps = list(fixed)
             for p in c.in_ports:
                 a = None if self.chance(0.15) else self.actual(p)
-                if a: maps.append("%s => %s" % (p.name, a))
+                if a:
+                    maps.append("{} => {}".format(p.name, a))
             for p in c.out_ports:
-                if p.name in wide: maps.append("%s => %s" % (p.name, wide[p.name].slice(turn * p.width, p.width)))
+                if p.name in wide:
+                    maps.append("{} => {}".format(p.name, wide[p.name].slice(turn * p.width, p.width)))
                 elif self.chance(0.85):
-                    s = self.declare(p.kind, p.width); fresh.append(s)
-                    maps.append("%s => %s" % (p.name, s.name))
-                elif self.chance(0.5): maps.append(p.name + " => open")
-            generic = " generic map (%s%d)" % (r.choice(["", "n => "]), r.randrange(1, 7)) if self.chance(0.5) else ""
-            self.body.append("%s: %s%s port map (%s);" % (self.fresh("u"), form, generic, ", ".join(maps)))
+                    s = self.declare(p.kind, p.width)
+                    fresh.append(s)
+                    maps.append("{} => {}".format(p.name, s.name))
+                elif self.chance(0.5):
+                    maps.append(p.name + " => open")
+            generic = f' generic map ({r.choice(["", "n => "])}{r.randrange(1, 7)})' if self.chance(0.5) else ""
+            self.body.append("{}: {}{} port map ({});".format(self.fresh("u"), form, generic, ", ".join(maps)))
         self.known += fresh
 
     def row(self):
         """a row of instances in a generate, whose width is a generic"""
         r, name, w, n = self.r, self.top + self.fresh("c"), self.r.randint(1, 4), self.r.randint(1, 4)
         near = [s for s in self.of_kind("u", w * n) if not s.upward and s.name[0] != "k"]
-        if not near: return
+        if not near:
+            return
         x, z = r.choice(near), Signal(self.fresh("n"), "u", w * n)
-        self.decls.append("signal %s : %s;" % (z.name, z.type()))
-        self.units.append((HEAD + "entity %s is generic (w : positive := 2); port (clk : in std_logic; i0 : in unsigned(w - 1 downto 0); z : out unsigned(w - 1 downto 0)); end;\narchitecture r of %s is\n  signal q : unsigned(w - 1 downto 0) := (others => '0');\nbegin\n  process (clk) begin if rising_edge(clk) then q <= q + i0 + w; end if; end process;\n  g: for i in 0 to w - 1 generate z(i) <= q(i) xor i0(w - 1 - i); end generate;\nend;\n" % (name, name), ("", "")))
+        self.decls.append("signal {} : {};".format(z.name, z.type()))
+        self.units.append(
+            (
+                HEAD
+                + "entity {} is generic (w : positive := 2); port (clk : in std_logic; i0 : in unsigned(w - 1 downto 0); z : out unsigned(w - 1 downto 0)); end;\narchitecture r of {} is\n  signal q : unsigned(w - 1 downto 0) := (others => '0');\nbegin\n  process (clk) begin if rising_edge(clk) then q <= q + i0 + w; end if; end process;\n  g: for i in 0 to w - 1 generate z(i) <= q(i) xor i0(w - 1 - i); end generate;\nend;\n".format(
+                    name, name
+                ),
+                ("", ""),
+            )
+        )
         self.edges.add(("clk", True))
-        self.body.append("%s: for i in 0 to %d generate u: entity work.%s generic map (%d) port map (clk, %s(%d * i + %d downto %d * i), %s(%d * i + %d downto %d * i)); end generate;" % (self.fresh("g"), n - 1, name, w, x.name, w, w - 1, w, z.name, w, w - 1, w))
+        self.body.append(
+            f'{self.fresh("g")}: for i in 0 to {n - 1} generate u: entity work.{name} generic map ({w}) port map (clk, {x.name}({w} * i + {w - 1} downto {w} * i), {z.name}({w} * i + {w - 1} downto {w} * i)); end generate;'
+        )
         self.known.append(z)
 
     # clocked processes, and what breaks a rule
@@ -295,79 +378,122 @@ class Design:
         clock = r.choice(["clk", "clk", "ck2"])
         rising = self.chance(0.7)
         self.edges.add((clock, rising))
-        edge = r.choice(["%s_edge(%s)" % ("rising" if rising else "falling", clock), "%s'event and %s = '%d'" % (clock, clock, rising), "%s = '%d' and %s'event" % (clock, rising, clock)])
+        edge = r.choice(
+            [
+                "{}_edge({})".format("rising" if rising else "falling", clock),
+                f"{clock}'event and {clock} = '{rising:d}'",
+                f"{clock} = '{rising:d}' and {clock}'event",
+            ]
+        )
         decls, text, vs = self.variables()
         text += " ".join(self.statement(s, "<=", 3, False) for s in mine)
         self.known = [s for s in self.known if s not in vs]
-        if self.chance(0.5): return "%sprocess (%s) %sbegin if %s then %s end if; end process;" % (self.label(), clock, decls, edge, text)
-        set_ = " ".join("%s <= %s;" % (s.name, "(others => '%s')" % r.choice("01") if s.kind in "uv" and self.chance(0.5) else self.literal(s)) for s in mine if self.chance(0.85)) or "null;"
+        if self.chance(0.5):
+            return "{}process ({}) {}begin if {} then {} end if; end process;".format(self.label(), clock, decls, edge, text)
+        set_ = (
+            " ".join(
+                "{} <= {};".format(s.name, "(others => '%s')" % r.choice("01") if s.kind in "uv" and self.chance(0.5) else self.literal(s))
+                for s in mine
+                if self.chance(0.85)
+            )
+            or "null;"
+        )
         reset = r.choice(["rst = '%s'", "rst = '%s'", "'%s' = rst", "(rst = '%s')"]) % r.choice("011")
         woken = "all" if self.chance(0.2) else clock + ", rst"
-        return "%sprocess (%s) %sbegin if %s then %s elsif %s then %s end if; end process;" % (self.label(), woken, decls, reset, set_, edge, text)
+        return "{}process ({}) {}begin if {} then {} elsif {} then {} end if; end process;".format(
+            self.label(), woken, decls, reset, set_, edge, text
+        )
 
     def shared(self):
         """a net with several drivers, also of parts, also out ports of instances"""
         r, s = self.r, self.declare(self.r.choice("suv"), 1)
         s.width = 1 if s.kind == "s" else r.randint(2, 9)
-        self.decls[-1] = "signal %s : %s%s;" % (s.name, s.type(), r.choice(["", "", " := " + self.literal(s)]))
+        self.decls[-1] = "signal {} : {}{};".format(s.name, s.type(), r.choice(["", "", " := " + self.literal(s)]))
         idle = r.choice(IDLE)
         for driver in range(2 if self.chance(0.7) else 3):
             n = s.width if s.kind == "s" or driver == 0 or self.chance(0.5) else r.randint(2, s.width)
             part = s.name if s.kind == "s" else s.slice(r.randrange(s.width - n + 1) if n < s.width else 0, n)
-            value, none = self.value(Signal("", s.kind, n)), "'%s'" % idle if s.kind == "s" else '"%s"' % (idle * n)
+            value, none = self.value(Signal("", s.kind, n)), f"'{idle}'" if s.kind == "s" else f'"{idle * n}"'
             k = r.random()
-            if k < 0.5: self.body.append("%s%s <= %s when %s else %s;" % (self.label(), part, value, self.condition(), none))
-            elif k < 0.75: self.body.append("process (clk) begin if rising_edge(clk) then %s <= %s; end if; end process;" % (part, value)); self.edges.add(("clk", True))
+            if k < 0.5:
+                self.body.append("{}{} <= {} when {} else {};".format(self.label(), part, value, self.condition(), none))
+            elif k < 0.75:
+                self.body.append("process (clk) begin if rising_edge(clk) then {} <= {}; end if; end process;".format(part, value))
+                self.edges.add(("clk", True))
             else:
                 name, port = self.top + self.fresh("c"), Signal("z", s.kind, n)
-                self.units.append((HEAD + "entity %s is port (en : in std_logic; z : out %s := %s); end;\narchitecture r of %s is\nbegin\n  z <= %s when en = '1' else %s;\nend;\n" % (name, port.type(), self.literal(port), name, self.literal(port), none), ("", "")))
-                self.body.append("%s: entity work.%s port map (%s, %s);" % (self.fresh("u"), name, self.actual(Signal("", "s", 1)), part))
+                self.units.append(
+                    (
+                        HEAD
+                        + "entity {} is port (en : in std_logic; z : out {} := {}); end;\narchitecture r of {} is\nbegin\n  z <= {} when en = '1' else {};\nend;\n".format(
+                            name, port.type(), self.literal(port), name, self.literal(port), none
+                        ),
+                        ("", ""),
+                    )
+                )
+                self.body.append("{}: entity work.{} port map ({}, {});".format(self.fresh("u"), name, self.actual(Signal("", "s", 1)), part))
         self.known.append(s)
         self.faults.add("TwoDrivers")
 
     def wild(self):
         """one statement that the checker is to refuse"""
         kind = self.r.choice(["TwoDrivers"] * 4 + ["ClockNotInput", "Latch", "Mixed", "MissingSensitivity"])
-        if kind == "TwoDrivers": return self.shared()
+        if kind == "TwoDrivers":
+            return self.shared()
         s = self.any()
         if kind == "ClockNotInput":
             gate = self.declare("s", 1)
             self.edges.add(("clk", True))
-            self.body.append("%s <= clk and (%s);" % (gate.name, self.scalar(1)))
-            self.body.append("process (%s) begin if rising_edge(%s) then %s end if; end process;" % (gate.name, gate.name, self.assign(s, "<=")))
-        elif kind == "Latch": self.body.append("process (all) begin if %s then %s end if; end process;" % (self.condition(), self.assign(s, "<=")))
+            self.body.append("{} <= clk and ({});".format(gate.name, self.scalar(1)))
+            self.body.append("process ({}) begin if rising_edge({}) then {} end if; end process;".format(gate.name, gate.name, self.assign(s, "<=")))
+        elif kind == "Latch":
+            self.body.append("process (all) begin if {} then {} end if; end process;".format(self.condition(), self.assign(s, "<=")))
         elif kind == "Mixed":
             self.edges.add(("clk", True))
-            self.body.append("process (clk) begin if rising_edge(clk) and (%s) then %s end if; end process;" % ("%s = '1'" % self.scalar(0), self.assign(s, "<=")))
+            self.body.append(
+                "process (clk) begin if rising_edge(clk) and ({}) then {} end if; end process;".format(
+                    f"{self.scalar(0)} = '1'", self.assign(s, "<=")
+                )
+            )
         else:
-            text = self.assign(s, "<=", 3); reads = self.reads(text)
-            if len(reads) < 2: return self.shared()
-            self.body.append("process (%s) begin %s end process;" % (", ".join(reads[:-1]), text))
-        self.known.append(s); self.faults.add(kind)
+            text = self.assign(s, "<=", 3)
+            reads = self.reads(text)
+            if len(reads) < 2:
+                return self.shared()
+            self.body.append("process ({}) begin {} end process;".format(", ".join(reads[:-1]), text))
+        self.known.append(s)
+        self.faults.add(kind)
 
     def make(self, wild=False):
         r = self.r
         for _ in range(r.randint(0, 2)):
             self.types.append([self.fresh("t")] + [self.fresh("w") for _ in range(r.randint(2, 6))])
-            self.decls.append("type %s is (%s);" % (self.types[-1][0], ", ".join(self.types[-1][1:])))
-        self.in_ports = [Signal("i0", "s", 1)] + [Signal("i%d" % k, q, 1 if q == "s" else r.randint(1, 12), self.chance(0.25)) for k, q in enumerate((r.choice("svvu") for _ in range(r.randint(0, 4))), 1)]
+            self.decls.append("type {} is ({});".format(self.types[-1][0], ", ".join(self.types[-1][1:])))
+        self.in_ports = [Signal("i0", "s", 1)] + [
+            Signal(f"i{k}", q, 1 if q == "s" else r.randint(1, 12), self.chance(0.25))
+            for k, q in enumerate((r.choice("svvu") for _ in range(r.randint(0, 4))), 1)
+        ]
         self.known = self.in_ports + ([Signal("rst", "s", 1)] if self.chance(0.5) else [])
         registers = [self.any(False, self.chance(0.8)) for _ in range(r.randint(0, 5))]
         for kind in "suv" if self.chance(0.3) else "":
             k = Signal(self.fresh("k"), kind, 1 if kind == "s" else r.randint(1, 9), self.chance(0.3))
-            self.decls.append("constant %s : %s := %s;" % (k.name, k.type(), self.literal(k)))
+            self.decls.append("constant {} : {} := {};".format(k.name, k.type(), self.literal(k)))
             self.known = self.known + [k]
         self.known = self.known + registers
         for _ in range(r.randint(1, 6 if self.depth == 0 else 3)):
-            if self.depth < 2 and self.chance(0.25): self.child()
-            if self.chance(0.1): self.row()
+            if self.depth < 2 and self.chance(0.25):
+                self.child()
+            if self.chance(0.1):
+                self.row()
             targets = [self.any(self.chance(0.4)) for _ in range(1 if self.chance(0.6) else r.randint(1, 3))]
             self.body.append(self.concurrent(targets[0]) if len(targets) == 1 and self.chance(0.6) else self.process(targets))
             self.known += targets
-        for _ in range(r.randint(1, 2) if wild else 0): self.wild()
+        for _ in range(r.randint(1, 2) if wild else 0):
+            self.wild()
         while registers:
             n = r.randint(1, len(registers))
-            self.body.append(self.clocked(registers[:n])); registers = registers[n:]
+            self.body.append(self.clocked(registers[:n]))
+            registers = registers[n:]
         r.shuffle(self.body)
         return self.text()
 
@@ -377,20 +503,27 @@ class Design:
         for o in self.outs:
             m = re.match(r"(\w+) : out (std_logic_vector|unsigned|std_logic)(?:\((\d+) (to|downto) (\d+)\))?", o)
             up = m.group(4) == "to"
-            self.out_ports.append(Signal(m.group(1), {"std_logic": "s", "unsigned": "u"}.get(m.group(2), "v"), 1 + int(m.group(5 if up else 3)) if m.group(3) else 1, up))
+            self.out_ports.append(
+                Signal(
+                    m.group(1), {"std_logic": "s", "unsigned": "u"}.get(m.group(2), "v"), 1 + int(m.group(5 if up else 3)) if m.group(3) else 1, up
+                )
+            )
         default = lambda p: " := " + self.literal(p) if self.depth else ""
-        ports = ["clk, rst, ck2 : in std_logic"] + ["%s : in %s%s" % (p.name, p.type(), default(p)) for p in self.in_ports] + self.outs
-        generic = "generic (n : natural := %d); " % self.r.randrange(1, 5) if self.depth else ""
+        ports = ["clk, rst, ck2 : in std_logic"] + ["{} : in {}{}".format(p.name, p.type(), default(p)) for p in self.in_ports] + self.outs
+        generic = f"generic (n : natural := {self.r.randrange(1, 5)}); " if self.depth else ""
         if self.depth and self.of_kind("u") and self.chance(0.7):
             s, x = self.declare("u", self.r.randint(1, 8)), self.r.choice(self.of_kind("u"))
-            self.body.append("%s <= resize(%s, %d) + n;" % (s.name, x.name, s.width))
+            self.body.append(f"{s.name} <= resize({x.name}, {s.width}) + n;")
         shadow = [(s.name, len(s.words) - 1, s.words[0]) for s in self.shown]
         wide = lambda count: max(1, (count - 1).bit_length())
-        more = "".join("  signal zz_%s : std_logic_vector(%d downto 0);\n" % (n, wide(c) - 1) for n, c, _ in shadow)
-        show = "".join("  zz_%s <= std_logic_vector(to_unsigned(%s'pos(%s), %d));\n" % (n, t, n, wide(c)) for n, c, t in shadow)
-        return "%sentity %s is %sport (%s); end;\narchitecture r of %s is\n  %s\nbegin\n  %s\nend;\n" % (HEAD, self.top, generic, "; ".join(ports), self.top, "\n  ".join(self.decls), "\n  ".join(self.body)), (more, show)
+        more = "".join(f"  signal zz_{n} : std_logic_vector({wide(c) - 1} downto 0);\n" for n, c, _ in shadow)
+        show = "".join(f"  zz_{n} <= std_logic_vector(to_unsigned({t}'pos({n}), {wide(c)}));\n" for n, c, t in shadow)
+        return "{}entity {} is {}port ({}); end;\narchitecture r of {} is\n  {}\nbegin\n  {}\nend;\n".format(
+            HEAD, self.top, generic, "; ".join(ports), self.top, "\n  ".join(self.decls), "\n  ".join(self.body)
+        ), (more, show)
+
 
 def beside(unit):
     text, (more, show) = unit
     at = text.index("\nbegin\n  ") + 1
-    return text[:at] + more + "begin\n" + show + text[at + 6:]
+    return text[:at] + more + "begin\n" + show + text[at + 6 :]
