@@ -7,3 +7,4 @@ pub mod Differences
 pub mod Telling
 pub mod Watching
 pub mod Reading
+pub mod BrokenRules

@@ -1,12 +1,15 @@
 //! Why a file of expected values is refused.
 
 ghost use Rattle.std.specs.Prelude.{◌≡◌};
+ghost use Rattle.rtl_expect.specs.BrokenRules.{rule_of};
 ghost use Rattle.rtl_expect.specs.declared.faults.ExpectFault.TheVariants.{NoMemory};
 
+use rtl_report::ExpectRule;
 use std::alloc::{AllocError, AllocFailed};
+use thiserror::Error;
 
 /// What is wrong with a line of a file of expected values.
-#[derive(Clone, Copy)]
+#[derive(Clone, Copy, Debug)]
 pub enum ExpectProblem {
     /// No `at`, a wrong count of words, or no number where one has to stand.
     BadLine,
@@ -28,14 +31,28 @@ impl ExpectProblem {
             line,
         }
     }
+
+    /// The rule that it breaks.
+    pub fn rule(self) -> ExpectRule
+        ensures { result ≡ rule_of self }
+    {
+        match self {
+            ExpectProblem::BadLine => ExpectRule::BadLine,
+            ExpectProblem::NotASignal => ExpectRule::NotASignal,
+            ExpectProblem::BadValue => ExpectRule::BadValue,
+            ExpectProblem::TimeTooLarge => ExpectRule::TimeTooLarge,
+        }
+    }
 }
 
 /// Why a file of expected values is refused. `line` counts from 1.
-#[derive(Clone, Copy)]
+#[derive(Clone, Copy, Debug, Error)]
 pub enum ExpectFault {
     /// This is wrong with a line.
+    #[error("{rule}, in line {line}", rule = .problem.rule().words())]
     InLine { problem: ExpectProblem, line: usize },
     /// Memory was refused.
+    #[error("out of memory")]
     NoMemory,
 }
 

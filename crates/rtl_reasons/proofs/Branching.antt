@@ -1,12 +1,13 @@
 -- Ifs of a body by their branches, and conditions by their chains.
-use Rattle.std.proofs.Common.{◌≡◌, ℕ, zero, suc, ◌+◌, ◌<◌, ◌≤◌, subst, Bool, true, false, ◌&&◌, ◌||◌, List, [], ◌∷◌, ◌++◌, length, get_or, take, drop, Option, Some, None, Vec, Global, refl, sym, ap, ◌∙◌, vec_len, ◌==◌, arith}
+use Rattle.std.proofs.Common.{◌≡◌, ℕ, zero, suc, ◌+◌, ◌<◌, ◌≤◌, subst, Bool, true, false, ◌&&◌, ◌||◌, List, [], ◌∷◌, ◌++◌, length, get_or, take, drop, Option, Some, None, Vec, Global, refl, sym, ap, ◌∙◌, vec_len, ◌==◌, append-nil, arith}
 use Rattle.std.specs.Prelude.{is_some, is_none, nat_lt, if◌then◌else◌, option_map, option_and_then, flat_map}
 use Rattle.std.specs.Option.{option_or}
 use Rattle.std.proofs.lemmas.List.{take_more, length-map, get_or-map}
 use Rattle.std.proofs.lemmas.Bool.{eqb-true}
 use Rattle.std.specs.List.{list_any}
 use Rattle.rtl_model.specs.bodies.Body as bodies
-use Rattle.rtl_model.specs.bodies.Leaves.{Leaf, read_of}
+use Rattle.rtl_model.specs.bodies.Leaves.{Leaf, of_nets, of_event, of_elements, test_leaves, read_of, event_of}
+use Rattle.rtl_model.proofs.bodies.Leaves.{leaves_tell}
 use Rattle.rtl_net.specs.declared.body.Statement.{Statement}
 use Rattle.rtl_net.specs.declared.body.Statement.TheVariants as vs
 use Rattle.rtl_net.specs.declared.body.Branch.{Branch}
@@ -18,15 +19,16 @@ use Rattle.rtl_net.specs.declared.body.Test.TheVariants as vt
 use Rattle.rtl_net.proofs.Rows.{view_if}
 use Rattle.rtl_body_facts.specs.Reading.{some}
 use Rattle.rtl_body_facts.proofs.Timings.{combined_is}
-use Rattle.rtl_reasons.specs.Edges.{is_gated}
+use Rattle.rtl_reasons.specs.Edges.{is_gated, has_two}
+use Rattle.rtl_reasons.specs.declared.edges.Events.{Events}
 use Rattle.rtl_reasons.specs.declared.reason.Reason.{Reason}
-use Rattle.rtl_reasons.specs.declared.reason.Reason.TheVariants.{GatedEdge, ResetBehind, BehindEdge, EdgeInside, NoEdge}
-use Rattle.rtl_model.specs.bodies.Reads.{events}
+use Rattle.rtl_reasons.specs.declared.reason.ReasonKind.TheVariants.{GatedEdge, ResetBehind, BehindEdge, EdgeInside, NoEdge}
+use Rattle.rtl_model.specs.bodies.Reads.{events, test_events}
 use Rattle.rtl_net.specs.declared.process.Process.{Process}
 use Rattle.rtl_net.specs.Nets.{NetlistView}
 use Rattle.rtl_reasons.specs.declared.ifs.EdgeIf.{EdgeIf}
 use Rattle.rtl_reasons.specs.declared.reads.First.{First}
-use Rattle.rtl_reasons.specs.Reasons.{at_or, at_of, branches_of_if, if_branches, conditions, branch_of, edge_branch, has_else, tests_of, inner_events, head_of, gated_edge, elsewhere, elsewhere_in, reset_net, sole_reset, reset_behind, first_that_fits, own_reasons, reset_reason, reset_of, other_before, computes, assigns_alike}
+use Rattle.rtl_reasons.specs.Reasons.{plain, naming, at_or, at_of, branches_of_if, if_branches, conditions, branch_of, edge_branch, has_else, tests_of, inner_events, head_of, gated_edge, elsewhere, elsewhere_in, reset_net, sole_reset, reset_behind, first_that_fits, own_reasons, reset_reason, reset_of, other_before, computes, assigns_alike}
 
 -- ---- ifs
 
@@ -76,17 +78,17 @@ pub tests-end : (bs : List Branch) (i : ℕ) → length bs ≤ i → length (tes
 tests-end bs i l = subst (λ (n : ℕ). n ≤ i) (sym (length-map bs (λ (b : Branch). test_view b.test))) l
 
 pub gated-is : (x : Statement) (at : ℕ) (branches : Vec Branch Global) (last : Option (Vec Statement Global)) → x ≡ vs.If at branches last
-    → (if list_any is_gated (tests_of branches.items) then Some (GatedEdge at) else None) ≡ gated_edge x
+    → (if list_any is_gated (tests_of branches.items) then Some (plain GatedEdge at) else None) ≡ gated_edge x
 gated-is x at branches last is =
-    ap (λ (ts : List bodies.Test). if list_any is_gated ts then Some (GatedEdge at) else None) (sym (conditions-are (option_map (λ v. v.items) last) branches.items))
-    ∙ sym (of-if (λ (a : ℕ) (bs : bodies.Branches). if list_any is_gated (conditions bs) then Some (GatedEdge a) else None) x at branches last is)
+    ap (λ (ts : List bodies.Test). if list_any is_gated ts then Some (plain GatedEdge at) else None) (sym (conditions-are (option_map (λ v. v.items) last) branches.items))
+    ∙ sym (of-if (λ (a : ℕ) (bs : bodies.Branches). if list_any is_gated (conditions bs) then Some (plain GatedEdge a) else None) x at branches last is)
 
 pub elsewhere-is : (x : Statement) (r : Reason) → some (events (statements_of (x ∷ []))) ≡ true → elsewhere_in (at_of x) (if_branches x) ≡ r → Some r ≡ elsewhere x
 elsewhere-is x r e k =
     sym (ap (λ (b : Bool). if b then Some (elsewhere_in (at_of x) (if_branches x)) else None) e ∙ ap (λ (a : Reason). Some a) k)
 
 pub elsewhere-if : (x : Statement) (at : ℕ) (branches : Vec Branch Global) (last : Option (Vec Statement Global)) → x ≡ vs.If at branches last
-    → elsewhere_in (at_of x) (if_branches x) ≡ (if some (inner_events (whole branches last)) then EdgeInside at else NoEdge at)
+    → elsewhere_in (at_of x) (if_branches x) ≡ plain (if some (inner_events (whole branches last)) then EdgeInside else NoEdge) at
 elsewhere-if x at branches last is =
     ap (elsewhere_in (at_of x)) (if-branches x at branches last is) ∙ ap (λ (a : ℕ). elsewhere_in a (Some (whole branches last))) (if-at x at branches last is)
 
@@ -117,10 +119,10 @@ module _ (p : Process) (edge : ℕ → Bool) where
       ∙ ap (λ (y : Branch). if is_none (computes 0 (statements_of y.statements.items)) && assigns_alike p edge (statements_of y.statements.items) then reset_net (test_view y.test) else None) is
 
   pub behind-is : (x : Statement) (at : ℕ) (branches : Vec Branch Global) (last : Option (Vec Statement Global)) → x ≡ vs.If at branches last
-      → option_map (ResetBehind at) (sole_reset p edge (whole branches last)) ≡ reset_behind p edge x
+      → option_map (naming ResetBehind at) (sole_reset p edge (whole branches last)) ≡ reset_behind p edge x
   behind-is x at branches last is =
-      sym (ap (λ (o : Option bodies.Branches). option_map (ResetBehind (at_of x)) (option_and_then (sole_reset p edge) o)) (if-branches x at branches last is)
-      ∙ ap (λ (a : ℕ). option_map (ResetBehind a) (sole_reset p edge (whole branches last))) (if-at x at branches last is))
+      sym (ap (λ (o : Option bodies.Branches). option_map (naming ResetBehind (at_of x)) (option_and_then (sole_reset p edge) o)) (if-branches x at branches last is)
+      ∙ ap (λ (a : ℕ). option_map (naming ResetBehind a) (sole_reset p edge (whole branches last))) (if-at x at branches last is))
 
 -- what is told of an if with an edge itself, by the list of its branches
 first-is : (last : Option (List Statement)) (bs : List Branch) → branch_of (branches_of (otherwise_of last) bs) 0 ≡ branch_of (branches_of bodies.no_else bs) 0
@@ -129,7 +131,7 @@ first-is (Some xs) [] = refl
 first-is last (b ∷ bs) = refl
 
 abbrev pub told_by : (at : ℕ) → Option Reason → Option Reason → (behind : Bool) → Option Reason
-told_by at first second behind = first_that_fits (first ∷ second ∷ (if behind then Some (BehindEdge at) else None) ∷ [])
+told_by at first second behind = first_that_fits (first ∷ second ∷ (if behind then Some (plain BehindEdge at) else None) ∷ [])
 
 pub own-is : (net : NetlistView) (i : EdgeIf) (last : Option (Vec Statement Global)) (bs : List Branch)
     → first_that_fits (own_reasons net i (branches_of (otherwise_of (option_map (λ v. v.items) last)) bs))
@@ -231,3 +233,45 @@ told-first old new (x ∷ xs) (mid, one, rest) =
     told-first mid new xs rest
     ∙ (ap (λ (a : Option ℕ). option_or a (head_of (flat_map read_of xs))) one
     ∙ (or-assoc old.net (head_of (read_of x)) (head_of (flat_map read_of xs)) ∙ ap (option_or old.net) (sym (head-append (read_of x) (flat_map read_of xs)))))
+
+-- ---- whether several events are looked for
+
+several-more : (l : Leaf) (xs : List ℕ) → has_two (event_of l ++ xs) ≡ ((some (event_of l) && some xs) || has_two xs)
+several-more (of_event n) [] = refl
+several-more (of_event n) (x ∷ xs) = refl
+several-more (of_nets ns) xs = refl
+several-more (of_elements es) xs = refl
+
+some-more : (l : Leaf) (xs : List ℕ) → some (event_of l ++ xs) ≡ (some (event_of l) || some xs)
+some-more (of_event n) xs = refl
+some-more (of_nets ns) xs = refl
+some-more (of_elements es) xs = refl
+
+regrouped : (a b e r t : Bool) → (((a || (b && e)) || ((b || e) && r)) || t) ≡ ((a || (b && (e || r))) || ((e && r) || t))
+regrouped true b e r t = refl
+regrouped false true true r t = refl
+regrouped false true false r t = refl
+regrouped false false true r t = refl
+regrouped false false false r t = refl
+
+alone : (a b : Bool) → a ≡ ((a || (b && false)) || false)
+alone true b = refl
+alone false true = refl
+alone false false = refl
+
+pub test-events : (t : bodies.Test) → test_events t ≡ flat_map event_of (test_leaves t)
+test-events t =
+    let alone = bodies.step (bodies.if_of (bodies.branch t bodies.done bodies.no_else)) bodies.done in
+    sym (append-nil (test_events t ++ []) ∙ append-nil (test_events t))
+    ∙ (leaves_tell.events_are alone ∙ ap (flat_map event_of) (append-nil (test_leaves t ++ []) ∙ append-nil (test_leaves t)))
+
+pub told-several : (old new : Events) (ls : List Leaf)
+    → Tells (λ (u : Events) l (v : Events). (v.some ≡ (u.some || some (event_of l))) × (v.several ≡ (u.several || (u.some && some (event_of l))))) old ls new
+    → new.several ≡ ((old.several || (old.some && some (flat_map event_of ls))) || has_two (flat_map event_of ls))
+told-several old new [] h = ap (λ (e : Events). e.several) (sym h) ∙ alone old.several old.some
+told-several old new (l ∷ ls) (mid, (one, two), rest) =
+    let xs = flat_map event_of ls in
+    told-several mid new ls rest
+    ∙ ((λ i. (two i || (one i && some xs)) || has_two xs)
+    ∙ (regrouped old.several old.some (some (event_of l)) (some xs) (has_two xs)
+    ∙ (λ i. (old.several || (old.some && sym (some-more l xs) i)) || sym (several-more l xs) i)))

@@ -10,9 +10,9 @@ use Rattle.rtl_reasons.specs.declared.edges.EdgeTest.{EdgeTest}
 use Rattle.rtl_reasons.specs.declared.ifs.EdgeIf.{EdgeIf}
 use Rattle.std.specs.Option.{option_or}
 use Rattle.rtl_reasons.specs.declared.reason.Reason.{Reason}
-use Rattle.rtl_reasons.specs.declared.reason.Reason.TheVariants.{OtherEdge, EdgeInLoop, SecondEdge}
+use Rattle.rtl_reasons.specs.declared.reason.ReasonKind.TheVariants.{EdgeInLoop, SecondEdge}
 use Rattle.rtl_net.specs.declared.process.Process.{Process}
-use Rattle.rtl_reasons.specs.Reasons.{at_of, if_branches, conditions, first_edge, edge_if, edge_in, first_in, first_net, assigns_in, same_edge, second_edge, second_if, first_that_fits}
+use Rattle.rtl_reasons.specs.Reasons.{at_of, if_branches, conditions, first_edge, edge_if, edge_in, first_in, first_net, assigns_in, same_edge, plain, other_edge, second_edge, second_if, first_that_fits}
 
 -- one of two, by whether the first is there
 pub one-is : {A : Type 0} (a b : Option A) (x : A) → a ≡ Some x → (if is_some a then a else b) ≡ Some x
@@ -174,18 +174,12 @@ module _ (p : Process) (x y : Statement) (i : EdgeIf) where
     told r e = sym (ap (option_map (second_edge p x y i)) is ∙ ap (λ (a : Reason). Some a) e)
 
     pub other-edge : (net : Option ℕ) → same_edge i.edge j.edge ≡ false → net ≡ first_net p (λ n. assigns_in p x n && assigns_in p y n)
-        → Some (OtherEdge j.at net) ≡ second_if p x i y
+        → Some (other_edge j.at net) ≡ second_if p x i y
     other-edge net e n =
-        told (OtherEdge j.at net) (ap (λ (b : Bool). if not b then OtherEdge j.at (first_net p (λ n. assigns_in p x n && assigns_in p y n)) else if i.at == j.at then EdgeInLoop j.at else SecondEdge j.at) e
-        ∙ sym (ap (OtherEdge j.at) n))
+        told (other_edge j.at net)
+        ((λ k. if not (e k) then other_edge j.at (sym n k) else plain (if i.at == j.at then EdgeInLoop else SecondEdge) j.at))
 
-    same : (so : Bool) → same_edge i.edge j.edge ≡ true → (i.at == j.at) ≡ so → Some (if so then EdgeInLoop j.at else SecondEdge j.at) ≡ second_if p x i y
-    same so e at =
-        told (if so then EdgeInLoop j.at else SecondEdge j.at)
-        (λ k. if not (e k) then OtherEdge j.at (first_net p (λ n. assigns_in p x n && assigns_in p y n)) else if at k then EdgeInLoop j.at else SecondEdge j.at)
-
-    pub in-loop : same_edge i.edge j.edge ≡ true → (i.at == j.at) ≡ true → Some (EdgeInLoop j.at) ≡ second_if p x i y
-    in-loop e at = same true e at
-
-    pub the-same : same_edge i.edge j.edge ≡ true → (i.at == j.at) ≡ false → Some (SecondEdge j.at) ≡ second_if p x i y
-    the-same e at = same false e at
+    pub the-same : (so : Bool) → same_edge i.edge j.edge ≡ true → (i.at == j.at) ≡ so → Some (plain (if so then EdgeInLoop else SecondEdge) j.at) ≡ second_if p x i y
+    the-same so e at =
+        told (plain (if so then EdgeInLoop else SecondEdge) j.at)
+        (λ k. if not (e k) then other_edge j.at (first_net p (λ n. assigns_in p x n && assigns_in p y n)) else plain (if at k then EdgeInLoop else SecondEdge) j.at)

@@ -1,6 +1,7 @@
--- Edges among the conditions that `and` joins. An edge is `rising_edge(s)`, `falling_edge(s)`, or `s'event` and `s = '1'` (or '0'),
--- which are two conditions (IEEE 1076-2008, 16.2.4). A register's condition is an edge alone (docs/LANGUAGE.md, "Registers").
-use Rattle.std.specs.Prelude.{ℕ, Bool, true, false, not, ◌&&◌, ◌==◌, if◌then◌else◌, Option, Some, None, option_map, option_and_then}
+-- Edges among the conditions that `and` joins. An edge is `rising_edge(s)`, `falling_edge(s)`, or `s'event` and `s =
+-- '1'` (or '0'), which are two conditions (IEEE 1076-2008, 16.2.4). A register's condition is an edge alone
+-- (docs/LANGUAGE.md, "Registers").
+use Rattle.std.specs.Prelude.{ℕ, Bool, true, false, not, ◌&&◌, ◌==◌, if◌then◌else◌, List, ◌∷◌, Option, Some, None, option_map, option_and_then}
 use Rattle.std.specs.Option.{option_or}
 use Rattle.vhdl_values.specs.declared.scalar.Nine.{Nine}
 use Rattle.vhdl_values.specs.declared.kinds.Logic.{Logic}
@@ -9,6 +10,7 @@ use Rattle.vhdl_values.specs.declared.kinds.Edge.{Edge}
 use Rattle.vhdl_values.specs.declared.kinds.Edge.TheVariants.{Rising, Falling}
 use Rattle.rtl_model.specs.bodies.Body.{Test, level, rising, falling, event, combined}
 use Rattle.rtl_model.specs.bodies.Kinds.{edge_to}
+use Rattle.rtl_model.specs.bodies.Reads.{test_events}
 use Rattle.rtl_reasons.specs.declared.edges.EdgeTest.{EdgeTest}
 use Rattle.rtl_reasons.specs.declared.edges.Many.{Many}
 use Rattle.rtl_reasons.specs.declared.edges.Many.TheVariants.{One, Two, More}
@@ -33,8 +35,8 @@ abbrev pub level_of : (clock : Option ℕ) → Test → Option Edge
 level_of clock (level plain net v) = level_at clock plain net v
 level_of clock _ = None
 
--- ---- the conditions that `and` joins: how many they are, the first of them that looks for an event, and the first that makes an edge
--- beside an event of this net
+-- ---- the conditions that `and` joins: how many they are, the first of them that looks for an event, and the first that
+-- makes an edge beside an event of this net
 
 abbrev pub is_and : Logic → Bool
 is_and And = true
@@ -49,7 +51,8 @@ single start to = record { many = One; start = start; level = to }
 
 abbrev pub joined_by : Logic → Conditions → Conditions → Conditions
 joined_by op a b =
-    if is_and op then record { many = together a.many b.many; start = option_or a.start b.start; level = option_or a.level b.level }
+    if is_and op
+    then record { many = together a.many b.many; start = option_or a.start b.start; level = option_or a.level b.level }
     else single None None
 
 abbrev pub joined : (clock : Option ℕ) → Test → Conditions
@@ -70,7 +73,8 @@ abbrev pub found_from : Test → Conditions → Option Start → Option Found
 found_from t all None = None
 found_from t all (Some (Call edge)) = Some (record { edge = edge; alone = is_one all.many })
 found_from t all (Some (Event net)) =
-    option_map (λ to. record { edge = record { clock = net; edge = to }; alone = is_two all.many }) (joined (Some net) t).level
+    option_map (λ to. record { edge = record { clock = net; edge = to }; alone = is_two all.many })
+    (joined (Some net) t).level
 
 abbrev pub found_in : Test → Option Found
 found_in t = found_from t (joined None t) (joined None t).start
@@ -90,5 +94,10 @@ abbrev pub holds_of : {A : Type 0} → (A → Bool) → Option A → Bool
 holds_of such None = false
 holds_of such (Some a) = such a
 
+abbrev pub has_two : List ℕ → Bool
+has_two (n ∷ m ∷ ns) = true
+has_two _ = false
+
+-- an edge beside conditions without an edge or `'event`
 abbrev pub is_gated : Test → Bool
-is_gated t = holds_of is_beside (found_in t)
+is_gated t = holds_of is_beside (found_in t) && not (has_two (test_events t))

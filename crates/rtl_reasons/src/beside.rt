@@ -7,7 +7,7 @@ ghost use Rattle.rtl_reasons.specs.Reasons as spec;
 
 use crate::ifs::EdgeIf;
 use crate::nets::{first_net, nets_in};
-use crate::reason::Reason;
+use crate::reason::{Reason, ReasonKind};
 use rtl_body_facts::contains_rising;
 use rtl_net::{Process, Statement};
 use std::alloc::{AllocError, Global};
@@ -23,7 +23,8 @@ fn at_or(given: u32, statement: &Statement) -> u32
     }
 }
 
-/// What is told of a statement, if it assigns a net; the if with the edge starts at this byte and assigns these nets, which rise.
+/// What is told of a statement, if it assigns a net; the if with the edge starts at this byte and assigns these nets,
+/// which rise.
 fn assigns_beside(
     alloc: Global,
     process: &Process,
@@ -32,7 +33,8 @@ fn assigns_beside(
     statement: &Statement,
 ) -> Result<Option<Reason>, AllocError>
     requires { IsStrictlyIncreasing edge.now }
-    ensures { IfOk result (λ reason. reason ≡ spec.assigns_beside process.now (λ n. is_in n edge.now) at statement.now) }
+    ensures { IfOk result (λ reason. reason
+        ≡ spec.assigns_beside process.now (λ n. is_in n edge.now) at statement.now) }
 {
     let nets = nets_in(alloc, process, statement)?;
     let Some(net) = first_net(process, &nets) else {
@@ -40,9 +42,9 @@ fn assigns_beside(
     };
     let at = at_or(at, statement);
     if contains_rising(edge, net) {
-        return Ok(Some(Reason::BesideToo { at, net }));
+        return Ok(Some(Reason::naming(ReasonKind::BesideToo, at, net)));
     }
-    Ok(Some(Reason::Beside { at, net }))
+    Ok(Some(Reason::naming(ReasonKind::Beside, at, net)))
 }
 
 /// What is told of the first such statement.
@@ -71,9 +73,7 @@ fn first_standing(at: u32, statements: &[Statement]) -> Option<Reason>
     ensures { result ≡ spec.first_in (spec.stands_beside at) statements.now }
 {
     match statements {
-        [first, ..] => Some(Reason::StandsBeside {
-            at: at_or(at, first),
-        }),
+        [first, ..] => Some(Reason::plain(ReasonKind::StandsBeside, at_or(at, first))),
         [] => None,
     }
 }

@@ -9,7 +9,7 @@ ghost use Rattle.rtl_reasons.specs.Reasons as spec;
 use crate::beside::beside_edge;
 use crate::ifs::{EdgeIf, first_edge, gated_edge, second_edge};
 use crate::nets::nets_of;
-use crate::reason::Reason;
+use crate::reason::{Reason, ReasonKind};
 use crate::resets::{computes, other_before, reset_behind, reset_of};
 use rtl_body_facts::{ProcessKind, body_has_event, contains_rising, kind_of};
 use rtl_net::{Branch, Net, Process, Source, Statement};
@@ -29,6 +29,21 @@ fn driven_by(net: &Net, number: usize) -> Option<usize>
     }
 }
 
+/// What is told of a reset that this process drives, or none.
+fn made_by(at: u32, reset: usize, driver: Option<usize>) -> Reason
+    ensures { result ≡ spec.made_by at reset driver }
+{
+    match driver {
+        Some(process) => Reason {
+            kind: ReasonKind::ResetDriven,
+            at,
+            net: Some(reset),
+            driver: Some(process),
+        },
+        None => Reason::naming(ReasonKind::ResetNoInput, at, reset),
+    }
+}
+
 /// What is told of a reset that is no in port of the top.
 fn made_inside(net: &Net, at: u32, reset: usize) -> Option<Reason>
     ensures { result ≡ spec.made_inside net.now at reset }
@@ -38,11 +53,7 @@ fn made_inside(net: &Net, at: u32, reset: usize) -> Option<Reason>
     if contains_rising(inputs, reset) {
         return None;
     }
-    Some(Reason::ResetMadeInside {
-        at,
-        net: reset,
-        driver: driven_by(net, reset),
-    })
+    Some(made_by(at, reset, driven_by(net, reset)))
 }
 
 /// What is told of the reset of an if with an edge.
@@ -82,7 +93,7 @@ fn branches_reason(
         return Some(reason);
     }
     if stands_behind(found.before, branches, otherwise) {
-        return Some(Reason::BehindEdge { at });
+        return Some(Reason::plain(ReasonKind::BehindEdge, at));
     }
     None
 }
@@ -173,12 +184,12 @@ fn event_in(statement: &Statement) -> Option<Reason>
             otherwise,
         } => {
             if has_inner(branches, otherwise) {
-                return Some(Reason::EdgeInside { at: *at });
+                return Some(Reason::plain(ReasonKind::EdgeInside, *at));
             }
-            Some(Reason::NoEdge { at: *at })
+            Some(Reason::plain(ReasonKind::NoEdge, *at))
         }
-        Statement::Case { at, .. } => Some(Reason::EdgeInside { at: *at }),
-        _ => Some(Reason::EdgeInside { at: 0 }),
+        Statement::Case { at, .. } => Some(Reason::plain(ReasonKind::EdgeInside, *at)),
+        _ => Some(Reason::plain(ReasonKind::EdgeInside, 0)),
     }
 }
 
@@ -223,9 +234,9 @@ fn is_mixed(net: &Net, process: &Process) -> bool
     }
 }
 
-/// Why a process is neither clocked nor combinational: the first reason that fits it; `None` where it is one of these, or isn't
-/// there. It takes time in proportion to its drivers and to its body times how deep it is nested, but for the logarithms of sorted
-/// lists, and memory for the nets that it assigns.
+/// Why a process is neither clocked nor combinational: the first reason that fits it; `None` where it is one of
+/// these, or isn't there. It takes time in proportion to its drivers and to its body times how deep it is nested, but
+/// for the logarithms of sorted lists, and memory for the nets that it assigns.
 pub fn reason_of(alloc: Global, net: &Net, process: usize) -> Result<Option<Reason>, AllocError>
     ensures { IfOk result (λ reason. reason ≡ spec.reason_of net.now process) }
 {

@@ -1,11 +1,14 @@
 //! Edges among the conditions that `and` joins.
 
-ghost use Rattle.std.specs.Prelude.{◌≡◌};
+ghost use Rattle.std.specs.Prelude.{◌≡◌, ◌||◌, ◌&&◌};
 ghost use Rattle.rtl_net.specs.Bodies.{test_view};
 ghost use Rattle.rtl_model.specs.bodies.Kinds.{edge_to};
+ghost use Rattle.rtl_model.specs.bodies.Leaves.{event_of};
+ghost use Rattle.rtl_model.specs.bodies.Reads.{test_events};
+ghost use Rattle.rtl_body_facts.specs.Reading.{some};
 ghost use Rattle.rtl_reasons.specs.Edges as spec;
 
-use rtl_net::Test;
+use rtl_net::{Leaf, Test, Visit, walk_test};
 use vhdl_values::{Edge, Logic, Nine};
 
 /// An edge of a net.
@@ -202,12 +205,43 @@ pub(crate) fn edge_of(test: &Test) -> Option<EdgeTest>
     None
 }
 
-/// Whether a condition has an edge and more.
+/// The events that were looked for so far: whether there are some, and whether there are several.
+#[derive(Clone, Copy)]
+struct Events {
+    some: bool,
+    several: bool,
+}
+
+impl Visit for Events {
+    ghost takes = { λ old leaf new. (new.some ≡ (old.some || some (event_of leaf)))
+        × (new.several ≡ (old.several || (old.some && some (event_of leaf)))) };
+
+    fn leaf(&mut self, leaf: Leaf<'_>) {
+        if let Leaf::Event(_) = leaf {
+            self.several = self.several || self.some;
+            self.some = true;
+        }
+    }
+}
+
+/// Whether a condition looks for several events.
+fn has_two(test: &Test) -> bool
+    ensures { result ≡ spec.has_two (test_events (test_view test.now)) }
+{
+    let mut events = Events {
+        some: false,
+        several: false,
+    };
+    walk_test(test, &mut events);
+    events.several
+}
+
+/// Whether a condition has an edge and more, and no further event in it.
 pub(crate) fn is_gated(test: &Test) -> bool
     ensures { result ≡ spec.is_gated (test_view test.now) }
 {
     match found_in(test) {
-        Some(found) => !found.alone,
+        Some(found) => !found.alone && !has_two(test),
         None => false,
     }
 }

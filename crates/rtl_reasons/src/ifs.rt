@@ -7,7 +7,7 @@ ghost use Rattle.rtl_reasons.specs.Reasons as spec;
 
 use crate::edges::{EdgeTest, edge_of, is_gated};
 use crate::nets::{first_common, nets_in};
-use crate::reason::Reason;
+use crate::reason::{Reason, ReasonKind};
 use rtl_net::{Branch, Process, Statement};
 use std::alloc::{AllocError, Global};
 use vhdl_values::Edge;
@@ -98,6 +98,16 @@ fn common_net(
     Ok(first_common(process, &these, &those))
 }
 
+/// What is told of another edge, and of a net that both ifs assign.
+fn other_edge(at: u32, net: Option<usize>) -> Reason
+    ensures { result ≡ spec.other_edge at net }
+{
+    match net {
+        Some(net) => Reason::naming(ReasonKind::OtherEdgeToo, at, net),
+        None => Reason::plain(ReasonKind::OtherEdge, at),
+    }
+}
+
 /// What is told of a statement behind the if with the edge, if it is one too.
 fn second_if(
     alloc: Global,
@@ -114,12 +124,12 @@ fn second_if(
     let at = second.at;
     if !is_same_edge(found.edge, second.edge) {
         let net = common_net(alloc, process, first, statement)?;
-        return Ok(Some(Reason::OtherEdge { at, net }));
+        return Ok(Some(other_edge(at, net)));
     }
     if found.at == at {
-        return Ok(Some(Reason::EdgeInLoop { at }));
+        return Ok(Some(Reason::plain(ReasonKind::EdgeInLoop, at)));
     }
-    Ok(Some(Reason::SecondEdge { at }))
+    Ok(Some(Reason::plain(ReasonKind::SecondEdge, at)))
 }
 
 /// What is told of the first such statement.
@@ -161,7 +171,7 @@ fn gated_if(statement: &Statement) -> Option<Reason>
     match statement {
         Statement::If { at, branches, .. } => {
             if has_gated(branches) {
-                return Some(Reason::GatedEdge { at: *at });
+                return Some(Reason::plain(ReasonKind::GatedEdge, *at));
             }
             None
         }

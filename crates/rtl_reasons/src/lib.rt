@@ -16,5 +16,5 @@ mod words;
 
 pub use body::reason_of;
 pub use laws::each_mixed_has_a_reason;
-pub use reason::Reason;
+pub use reason::{Reason, ReasonKind};
 pub use words::Note;

@@ -1,156 +1,111 @@
 //! Reasons.
 
 ghost use Rattle.std.specs.Prelude.{◌≡◌};
-ghost use Rattle.rtl_reasons.specs.Notes.{number_of, at_of, net_of, driver_of};
+ghost use Rattle.rtl_reasons.specs.Notes.{number_of};
+ghost use Rattle.rtl_reasons.specs.Reasons as spec;
 
-/// Why a process is neither clocked nor combinational. `at` is the byte of the source at which the statement starts of which it is told, or,
-/// where the netlist has no place for that, the if with the edge.
+/// What makes a process neither clocked nor combinational.
 #[derive(Clone, Copy)]
-pub enum Reason {
-    /// In a condition of this if `and` joins an edge with something else.
-    GatedEdge {
-        at: u32,
-    },
+pub enum ReasonKind {
+    /// In a condition of this if `and` joins an edge with something else that has no event.
+    GatedEdge,
     /// This if tests the edge that an if before it tests.
-    SecondEdge {
-        at: u32,
-    },
+    SecondEdge,
     /// The same of two turns of one loop.
-    EdgeInLoop {
-        at: u32,
-    },
-    /// This if tests another edge than an if before it. The net is the first that both assign, if there is one.
-    OtherEdge {
-        at: u32,
-        net: Option<usize>,
-    },
+    EdgeInLoop,
+    /// This if tests another edge than an if before it, and both assign no net in common.
+    OtherEdge,
+    /// It does, and the net is the first that both assign.
+    OtherEdgeToo,
     /// This if resets by the net what the edge's branch assigns, and stands behind the one with the edge.
-    ResetBehind {
-        at: u32,
-        net: usize,
-    },
+    ResetBehind,
     /// The reset of this if is no in port of the top. The process is the first that drives it.
-    ResetMadeInside {
-        at: u32,
-        net: usize,
-        driver: Option<usize>,
-    },
+    ResetDriven,
+    /// The same of a reset that no process drives.
+    ResetNoInput,
     /// The branch of the reset reads the net.
-    ResetReads {
-        at: u32,
-        net: usize,
-    },
+    ResetReads,
     /// An if, a case or an assignment of a variable stands in the branch of the reset.
-    ResetComputes {
-        at: u32,
-    },
+    ResetComputes,
     /// A condition before the edge isn't the test of a reset.
-    NoResetTest {
-        at: u32,
-    },
+    NoResetTest,
     /// Several resets are tested before the edge.
-    SeveralResets {
-        at: u32,
-    },
+    SeveralResets,
     /// An else or an elsif stands behind the edge.
-    BehindEdge {
-        at: u32,
-    },
+    BehindEdge,
     /// A statement beside the if with the edge assigns the net, which that if doesn't assign.
-    Beside {
-        at: u32,
-        net: usize,
-    },
+    Beside,
     /// A statement beside the if with the edge assigns the net, which that if assigns too.
-    BesideToo {
-        at: u32,
-        net: usize,
-    },
+    BesideToo,
     /// A statement stands beside the if with the edge, and none beside it assigns a net.
-    StandsBeside {
-        at: u32,
-    },
+    StandsBeside,
     /// A condition of this if looks for an event, and isn't an edge.
-    NoEdge {
-        at: u32,
-    },
+    NoEdge,
     /// An edge or an event stands inside this statement.
-    EdgeInside {
-        at: u32,
-    },
+    EdgeInside,
+}
+
+/// Why a process is neither clocked nor combinational.
+#[derive(Clone, Copy)]
+pub struct Reason {
+    pub kind: ReasonKind,
+    /// The byte of the source at which the statement starts of which it is told, or, where the netlist has no place
+    /// for that, the if with the edge.
+    pub at: u32,
+    /// The net that it names.
+    pub net: Option<usize>,
+    /// The process that it names.
+    pub driver: Option<usize>,
 }
 
 impl Reason {
-    /// The number of its kind, in the order in which reasons are told.
+    /// One that names nothing.
+    pub(crate) fn plain(kind: ReasonKind, at: u32) -> Reason
+        ensures { result ≡ spec.plain kind at }
+    {
+        Reason {
+            kind,
+            at,
+            net: None,
+            driver: None,
+        }
+    }
+
+    /// One that names a net.
+    pub(crate) fn naming(kind: ReasonKind, at: u32, net: usize) -> Reason
+        ensures { result ≡ spec.naming kind at net }
+    {
+        Reason {
+            kind,
+            at,
+            net: Some(net),
+            driver: None,
+        }
+    }
+}
+
+impl ReasonKind {
+    /// Its number, in the order in which reasons are told.
     pub fn number(self) -> u8
         ensures { result ≡ number_of self }
     {
         match self {
-            Reason::GatedEdge { .. } => 1,
-            Reason::SecondEdge { .. } => 2,
-            Reason::EdgeInLoop { .. } => 3,
-            Reason::OtherEdge { .. } => 4,
-            Reason::ResetBehind { .. } => 5,
-            Reason::ResetMadeInside { .. } => 6,
-            Reason::ResetReads { .. } => 7,
-            Reason::ResetComputes { .. } => 8,
-            Reason::NoResetTest { .. } => 9,
-            Reason::SeveralResets { .. } => 10,
-            Reason::BehindEdge { .. } => 11,
-            Reason::Beside { .. } => 12,
-            Reason::BesideToo { .. } => 13,
-            Reason::StandsBeside { .. } => 14,
-            Reason::NoEdge { .. } => 15,
-            Reason::EdgeInside { .. } => 16,
-        }
-    }
-
-    /// The byte of the source at which the statement starts of which it is told.
-    pub fn at(self) -> u32
-        ensures { result ≡ at_of self }
-    {
-        match self {
-            Reason::GatedEdge { at }
-            | Reason::SecondEdge { at }
-            | Reason::EdgeInLoop { at }
-            | Reason::OtherEdge { at, .. }
-            | Reason::ResetBehind { at, .. }
-            | Reason::ResetMadeInside { at, .. }
-            | Reason::ResetReads { at, .. }
-            | Reason::ResetComputes { at }
-            | Reason::NoResetTest { at }
-            | Reason::SeveralResets { at }
-            | Reason::BehindEdge { at }
-            | Reason::Beside { at, .. }
-            | Reason::BesideToo { at, .. }
-            | Reason::StandsBeside { at }
-            | Reason::NoEdge { at }
-            | Reason::EdgeInside { at } => at,
-        }
-    }
-
-    /// The net that it names.
-    pub fn net(self) -> Option<usize>
-        ensures { result ≡ net_of self }
-    {
-        match self {
-            Reason::ResetBehind { net, .. }
-            | Reason::ResetMadeInside { net, .. }
-            | Reason::ResetReads { net, .. }
-            | Reason::Beside { net, .. }
-            | Reason::BesideToo { net, .. } => Some(net),
-            Reason::OtherEdge { net, .. } => net,
-            _ => None,
-        }
-    }
-
-    /// The process that it names.
-    pub fn driver(self) -> Option<usize>
-        ensures { result ≡ driver_of self }
-    {
-        match self {
-            Reason::ResetMadeInside { driver, .. } => driver,
-            _ => None,
+            ReasonKind::GatedEdge => 1,
+            ReasonKind::SecondEdge => 2,
+            ReasonKind::EdgeInLoop => 3,
+            ReasonKind::OtherEdge | ReasonKind::OtherEdgeToo => 4,
+            ReasonKind::ResetBehind => 5,
+            ReasonKind::ResetDriven | ReasonKind::ResetNoInput => 6,
+            ReasonKind::ResetReads => 7,
+            ReasonKind::ResetComputes => 8,
+            ReasonKind::NoResetTest => 9,
+            ReasonKind::SeveralResets => 10,
+            ReasonKind::BehindEdge => 11,
+            ReasonKind::Beside => 12,
+            ReasonKind::BesideToo => 13,
+            ReasonKind::StandsBeside => 14,
+            ReasonKind::NoEdge => 15,
+            ReasonKind::EdgeInside => 16,
         }
     }
 }

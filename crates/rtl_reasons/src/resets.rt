@@ -10,7 +10,7 @@ ghost use Rattle.rtl_reasons.specs.Reasons as spec;
 use crate::edges::edge_to;
 use crate::nets::{are_among, nets_of};
 use crate::reads::first_read;
-use crate::reason::Reason;
+use crate::reason::{Reason, ReasonKind};
 use rtl_net::{Branch, Process, Statement, Test};
 use std::alloc::{AllocError, Global};
 
@@ -60,10 +60,10 @@ pub(crate) fn other_before(at: u32, before: usize, branches: &[Branch]) -> Optio
     ensures { result ≡ spec.other_before at before (spec.tests_of branches.now) }
 {
     if has_other(before, branches) {
-        return Some(Reason::NoResetTest { at });
+        return Some(Reason::plain(ReasonKind::NoResetTest, at));
     }
     if before > 1 {
-        return Some(Reason::SeveralResets { at });
+        return Some(Reason::plain(ReasonKind::SeveralResets, at));
     }
     None
 }
@@ -76,11 +76,11 @@ fn computes_in(at: u32, statement: &Statement) -> Option<Reason>
         Statement::Null => None,
         Statement::Assign { value, .. } => {
             let net = first_read(value)?;
-            Some(Reason::ResetReads { at, net })
+            Some(Reason::naming(ReasonKind::ResetReads, at, net))
         }
-        Statement::Set { .. } => Some(Reason::ResetComputes { at }),
-        Statement::If { .. } => Some(Reason::ResetComputes { at }),
-        Statement::Case { .. } => Some(Reason::ResetComputes { at }),
+        Statement::Set { .. } => Some(Reason::plain(ReasonKind::ResetComputes, at)),
+        Statement::If { .. } => Some(Reason::plain(ReasonKind::ResetComputes, at)),
+        Statement::Case { .. } => Some(Reason::plain(ReasonKind::ResetComputes, at)),
     }
 }
 
@@ -157,7 +157,7 @@ fn reset_if(
         } => {
             let net = sole_reset(alloc, process, edge, branches, otherwise)?;
             match net {
-                Some(net) => Ok(Some(Reason::ResetBehind { at: *at, net })),
+                Some(net) => Ok(Some(Reason::naming(ReasonKind::ResetBehind, *at, net))),
                 None => Ok(None),
             }
         }

@@ -1,12 +1,11 @@
 //! What is said of a reason.
 
-ghost use Rattle.std.specs.Prelude.{◌≡◌};
-ghost use Rattle.rtl_reasons.specs.Notes.{note_of};
+ghost use Rattle.rtl_reasons.specs.Notes.{note_of, IsNote};
 
-use crate::reason::Reason;
+use crate::reason::ReasonKind;
 
-/// What is said of a reason: the opening, the name of its net if it names one, the middle, the name of its process if it names
-/// one, and the closing. Definitions cite the constants of this type.
+/// What is said of a reason: the opening, the name of its net if it names one, the middle, the name of its process if
+/// it names one, and the closing. Definitions cite the constants of this type.
 #[derive(Clone, Copy)]
 pub struct Note<T: Copy> {
     pub opening: T,
@@ -60,13 +59,13 @@ pub const RESET_BEHIND: Note<&str> = Note {
 pub const RESET_DRIVEN: Note<&str> = Note {
     opening: "the reset ",
     middle: " is driven by ",
-    closing: ", and is no in port of the top",
+    closing: ", and is no in port of the top; make it one, or test it inside the if with the edge",
 };
 
 /// A reset that no process drives, and that is no in port of the top.
 pub const RESET_NO_INPUT: Note<&str> = Note {
     opening: "the reset ",
-    middle: " is no in port of the top",
+    middle: " is no in port of the top; make it one, or test it inside the if with the edge",
     closing: "",
 };
 
@@ -128,7 +127,7 @@ pub const STANDS_BESIDE: Note<&str> = Note {
 
 /// An edge or an event in a condition that is no edge.
 pub const NO_EDGE: Note<&str> = Note {
-    opening: "a condition with an edge or 'event isn't rising_edge(clk), falling_edge(clk), or clk'event and clk = '1'",
+    opening: "a condition with an edge or 'event isn't rising_edge(clk), falling_edge(clk), or clk'event and clk = '1'; a register has one edge",
     middle: "",
     closing: "",
 };
@@ -140,36 +139,30 @@ pub const EDGE_INSIDE: Note<&str> = Note {
     closing: "",
 };
 
-impl Reason {
+impl ReasonKind {
     /// What is said of it.
     pub fn note(self) -> Note<&'static str>
-        ensures opening { result.opening.now ≡ (note_of self).opening.now }
-        ensures middle { result.middle.now ≡ (note_of self).middle.now }
-        ensures closing { result.closing.now ≡ (note_of self).closing.now }
+        ensures { IsNote (note_of self) result }
     {
         match self {
-            Reason::GatedEdge { .. } => GATED_EDGE,
-            Reason::SecondEdge { .. } => SECOND_EDGE,
-            Reason::EdgeInLoop { .. } => EDGE_IN_LOOP,
-            Reason::OtherEdge { net, .. } => match net {
-                Some(_) => OTHER_EDGE_TOO,
-                None => OTHER_EDGE,
-            },
-            Reason::ResetBehind { .. } => RESET_BEHIND,
-            Reason::ResetMadeInside { driver, .. } => match driver {
-                Some(_) => RESET_DRIVEN,
-                None => RESET_NO_INPUT,
-            },
-            Reason::ResetReads { .. } => RESET_READS,
-            Reason::ResetComputes { .. } => RESET_COMPUTES,
-            Reason::NoResetTest { .. } => NO_RESET_TEST,
-            Reason::SeveralResets { .. } => SEVERAL_RESETS,
-            Reason::BehindEdge { .. } => BEHIND_EDGE,
-            Reason::Beside { .. } => BESIDE,
-            Reason::BesideToo { .. } => BESIDE_TOO,
-            Reason::StandsBeside { .. } => STANDS_BESIDE,
-            Reason::NoEdge { .. } => NO_EDGE,
-            Reason::EdgeInside { .. } => EDGE_INSIDE,
+            ReasonKind::GatedEdge => GATED_EDGE,
+            ReasonKind::SecondEdge => SECOND_EDGE,
+            ReasonKind::EdgeInLoop => EDGE_IN_LOOP,
+            ReasonKind::OtherEdge => OTHER_EDGE,
+            ReasonKind::OtherEdgeToo => OTHER_EDGE_TOO,
+            ReasonKind::ResetBehind => RESET_BEHIND,
+            ReasonKind::ResetDriven => RESET_DRIVEN,
+            ReasonKind::ResetNoInput => RESET_NO_INPUT,
+            ReasonKind::ResetReads => RESET_READS,
+            ReasonKind::ResetComputes => RESET_COMPUTES,
+            ReasonKind::NoResetTest => NO_RESET_TEST,
+            ReasonKind::SeveralResets => SEVERAL_RESETS,
+            ReasonKind::BehindEdge => BEHIND_EDGE,
+            ReasonKind::Beside => BESIDE,
+            ReasonKind::BesideToo => BESIDE_TOO,
+            ReasonKind::StandsBeside => STANDS_BESIDE,
+            ReasonKind::NoEdge => NO_EDGE,
+            ReasonKind::EdgeInside => EDGE_INSIDE,
         }
     }
 }

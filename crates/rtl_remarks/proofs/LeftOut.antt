@@ -1,7 +1,7 @@
 -- The nets that a reset leaves out, and those that stay undefined, as lists.
 use Rattle.std.proofs.Common.{◌≡◌, ℕ, suc, ◌<◌, Bool, true, false, not, ◌==◌, ◌&&◌, List, [], ◌∷◌, length, get_or, map, refl, sym, ap, ◌∙◌, subst, arith, Option, Some, None, Result, Ok, Err}
 use Rattle.std.specs.Prelude.{All, ◌||◌, IfOk}
-use Rattle.std.specs.List.{filter}
+use Rattle.std.specs.List.{filter, range_with_len}
 use Rattle.std.proofs.lemmas.Bool.{and_parts, eqb-true}
 use Rattle.std.proofs.lemmas.List.{length-map}
 use Rattle.std.proofs.lemmas.Option.{slice_get_within}
@@ -11,7 +11,6 @@ use Rattle.vhdl_values.specs.Scalar.{code_of}
 use Rattle.vhdl_values.specs.declared.scalar.Nine.TheVariants.{U}
 use Rattle.rtl_model.specs.bodies.Assigns.{must_assign}
 use Rattle.rtl_model.specs.bodies.Body.{Stmts}
-use Rattle.rtl_model.specs.bodies.Kinds.{clocking}
 use Rattle.rtl_model.specs.bodies.Types.{ElementType}
 use Rattle.rtl_model.specs.nets.FlatNetlist.{DriverInRange, ProcessInRange}
 use Rattle.rtl_model.proofs.basics.Lists.{get_or-map_within}
@@ -19,13 +18,12 @@ use Rattle.rtl_net.specs.declared.body.Statement.{Statement}
 use Rattle.rtl_net.specs.declared.process.Driver.{Driver}
 use Rattle.rtl_net.specs.declared.process.Process.{Process}
 use Rattle.rtl_net.specs.Bodies.{statements_of}
-use Rattle.rtl_net.specs.Nets.{NetlistView, body_of, driver_view, process_view}
+use Rattle.rtl_net.specs.Nets.{NetlistView, driver_view, process_view}
 use Rattle.rtl_net.specs.Elaborated.{IsNet}
 use Rattle.rtl_body_facts.specs.Paths.{driven, to_net}
 use Rattle.rtl_body_facts.specs.Reading.{is_in}
 use Rattle.rtl_body_facts.proofs.EveryPath.{in_filter}
-use Rattle.rtl_remarks.specs.declared.remark.Remark.TheVariants.{NotReset, NeverKnown}
-use Rattle.rtl_remarks.specs.Remarks.{leaves_out, reset_branch, not_reset, starts_undefined, stays_undefined, edge_branch, never_known}
+use Rattle.rtl_remarks.specs.Remarks.{leaves_out, starts_undefined, stays_undefined}
 use Rattle.rtl_remarks.specs.Undefined.{may_assign}
 use Rattle.rtl_remarks.specs.Tables.{AreThose}
 use Rattle.rtl_remarks.proofs.Rising.{those_are}
@@ -82,31 +80,30 @@ starting_driven (d ∷ ds) n t = by (d.start == code_of U) (d.net == n) t (start
     by true false t later = later t
     by false false t later = later t
 
-module _ (net : NetlistView) (elaborated : IsNet net) (number : ℕ) (p : Process) (there : number < length net.processes) (at : p ≡ get_or net.processes number p) where
-  in_range : ProcessInRange net.types (process_view p)
-  in_range =
-      let same : get_or (map process_view net.processes) number (process_view p) ≡ process_view p = get_or-map_within process_view net.processes number p (process_view p) there ∙ ap process_view (sym at) in
-      let h : ProcessInRange net.types (get_or (map process_view net.processes) number (process_view p)) = elaborated.in_range.processes number (process_view p) (rw (length-map net.processes process_view) there) in
-      subst (ProcessInRange net.types) same h
+pub in_range : (net : NetlistView) (elaborated : IsNet net) (number : ℕ) (p : Process) → number < length net.processes → p ≡ get_or net.processes number p
+    → ProcessInRange net.types (process_view p)
+in_range net elaborated number p there at =
+    let same : get_or (map process_view net.processes) number (process_view p) ≡ process_view p =
+    get_or-map_within process_view net.processes number p (process_view p) there ∙ ap process_view (sym at) in
+    let h : ProcessInRange net.types (get_or (map process_view net.processes) number (process_view p)) =
+    elaborated.in_range.processes number (process_view p) (rw (length-map net.processes process_view) there) in
+    subst (ProcessInRange net.types) same h
 
-  below : (o : Option Stmts) (n : ℕ) → leaves_out p o n ≡ true → n < length net.types
+module _ (types : List ElementType) (p : Process) (in_range : ProcessInRange types (process_view p)) (o : Option Stmts) where
+  below : (o : Option Stmts) (n : ℕ) → leaves_out p o n ≡ true → n < length types
   below None n t = absurd cc
   below (Some branch) n t =
       let (a, b) = and_parts (is_in n (driven p.drives.items)) (not (must_assign (to_net p.drives.items n) branch)) t in
-      driven_there net.types p.drives.items in_range.drivers n a
+      driven_there types p.drives.items in_range.drivers n a
 
-  pub left_remarks : (left : List ℕ) → AreThose (leaves_out p (reset_branch (clocking net.inputs (body_of p)))) left → map (λ n. NotReset number n) left ≡ not_reset net number p
-  left_remarks left those =
-      let o = reset_branch (clocking net.inputs (body_of p)) in
-      ap (map (λ n. NotReset number n)) (those_are (leaves_out p o) left (length net.types) those (below o))
+  pub left_nets : (left : List ℕ) → AreThose (leaves_out p o) left → left ≡ filter (leaves_out p o) (range_with_len 0 (length types))
+  left_nets left those = those_are (leaves_out p o) left (length types) those (below o)
 
-  starting_below : (o : Option Stmts) (n : ℕ) → stays_undefined p o n ≡ true → n < length net.types
+  starting_below : (o : Option Stmts) (n : ℕ) → stays_undefined p o n ≡ true → n < length types
   starting_below None n t = absurd cc
   starting_below (Some s) n t =
       let (a, b) = and_parts (may_assign p.drives.items true n s && not (may_assign p.drives.items false n s)) (starts_undefined p.drives.items n) t in
-      driven_there net.types p.drives.items in_range.drivers n (starting_driven p.drives.items n b)
+      driven_there types p.drives.items in_range.drivers n (starting_driven p.drives.items n b)
 
-  pub stay_remarks : (stay : List ℕ) → AreThose (stays_undefined p (edge_branch (clocking net.inputs (body_of p)))) stay → map (λ n. NeverKnown number n) stay ≡ never_known net number p
-  stay_remarks stay those =
-      let o = edge_branch (clocking net.inputs (body_of p)) in
-      ap (map (λ n. NeverKnown number n)) (those_are (stays_undefined p o) stay (length net.types) those (starting_below o))
+  pub stay_nets : (stay : List ℕ) → AreThose (stays_undefined p o) stay → stay ≡ filter (stays_undefined p o) (range_with_len 0 (length types))
+  stay_nets stay those = those_are (stays_undefined p o) stay (length types) those (starting_below o)

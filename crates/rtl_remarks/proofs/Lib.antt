@@ -3,3 +3,4 @@ pub mod Listed
 mod Meanwhile
 mod ResetBranches
 mod Rising
+mod Events

@@ -139,9 +139,14 @@ and_swap false false = refl
 -- of what may be assigned in a branch, the nets for which its test doesn't fail
 pub kept_running : (drives : List Driver) (kept : Bool) (n : ℕ) (b : Branch) (found from others inner failing : List ℕ) (body : List Statement)
     → found ≡ filter (λ m. not (is_in m others)) from → from ≡ inner → others ≡ failing → body ≡ b.statements.items → is_in n failing ≡ fails n (test_view b.test)
-    → is_in n inner ≡ may_assign drives kept n (statements_of body) → is_in n found ≡ branch_may drives kept n b
-kept_running drives kept n b found from others inner failing body is f o same fail may =
+    → is_in n inner ≡ may_assign drives kept n (statements_of body) → kept ≡ false → is_in n found ≡ branch_may drives kept n b
+kept_running drives kept n b found from others inner failing body is f o same fail may none =
     ap (is_in n) is ∙ in_filter (λ m. not (is_in m others)) from n
     ∙ ap (λ xs. is_in n xs && not (is_in n others)) f ∙ ap (λ xs. is_in n inner && not (is_in n xs)) o
     ∙ ap (λ c. is_in n inner && not c) fail ∙ ap (λ c. c && not (fails n (test_view b.test))) (may ∙ ap (λ xs. may_assign drives kept n (statements_of xs)) same)
     ∙ and_swap (may_assign drives kept n (statements_of b.statements.items)) (not (fails n (test_view b.test)))
+    ∙ ap (λ c. (c || not (fails n (test_view b.test))) && may_assign drives kept n (statements_of b.statements.items)) (sym none)
+
+-- all that is kept undefined in a branch counts
+pub kept_all : (drives : List Driver) (kept : Bool) (n : ℕ) (b : Branch) → kept ≡ true → may_assign drives kept n (statements_of b.statements.items) ≡ branch_may drives kept n b
+kept_all drives kept n b so = ap (λ c. (c || not (fails n (test_view b.test))) && may_assign drives kept n (statements_of b.statements.items)) (sym so)

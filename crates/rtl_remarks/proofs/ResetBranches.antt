@@ -1,7 +1,7 @@
 -- Clocked bodies with a reset, and the first branch of their if.
 use Rattle.std.proofs.Common.{◌≡◌, ℕ, Bool, true, false, List, [], ◌∷◌, length, get_or, vec_len, ◌==◌, refl, sym, ap, ◌∙◌, arith, Vec, Global, Option, Some, None, ◌⊎◌, inl, inr}
-use Rattle.std.specs.Prelude.{option_map, not}
-use Rattle.std.specs.Option.{is_some}
+use Rattle.std.specs.Prelude.{is_some, option_map, not}
+use mathlib.Core.Bool.{beq}
 use Rattle.std.proofs.lemmas.Bool.{eqb-true}
 use Rattle.rtl_model.specs.bodies.Body.{Stmt, Stmts, done, step, if_of, branch}
 use Rattle.rtl_model.specs.bodies.Kinds as k
@@ -15,93 +15,69 @@ use Rattle.rtl_net.proofs.Rows.{view_if}
 use Rattle.rtl_body_facts.specs.declared.kinds.Clocking.{Clocking}
 use Rattle.rtl_body_facts.specs.declared.kinds.ProcessKind.TheVariants as d
 use Rattle.rtl_body_facts.specs.Timing.{part_net, clocking_view, kind_view}
-use Rattle.rtl_remarks.specs.Remarks.{reset_branch, branch_of_reset, is_clock_of, edge_branch, without_reset}
-use Rattle.rtl_remarks.specs.Tables.{is_there, has_reset, is_without_reset, first_branch}
+use Rattle.rtl_remarks.specs.Remarks.{branch_of_reset, without_reset}
+use Rattle.rtl_remarks.specs.Tables.{has_reset, guarded, first_branch}
 
 -- ---- by kinds
 
-pub none_of_combinational : (o : Option k.Clocking) (ns : List ℕ) → d.Combinational ≡ kind_view o ns → false ≡ has_reset o
-none_of_combinational None ns e = refl
-none_of_combinational (Some c) ns e = absurd cc
+pub of_combinational : (o : Option k.Clocking) (ns : List ℕ) → d.Combinational ≡ kind_view o ns → None ≡ has_reset o
+of_combinational None ns e = refl
+of_combinational (Some c) ns e = absurd cc
 
-pub none_of_mixed : (o : Option k.Clocking) (ns : List ℕ) → d.Mixed ≡ kind_view o ns → false ≡ has_reset o
-none_of_mixed None ns e = refl
-none_of_mixed (Some c) ns e = absurd cc
+pub of_mixed : (o : Option k.Clocking) (ns : List ℕ) → d.Mixed ≡ kind_view o ns → None ≡ has_reset o
+of_mixed None ns e = refl
+of_mixed (Some c) ns e = absurd cc
 
-reset_there : (r : Option k.ResetPart) → is_some (option_map part_net r) ≡ is_there (branch_of_reset r)
-reset_there None = refl
-reset_there (Some r) = refl
+part_there : (r : Option k.ResetPart) → is_some (option_map part_net r) ≡ is_some r
+part_there None = refl
+part_there (Some r) = refl
 
-pub as_clocked : (o : Option k.Clocking) (ns : List ℕ) (c : Clocking) → d.Clocked c ≡ kind_view o ns → is_some c.reset ≡ has_reset o
-as_clocked None [] c e = absurd cc
-as_clocked None (n ∷ ns) c e = absurd cc
-as_clocked (Some x) ns c e = let same : c ≡ clocking_view x = cc in ap (λ (y : Clocking). is_some y.reset) same ∙ reset_there x.reset
-
-pub open_combinational : (o : Option k.Clocking) (ns : List ℕ) → d.Combinational ≡ kind_view o ns → false ≡ is_without_reset o
-open_combinational None ns e = refl
-open_combinational (Some c) ns e = absurd cc
-
-pub open_mixed : (o : Option k.Clocking) (ns : List ℕ) → d.Mixed ≡ kind_view o ns → false ≡ is_without_reset o
-open_mixed None ns e = refl
-open_mixed (Some c) ns e = absurd cc
-
-reset_missing : (r : Option k.ResetPart) (s : Stmts) (b : Bool) → is_some (option_map part_net r) ≡ not b → b ≡ is_there (without_reset r s)
-reset_missing None s true h = refl
-reset_missing None s false h = absurd cc
-reset_missing (Some r) s true h = absurd cc
-reset_missing (Some r) s false h = refl
-
-pub open_clocked : (o : Option k.Clocking) (ns : List ℕ) (c : Clocking) (b : Bool) → d.Clocked c ≡ kind_view o ns → is_some c.reset ≡ not b → b ≡ is_without_reset o
-open_clocked None [] c b e h = absurd cc
-open_clocked None (n ∷ ns) c b e h = absurd cc
-open_clocked (Some x) ns c b e h = let same : c ≡ clocking_view x = cc in reset_missing x.reset x.branch b (sym (ap (λ (y : Clocking). is_some y.reset) same) ∙ h)
-
-pub clock_of_combinational : (n : ℕ) (o : Option k.Clocking) (ns : List ℕ) → d.Combinational ≡ kind_view o ns → is_clock_of n o ≡ false
-clock_of_combinational n None ns e = refl
-clock_of_combinational n (Some c) ns e = absurd cc
-
-pub clock_of_mixed : (n : ℕ) (o : Option k.Clocking) (ns : List ℕ) → d.Mixed ≡ kind_view o ns → is_clock_of n o ≡ false
-clock_of_mixed n None ns e = refl
-clock_of_mixed n (Some c) ns e = absurd cc
-
-pub clock_of_clocked : (n : ℕ) (o : Option k.Clocking) (ns : List ℕ) (c : Clocking) → d.Clocked c ≡ kind_view o ns → is_clock_of n o ≡ (c.clock == n)
-clock_of_clocked n None [] c e = absurd cc
-clock_of_clocked n None (m ∷ ns) c e = absurd cc
-clock_of_clocked n (Some x) ns c e = let same : c ≡ clocking_view x = cc in sym (ap (λ (y : Clocking). y.clock == n) same)
+pub of_clocked : (o : Option k.Clocking) (ns : List ℕ) (c : Clocking) → d.Clocked c ≡ kind_view o ns → Some (is_some c.reset) ≡ has_reset o
+of_clocked None [] c e = absurd cc
+of_clocked None (n ∷ ns) c e = absurd cc
+of_clocked (Some x) ns c e =
+    let same : c ≡ clocking_view x = cc in ap (λ (y : Clocking). Some (is_some y.reset)) same ∙ ap Some (part_there x.reset)
 
 -- ---- the first branch
 
-pub none_there : (x : Option Stmts) → is_there x ≡ false → None ≡ x
-none_there None e = refl
-none_there (Some s) e = absurd cc
+pub are_same : (a b : Bool) → not (beq a b) ≡ false → a ≡ b
+are_same true true e = refl
+are_same true false e = absurd cc
+are_same false true e = absurd cc
+are_same false false e = refl
 
--- of a body with a reset it is the reset's
-first_of_reset : (inputs : List ℕ) (body : Stmts) (o : Option k.Clocking) → clocking inputs body ≡ o → has_reset o ≡ true → first_branch body ≡ reset_branch o
-first_of_reset inputs body None e h = absurd cc
-first_of_reset inputs body (Some c) e h = go (clocked_is inputs body c e)
+pub differ : (a b : Bool) → not (beq a b) ≡ true → a ≡ b → ⊥
+differ true true e same = absurd cc
+differ true false e same = absurd cc
+differ false true e same = absurd cc
+differ false false e same = absurd cc
+
+pub no_guarded : (reset : Bool) (o : Option k.Clocking) → has_reset o ≡ None → None ≡ guarded reset o
+no_guarded true None h = refl
+no_guarded false None h = refl
+no_guarded reset (Some c) h = absurd cc
+
+pub other_guarded : (reset has : Bool) (o : Option k.Clocking) → has_reset o ≡ Some has → (has ≡ reset → ⊥) → None ≡ guarded reset o
+other_guarded reset has None h n = absurd cc
+other_guarded reset has (Some c) h n = go reset c.reset (let e : is_some c.reset ≡ has = cc in e) n
   where
-    go : IsClockedAlone body c ⊎ IsClockedWithReset inputs body c → first_branch body ≡ reset_branch (Some c)
-    go (inl alone) =
-        let none : false ≡ true = sym (ap (λ (r : Option k.ResetPart). is_there (branch_of_reset r)) alone.no_reset) ∙ h in
-        absurd cc
-    go (inr both) = ap first_branch both.is ∙ sym (ap branch_of_reset both.reset_is)
+    go : (b : Bool) (r : Option k.ResetPart) → is_some r ≡ has → (has ≡ b → ⊥) → None ≡ guarded b (Some (record { test = c.test; branch = c.branch; reset = r }))
+    go true None e n = refl
+    go true (Some r) e n = absurd (n (sym e))
+    go false None e n = absurd (n (sym e))
+    go false (Some r) e n = refl
 
-pub first_is_reset : (inputs : List ℕ) (body : Stmts) → has_reset (clocking inputs body) ≡ true → first_branch body ≡ reset_branch (clocking inputs body)
-first_is_reset inputs body h = first_of_reset inputs body (clocking inputs body) refl h
-
--- of one without a reset it is the one under the edge
-first_of_edge : (inputs : List ℕ) (body : Stmts) (o : Option k.Clocking) → clocking inputs body ≡ o → is_without_reset o ≡ true → first_branch body ≡ edge_branch o
-first_of_edge inputs body None e h = absurd cc
-first_of_edge inputs body (Some c) e h = go (clocked_is inputs body c e)
+-- of a body with a reset the first branch is the reset's, and of one without a reset the one under the edge
+pub first_guarded : (inputs : List ℕ) (body : Stmts) (reset : Bool) (o : Option k.Clocking) → clocking inputs body ≡ o → has_reset o ≡ Some reset
+    → first_branch body ≡ guarded reset o
+first_guarded inputs body reset None e h = absurd cc
+first_guarded inputs body reset (Some c) e h = go reset (let so : is_some c.reset ≡ reset = cc in so) (clocked_is inputs body c e)
   where
-    go : IsClockedAlone body c ⊎ IsClockedWithReset inputs body c → first_branch body ≡ edge_branch (Some c)
-    go (inl alone) = ap first_branch alone.is ∙ sym (ap (λ (r : Option k.ResetPart). without_reset r c.branch) alone.no_reset)
-    go (inr both) =
-        let none : false ≡ true = sym (ap (λ (r : Option k.ResetPart). is_there (without_reset r c.branch)) both.reset_is) ∙ h in
-        absurd cc
-
-pub first_is_edge : (inputs : List ℕ) (body : Stmts) → is_without_reset (clocking inputs body) ≡ true → first_branch body ≡ edge_branch (clocking inputs body)
-first_is_edge inputs body h = first_of_edge inputs body (clocking inputs body) refl h
+    go : (b : Bool) → is_some c.reset ≡ b → IsClockedAlone body c ⊎ IsClockedWithReset inputs body c → first_branch body ≡ guarded b (Some c)
+    go true so (inl alone) = let none : false ≡ true = sym (ap is_some alone.no_reset) ∙ so in absurd cc
+    go true so (inr both) = ap first_branch both.is ∙ sym (ap branch_of_reset both.reset_is)
+    go false so (inl alone) = ap first_branch alone.is ∙ sym (ap (λ (r : Option k.ResetPart). without_reset r c.branch) alone.no_reset)
+    go false so (inr both) = let none : true ≡ false = sym (ap is_some both.reset_is) ∙ so in absurd cc
 
 two_statements : (s t : Stmt) (rest : Stmts) → first_branch (step s (step t rest)) ≡ None
 two_statements (if_of (branch t s bs)) u rest = refl

@@ -1,6 +1,7 @@
--- Remarks on a netlist, whatever the checker says of it: a signal that is read and that nothing drives; an out port that nothing assigns,
--- of the top or of an instance; a register that its reset's branch leaves out; a clock that combinational logic reads as data; a register
--- that starts undefined and stays so; an element of an in port that nothing reads, though others are read.
+-- Remarks on a netlist, whatever the checker says of it: a signal that is read and that nothing drives; an out port
+-- that nothing assigns, of the top or of an instance; a register that its reset's branch leaves out; a clock that
+-- combinational logic reads as data; a register that starts undefined and stays so; an element of an in port that
+-- nothing reads, though others are read.
 use Rattle.std.specs.Prelude.{ℕ, suc, Bool, true, false, not, ◌&&◌, ◌==◌, if◌then◌else◌, List, [], ◌∷◌, ◌++◌, length, map, flat_map, Option, Some, None}
 use Rattle.std.specs.List.{list_any, filter, range_with_len}
 use Rattle.std.specs.Option.{is_some}
@@ -19,8 +20,16 @@ use Rattle.rtl_net.specs.Nets.{NetlistView, SignalView, flat, body_of}
 use Rattle.rtl_body_facts.specs.Paths.{driven, to_net}
 use Rattle.rtl_body_facts.specs.Reading.{is_in}
 use Rattle.rtl_remarks.specs.declared.remark.Remark.{Remark}
-use Rattle.rtl_remarks.specs.declared.remark.Remark.TheVariants.{Undriven, Unassigned, IdlePort, NotReset, ClockRead, NeverKnown, UnreadElement}
+use Rattle.rtl_remarks.specs.declared.remark.RemarkKind.{RemarkKind}
+use Rattle.rtl_remarks.specs.declared.remark.RemarkKind.TheVariants.{Undriven, Unassigned, IdlePort, NotReset, ClockRead, NeverKnown, UnreadElement}
 use Rattle.rtl_remarks.specs.Undefined.{may_assign}
+
+-- it names a net alone, or a process too
+abbrev pub at_net : RemarkKind → (n : ℕ) → Remark
+at_net kind n = record { kind = kind; process = None; net = n }
+
+abbrev pub at_process : RemarkKind → (process n : ℕ) → Remark
+at_process kind process n = record { kind = kind; process = Some process; net = n }
 
 -- ---- nets
 
@@ -45,15 +54,16 @@ reader_from number (p ∷ ps) n = if is_in n p.reads.items then Some number else
 
 abbrev pub read_by : (n : ℕ) → (reader : Option ℕ) → List Remark
 read_by n None = []
-read_by n (Some process) = Undriven process n ∷ []
+read_by n (Some process) = at_process Undriven process n ∷ []
 
 -- a signal, no port, that nothing drives and some process reads: told of the first that does
 abbrev pub undriven : NetlistView → (n : ℕ) → List Remark
-undriven net n = if is_of is_signal net.signals n && has_no_driver net n then read_by n (reader_from 0 net.processes n) else []
+undriven net n =
+    if is_of is_signal net.signals n && has_no_driver net n then read_by n (reader_from 0 net.processes n) else []
 
 -- an out port of the top that nothing drives
 abbrev pub unassigned : NetlistView → (n : ℕ) → List Remark
-unassigned net n = if is_of is_top_port net.signals n && has_no_driver net n then Unassigned n ∷ [] else []
+unassigned net n = if is_of is_top_port net.signals n && has_no_driver net n then at_net Unassigned n ∷ [] else []
 
 abbrev pub is_idle : Source → Bool
 is_idle (Driver process place) = false
@@ -61,7 +71,7 @@ is_idle (Idle value) = true
 
 -- an out port of an instance, which nothing inside drives, is a source of the net
 abbrev pub idle : NetlistView → (n : ℕ) → List Remark
-idle net n = if list_any is_idle (flat_sources (flat net) n) then IdlePort n ∷ [] else []
+idle net n = if list_any is_idle (flat_sources (flat net) n) then at_net IdlePort n ∷ [] else []
 
 abbrev pub is_read : NetlistView → (n : ℕ) → Bool
 is_read net n = is_some (reader_from 0 net.processes n)
@@ -72,7 +82,17 @@ is_read_port net s = is_top_port s && list_any (is_read net) s.nets
 
 -- an element of such an in port that no process reads
 abbrev pub unread : NetlistView → (n : ℕ) → List Remark
-unread net n = if is_in n net.inputs && (is_of (is_read_port net) net.signals n && not (is_read net n)) then UnreadElement n ∷ [] else []
+unread net n =
+    if is_in n net.inputs && (is_of (is_read_port net) net.signals n && not (is_read net n))
+    then at_net UnreadElement n ∷ []
+    else []
+
+abbrev pub on_net : NetlistView → RemarkKind → (n : ℕ) → List Remark
+on_net net Undriven n = undriven net n
+on_net net Unassigned n = unassigned net n
+on_net net IdlePort n = idle net n
+on_net net UnreadElement n = unread net n
+on_net net _ n = []
 
 -- ---- processes
 
@@ -89,22 +109,13 @@ abbrev pub leaves_out : Process → Option Stmts → (n : ℕ) → Bool
 leaves_out p None n = false
 leaves_out p (Some branch) n = is_in n (driven p.drives.items) && not (must_assign (to_net p.drives.items n) branch)
 
--- the nets that the process drives and the branch of its reset doesn't assign
-abbrev pub not_reset : NetlistView → (number : ℕ) → Process → List Remark
-not_reset net number p =
-    map (λ n. NotReset number n) (filter (leaves_out p (reset_branch (clocking net.inputs (body_of p)))) (range_with_len 0 (length net.types)))
-
-abbrev pub is_clock_of : (n : ℕ) → Option Clocking → Bool
-is_clock_of n None = false
-is_clock_of n (Some c) = c.test.clock == n
-
--- some process is clocked by the net
+-- some process looks for an edge of the net, or for another event
 abbrev pub is_clock : NetlistView → (n : ℕ) → Bool
-is_clock net n = list_any (λ p. is_clock_of n (clocking net.inputs (body_of p))) net.processes
+is_clock net n = list_any (λ p. is_in n (events (body_of p))) net.processes
 
 -- of a combinational process, the clocks that it reads
-abbrev pub clocks_read : NetlistView → (number : ℕ) → Process → List Remark
-clocks_read net number p = if is_empty (events (body_of p)) then map (λ n. ClockRead number n) (filter (is_clock net) p.reads.items) else []
+abbrev pub clocks_read : NetlistView → Process → List ℕ
+clocks_read net p = if is_empty (events (body_of p)) then filter (is_clock net) p.reads.items else []
 
 abbrev pub without_reset : Option ResetPart → Stmts → Option Stmts
 without_reset None s = Some s
@@ -119,16 +130,26 @@ edge_branch (Some c) = without_reset c.reset c.branch
 abbrev pub starts_undefined : List Driver' → (n : ℕ) → Bool
 starts_undefined drives n = list_any (λ (d : Driver'). (d.start == code_of U) && (d.net == n)) drives
 
--- A driver of the net starts undefined, some assignment keeps the net so, and none that may run then frees it: it is undefined for ever.
+-- A driver of the net starts undefined, some assignment keeps the net so, and none that may run then frees it: it is
+-- undefined for ever.
 abbrev pub stays_undefined : Process → Option Stmts → (n : ℕ) → Bool
 stays_undefined p None n = false
 stays_undefined p (Some s) n =
-    (may_assign p.drives.items true n s && not (may_assign p.drives.items false n s)) && starts_undefined p.drives.items n
+    (may_assign p.drives.items true n s && not (may_assign p.drives.items false n s))
+    && starts_undefined p.drives.items n
 
--- the registers without a reset that do
-abbrev pub never_known : NetlistView → (number : ℕ) → Process → List Remark
-never_known net number p =
-    map (λ n. NeverKnown number n) (filter (stays_undefined p (edge_branch (clocking net.inputs (body_of p)))) (range_with_len 0 (length net.types)))
+-- Of a process the nets with which remarks of a kind name it: those that it drives and the branch of its reset
+-- doesn't assign, the clocks that it reads as data, and its registers without a reset that stay undefined.
+abbrev pub named : NetlistView → RemarkKind → Process → List ℕ
+named net NotReset p =
+    filter (leaves_out p (reset_branch (clocking net.inputs (body_of p)))) (range_with_len 0 (length net.types))
+named net ClockRead p = clocks_read net p
+named net NeverKnown p =
+    filter (stays_undefined p (edge_branch (clocking net.inputs (body_of p)))) (range_with_len 0 (length net.types))
+named net _ p = []
+
+abbrev pub on_process : NetlistView → RemarkKind → (number : ℕ) → Process → List Remark
+on_process net kind number p = map (at_process kind number) (named net kind p)
 
 -- ---- the netlist
 
@@ -140,9 +161,15 @@ of_processes remarks number (p ∷ ps) = remarks number p ++ of_processes remark
 abbrev pub of_nets : (remarks : ℕ → List Remark) → (count : ℕ) → List Remark
 of_nets remarks count = flat_map remarks (range_with_len 0 count)
 
+abbrev pub on_nets : NetlistView → RemarkKind → List Remark
+on_nets net kind = of_nets (on_net net kind) (length net.types)
+
+abbrev pub on_processes : NetlistView → RemarkKind → List Remark
+on_processes net kind = of_processes (on_process net kind) 0 net.processes
+
 -- one kind after the other, each by net, or by process and net
 abbrev pub remarks_of : NetlistView → List Remark
 remarks_of net =
-    of_nets (undriven net) (length net.types) ++ of_nets (unassigned net) (length net.types) ++ of_nets (idle net) (length net.types)
-    ++ of_processes (not_reset net) 0 net.processes ++ of_processes (clocks_read net) 0 net.processes
-    ++ of_processes (never_known net) 0 net.processes ++ of_nets (unread net) (length net.types)
+    on_nets net Undriven ++ on_nets net Unassigned ++ on_nets net IdlePort
+    ++ on_processes net NotReset ++ on_processes net ClockRead ++ on_processes net NeverKnown
+    ++ on_nets net UnreadElement

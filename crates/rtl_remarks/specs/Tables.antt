@@ -1,5 +1,5 @@
 -- What the code keeps of a netlist while it looks for remarks.
-use Rattle.std.specs.Prelude.{◌≡◌, ℕ, ◌<◌, Bool, true, false, not, ◌&&◌, ◌||◌, List, [], ◌∷◌, length, slice_index_or, Option, Some, None}
+use Rattle.std.specs.Prelude.{◌≡◌, ℕ, ◌<◌, Bool, true, false, not, ◌&&◌, ◌||◌, List, [], ◌∷◌, length, slice_index_or, is_some, option_map, Option, Some, None}
 use Rattle.std.specs.List.Sorted.{IsStrictlyIncreasing}
 use Rattle.rtl_model.specs.bodies.Body.{Expr, if_of, Stmts, done, step, branch}
 use Rattle.rtl_model.specs.bodies.Kinds.{Clocking}
@@ -12,8 +12,9 @@ use Rattle.rtl_net.specs.declared.body.Statement.{Statement}
 use Rattle.rtl_net.specs.declared.body.TestLink.{TestLink}
 use Rattle.rtl_net.specs.declared.process.Driver.{Driver}
 use Rattle.rtl_body_facts.specs.Reading.{is_in}
-use Rattle.rtl_remarks.specs.Remarks.{is_signal, is_top_port, reader_from, reset_branch, edge_branch}
-use Rattle.rtl_remarks.specs.Undefined.{passes, whole_of, some_is, is_whole, is_and, fails, stmt_may, may_assign}
+use Rattle.rtl_remarks.specs.Remarks.{is_signal, is_top_port, is_of, is_read_port, is_clock, reader_from, reset_branch, edge_branch}
+use Rattle.rtl_remarks.specs.Undefined.{passes, whole_of, some_is, is_whole, is_and, fails, counts, stmt_may, may_assign}
+use Rattle.rtl_remarks.specs.declared.known.Known.{Known}
 use Rattle.rtl_remarks.specs.declared.undefined.Makers.{Makers}
 use Rattle.rtl_remarks.specs.declared.signals.Which.{Which}
 use Rattle.rtl_remarks.specs.declared.signals.Which.TheVariants.{Signals, TopPorts}
@@ -33,22 +34,29 @@ pub record AreReaders (net : NetlistView) (readers : List (Option ℕ)) : Type 0
   pub each_net : length readers ≡ length net.types
   pub each : (n : ℕ) → n < length net.types → slice_index_or readers n None ≡ reader_from 0 net.processes n
 
--- ---- resets
+-- what is known of a netlist
+pub record IsKnown (net : NetlistView) (known : Known) : Type 0 where
+  pub signals : AreThose (is_of is_signal net.signals) known.signals.items
+  pub ports : AreThose (is_of is_top_port net.signals) known.ports.items
+  pub read_ports : AreThose (is_of (is_read_port net) net.signals) known.read_ports.items
+  pub clocks : AreThose (is_clock net) known.clocks.items
+  pub readers : AreReaders net known.readers.items
 
-abbrev pub is_there : Option Stmts → Bool
-is_there None = false
-is_there (Some s) = true
+-- ---- branches of clocked processes
 
-abbrev pub has_reset : Option Clocking → Bool
-has_reset c = is_there (reset_branch c)
+-- whether a clocked process has a reset
+abbrev pub has_reset : Option Clocking → Option Bool
+has_reset c = option_map (λ (k : Clocking). is_some k.reset) c
+
+-- the branch under the reset, or under the edge of a process without one
+abbrev pub guarded : (reset : Bool) → Option Clocking → Option Stmts
+guarded true c = reset_branch c
+guarded false c = edge_branch c
 
 -- the first branch of a body that is one if
 abbrev pub first_branch : Stmts → Option Stmts
 first_branch (step (if_of (branch t s bs)) done) = Some s
 first_branch _ = None
-
-abbrev pub is_without_reset : Option Clocking → Bool
-is_without_reset c = is_there (edge_branch c)
 
 -- ---- what is undefined while a net is
 
@@ -60,7 +68,8 @@ pub record MakeUndefined (e : Expr) (found : Makers) : Type 0 where
 -- of a chain, where it is known of the operands before these
 abbrev pub links_some : (n : ℕ) → (left : Bool) → List Link → Bool
 links_some n left [] = left
-links_some n left (l ∷ ls) = links_some n (passes (operator_view l.operator) && (left || some_is n (expr_view l.operand))) ls
+links_some n left (l ∷ ls) =
+    links_some n (passes (operator_view l.operator) && (left || some_is n (expr_view l.operand))) ls
 
 abbrev pub links_whole : (left : Bool) → List Link → Bool
 links_whole left [] = left
@@ -75,7 +84,8 @@ abbrev pub statement_may : List Driver → (kept : Bool) → (n : ℕ) → State
 statement_may drives kept n s = stmt_may drives kept n (statement_view s)
 
 abbrev pub branch_may : List Driver → (kept : Bool) → (n : ℕ) → Branch → Bool
-branch_may drives kept n b = not (fails n (test_view b.test)) && may_assign drives kept n (statements_of b.statements.items)
+branch_may drives kept n b =
+    counts kept n (test_view b.test) && may_assign drives kept n (statements_of b.statements.items)
 
 abbrev pub alternative_may : List Driver → (kept : Bool) → (n : ℕ) → Alternative → Bool
 alternative_may drives kept n a = may_assign drives kept n (statements_of a.statements.items)

@@ -1,5 +1,5 @@
--- What stays undefined, `U` or `X`, while a net is (std_logic_1164's tables, numeric_std's results and relations of operands with such an
--- element), and which assignments to the net may run meanwhile.
+-- What stays undefined, `U` or `X`, while a net is (std_logic_1164's tables, numeric_std's results and relations of
+-- operands with such an element), and which assignments to the net may run meanwhile.
 use Rattle.std.specs.Prelude.{ℕ, Bool, true, false, not, ◌&&◌, ◌||◌, List, [], ◌∷◌}
 use Rattle.std.specs.List.{list_any}
 use Rattle.vhdl_values.specs.declared.kinds.Cmp.{Cmp}
@@ -81,7 +81,12 @@ abbrev pub is_same : (wanted b : Bool) → Bool
 is_same true b = b
 is_same false b = not b
 
--- Some assignment to the net n may run while it is undefined, and keeps it so (`kept`), or doesn't. A branch doesn't run whose own test fails.
+-- the statements under the test count: those that may run while the net n is undefined, or all of them
+abbrev pub counts : (all : Bool) → (n : ℕ) → Test → Bool
+counts all n t = all || not (fails n t)
+
+-- Some assignment to the net n keeps it undefined (`kept`), on whatever path; or one that may run while it is
+-- undefined doesn't. A branch doesn't run whose own test fails.
 abbrev mutual
   pub stmt_may : List Driver → (kept : Bool) → (n : ℕ) → Stmt → Bool
   stmt_may drives kept n (assign places v) = list_any (covers drives n) places && is_same kept (keeps n v)
@@ -96,7 +101,7 @@ abbrev mutual
   pub branches_may : List Driver → (kept : Bool) → (n : ℕ) → Branches → Bool
   branches_may drives kept n no_else = false
   branches_may drives kept n (otherwise s) = may_assign drives kept n s
-  branches_may drives kept n (branch t s bs) = (not (fails n t) && may_assign drives kept n s) || branches_may drives kept n bs
+  branches_may drives kept n (branch t s bs) = (counts kept n t && may_assign drives kept n s) || branches_may drives kept n bs
 
   pub alternatives_may : List Driver → (kept : Bool) → (n : ℕ) → Alternatives → Bool
   alternatives_may drives kept n (others s) = may_assign drives kept n s

@@ -1,4 +1,4 @@
-//! The nets of which some assignment may run while they are undefined, and keeps them so or doesn't.
+//! The nets that some assignment keeps undefined, or that one doesn't that may run while they are.
 
 ghost use Rattle.std.specs.Prelude.{◌≡◌, ◌||◌, ◌&&◌, ℕ, IfOk, OnOk};
 ghost use Rattle.std.specs.List.{list_any};
@@ -125,6 +125,9 @@ fn push_branch(
     ensures { OnOk result ((n : ℕ) → is_in n nets.new.items
         ≡ (is_in n nets.old.items || branch_may drives.now kept n branch.now)) }
 {
+    if kept {
+        return push_body(alloc, drives, kept, &branch.statements, nets);
+    }
     let failing = failing_nets(alloc, &branch.test)?;
     let mut inner = Vec::new(alloc);
     push_body(alloc, drives, kept, &branch.statements, &mut inner)?;
@@ -151,9 +154,9 @@ fn push_alternatives(
     Ok(())
 }
 
-/// The nets of these drivers of which some assignment in a sequence may run while they are undefined, and keeps them so
-/// (`kept`) or doesn't; rising. It takes time in proportion to the sequence, but for sorting and for the levels that are
-/// open in it.
+/// The nets of these drivers that some assignment in a sequence keeps undefined (`kept`), or that one doesn't that
+/// may run while they are; rising. It takes time in proportion to the sequence, but for sorting and for the levels
+/// that are open in it.
 pub(crate) fn may_assign(
     alloc: Global,
     drives: &[Driver],

@@ -4,7 +4,10 @@
 #![tactic(auto)]
 
 mod assigned;
+mod branches;
+mod clocks;
 mod failing;
+mod known;
 mod listing;
 mod lists;
 mod nets;
@@ -16,6 +19,8 @@ mod resets;
 mod signals;
 mod undefined;
 
+pub use clocks::clocks_of;
 pub use listing::remarks;
-pub use processes::clocks_of;
-pub use remark::Remark;
+pub use lists::is_chosen;
+pub use remark::{Remark, RemarkKind};
+pub use resets::targets_of;

@@ -12,7 +12,7 @@ use rtl_net::{Indices, NoMemory};
 use std::alloc::Global;
 
 /// Whether a number is among others, or isn't, as is asked.
-fn is_chosen(others: &[usize], number: usize, among: bool) -> bool
+pub fn is_chosen(others: &[usize], number: usize, among: bool) -> bool
     requires { IsStrictlyIncreasing others.now }
     ensures { result ≡ is_same among (is_in number others.now) }
 {

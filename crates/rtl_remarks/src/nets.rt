@@ -4,9 +4,10 @@ ghost use Rattle.std.specs.Prelude.{◌≡◌, ◌<◌, ◌++◌, length, map, O
 ghost use Rattle.std.specs.List.{list_any};
 ghost use Rattle.rtl_net.specs.Nets.{source_view};
 ghost use Rattle.rtl_remarks.specs.Remarks as spec;
-ghost use Rattle.rtl_remarks.specs.Tables.{AreThose, AreReaders};
+ghost use Rattle.rtl_remarks.specs.Tables.{IsKnown};
 
-use crate::remark::Remark;
+use crate::known::Known;
+use crate::remark::{Remark, RemarkKind};
 use rtl_body_facts::contains_rising;
 use rtl_net::{Net, NoMemory, Source};
 
@@ -19,76 +20,39 @@ fn has_no_driver(net: &Net, number: usize) -> bool
     !contains_rising(net.inputs(), number) && net.sources(number).is_empty()
 }
 
-/// Appends the remark on a net of these signals that nothing drives and that a process reads.
-fn push_undriven_at(
+/// Appends the remark on a signal's net that nothing drives and that a process reads.
+fn push_undriven(
     net: &Net,
-    signals: &[usize],
-    readers: &[Option<usize>],
+    known: &Known,
     number: usize,
     remarks: &mut Vec<Remark>,
 ) -> Result<(), NoMemory>
-    requires signals { AreThose (spec.is_of spec.is_signal net.now.signals) signals.now }
-    requires readers { AreReaders net.now readers.now }
+    requires known { IsKnown net.now known.now }
     requires there { number < length net.now.types }
     ensures { OnOk result (remarks.new.items ≡ remarks.old.items ++ spec.undriven net.now number) }
 {
-    if !contains_rising(signals, number) || !has_no_driver(net, number) {
+    if !contains_rising(&known.signals, number) || !has_no_driver(net, number) {
         return Ok(());
     }
-    if let Some(process) = readers[number] {
-        remarks.push(Remark::Undriven {
-            process,
-            net: number,
-        })?;
+    if let Some(process) = known.readers[number] {
+        remarks.push(Remark::at_process(RemarkKind::Undriven, process, number))?;
     }
     Ok(())
 }
 
-/// Appends the remarks on signals that nothing drives and that are read.
-pub(crate) fn push_undriven(
+/// Appends the remark on a net of a port of the top that nothing drives.
+fn push_unassigned(
     net: &Net,
-    signals: &[usize],
-    readers: &[Option<usize>],
-    remarks: &mut Vec<Remark>,
-) -> Result<(), NoMemory>
-    requires signals { AreThose (spec.is_of spec.is_signal net.now.signals) signals.now }
-    requires readers { AreReaders net.now readers.now }
-    ensures { OnOk result (remarks.new.items ≡ remarks.old.items ++ spec.of_nets (spec.undriven net.now) (length net.now.types)) }
-{
-    for number in 0..net.nets() {
-        push_undriven_at(net, signals, readers, number, remarks)?;
-    }
-    Ok(())
-}
-
-/// Appends the remark on a net of these ports of the top that nothing drives.
-fn push_unassigned_at(
-    net: &Net,
-    ports: &[usize],
+    known: &Known,
     number: usize,
     remarks: &mut Vec<Remark>,
 ) -> Result<(), NoMemory>
-    requires ports { AreThose (spec.is_of spec.is_top_port net.now.signals) ports.now }
+    requires known { IsKnown net.now known.now }
     requires there { number < length net.now.types }
     ensures { OnOk result (remarks.new.items ≡ remarks.old.items ++ spec.unassigned net.now number) }
 {
-    if contains_rising(ports, number) && has_no_driver(net, number) {
-        remarks.push(Remark::Unassigned { net: number })?;
-    }
-    Ok(())
-}
-
-/// Appends the remarks on out ports of the top that nothing drives.
-pub(crate) fn push_unassigned(
-    net: &Net,
-    ports: &[usize],
-    remarks: &mut Vec<Remark>,
-) -> Result<(), NoMemory>
-    requires ports { AreThose (spec.is_of spec.is_top_port net.now.signals) ports.now }
-    ensures { OnOk result (remarks.new.items ≡ remarks.old.items ++ spec.of_nets (spec.unassigned net.now) (length net.now.types)) }
-{
-    for number in 0..net.nets() {
-        push_unassigned_at(net, ports, number, remarks)?;
+    if contains_rising(&known.ports, number) && has_no_driver(net, number) {
+        remarks.push(Remark::at_net(RemarkKind::Unassigned, number))?;
     }
     Ok(())
 }
@@ -116,63 +80,70 @@ fn has_idle(sources: &[Source]) -> bool
 }
 
 /// Appends the remark on a net that an idle port drives.
-fn push_idle_at(net: &Net, number: usize, remarks: &mut Vec<Remark>) -> Result<(), NoMemory>
+fn push_idle(net: &Net, number: usize, remarks: &mut Vec<Remark>) -> Result<(), NoMemory>
     requires there { number < length net.now.types }
     ensures { OnOk result (remarks.new.items ≡ remarks.old.items ++ spec.idle net.now number) }
 {
     if has_idle(net.sources(number)) {
-        remarks.push(Remark::IdlePort { net: number })?;
+        remarks.push(Remark::at_net(RemarkKind::IdlePort, number))?;
     }
     Ok(())
 }
 
-/// Appends the remarks on nets that idle ports drive.
-pub(crate) fn push_idle(net: &Net, remarks: &mut Vec<Remark>) -> Result<(), NoMemory>
-    ensures { OnOk result (remarks.new.items ≡ remarks.old.items ++ spec.of_nets (spec.idle net.now) (length net.now.types)) }
-{
-    for number in 0..net.nets() {
-        push_idle_at(net, number, remarks)?;
-    }
-    Ok(())
-}
-
-/// Appends the remark on a net that nothing reads, of an in port of the top that is among these ports.
-fn push_unread_at(
+/// Appends the remark on a net that nothing reads, of an in port of the top of which another element is read.
+fn push_unread(
     net: &Net,
-    ports: &[usize],
-    readers: &[Option<usize>],
+    known: &Known,
     number: usize,
     remarks: &mut Vec<Remark>,
 ) -> Result<(), NoMemory>
-    requires ports { AreThose (spec.is_of (spec.is_read_port net.now) net.now.signals) ports.now }
-    requires readers { AreReaders net.now readers.now }
+    requires known { IsKnown net.now known.now }
     requires there { number < length net.now.types }
     ensures { OnOk result (remarks.new.items ≡ remarks.old.items ++ spec.unread net.now number) }
 {
     net.is_elaborated();
     if contains_rising(net.inputs(), number)
-        && contains_rising(ports, number)
-        && readers[number].is_none()
+        && contains_rising(&known.read_ports, number)
+        && known.readers[number].is_none()
     {
-        remarks.push(Remark::UnreadElement { net: number })?;
+        remarks.push(Remark::at_net(RemarkKind::UnreadElement, number))?;
     }
     Ok(())
 }
 
-/// Appends the remarks on elements of in ports that nothing reads, though others are read.
-pub(crate) fn push_unread(
+/// Appends the remark of a kind on a net.
+fn push_on_net(
     net: &Net,
-    ports: &[usize],
-    readers: &[Option<usize>],
+    known: &Known,
+    kind: RemarkKind,
+    number: usize,
     remarks: &mut Vec<Remark>,
 ) -> Result<(), NoMemory>
-    requires ports { AreThose (spec.is_of (spec.is_read_port net.now) net.now.signals) ports.now }
-    requires readers { AreReaders net.now readers.now }
-    ensures { OnOk result (remarks.new.items
-        ≡ remarks.old.items ++ spec.of_nets (spec.unread net.now) (length net.now.types)) }
+    requires known { IsKnown net.now known.now }
+    requires there { number < length net.now.types }
+    ensures { OnOk result (remarks.new.items ≡ remarks.old.items ++ spec.on_net net.now kind number) }
+{
+    match kind {
+        RemarkKind::Undriven => push_undriven(net, known, number, remarks),
+        RemarkKind::Unassigned => push_unassigned(net, known, number, remarks),
+        RemarkKind::IdlePort => push_idle(net, number, remarks),
+        RemarkKind::UnreadElement => push_unread(net, known, number, remarks),
+        _ => Ok(()),
+    }
+}
+
+/// Appends the remarks of a kind on nets.
+pub(crate) fn push_on_nets(
+    net: &Net,
+    known: &Known,
+    kind: RemarkKind,
+    remarks: &mut Vec<Remark>,
+) -> Result<(), NoMemory>
+    requires { IsKnown net.now known.now }
+    ensures { OnOk result (remarks.new.items ≡ remarks.old.items ++ spec.on_nets net.now kind) }
 {
     for number in 0..net.nets() {
-        push_unread_at(net, ports, readers, number, remarks)?;
+        push_on_net(net, known, kind, number, remarks)?;
     }
     Ok(())
 }

@@ -25,7 +25,8 @@ pub(crate) fn first_readers(alloc: Global, net: &Net) -> Result<Vec<Option<usize
 fn note(process: usize, nets: &[usize], readers: &mut Vec<Option<usize>>)
     ensures length { length readers.new.items ≡ length readers.old.items }
     ensures each { (n : ℕ) → n < length readers.old.items
-        → slice_index_or readers.new.items n None ≡ (if is_in n nets.now then Some process else slice_index_or readers.old.items n None) }
+        → slice_index_or readers.new.items n None
+        ≡ (if is_in n nets.now then Some process else slice_index_or readers.old.items n None) }
 {
     for net in nets {
         if *net < readers.len() {

@@ -34,7 +34,8 @@ impl Which {
 
 /// Appends the nets of a signal, if it is one of these.
 fn push_nets(which: Which, signal: &Signal, nets: &mut Vec<usize>) -> Result<(), NoMemory>
-    ensures { OnOk result ((n : ℕ) → is_in n nets.new.items ≡ (is_in n nets.old.items || (takes which (signal_view signal.now) && is_in n signal.now.nets.items))) }
+    ensures { OnOk result ((n : ℕ) → is_in n nets.new.items
+        ≡ (is_in n nets.old.items || (takes which (signal_view signal.now) && is_in n signal.now.nets.items))) }
 {
     if which.takes(signal) {
         nets.extend_from_slice(signal.nets.as_slice())?;

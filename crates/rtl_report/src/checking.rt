@@ -124,19 +124,19 @@ const STORED_VARIABLE: Words<&str> = Words {
 
 impl CheckRule {
     /// What is said of it.
-    pub fn words(self) -> Words<&'static str>
-        ensures { AreWords (checking_words self) result }
+    pub fn words(self) -> &'static Words<&'static str>
+        ensures { AreWords (checking_words self) result.now }
     {
         match self {
-            CheckRule::TwoDrivers => TWO_DRIVERS,
-            CheckRule::Mixed => MIXED,
-            CheckRule::ClockNotInput => CLOCK_NOT_INPUT,
-            CheckRule::EdgeNotSensitive => EDGE_NOT_SENSITIVE,
-            CheckRule::ClockAsData => CLOCK_AS_DATA,
-            CheckRule::MissingSensitivity => MISSING_SENSITIVITY,
-            CheckRule::Latch => LATCH,
-            CheckRule::Loop => LOOP,
-            CheckRule::StoredVariable => STORED_VARIABLE,
+            CheckRule::TwoDrivers => &TWO_DRIVERS,
+            CheckRule::Mixed => &MIXED,
+            CheckRule::ClockNotInput => &CLOCK_NOT_INPUT,
+            CheckRule::EdgeNotSensitive => &EDGE_NOT_SENSITIVE,
+            CheckRule::ClockAsData => &CLOCK_AS_DATA,
+            CheckRule::MissingSensitivity => &MISSING_SENSITIVITY,
+            CheckRule::Latch => &LATCH,
+            CheckRule::Loop => &LOOP,
+            CheckRule::StoredVariable => &STORED_VARIABLE,
         }
     }
 }

@@ -88,8 +88,8 @@ const LENGTH: Words<&str> = Words {
 const INDEX: Words<&str> = Words {
     number: 6,
     name: "Index",
-    middle: "is an index or slice outside of what is declared, or against its direction",
-    help: "see the bounds and their direction; both sides of and, and branches that are never taken, are computed too",
+    middle: "is an index or slice outside of what is declared or against its direction, or a range without elements",
+    help: "see the bounds and their direction: (7 downto 0) or (0 to 7); both sides of and, and branches that are never taken, are computed too",
     ..ELABORATION
 };
 
@@ -143,22 +143,22 @@ const TOO_MANY: Words<&str> = Words {
 
 impl ElabRule {
     /// What is said of it.
-    pub fn words(self) -> Words<&'static str>
-        ensures { AreWords (elaboration_words self) result }
+    pub fn words(self) -> &'static Words<&'static str>
+        ensures { AreWords (elaboration_words self) result.now }
     {
         match self {
-            ElabRule::NoTop => NO_TOP,
-            ElabRule::NoGeneric => NO_GENERIC,
-            ElabRule::GenericRange => GENERIC_RANGE,
-            ElabRule::StaticError => STATIC_ERROR,
-            ElabRule::Length => LENGTH,
-            ElabRule::Index => INDEX,
-            ElabRule::TooWide => TOO_WIDE,
-            ElabRule::Unassociated => UNASSOCIATED,
-            ElabRule::TwoUnresolved => TWO_UNRESOLVED,
-            ElabRule::ReadOfShared => READ_OF_SHARED,
-            ElabRule::TooDeep => TOO_DEEP,
-            ElabRule::TooMany => TOO_MANY,
+            ElabRule::NoTop => &NO_TOP,
+            ElabRule::NoGeneric => &NO_GENERIC,
+            ElabRule::GenericRange => &GENERIC_RANGE,
+            ElabRule::StaticError => &STATIC_ERROR,
+            ElabRule::Length => &LENGTH,
+            ElabRule::Index => &INDEX,
+            ElabRule::TooWide => &TOO_WIDE,
+            ElabRule::Unassociated => &UNASSOCIATED,
+            ElabRule::TwoUnresolved => &TWO_UNRESOLVED,
+            ElabRule::ReadOfShared => &READ_OF_SHARED,
+            ElabRule::TooDeep => &TOO_DEEP,
+            ElabRule::TooMany => &TOO_MANY,
         }
     }
 }

@@ -70,16 +70,16 @@ const TIME_TOO_LARGE: Words<&str> = Words {
 
 impl ExpectRule {
     /// What is said of it.
-    pub fn words(self) -> Words<&'static str>
-        ensures { AreWords (expecting_words self) result }
+    pub fn words(self) -> &'static Words<&'static str>
+        ensures { AreWords (expecting_words self) result.now }
     {
         match self {
-            ExpectRule::Differs => DIFFERS,
-            ExpectRule::AfterStop => AFTER_STOP,
-            ExpectRule::BadLine => BAD_LINE,
-            ExpectRule::NotASignal => NOT_A_SIGNAL,
-            ExpectRule::BadValue => BAD_VALUE,
-            ExpectRule::TimeTooLarge => TIME_TOO_LARGE,
+            ExpectRule::Differs => &DIFFERS,
+            ExpectRule::AfterStop => &AFTER_STOP,
+            ExpectRule::BadLine => &BAD_LINE,
+            ExpectRule::NotASignal => &NOT_A_SIGNAL,
+            ExpectRule::BadValue => &BAD_VALUE,
+            ExpectRule::TimeTooLarge => &TIME_TOO_LARGE,
         }
     }
 }

@@ -50,13 +50,13 @@ const TOO_DEEP: Words<&str> = Words {
 
 impl SyntaxRule {
     /// What is said of it.
-    pub fn words(self) -> Words<&'static str>
-        ensures { AreWords (grammar_words self) result }
+    pub fn words(self) -> &'static Words<&'static str>
+        ensures { AreWords (grammar_words self) result.now }
     {
         match self {
-            SyntaxRule::Unexpected => UNEXPECTED,
-            SyntaxRule::EndOfFile => END_OF_FILE,
-            SyntaxRule::TooDeep => TOO_DEEP,
+            SyntaxRule::Unexpected => &UNEXPECTED,
+            SyntaxRule::EndOfFile => &END_OF_FILE,
+            SyntaxRule::TooDeep => &TOO_DEEP,
         }
     }
 }

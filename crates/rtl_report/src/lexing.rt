@@ -82,16 +82,16 @@ const TOO_LONG: Words<&str> = Words {
 
 impl LexRule {
     /// What is said of it.
-    pub fn words(self) -> Words<&'static str>
-        ensures { AreWords (lexing_words self) result }
+    pub fn words(self) -> &'static Words<&'static str>
+        ensures { AreWords (lexing_words self) result.now }
     {
         match self {
-            LexRule::BadByte => BAD_BYTE,
-            LexRule::OpenComment => OPEN_COMMENT,
-            LexRule::OpenString => OPEN_STRING,
-            LexRule::BadIdentifier => BAD_IDENTIFIER,
-            LexRule::BadNumber => BAD_NUMBER,
-            LexRule::TooLong => TOO_LONG,
+            LexRule::BadByte => &BAD_BYTE,
+            LexRule::OpenComment => &OPEN_COMMENT,
+            LexRule::OpenString => &OPEN_STRING,
+            LexRule::BadIdentifier => &BAD_IDENTIFIER,
+            LexRule::BadNumber => &BAD_NUMBER,
+            LexRule::TooLong => &TOO_LONG,
         }
     }
 }

@@ -69,8 +69,8 @@ const WRONG_KIND: Words<&str> = Words {
 const TYPE_MISMATCH: Words<&str> = Words {
     number: 4,
     name: "TypeMismatch",
-    middle: "has another type than what it stands beside, or than its target",
-    help: "convert it by unsigned(..) or std_logic_vector(..); an index is static: for v(p) write a loop that compares p; an element is '0', a vector \"0101\" or (others => '0'), a number to_unsigned(n, length), a comparison '1' when a = b else '0'; values are in capitals, as 'Z'",
+    middle: "has another type than what it stands beside or than its target, or its operator doesn't take it",
+    help: "convert it by unsigned(..) or std_logic_vector(..); an index is static: for v(p) write a loop that compares p; an element is '0', a vector \"0101\" or (others => '0'), a number to_unsigned(n, length), a comparison '1' when a = b else '0'; values are in capitals, as 'Z'; unsigned has no /, mod and rem here",
     ..NAMING
 };
 
@@ -130,21 +130,21 @@ const LEFT_OUT: Words<&str> = Words {
 
 impl NameRule {
     /// What is said of it.
-    pub fn words(self) -> Words<&'static str>
-        ensures { AreWords (naming_words self) result }
+    pub fn words(self) -> &'static Words<&'static str>
+        ensures { AreWords (naming_words self) result.now }
     {
         match self {
-            NameRule::Undeclared => UNDECLARED,
-            NameRule::Twice => TWICE,
-            NameRule::WrongKind => WRONG_KIND,
-            NameRule::TypeMismatch => TYPE_MISMATCH,
-            NameRule::NotVisible => NOT_VISIBLE,
-            NameRule::WriteOfIn => WRITE_OF_IN,
-            NameRule::NoOthers => NO_OTHERS,
-            NameRule::ChoiceTwice => CHOICE_TWICE,
-            NameRule::SecondArchitecture => SECOND_ARCHITECTURE,
-            NameRule::NoSensitivity => NO_SENSITIVITY,
-            NameRule::LeftOut => LEFT_OUT,
+            NameRule::Undeclared => &UNDECLARED,
+            NameRule::Twice => &TWICE,
+            NameRule::WrongKind => &WRONG_KIND,
+            NameRule::TypeMismatch => &TYPE_MISMATCH,
+            NameRule::NotVisible => &NOT_VISIBLE,
+            NameRule::WriteOfIn => &WRITE_OF_IN,
+            NameRule::NoOthers => &NO_OTHERS,
+            NameRule::ChoiceTwice => &CHOICE_TWICE,
+            NameRule::SecondArchitecture => &SECOND_ARCHITECTURE,
+            NameRule::NoSensitivity => &NO_SENSITIVITY,
+            NameRule::LeftOut => &LEFT_OUT,
         }
     }
 }

@@ -111,19 +111,19 @@ const INPUT_WITHOUT_LINE: Words<&str> = Words {
 
 impl RemarkRule {
     /// What is said of it.
-    pub fn words(self) -> Words<&'static str>
-        ensures { AreWords (remarking_words self) result }
+    pub fn words(self) -> &'static Words<&'static str>
+        ensures { AreWords (remarking_words self) result.now }
     {
         match self {
-            RemarkRule::Undriven => UNDRIVEN,
-            RemarkRule::Unassigned => UNASSIGNED,
-            RemarkRule::IdlePort => IDLE_PORT,
-            RemarkRule::NotReset => NOT_RESET,
-            RemarkRule::ClockRead => CLOCK_READ,
-            RemarkRule::NeverKnown => NEVER_KNOWN,
-            RemarkRule::UnreadElement => UNREAD_ELEMENT,
-            RemarkRule::ClockWithoutLine => CLOCK_WITHOUT_LINE,
-            RemarkRule::InputWithoutLine => INPUT_WITHOUT_LINE,
+            RemarkRule::Undriven => &UNDRIVEN,
+            RemarkRule::Unassigned => &UNASSIGNED,
+            RemarkRule::IdlePort => &IDLE_PORT,
+            RemarkRule::NotReset => &NOT_RESET,
+            RemarkRule::ClockRead => &CLOCK_READ,
+            RemarkRule::NeverKnown => &NEVER_KNOWN,
+            RemarkRule::UnreadElement => &UNREAD_ELEMENT,
+            RemarkRule::ClockWithoutLine => &CLOCK_WITHOUT_LINE,
+            RemarkRule::InputWithoutLine => &INPUT_WITHOUT_LINE,
         }
     }
 }

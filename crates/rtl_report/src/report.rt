@@ -29,8 +29,8 @@ pub enum Rule {
 
 impl Rule {
     /// What is said of it.
-    pub fn words(self) -> Words<&'static str>
-        ensures { AreWords (words_of self) result }
+    pub fn words(self) -> &'static Words<&'static str>
+        ensures { AreWords (words_of self) result.now }
     {
         match self {
             Rule::Lex(rule) => rule.words(),

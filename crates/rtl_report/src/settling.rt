@@ -33,11 +33,11 @@ const NO_SETTLING: Words<&str> = Words {
 
 impl RunRule {
     /// What is said of it.
-    pub fn words(self) -> Words<&'static str>
-        ensures { AreWords (settling_words self) result }
+    pub fn words(self) -> &'static Words<&'static str>
+        ensures { AreWords (settling_words self) result.now }
     {
         match self {
-            RunRule::NoSettling => NO_SETTLING,
+            RunRule::NoSettling => &NO_SETTLING,
         }
     }
 }

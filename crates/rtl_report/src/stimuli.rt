@@ -104,18 +104,18 @@ const RACE: Words<&str> = Words {
 
 impl StimRule {
     /// What is said of it.
-    pub fn words(self) -> Words<&'static str>
-        ensures { AreWords (stimuli_words self) result }
+    pub fn words(self) -> &'static Words<&'static str>
+        ensures { AreWords (stimuli_words self) result.now }
     {
         match self {
-            StimRule::BadLine => BAD_LINE,
-            StimRule::NotAnInput => NOT_AN_INPUT,
-            StimRule::BadValue => BAD_VALUE,
-            StimRule::SetTwice => SET_TWICE,
-            StimRule::ClockAndSet => CLOCK_AND_SET,
-            StimRule::NoStop => NO_STOP,
-            StimRule::TimeTooLarge => TIME_TOO_LARGE,
-            StimRule::Race => RACE,
+            StimRule::BadLine => &BAD_LINE,
+            StimRule::NotAnInput => &NOT_AN_INPUT,
+            StimRule::BadValue => &BAD_VALUE,
+            StimRule::SetTwice => &SET_TWICE,
+            StimRule::ClockAndSet => &CLOCK_AND_SET,
+            StimRule::NoStop => &NO_STOP,
+            StimRule::TimeTooLarge => &TIME_TOO_LARGE,
+            StimRule::Race => &RACE,
         }
     }
 }

@@ -1,5 +1,7 @@
 //! What is said of a rule.
 
+use std::fmt;
+
 /// What is said of a rule, text by text. Definitions cite the constants of this type.
 #[derive(Clone, Copy)]
 pub struct Words<T: Copy> {
@@ -17,4 +19,10 @@ pub struct Words<T: Copy> {
     pub closing: T,
     /// What a designer does about it.
     pub help: T,
+}
+
+impl fmt::Display for Words<&str> {
+    fn fmt<W: fmt::Write>(&self, f: &mut fmt::Formatter<W>) -> fmt::Result {
+        write!(f, "{} {} {}", self.layer, self.number, self.name)
+    }
 }

@@ -8,3 +8,4 @@ pub mod Times
 pub mod Filling
 pub mod Bounded
 pub mod View
+pub mod BrokenRules

@@ -1,12 +1,15 @@
 //! Why a stimulus is refused.
 
 ghost use Rattle.std.specs.Prelude.{◌≡◌};
+ghost use Rattle.rtl_stim_lines.specs.BrokenRules.{rule_of};
 ghost use Rattle.rtl_stim_lines.specs.declared.faults.StimFault.TheVariants.{NoMemory};
 
+use rtl_report::StimRule;
 use std::alloc::{AllocError, AllocFailed};
+use thiserror::Error;
 
 /// What is wrong with a line of a stimulus.
-#[derive(Clone, Copy)]
+#[derive(Clone, Copy, Debug)]
 pub enum StimProblem {
     /// An unknown word, a wrong count of words, no number where one has to stand, a half period of 0, or a
     /// second stop.
@@ -34,25 +37,43 @@ impl StimProblem {
             line,
         }
     }
+
+    /// The rule that it breaks.
+    pub fn rule(self) -> StimRule
+        ensures { result ≡ rule_of self }
+    {
+        match self {
+            StimProblem::BadLine => StimRule::BadLine,
+            StimProblem::NotAnInput => StimRule::NotAnInput,
+            StimProblem::BadValue => StimRule::BadValue,
+            StimProblem::SetTwice => StimRule::SetTwice,
+            StimProblem::ClockAndSet => StimRule::ClockAndSet,
+            StimProblem::TimeTooLarge => StimRule::TimeTooLarge,
+        }
+    }
 }
 
 /// Why a stimulus is refused. `line` counts from 1.
-#[derive(Clone, Copy)]
+#[derive(Clone, Copy, Debug, Error)]
 pub enum StimFault {
     /// This is wrong with a line.
+    #[error("{rule}, in line {line}", rule = .problem.rule().words())]
     InLine {
         problem: StimProblem,
         line: usize,
     },
     /// No line says when to stop.
+    #[error("{rule}", rule = StimRule::NoStop.words())]
     NoStop,
     /// A data input changes at an active clock edge; both are given by their net, the time in ns.
+    #[error("{rule}, of the nets {input} and {clock} at {time} ns", rule = StimRule::Race.words())]
     Race {
         time: u64,
         input: usize,
         clock: usize,
     },
     /// Memory was refused.
+    #[error("out of memory")]
     NoMemory,
 }
 

@@ -10,20 +10,20 @@ ghost use Rattle.rtl_stim_remarks.specs.Naming as spec;
 use crate::ports::named_nets;
 use rtl_body_facts::contains_rising;
 use rtl_net::{Net, NoMemory};
-use rtl_remarks::{Remark, clocks_of};
+use rtl_remarks::{Remark, RemarkKind, clocks_of, is_chosen};
 use std::alloc::Global;
 
-/// The remarks on the stimulus of this text: the clocks that none of its lines drives, and then the other inputs, each by net.
-/// It takes time in proportion to the netlist and the text, but for the logarithms of sorted lists, and memory for lists of
-/// nets and for the lines.
+/// The remarks on the stimulus of this text: the clocks that none of its lines drives, and then the other inputs,
+/// each by net. It takes time in proportion to the netlist and the text, but for the logarithms of sorted lists, and
+/// memory for lists of nets and for the lines.
 pub fn stimulus_remarks(alloc: Global, net: &Net, text: &[u8]) -> Result<Vec<Remark>, NoMemory>
     ensures { IfOk result (λ remarks. remarks.items ≡ spec.stimulus_remarks_of net.now text.now) }
 {
     let named = named_nets(alloc, net, text)?;
     let clocks = clocks_of(alloc, net)?;
     let mut remarks = Vec::new(alloc);
-    push_clocks(net, &named, &clocks, &mut remarks)?;
-    push_inputs(net, &named, &clocks, &mut remarks)?;
+    push_inputs(net, &named, &clocks, true, &mut remarks)?;
+    push_inputs(net, &named, &clocks, false, &mut remarks)?;
     Ok(remarks)
 }
 
@@ -36,76 +36,52 @@ fn is_without_line(net: &Net, named: &[usize], number: usize) -> bool
     contains_rising(net.inputs(), number) && !contains_rising(named, number)
 }
 
-/// Appends the remark on a net, if it is a clock that isn't among these.
-fn push_clock(
-    net: &Net,
-    named: &[usize],
-    clocks: &[usize],
-    number: usize,
-    remarks: &mut Vec<Remark>,
-) -> Result<(), NoMemory>
-    requires rise { IsStrictlyIncreasing named.now }
-    requires clocks { AreThose (is_clock net.now) clocks.now }
-    ensures { OnOk result (remarks.new.items
-        ≡ remarks.old.items ++ spec.clock_without net.now (λ n. is_in n named.now) number) }
+/// The kind of a remark on a clock, or on another input.
+fn kind_of(clock: bool) -> RemarkKind
+    ensures { result ≡ spec.kind_of clock }
 {
-    if is_without_line(net, named, number) && contains_rising(clocks, number) {
-        remarks.push(Remark::ClockWithoutLine { net: number })?;
+    if clock {
+        RemarkKind::ClockWithoutLine
+    } else {
+        RemarkKind::InputWithoutLine
     }
-    Ok(())
 }
 
-/// Appends the remarks on clocks that aren't among these.
-fn push_clocks(
-    net: &Net,
-    named: &[usize],
-    clocks: &[usize],
-    remarks: &mut Vec<Remark>,
-) -> Result<(), NoMemory>
-    requires rise { IsStrictlyIncreasing named.now }
-    requires clocks { AreThose (is_clock net.now) clocks.now }
-    ensures { OnOk result (remarks.new.items ≡ remarks.old.items
-        ++ of_nets (spec.clock_without net.now (λ n. is_in n named.now)) (length net.now.types)) }
-{
-    for number in 0..net.nets() {
-        push_clock(net, named, clocks, number, remarks)?;
-    }
-    Ok(())
-}
-
-/// Appends the remark on a net, if it is another input that isn't among these.
+/// Appends the remark on a net, if it is a clock that isn't among these, or another input.
 fn push_input(
     net: &Net,
     named: &[usize],
     clocks: &[usize],
+    clock: bool,
     number: usize,
     remarks: &mut Vec<Remark>,
 ) -> Result<(), NoMemory>
     requires rise { IsStrictlyIncreasing named.now }
     requires clocks { AreThose (is_clock net.now) clocks.now }
     ensures { OnOk result (remarks.new.items
-        ≡ remarks.old.items ++ spec.input_without net.now (λ n. is_in n named.now) number) }
+        ≡ remarks.old.items ++ spec.without net.now clock (λ n. is_in n named.now) number) }
 {
-    if is_without_line(net, named, number) && !contains_rising(clocks, number) {
-        remarks.push(Remark::InputWithoutLine { net: number })?;
+    if is_without_line(net, named, number) && is_chosen(clocks, number, clock) {
+        remarks.push(Remark::at_net(kind_of(clock), number))?;
     }
     Ok(())
 }
 
-/// Appends the remarks on the other inputs that aren't among these.
+/// Appends the remarks on clocks that aren't among these, or on other inputs.
 fn push_inputs(
     net: &Net,
     named: &[usize],
     clocks: &[usize],
+    clock: bool,
     remarks: &mut Vec<Remark>,
 ) -> Result<(), NoMemory>
     requires rise { IsStrictlyIncreasing named.now }
     requires clocks { AreThose (is_clock net.now) clocks.now }
     ensures { OnOk result (remarks.new.items ≡ remarks.old.items
-        ++ of_nets (spec.input_without net.now (λ n. is_in n named.now)) (length net.now.types)) }
+        ++ of_nets (spec.without net.now clock (λ n. is_in n named.now)) (length net.now.types)) }
 {
     for number in 0..net.nets() {
-        push_input(net, named, clocks, number, remarks)?;
+        push_input(net, named, clocks, clock, number, remarks)?;
     }
     Ok(())
 }

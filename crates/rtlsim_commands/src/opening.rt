@@ -41,7 +41,7 @@ pub fn on_source<F: Front, C: Command, S: Sink>(
     command.on_net(alloc, &net, &mut Unwatched, out)
 }
 
-// Writes the lines of the netlist of a source: `source` has the bytes of the file, `top` the name of an entity in it, in letters of
+/// Writes the lines of the netlist of a source: `source` has the bytes of the file, `top` the name of an entity in it, in letters of
 /// either case. It takes memory for the source's netlist, and then for one name at a time.
 ///
 /// # Errors

@@ -15,12 +15,11 @@ use Rattle.rtl_report.specs.declared.report.Subject.{Subject}
 use Rattle.rtl_report.specs.declared.report.Subject.TheVariants.{Lengths, Nothing}
 use Rattle.rtlsim_tokens.specs.Choices.{missing_line}
 use Rattle.rtlsim_tokens.specs.Listings.{entities_line}
-use Rattle.rtlsim_forms.specs.Forms.{Said, left_out_form, unexpected_form}
+use Rattle.rtlsim_tokens.specs.Forms.{Said, left_out_form, unexpected_form}
 use Rattle.rtlsim_explain.specs.Places.{begins_line, line_shown, position_behind}
-use Rattle.rtlsim_explain.specs.Refused.{refused, said_refused}
-use Rattle.rtlsim_explain.specs.Usual.{said_of}
-use Rattle.rtlsim_forms.specs.Words.{Read, first_text, from, read_of, subject}
-use Rattle.rtlsim_forms.specs.Words as words
+use Rattle.rtlsim_explain.specs.Refused.{refused, said_of, said_refused}
+use Rattle.rtlsim_tokens.specs.Words.{Read, first_text, from, read_of, subject}
+use Rattle.rtlsim_tokens.specs.Words as words
 use Rattle.rtlsim_hints.specs.Hints.{Hint, hint_at, is_nothing}
 use Rattle.rtlsim_hints.specs.Sayings.{help, sentence}
 use Rattle.rtlsim_explain.specs.declared.explaining.Site.{Site}

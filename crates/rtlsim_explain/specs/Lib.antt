@@ -2,7 +2,6 @@
 -- where a fault is told
 pub mod Places
 -- what is said of it
-pub mod Usual
 pub mod Refused
 pub mod Races
 -- explanations

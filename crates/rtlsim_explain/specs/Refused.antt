@@ -1,13 +1,14 @@
 -- Where the lexer refuses a text, there are no tokens: what stands there, and what is said of it.
-use Rattle.std.specs.Prelude.{ℕ, ◌==◌, ◌&&◌, max, Bool, false, if◌then◌else◌, List, [], ◌∷◌, length, take, codes}
+use Rattle.std.specs.Prelude.{ℕ, ◌==◌, ◌&&◌, ◌||◌, max, Bool, false, if◌then◌else◌, List, [], ◌∷◌, length, take, codes}
+use Rattle.rtl_report.specs.Rules.{words_of}
+use Rattle.rtl_report.specs.declared.elaboration.ElabRule.TheVariants as elaboration
 use Rattle.rtl_report.specs.declared.lexing.LexRule.TheVariants as lexing
 use Rattle.rtl_report.specs.declared.report.Rule.{Rule}
 use Rattle.rtl_report.specs.declared.report.Rule.TheVariants as rule
-use Rattle.rtlsim_explain.specs.Usual.{said_of}
-use Rattle.rtlsim_explain.specs.declared.refused.TheConstants.{IN_STRING, MARK, MATCHING}
-use Rattle.rtlsim_forms.specs.Forms.{Said}
-use Rattle.rtlsim_forms.specs.Words.{quoted}
-use Rattle.vhdl_lexer.specs.Bytes.{slash, star, begins, is_printable}
+use Rattle.rtlsim_explain.specs.declared.refused.TheConstants.{BRACES, CHOICE, INDEX, IN_STRING, MARK, MATCHING, NEGATION}
+use Rattle.rtlsim_tokens.specs.Forms.{Said}
+use Rattle.rtlsim_tokens.specs.Words.{quoted}
+use Rattle.vhdl_lexer.specs.Bytes.{slash, star, quote, begins, is_printable}
 use Rattle.vhdl_lexer.specs.Scan.{run}
 
 -- ---- what stands there
@@ -27,23 +28,31 @@ refused text = refused_named text (take (refused_len text) text)
 
 -- ---- what is said of it
 
-abbrev pub question_mark : ℕ
-question_mark = 63
+-- of a rule: behind the word or the lengths, and what a designer does about it
+abbrev pub said_of : Rule → Said
+said_of (rule.Elab elaboration.Length) = ((words_of (rule.Elab elaboration.Length)).closing.now, (words_of (rule.Elab elaboration.Length)).help.now)
+said_of rule = ((words_of rule).middle.now, (words_of rule).help.now)
 
-abbrev pub quotation_mark : ℕ
-quotation_mark = 34
+-- a question mark begins a matching relation behind which = / < or > follows, and the condition operator behind which another follows
+abbrev pub goes_on_matching : (behind : List ℕ) → Bool
+goes_on_matching [] = false
+goes_on_matching (byte ∷ behind) = byte == 61 || byte == 47 || byte == 60 || byte == 62 || byte == 63
 
--- a byte order mark of UTF-8
-abbrev pub begins_mark : (text : List ℕ) → Bool
-begins_mark (first ∷ second ∷ third ∷ text) = first == 239 && second == 187 && third == 191
-begins_mark _ = false
+-- a byte order mark of UTF-8, behind its first byte
+abbrev pub ends_mark : (behind : List ℕ) → Bool
+ends_mark (second ∷ third ∷ behind) = second == 187 && third == 191
+ends_mark _ = false
 
--- of a byte that begins nothing that is read, by the text that begins with it
+-- of a byte that begins nothing that is read, by the text that begins with it: ? [ { ~ ! and " are known
 abbrev pub said_of_byte : (text : List ℕ) → (usual : Said) → Said
-said_of_byte text usual =
-    if begins question_mark text then (MATCHING.0.now, MATCHING.1.now)
-    else if begins quotation_mark text then (IN_STRING.0.now, IN_STRING.1.now)
-    else if begins_mark text then (MARK.0.now, MARK.1.now) else usual
+said_of_byte [] usual = usual
+said_of_byte (byte ∷ behind) usual =
+    if byte == 63 then (if goes_on_matching behind then (MATCHING.0.now, MATCHING.1.now) else (CHOICE.0.now, CHOICE.1.now))
+    else if byte == 91 then (INDEX.0.now, INDEX.1.now)
+    else if byte == 123 then (BRACES.0.now, BRACES.1.now)
+    else if byte == 126 || byte == 33 then (NEGATION.0.now, NEGATION.1.now)
+    else if byte == quote then (IN_STRING.0.now, IN_STRING.1.now)
+    else if byte == 239 && ends_mark behind then (MARK.0.now, MARK.1.now) else usual
 
 abbrev pub said_refused : (text : List ℕ) → Rule → Said
 said_refused text (rule.Lex lexing.BadByte) = said_of_byte text (said_of (rule.Lex lexing.BadByte))

@@ -3,7 +3,7 @@
 ghost use Rattle.std.specs.Prelude.{◌≡◌, map};
 ghost use Rattle.rtl_sink.specs.Written.{Goes};
 ghost use Rattle.rtlsim_explain.specs.Explained as spec;
-ghost use Rattle.rtlsim_forms.specs.Words.{read_of};
+ghost use Rattle.rtlsim_tokens.specs.Words.{read_of};
 ghost use Rattle.rtlsim_files.specs.Files.{file_view, spot_view};
 ghost use Rattle.rtlsim_hints.specs.Hints.{hint_view};
 ghost use Rattle.vhdl_expected.specs.Told.{expected_of};
@@ -13,11 +13,11 @@ use crate::refused::{push_refused, said_of, said_refused};
 use rtl_report::{ElabRule, NameRule, Place, Report, Rule, Subject, SyntaxRule};
 use rtl_sink::{Sink, push_number, push_text};
 use rtlsim_files::{FilePlace, SourceFile, place_in};
-use rtlsim_forms::{
-    Lexed, Said, first_text, is_same_word, left_out_form, push_subject, unexpected_form,
-};
 use rtlsim_hints::{Hint, help, hint_at, push_hint};
-use rtlsim_tokens::{push_entities, push_missing};
+use rtlsim_tokens::{
+    Lexed, Listing, Said, first_text, is_same_word, left_out_form, push_missing, push_names,
+    push_subject, unexpected_form,
+};
 use vhdl_expected::Expected;
 
 /// A byte of a source that has tokens.
@@ -68,7 +68,8 @@ pub(crate) fn site_at<'f, 's>(
     expected: Expected,
     at: usize,
 ) -> Site<'f, 's>
-    ensures { spec.site_of result ≡ spec.seen_at (map file_view files.now) (read_of source.entry) (expected_of expected) at }
+    ensures { spec.site_of result
+        ≡ spec.seen_at (map file_view files.now) (read_of source.entry) (expected_of expected) at }
 {
     let (before, from) = source.split_at(at);
     Site {
@@ -81,7 +82,8 @@ pub(crate) fn site_at<'f, 's>(
 
 /// Writes why a source has no tokens.
 fn push_refusal<S: Sink>(place: FilePlace<'_>, rule: Rule, sink: &mut S)
-    ensures { Goes (S.state sink.old) (S.state sink.new) (spec.paragraph (spec.refusal_told (spot_view place.entry) rule)) }
+    ensures { Goes (S.state sink.old) (S.state sink.new)
+        (spec.paragraph (spec.refusal_told (spot_view place.entry) rule)) }
 {
     push_head(place, rule, sink);
     push_refusal_sentence(place, rule, sink);
@@ -233,7 +235,7 @@ pub(crate) fn push_below<S: Sink>(site: Site<'_, '_>, source: Lexed<'_>, rule: R
 {
     match rule {
         Rule::Name(NameRule::NoOthers) => push_missing(site.before, site.from, sink),
-        Rule::Elab(ElabRule::NoTop) => push_entities(source, sink),
+        Rule::Elab(ElabRule::NoTop) => push_names(Listing::Entities, source, sink),
         _ => push_text(sink, b""),
     }
 }

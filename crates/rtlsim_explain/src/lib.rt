@@ -4,7 +4,7 @@
 //! `specs/Explained.antt` says what is told of a fault of a source, and what is written of that, and `specs/Stimuli.antt` what of those of a
 //! stimulus and a run; `specs/Refused.antt` says what is told where a source has no tokens, and `specs/Races.antt` which line of a stimulus a
 //! race is told at. `specs/Places.antt` has lines and columns. What is said of a rule are rtl_report's texts; what is said of forms and slips is
-//! rtlsim_forms', and what the tokens around a fault tell rtlsim_hints'.
+//! rtlsim_tokens', and what the tokens around a fault tell rtlsim_hints'.
 #![tactic(auto)]
 
 mod explaining;
@@ -16,6 +16,6 @@ mod told;
 
 pub use explaining::{explain_refusal, explain_source};
 pub use place::{Position, line_after, line_before, position_behind};
-pub use rtlsim_forms::{Lexed, text_of};
+pub use rtlsim_tokens::{Lexed, text_of};
 pub use stimulus::{explain_stim, explain_unsettled};
 pub use told::{Told, push_paragraph, told_refusal, told_source};

@@ -8,7 +8,7 @@ ghost use Rattle.rtlsim_explain.specs.Races as spec;
 
 use rtl_net::{Net, Signal};
 use rtl_stim_lines::{Form, Time, form_of, line_end, without_return, words_of};
-use rtlsim_forms::is_same_word;
+use rtlsim_tokens::is_same_word;
 use std::alloc::{AllocError, Global};
 
 /// The number of the first line of a stimulus, from 1, that sets an input's port at a time in ns, or makes it a clock. `None` where no line

@@ -3,19 +3,36 @@
 ghost use Rattle.std.specs.Prelude.{◌≡◌};
 ghost use Rattle.rtl_sink.specs.Written.{Goes};
 ghost use Rattle.rtlsim_explain.specs.Refused as spec;
-ghost use Rattle.rtlsim_explain.specs.Usual as usual_spec;
-ghost use Rattle.vhdl_lexer.specs.Bytes as bytes;
 ghost use Rattle.vhdl_lexer.specs.Scan as scan;
 
 use rtl_report::{ElabRule, LexRule, Rule};
 use rtl_sink::{Sink, push_text};
 use rtlsim_files::halves;
-use rtlsim_forms::{Said, push_quoted};
+use rtlsim_tokens::{Said, push_quoted};
 
-/// A matching relation, or the operator `??`.
 const MATCHING: Said = (
     "begins a matching operator, as ?= or ?/=, and these aren't read here",
     "write = or /=; where a '-' leaves an element open, compare the other elements alone",
+);
+
+const CHOICE: Said = (
+    "isn't read here: a value is chosen by when and else",
+    "write y <= b when a = '1' else c; for a ? b : c",
+);
+
+const INDEX: Said = (
+    "isn't read here: an index stands in parentheses",
+    "write v(3) for v[3], and v(7 downto 0) for v[7:0]",
+);
+
+const BRACES: Said = (
+    "isn't read here: vectors are joined by &, and statements end with a word",
+    "write a & b for {a, b}, and then, is, loop or begin before statements, and end behind them",
+);
+
+const NEGATION: Said = (
+    "isn't read here: a value is negated by the word not",
+    "write not a for ~a and !a, and a /= b for a != b",
 );
 
 /// A string with a byte in it that isn't printable ASCII.
@@ -44,39 +61,21 @@ pub(crate) fn said_refused(text: &[u8], rule: Rule) -> Said
 fn said_of_byte(text: &[u8], usual: Said) -> Said
     ensures { (result.0.now, result.1.now) ≡ spec.said_of_byte text.now (usual.entry.0.now, usual.entry.1.now) }
 {
-    if begins(b'?', text) {
-        MATCHING
-    } else if begins(b'"', text) {
-        IN_STRING
-    } else if begins_mark(text) {
-        MARK
-    } else {
-        usual
-    }
-}
-
-fn begins(byte: u8, text: &[u8]) -> bool
-    ensures { result ≡ bytes.begins byte text.now }
-{
     match text {
-        [first, ..] => *first == byte,
-        [] => false,
-    }
-}
-
-/// Whether a text begins with a byte order mark of UTF-8.
-fn begins_mark(text: &[u8]) -> bool
-    ensures { result ≡ spec.begins_mark text.now }
-{
-    match text {
-        [first, second, third, ..] => *first == 0xEF && *second == 0xBB && *third == 0xBF,
-        _ => false,
+        [b'?', b'=' | b'/' | b'<' | b'>' | b'?', ..] => MATCHING,
+        [b'?', ..] => CHOICE,
+        [b'[', ..] => INDEX,
+        [b'{', ..] => BRACES,
+        [b'~' | b'!', ..] => NEGATION,
+        [b'"', ..] => IN_STRING,
+        [0xEF, 0xBB, 0xBF, ..] => MARK,
+        _ => usual,
     }
 }
 
 /// What is said of a rule, behind the word or the lengths.
 pub(crate) fn said_of(rule: Rule) -> Said
-    ensures { (result.0.now, result.1.now) ≡ usual_spec.said_of rule }
+    ensures { (result.0.now, result.1.now) ≡ spec.said_of rule }
 {
     let words = rule.words();
     match rule {

@@ -3,7 +3,7 @@
 ghost use Rattle.std.specs.Prelude.{◌≡◌, ℕ, false, List, [], IfOk, map, option_map};
 ghost use Rattle.rtl_sink.specs.Written.{Goes};
 ghost use Rattle.rtlsim_explain.specs.Explained as spec;
-ghost use Rattle.rtlsim_forms.specs.Words.{read_of};
+ghost use Rattle.rtlsim_tokens.specs.Words.{read_of};
 ghost use Rattle.rtlsim_files.specs.Files.{file_view, spot_view};
 ghost use Rattle.vhdl_expected.specs.Told.{expected_of};
 
@@ -14,7 +14,7 @@ use crate::explaining::{
 use rtl_report::{Place, Report, Rule};
 use rtl_sink::{Out, Sink, push_text};
 use rtlsim_files::{FilePlace, SourceFile, place_in};
-use rtlsim_forms::Lexed;
+use rtlsim_tokens::Lexed;
 use std::alloc::{AllocError, Global};
 use vhdl_expected::Expected;
 
@@ -117,7 +117,8 @@ fn seen_told<'a>(
 /// What went out to a sink that was empty.
 fn taken(out: Out<Vec<u8>>) -> Result<Vec<u8>, AllocError>
     ensures { IfOk result (λ bytes. (text : List ℕ)
-        → Goes (record { taken = Some []; failed = false }) (⟦<Out<Vec<u8>> as Sink>⟧.state out) text → bytes.items ≡ text) }
+        → Goes (record { taken = Some []; failed = false }) (⟦<Out<Vec<u8>> as Sink>⟧.state out) text
+        → bytes.items ≡ text) }
 {
     if out.failed() {
         return Err(AllocError);

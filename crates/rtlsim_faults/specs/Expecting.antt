@@ -6,7 +6,7 @@ use Rattle.rtl_report.specs.declared.report.Place.TheVariants.{Byte}
 use Rattle.rtl_report.specs.declared.report.Report.{Report}
 use Rattle.rtl_report.specs.declared.report.Rule.{Rule}
 use Rattle.rtl_report.specs.declared.report.Rule.TheVariants as rule
-use Rattle.rtlsim_forms.specs.Words.{Read}
+use Rattle.rtlsim_tokens.specs.Words.{Read}
 use Rattle.vhdl_expected.specs.Told.{Expected, IsExpected, nothing}
 
 abbrev pub byte_of : Place → Option ℕ

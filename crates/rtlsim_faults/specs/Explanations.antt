@@ -12,7 +12,7 @@ use Rattle.rtlsim_faults.specs.declared.faults.Fault.TheVariants.{Lex, Syntax, N
 use Rattle.rtlsim_faults.specs.declared.telling.Telling.{Telling}
 use Rattle.rtlsim_explain.specs.Explained.{refusal_explained, source_explained}
 use Rattle.rtlsim_explain.specs.Stimuli.{stim_explained, settle_explained}
-use Rattle.rtlsim_forms.specs.Words.{Read}
+use Rattle.rtlsim_tokens.specs.Words.{Read}
 use Rattle.rtlsim_verdict.specs.Explained.{rejection_explained}
 use Rattle.rtlsim_files.specs.Files.{FileView, file_view, joined, source_name}
 use Rattle.vhdl_expected.specs.Told.{Expected, nothing}

@@ -7,7 +7,7 @@ use Rattle.rtlsim_faults.specs.Reports.{name_report}
 use Rattle.rtlsim_faults.specs.declared.search.End.{End}
 use Rattle.rtlsim_faults.specs.declared.search.End.TheVariants as end
 use Rattle.rtlsim_explain.specs.Explained.{Told, told_of_source}
-use Rattle.rtlsim_forms.specs.Words.{Read, with_tokens}
+use Rattle.rtlsim_tokens.specs.Words.{Read, with_tokens}
 use Rattle.rtlsim_files.specs.Files.{FileView}
 use Rattle.vhdl_expected.specs.Told.{Expected, nothing}
 use Rattle.vhdl_lexer.specs.Cut.{Cuts}

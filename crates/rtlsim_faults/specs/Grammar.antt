@@ -7,7 +7,7 @@ use Rattle.rtlsim_faults.specs.Further.{Found, before, ended, told_of}
 use Rattle.rtlsim_faults.specs.Reports.{syntax_report}
 use Rattle.rtlsim_faults.specs.declared.search.End.TheVariants as end
 use Rattle.rtlsim_files.specs.Files.{FileView}
-use Rattle.rtlsim_forms.specs.Words.{with_tokens}
+use Rattle.rtlsim_tokens.specs.Words.{with_tokens}
 use Rattle.vhdl_expected.specs.Told.{Expected}
 use Rattle.vhdl_lexer.specs.Cut.{Cuts}
 use Rattle.vhdl_lexer.specs.declared.token.Token.{Token}

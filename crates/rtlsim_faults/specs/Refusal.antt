@@ -3,7 +3,7 @@ use Rattle.std.specs.Prelude.{◌≡◌, ◌≢◌, ℕ, List, ◌∷◌, Option
 use Rattle.rtl_report.specs.declared.report.Report.{Report}
 use Rattle.rtl_sink.specs.Written.{SinkState, Goes}
 use Rattle.rtlsim_explain.specs.Explained.{Told, told_of_refusal}
-use Rattle.rtlsim_forms.specs.Words.{with_tokens}
+use Rattle.rtlsim_tokens.specs.Words.{with_tokens}
 use Rattle.rtlsim_faults.specs.Faults.{of_source}
 use Rattle.rtlsim_faults.specs.Behind.{Behind}
 use Rattle.rtlsim_faults.specs.Expecting.{IsExpectedBy}

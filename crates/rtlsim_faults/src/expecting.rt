@@ -2,7 +2,7 @@
 
 ghost use Rattle.std.specs.Prelude.{◌≡◌, IfOk};
 ghost use Rattle.rtlsim_faults.specs.Expecting as spec;
-ghost use Rattle.rtlsim_forms.specs.Words.{with_tokens};
+ghost use Rattle.rtlsim_tokens.specs.Words.{with_tokens};
 ghost use Rattle.vhdl_expected.specs.Told.{expected_of};
 ghost use Rattle.vhdl_lexer.specs.Cut.{AreWithin};
 

@@ -2,7 +2,7 @@
 
 ghost use Rattle.std.specs.Prelude.{◌≡◌, [], if◌then◌else◌, false, true, IfErr, map};
 ghost use Rattle.rtl_sink.specs.Written.{Goes, IsIntact};
-ghost use Rattle.rtlsim_forms.specs.Words.{read_of};
+ghost use Rattle.rtlsim_tokens.specs.Words.{read_of};
 ghost use Rattle.rtlsim_faults.specs.Explanations as spec;
 ghost use Rattle.rtlsim_faults.specs.Faults.{is_of_names, takes_memory};
 ghost use Rattle.rtlsim_faults.specs.Told.{Explains, ExplainsRead};

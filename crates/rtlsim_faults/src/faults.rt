@@ -7,10 +7,13 @@ ghost use Rattle.rtlsim_faults.specs.declared.faults.Fault.TheVariants.{Memory};
 use crate::status::Status;
 use rtl_check::CheckFault;
 use rtl_expect::{Difference, ExpectFault};
+use rtl_report::{ExpectRule, RunRule};
 use rtl_run::{MachineFault, RunFault};
 use rtl_stim::StimFault;
 use rtlsim_listing::ListingFault;
 use std::alloc::AllocError;
+use std::fmt;
+use thiserror::Error;
 use vhdl_expand_rules::ElabFault;
 use vhdl_lexer::LexFault;
 use vhdl_names_rules::NameFault;
@@ -18,29 +21,40 @@ use vhdl_parser::SyntaxFault;
 use vhdl_source_rules::SourceFault;
 
 /// Why a call of this library is refused, by the first layer that refuses. Each layer's want of memory is `Memory`.
-#[derive(Drop)]
+#[derive(Drop, Error)]
 pub enum Fault {
     /// The source has no tokens.
+    #[error(transparent)]
     Lex(LexFault),
     /// The tokens are no file.
+    #[error(transparent)]
     Syntax(SyntaxFault),
     /// A rule on names or types is broken.
+    #[error(transparent)]
     Name(NameFault),
     /// The file's units have no such design.
+    #[error(transparent)]
     Elab(ElabFault),
     /// What the checker found, in order.
+    #[error("faults of the checker: {}", .0.len())]
     Rejected(Vec<CheckFault>),
     /// The stimulus is refused.
+    #[error(transparent)]
     Stim(StimFault),
     /// The expected values are refused.
+    #[error(transparent)]
     Expect(ExpectFault),
     /// The first value that isn't the expected one.
+    #[error("{rule}", rule = ExpectRule::Differs.words())]
     Differs(Difference),
     /// The simulation does not settle at this time, in ns.
+    #[error("{rule}, at {time} ns", rule = RunRule::NoSettling.words())]
     NoSettling { time: u64 },
     /// Memory was refused.
+    #[error("out of memory")]
     Memory,
     /// The sink took less than the whole.
+    #[error("the output failed")]
     Output,
 }
 
@@ -67,6 +81,12 @@ impl Fault {
             Fault::NoSettling { .. } => Status::Unsettled,
             Fault::Output => Status::Failed,
         }
+    }
+}
+
+impl fmt::Debug for Fault {
+    fn fmt<W: fmt::Write>(&self, f: &mut fmt::Formatter<W>) -> fmt::Result {
+        fmt::Display::fmt(self, f)
     }
 }
 

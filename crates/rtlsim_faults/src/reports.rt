@@ -3,16 +3,12 @@
 ghost use Rattle.std.specs.Prelude.{◌≡◌, Some};
 ghost use Rattle.rtlsim_faults.specs.Reports as spec;
 
-use rtl_expect::{ExpectFault, ExpectProblem};
-use rtl_report::{
-    ElabRule, ExpectRule, LexRule, NameRule, Place, Report, Rule, RunRule, StimRule, Subject,
-    SyntaxRule,
-};
+use rtl_expect::ExpectFault;
+use rtl_report::{LexRule, Place, Report, Rule, RunRule, StimRule, Subject, SyntaxRule};
 use rtl_stim::StimFault;
-use rtl_stim_lines::StimProblem;
 use vhdl_expand_rules::{ElabFault, ElabProblem};
 use vhdl_lexer::LexFault;
-use vhdl_names_rules::{NameFault, NameProblem};
+use vhdl_names_rules::NameFault;
 use vhdl_parser::SyntaxFault;
 
 /// A report of the word at a byte.
@@ -58,26 +54,8 @@ pub(crate) fn name_report(fault: NameFault) -> Option<Report>
     ensures { result ≡ spec.name_report fault }
 {
     match fault {
-        NameFault::At { problem, at } => of_word(Rule::Name(name_rule(problem)), at),
+        NameFault::At { problem, at } => of_word(Rule::Name(problem.rule()), at),
         NameFault::NoMemory => None,
-    }
-}
-
-fn name_rule(problem: NameProblem) -> NameRule
-    ensures { result ≡ spec.name_rule problem }
-{
-    match problem {
-        NameProblem::Undeclared => NameRule::Undeclared,
-        NameProblem::Twice => NameRule::Twice,
-        NameProblem::WrongKind => NameRule::WrongKind,
-        NameProblem::TypeMismatch => NameRule::TypeMismatch,
-        NameProblem::NotVisible => NameRule::NotVisible,
-        NameProblem::WriteOfIn => NameRule::WriteOfIn,
-        NameProblem::NoOthers => NameRule::NoOthers,
-        NameProblem::ChoiceTwice => NameRule::ChoiceTwice,
-        NameProblem::SecondArchitecture => NameRule::SecondArchitecture,
-        NameProblem::NoSensitivity => NameRule::NoSensitivity,
-        NameProblem::LeftOut => NameRule::LeftOut,
     }
 }
 
@@ -87,30 +65,11 @@ pub(crate) fn elab_report(fault: ElabFault) -> Option<Report>
 {
     match fault {
         ElabFault::At { problem, at } => Some(Report {
-            rule: Rule::Elab(elab_rule(problem)),
+            rule: Rule::Elab(problem.rule()),
             place: Place::Byte(at),
             subject: elab_subject(problem),
         }),
         ElabFault::NoMemory => None,
-    }
-}
-
-fn elab_rule(problem: ElabProblem) -> ElabRule
-    ensures { result ≡ spec.elab_rule problem }
-{
-    match problem {
-        ElabProblem::NoTop => ElabRule::NoTop,
-        ElabProblem::NoGeneric => ElabRule::NoGeneric,
-        ElabProblem::GenericRange => ElabRule::GenericRange,
-        ElabProblem::StaticError => ElabRule::StaticError,
-        ElabProblem::Length { .. } => ElabRule::Length,
-        ElabProblem::Index => ElabRule::Index,
-        ElabProblem::TooWide => ElabRule::TooWide,
-        ElabProblem::Unassociated => ElabRule::Unassociated,
-        ElabProblem::TwoUnresolved => ElabRule::TwoUnresolved,
-        ElabProblem::ReadOfShared => ElabRule::ReadOfShared,
-        ElabProblem::TooDeep => ElabRule::TooDeep,
-        ElabProblem::TooMany => ElabRule::TooMany,
     }
 }
 
@@ -131,7 +90,7 @@ pub(crate) fn stim_report(fault: StimFault) -> Option<Report>
 {
     match fault {
         StimFault::InLine { problem, line } => Some(Report {
-            rule: Rule::Stim(stim_rule(problem)),
+            rule: Rule::Stim(problem.rule()),
             place: Place::Line(line),
             subject: Subject::Nothing,
         }),
@@ -149,41 +108,17 @@ pub(crate) fn stim_report(fault: StimFault) -> Option<Report>
     }
 }
 
-fn stim_rule(problem: StimProblem) -> StimRule
-    ensures { result ≡ spec.stim_rule problem }
-{
-    match problem {
-        StimProblem::BadLine => StimRule::BadLine,
-        StimProblem::NotAnInput => StimRule::NotAnInput,
-        StimProblem::BadValue => StimRule::BadValue,
-        StimProblem::SetTwice => StimRule::SetTwice,
-        StimProblem::ClockAndSet => StimRule::ClockAndSet,
-        StimProblem::TimeTooLarge => StimRule::TimeTooLarge,
-    }
-}
-
 /// What a fault of a file of expected values reports.
 pub(crate) fn expect_report(fault: ExpectFault) -> Option<Report>
     ensures { result ≡ spec.expect_report fault }
 {
     match fault {
         ExpectFault::InLine { problem, line } => Some(Report {
-            rule: Rule::Expect(expect_rule(problem)),
+            rule: Rule::Expect(problem.rule()),
             place: Place::Line(line),
             subject: Subject::Nothing,
         }),
         ExpectFault::NoMemory => None,
-    }
-}
-
-fn expect_rule(problem: ExpectProblem) -> ExpectRule
-    ensures { result ≡ spec.expect_rule problem }
-{
-    match problem {
-        ExpectProblem::BadLine => ExpectRule::BadLine,
-        ExpectProblem::NotASignal => ExpectRule::NotASignal,
-        ExpectProblem::BadValue => ExpectRule::BadValue,
-        ExpectProblem::TimeTooLarge => ExpectRule::TimeTooLarge,
     }
 }
 

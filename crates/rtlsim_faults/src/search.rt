@@ -2,7 +2,7 @@
 
 ghost use Rattle.std.specs.Prelude.{◌≡◌, ◌++◌, ◌==◌, if◌then◌else◌, IfOk, is_ok, map, option_map, option_to_list};
 ghost use Rattle.rtlsim_explain.specs.Explained.{told_view};
-ghost use Rattle.rtlsim_forms.specs.Words.{read_of};
+ghost use Rattle.rtlsim_tokens.specs.Words.{read_of};
 ghost use Rattle.rtlsim_faults.specs.Behind.{Behind};
 ghost use Rattle.rtlsim_faults.specs.Further as spec;
 ghost use Rattle.rtlsim_faults.specs.Next.{Adds, asked_of};

@@ -5,7 +5,7 @@ use Rattle.std.specs.Prelude.{ℕ, ◌==◌, ◌&&◌, Bool, true, false, slice_
 use Rattle.rtl_model.specs.simulation.Accepted.{Fault}
 use Rattle.rtl_net.specs.Nets.{NetlistView}
 use Rattle.rtl_net.specs.declared.process.Process.{Process}
-use Rattle.rtl_reasons.specs.Notes.{number_of, at_of}
+use Rattle.rtl_reasons.specs.Notes.{number_of}
 use Rattle.rtl_reasons.specs.declared.reason.Reason.{Reason}
 use Rattle.rtl_report.specs.Rules.{words_of}
 use Rattle.rtl_report.specs.declared.report.Place.{Place}
@@ -59,7 +59,7 @@ at_process net (Some process) = declared_at (slice_get net.processes process)
 
 -- of a reason its kind and its place: the nets and processes that it names are an instance's own
 abbrev pub obstacle_of : Reason → Obstacle
-obstacle_of reason = record { kind = number_of reason; at = at_of reason }
+obstacle_of reason = record { kind = number_of reason.kind; at = reason.at }
 
 abbrev pub is_same_obstacle : Option Obstacle → Option Obstacle → Bool
 is_same_obstacle None None = true

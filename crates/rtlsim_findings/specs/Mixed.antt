@@ -3,7 +3,7 @@ use Rattle.std.specs.Prelude.{ℕ, List, [], ◌++◌, Option, Some, None}
 use Rattle.rtl_model.specs.simulation.Accepted.{Fault, MixedProcess}
 use Rattle.rtl_net.specs.Names.{process_name}
 use Rattle.rtl_net.specs.Nets.{NetlistView}
-use Rattle.rtl_reasons.specs.Notes.{note_of, net_of, driver_of}
+use Rattle.rtl_reasons.specs.Notes.{note_of}
 use Rattle.rtl_reasons.specs.Reasons.{reason_of}
 use Rattle.rtl_reasons.specs.declared.reason.Reason.{Reason}
 use Rattle.rtlsim_findings.specs.Circles.{name_of_net}
@@ -19,5 +19,5 @@ name_of_process net (Some process) = process_name net process
 -- with the net and the process that it names, where it names one
 abbrev pub reason_text : NetlistView → Reason → List ℕ
 reason_text net reason =
-    (note_of reason).opening.now ++ name_of_net net (net_of reason) ++ (note_of reason).middle.now
-    ++ name_of_process net (driver_of reason) ++ (note_of reason).closing.now
+    (note_of reason.kind).opening.now ++ name_of_net net reason.net ++ (note_of reason.kind).middle.now
+    ++ name_of_process net reason.driver ++ (note_of reason.kind).closing.now

@@ -1,46 +1,45 @@
 -- What is told of remarks, as data: one of them tells elements of a vector that stand side by side and of which the same is said.
-use Rattle.std.specs.Prelude.{ℕ, ◌==◌, ◌&&◌, Bool, if◌then◌else◌, List, [], ◌∷◌, ◌++◌, Option, Some, None}
+use Rattle.std.specs.Prelude.{ℕ, ◌==◌, ◌&&◌, Bool, if◌then◌else◌, List, [], ◌∷◌, ◌++◌, Option}
+use Rattle.rtl_net.specs.Names.{net_name}
 use Rattle.rtl_net.specs.Nets.{NetlistView}
 use Rattle.rtl_remarks.specs.declared.remark.Remark.{Remark}
-use Rattle.rtl_remarks.specs.declared.remark.Remark.TheVariants as r
+use Rattle.rtl_remarks.specs.declared.remark.RemarkKind.{RemarkKind}
+use Rattle.rtl_remarks.specs.declared.remark.RemarkKind.TheVariants as k
 use Rattle.rtl_report.specs.Rules.{words_of}
 use Rattle.rtl_report.specs.declared.remarking.RemarkRule.{RemarkRule}
 use Rattle.rtl_report.specs.declared.remarking.RemarkRule.TheVariants as rule
-use Rattle.rtl_report.specs.declared.report.Place.TheVariants as place
 use Rattle.rtl_report.specs.declared.report.Report.{Report}
 use Rattle.rtl_report.specs.declared.report.Rule.TheVariants.{Remark as Remark'}
-use Rattle.rtl_report.specs.declared.report.Subject.TheVariants as subject
-use Rattle.rtlsim_findings.specs.Causes.{process_at, is_same_number}
+use Rattle.rtl_report.specs.declared.report.Subject.TheVariants.{Net}
+use Rattle.rtlsim_findings.specs.Causes.{is_same_number}
 use Rattle.rtlsim_findings.specs.Mixed.{name_of_process}
 use Rattle.rtlsim_findings.specs.Ranges.{follows, range_text}
-use Rattle.rtlsim_findings.specs.Sayings.{name_of, sentence}
+use Rattle.rtlsim_findings.specs.Sayings.{sentence}
 use Rattle.rtlsim_findings.specs.declared.remarked.RemarkFinding.{RemarkFinding}
+use Rattle.rtlsim_listing.specs.Reports.{place_of}
 
-abbrev pub at_process : RemarkRule → (process net : ℕ) → Report
-at_process kind process net = record { rule = Remark' kind; place = place.Process process; subject = subject.ProcessNet process net }
-
-abbrev pub at_net : RemarkRule → (net : ℕ) → Report
-at_net kind net = record { rule = Remark' kind; place = place.Nowhere; subject = subject.Net net }
+abbrev pub rule_of : RemarkKind → RemarkRule
+rule_of k.Undriven = rule.Undriven
+rule_of k.Unassigned = rule.Unassigned
+rule_of k.IdlePort = rule.IdlePort
+rule_of k.NotReset = rule.NotReset
+rule_of k.ClockRead = rule.ClockRead
+rule_of k.NeverKnown = rule.NeverKnown
+rule_of k.UnreadElement = rule.UnreadElement
+rule_of k.ClockWithoutLine = rule.ClockWithoutLine
+rule_of k.InputWithoutLine = rule.InputWithoutLine
 
 abbrev pub report_of : Remark → Report
-report_of (r.Undriven process net) = at_process rule.Undriven process net
-report_of (r.Unassigned net) = at_net rule.Unassigned net
-report_of (r.IdlePort net) = at_net rule.IdlePort net
-report_of (r.NotReset process net) = at_process rule.NotReset process net
-report_of (r.ClockRead process net) = at_process rule.ClockRead process net
-report_of (r.NeverKnown process net) = at_process rule.NeverKnown process net
-report_of (r.UnreadElement net) = at_net rule.UnreadElement net
-report_of (r.ClockWithoutLine net) = at_net rule.ClockWithoutLine net
-report_of (r.InputWithoutLine net) = at_net rule.InputWithoutLine net
+report_of r = record { rule = Remark' (rule_of r.kind); place = place_of r.process; subject = Net r.net }
 
 abbrev pub number_of : Remark → ℕ
 number_of remark = (words_of (report_of remark).rule).number
 
 abbrev pub process_of : Remark → Option ℕ
-process_of remark = process_at (report_of remark).place
+process_of remark = remark.process
 
 abbrev pub name : NetlistView → Remark → List ℕ
-name net remark = name_of net (report_of remark).subject
+name net remark = net_name net remark.net
 
 -- of one kind, and of one process where they have one
 abbrev pub is_same : (before remark : Remark) → Bool

@@ -1,9 +1,9 @@
 -- What a finding says: its sentence, with the processes and nets of its first fault, the other instances that have it, and the note that
 -- stands beside it.
-use Rattle.std.specs.Prelude.{ℕ, ◌||◌, Bool, if◌then◌else◌, List, [], ◌∷◌, ◌++◌, bytes_eq, flat_map, map, Option, Some, None, codes}
+use Rattle.std.specs.Prelude.{ℕ, ◌||◌, Bool, true, false, if◌then◌else◌, List, [], ◌∷◌, ◌++◌, bytes_eq, flat_map, map, Option, Some, None, codes}
 use Rattle.rtl_latches.specs.Omissions as omissions
 use Rattle.rtl_latches.specs.declared.omission.Omission.{Omission}
-use Rattle.rtl_model.specs.simulation.Accepted.{Fault}
+use Rattle.rtl_model.specs.simulation.Accepted.{Fault, Latch}
 use Rattle.rtl_net.specs.Names.{net_name, process_name}
 use Rattle.rtl_net.specs.Nets.{NetlistView}
 use Rattle.rtl_reasons.specs.declared.reason.Reason.{Reason}
@@ -119,22 +119,32 @@ abbrev pub processes : FindingView → List (Option ℕ)
 processes f = processes_in f.first ++ flat_map processes_in (also f)
 
 -- ---- the note: at the second driver, where a latch leaves the assignment out, or at the reason of a process that is neither clocked
--- nor combinational
+-- nor combinational. No assignment of a latch's net stands in the expanded body where no turn of a loop has one: the note is then at the
+-- process.
 
-abbrev pub start_of : (second : Option ℕ) → Option Omission → Option Obstacle → Option ℕ
-start_of (Some at) omission obstacle = Some at
-start_of None (Some omission) obstacle = Some (omissions.at_of omission)
-start_of None None (Some obstacle) = Some obstacle.at
-start_of None None None = None
+abbrev pub is_latch : Fault → Bool
+is_latch (Latch process n) = true
+is_latch _ = false
+
+abbrev pub start_of : (process : Option ℕ) → (latch : Bool) → (second : Option ℕ) → Option Omission → Option Obstacle → Option ℕ
+start_of process latch (Some at) omission obstacle = Some at
+start_of process latch None (Some omission) obstacle = Some (omissions.at_of omission)
+start_of process latch None None (Some obstacle) = Some obstacle.at
+start_of process true None None None = process
+start_of process false None None None = None
 
 abbrev pub note_at : FindingView → Option ℕ
-note_at f = start_of f.cause.second f.cause.omission f.cause.obstacle
+note_at f = start_of f.cause.first (is_latch f.first) f.cause.second f.cause.omission f.cause.obstacle
 
-abbrev pub note_of : NetlistView → (second : Option ℕ) → Option Omission → Option Reason → List ℕ
-note_of net (Some process) omission reason = process_name net process ++ codes " drives it too"
-note_of net None (Some omission) reason = said omission
-note_of net None None (Some reason) = reason_text net reason
-note_of net None None None = []
+abbrev pub unassigned_text : (latch : Bool) → List ℕ
+unassigned_text true = codes "no turn of a loop assigns it; a loop runs up by to and down by downto"
+unassigned_text false = []
+
+abbrev pub note_of : NetlistView → (latch : Bool) → (second : Option ℕ) → Option Omission → Option Reason → List ℕ
+note_of net latch (Some process) omission reason = process_name net process ++ codes " drives it too"
+note_of net latch None (Some omission) reason = said omission
+note_of net latch None None (Some reason) = reason_text net reason
+note_of net latch None None None = unassigned_text latch
 
 abbrev pub note_text : NetlistView → FindingView → List ℕ
-note_text net f = note_of net (second_process f.first) f.cause.omission (why net f.first)
+note_text net f = note_of net (is_latch f.first) (second_process f.first) f.cause.omission (why net f.first)

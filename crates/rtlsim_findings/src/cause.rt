@@ -67,8 +67,8 @@ fn obstacle_of(reason: Option<Reason>) -> Option<Obstacle>
 {
     let reason = reason?;
     Some(Obstacle {
-        kind: reason.number(),
-        at: reason.at(),
+        kind: reason.kind.number(),
+        at: reason.at,
     })
 }
 
@@ -95,14 +95,7 @@ pub(crate) fn is_same_number(first: Option<usize>, second: Option<usize>) -> boo
 pub fn first_process(fault: &CheckFault) -> Option<usize>
     ensures { result ≡ spec.first_process (fault_view fault.now) }
 {
-    process_at(report_of(fault).place)
-}
-
-/// The process of a place.
-pub(crate) fn process_at(place: Place) -> Option<usize>
-    ensures { result ≡ spec.process_at place }
-{
-    match place {
+    match report_of(fault).place {
         Place::Process(process) => Some(process),
         _ => None,
     }

@@ -25,11 +25,11 @@ pub(crate) fn why(alloc: Global, net: &Net, fault: &CheckFault) -> Result<Option
 pub(crate) fn reason_text(alloc: Global, net: &Net, reason: Reason) -> Result<Vec<u8>, NoMemory>
     ensures { IfOk result (λ text. text.items ≡ spec.reason_text net.now reason) }
 {
-    let note = reason.note();
+    let note = reason.kind.note();
     let mut text = Vec::from_slice(alloc, note.opening.as_bytes())?;
-    text.extend_from_slice(&name_of_net(alloc, net, reason.net())?)?;
+    text.extend_from_slice(&name_of_net(alloc, net, reason.net)?)?;
     text.extend_from_slice(note.middle.as_bytes())?;
-    text.extend_from_slice(&name_of_process(alloc, net, reason.driver())?)?;
+    text.extend_from_slice(&name_of_process(alloc, net, reason.driver)?)?;
     text.extend_from_slice(note.closing.as_bytes())?;
     Ok(text)
 }

@@ -20,7 +20,7 @@ use rtlsim_listing::{circle_of, element_of, net_name, process_name, report_of, s
 use std::alloc::Global;
 
 /// The name of the net or of a variable's element that something is told of, empty where there is none.
-pub(crate) fn name_of(alloc: Global, net: &Net, subject: Subject) -> Result<Vec<u8>, NoMemory>
+fn name_of(alloc: Global, net: &Net, subject: Subject) -> Result<Vec<u8>, NoMemory>
     ensures { IfOk result (λ name. name.items ≡ spec.name_of net.now subject) }
 {
     match subject {

@@ -37,20 +37,12 @@ fn base_part(name: &[u8]) -> &[u8]
     &name[..name.len() - index_part(name).len()]
 }
 
-/// The number that the digits of a text write.
-fn number_in(text: &[u8]) -> Option<u32>
-    ensures number { result ≡ spec.number_in text.now }
-    ensures fits { IfSome result (λ n. n ≤ greatest_integer) }
-{
-    integer_value(text)
-}
-
 /// The index of an element's name.
 fn index_of(name: &[u8]) -> Option<u32>
     ensures number { result ≡ spec.index_of name.now }
     ensures fits { IfSome result (λ n. n ≤ greatest_integer) }
 {
-    number_in(index_part(name))
+    integer_value(index_part(name))
 }
 
 /// Whether two indices are one beside the other.

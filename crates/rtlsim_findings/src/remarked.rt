@@ -4,14 +4,15 @@ ghost use Rattle.std.specs.Prelude.{◌≡◌, ◌++◌, map, IfOk, OnOk};
 ghost use Rattle.rtlsim_findings.specs.Remarked as spec;
 ghost use Rattle.rtlsim_findings.specs.Remarked.{remark_view};
 
-use crate::cause::{is_same_number, process_at};
+use crate::cause::is_same_number;
 use crate::mixed::name_of_process;
-use crate::naming::{name_of, range};
+use crate::naming::range;
 use crate::ranges::follows;
 use crate::saying::sentence;
 use rtl_net::{Net, NoMemory};
-use rtl_remarks::Remark;
-use rtl_report::{Place, RemarkRule, Report, Rule, Subject};
+use rtl_remarks::{Remark, RemarkKind};
+use rtl_report::{RemarkRule, Report, Rule, Subject};
+use rtlsim_listing::{net_name, place_of};
 use std::alloc::Global;
 
 /// Remarks that are told as one.
@@ -23,42 +24,31 @@ pub struct RemarkFinding {
     pub nets: Vec<u8>,
 }
 
+/// The rule of a kind of remarks.
+fn rule_of(kind: RemarkKind) -> RemarkRule
+    ensures { result ≡ spec.rule_of kind }
+{
+    match kind {
+        RemarkKind::Undriven => RemarkRule::Undriven,
+        RemarkKind::Unassigned => RemarkRule::Unassigned,
+        RemarkKind::IdlePort => RemarkRule::IdlePort,
+        RemarkKind::NotReset => RemarkRule::NotReset,
+        RemarkKind::ClockRead => RemarkRule::ClockRead,
+        RemarkKind::NeverKnown => RemarkRule::NeverKnown,
+        RemarkKind::UnreadElement => RemarkRule::UnreadElement,
+        RemarkKind::ClockWithoutLine => RemarkRule::ClockWithoutLine,
+        RemarkKind::InputWithoutLine => RemarkRule::InputWithoutLine,
+    }
+}
+
 /// What a remark tells.
 pub fn remark_report(remark: Remark) -> Report
     ensures { result ≡ spec.report_of remark }
 {
-    match remark {
-        Remark::Undriven { process, net } => of_process(RemarkRule::Undriven, process, net),
-        Remark::Unassigned { net } => of_net(RemarkRule::Unassigned, net),
-        Remark::IdlePort { net } => of_net(RemarkRule::IdlePort, net),
-        Remark::NotReset { process, net } => of_process(RemarkRule::NotReset, process, net),
-        Remark::ClockRead { process, net } => of_process(RemarkRule::ClockRead, process, net),
-        Remark::NeverKnown { process, net } => of_process(RemarkRule::NeverKnown, process, net),
-        Remark::UnreadElement { net } => of_net(RemarkRule::UnreadElement, net),
-        Remark::ClockWithoutLine { net } => of_net(RemarkRule::ClockWithoutLine, net),
-        Remark::InputWithoutLine { net } => of_net(RemarkRule::InputWithoutLine, net),
-    }
-}
-
-/// What is told of a process and a net.
-fn of_process(rule: RemarkRule, process: usize, net: usize) -> Report
-    ensures { result ≡ spec.at_process rule process net }
-{
     Report {
-        rule: Rule::Remark(rule),
-        place: Place::Process(process),
-        subject: Subject::ProcessNet { process, net },
-    }
-}
-
-/// What is told of a net.
-fn of_net(rule: RemarkRule, net: usize) -> Report
-    ensures { result ≡ spec.at_net rule net }
-{
-    Report {
-        rule: Rule::Remark(rule),
-        place: Place::Nowhere,
-        subject: Subject::Net { net },
+        rule: Rule::Remark(rule_of(remark.kind)),
+        place: place_of(remark.process),
+        subject: Subject::Net { net: remark.net },
     }
 }
 
@@ -66,14 +56,7 @@ fn of_net(rule: RemarkRule, net: usize) -> Report
 pub fn remark_process(remark: Remark) -> Option<usize>
     ensures { result ≡ spec.process_of remark }
 {
-    process_at(remark_report(remark).place)
-}
-
-/// The name of a remark's net.
-fn name(alloc: Global, net: &Net, remark: Remark) -> Result<Vec<u8>, NoMemory>
-    ensures { IfOk result (λ text. text.items ≡ spec.name net.now remark) }
-{
-    name_of(alloc, net, remark_report(remark).subject)
+    remark.process
 }
 
 /// Whether two remarks are of one kind, and of one process where they have one.
@@ -82,15 +65,15 @@ fn is_same(before: Remark, remark: Remark) -> bool
 {
     let first = remark_report(before).rule.words().number;
     let second = remark_report(remark).rule.words().number;
-    first == second && is_same_number(remark_process(before), remark_process(remark))
+    first == second && is_same_number(before.process, remark.process)
 }
 
 /// Whether a remark is told with the one before.
 fn goes_on(alloc: Global, net: &Net, before: Remark, remark: Remark) -> Result<bool, NoMemory>
     ensures { IfOk result (λ same. same ≡ spec.goes_on net.now before remark) }
 {
-    let last = name(alloc, net, before)?;
-    let next = name(alloc, net, remark)?;
+    let last = net_name(alloc, net, before.net)?;
+    let next = net_name(alloc, net, remark.net)?;
     Ok(is_same(before, remark) && follows(&last, &next))
 }
 
@@ -121,12 +104,11 @@ fn push_found(
     ensures { OnOk result (map remark_view found.new.items
         ≡ map remark_view found.old.items ++ spec.found_from net.now (spec.name net.now begin) begin remarks.now) }
 {
-    let mut first = name(alloc, net, begin)?;
+    let mut first = net_name(alloc, net, begin.net)?;
     let mut before = begin;
     let mut left = remarks;
     while let [remark, others @ ..] = left {
-        push_ended(alloc, net, &first, before, *remark, found)?;
-        first = begun_by(alloc, net, first, before, *remark)?;
+        push_ended(alloc, net, &mut first, before, *remark, found)?;
         before = *remark;
         left = others;
     }
@@ -134,46 +116,32 @@ fn push_found(
     Ok(())
 }
 
-/// Appends what is told that ends before a remark.
+/// Appends what is told that ends before a remark, and takes the name of the first net of those with which the remark is told.
 fn push_ended(
     alloc: Global,
     net: &Net,
-    first: &[u8],
+    first: &mut Vec<u8>,
     before: Remark,
     remark: Remark,
     found: &mut Vec<RemarkFinding>,
 ) -> Result<(), NoMemory>
-    ensures { OnOk result (map remark_view found.new.items
-        ≡ map remark_view found.old.items ++ spec.ended net.now first.now before remark) }
+    ensures found { OnOk result (map remark_view found.new.items
+        ≡ map remark_view found.old.items ++ spec.ended net.now first.old.items before remark) }
+    ensures first { OnOk result (first.new.items ≡ spec.begun_by net.now first.old.items before remark) }
 {
     if goes_on(alloc, net, before, remark)? {
         return Ok(());
     }
-    found.push(told(alloc, net, first, before)?)?;
+    found.push(told(alloc, net, first.as_slice(), before)?)?;
+    *first = net_name(alloc, net, remark.net)?;
     Ok(())
-}
-
-/// The name of the first net of those with which a remark is told.
-fn begun_by(
-    alloc: Global,
-    net: &Net,
-    first: Vec<u8>,
-    before: Remark,
-    remark: Remark,
-) -> Result<Vec<u8>, NoMemory>
-    ensures { IfOk result (λ name. name.items ≡ spec.begun_by net.now first.items before remark) }
-{
-    if goes_on(alloc, net, before, remark)? {
-        return Ok(first);
-    }
-    name(alloc, net, remark)
 }
 
 /// What is told of the nets from the one of this name to the remark's.
 fn told(alloc: Global, net: &Net, first: &[u8], last: Remark) -> Result<RemarkFinding, NoMemory>
     ensures { IfOk result (λ found. remark_view found ≡ spec.told net.now first.now last) }
 {
-    let nets = range(alloc, first, &name(alloc, net, last)?)?;
+    let nets = range(alloc, first, &net_name(alloc, net, last.net)?)?;
     Ok(RemarkFinding { remark: last, nets })
 }
 
@@ -181,7 +149,7 @@ fn told(alloc: Global, net: &Net, first: &[u8], last: Remark) -> Result<RemarkFi
 pub fn remark_message(alloc: Global, net: &Net, found: &RemarkFinding) -> Result<Vec<u8>, NoMemory>
     ensures { IfOk result (λ text. text.items ≡ spec.message net.now (remark_view found.now)) }
 {
-    let process = name_of_process(alloc, net, remark_process(found.remark))?;
+    let process = name_of_process(alloc, net, found.remark.process)?;
     sentence(
         alloc,
         remark_report(found.remark).rule,

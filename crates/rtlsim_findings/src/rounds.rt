@@ -1,13 +1,12 @@
 //! A loop's processes, and the nets on the way from each to the next.
 
-ghost use Rattle.std.specs.Prelude.{◌≡◌, ◌++◌, ℕ, slice_get, IfOk, OnOk};
+ghost use Rattle.std.specs.Prelude.{◌≡◌, ◌++◌, slice_get, IfOk, OnOk};
 ghost use Rattle.std.specs.List.Sorted.{IsStrictlyIncreasing};
-ghost use Rattle.rtl_body_facts.specs.Paths.{driven};
-ghost use Rattle.rtl_body_facts.specs.Reading.{is_in};
 ghost use Rattle.rtlsim_findings.specs.Circles as spec;
 
-use rtl_body_facts::{contains_rising, sort_once};
-use rtl_net::{Driver, Net, NoMemory};
+use rtl_body_facts::contains_rising;
+use rtl_net::{Net, NoMemory};
+use rtl_remarks::targets_of;
 use rtlsim_listing::{net_name, process_name};
 use std::alloc::Global;
 
@@ -100,16 +99,6 @@ fn link_net(
     };
     let targets = targets_of(alloc, &next.drives)?;
     Ok(first_among(&targets, process.wakes.as_slice()))
-}
-
-/// The nets of some drivers, rising.
-fn targets_of(alloc: Global, drives: &[Driver]) -> Result<Vec<usize>, NoMemory>
-    ensures rise { IfOk result (λ nets. IsStrictlyIncreasing nets.items) }
-    ensures same { IfOk result (λ nets. (n : ℕ) → is_in n nets.items ≡ is_in n (driven drives.now)) }
-{
-    let mut nets: Vec<usize> = drives.iter().map(|driver| driver.net).collect(alloc)?;
-    sort_once(&mut nets);
-    Ok(nets)
 }
 
 /// The first of these nets that is one of the others, which rise.

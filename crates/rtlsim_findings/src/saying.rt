@@ -167,8 +167,19 @@ fn push_circle(circle: &[usize], processes: &mut Vec<Option<usize>>) -> Result<(
     Ok(())
 }
 
+/// Whether a fault is a latch.
+fn is_latch(fault: &CheckFault) -> bool
+    ensures { result ≡ spec.is_latch (fault_view fault.now) }
+{
+    match fault {
+        CheckFault::Latch { .. } => true,
+        _ => false,
+    }
+}
+
 /// The byte at which the note beside a finding stands, if it has one: where the second driver is declared, where a latch leaves the
-/// assignment out, or where a process has what makes it neither clocked nor combinational.
+/// assignment out, or where a process has what makes it neither clocked nor combinational; at the process of a latch whose net
+/// nothing in it assigns.
 pub fn note_at(finding: &Finding<'_>) -> Option<usize>
     ensures { result ≡ spec.note_at (finding_view finding.now) }
 {
@@ -177,7 +188,12 @@ pub fn note_at(finding: &Finding<'_>) -> Option<usize>
         (Some(at), _, _) => Some(at),
         (None, Some(omission), _) => Some(omission.at() as usize),
         (None, None, Some(obstacle)) => Some(obstacle.at as usize),
-        (None, None, None) => None,
+        (None, None, None) => {
+            if is_latch(finding.first) {
+                return cause.first;
+            }
+            None
+        }
     }
 }
 
@@ -191,7 +207,7 @@ pub fn note_text(alloc: Global, net: &Net, finding: &Finding<'_>) -> Result<Vec<
         (Some(process), _, _) => too_text(alloc, net, process),
         (None, Some(omission), _) => said(alloc, omission),
         (None, None, Some(reason)) => reason_text(alloc, net, reason),
-        (None, None, None) => Ok(Vec::new(alloc)),
+        (None, None, None) => unassigned_text(alloc, is_latch(finding.first)),
     }
 }
 
@@ -202,4 +218,16 @@ fn too_text(alloc: Global, net: &Net, process: usize) -> Result<Vec<u8>, NoMemor
     let mut text = process_name(alloc, net, process)?;
     text.extend_from_slice(b" drives it too")?;
     Ok(text)
+}
+
+/// What is said of a latch whose net nothing in the process assigns, and of no other fault.
+fn unassigned_text(alloc: Global, latch: bool) -> Result<Vec<u8>, NoMemory>
+    ensures { IfOk result (λ text. text.items ≡ spec.unassigned_text latch) }
+{
+    let text: &[u8] = if latch {
+        b"no turn of a loop assigns it; a loop runs up by to and down by downto"
+    } else {
+        b""
+    };
+    Ok(Vec::from_slice(alloc, text)?)
 }

@@ -1,18 +1,19 @@
 -- The bounds of an object that one declaration alone declares.
-use Rattle.std.specs.Prelude.{ℕ, ◌&&◌, ◌||◌, Bool, true, false, if◌then◌else◌, List, [], ◌∷◌, take, drop}
-use Rattle.std.specs.List.{prefix_len}
+use Rattle.std.specs.Prelude.{ℕ, ◌&&◌, ◌||◌, min, nat_lt, Bool, true, false, if◌then◌else◌, List, [], ◌∷◌, drop}
+use Rattle.std.specs.List.{list_all}
 use Rattle.rtlsim_tokens.specs.Choices.{is_written}
 use Rattle.rtlsim_tokens.specs.Interfaces.{formals, interface_of}
-use Rattle.rtlsim_tokens.specs.Parts.{begins, behind_last, from, in_parentheses, up_to}
+use Rattle.rtlsim_tokens.specs.Parts.{begins, behind_last, found_by, from, has, in_parentheses, up_to}
 use Rattle.rtlsim_hints.specs.declared.bound.Declared as code
 use Rattle.rtlsim_hints.specs.declared.bound.Declared.TheVariants as c
-use Rattle.rtlsim_forms.specs.Words.{text_of}
+use Rattle.rtlsim_tokens.specs.Words.{text_of}
 use Rattle.vhdl_lexer.specs.declared.token.Token.{Token}
 use Rattle.vhdl_lexer.specs.declared.token.TokenKind.{TokenKind}
 use Rattle.vhdl_lexer.specs.declared.token.TokenKind.TheVariants as k
+use Rattle.vhdl_lexer.specs.Literals.{greatest_integer, integer_of}
 use Rattle.vhdl_tree.specs.Lexeme.{same_kind}
 
--- how often a name was declared: never, once, behind whose names this stands, or more often
+-- how often a name was declared: never, once, from whose colon on this stands, or more often
 pub data Declared : Type 0 where
   Never : Declared
   Once : (declaration : List Token) → Declared
@@ -31,20 +32,13 @@ opens in_list kind =
     (in_list && (same_kind kind k.LeftParen || same_kind kind k.Semicolon))
     || same_kind kind k.Signal || same_kind kind k.Variable || same_kind kind k.Constant
 
-abbrev pub is_in_names : Token → Bool
-is_in_names t = same_kind t.kind k.Identifier || same_kind t.kind k.Comma
-
 -- its names: NAME { , NAME }
-abbrev pub names_of : List Token → List Token
-names_of tokens = take (prefix_len is_in_names tokens) tokens
+abbrev pub are_names : List Token → Bool
+are_names tokens = list_all (λ t. same_kind t.kind k.Identifier || same_kind t.kind k.Comma) tokens
 
--- what stands behind them: a colon and the type
-abbrev pub behind_names : List Token → List Token
-behind_names tokens = drop (prefix_len is_in_names tokens) tokens
-
--- these tokens begin with names of a declaration, this one among them
+-- these tokens begin with names of a declaration, this one among them, and a colon
 abbrev pub declares : (text name : List ℕ) → List Token → Bool
-declares text name tokens = begins k.Colon (behind_names tokens) && is_written text (names_of tokens) name
+declares text name tokens = has k.Colon tokens && are_names (up_to k.Colon tokens) && is_written text (up_to k.Colon tokens) name
 
 abbrev pub once_more : Declared → (declaration : List Token) → Declared
 once_more Never declaration = Once declaration
@@ -55,12 +49,11 @@ once_more _ declaration = Often
 -- how often behind a token, these standing behind it
 abbrev pub declared_at : (text name : List ℕ) → (in_list : Bool) → Declared → Token → (behind : List Token) → Declared
 declared_at text name in_list found t behind =
-    if opens in_list t.kind && declares text name behind then once_more found (up_to k.Semicolon (behind_names behind)) else found
+    if opens in_list t.kind && declares text name behind then once_more found (up_to k.Semicolon (from k.Colon behind)) else found
 
 -- in these tokens, behind those in which it was found so often
 abbrev pub declared_in : (text name : List ℕ) → (in_list : Bool) → Declared → List Token → Declared
-declared_in text name in_list found [] = found
-declared_in text name in_list found (t ∷ ts) = declared_in text name in_list (declared_at text name in_list found t ts) ts
+declared_in text name in_list found tokens = found_by (declared_at text name in_list) found tokens
 
 abbrev pub is_found : Declared → Bool
 is_found Never = false
@@ -74,7 +67,7 @@ is_listed text name list = is_found (declared_in text name true Never list)
 
 -- the last architecture before a byte, from its name on
 abbrev pub architecture : (before : List Token) → List Token
-architecture before = behind_last k.Architecture [] before
+architecture before = behind_last k.Architecture before
 
 -- the ports of its entity
 abbrev pub ports_of : (text : List ℕ) → (source architecture : List Token) → List Token
@@ -93,3 +86,22 @@ bounds_in _ = []
 
 abbrev pub bounds_of : (text name : List ℕ) → (source before : List Token) → List Token
 bounds_of text name source before = bounds_in (all_declared text name source before)
+
+-- ---- a range without elements
+
+-- the number that an integer writes; of one that is too great the greatest
+abbrev pub bound_of : (text : List ℕ) → Token → ℕ
+bound_of text t = min (integer_of (text_of text t)) greatest_integer
+
+-- a range whose bounds are integers, and that has no number between them
+abbrev pub is_empty : (text : List ℕ) → (range : List Token) → Bool
+is_empty text (left ∷ direction ∷ right ∷ []) =
+    same_kind left.kind k.Integer && same_kind right.kind k.Integer
+    && ((same_kind direction.kind k.Downto && nat_lt (bound_of text left) (bound_of text right))
+    || (same_kind direction.kind k.To && nat_lt (bound_of text right) (bound_of text left)))
+is_empty text _ = false
+
+-- what stands in parentheses behind the name at the front, or in its declaration behind the type
+abbrev pub range_at : List Token → List Token
+range_at tokens =
+    in_parentheses (if begins k.LeftParen (drop 1 tokens) then drop 1 tokens else from k.LeftParen (from k.Colon (up_to k.Semicolon tokens)))

@@ -6,8 +6,8 @@ use Rattle.rtl_report.specs.declared.report.Rule.{Rule}
 use Rattle.rtl_report.specs.declared.report.Rule.TheVariants as rule
 use Rattle.rtl_report.specs.declared.report.Subject.{Subject}
 use Rattle.rtl_report.specs.declared.report.Subject.TheVariants.{Lengths}
-use Rattle.rtlsim_forms.specs.Words.{Read, text_of, with_tokens}
-use Rattle.rtlsim_hints.specs.Bounds.{bounds_of, is_listed}
+use Rattle.rtlsim_tokens.specs.Words.{Read, text_of, with_tokens}
+use Rattle.rtlsim_hints.specs.Bounds.{bounds_of, is_empty, is_listed, range_at}
 use Rattle.rtlsim_tokens.specs.Choices.{choices, is_among, type_of}
 use Rattle.rtlsim_hints.specs.Ends.{but_last_two, end_word, last_begun, last_two}
 use Rattle.rtlsim_tokens.specs.Instances.{associations, entity_of, first_open, formal_in, is_by_name, labelled, open_instance}
@@ -37,6 +37,8 @@ pub data Hint : Type 0 where
   Enumeration : Hint
   -- an index or slice, and the bounds that are declared
   Outside : (index bounds : List Token) → Hint
+  -- a range has no element: its bounds, and its direction
+  Empty : (left right : Token) → (is_upward : Bool) → Hint
   -- an actual has another length than its port
   Actual : (entity port : Token) → (found needed : ℕ) → Hint
 
@@ -48,6 +50,7 @@ hint_view (c.OtherName name) = OtherName name
 hint_view c.NoName = NoName
 hint_view c.Enumeration = Enumeration
 hint_view (c.Outside index bounds) = Outside index.now bounds.now
+hint_view (c.Empty left right is_upward) = Empty left right is_upward
 hint_view (c.Actual entity port found needed) = Actual entity port found needed
 
 -- ---- a formal that isn't declared
@@ -123,13 +126,19 @@ enumeration before from = choice_hint before (first_of (choices from))
 abbrev pub outside_hint : (index bounds : List Token) → Hint
 outside_hint index bounds = if length index == 0 || length bounds == 0 then Nothing else Outside index bounds
 
-abbrev pub index_hint : (source : Read) → (before index : List Token) → (name : Option Token) → Hint
-index_hint source before index None = Nothing
-index_hint source before index (Some name) = outside_hint index (bounds_of source.text (text_of source.text name) source.tokens before)
+abbrev pub index_hint : (source : Read) → (before from : List Token) → (name : Option Token) → Hint
+index_hint source before from None = Nothing
+index_hint source before from (Some name) =
+    outside_hint (in_parentheses (drop 1 from)) (bounds_of source.text (text_of source.text name) source.tokens before)
 
--- of the name at the front, which its index follows
+abbrev pub empty_hint : (range : List Token) → Hint
+empty_hint (left ∷ direction ∷ right ∷ []) = Empty left right (same_kind direction.kind k.To)
+empty_hint _ = Nothing
+
+-- of the name at the front, which its index follows, or of its declaration; a range without elements is told as that
 abbrev pub outside : (source : Read) → (before from : List Token) → Hint
-outside source before from = index_hint source before (in_parentheses (drop 1 from)) (first_of from)
+outside source before from =
+    if is_empty source.text (range_at from) then empty_hint (range_at from) else index_hint source before from (first_of from)
 
 -- ---- the port of an actual
 

@@ -1,12 +1,12 @@
 -- How a hint is told: its sentence, and what a designer does about it.
-use Rattle.std.specs.Prelude.{ℕ, Bool, if◌then◌else◌, List, [], ◌++◌, drop, codes, decimal, flat_map, Option, Some, None}
-use Rattle.rtlsim_forms.specs.Words.{Read, first_text, subject, text_of}
-use Rattle.rtlsim_hints.specs.Hints.{Actual, Enumeration, Hint, NoFormal, NoName, Nothing, OpenPort, OtherName, Outside}
+use Rattle.std.specs.Prelude.{ℕ, not, Bool, if◌then◌else◌, List, [], ◌++◌, drop, codes, decimal, flat_map, Option, Some, None}
+use Rattle.rtlsim_tokens.specs.Words.{Read, first_text, subject, text_of}
+use Rattle.rtlsim_hints.specs.Hints.{Actual, Empty, Enumeration, Hint, NoFormal, NoName, Nothing, OpenPort, OtherName, Outside}
 use Rattle.rtlsim_tokens.specs.Listings.{names_listed}
 use Rattle.rtlsim_tokens.specs.Parts.{first_of}
 use Rattle.rtlsim_tokens.specs.declared.listing.Listing.{Listing}
 use Rattle.rtlsim_tokens.specs.declared.listing.Listing.TheVariants.{Generics, Ports}
-use Rattle.rtlsim_hints.specs.declared.saying.TheConstants.{HELP_FORMAL, HELP_LITERAL, HELP_NAME, HELP_NO_NAME}
+use Rattle.rtlsim_hints.specs.declared.saying.TheConstants.{HELP_EMPTY, HELP_FORMAL, HELP_LITERAL, HELP_NAME, HELP_NO_NAME}
 use Rattle.vhdl_lexer.specs.declared.token.Token.{Token}
 
 -- a blank, and a token
@@ -41,16 +41,21 @@ open_port_text words entity port =
 abbrev pub other_name_text : (words : Read) → (name : Token) → List ℕ
 other_name_text words name = subject words ++ codes "stands at the end of " ++ text_of words.text name
 
-abbrev pub no_name_text : (words : Read) → List ℕ
-no_name_text words = subject words ++ codes "stands at the end of what has no name at its beginning"
-
-abbrev pub enumeration_text : (words : Read) → List ℕ
-enumeration_text words = subject words ++ codes "doesn't name each literal of its enumeration, and has no others"
-
 abbrev pub outside_text : (words : Read) → (index bounds : List Token) → List ℕ
 outside_text words index bounds =
     codes "`" ++ first_text words ++ codes "(" ++ words_text words.text index ++ codes ")` is outside of (" ++ words_text words.text bounds
     ++ codes "), or against its direction"
+
+abbrev pub direction_text : (is_upward : Bool) → List ℕ
+direction_text is_upward = if is_upward then codes " to " else codes " downto "
+
+abbrev pub range_text : (text : List ℕ) → (left right : Token) → (is_upward : Bool) → List ℕ
+range_text text left right is_upward = text_of text left ++ direction_text is_upward ++ text_of text right
+
+abbrev pub empty_text : (words : Read) → (left right : Token) → (is_upward : Bool) → List ℕ
+empty_text words left right is_upward =
+    subject words ++ codes "has a range without elements: (" ++ range_text words.text left right is_upward ++ codes ") is written ("
+    ++ range_text words.text right left is_upward ++ codes ") or (" ++ range_text words.text left right (not is_upward) ++ codes ")"
 
 abbrev pub actual_text : (words : Read) → (entity port : Token) → (found needed : ℕ) → List ℕ
 actual_text words entity port found needed =
@@ -64,9 +69,10 @@ sentence words Nothing = []
 sentence words (NoFormal entity formal is_port formals) = no_formal_text words.text entity formal is_port formals
 sentence words (OpenPort entity port) = open_port_text words entity port
 sentence words (OtherName name) = other_name_text words name
-sentence words NoName = no_name_text words
-sentence words Enumeration = enumeration_text words
+sentence words NoName = subject words ++ codes "stands at the end of what has no name at its beginning"
+sentence words Enumeration = subject words ++ codes "doesn't name each literal of its enumeration, and has no others"
 sentence words (Outside index bounds) = outside_text words index bounds
+sentence words (Empty left right is_upward) = empty_text words left right is_upward
 sentence words (Actual entity port found needed) = actual_text words entity port found needed
 
 -- that of its rule, where it has none of its own
@@ -75,4 +81,5 @@ help (NoFormal entity formal is_port formals) usual = HELP_FORMAL.now
 help (OtherName name) usual = HELP_NAME.now
 help NoName usual = HELP_NO_NAME.now
 help Enumeration usual = HELP_LITERAL.now
+help (Empty left right is_upward) usual = HELP_EMPTY.now
 help _ usual = usual

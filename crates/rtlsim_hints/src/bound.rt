@@ -1,26 +1,25 @@
 //! The bounds of an object that one declaration alone declares.
 
-ghost use Rattle.std.specs.Prelude.{◌≡◌, ◌≤◌, length};
-ghost use Rattle.std.specs.List.{prefix_len};
+ghost use Rattle.std.specs.Prelude.{◌≡◌};
 ghost use Rattle.rtlsim_hints.specs.Bounds as spec;
 
-use rtlsim_forms::{Lexed, is_same_kind, text_of};
 use rtlsim_tokens::{
-    begins, behind_last, formals, from, in_parentheses, interface_of, is_literal, up_to,
+    Lexed, begins, behind_last, formals, from, has, in_parentheses, interface_of, is_literal,
+    is_same_kind, past, text_of, up_to,
 };
-use vhdl_lexer::{Token, TokenKind};
+use vhdl_lexer::{MAX_INTEGER, Token, TokenKind, integer_value};
 
 /// How often a name was declared.
 #[derive(Clone, Copy)]
 pub(crate) enum Declared<'a> {
     Never,
-    /// Once; this stands behind its names.
+    /// Once; this stands from its colon on.
     Once(&'a [Token]),
     Often,
 }
 
-/// The bounds of the type of this name, where the architecture before a byte and the ports of its entity declare it once together, and it has
-/// bounds without parentheses in them; else nothing.
+/// The bounds of the type of this name, where the architecture before a byte and the ports of its entity declare it once
+/// together, and it has bounds without parentheses in them; else nothing.
 pub(crate) fn bounds_of<'a>(source: Lexed<'a>, name: &[u8], before: &'a [Token]) -> &'a [Token]
     ensures { result.now ≡ spec.bounds_of source.entry.text.now name.now source.entry.tokens.now before.now }
 {
@@ -42,7 +41,8 @@ pub(crate) fn is_listed(text: &[u8], name: &[u8], list: &[Token]) -> bool
 
 /// How often the architecture before a byte and the ports of its entity declare a name together.
 fn all_declared<'a>(source: Lexed<'a>, name: &[u8], before: &'a [Token]) -> Declared<'a>
-    ensures { spec.declared_view result ≡ spec.all_declared source.entry.text.now name.now source.entry.tokens.now before.now }
+    ensures { spec.declared_view result
+        ≡ spec.all_declared source.entry.text.now name.now source.entry.tokens.now before.now }
 {
     let architecture = behind_last(TokenKind::Architecture, before);
     let found = declared_in(source.text, name, false, Declared::Never, architecture);
@@ -101,13 +101,17 @@ fn declared_at<'a>(
         ≡ spec.declared_at text.now name.now in_list (spec.declared_view found.entry) token behind.now }
 {
     if opens(in_list, token.kind) && declares(text, name, behind) {
-        once_more(found, up_to(TokenKind::Semicolon, behind_names(behind)))
+        once_more(
+            found,
+            up_to(TokenKind::Semicolon, from(TokenKind::Colon, behind)),
+        )
     } else {
         found
     }
 }
 
-/// Whether a declaration stands behind such a token: behind signal, variable or constant, and in a list of generics or ports behind `(` or `;` too.
+/// Whether a declaration stands behind such a token: behind signal, variable or constant, and in a list of generics or
+/// ports behind `(` or `;` too.
 fn opens(in_list: bool, kind: TokenKind) -> bool
     ensures { result ≡ spec.opens in_list kind }
 {
@@ -118,48 +122,25 @@ fn opens(in_list: bool, kind: TokenKind) -> bool
         || is_same_kind(kind, TokenKind::Constant)
 }
 
-/// Whether these tokens begin with names of a declaration, this one among them.
+/// Whether these tokens begin with names of a declaration, this one among them, and a colon.
 fn declares(text: &[u8], name: &[u8], tokens: &[Token]) -> bool
     ensures { result ≡ spec.declares text.now name.now tokens.now }
 {
     let names = Lexed {
         text,
-        tokens: names_of(tokens),
+        tokens: up_to(TokenKind::Colon, tokens),
     };
-    begins(TokenKind::Colon, behind_names(tokens)) && is_literal(names, name)
+    has(TokenKind::Colon, tokens) && are_names(names.tokens) && is_literal(names, name)
 }
 
-/// The names with which a declaration begins: `NAME { , NAME }`.
-fn names_of(tokens: &[Token]) -> &[Token]
-    ensures { result.now ≡ spec.names_of tokens.now }
+/// Whether these are names of a declaration: `NAME { , NAME }`.
+fn are_names(tokens: &[Token]) -> bool
+    ensures { result ≡ spec.are_names tokens.now }
 {
-    let (names, _) = tokens.split_at(names_len(tokens));
-    names
-}
-
-/// What stands behind them: a colon and the type.
-fn behind_names(tokens: &[Token]) -> &[Token]
-    ensures { result.now ≡ spec.behind_names tokens.now }
-{
-    let (_, behind) = tokens.split_at(names_len(tokens));
-    behind
-}
-
-/// How many tokens they are.
-fn names_len(tokens: &[Token]) -> usize
-    ensures value { result ≡ prefix_len spec.is_in_names tokens.now }
-    ensures within { result ≤ length tokens.now }
-{
-    tokens
-        .iter()
-        .take_while(|token| is_in_names(**token))
-        .count()
-}
-
-fn is_in_names(token: Token) -> bool
-    ensures { result ≡ spec.is_in_names token }
-{
-    is_same_kind(token.kind, TokenKind::Identifier) || is_same_kind(token.kind, TokenKind::Comma)
+    tokens.iter().all(|token| {
+        is_same_kind(token.kind, TokenKind::Identifier)
+            || is_same_kind(token.kind, TokenKind::Comma)
+    })
 }
 
 /// One declaration more.
@@ -169,5 +150,47 @@ fn once_more<'a>(found: Declared<'a>, declaration: &'a [Token]) -> Declared<'a>
     match found {
         Declared::Never => Declared::Once(declaration),
         _ => Declared::Often,
+    }
+}
+
+// ---- a range without elements
+
+/// What stands in parentheses behind the name at the front, or in its declaration behind the type.
+pub(crate) fn range_at(tokens: &[Token]) -> &[Token]
+    ensures { result.now ≡ spec.range_at tokens.now }
+{
+    let behind = past(1, tokens);
+    if begins(TokenKind::LeftParen, behind) {
+        in_parentheses(behind)
+    } else {
+        let declaration = from(TokenKind::Colon, up_to(TokenKind::Semicolon, tokens));
+        in_parentheses(from(TokenKind::LeftParen, declaration))
+    }
+}
+
+/// Whether the bounds of a range are integers, and no number stands between them.
+pub(crate) fn is_empty(text: &[u8], range: &[Token]) -> bool
+    ensures { result ≡ spec.is_empty text.now range.now }
+{
+    match range {
+        [left, direction, right] => {
+            is_same_kind(left.kind, TokenKind::Integer)
+                && is_same_kind(right.kind, TokenKind::Integer)
+                && ((is_same_kind(direction.kind, TokenKind::Downto)
+                    && bound_of(text, *left) < bound_of(text, *right))
+                    || (is_same_kind(direction.kind, TokenKind::To)
+                        && bound_of(text, *right) < bound_of(text, *left)))
+        }
+        _ => false,
+    }
+}
+
+/// The number that an integer writes; of one that is too great the greatest.
+fn bound_of(text: &[u8], token: Token) -> u32
+    ensures { result ≡ spec.bound_of text.now token }
+{
+    match integer_value(text_of(text, token)) {
+        Some(number) => number,
+        None => MAX_INTEGER,
     }
 }

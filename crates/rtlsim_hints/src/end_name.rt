@@ -4,8 +4,7 @@ ghost use Rattle.std.specs.Prelude.{◌≡◌};
 ghost use Rattle.std.specs.List.{prefix_len};
 ghost use Rattle.rtlsim_hints.specs.Ends as spec;
 
-use rtlsim_forms::is_same_kind;
-use rtlsim_tokens::{begins, past};
+use rtlsim_tokens::{begins, is_same_kind, past};
 use vhdl_lexer::{Token, TokenKind};
 
 /// What is known of what ends somewhere.

@@ -1,16 +1,17 @@
 //! Which hint the tokens around a fault give.
 
 ghost use Rattle.std.specs.Prelude.{◌≡◌, Some};
-ghost use Rattle.rtlsim_forms.specs.Words.{read_of, with_tokens};
+ghost use Rattle.rtlsim_tokens.specs.Parts.{first_of};
+ghost use Rattle.rtlsim_tokens.specs.Words.{read_of, with_tokens};
 ghost use Rattle.rtlsim_hints.specs.Hints as spec;
 
-use crate::bound::{bounds_of, is_listed};
+use crate::bound::{bounds_of, is_empty, is_listed, range_at};
 use crate::end_name::{Begun, but_last_two, end_word, last_begun, last_two};
 use rtl_report::{ElabRule, NameRule, Report, Rule, Subject};
-use rtlsim_forms::{Lexed, is_same_kind, text_of};
 use rtlsim_tokens::{
-    associations, begins, entity_of, first_choice, first_of, first_open, formal_in, formals, has,
-    in_parentheses, interface_of, is_by_name, is_literal, labelled, open_instance, past, type_of,
+    Lexed, associations, begins, entity_of, first_choice, first_of, first_open, formal_in, formals,
+    has, in_parentheses, interface_of, is_by_name, is_literal, is_same_kind, labelled,
+    open_instance, past, text_of, type_of,
 };
 use vhdl_lexer::{Token, TokenKind};
 
@@ -43,6 +44,12 @@ pub enum Hint<'a> {
     Outside {
         index: &'a [Token],
         bounds: &'a [Token],
+    },
+    /// A range has no element: its bounds, and its direction.
+    Empty {
+        left: Token,
+        right: Token,
+        is_upward: bool,
     },
     /// An actual has another length than its port.
     Actual {
@@ -238,9 +245,36 @@ fn choice_hint(before: Lexed<'_>, choice: Token) -> Hint<'static>
     }
 }
 
-/// Of an index behind the name at the front.
+/// Of an index behind the name at the front, or of the range in its declaration.
 fn outside<'a>(source: Lexed<'a>, before: &'a [Token], from: &'a [Token]) -> Hint<'a>
     ensures { spec.hint_view result ≡ spec.outside (read_of source.entry) before.now from.now }
+{
+    let range = range_at(from);
+    if is_empty(source.text, range) {
+        empty_hint(range)
+    } else {
+        index_hint(source, before, from)
+    }
+}
+
+/// Of a range that has no element.
+fn empty_hint(range: &[Token]) -> Hint<'static>
+    ensures { spec.hint_view result ≡ spec.empty_hint range.now }
+{
+    match range {
+        [left, direction, right] => Hint::Empty {
+            left: *left,
+            right: *right,
+            is_upward: is_same_kind(direction.kind, TokenKind::To),
+        },
+        _ => Hint::Nothing,
+    }
+}
+
+/// Of an index behind the name at the front, where its bounds are known.
+fn index_hint<'a>(source: Lexed<'a>, before: &'a [Token], from: &'a [Token]) -> Hint<'a>
+    ensures { spec.hint_view result
+        ≡ spec.index_hint (read_of source.entry) before.now from.now (first_of from.now) }
 {
     match first_of(from) {
         Some(name) => outside_hint(

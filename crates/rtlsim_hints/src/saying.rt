@@ -1,15 +1,16 @@
 //! How a hint is told.
 
-ghost use Rattle.std.specs.Prelude.{◌≡◌, flat_map};
+ghost use Rattle.std.specs.Prelude.{◌≡◌, ◌++◌, flat_map};
 ghost use Rattle.rtl_sink.specs.Written.{Goes};
-ghost use Rattle.rtlsim_forms.specs.Words.{read_of, text_of};
+ghost use Rattle.rtlsim_tokens.specs.Words.{read_of, subject, text_of};
 ghost use Rattle.rtlsim_hints.specs.Hints.{hint_view};
 ghost use Rattle.rtlsim_hints.specs.Sayings as spec;
 
 use crate::hint::Hint;
 use rtl_sink::{Sink, push_number, push_text};
-use rtlsim_forms::{Lexed, first_text, push_subject, text_of};
-use rtlsim_tokens::{Listing, first_of, past, push_names};
+use rtlsim_tokens::{
+    Lexed, Listing, first_of, first_text, past, push_names, push_subject, text_of,
+};
 use vhdl_lexer::Token;
 
 const HELP_FORMAL: &str = "write one of these names before =>, or declare it in the entity";
@@ -21,6 +22,9 @@ const HELP_NO_NAME: &str = "leave it out, or put it and a colon before what ends
 const HELP_LITERAL: &str =
     "add a choice for the literal that is missing, or others as the last one";
 
+const HELP_EMPTY: &str =
+    "write one of these; a slice goes in the direction in which its name is declared";
+
 /// What a designer does about it: in place of the usual, where a hint has a help of its own.
 pub fn help(hint: Hint<'_>, usual: &'static [u8]) -> &'static [u8]
     ensures { result.now ≡ spec.help (hint_view hint.entry) usual.now }
@@ -30,6 +34,7 @@ pub fn help(hint: Hint<'_>, usual: &'static [u8]) -> &'static [u8]
         Hint::OtherName { .. } => HELP_NAME.as_bytes(),
         Hint::NoName => HELP_NO_NAME.as_bytes(),
         Hint::Enumeration => HELP_LITERAL.as_bytes(),
+        Hint::Empty { .. } => HELP_EMPTY.as_bytes(),
         _ => usual,
     }
 }
@@ -48,9 +53,22 @@ pub fn push_hint<S: Sink>(words: Lexed<'_>, hint: Hint<'_>, sink: &mut S)
         } => push_no_formal(words.text, (entity, formal), is_port, formals, sink),
         Hint::OpenPort { entity, port } => push_open_port(words, entity, port, sink),
         Hint::OtherName { name } => push_other_name(words, name, sink),
-        Hint::NoName => push_no_name(words, sink),
-        Hint::Enumeration => push_enumeration(words, sink),
+        Hint::NoName => push_said(
+            words,
+            b"stands at the end of what has no name at its beginning",
+            sink,
+        ),
+        Hint::Enumeration => push_said(
+            words,
+            b"doesn't name each literal of its enumeration, and has no others",
+            sink,
+        ),
         Hint::Outside { index, bounds } => push_outside(words, index, bounds, sink),
+        Hint::Empty {
+            left,
+            right,
+            is_upward,
+        } => push_empty(words, (left, right), is_upward, sink),
         Hint::Actual {
             entity,
             port,
@@ -125,26 +143,12 @@ fn push_other_name<S: Sink>(words: Lexed<'_>, name: Token, sink: &mut S)
     push_word(words.text, name, sink);
 }
 
-/// Writes that a name stands at the end of what has none.
-fn push_no_name<S: Sink>(words: Lexed<'_>, sink: &mut S)
-    ensures { Goes (S.state sink.old) (S.state sink.new) (spec.no_name_text (read_of words.entry)) }
+/// Writes the first of the words, and what is said of it.
+fn push_said<S: Sink>(words: Lexed<'_>, said: &[u8], sink: &mut S)
+    ensures { Goes (S.state sink.old) (S.state sink.new) (subject (read_of words.entry) ++ said.now) }
 {
     push_subject(words, sink);
-    push_text(
-        sink,
-        b"stands at the end of what has no name at its beginning",
-    );
-}
-
-/// Writes that a choice lacks a literal.
-fn push_enumeration<S: Sink>(words: Lexed<'_>, sink: &mut S)
-    ensures { Goes (S.state sink.old) (S.state sink.new) (spec.enumeration_text (read_of words.entry)) }
-{
-    push_subject(words, sink);
-    push_text(
-        sink,
-        b"doesn't name each literal of its enumeration, and has no others",
-    );
+    push_text(sink, said);
 }
 
 /// Writes an index or slice of a name, and the bounds that are declared.
@@ -159,6 +163,38 @@ fn push_outside<S: Sink>(words: Lexed<'_>, index: &[Token], bounds: &[Token], si
     push_text(sink, b")` is outside of (");
     push_words(words.text, bounds, sink);
     push_text(sink, b"), or against its direction");
+}
+
+/// Writes that a range has no element, and how it is written.
+fn push_empty<S: Sink>(words: Lexed<'_>, bounds: (Token, Token), is_upward: bool, sink: &mut S)
+    ensures { Goes (S.state sink.old) (S.state sink.new)
+        (spec.empty_text (read_of words.entry) bounds.0 bounds.1 is_upward) }
+{
+    let (left, right) = bounds;
+    push_subject(words, sink);
+    push_text(sink, b"has a range without elements: (");
+    push_range(words.text, (left, right), is_upward, sink);
+    push_text(sink, b") is written (");
+    push_range(words.text, (right, left), is_upward, sink);
+    push_text(sink, b") or (");
+    push_range(words.text, (left, right), !is_upward, sink);
+    push_text(sink, b")");
+}
+
+/// Writes a range by its bounds and its direction.
+fn push_range<S: Sink>(text: &[u8], bounds: (Token, Token), is_upward: bool, sink: &mut S)
+    ensures { Goes (S.state sink.old) (S.state sink.new) (spec.range_text text.now bounds.0 bounds.1 is_upward) }
+{
+    let (left, right) = bounds;
+    push_word(text, left, sink);
+    push_text(sink, direction(is_upward));
+    push_word(text, right, sink);
+}
+
+fn direction(is_upward: bool) -> &'static [u8]
+    ensures { result.now ≡ spec.direction_text is_upward }
+{
+    if is_upward { b" to " } else { b" downto " }
 }
 
 /// Writes the length of an actual, and that of its port.

@@ -21,7 +21,6 @@ pub use checking::{show_check, show_dot, show_faults};
 pub use fault::ListingFault;
 pub use names::{net_name, process_name, source_name};
 pub use nets::show_net;
-pub use report::{circle_of, report_of};
-pub use rtl_sink::{Out, Sink, WriteFailed};
+pub use report::{circle_of, place_of, report_of};
 pub use texts::{push_decimal, push_title};
 pub use variables::element_of;

@@ -121,7 +121,7 @@ fn told(rule: CheckRule, first: Option<usize>, subject: Subject) -> Report
 }
 
 /// The place of a process, if there is one.
-fn place_of(process: Option<usize>) -> Place
+pub fn place_of(process: Option<usize>) -> Place
     ensures { result ≡ spec.place_of process }
 {
     match process {

@@ -2,45 +2,14 @@
 use Rattle.std.proofs.Common.{◌≡◌, ℕ, ◌+◌, ◌-◌, ◌<◌, ◌≤◌, Bool, true, false, List, [], ◌∷◌, ◌++◌, if◌then◌else◌, Option, Some, None, option_map, length, slice_index_or, refl, sym, ap, ◌∙◌, arith}
 use Rattle.std.specs.List.{list_any, list_all}
 use Rattle.std.specs.Str.{str_eq_ignore_ascii_case}
-use Rattle.rtlsim_tokens.specs.Choices.{choices_from, chooses, ends, is_among, is_left_out, is_written, left_out, missing_in, missing_of, open_behind, type_at, type_from, type_of}
-use Rattle.rtlsim_forms.specs.Words.{Read, text_of}
-use Rattle.rtlsim_forms.proofs.Rest.{rest, rest_is}
-use Rattle.rtlsim_forms.proofs.Rest as lists
+use Rattle.rtlsim_tokens.specs.Choices.{choices_from, chooses, ends, is_among, is_left_out, is_written, left_out, missing_in, missing_of, open_behind, type_of}
+use Rattle.rtlsim_tokens.specs.Words.{Read, text_of}
+use Rattle.rtlsim_tokens.proofs.Rest.{rest, rest_is}
+use Rattle.rtlsim_tokens.proofs.Rest as lists
 use Rattle.vhdl_lexer.specs.declared.token.Token.{Token}
 use Rattle.vhdl_lexer.specs.declared.token.TokenKind.{TokenKind}
 use Rattle.vhdl_lexer.specs.declared.token.TokenKind.TheVariants as k
 use Rattle.vhdl_tree.specs.Lexeme.{same_kind}
-
-abbrev is_word : (text word : List ℕ) → Token → Bool
-is_word text word t = str_eq_ignore_ascii_case (text_of text t) word
-
--- ---- one choice more
-
-pub any_here : (text word : List ℕ) (ts : List Token) (t : Token) (behind : List Token) → ts ≡ t ∷ behind → str_eq_ignore_ascii_case (text_of text t) word ≡ true
-    → is_written text ts word ≡ true
-any_here text word ts t behind is so = ap (list_any (is_word text word)) is ∙ lists.any_here (is_word text word) t behind so
-
-pub any_more : (text word : List ℕ) (ts : List Token) (t : Token) (behind : List Token) → ts ≡ t ∷ behind → str_eq_ignore_ascii_case (text_of text t) word ≡ false
-    → is_written text behind word ≡ is_written text ts word
-any_more text word ts t behind is not_so = sym (ap (list_any (is_word text word)) is ∙ lists.any_behind (is_word text word) t behind not_so)
-
-pub all_here : (p : Token → Bool) (ts : List Token) (t : Token) (behind : List Token) → ts ≡ t ∷ behind → p t ≡ false → list_all p ts ≡ false
-all_here p ts t behind is not_so = ap (list_all p) is ∙ lists.all_fail p t behind not_so
-
-pub all_more : (p : Token → Bool) (ts : List Token) (t : Token) (behind : List Token) → ts ≡ t ∷ behind → p t ≡ true → list_all p behind ≡ list_all p ts
-all_more p ts t behind is so = sym (ap (list_all p) is ∙ lists.all_behind p t behind so)
-
--- ---- one token more
-
-pub written_here : (text word : List ℕ) (d : Token) (ts : List Token) → 1 ≤ length ts → str_eq_ignore_ascii_case (text_of text (slice_index_or ts 0 d)) word ≡ true
-    → is_written text ts word ≡ true
-written_here text word d [] some so = absurd (omega (arith, some))
-written_here text word d (t ∷ ts) some so = lists.any_here (is_word text word) t ts so
-
-pub written_more : (text word : List ℕ) (d : Token) (ts : List Token) → 1 ≤ length ts → str_eq_ignore_ascii_case (text_of text (slice_index_or ts 0 d)) word ≡ false
-    → is_written text (rest ts) word ≡ is_written text ts word
-written_more text word d [] some not_so = absurd (omega (arith, some))
-written_more text word d (t ∷ ts) some not_so = ap (list_any (is_word text word)) (rest_is t ts) ∙ sym (lists.any_behind (is_word text word) t ts not_so)
 
 -- ---- choices
 
@@ -89,13 +58,6 @@ within n m bound (t ∷ ts) below some room = rw (rest_is t ts) (omega (arith, b
 pub room_behind : (opened bound : ℕ) (last kind : TokenKind) (ts : List Token) → 1 ≤ length ts → opened + length ts < bound
     → open_behind opened last kind + length (rest ts) < bound
 room_behind opened bound last kind ts some room = within opened _ bound ts (up (same_kind kind k.Case) (same_kind last k.End) opened) some room
-
--- ---- enumerations
-
-pub type_more : (found : Read) (literal text : List ℕ) (d : Token) (ts : List Token) → 1 ≤ length ts
-    → type_from (type_at found literal text (slice_index_or ts 0 d) (rest ts)) literal text (rest ts) ≡ type_from found literal text ts
-type_more found literal text d [] some = absurd (omega (arith, some))
-type_more found literal text d (t ∷ ts) some = ap (λ (left : List Token). type_from (type_at found literal text t left) literal text left) (rest_is t ts)
 
 -- ---- what is missing
 

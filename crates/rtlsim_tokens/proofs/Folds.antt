@@ -1,11 +1,10 @@
--- What stands behind the last token of a kind, by the first of some tokens.
+-- What is found by each of some tokens, by the first of them.
 use Rattle.std.proofs.Common.{◌≡◌, ◌≤◌, List, [], ◌∷◌, length, slice_index_or, ap, arith}
-use Rattle.rtlsim_forms.proofs.Rest.{rest, rest_is}
-use Rattle.rtlsim_tokens.specs.Parts.{behind_last, later}
+use Rattle.rtlsim_tokens.proofs.Rest.{rest, rest_is}
+use Rattle.rtlsim_tokens.specs.Parts.{found_by}
 use Rattle.vhdl_lexer.specs.declared.token.Token.{Token}
-use Rattle.vhdl_lexer.specs.declared.token.TokenKind.{TokenKind}
 
-pub behind_more : (kind : TokenKind) (found : List Token) (d : Token) (ts : List Token) → 1 ≤ length ts
-    → behind_last kind (later kind found (slice_index_or ts 0 d) (rest ts)) (rest ts) ≡ behind_last kind found ts
-behind_more kind found d [] some = absurd (omega (arith, some))
-behind_more kind found d (t ∷ ts) some = ap (λ (left : List Token). behind_last kind (later kind found t left) left) (rest_is t ts)
+pub found_more : {A : Type 0} (step : A → Token → List Token → A) (found : A) (d : Token) (ts : List Token) → 1 ≤ length ts
+    → found_by step (step found (slice_index_or ts 0 d) (rest ts)) (rest ts) ≡ found_by step found ts
+found_more step found d [] some = absurd (omega (arith, some))
+found_more step found d (t ∷ ts) some = ap (λ (left : List Token). found_by step (step found t left) left) (rest_is t ts)

@@ -1,3 +1,4 @@
+pub mod Rest
 pub mod Choices
 pub mod Folds
 pub mod Names

@@ -1,6 +1,6 @@
 -- Names that are listed, by the first token.
 use Rattle.std.proofs.Common.{◌≡◌, ℕ, ◌<◌, ◌≤◌, List, [], ◌∷◌, ◌++◌, length, refl, append_assoc, arith}
-use Rattle.rtlsim_forms.proofs.Rest.{rest, rest_is}
+use Rattle.rtlsim_tokens.proofs.Rest.{rest, rest_is}
 use Rattle.rtlsim_tokens.specs.Listings.{names_at, names_from}
 use Rattle.rtlsim_tokens.specs.declared.listing.Listing.{Listing}
 use Rattle.vhdl_lexer.specs.declared.token.Token.{Token}

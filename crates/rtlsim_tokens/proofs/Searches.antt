@@ -1,6 +1,6 @@
 -- What is looked for, by the first of some tokens.
 use Rattle.std.proofs.Common.{◌≡◌, ℕ, ◌≤◌, Bool, true, false, List, [], ◌∷◌, length, slice_index_or, Option, Some, refl, sym, ap, ◌∙◌, arith}
-use Rattle.rtlsim_forms.proofs.Rest.{rest, rest_is}
+use Rattle.rtlsim_tokens.proofs.Rest.{rest, rest_is}
 use Rattle.rtlsim_tokens.specs.Instances.{first_open, gives, is_given, is_left_open}
 use Rattle.rtlsim_tokens.specs.Interfaces.{begins_entity, interface_of}
 use Rattle.rtlsim_tokens.specs.Parts.{up_to}

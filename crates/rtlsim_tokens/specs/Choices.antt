@@ -1,9 +1,11 @@
 -- The choice that a case statement (IEEE 1076-2008, 10.9) or a selected signal assignment (11.6) lacks: of the enumeration (5.2.2) that its
 -- first choice is a literal of, the first literal that is none of its choices. It is found from the tokens of the source alone.
-use Rattle.std.specs.Prelude.{ℕ, ◌+◌, ◌-◌, ◌==◌, ◌&&◌, ◌||◌, not, nat_le, Bool, if◌then◌else◌, List, [], ◌∷◌, ◌++◌, take, drop, codes, Option, Some, None, option_map, find}
-use Rattle.std.specs.List.{list_all, list_any, prefix_len}
+use Rattle.std.specs.Prelude.{ℕ, ◌+◌, ◌-◌, ◌<◌, ◌^◌, ◌==◌, ◌&&◌, ◌||◌, not, nat_le, Bool, if◌then◌else◌, List, [], ◌∷◌, ◌++◌, drop, codes, length, Option, Some, None, option_map, find}
+use Rattle.std.specs.List.{list_all, list_any}
 use Rattle.std.specs.Str.{str_eq_ignore_ascii_case}
-use Rattle.rtlsim_forms.specs.Words.{Read, text_of, with_tokens}
+use Rattle.rtlsim_tokens.specs.Parts.{found_by, up_to}
+use Rattle.rtlsim_tokens.specs.Words.{Read, text_of, with_tokens}
+use Rattle.rtlsim_tokens.specs.declared.choice.Statement.{Statement}
 use Rattle.rtlsim_tokens.specs.declared.enumeration.TheConstants.{STD_ULOGIC, STD_ULOGIC_TOKENS}
 use Rattle.vhdl_lexer.specs.declared.token.Token.{Token}
 use Rattle.vhdl_lexer.specs.declared.token.TokenKind.{TokenKind}
@@ -41,32 +43,31 @@ is_written text tokens word = list_any (λ t. str_eq_ignore_ascii_case (text_of 
 abbrev pub is_among : Read → (word : List ℕ) → Bool
 is_among read word = is_written read.text read.tokens word
 
-abbrev pub is_in_parentheses : Token → Bool
-is_in_parentheses t = not (same_kind t.kind k.RightParen)
-
 -- what stands in the parentheses of NAME is ( LITERAL { , LITERAL } )
 abbrev pub literals_of : List Token → List Token
-literals_of tokens = take (prefix_len is_in_parentheses (drop 3 tokens)) (drop 3 tokens)
+literals_of tokens = up_to k.RightParen (drop 3 tokens)
 
 -- those of type std_ulogic, which the package std_logic_1164 declares
 abbrev pub std_ulogic : Read
 std_ulogic = with_tokens STD_ULOGIC.now STD_ULOGIC_TOKENS
 
+abbrev pub in_std_ulogic : Token → List ℕ
+in_std_ulogic t = text_of STD_ULOGIC.now t
+
+abbrev pub nine_values : List (List ℕ)
+nine_values =
+    codes "'U'" ∷ codes "'X'" ∷ codes "'0'" ∷ codes "'1'" ∷ codes "'Z'" ∷ codes "'W'" ∷ codes "'L'" ∷ codes "'H'" ∷ codes "'-'" ∷ []
+
 -- the literals of the enumeration that a token begins, these behind it, where it has this literal: type NAME is ( LITERAL { , LITERAL } );
 -- an architecture begins without one; else those found before
-abbrev pub type_at : (found : Read) → (literal text : List ℕ) → Token → (behind : List Token) → Read
-type_at found literal text t behind =
+abbrev pub type_at : (literal text : List ℕ) → (found : Read) → Token → (behind : List Token) → Read
+type_at literal text found t behind =
     if same_kind t.kind k.Architecture then std_ulogic
     else if same_kind t.kind k.Type && is_written text (literals_of behind) literal then with_tokens text (literals_of behind) else found
 
--- those of the last enumeration that has it, of the last architecture among these tokens
-abbrev pub type_from : (found : Read) → (literal text : List ℕ) → List Token → Read
-type_from found literal text [] = found
-type_from found literal text (t ∷ ts) = type_from (type_at found literal text t ts) literal text ts
-
--- those of type std_ulogic where none has it
+-- those of the last enumeration that has it, of the last architecture among these tokens; those of type std_ulogic where none has it
 abbrev pub type_of : Read → (literal : List ℕ) → Read
-type_of read literal = type_from std_ulogic literal read.text read.tokens
+type_of read literal = found_by (type_at literal read.text) std_ulogic read.tokens
 
 -- ---- what is missing
 
@@ -98,3 +99,13 @@ missing_text (Some literal) = codes "missing: " ++ literal ++ codes "\n"
 -- the line that names it, or nothing
 abbrev pub missing_line : (before statement : Read) → List ℕ
 missing_line before statement = missing_text (missing before statement)
+
+-- ---- what is left of a statement
+
+-- its choices
+abbrev pub choices_in : Statement → List Token
+choices_in statement = choices_from statement.opened statement.last statement.left.now
+
+-- the cases that may still open can be counted
+abbrev pub HasRoom : Statement → Type 0
+HasRoom statement = statement.opened + length statement.left.now < 2 ^ 64

@@ -1,7 +1,7 @@
 -- Instances (IEEE 1076-2008, 11.7): which entity one is of, and which port it leaves open.
 use Rattle.std.specs.Prelude.{ℕ, ◌&&◌, ◌||◌, not, Bool, true, false, if◌then◌else◌, List, [], ◌∷◌, drop, Option, Some, None}
 use Rattle.std.specs.Str.{str_eq_ignore_ascii_case}
-use Rattle.rtlsim_forms.specs.Words.{text_of}
+use Rattle.rtlsim_tokens.specs.Words.{text_of}
 use Rattle.rtlsim_tokens.specs.Interfaces.{is_declared}
 use Rattle.rtlsim_tokens.specs.Parts.{begins, behind_last, from, has, up_to}
 use Rattle.vhdl_lexer.specs.declared.token.Token.{Token}
@@ -16,7 +16,7 @@ with_map tokens = if has k.Map tokens && not (has k.Semicolon tokens) then token
 
 -- the one that isn't ended before a byte: it stands behind the last colon
 abbrev pub open_instance : (before : List Token) → List Token
-open_instance before = with_map (behind_last k.Colon [] before)
+open_instance before = with_map (behind_last k.Colon before)
 
 -- the one behind a label and a colon
 abbrev pub labelled : List Token → List Token

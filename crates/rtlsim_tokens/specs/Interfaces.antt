@@ -1,11 +1,16 @@
 -- The entity of a name (IEEE 1076-2008, 3.2): its generics and its ports.
 use Rattle.std.specs.Prelude.{ℕ, ◌&&◌, ◌||◌, Bool, false, if◌then◌else◌, List, [], ◌∷◌, Option, Some, None}
 use Rattle.std.specs.Str.{str_eq_ignore_ascii_case}
-use Rattle.rtlsim_forms.specs.Words.{text_of}
+use Rattle.rtlsim_tokens.specs.Words.{text_of}
 use Rattle.rtlsim_tokens.specs.Parts.{from, up_to}
 use Rattle.vhdl_lexer.specs.declared.token.Token.{Token}
 use Rattle.vhdl_lexer.specs.declared.token.TokenKind.TheVariants as k
 use Rattle.vhdl_tree.specs.Lexeme.{same_kind}
+
+-- a source shows an architecture of this entity where the tokens begin with `architecture X of NAME` (3.3.1)
+abbrev pub entity_at : List Token → Option Token
+entity_at (first ∷ second ∷ third ∷ name ∷ ts) = if same_kind first.kind k.Architecture && same_kind third.kind k.Of then Some name else None
+entity_at _ = None
 
 -- these tokens begin with `entity NAME is`
 abbrev pub begins_entity : (text name : List ℕ) → List Token → Bool

@@ -1,8 +1,8 @@
 -- Names of a text, listed in order and as they are written: its entities, or the generics or ports of one.
 use Rattle.std.specs.Prelude.{ℕ, Bool, true, false, if◌then◌else◌, List, [], ◌∷◌, ◌++◌, codes, Option, Some, None}
-use Rattle.rtlsim_forms.specs.Words.{Read, text_of}
-use Rattle.rtlsim_tokens.specs.Entities.{entity_at}
-use Rattle.rtlsim_tokens.specs.Interfaces.{formal_at}
+use Rattle.rtl_sink.specs.Written.{SinkState, Goes}
+use Rattle.rtlsim_tokens.specs.Words.{Read, text_of}
+use Rattle.rtlsim_tokens.specs.Interfaces.{entity_at, formal_at}
 use Rattle.rtlsim_tokens.specs.declared.listing.Listing.{Listing}
 use Rattle.rtlsim_tokens.specs.declared.listing.Listing.TheVariants.{Entities, Generics, Ports}
 use Rattle.vhdl_lexer.specs.declared.token.Token.{Token}
@@ -55,3 +55,10 @@ names_listed listing text tokens = listed listing true (names_from listing text 
 -- a line with the names of the entities; none where there is none
 abbrev pub entities_line : Read → List ℕ
 entities_line read = names_listed Entities read.text read.tokens
+
+-- ---- names that are told one by one
+
+-- these names went out: whatever names follow, all of them go where the others go from here
+abbrev pub Tells : Listing → (names : List (List ℕ)) → (is_first : Bool) → (old : SinkState) → (still_first : Bool) → (new : SinkState) → Type 0
+Tells listing names is_first old still_first new =
+    (others : List (List ℕ)) (end : SinkState) → Goes new end (listed listing still_first others) → Goes old end (listed listing is_first (names ++ others))

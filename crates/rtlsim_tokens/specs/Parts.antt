@@ -30,14 +30,18 @@ up_to kind tokens = take (prefix_len (is_other kind) tokens) tokens
 abbrev pub from : TokenKind → List Token → List Token
 from kind tokens = drop (prefix_len (is_other kind) tokens) tokens
 
+-- what is found by each of some tokens, and what stands behind it, from what was found before
+abbrev pub found_by : {A : Type 0} → (step : A → Token → List Token → A) → (found : A) → List Token → A
+found_by step found [] = found
+found_by step found (t ∷ ts) = found_by step (step found t ts) ts
+
 -- what stands behind a token, where it is of this kind, or what was found before
 abbrev pub later : TokenKind → (found : List Token) → Token → (behind : List Token) → List Token
 later kind found t behind = if same_kind t.kind kind then behind else found
 
--- what stands behind the last of this kind, or what was found before
-abbrev pub behind_last : TokenKind → (found : List Token) → List Token → List Token
-behind_last kind found [] = found
-behind_last kind found (t ∷ ts) = behind_last kind (later kind found t ts) ts
+-- what stands behind the last of this kind; nothing without one
+abbrev pub behind_last : TokenKind → List Token → List Token
+behind_last kind tokens = found_by (later kind) [] tokens
 
 -- tokens without another `(` in them, or nothing
 abbrev pub without_another : List Token → List Token

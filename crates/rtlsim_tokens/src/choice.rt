@@ -5,12 +5,12 @@ ghost use Rattle.std.specs.List.{list_all};
 ghost use Rattle.rtl_sink.specs.Written.{Goes};
 ghost use Rattle.rtlsim_tokens.specs.Choices as spec;
 ghost use Rattle.rtlsim_tokens.specs.Parts.{first_of};
-ghost use Rattle.rtlsim_tokens.specs.Statements.{HasRoom, choices_in};
-ghost use Rattle.rtlsim_forms.specs.Words.{text_of, read_of};
+ghost use Rattle.rtlsim_tokens.specs.Choices.{HasRoom, choices_in};
+ghost use Rattle.rtlsim_tokens.specs.Words.{text_of, read_of};
 
 use crate::enumeration::{is_literal, type_of};
+use crate::lexed::{Lexed, is_same_kind, is_same_word, text_of};
 use rtl_sink::{Sink, push_text};
-use rtlsim_forms::{Lexed, is_same_kind, is_same_word, text_of};
 use vhdl_lexer::{Token, TokenKind};
 
 /// A statement from some token on.
@@ -75,7 +75,7 @@ fn missing<'a>(before: Lexed<'a>, statement: Lexed<'_>) -> Option<&'a [u8]>
 }
 
 /// Whether each choice of a statement of this text is one of these literals.
-#[tactic(auto, using(crate::proofs::Choices::all_here, crate::proofs::Choices::all_more))]
+#[tactic(auto, using(crate::proofs::Rest::all_here, crate::proofs::Rest::all_more))]
 fn are_literals(choices: Statement<'_>, text: &[u8], literals: Lexed<'_>) -> bool
     requires { HasRoom choices }
     ensures { result ≡ list_all
@@ -117,7 +117,7 @@ fn is_left_out(choices: Statement<'_>, text: &[u8], literals: &[u8], literal: To
 }
 
 /// Whether a word is one of the choices of a statement of this text.
-#[tactic(auto, using(crate::proofs::Choices::any_here, crate::proofs::Choices::any_more))]
+#[tactic(auto, using(crate::proofs::Rest::any_here, crate::proofs::Rest::any_more))]
 fn is_choice(choices: Statement<'_>, text: &[u8], word: &[u8]) -> bool
     requires { HasRoom choices }
     ensures { result ≡ spec.is_written text.now (choices_in choices.entry) word.now }

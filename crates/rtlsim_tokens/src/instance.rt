@@ -4,8 +4,8 @@ ghost use Rattle.std.specs.Prelude.{◌≡◌};
 ghost use Rattle.rtlsim_tokens.specs.Instances as spec;
 
 use crate::interface::is_declared;
+use crate::lexed::{is_same_kind, is_same_word, text_of};
 use crate::part::{begins, behind_last, from, has, past, up_to};
-use rtlsim_forms::{is_same_kind, is_same_word, text_of};
 use vhdl_lexer::{Token, TokenKind};
 
 /// The instance that isn't ended before a byte, these tokens standing before it; nothing where no map is open there.

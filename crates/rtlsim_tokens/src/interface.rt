@@ -3,8 +3,8 @@
 ghost use Rattle.std.specs.Prelude.{◌≡◌};
 ghost use Rattle.rtlsim_tokens.specs.Interfaces as spec;
 
+use crate::lexed::{is_same_kind, is_same_word, text_of};
 use crate::part::{from, up_to};
-use rtlsim_forms::{is_same_kind, is_same_word, text_of};
 use vhdl_lexer::{Token, TokenKind};
 
 /// What stands behind the word entity of the first entity of this name, up to its first `end`; nothing where there is none.

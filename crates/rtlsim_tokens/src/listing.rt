@@ -2,14 +2,13 @@
 
 ghost use Rattle.std.specs.Prelude.{◌≡◌, []};
 ghost use Rattle.rtl_sink.specs.Written.{Goes};
-ghost use Rattle.rtlsim_forms.specs.Words.{read_of};
-ghost use Rattle.rtlsim_tokens.specs.Entities as entities;
+ghost use Rattle.rtlsim_tokens.specs.Interfaces as interfaces;
 ghost use Rattle.rtlsim_tokens.specs.Listings as spec;
-ghost use Rattle.rtlsim_tokens.specs.Telling.{Tells};
+ghost use Rattle.rtlsim_tokens.specs.Listings.{Tells};
 
 use crate::interface::formal_at;
+use crate::lexed::{Lexed, is_same_kind, text_of};
 use rtl_sink::{Sink, push_text};
-use rtlsim_forms::{Lexed, is_same_kind, text_of};
 use vhdl_lexer::{Token, TokenKind};
 
 /// What is listed.
@@ -21,14 +20,6 @@ pub enum Listing {
     Generics,
     /// Its ports.
     Ports,
-}
-
-/// Writes a line with the names of the entities that a source with these tokens shows an architecture of, in order and as they are written;
-/// nothing where it shows none.
-pub fn push_entities<S: Sink>(words: Lexed<'_>, sink: &mut S)
-    ensures { Goes (S.state sink.old) (S.state sink.new) (spec.entities_line (read_of words.entry)) }
-{
-    push_names(Listing::Entities, words, sink);
 }
 
 /// Lists the names that stand in these tokens, in order.
@@ -78,7 +69,7 @@ fn name_at(listing: Listing, tokens: &[Token]) -> Option<Token>
 
 /// The name of the entity whose architecture the tokens begin with: `architecture X of NAME`.
 fn entity_at(tokens: &[Token]) -> Option<Token>
-    ensures { result ≡ entities.entity_at tokens.now }
+    ensures { result ≡ interfaces.entity_at tokens.now }
 {
     match tokens {
         [first, _, third, name, ..] => {

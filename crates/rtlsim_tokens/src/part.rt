@@ -1,10 +1,10 @@
 //! Parts of the tokens of a text.
 
-ghost use Rattle.std.specs.Prelude.{◌≡◌, ◌≤◌, [], drop, length};
+ghost use Rattle.std.specs.Prelude.{◌≡◌, ◌≤◌, drop, length};
 ghost use Rattle.std.specs.List.{prefix_len};
 ghost use Rattle.rtlsim_tokens.specs.Parts as spec;
 
-use rtlsim_forms::is_same_kind;
+use crate::lexed::is_same_kind;
 use vhdl_lexer::{Token, TokenKind};
 
 /// Whether one of the tokens is of this kind.
@@ -75,7 +75,7 @@ fn len_before(kind: TokenKind, tokens: &[Token]) -> usize
 
 /// What stands behind the last of a kind; nothing without one.
 pub fn behind_last(kind: TokenKind, tokens: &[Token]) -> &[Token]
-    ensures { result.now ≡ spec.behind_last kind [] tokens.now }
+    ensures { result.now ≡ spec.behind_last kind tokens.now }
 {
     let mut found: &[Token] = &[];
     let mut left = tokens;

@@ -12,3 +12,4 @@ pub mod Declarations
 pub mod Expansion
 pub mod views
 pub mod laws
+pub mod BrokenRules

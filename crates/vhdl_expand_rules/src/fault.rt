@@ -1,13 +1,15 @@
 //! Why a design is not elaborated.
 
 ghost use Rattle.std.specs.Prelude.{◌≡◌};
+ghost use Rattle.vhdl_expand_rules.specs.BrokenRules.{rule_of};
 ghost use Rattle.vhdl_expand_rules.specs.declared.fault.ElabFault.TheVariants.{NoMemory};
 
+use rtl_report::ElabRule;
 use std::alloc::{AllocError, AllocFailed};
-use std::fmt;
+use thiserror::Error;
 
 /// What is wrong with a design (IEEE 1076-2008, clause 14). They are numbered from 1 in this order.
-#[derive(Clone, Copy)]
+#[derive(Clone, Copy, Debug)]
 pub enum ElabProblem {
     /// No entity of that name, or no architecture for it or for an instance (14.2).
     NoTop,
@@ -38,11 +40,13 @@ pub enum ElabProblem {
 }
 
 /// Why a design is not elaborated. `at` is a byte of the source, counted from 0.
-#[derive(Clone, Copy)]
+#[derive(Clone, Copy, Debug, Error)]
 pub enum ElabFault {
     /// This is wrong with what stands here.
+    #[error("{rule}, at byte {at}", rule = .problem.rule().words())]
     At { problem: ElabProblem, at: usize },
     /// Memory was refused.
+    #[error("out of memory")]
     NoMemory,
 }
 
@@ -54,40 +58,23 @@ impl ElabProblem {
         ElabFault::At { problem: self, at }
     }
 
-    /// What is wrong, in words.
-    fn text(self) -> &'static str {
+    /// The rule that it breaks.
+    pub fn rule(self) -> ElabRule
+        ensures { result ≡ rule_of self }
+    {
         match self {
-            ElabProblem::NoTop => "no such entity with an architecture",
-            ElabProblem::NoGeneric => "a generic without a value",
-            ElabProblem::GenericRange => "a value outside its type",
-            ElabProblem::StaticError => "a static expression without a value",
-            ElabProblem::Length { .. } => "lengths differ",
-            ElabProblem::Index => "no element there",
-            ElabProblem::TooWide => "more than 64 elements",
-            ElabProblem::Unassociated => "an in port without an actual",
-            ElabProblem::TwoUnresolved => "an unresolved signal has two sources",
-            ElabProblem::ReadOfShared => "an out port with several sources is read",
-            ElabProblem::TooDeep => "instances nested too deep",
-            ElabProblem::TooMany => "too many parts",
-        }
-    }
-}
-
-impl fmt::Display for ElabProblem {
-    fn fmt<W: fmt::Write>(&self, f: &mut fmt::Formatter<W>) -> fmt::Result {
-        f.write_str(self.text())?;
-        match *self {
-            ElabProblem::Length { found, needed } => write!(f, ": {found} and {needed}"),
-            _ => Ok(()),
-        }
-    }
-}
-
-impl fmt::Display for ElabFault {
-    fn fmt<W: fmt::Write>(&self, f: &mut fmt::Formatter<W>) -> fmt::Result {
-        match *self {
-            ElabFault::At { problem, at } => write!(f, "{problem}, at byte {at}"),
-            ElabFault::NoMemory => f.write_str("out of memory"),
+            ElabProblem::NoTop => ElabRule::NoTop,
+            ElabProblem::NoGeneric => ElabRule::NoGeneric,
+            ElabProblem::GenericRange => ElabRule::GenericRange,
+            ElabProblem::StaticError => ElabRule::StaticError,
+            ElabProblem::Length { .. } => ElabRule::Length,
+            ElabProblem::Index => ElabRule::Index,
+            ElabProblem::TooWide => ElabRule::TooWide,
+            ElabProblem::Unassociated => ElabRule::Unassociated,
+            ElabProblem::TwoUnresolved => ElabRule::TwoUnresolved,
+            ElabProblem::ReadOfShared => ElabRule::ReadOfShared,
+            ElabProblem::TooDeep => ElabRule::TooDeep,
+            ElabProblem::TooMany => ElabRule::TooMany,
         }
     }
 }

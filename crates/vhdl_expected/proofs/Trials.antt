@@ -1,6 +1,7 @@
 -- What is found among trials that follow one another.
-use Rattle.std.proofs.Common.{◌≡◌, ℕ, zero, suc, ◌-◌, ◌<◌, true, false, List, [], ◌∷◌, ◌++◌, inl, inr, ⊎_elim, Option, Some, None, is_some, option_map, drop, sym, subst, arith, true≢false}
+use Rattle.std.proofs.Common.{◌≡◌, ℕ, zero, suc, ◌-◌, ◌<◌, ◌≤◌, length, map, flat_map, slice_index_or, true, false, List, [], ◌∷◌, ◌++◌, inl, inr, ⊎_elim, Option, Some, None, is_some, option_map, drop, sym, subst, arith, true≢false}
 use Rattle.std.proofs.lemmas.Option.{none-some}
+use Rattle.vhdl_lexer.proofs.Walks.{rest, rest_is}
 use Rattle.vhdl_expected.specs.Changes.{Said}
 use Rattle.vhdl_expected.specs.Reading.{Reading}
 use Rattle.vhdl_expected.specs.Told.{Finds, Trial, respelt_first, respelt_back}
@@ -25,6 +26,21 @@ module _ (r : Reading) where
       → Finds r ts (option_map f found) → Finds r us said → Finds r (ts ++ us) said
   none_first f None ts us said not_so h more = go_on ts us said h more
   none_first f (Some x) ts us said not_so h more = absurd (true≢false not_so)
+
+  -- ---- one table more
+
+  pub some_among : {A B C : Type 0} (g : A → Said) (found : Option A) (f : B → List Trial) (k : C → B) (d : C) (xs : List C) → 1 ≤ length xs → is_some found ≡ true
+      → Finds r (f (k (slice_index_or xs 0 d))) (option_map g found) → Finds r (flat_map f (map k xs)) (option_map g found)
+  some_among g found f k d [] some so h = absurd (omega (arith, some))
+  some_among g found f k d (x ∷ xs) some so h = some_first g found (f (k x)) (flat_map f (map k xs)) so h
+
+  pub none_among : {A B C : Type 0} (g : A → Said) (found : Option A) (f : B → List Trial) (k : C → B) (d : C) (xs : List C) (said : Option Said) → 1 ≤ length xs
+      → is_some found ≡ false → Finds r (f (k (slice_index_or xs 0 d))) (option_map g found) → Finds r (flat_map f (map k (rest xs))) said
+      → Finds r (flat_map f (map k xs)) said
+  none_among g found f k d [] said some not_so h more = absurd (omega (arith, some))
+  none_among {C = C} g found f k d (x ∷ xs) said some not_so h more =
+      none_first g found (f (k x)) (flat_map f (map k xs)) said not_so h
+      (subst (λ (ys : List C). Finds r (flat_map f (map k ys)) said) (rest_is x xs) more)
 
   -- ---- one place more
 

@@ -1,18 +1,14 @@
 -- One step of a walk over letters or tokens.
-use Rattle.std.proofs.Common.{◌≡◌, ℕ, suc, ◌+◌, ◌-◌, ◌≤◌, ◌<◌, Bool, true, false, if◌then◌else◌, List, [], ◌∷◌, length, take, drop, slice_index_or, min, flat_map, refl, sym, ap, ◌∙◌, arith}
+use Rattle.std.proofs.Common.{◌≡◌, ℕ, suc, ◌+◌, ◌≤◌, ◌<◌, ◌&&◌, Bool, true, false, if◌then◌else◌, List, [], ◌∷◌, length, take, slice_index_or, min, flat_map, refl, sym, ap, ◌∙◌, arith}
 use Rattle.std.specs.List.{prefix_len}
-use Rattle.std.proofs.lemmas.List.{take_all, take_min}
+use Rattle.std.proofs.lemmas.List.{take_min}
+use Rattle.vhdl_lexer.proofs.Walks.{rest, rest_is}
 use Rattle.vhdl_expected.specs.Near.{is_same_letter, is_off, is_near_from}
 use Rattle.vhdl_expected.specs.Reading.{Reading, begins_unit, goes_on, statement, unit_from}
-use Rattle.vhdl_expected.specs.Told.{is_identifier, respelt_as, respelt_first, words}
+use Rattle.vhdl_expected.specs.Told.{is_identifier, respelt_first, respelt_in, stand, words}
+use Rattle.vhdl_tree.specs.Lexeme.{same_kind}
 use Rattle.vhdl_lexer.specs.declared.token.Token.{Token}
 use Rattle.vhdl_lexer.specs.declared.token.TokenKind.{TokenKind}
-
-abbrev pub rest : {A : Type 0} → List A → List A
-rest xs = take (length xs - 1) (drop 1 xs)
-
-pub rest_is : {A : Type 0} (x : A) (xs : List A) → rest (x ∷ xs) ≡ xs
-rest_is x xs = take_all (length (x ∷ xs) - 1) xs (omega arith)
 
 -- ---- letters
 
@@ -56,6 +52,32 @@ statement_is n (t ∷ ts) some is =
     ∙ ap (λ (m : ℕ). take m (t ∷ ts)) more
     ∙ ap (λ (m : ℕ). t ∷ take (m + 1) ts) (is ∙ ap (prefix_len goes_on) (rest_is t ts))
 
+-- ---- kinds that stand there
+
+pub kinds_end : (kinds : List TokenKind) (ts : List Token) → length kinds < 1 → true ≡ stand kinds ts
+kinds_end [] ts none = refl
+kinds_end (kind ∷ kinds) ts none = absurd (omega (arith, none))
+
+pub tokens_end : (kinds : List TokenKind) (ts : List Token) → 1 ≤ length kinds → length ts < 1 → false ≡ stand kinds ts
+tokens_end [] ts some none = absurd (omega (arith, some))
+tokens_end (kind ∷ kinds) [] some none = refl
+tokens_end (kind ∷ kinds) (t ∷ ts) some none = absurd (omega (arith, none))
+
+pub kinds_differ : (k : TokenKind) (d : Token) (kinds : List TokenKind) (ts : List Token) → 1 ≤ length kinds → 1 ≤ length ts
+    → same_kind (slice_index_or ts 0 d).kind (slice_index_or kinds 0 k) ≡ false → false ≡ stand kinds ts
+kinds_differ k d [] ts some more not_so = absurd (omega (arith, some))
+kinds_differ k d (kind ∷ kinds) [] some more not_so = absurd (omega (arith, more))
+kinds_differ k d (kind ∷ kinds) (t ∷ ts) some more not_so = ap (λ (same : Bool). same && stand kinds ts) (sym not_so)
+
+pub kinds_agree : (k : TokenKind) (d : Token) (kinds : List TokenKind) (ts : List Token) → 1 ≤ length kinds → 1 ≤ length ts
+    → same_kind (slice_index_or ts 0 d).kind (slice_index_or kinds 0 k) ≡ true → stand (rest kinds) (rest ts) ≡ stand kinds ts
+kinds_agree k d [] ts some more so = absurd (omega (arith, some))
+kinds_agree k d (kind ∷ kinds) [] some more so = absurd (omega (arith, more))
+kinds_agree k d (kind ∷ kinds) (t ∷ ts) some more so =
+    ap (λ (ks : List TokenKind). stand ks (rest (t ∷ ts))) (rest_is kind kinds)
+    ∙ ap (stand kinds) (rest_is t ts)
+    ∙ ap (λ (same : Bool). same && stand kinds ts) (sym so)
+
 -- ---- the first of some tokens
 
 module _ (r : Reading) (place : ℕ) (ts : List Token) where
@@ -71,13 +93,13 @@ module _ (r : Reading) (place : ℕ) (ts : List Token) where
     where
       by_tokens : (us : List Token) → 1 ≤ length us → is_identifier (slice_index_or us 0 d).kind ≡ false → respelt_first r place us ≡ []
       by_tokens [] few n = absurd (omega (arith, few))
-      by_tokens (u ∷ us) few n = ap (λ (b : Bool). if b then flat_map (respelt_as r place u) words else []) n
+      by_tokens (u ∷ us) few n = ap (λ (b : Bool). if b then flat_map (respelt_in r place u) words else []) n
 
   pub identifier : (d : Token) → 1 ≤ length ts → is_identifier (slice_index_or ts 0 d).kind ≡ true
-      → respelt_first r place ts ≡ flat_map (respelt_as r place (slice_index_or ts 0 d)) words
+      → respelt_first r place ts ≡ flat_map (respelt_in r place (slice_index_or ts 0 d)) words
   identifier d some so = by_tokens ts some so
     where
       by_tokens : (us : List Token) → 1 ≤ length us → is_identifier (slice_index_or us 0 d).kind ≡ true
-          → respelt_first r place us ≡ flat_map (respelt_as r place (slice_index_or us 0 d)) words
+          → respelt_first r place us ≡ flat_map (respelt_in r place (slice_index_or us 0 d)) words
       by_tokens [] few n = absurd (omega (arith, few))
-      by_tokens (u ∷ us) few n = ap (λ (b : Bool). if b then flat_map (respelt_as r place u) words else []) n
+      by_tokens (u ∷ us) few n = ap (λ (b : Bool). if b then flat_map (respelt_in r place u) words else []) n

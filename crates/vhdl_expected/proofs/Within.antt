@@ -55,13 +55,9 @@ module _ (source : List ℕ) where
   within_kinds t [] w = tt
   within_kinds t (kind ∷ kinds) w = (w.0, w.1, within_kinds t kinds w)
 
-  kept : (keeps : Bool) (t : Token) (ts : List Token) → AreWithin source (t ∷ ts) → AreWithin source (if keeps then t ∷ ts else ts)
-  kept true t ts w = w
-  kept false t ts w = w.2
-
   within_first : (c : Change) (ts : List Token) → AreWithin source ts → AreWithin source (change_first c ts)
   within_first c [] w = tt
-  within_first c (t ∷ ts) w = within_append (map (with_kind t) c.put) _ (within_kinds t c.put (w.0, w.1)) (kept c.keeps t ts w)
+  within_first c (t ∷ ts) w = within_append (map (with_kind t) c.put) _ (within_kinds t c.put (w.0, w.1)) (within_drop c.taken (t ∷ ts) w)
 
   pub within_changed : (place : ℕ) (c : Change) (ts : List Token) → AreWithin source ts → AreWithin source (changed place c ts)
   within_changed place c ts w = within_append (take place ts) (change_first c (drop place ts)) (within_take place ts w) (within_first c (drop place ts) (within_drop place ts w))

@@ -1,5 +1,5 @@
--- Changes of one token of a text, and when the text then goes on.
-use Rattle.std.specs.Prelude.{ℕ, Bool, if◌then◌else◌, List, [], ◌∷◌, ◌++◌, ◌⊎◌, map, take, drop}
+-- Changes of a text at one of its tokens, and when the text then goes on.
+use Rattle.std.specs.Prelude.{ℕ, List, [], ◌∷◌, ◌++◌, ◌⊎◌, map, take, drop}
 use Rattle.std.specs.Borrow.{Bor}
 use Rattle.vhdl_lexer.specs.declared.token.Token.{Token}
 use Rattle.vhdl_lexer.specs.declared.token.TokenKind.{TokenKind}
@@ -11,14 +11,14 @@ use Rattle.vhdl_tree.specs.Lexeme.{lexemes}
 abbrev pub Said : Type 0
 Said = List ℕ × List ℕ
 
--- of a token: what is put before it, and whether it stays; and what is told where the text then goes on
+-- of a token: what is put before it, and how many are taken away from it on; and what is told where the text then goes on
 pub record Change : Type 0 where
   pub put : List TokenKind
-  pub keeps : Bool
+  pub taken : ℕ
   pub said : Said
 
-abbrev pub change : (put : List TokenKind) → (keeps : Bool) → Said → Change
-change put keeps said = record { put = put; keeps = keeps; said = said }
+abbrev pub change : (put : List TokenKind) → (taken : ℕ) → Said → Change
+change put taken said = record { put = put; taken = taken; said = said }
 
 -- ---- the same in the code
 
@@ -28,11 +28,11 @@ Texts = Bor (List ℕ) × Bor (List ℕ)
 abbrev pub said_of : Texts → Said
 said_of texts = (texts.0.now, texts.1.now)
 
-abbrev pub Row : Type 0
-Row = Bor (List TokenKind) × Bool × Texts
+abbrev pub Changed : Type 0
+Changed = Bor (List TokenKind) × ℕ × Texts
 
-abbrev pub change_of : Row → Change
-change_of row = change row.0.now row.1 (said_of row.2)
+abbrev pub change_of : Changed → Change
+change_of c = change c.0.now c.1 (said_of c.2)
 
 -- ---- a text that is changed
 
@@ -42,9 +42,9 @@ with_kind t kind = record t { kind = kind }
 
 abbrev pub change_first : Change → List Token → List Token
 change_first c [] = []
-change_first c (t ∷ ts) = map (with_kind t) c.put ++ (if c.keeps then t ∷ ts else ts)
+change_first c (t ∷ ts) = map (with_kind t) c.put ++ drop c.taken (t ∷ ts)
 
--- the text with a change of the token at this place
+-- the text with a change at this place
 abbrev pub changed : (place : ℕ) → Change → List Token → List Token
 changed place c tokens = take place tokens ++ change_first c (drop place tokens)
 

@@ -6,14 +6,16 @@ use Rattle.vhdl_lexer.specs.declared.token.TokenKind.{TokenKind}
 use Rattle.vhdl_lexer.specs.declared.token.TokenKind.TheVariants as k
 use Rattle.vhdl_parser.specs.declared.fault.SyntaxFault.{SyntaxFault}
 use Rattle.vhdl_parser.specs.declared.fault.SyntaxFault.TheVariants as fault
-use Rattle.vhdl_expected.specs.Changes.{Said, Change, change, changed, GoesOn, Breaks}
+use Rattle.vhdl_tree.specs.Lexeme.{same_kind}
+use Rattle.vhdl_expected.specs.Changes.{Said, Change, Texts, change, changed, said_of, GoesOn, Breaks}
 use Rattle.vhdl_expected.specs.Near.{is_near}
 use Rattle.vhdl_expected.specs.Reading.{Reading, before, from}
 use Rattle.vhdl_expected.specs.declared.telling.Expected as code
 use Rattle.vhdl_expected.specs.declared.telling.Expected.TheVariants as variant
 use Rattle.vhdl_expected.specs.declared.reading.TheConstants.{MOST_TOKENS}
 use Rattle.vhdl_expected.specs.declared.respelling.TheConstants.{MOST_PLACES}
-use Rattle.vhdl_expected.specs.declared.table.TheConstants.{BEFORE, HERE, MISSING, OTHERWISE, WORDS}
+use Rattle.vhdl_expected.specs.declared.table.TheConstants.{OTHERWISE, SLIPS, ENDED, JOINTS, DECLARED, HEADS, CLOSED, PLACES}
+use Rattle.vhdl_expected.specs.declared.word.TheConstants.{EARLY, LATE, JOINED}
 
 pub data Expected : Type 0 where
   nothing : Expected
@@ -59,29 +61,44 @@ Answers r t false = Breaks r.source (tried r t)
 
 -- ---- words that are meant by others
 
--- a word of the grammar: how it is spelled, the tokens that it is, and what is told where it is meant by the refused token or by one before
+-- a word: how it is spelled; the tokens that stand for it, and in place of how many; and what is told where it is meant by the refused token,
+-- or by one before
 pub record Word : Type 0 where
   pub spelled : List ℕ
   pub kinds : List TokenKind
-  pub here : List ℕ
-  pub before : List ℕ
+  pub taken : ℕ
+  pub here : Said
+  pub before : Said
 
-abbrev pub word : (spelled : List ℕ) → (kinds : List TokenKind) → (here before : List ℕ) → Word
-word spelled kinds here before = record { spelled = spelled; kinds = kinds; here = here; before = before }
+abbrev pub word : (spelled : List ℕ) → (kinds : List TokenKind) → (taken : ℕ) → (here before : Said) → Word
+word spelled kinds taken here before = record { spelled = spelled; kinds = kinds; taken = taken; here = here; before = before }
 
--- a row of the code
-abbrev pub Row : Type 0
-Row = Bor (List ℕ) × Bor (List TokenKind) × Bor (List ℕ) × Bor (List ℕ)
+-- a word of the code
+abbrev pub CodeWord : Type 0
+CodeWord = Bor (List ℕ) × Bor (List TokenKind) × ℕ × Texts × Texts
 
-abbrev pub word_of : Row → Word
-word_of row = word row.0.now row.1.now row.2.now row.3.now
+abbrev pub word_of : CodeWord → Word
+word_of w = word w.0.now w.1.now w.2 (said_of w.3) (said_of w.4)
 
-unfoldable pub words : List Word
-words = map (λ row. word row.0.now row.1.now row.2.now row.3.now) WORDS
+-- a table of the code
+abbrev pub words_of : Bor (List CodeWord) → List Word
+words_of table = map word_of table.now
+
+unfoldable pub early : List Word
+early = map (λ w. word w.0.now w.1.now w.2 (w.3.0.now, w.3.1.now) (w.4.0.now, w.4.1.now)) EARLY
+
+unfoldable pub late : List Word
+late = map (λ w. word w.0.now w.1.now w.2 (w.3.0.now, w.3.1.now) (w.4.0.now, w.4.1.now)) LATE
+
+unfoldable pub joined : List Word
+joined = map (λ w. word w.0.now w.1.now w.2 (w.3.0.now, w.3.1.now) (w.4.0.now, w.4.1.now)) JOINED
+
+abbrev pub words : List (List Word)
+words = early ∷ late ∷ joined ∷ []
 
 -- the word in place of the refused token, or of another
 abbrev pub in_place : (is_refused : Bool) → Word → Change
-in_place is_refused w = change w.kinds false (if is_refused then (w.here, HERE.now) else (w.before, BEFORE.now))
+in_place is_refused w = change w.kinds w.taken (if is_refused then w.here else w.before)
 
 abbrev pub is_identifier : TokenKind → Bool
 is_identifier k.Identifier = true
@@ -94,9 +111,12 @@ is_meant source t w = is_near (slice_range source t.start t.end) w.spelled
 abbrev pub respelt_as : Reading → (place : ℕ) → Token → Word → List Trial
 respelt_as r place t w = if is_meant r.source t w then at place (in_place (place == r.refused) w) ∷ [] else []
 
+abbrev pub respelt_in : Reading → (place : ℕ) → Token → List Word → List Trial
+respelt_in r place t ws = flat_map (respelt_as r place t) ws
+
 abbrev pub respelt_first : Reading → (place : ℕ) → List Token → List Trial
 respelt_first r place [] = []
-respelt_first r place (t ∷ ts) = if is_identifier t.kind then flat_map (respelt_as r place t) words else []
+respelt_first r place (t ∷ ts) = if is_identifier t.kind then flat_map (respelt_in r place t) words else []
 
 -- each word that may be meant at this place, and then at so many places before it
 abbrev pub respelt_back : Reading → (places place : ℕ) → List Trial
@@ -106,13 +126,77 @@ respelt_back r (suc places) place = respelt_first r place (drop place r.tokens) 
 abbrev pub respelt : Reading → List Trial
 respelt r = respelt_back r (min MOST_PLACES (r.refused + 1)) r.refused
 
+-- ---- changes where certain tokens stand
+
+-- a row: how far before the refused token, the kinds of tokens that have to stand there, and the change
+pub record Row : Type 0 where
+  pub back : ℕ
+  pub kinds : List TokenKind
+  pub change : Change
+
+abbrev pub row : (back : ℕ) → (kinds put : List TokenKind) → (taken : ℕ) → Said → Row
+row back kinds put taken said = record { back = back; kinds = kinds; change = change put taken said }
+
+-- a row of the code
+abbrev pub CodeRow : Type 0
+CodeRow = ℕ × Bor (List TokenKind) × Bor (List TokenKind) × ℕ × Texts
+
+abbrev pub row_of : CodeRow → Row
+row_of r = row r.0 r.1.now r.2.now r.3 (said_of r.4)
+
+-- a table of the code
+abbrev pub rows_of : Bor (List CodeRow) → List Row
+rows_of table = map row_of table.now
+
+-- tokens of these kinds stand first
+abbrev pub stand : List TokenKind → List Token → Bool
+stand [] ts = true
+stand (kind ∷ kinds) [] = false
+stand (kind ∷ kinds) (t ∷ ts) = same_kind t.kind kind && stand kinds ts
+
+abbrev pub tried_at : Reading → (place : ℕ) → Row → List Trial
+tried_at r place row = if stand row.kinds (drop place r.tokens) then at place row.change ∷ [] else []
+
+abbrev pub tried_as : Reading → Row → List Trial
+tried_as r row = tried_at r (r.refused - row.back) row
+
+abbrev pub tried_in : Reading → List Row → List Trial
+tried_in r rows = flat_map (tried_as r) rows
+
 -- ---- in which order
 
-unfoldable pub missing : Reading → List Trial
-missing r = map (at r.refused) (map (λ row. change row.0.now row.1 (row.2.0.now, row.2.1.now)) MISSING)
+unfoldable pub slips : List Row
+slips = map (λ c. row c.0 c.1.now c.2.now c.3 (c.4.0.now, c.4.1.now)) SLIPS
 
-unfoldable pub otherwise : Reading → List Trial
-otherwise r = map (at r.refused) (map (λ row. change row.0.now row.1 (row.2.0.now, row.2.1.now)) OTHERWISE)
+unfoldable pub ended : List Row
+ended = map (λ c. row c.0 c.1.now c.2.now c.3 (c.4.0.now, c.4.1.now)) ENDED
+
+unfoldable pub joints : List Row
+joints = map (λ c. row c.0 c.1.now c.2.now c.3 (c.4.0.now, c.4.1.now)) JOINTS
+
+unfoldable pub declared : List Row
+declared = map (λ c. row c.0 c.1.now c.2.now c.3 (c.4.0.now, c.4.1.now)) DECLARED
+
+unfoldable pub heads : List Row
+heads = map (λ c. row c.0 c.1.now c.2.now c.3 (c.4.0.now, c.4.1.now)) HEADS
+
+unfoldable pub closed : List Row
+closed = map (λ c. row c.0 c.1.now c.2.now c.3 (c.4.0.now, c.4.1.now)) CLOSED
+
+unfoldable pub places : List Row
+places = map (λ c. row c.0 c.1.now c.2.now c.3 (c.4.0.now, c.4.1.now)) PLACES
+
+unfoldable pub other_rows : List Row
+other_rows = map (λ c. row c.0 c.1.now c.2.now c.3 (c.4.0.now, c.4.1.now)) OTHERWISE
+
+abbrev pub missing_tables : List (List Row)
+missing_tables = slips ∷ ended ∷ joints ∷ declared ∷ heads ∷ closed ∷ places ∷ []
+
+abbrev pub missing : Reading → List Trial
+missing r = flat_map (tried_in r) missing_tables
+
+abbrev pub otherwise : Reading → List Trial
+otherwise r = tried_in r other_rows
 
 abbrev pub perhaps_said : Option Said → Expected
 perhaps_said None = nothing

@@ -1,13 +1,13 @@
-//! Changes of one token of a text.
+//! Changes of a text at one of its tokens.
 
-ghost use Rattle.std.specs.Prelude.{◌≡◌, ◌≤◌, ◌++◌, IfOk, OnOk, length, map};
+ghost use Rattle.std.specs.Prelude.{◌≡◌, ◌≤◌, ◌++◌, drop, IfOk, OnOk, length, map};
 ghost use Rattle.vhdl_expected.specs.Changes as spec;
 
 use crate::table::Change;
 use std::alloc::{AllocError, Global};
 use vhdl_lexer::{Token, TokenKind};
 
-/// The tokens with a change of the one at a place.
+/// The tokens with a change at a place.
 pub(crate) fn changed(
     alloc: Global,
     tokens: &[Token],
@@ -19,12 +19,12 @@ pub(crate) fn changed(
 {
     let (before, from) = tokens.split_at(place);
     let mut new = Vec::from_slice(alloc, before)?;
-    let [token, behind @ ..] = from else {
+    let [token, ..] = from else {
         return Ok(new);
     };
-    let (put, keeps, _) = change;
+    let (put, taken, _) = change;
     push_kinds(&mut new, *token, put)?;
-    new.extend_from_slice(if keeps { from } else { behind })?;
+    new.extend_from_slice(behind(from, taken))?;
     Ok(new)
 }
 
@@ -39,4 +39,15 @@ fn push_kinds(tokens: &mut Vec<Token>, token: Token, kinds: &[TokenKind]) -> Res
         })?;
     }
     Ok(())
+}
+
+/// What stands behind so many.
+pub(crate) fn behind<T>(items: &[T], count: usize) -> &[T]
+    ensures { result.now ≡ drop count items.now }
+{
+    if count <= items.len() {
+        &items[count..]
+    } else {
+        &[]
+    }
 }

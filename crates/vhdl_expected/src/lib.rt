@@ -3,7 +3,7 @@
 //!
 //! `specs/Reading.antt` says which tokens are looked at, `specs/Changes.antt` how they are changed and when they then go on, and
 //! `specs/Told.antt` in which order that is tried and what is told. `specs/Near.antt` says which words are nearly the same. The words and
-//! the changes stand in `table`, with what is told of each.
+//! the changes stand in `word` and `table`, with what is told of each.
 #![tactic(auto)]
 
 mod change;
@@ -12,8 +12,10 @@ mod reading;
 mod respelling;
 mod table;
 mod telling;
+mod texts;
 mod trial;
+mod word;
 
 pub use reading::MOST_TOKENS;
-pub use table::Said;
 pub use telling::{Expected, expected_at};
+pub use texts::Said;

@@ -1,7 +1,9 @@
 //! Words that are nearly the same.
 
-ghost use Rattle.std.specs.Prelude.{◌≡◌, drop};
+ghost use Rattle.std.specs.Prelude.{◌≡◌};
 ghost use Rattle.vhdl_expected.specs.Near as spec;
+
+use crate::change::behind;
 
 /// From this length on a word may differ in two letters.
 pub(crate) const LONG: usize = 6;
@@ -82,15 +84,4 @@ fn is_alike(text: &[u8], skipped: usize, word: &[u8], left_out: usize) -> bool
     ensures { result ≡ spec.is_alike skipped left_out text.now word.now }
 {
     behind(text, skipped).eq_ignore_ascii_case(behind(word, left_out))
-}
-
-/// What stands behind so many letters.
-fn behind(text: &[u8], count: usize) -> &[u8]
-    ensures { result.now ≡ drop count text.now }
-{
-    if count <= text.len() {
-        &text[count..]
-    } else {
-        &[]
-    }
 }

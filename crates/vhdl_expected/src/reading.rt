@@ -2,11 +2,10 @@
 
 ghost use Rattle.std.specs.Prelude.{◌≡◌, ◌≤◌, ◌++◌, if◌then◌else◌, length, IfOk};
 ghost use Rattle.std.specs.List.{prefix_len};
-ghost use Rattle.vhdl_lexer.specs.Kinds.{is_semicolon};
 ghost use Rattle.vhdl_expected.specs.Reading as spec;
 
 use std::alloc::{AllocError, Global};
-use vhdl_lexer::{Token, TokenKind};
+use vhdl_lexer::{Token, TokenKind, is_semicolon};
 
 /// Of a token in a longer text nothing is told: each trial reads the text once more.
 pub const MOST_TOKENS: usize = 4_096;
@@ -78,7 +77,7 @@ fn chosen<'a>(begins: bool, left: &'a [Token], unit: &'a [Token]) -> &'a [Token]
 fn begins_unit(last: TokenKind, kind: TokenKind) -> bool
     ensures { result ≡ spec.begins_unit last kind }
 {
-    ends(last) && is_head(kind)
+    is_semicolon(last) && is_head(kind)
 }
 
 fn is_head(kind: TokenKind) -> bool
@@ -88,13 +87,6 @@ fn is_head(kind: TokenKind) -> bool
         kind,
         TokenKind::Library | TokenKind::Use | TokenKind::Entity | TokenKind::Architecture
     )
-}
-
-/// `;`
-fn ends(kind: TokenKind) -> bool
-    ensures { result ≡ is_semicolon kind }
-{
-    matches!(kind, TokenKind::Semicolon)
 }
 
 /// The first token, and those behind it up to the first `;`.
@@ -113,5 +105,8 @@ fn count_ahead(tokens: &[Token]) -> usize
     ensures value { result ≡ prefix_len spec.goes_on tokens.now }
     ensures within { result ≤ length tokens.now }
 {
-    tokens.iter().take_while(|token| !ends(token.kind)).count()
+    tokens
+        .iter()
+        .take_while(|token| !is_semicolon(token.kind))
+        .count()
 }

@@ -7,8 +7,10 @@ ghost use Rattle.vhdl_expected.specs.Told as spec;
 
 use crate::near::is_near;
 use crate::reading::Reading;
-use crate::table::{BEFORE, Change, HERE, Said, WORDS, Word};
+use crate::table::Change;
+use crate::texts::Said;
 use crate::trial::goes_on_with;
+use crate::word::{Word, words};
 use std::alloc::{AllocError, Global};
 use vhdl_lexer::{Token, TokenKind};
 
@@ -52,7 +54,6 @@ fn respelt_at(alloc: Global, reading: Reading<'_>, place: usize) -> Result<Optio
 }
 
 /// The same of the identifier that stands there.
-#[tactic(auto, unfolding(crate::specs::Told::words))]
 fn respelt_token(
     alloc: Global,
     reading: Reading<'_>,
@@ -63,13 +64,39 @@ fn respelt_token(
     requires place { place ≤ length reading.tokens.now }
     requires token { IsPart reading.source.now token }
     ensures { IfOk result (λ said. spec.Finds (reading_of reading.entry)
-        (flat_map (spec.respelt_as (reading_of reading.entry) place token) spec.words) (option_map said_of said)) }
+        (flat_map (spec.respelt_in (reading_of reading.entry) place token) spec.words) (option_map said_of said)) }
 {
-    respelt_among(alloc, reading, place, token, &WORDS)
+    respelt_among(alloc, reading, place, token, &words())
 }
 
-/// What is said of the first of these words that is meant by the token and with which the text goes on.
+/// What is said of the first word of these tables that is meant by the token and with which the text goes on.
 fn respelt_among(
+    alloc: Global,
+    reading: Reading<'_>,
+    place: usize,
+    token: Token,
+    tables: &[&[Word]],
+) -> Result<Option<Said>, AllocError>
+    requires within { IsWithin reading }
+    requires place { place ≤ length reading.tokens.now }
+    requires token { IsPart reading.source.now token }
+    ensures { IfOk result (λ said. spec.Finds (reading_of reading.entry)
+        (flat_map (spec.respelt_in (reading_of reading.entry) place token) (map spec.words_of tables.now))
+        (option_map said_of said)) }
+{
+    let mut left = tables;
+    while let [words, rest @ ..] = left {
+        let said = respelt_in(alloc, reading, place, token, words)?;
+        if said.is_some() {
+            return Ok(said);
+        }
+        left = rest;
+    }
+    Ok(None)
+}
+
+/// The same of one table.
+fn respelt_in(
     alloc: Global,
     reading: Reading<'_>,
     place: usize,
@@ -80,8 +107,7 @@ fn respelt_among(
     requires place { place ≤ length reading.tokens.now }
     requires token { IsPart reading.source.now token }
     ensures { IfOk result (λ said. spec.Finds (reading_of reading.entry)
-        (flat_map (spec.respelt_as (reading_of reading.entry) place token) (map spec.word_of words.now))
-        (option_map said_of said)) }
+        (spec.respelt_in (reading_of reading.entry) place token (spec.words_of words.entry)) (option_map said_of said)) }
 {
     let mut left = words;
     while let [word, rest @ ..] = left {
@@ -122,13 +148,8 @@ fn respelt_as(
 fn in_place(is_refused: bool, word: Word) -> Change
     ensures { change_of result ≡ spec.in_place is_refused (spec.word_of word.entry) }
 {
-    let (_, kinds, here, before) = word;
-    let said = if is_refused {
-        (here, HERE)
-    } else {
-        (before, BEFORE)
-    };
-    (kinds, false, said)
+    let (_, kinds, taken, here, before) = word;
+    (kinds, taken, if is_refused { here } else { before })
 }
 
 fn is_identifier(kind: TokenKind) -> bool

@@ -8,8 +8,9 @@ ghost use Rattle.vhdl_expected.specs.Told as spec;
 
 use crate::reading::{MOST_TOKENS, Reading, halves_at, joined};
 use crate::respelling::respelt;
-use crate::table::{MISSING, OTHERWISE, Said};
-use crate::trial::first_said;
+use crate::table::{missing, otherwise};
+use crate::texts::Said;
+use crate::trial::{first_among, first_said};
 use std::alloc::{AllocError, Global};
 use vhdl_lexer::Token;
 
@@ -26,9 +27,10 @@ pub enum Expected {
 
 /// What was expected at the first token that doesn't start before a byte, where the parser refuses it.
 ///
-/// Changes of that token, and of identifiers shortly before it, are tried in a fixed order, until the text goes on with one up to the next
+/// Changes at that token, and shortly before it, are tried in a fixed order, until the text goes on with one up to the next
 /// `;`. Each trial reads the text once, from the beginning of the design unit on; of a text of more than [`MOST_TOKENS`] nothing is told.
-/// There are 66 trials, and one for each word that one of 16 identifiers is nearly the same as: never 200. They take 40 ms at most.
+/// There are some 80 trials at most, and one for each word that one of 16 identifiers is nearly the same as: never 200. They take 40 ms at
+/// most.
 ///
 /// # Errors
 ///
@@ -78,7 +80,6 @@ fn told(alloc: Global, reading: Reading<'_>) -> Result<Expected, AllocError>
 }
 
 /// What is said of a word that is meant, or else of what lacks.
-#[tactic(auto, unfolding(crate::specs::Told::missing))]
 fn surely(alloc: Global, reading: Reading<'_>) -> Result<Option<Said>, AllocError>
     requires within { IsWithin reading }
     requires place { reading.refused ≤ length reading.tokens.now }
@@ -90,17 +91,16 @@ fn surely(alloc: Global, reading: Reading<'_>) -> Result<Option<Said>, AllocErro
     if said.is_some() {
         return Ok(said);
     }
-    first_said(alloc, reading, &MISSING)
+    first_among(alloc, reading, &missing())
 }
 
 /// What is told where neither is.
-#[tactic(auto, unfolding(crate::specs::Told::otherwise))]
 fn perhaps(alloc: Global, reading: Reading<'_>) -> Result<Expected, AllocError>
     requires within { IsWithin reading }
     requires place { reading.refused ≤ length reading.tokens.now }
     ensures { IfOk result (λ found. spec.IsToldBehind (reading_of reading.entry) None (spec.expected_of found)) }
 {
-    match first_said(alloc, reading, &OTHERWISE)? {
+    match first_said(alloc, reading, otherwise())? {
         Some(said) => Ok(Expected::Perhaps(said)),
         None => Ok(Expected::Nothing),
     }

@@ -1,37 +1,102 @@
 //! Trials: whether a text goes on with a change of one of its tokens.
 
-ghost use Rattle.std.specs.Prelude.{◌≡◌, ◌≤◌, true, false, length, map, option_map, IfOk};
+ghost use Rattle.std.specs.Prelude.{◌≡◌, ◌≤◌, true, false, flat_map, length, map, option_map, IfOk};
 ghost use Rattle.vhdl_lexer.specs.Cut.{AreWithin};
+ghost use Rattle.vhdl_tree.specs.Lexeme.{same_kind};
 ghost use Rattle.vhdl_expected.specs.Changes.{GoesOn, Breaks, change_of, said_of};
 ghost use Rattle.vhdl_expected.specs.Reading.{IsWithin, reading_of};
 ghost use Rattle.vhdl_expected.specs.Told as spec;
 
-use crate::change::changed;
+use crate::change::{behind, changed};
 use crate::reading::Reading;
-use crate::table::{Change, Said};
+use crate::table::{Change, Row};
+use crate::texts::Said;
 use std::alloc::{AllocError, Global};
-use vhdl_lexer::Token;
+use vhdl_lexer::{Token, TokenKind};
 use vhdl_parser::{SyntaxFault, parse};
 
-/// What is said of the first of these changes of the refused token with which the text goes on.
-pub(crate) fn first_said(
+/// What is said of the first row of these tables with which the text goes on.
+pub(crate) fn first_among(
     alloc: Global,
     reading: Reading<'_>,
-    changes: &[Change],
+    tables: &[&[Row]],
 ) -> Result<Option<Said>, AllocError>
     requires within { IsWithin reading }
     requires place { reading.refused ≤ length reading.tokens.now }
     ensures { IfOk result (λ said. spec.Finds (reading_of reading.entry)
-        (map (spec.at reading.entry.refused) (map change_of changes.now)) (option_map said_of said)) }
+        (flat_map (spec.tried_in (reading_of reading.entry)) (map spec.rows_of tables.now)) (option_map said_of said)) }
 {
-    let mut left = changes;
-    while let [change, rest @ ..] = left {
-        if goes_on_with(alloc, reading, reading.refused, *change)? {
-            return Ok(Some(change.2));
+    let mut left = tables;
+    while let [rows, rest @ ..] = left {
+        let said = first_said(alloc, reading, rows)?;
+        if said.is_some() {
+            return Ok(said);
         }
         left = rest;
     }
     Ok(None)
+}
+
+/// What is said of the first of these rows with which the text goes on.
+pub(crate) fn first_said(
+    alloc: Global,
+    reading: Reading<'_>,
+    rows: &[Row],
+) -> Result<Option<Said>, AllocError>
+    requires within { IsWithin reading }
+    requires place { reading.refused ≤ length reading.tokens.now }
+    ensures { IfOk result (λ said. spec.Finds (reading_of reading.entry)
+        (spec.tried_in (reading_of reading.entry) (spec.rows_of rows.entry)) (option_map said_of said)) }
+{
+    let mut left = rows;
+    while let [row, rest @ ..] = left {
+        let said = tried_as(alloc, reading, *row)?;
+        if said.is_some() {
+            return Ok(said);
+        }
+        left = rest;
+    }
+    Ok(None)
+}
+
+/// The same of one row.
+fn tried_as(alloc: Global, reading: Reading<'_>, row: Row) -> Result<Option<Said>, AllocError>
+    requires within { IsWithin reading }
+    requires place { reading.refused ≤ length reading.tokens.now }
+    ensures { IfOk result (λ said. spec.Finds (reading_of reading.entry)
+        (spec.tried_as (reading_of reading.entry) (spec.row_of row.entry)) (option_map said_of said)) }
+{
+    let (back, kinds, put, taken, said) = row;
+    let place = reading.refused.saturating_sub(back);
+    if !stand(kinds, behind(reading.tokens, place)) {
+        return Ok(None);
+    }
+    let goes_on = goes_on_with(alloc, reading, place, (put, taken, said))?;
+    Ok(if goes_on { Some(said) } else { None })
+}
+
+/// Whether tokens of these kinds stand first.
+fn stand(mut kinds: &[TokenKind], mut tokens: &[Token]) -> bool
+    ensures { result ≡ spec.stand kinds.entry.now tokens.entry.now }
+{
+    while let [kind, more @ ..] = kinds {
+        let [token, rest @ ..] = tokens else {
+            return false;
+        };
+        if !is_same_kind(token.kind, *kind) {
+            return false;
+        }
+        kinds = more;
+        tokens = rest;
+    }
+    true
+}
+
+#[tactic(auto, unfolding(vhdl_tree::specs::Lexeme::same_kind))]
+fn is_same_kind(first: TokenKind, second: TokenKind) -> bool
+    ensures { result ≡ same_kind first second }
+{
+    first == second
 }
 
 /// Whether the text goes on with a change of the token at a place. Where too many levels are open, it counts as one that doesn't.

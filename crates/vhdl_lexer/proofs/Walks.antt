@@ -1,7 +1,7 @@
 -- One token more.
 use Rattle.std.proofs.Common.{◌≡◌, ℕ, ◌+◌, ◌-◌, ◌<◌, ◌≤◌, Bool, true, false, List, [], ◌∷◌, ◌++◌, if◌then◌else◌, nat_le, length, take, drop, refl, sym, ◌∙◌, slice_index_or, arith, append-nil}
 use Rattle.std.proofs.lemmas.List.{take_all}
-use Rattle.vhdl_lexer.specs.Extents.{beginning, begins_behind, blanked, blanked_from, depth_behind, end_behind, ends_here, open_behind}
+use Rattle.vhdl_lexer.specs.Extents.{beginning, begins_behind, depth_behind, end_behind, ends_here, open_behind}
 use Rattle.vhdl_lexer.specs.Kinds.{is_end, is_left, is_right, opens}
 use Rattle.vhdl_lexer.specs.declared.extent.Extent.{Extent}
 use Rattle.vhdl_lexer.specs.declared.token.Token.{Token}
@@ -11,7 +11,7 @@ use Rattle.vhdl_lexer.specs.declared.token.TokenKind.{TokenKind}
 abbrev pub rest : {A : Type 0} → List A → List A
 rest xs = take (length xs - 1) (drop 1 xs)
 
-rest_is : {A : Type 0} (x : A) (xs : List A) → rest (x ∷ xs) ≡ xs
+pub rest_is : {A : Type 0} (x : A) (xs : List A) → rest (x ∷ xs) ≡ xs
 rest_is x xs = take_all (length (x ∷ xs) - 1) xs (omega arith)
 
 -- ---- where a statement begins and ends
@@ -31,17 +31,17 @@ begins_more at depth last here d (t ∷ ts) some before = rw (rest_is t ts, befo
 
 -- ---- how many are open
 
-down_or_up : (a b : Bool) (n : ℕ) → (if a then n - 1 else (if b then n + 1 else n)) ≤ n + 1
+pub down_or_up : (a b : Bool) (n : ℕ) → (if a then n - 1 else (if b then n + 1 else n)) ≤ n + 1
 down_or_up true b n = omega arith
 down_or_up false true n = omega arith
 down_or_up false false n = omega arith
 
-up_or_down : (a b : Bool) (n : ℕ) → (if a then n + 1 else (if b then n - 1 else n)) ≤ n + 1
+pub up_or_down : (a b : Bool) (n : ℕ) → (if a then n + 1 else (if b then n - 1 else n)) ≤ n + 1
 up_or_down true b n = omega arith
 up_or_down false true n = omega arith
 up_or_down false false n = omega arith
 
-more_within : {A : Type 0} (n m all : ℕ) (xs : List A) → m ≤ n + 1 → 1 ≤ length xs → n + length xs ≤ all → m + length (rest xs) ≤ all
+pub more_within : {A : Type 0} (n m all : ℕ) (xs : List A) → m ≤ n + 1 → 1 ≤ length xs → n + length xs ≤ all → m + length (rest xs) ≤ all
 more_within n m all [] up some within = absurd (omega arith)
 more_within n m all (x ∷ xs) up some within = rw (rest_is x xs) (omega (arith, up, within))
 
@@ -52,11 +52,3 @@ open_within opened all last kind ts some within = more_within opened _ all ts (d
 pub depth_within : (depth all : ℕ) (last kind : TokenKind) (ts : List Token) → 1 ≤ length ts → depth + length ts ≤ all
     → depth_behind depth last kind + length (rest ts) ≤ all
 depth_within depth all last kind ts some within = more_within depth _ all ts (up_or_down (is_left last kind) (is_right kind) depth) some within
-
--- ---- what is left
-
-pub blanked_all : (extent : Extent) (source left bytes : List ℕ) (at : ℕ) → bytes ++ blanked_from extent at left ≡ blanked_from extent 0 source → length left < 1
-    → bytes ≡ blanked extent source
-unfolding blanked
-blanked_all extent source [] bytes at same none = sym (append-nil bytes) ∙ same
-blanked_all extent source (b ∷ left) bytes at same none = absurd (omega arith)

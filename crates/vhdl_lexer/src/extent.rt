@@ -56,7 +56,7 @@ fn chosen<'a>(begins: bool, rest: &'a [Token], here: &'a [Token]) -> &'a [Token]
 }
 
 /// How many parentheses are open behind a token, where so many are before it.
-fn depth_behind(depth: usize, last: TokenKind, kind: TokenKind) -> usize
+pub fn depth_behind(depth: usize, last: TokenKind, kind: TokenKind) -> usize
     requires { depth < 2 ^ 63 }
     ensures { result ≡ spec.depth_behind depth last kind }
 {
@@ -70,7 +70,7 @@ fn depth_behind(depth: usize, last: TokenKind, kind: TokenKind) -> usize
 }
 
 /// Whether a statement or declaration may begin behind a token, behind which so many parentheses are open.
-fn begins_behind(depth: usize, last: TokenKind, kind: TokenKind) -> bool
+pub fn begins_behind(depth: usize, last: TokenKind, kind: TokenKind) -> bool
     ensures { result ≡ spec.begins_behind depth last kind }
 {
     depth == 0 && is_boundary(last, kind)

@@ -4,28 +4,36 @@ ghost use Rattle.std.specs.Prelude.{◌≡◌, Option};
 ghost use Rattle.vhdl_lexer.specs.Fault.{fault_number, fault_byte};
 ghost use Rattle.vhdl_lexer.specs.declared.fault.LexFault.TheVariants.{NoMemory};
 
+use rtl_report::LexRule;
 use std::alloc::AllocFailed;
-use std::fmt;
+use thiserror::Error;
 
 /// Why a source has no tokens. `at` is a byte of the source, counted from 0, and never above the
 /// source's length: of the first five faults the first byte of the token that starts first and
 /// is none.
-#[derive(Clone, Copy)]
+#[derive(Clone, Copy, Debug, Error)]
 pub enum LexFault {
     /// A byte that begins no token, or one outside 32 to 126 in a string.
+    #[error("{rule}, at byte {at}", rule = LexRule::BadByte.words())]
     BadByte { at: usize },
     /// A delimited comment with no `*/` (15.9).
+    #[error("{rule}, at byte {at}", rule = LexRule::OpenComment.words())]
     OpenComment { at: usize },
     /// A string or bit string that isn't closed on its line (15.7, 15.8).
+    #[error("{rule}, at byte {at}", rule = LexRule::OpenString.words())]
     OpenString { at: usize },
     /// A word with an underscore at its beginning, at its end or beside another (15.4.2).
+    #[error("{rule}, at byte {at}", rule = LexRule::BadIdentifier.words())]
     BadIdentifier { at: usize },
     /// A number or bit string with a digit, an underscore or a form that isn't read, or an integer
     /// above 2,147,483,647 (15.5, 15.8).
+    #[error("{rule}, at byte {at}", rule = LexRule::BadNumber.words())]
     BadNumber { at: usize },
     /// A source above 4,194,304 bytes; `at` is the first byte above them.
+    #[error("{rule}, at byte {at}", rule = LexRule::TooLong.words())]
     TooLong { at: usize },
     /// The list of tokens could not grow.
+    #[error("out of memory")]
     NoMemory,
 }
 
@@ -57,29 +65,6 @@ impl LexFault {
             | LexFault::BadNumber { at }
             | LexFault::TooLong { at } => Some(at),
             LexFault::NoMemory => None,
-        }
-    }
-
-    /// What is wrong, in words.
-    fn text(self) -> &'static str {
-        match self {
-            LexFault::BadByte { .. } => "no token has the byte that stands here",
-            LexFault::OpenComment { .. } => "the comment that begins here has no end",
-            LexFault::OpenString { .. } => "the string that begins here isn't closed on its line",
-            LexFault::BadIdentifier { .. } => "the word that begins here is no identifier",
-            LexFault::BadNumber { .. } => "the number that begins here isn't read",
-            LexFault::TooLong { .. } => "the source is too long",
-            LexFault::NoMemory => "out of memory",
-        }
-    }
-}
-
-impl fmt::Display for LexFault {
-    fn fmt<W: fmt::Write>(&self, f: &mut fmt::Formatter<W>) -> fmt::Result {
-        f.write_str(self.text())?;
-        match self.byte() {
-            Some(at) => write!(f, ", at byte {at}"),
-            None => Ok(()),
         }
     }
 }

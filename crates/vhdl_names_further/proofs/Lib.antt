@@ -1,4 +1,2 @@
 pub mod Walks
-pub mod Order
 pub mod Blanks
-pub mod Uses

@@ -4,4 +4,4 @@ pub mod Taken
 -- which faults may follow from that
 pub mod Known
 -- how it is found
-pub mod steps
+pub mod Once

@@ -7,7 +7,7 @@ use Rattle.vhdl_lexer.specs.declared.extent.Extent.{Extent}
 use Rattle.vhdl_lexer.specs.declared.token.Token.{Token}
 use Rattle.vhdl_lexer.specs.declared.token.TokenKind.{TokenKind}
 use Rattle.vhdl_lexer.specs.declared.token.TokenKind.TheVariants as k
-use Rattle.vhdl_names_further.specs.Naming.{begins_value, is_before_arrow, is_name, name_at, tokens_from}
+use Rattle.vhdl_names_further.specs.Naming.{around, begins_value, is_before_arrow, is_formal, is_name, name_at}
 use Rattle.vhdl_names_rules.specs.declared.fault.NameFault.{NameFault}
 use Rattle.vhdl_names_rules.specs.declared.fault.NameFault.TheVariants as names
 use Rattle.vhdl_names_rules.specs.declared.fault.NameProblem.{NameProblem}
@@ -23,12 +23,13 @@ extent_of tokens names.NoMemory = None
 
 -- ---- the other statements with the name
 
--- A name has this problem wherever it stands. What is left out where a value begins is the value's form, and not the name.
-abbrev pub is_unknown : (begins : Bool) → NameProblem → Bool
-is_unknown begins problem.Undeclared = true
-is_unknown begins problem.NotVisible = true
-is_unknown begins problem.LeftOut = not begins
-is_unknown begins _ = false
+-- A name has this problem wherever it stands, that is the second of these tokens. What is left out where a value begins is the value's form,
+-- and not the name.
+abbrev pub is_unknown : List Token → NameProblem → Bool
+is_unknown around problem.Undeclared = true
+is_unknown around problem.NotVisible = true
+is_unknown around problem.LeftOut = not (begins_value around)
+is_unknown around _ = false
 
 abbrev pub is_architecture : TokenKind → Bool
 is_architecture k.Architecture = true
@@ -62,7 +63,7 @@ statements_of tokens (t ∷ ts) = and_those (statement_at tokens t.start) (state
 -- what is wrong at this byte is a name, wherever it stands
 abbrev pub is_everywhere : List Token → NameProblem → (at : ℕ) → Bool
 is_everywhere tokens problem at =
-    is_unknown (begins_value k.Semicolon at tokens) problem && not (is_before_arrow (tokens_from at tokens))
+    is_unknown (around at tokens) problem && not (is_formal (around at tokens))
 
 -- what is taken out beside the statement of the fault
 abbrev pub others_of : (source : List ℕ) → List Token → NameFault → List Extent

@@ -1,22 +1,25 @@
-//! Faults that may follow from what was taken out.
+//! Faults that may follow from what was taken out, or are told already.
 
 ghost use Rattle.std.specs.Prelude.{◌≡◌, ◌≤◌, false, length};
 ghost use Rattle.vhdl_lexer.specs.Cut.{AreWithin};
 ghost use Rattle.vhdl_names_further.specs.Known as spec;
 
-use crate::naming::{is_name, name_at};
+use crate::naming::{around, is_from, is_name, name_at};
+use crate::taking::{extent_of, is_unknown};
 use vhdl_lexer::{Token, TokenKind};
 use vhdl_names_rules::{NameFault, NameProblem};
 
-/// Whether a fault of what is left of a source that has these tokens may follow from what was taken out, since it is one of a name whose
-/// declaration stood there.
+/// Whether a fault of what is left of a source that has these tokens may follow from what was taken out of its architecture, since it is one
+/// of a name whose declaration stood there; or is told already, since the name stood there and the fault can't be taken out.
 pub fn is_known(source: &[u8], tokens: &[Token], left: &[u8], fault: NameFault) -> bool
     requires { AreWithin source.now tokens.now }
     ensures { result ≡ spec.is_known source.now tokens.now left.now fault }
 {
     match fault {
         NameFault::At { problem, at } => {
-            may_lack(problem) && is_declared_out(source, left, name_at(source, tokens, at), tokens)
+            let name = name_at(source, tokens, at);
+            may_lack(problem)
+                && is_found(source, left, name, at, stays(tokens, problem, at), tokens)
         }
         NameFault::NoMemory => false,
     }
@@ -35,40 +38,64 @@ fn may_lack(problem: NameProblem) -> bool
     )
 }
 
-/// Whether one of these tokens of the source was taken out, and declares this name.
-fn is_declared_out(source: &[u8], left: &[u8], name: &[u8], tokens: &[Token]) -> bool
-    requires { AreWithin source.now tokens.now }
-    ensures { result ≡ spec.is_declared_out source.now left.now name.now false tokens.now }
+/// Whether what is wrong at this byte can't be taken out, and is a name, wherever it stands.
+fn stays(tokens: &[Token], problem: NameProblem, at: usize) -> bool
+    ensures { result ≡ spec.stays tokens.now problem at }
 {
-    let mut others = tokens;
-    let mut declares = false;
-    while let [token, rest @ ..] = others {
-        if declares_out(source, left, name, declares, *token) {
-            return true;
-        }
-        declares = declares_behind(declares, token.kind);
-        others = rest;
-    }
-    false
+    extent_of(tokens, problem, at).is_none() && is_unknown(around(tokens, at), problem)
 }
 
-/// Whether names are declared behind a token, where they are before it or aren't.
-fn declares_behind(declares: bool, kind: TokenKind) -> bool
-    ensures { result ≡ spec.declares_behind declares kind }
+/// Whether the name was found in what was taken out, in these tokens before the byte, in its architecture: as it is declared, or anywhere.
+fn is_found(
+    source: &[u8],
+    left: &[u8],
+    name: &[u8],
+    at: usize,
+    anywhere: bool,
+    tokens: &[Token],
+) -> bool
+    requires { AreWithin source.now tokens.now }
+    ensures { result ≡ spec.is_found source.now left.now name.now at anywhere anywhere false tokens.now }
+{
+    let mut others = tokens;
+    let mut counts = anywhere;
+    let mut found = false;
+    while let [token, rest @ ..] = others {
+        if is_from(at, *token) {
+            return found;
+        }
+        found = found_behind(source, left, name, counts, found, *token);
+        counts = counts_behind(anywhere, counts, token.kind);
+        others = rest;
+    }
+    found
+}
+
+/// Whether a name counts behind a token: where names are declared, or anywhere.
+fn counts_behind(anywhere: bool, counts: bool, kind: TokenKind) -> bool
+    ensures { result ≡ spec.counts_behind anywhere counts kind }
 {
     match kind {
         TokenKind::Signal | TokenKind::Constant => true,
-        TokenKind::Colon => false,
-        _ => declares,
+        TokenKind::Colon => anywhere,
+        _ => counts,
     }
 }
 
-/// Whether a token was taken out, and is this name as it is declared, where names are declared.
-fn declares_out(source: &[u8], left: &[u8], name: &[u8], declares: bool, token: Token) -> bool
+/// Whether the name was found so far, behind this token, where it counts or doesn't.
+fn found_behind(
+    source: &[u8],
+    left: &[u8],
+    name: &[u8],
+    counts: bool,
+    found: bool,
+    token: Token,
+) -> bool
     requires { (token.start ≤ token.end) × (token.end ≤ length source.now) }
-    ensures { result ≡ spec.declares_out source.now left.now name.now declares token }
+    ensures { result ≡ spec.found_behind source.now left.now name.now counts found token }
 {
-    declares && is_out(left, token) && is_name(source, name, token)
+    !matches!(token.kind, TokenKind::Architecture)
+        && (found || counts && is_out(left, token) && is_name(source, name, token))
 }
 
 /// Whether a token was taken out.

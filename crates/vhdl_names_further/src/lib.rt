@@ -8,7 +8,6 @@ mod blanking;
 mod knowing;
 mod naming;
 mod taking;
-mod walking;
 
 pub use knowing::is_known;
 pub use taking::take_out;

@@ -4,12 +4,11 @@ ghost use Rattle.std.specs.Prelude.{◌≡◌, ◌≤◌, ◌||◌, ◌&&◌, tr
 ghost use Rattle.vhdl_lexer.specs.Cut.{AreWithin, Cuts};
 ghost use Rattle.vhdl_lexer.specs.Extents as extents;
 ghost use Rattle.vhdl_names_further.specs.Taken as spec;
-ghost use Rattle.vhdl_names_further.specs.steps.Once.{IsOut, without_begun};
+ghost use Rattle.vhdl_names_further.specs.Once.{IsOut, without_begun};
 
 use crate::blanking::blank_out;
-use crate::naming::{begins_value, is_before_arrow, is_name, name_at, tokens_from};
-use crate::walking::{begins_behind, begun, depth_behind};
-use vhdl_lexer::{Extent, Token, TokenKind, statement_at};
+use crate::naming::{around, begins_value, is_before_arrow, is_formal, is_from, is_name, name_at};
+use vhdl_lexer::{Extent, Token, TokenKind, begins_behind, depth_behind, statement_at};
 use vhdl_names_rules::{NameFault, NameProblem};
 
 /// Takes out of what is left of a source that has these tokens what is at fault: puts blanks in place of the statement or declaration in
@@ -33,7 +32,7 @@ pub fn take_out(source: &[u8], tokens: &[Token], fault: NameFault, left: &mut [u
 }
 
 /// What is taken out with a fault of this problem at this byte.
-fn extent_of(tokens: &[Token], problem: NameProblem, at: usize) -> Option<Extent>
+pub(crate) fn extent_of(tokens: &[Token], problem: NameProblem, at: usize) -> Option<Extent>
     ensures { result ≡ spec.extent_of tokens.now (NameFault.At problem at) }
 {
     match problem {
@@ -46,16 +45,18 @@ fn extent_of(tokens: &[Token], problem: NameProblem, at: usize) -> Option<Extent
 fn is_everywhere(tokens: &[Token], problem: NameProblem, at: usize) -> bool
     ensures { result ≡ spec.is_everywhere tokens.now problem at }
 {
-    is_unknown(begins_value(tokens, at), problem) && !is_before_arrow(tokens_from(tokens, at))
+    let around = around(tokens, at);
+    is_unknown(around, problem) && !is_formal(around)
 }
 
-/// Whether a name has this problem wherever it stands. What is left out where a value begins is the value's form, and not the name.
-fn is_unknown(begins: bool, problem: NameProblem) -> bool
-    ensures { result ≡ spec.is_unknown begins problem }
+/// Whether a name has this problem wherever it stands, that is the second of these tokens. What is left out where a value begins is the
+/// value's form, and not the name.
+pub(crate) fn is_unknown(around: &[Token], problem: NameProblem) -> bool
+    ensures { result ≡ spec.is_unknown around.now problem }
 {
     match problem {
         NameProblem::Undeclared | NameProblem::NotVisible => true,
-        NameProblem::LeftOut => !begins,
+        NameProblem::LeftOut => !begins_value(around),
         _ => false,
     }
 }
@@ -89,7 +90,7 @@ fn take_name(source: &[u8], tokens: &[Token], name: &[u8], at: usize, left: &mut
 fn ends_unit(at: usize, token: Token) -> bool
     ensures { result ≡ spec.ends_unit at token }
 {
-    at <= token.start as usize && matches!(token.kind, TokenKind::Architecture)
+    is_from(at, token) && matches!(token.kind, TokenKind::Architecture)
 }
 
 /// Whether these tokens begin with the name, at this byte or behind it, and it is no formal.
@@ -99,7 +100,7 @@ fn is_named(source: &[u8], name: &[u8], at: usize, tokens: &[Token]) -> bool
 {
     match tokens {
         [token, ..] => {
-            at <= token.start as usize && is_name(source, name, *token) && !is_before_arrow(tokens)
+            is_from(at, *token) && is_name(source, name, *token) && !is_before_arrow(tokens)
         }
         [] => false,
     }
@@ -125,6 +126,13 @@ fn take_begun(here: &[Token], left: &mut [u8])
     if let Some(extent) = statement_at(here, 0) {
         blank_out(extent, left);
     }
+}
+
+/// The rest behind a token where a statement or declaration begins there, else what was begun before.
+fn begun<'a>(begins: bool, rest: &'a [Token], here: &'a [Token]) -> &'a [Token]
+    ensures { result.now ≡ (if begins then rest.now else here.now) }
+{
+    if begins { rest } else { here }
 }
 
 /// Whether what was begun is out, and no statement begins behind it.

@@ -20,3 +20,4 @@ pub mod Files
 pub mod sound
 pub mod laws
 pub mod problems
+pub mod BrokenRules

@@ -1,14 +1,16 @@
 //! Why the names and types of a file are refused.
 
 ghost use Rattle.std.specs.Prelude.{◌≡◌};
+ghost use Rattle.vhdl_names_rules.specs.BrokenRules.{rule_of};
 ghost use Rattle.vhdl_names_rules.specs.declared.fault.NameFault.TheVariants.{NoMemory};
 
+use rtl_report::NameRule;
 use std::alloc::{AllocError, AllocFailed};
-use std::fmt;
+use thiserror::Error;
 
 /// What is wrong with a name or a type. The clauses are those of IEEE 1076-2008. They are numbered
 /// from 1 in this order.
-#[derive(Clone, Copy)]
+#[derive(Clone, Copy, Debug)]
 pub enum NameProblem {
     /// A name that no declaration in sight has (12.3).
     Undeclared,
@@ -35,11 +37,13 @@ pub enum NameProblem {
 }
 
 /// Why a file is not well typed. `at` is a byte of the source, counted from 0.
-#[derive(Clone, Copy)]
+#[derive(Clone, Copy, Debug, Error)]
 pub enum NameFault {
     /// This is wrong with what stands here.
+    #[error("{rule}, at byte {at}", rule = .problem.rule().words())]
     At { problem: NameProblem, at: usize },
     /// Memory was refused.
+    #[error("out of memory")]
     NoMemory,
 }
 
@@ -51,35 +55,22 @@ impl NameProblem {
         NameFault::At { problem: self, at }
     }
 
-    /// What is wrong, in words.
-    fn text(self) -> &'static str {
+    /// The rule that it breaks.
+    pub fn rule(self) -> NameRule
+        ensures { result ≡ rule_of self }
+    {
         match self {
-            NameProblem::Undeclared => "the name is not declared",
-            NameProblem::Twice => "the name is declared twice",
-            NameProblem::WrongKind => "the name is of another kind",
-            NameProblem::TypeMismatch => "the types do not match",
-            NameProblem::NotVisible => "no use clause makes the name visible",
-            NameProblem::WriteOfIn => "an in port is assigned",
-            NameProblem::NoOthers => "a case lacks `others`",
-            NameProblem::ChoiceTwice => "a choice stands twice",
-            NameProblem::SecondArchitecture => "a second architecture of one entity",
-            NameProblem::NoSensitivity => "a process without a sensitivity list",
-            NameProblem::LeftOut => "a form that is left out",
-        }
-    }
-}
-
-impl fmt::Display for NameProblem {
-    fn fmt<W: fmt::Write>(&self, f: &mut fmt::Formatter<W>) -> fmt::Result {
-        f.write_str(self.text())
-    }
-}
-
-impl fmt::Display for NameFault {
-    fn fmt<W: fmt::Write>(&self, f: &mut fmt::Formatter<W>) -> fmt::Result {
-        match *self {
-            NameFault::At { problem, at } => write!(f, "{problem}, at byte {at}"),
-            NameFault::NoMemory => f.write_str("out of memory"),
+            NameProblem::Undeclared => NameRule::Undeclared,
+            NameProblem::Twice => NameRule::Twice,
+            NameProblem::WrongKind => NameRule::WrongKind,
+            NameProblem::TypeMismatch => NameRule::TypeMismatch,
+            NameProblem::NotVisible => NameRule::NotVisible,
+            NameProblem::WriteOfIn => NameRule::WriteOfIn,
+            NameProblem::NoOthers => NameRule::NoOthers,
+            NameProblem::ChoiceTwice => NameRule::ChoiceTwice,
+            NameProblem::SecondArchitecture => NameRule::SecondArchitecture,
+            NameProblem::NoSensitivity => NameRule::NoSensitivity,
+            NameProblem::LeftOut => NameRule::LeftOut,
         }
     }
 }

@@ -3,20 +3,25 @@
 ghost use Rattle.std.specs.Prelude.{◌≡◌, Option};
 ghost use Rattle.vhdl_parser.specs.Fault.{fault_number, fault_byte};
 
-use std::fmt;
+use rtl_report::SyntaxRule;
+use thiserror::Error;
 
 /// Why tokens are no file. `at` is a byte of the source, counted from 0, and never above the
 /// source's length: where the token starts at which the reading stopped, or the source's length
 /// where it stopped behind the last token.
-#[derive(Clone, Copy)]
+#[derive(Clone, Copy, Debug, Error)]
 pub enum SyntaxFault {
     /// No file goes on with this token.
+    #[error("{rule}, at byte {at}", rule = SyntaxRule::Unexpected.words())]
     Unexpected { at: usize },
     /// The tokens end where a file goes on.
+    #[error("{rule}, at byte {at}", rule = SyntaxRule::EndOfFile.words())]
     EndOfFile { at: usize },
     /// More than 64 levels are open.
+    #[error("{rule}, at byte {at}", rule = SyntaxRule::TooDeep.words())]
     TooDeep { at: usize },
     /// A part of the tree could not grow.
+    #[error("out of memory")]
     NoMemory,
 }
 
@@ -42,26 +47,6 @@ impl SyntaxFault {
             | SyntaxFault::EndOfFile { at }
             | SyntaxFault::TooDeep { at } => Some(at),
             SyntaxFault::NoMemory => None,
-        }
-    }
-
-    /// What is wrong, in words.
-    fn text(self) -> &'static str {
-        match self {
-            SyntaxFault::Unexpected { .. } => "nothing that the grammar allows begins here",
-            SyntaxFault::EndOfFile { .. } => "the file ends where something more must stand",
-            SyntaxFault::TooDeep { .. } => "more than 64 levels are open",
-            SyntaxFault::NoMemory => "out of memory",
-        }
-    }
-}
-
-impl fmt::Display for SyntaxFault {
-    fn fmt<W: fmt::Write>(&self, f: &mut fmt::Formatter<W>) -> fmt::Result {
-        f.write_str(self.text())?;
-        match self.byte() {
-            Some(at) => write!(f, ", at byte {at}"),
-            None => Ok(()),
         }
     }
 }

@@ -1,7 +1,6 @@
 -- One token more.
-use Rattle.std.proofs.Common.{◌≡◌, ℕ, ◌+◌, ◌-◌, ◌≤◌, Bool, true, false, List, [], ◌∷◌, if◌then◌else◌, nat_le, length, take, drop, refl, slice_index_or, arith}
-use Rattle.std.proofs.lemmas.List.{take_all}
-use Rattle.vhdl_lexer.specs.Extents.{depth_behind}
+use Rattle.std.proofs.Common.{◌≡◌, ℕ, ◌+◌, ◌≤◌, Bool, true, false, List, [], ◌∷◌, if◌then◌else◌, nat_le, length, refl, slice_index_or, arith}
+use Rattle.vhdl_lexer.proofs.Walks.{down_or_up, more_within, rest, rest_is, up_or_down}
 use Rattle.vhdl_lexer.specs.Kinds.{is_end, is_left, is_right}
 use Rattle.vhdl_lexer.specs.declared.token.Token.{Token}
 use Rattle.vhdl_lexer.specs.declared.token.TokenKind.{TokenKind}
@@ -9,13 +8,7 @@ use Rattle.vhdl_parser_further.specs.Kinds.{is_left_paren, is_right_paren, opens
 use Rattle.vhdl_parser_further.specs.Statements.{behind, behind_statement, ends_before, ends_behind, first, open_behind, parens_behind, place_from, step}
 use Rattle.vhdl_parser_further.specs.Units.{begins_architecture, begins_entity}
 use Rattle.vhdl_parser_further.specs.declared.place.Place.{Place}
-
--- what is left behind the first of some
-abbrev pub rest : {A : Type 0} → List A → List A
-rest xs = take (length xs - 1) (drop 1 xs)
-
-rest_is : {A : Type 0} (x : A) (xs : List A) → rest (x ∷ xs) ≡ xs
-rest_is x xs = take_all (length (x ∷ xs) - 1) xs (omega arith)
+use Rattle.vhdl_parser_further.specs.declared.sequel.Sequel.{Sequel}
 
 rest_fewer : {A : Type 0} (xs : List A) → 1 ≤ length xs → length (rest xs) + 1 ≤ length xs
 rest_fewer [] some = absurd (omega arith)
@@ -26,13 +19,13 @@ pub place_more : (at : ℕ) (p : Place) (d : Token) (ts : List Token) → 1 ≤ 
 place_more at p d [] some before = absurd (omega arith)
 place_more at p d (t ∷ ts) some before = rw (rest_is t ts, before) refl
 
-pub statement_more : (opened parens : ℕ) (last : TokenKind) (d : Token) (ts : List Token) → 1 ≤ length ts
-    → ends_behind opened parens (slice_index_or ts 0 d).kind ≡ false → ends_before opened (slice_index_or ts 0 d).kind ≡ false
-    → behind_statement (open_behind opened last (slice_index_or ts 0 d).kind) (parens_behind parens (slice_index_or ts 0 d).kind)
+pub statement_more : (sequel : Sequel) (opened parens : ℕ) (last : TokenKind) (d : Token) (ts : List Token) → 1 ≤ length ts
+    → ends_behind sequel opened parens last (slice_index_or ts 0 d).kind (rest ts) ≡ false → ends_before opened (slice_index_or ts 0 d).kind ≡ false
+    → behind_statement sequel (open_behind opened last (slice_index_or ts 0 d).kind) (parens_behind parens (slice_index_or ts 0 d).kind)
     (slice_index_or ts 0 d).kind (rest ts)
-    ≡ behind_statement opened parens last ts
-statement_more opened parens last d [] some goes_on has_more = absurd (omega arith)
-statement_more opened parens last d (t ∷ ts) some goes_on has_more = rw (rest_is t ts, goes_on, has_more) refl
+    ≡ behind_statement sequel opened parens last ts
+statement_more sequel opened parens last d [] some goes_on has_more = absurd (omega arith)
+statement_more sequel opened parens last d (t ∷ ts) some goes_on has_more = rw (rest_is t ts, rw (rest_is t ts) at goes_on, has_more) refl
 
 -- ---- how many are open
 
@@ -42,27 +35,16 @@ pub record IsBounded (all : ℕ) (p : Place) (ahead : ℕ) : Type 0 where
   pub depth : p.depth + ahead ≤ all
   pub opened : p.opened + ahead ≤ all
 
-up_or_down : (a b : Bool) (n : ℕ) → (if a then n + 1 else (if b then n - 1 else n)) ≤ n + 1
-up_or_down true b n = omega arith
-up_or_down false true n = omega arith
-up_or_down false false n = omega arith
-
-down_or_up : (a b : Bool) (n : ℕ) → (if a then n - 1 else (if b then n + 1 else n)) ≤ n + 1
-down_or_up true b n = omega arith
-down_or_up false true n = omega arith
-down_or_up false false n = omega arith
-
 open_up : (opened : ℕ) (last kind : TokenKind) → open_behind opened last kind ≤ opened + 1
 open_up opened last kind = down_or_up (is_end kind) (opens last kind) opened
 
 pub open_within : (opened all : ℕ) (last kind : TokenKind) (ts : List Token) → 1 ≤ length ts → opened + length ts ≤ all
     → open_behind opened last kind + length (rest ts) ≤ all
-open_within opened all last kind ts some within = omega (arith, open_up opened last kind, rest_fewer ts some, within)
+open_within opened all last kind ts some within = more_within opened _ all ts (open_up opened last kind) some within
 
 pub parens_within : (parens all : ℕ) (kind : TokenKind) (ts : List Token) → 1 ≤ length ts → parens + length ts ≤ all
     → parens_behind parens kind + length (rest ts) ≤ all
-parens_within parens all kind ts some within =
-    omega (arith, up_or_down (is_left_paren kind) (is_right_paren kind) parens, rest_fewer ts some, within)
+parens_within parens all kind ts some within = more_within parens _ all ts (up_or_down (is_left_paren kind) (is_right_paren kind) parens) some within
 
 bounded_step : (all ahead fewer : ℕ) (p : Place) (kind : TokenKind) → fewer + 1 ≤ ahead → IsBounded all p ahead → IsBounded all (step p kind) fewer
 bounded_step all ahead fewer p kind less b = record {
@@ -72,11 +54,11 @@ bounded_step all ahead fewer p kind less b = record {
 }
 
 bounded_first : (all ahead fewer : ℕ) (is : Bool) (p : Place) (kind : TokenKind) → fewer + 1 ≤ ahead → IsBounded all p ahead
-    → IsBounded all (first is p.read kind) fewer
+    → IsBounded all (first is (p.read + 1) kind) fewer
 bounded_first all ahead fewer is p kind less b = record { read = omega (arith, b.read); depth = omega (arith, b.read); opened = omega (arith, b.read) }
 
 bounded_among : (all ahead fewer : ℕ) (architecture entity : Bool) (p : Place) (kind : TokenKind) → fewer + 1 ≤ ahead → IsBounded all p ahead
-    → IsBounded all (if architecture then first true p.read kind else (if entity then first false p.read kind else step p kind)) fewer
+    → IsBounded all (if architecture then first true (p.read + 1) kind else (if entity then first false (p.read + 1) kind else step p kind)) fewer
 bounded_among all ahead fewer true entity p kind less b = bounded_first all ahead fewer true p kind less b
 bounded_among all ahead fewer false true p kind less b = bounded_first all ahead fewer false p kind less b
 bounded_among all ahead fewer false false p kind less b = bounded_step all ahead fewer p kind less b

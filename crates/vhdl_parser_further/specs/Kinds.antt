@@ -1,8 +1,11 @@
 -- What the kinds of tokens say of statements and declarations (IEEE 1076-2008, 3.3.2, 10 and 11). `last` is the kind of the token before.
 use Rattle.std.specs.Prelude.{◌&&◌, ◌||◌, not, Bool, true, false, if◌then◌else◌}
-use Rattle.vhdl_lexer.specs.Kinds.{is_before_else, is_else, is_end, is_semicolon}
+use Rattle.vhdl_lexer.specs.Kinds as lexer
+use Rattle.vhdl_lexer.specs.Kinds.{is_end, is_semicolon}
 use Rattle.vhdl_lexer.specs.declared.token.TokenKind.{TokenKind}
 use Rattle.vhdl_lexer.specs.declared.token.TokenKind.TheVariants as k
+
+-- ---- their parts
 
 abbrev pub is_begin : TokenKind → Bool
 is_begin k.Begin = true
@@ -52,18 +55,21 @@ is_part last _ = false
 abbrev pub opens : (last kind : TokenKind) → Bool
 opens last kind = has_end kind && not (is_end last) && not (is_part last kind)
 
--- a list of statements may begin behind these
-abbrev pub leads : TokenKind → Bool
-leads k.Begin = true
-leads k.Then = true
-leads k.Loop = true
-leads k.Generate = true
-leads k.Arrow = true
-leads _ = false
+abbrev pub is_is : TokenKind → Bool
+is_is k.Is = true
+is_is _ = false
 
--- a statement or declaration may begin behind this token: not behind `end loop` and `end generate`; the `else` is one of an if
+-- a statement or declaration may begin behind this token: not behind `is`, `end loop` and `end generate`
 abbrev pub is_boundary : (last kind : TokenKind) → Bool
-is_boundary last kind = is_semicolon kind || leads kind && not (is_end last) || is_else kind && is_before_else last
+is_boundary last kind = lexer.is_boundary last kind && not (is_is kind) && (is_semicolon kind || not (is_end last))
+
+-- behind these more of a statement stands, which begins as one does
+abbrev pub wants_more : TokenKind → Bool
+wants_more k.Select = true
+wants_more k.Colon = true
+wants_more _ = false
+
+-- ---- how they begin
 
 -- the words with which declarations begin
 abbrev pub declares : TokenKind → Bool
@@ -89,3 +95,37 @@ declares _ = false
 -- what begins with such a token may be taken out: behind the architecture's `begin`, if it stands before, or in front of it
 abbrev pub may_go : (begun : Bool) → TokenKind → Bool
 may_go begun kind = if begun then not (closes kind) else declares kind
+
+-- the words with which statements begin that have no `end`
+abbrev pub is_simple : TokenKind → Bool
+is_simple k.With = true
+is_simple k.Wait = true
+is_simple k.Null = true
+is_simple k.Assert = true
+is_simple k.Report = true
+is_simple k.Return = true
+is_simple k.Exit = true
+is_simple k.Next = true
+is_simple _ = false
+
+-- a statement begins with this word, or a declaration
+abbrev pub states : TokenKind → Bool
+states kind = is_simple kind || has_end kind || declares kind
+
+-- the words with which further parts of a statement begin that has an `end`
+abbrev pub is_further : TokenKind → Bool
+is_further k.Elsif = true
+is_further k.Else = true
+is_further k.When = true
+is_further _ = false
+
+abbrev pub is_name : TokenKind → Bool
+is_name k.Identifier = true
+is_name _ = false
+
+-- behind a name: it is assigned a value, or it is a label
+abbrev pub assigns : TokenKind → Bool
+assigns k.LessEqual = true
+assigns k.Assign = true
+assigns k.Colon = true
+assigns _ = false

@@ -6,9 +6,11 @@ use Rattle.vhdl_lexer.specs.Kinds.{is_end, is_semicolon}
 use Rattle.vhdl_lexer.specs.declared.token.Token.{Token}
 use Rattle.vhdl_lexer.specs.declared.token.TokenKind.{TokenKind}
 use Rattle.vhdl_lexer.specs.declared.token.TokenKind.TheVariants as k
-use Rattle.vhdl_parser_further.specs.Kinds.{closes, is_begin, is_boundary, is_left_paren, is_right_paren, opens}
+use Rattle.vhdl_parser_further.specs.Early.{begins}
+use Rattle.vhdl_parser_further.specs.Kinds.{closes, is_begin, is_boundary, is_left_paren, is_right_paren, opens, wants_more}
 use Rattle.vhdl_parser_further.specs.Units.{begins_architecture, begins_entity}
 use Rattle.vhdl_parser_further.specs.declared.place.Place.{Place}
+use Rattle.vhdl_parser_further.specs.declared.sequel.Sequel.{Sequel}
 
 -- how many with an `end` are open behind a token
 abbrev pub open_behind : (opened : ℕ) → (last kind : TokenKind) → ℕ
@@ -45,34 +47,31 @@ step p kind = record {
   innermost = if begins_behind p kind then p.read + 1 else p.innermost;
 }
 
--- Behind the first token of a unit, of which so many stand before. What stands in an architecture begins behind the five tokens of its head.
+-- Behind so many tokens, the last of which begins a unit. What stands in an architecture begins behind the five tokens of its head.
 abbrev pub first : (is_architecture : Bool) → (read : ℕ) → TokenKind → Place
 first is_architecture read kind = record {
-  read = read + 1;
+  read = read;
   in_architecture = is_architecture;
   begun = false;
   depth = 0;
   opened = 0;
   last = kind;
-  outermost = read + 5;
-  innermost = read + 5;
+  outermost = read + 4;
+  innermost = read + 4;
 }
 
 -- behind the token of this kind with which these begin
 abbrev pub behind : Place → TokenKind → List Token → Place
-behind p kind ts = if begins_architecture ts then first true p.read kind else (if begins_entity ts then first false p.read kind else step p kind)
+behind p kind ts =
+    if begins_architecture ts then first true (p.read + 1) kind else (if begins_entity ts then first false (p.read + 1) kind else step p kind)
 
 -- the place of the first token that starts at the byte or behind it
 abbrev pub place_from : (at : ℕ) → Place → List Token → Place
 place_from at p [] = p
 place_from at p (t ∷ ts) = if nat_le at t.start then p else place_from at (behind p t.kind (t ∷ ts)) ts
 
--- before all tokens
-abbrev pub start : Place
-start = record { read = 0; in_architecture = false; begun = false; depth = 0; opened = 0; last = k.Semicolon; outermost = 0; innermost = 0 }
-
 unfoldable pub place_of : (at : ℕ) → List Token → Place
-place_of at ts = place_from at start ts
+place_of at ts = place_from at (first false 0 k.Semicolon) ts
 
 -- ---- where one ends
 
@@ -80,18 +79,20 @@ place_of at ts = place_from at start ts
 abbrev pub parens_behind : (parens : ℕ) → TokenKind → ℕ
 parens_behind parens kind = if is_left_paren kind then parens + 1 else (if is_right_paren kind then parens - 1 else parens)
 
--- where so much with an `end` and so many parentheses are open, one ends with this token: a `;` outside of all that
-abbrev pub ends_behind : (opened parens : ℕ) → TokenKind → Bool
-ends_behind opened parens kind = (opened == 0) && (parens == 0) && is_semicolon kind
+-- where so much with an `end` and so many parentheses are open, one ends with this token, in front of these: a `;` outside of all that, which
+-- has to be followed so; not the `;` behind `select` or `:`
+abbrev pub ends_behind : Sequel → (opened parens : ℕ) → (last kind : TokenKind) → List Token → Bool
+ends_behind sequel opened parens last kind ts =
+    (opened == 0) && (parens == 0) && is_semicolon kind && not (wants_more last) && begins sequel ts
 
 -- or in front of it, whatever parentheses are open: an `end` or `begin` that isn't its own
 abbrev pub ends_before : (opened : ℕ) → TokenKind → Bool
 ends_before opened kind = (opened == 0) && closes kind
 
 -- what stands behind the statement or declaration with which these tokens begin, where so much is open
-abbrev pub behind_statement : (opened parens : ℕ) → (last : TokenKind) → List Token → List Token
-behind_statement opened parens last [] = []
-behind_statement opened parens last (t ∷ ts) =
-    if ends_behind opened parens t.kind then ts
+abbrev pub behind_statement : Sequel → (opened parens : ℕ) → (last : TokenKind) → List Token → List Token
+behind_statement sequel opened parens last [] = []
+behind_statement sequel opened parens last (t ∷ ts) =
+    if ends_behind sequel opened parens last t.kind ts then ts
     else (if ends_before opened t.kind then t ∷ ts
-    else behind_statement (open_behind opened last t.kind) (parens_behind parens t.kind) t.kind ts)
+    else behind_statement sequel (open_behind opened last t.kind) (parens_behind parens t.kind) t.kind ts)

@@ -1,24 +1,9 @@
 //! What the kinds of tokens say of statements and declarations.
 
 ghost use Rattle.std.specs.Prelude.{◌≡◌};
-ghost use Rattle.vhdl_lexer.specs.Kinds as lexer;
 ghost use Rattle.vhdl_parser_further.specs.Kinds as spec;
 
-use vhdl_lexer::TokenKind;
-
-/// `end`
-pub fn is_end(kind: TokenKind) -> bool
-    ensures { result ≡ lexer.is_end kind }
-{
-    matches!(kind, TokenKind::End)
-}
-
-/// `;`
-pub fn is_semicolon(kind: TokenKind) -> bool
-    ensures { result ≡ lexer.is_semicolon kind }
-{
-    matches!(kind, TokenKind::Semicolon)
-}
+use vhdl_lexer::{TokenKind, is_end, is_semicolon};
 
 /// `begin`
 pub fn is_begin(kind: TokenKind) -> bool
@@ -63,8 +48,8 @@ fn is_part(last: TokenKind, kind: TokenKind) -> bool
     ensures { result ≡ spec.is_part last kind }
 {
     match kind {
-        TokenKind::Component => is_colon(last),
-        TokenKind::For => is_wait(last),
+        TokenKind::Component => matches!(last, TokenKind::Colon),
+        TokenKind::For => matches!(last, TokenKind::Wait),
         _ => false,
     }
 }
@@ -83,66 +68,13 @@ pub fn is_right_paren(kind: TokenKind) -> bool
     matches!(kind, TokenKind::RightParen)
 }
 
-fn is_colon(kind: TokenKind) -> bool
-    ensures { result ≡ spec.is_colon kind }
-{
-    matches!(kind, TokenKind::Colon)
-}
-
-fn is_wait(kind: TokenKind) -> bool
-    ensures { result ≡ spec.is_wait kind }
-{
-    matches!(kind, TokenKind::Wait)
-}
-
 /// Whether a statement or declaration may begin behind a token, which stands behind another.
 pub fn is_boundary(last: TokenKind, kind: TokenKind) -> bool
     ensures { result ≡ spec.is_boundary last kind }
 {
-    is_semicolon(kind) || leads(kind) && !is_end(last) || is_else(kind) && is_before_else(last)
-}
-
-fn leads(kind: TokenKind) -> bool
-    ensures { result ≡ spec.leads kind }
-{
-    matches!(
-        kind,
-        TokenKind::Begin
-            | TokenKind::Then
-            | TokenKind::Loop
-            | TokenKind::Generate
-            | TokenKind::Arrow
-    )
-}
-
-fn is_else(kind: TokenKind) -> bool
-    ensures { result ≡ lexer.is_else kind }
-{
-    matches!(kind, TokenKind::Else)
-}
-
-fn is_before_else(kind: TokenKind) -> bool
-    ensures { result ≡ lexer.is_before_else kind }
-{
-    matches!(kind, TokenKind::Semicolon | TokenKind::Then)
-}
-
-/// Whether a parenthesis opens, or the head of a process.
-pub fn is_left(last: TokenKind, kind: TokenKind) -> bool
-    ensures { result ≡ lexer.is_left last kind }
-{
-    match kind {
-        TokenKind::LeftParen => true,
-        TokenKind::Process => !is_end(last),
-        _ => false,
-    }
-}
-
-/// Whether a parenthesis closes, or the head of a process.
-pub fn is_right(kind: TokenKind) -> bool
-    ensures { result ≡ lexer.is_right kind }
-{
-    matches!(kind, TokenKind::RightParen | TokenKind::Begin)
+    vhdl_lexer::is_boundary(last, kind)
+        && !matches!(kind, TokenKind::Is)
+        && (is_semicolon(kind) || !is_end(last))
 }
 
 /// Whether what begins with such a token may be taken out, in front of the architecture's `begin` or behind it.
@@ -152,7 +84,8 @@ pub fn may_go(begun: bool, kind: TokenKind) -> bool
     if begun { !closes(kind) } else { declares(kind) }
 }
 
-fn declares(kind: TokenKind) -> bool
+/// Whether a declaration begins with the word.
+pub fn declares(kind: TokenKind) -> bool
     ensures { result ≡ spec.declares kind }
 {
     matches!(
@@ -174,5 +107,45 @@ fn declares(kind: TokenKind) -> bool
             | TokenKind::Disconnect
             | TokenKind::Group
             | TokenKind::Use
+    )
+}
+
+/// Whether a statement begins with the word, or a declaration.
+pub fn states(kind: TokenKind) -> bool
+    ensures { result ≡ spec.states kind }
+{
+    is_simple(kind) || has_end(kind) || declares(kind)
+}
+
+fn is_simple(kind: TokenKind) -> bool
+    ensures { result ≡ spec.is_simple kind }
+{
+    matches!(
+        kind,
+        TokenKind::With
+            | TokenKind::Wait
+            | TokenKind::Null
+            | TokenKind::Assert
+            | TokenKind::Report
+            | TokenKind::Return
+            | TokenKind::Exit
+            | TokenKind::Next
+    )
+}
+
+/// Whether a further part of a statement that has an `end` begins with the word.
+pub fn is_further(kind: TokenKind) -> bool
+    ensures { result ≡ spec.is_further kind }
+{
+    matches!(kind, TokenKind::Elsif | TokenKind::Else | TokenKind::When)
+}
+
+/// Whether what stands before it is assigned a value, or is a label.
+pub fn assigns(kind: TokenKind) -> bool
+    ensures { result ≡ spec.assigns kind }
+{
+    matches!(
+        kind,
+        TokenKind::LessEqual | TokenKind::Assign | TokenKind::Colon
     )
 }

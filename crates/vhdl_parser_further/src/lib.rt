@@ -8,6 +8,7 @@
 mod kind;
 mod next;
 mod place;
+mod sequel;
 mod statement;
 mod unit;
 mod without;

@@ -1,12 +1,11 @@
 //! What stands before a token.
 
 ghost use Rattle.std.specs.Prelude.{◌≡◌, ◌≤◌, ◌<◌, ◌^◌, nat_le, if◌then◌else◌, length};
-ghost use Rattle.vhdl_lexer.specs.Extents as lexer;
 ghost use Rattle.vhdl_parser_further.specs.Statements as spec;
 
-use crate::kind::{is_begin, is_boundary, is_end, is_left, is_right, opens};
+use crate::kind::{is_begin, is_boundary, opens};
 use crate::unit::{begins_architecture, begins_entity};
-use vhdl_lexer::{Token, TokenKind};
+use vhdl_lexer::{Token, TokenKind, depth_behind, is_end};
 
 /// What stands before a token: of which unit it is, and where the statements begin in which it stands.
 #[derive(Clone, Copy)]
@@ -36,7 +35,7 @@ pub fn place_of(tokens: &[Token], at: usize) -> Place
     ensures within { result.opened ≤ length tokens.now }
 {
     let mut left = tokens;
-    let mut place = start();
+    let mut place = first(false, 0, TokenKind::Semicolon);
     while let [token, rest @ ..] = left {
         if is_from(at, token.start) {
             return place;
@@ -45,22 +44,6 @@ pub fn place_of(tokens: &[Token], at: usize) -> Place
         left = rest;
     }
     place
-}
-
-/// The place before all tokens.
-fn start() -> Place
-    ensures { result ≡ spec.start }
-{
-    Place {
-        read: 0,
-        in_architecture: false,
-        begun: false,
-        depth: 0,
-        opened: 0,
-        last: TokenKind::Semicolon,
-        outermost: 0,
-        innermost: 0,
-    }
 }
 
 /// Whether a token that starts at byte `start` stands at byte `at` or behind it.
@@ -78,28 +61,28 @@ fn behind(place: Place, kind: TokenKind, tokens: &[Token]) -> Place
     ensures { result ≡ spec.behind place kind tokens.now }
 {
     if begins_architecture(tokens) {
-        first(true, place.read, kind)
+        first(true, place.read + 1, kind)
     } else if begins_entity(tokens) {
-        first(false, place.read, kind)
+        first(false, place.read + 1, kind)
     } else {
         step(place, kind)
     }
 }
 
-/// The place behind the first token of a unit.
+/// The place behind so many tokens, the last of which begins a unit.
 fn first(is_architecture: bool, read: usize, kind: TokenKind) -> Place
-    requires { read < 2 ^ 63 }
+    requires { read ≤ 2 ^ 63 }
     ensures { result ≡ spec.first is_architecture read kind }
 {
     Place {
-        read: read + 1,
+        read,
         in_architecture: is_architecture,
         begun: false,
         depth: 0,
         opened: 0,
         last: kind,
-        outermost: read + 5,
-        innermost: read + 5,
+        outermost: read + 4,
+        innermost: read + 4,
     }
 }
 
@@ -158,20 +141,6 @@ fn outer_behind(place: Place, kind: TokenKind) -> bool
     ensures { result ≡ spec.outer_behind place kind }
 {
     open_behind(place.opened, place.last, kind) == 0 && begins_behind(place, kind)
-}
-
-/// How many parentheses and heads of processes are open behind a token, where so many are before it.
-fn depth_behind(depth: usize, last: TokenKind, kind: TokenKind) -> usize
-    requires { depth < 2 ^ 63 }
-    ensures { result ≡ lexer.depth_behind depth last kind }
-{
-    if is_left(last, kind) {
-        depth + 1
-    } else if is_right(kind) {
-        depth.saturating_sub(1)
-    } else {
-        depth
-    }
 }
 
 /// How many statements and declarations with an `end` are open behind a token, where so many are before it.

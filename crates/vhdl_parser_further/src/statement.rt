@@ -4,11 +4,12 @@ ghost use Rattle.std.specs.Prelude.{◌≡◌, ◌<◌, ◌^◌};
 ghost use Rattle.vhdl_parser_further.specs.Left as left;
 ghost use Rattle.vhdl_parser_further.specs.Statements as spec;
 
-use crate::kind::{closes, is_left_paren, is_right_paren, is_semicolon, may_go};
+use crate::kind::{closes, is_left_paren, is_right_paren, may_go};
 use crate::place::{Place, open_behind};
+use crate::sequel::{Sequel, begins};
 use crate::unit::is_balanced;
 use crate::without::from;
-use vhdl_lexer::{Token, TokenKind};
+use vhdl_lexer::{Token, TokenKind, is_semicolon};
 
 /// Behind how many tokens the statement or declaration begins that is taken out, if one is; `ahead` is left of the unit.
 #[tactic(auto, unfolding(crate::specs::Left::taken))]
@@ -45,16 +46,16 @@ fn may_begin(begun: bool, tokens: &[Token]) -> bool
     }
 }
 
-/// What stands behind the statement or declaration with which these tokens begin.
-pub fn behind_statement(tokens: &[Token]) -> &[Token]
-    ensures { result.now ≡ spec.behind_statement 0 0 TokenKind.Semicolon tokens.now }
+/// What stands behind the statement or declaration with which these tokens begin, and that has to be followed so.
+pub fn behind_statement(sequel: Sequel, tokens: &[Token]) -> &[Token]
+    ensures { result.now ≡ spec.behind_statement sequel 0 0 TokenKind.Semicolon tokens.now }
 {
     let mut left = tokens;
     let mut opened: usize = 0;
     let mut parens: usize = 0;
     let mut last = TokenKind::Semicolon;
     while let [token, rest @ ..] = left {
-        if ends_behind(opened, parens, token.kind) {
+        if ends_behind(sequel, opened, parens, last, token.kind, rest) {
             return rest;
         }
         if ends_before(opened, token.kind) {
@@ -82,11 +83,22 @@ fn parens_behind(parens: usize, kind: TokenKind) -> usize
     }
 }
 
-/// Whether a statement or declaration ends with a token, where so much with an `end` and so many parentheses are open.
-fn ends_behind(opened: usize, parens: usize, kind: TokenKind) -> bool
-    ensures { result ≡ spec.ends_behind opened parens kind }
+/// Whether a statement or declaration ends with a token, where so much with an `end` and so many parentheses are open, and this follows.
+fn ends_behind(
+    sequel: Sequel,
+    opened: usize,
+    parens: usize,
+    last: TokenKind,
+    kind: TokenKind,
+    rest: &[Token],
+) -> bool
+    ensures { result ≡ spec.ends_behind sequel opened parens last kind rest.now }
 {
-    opened == 0 && parens == 0 && is_semicolon(kind)
+    opened == 0
+        && parens == 0
+        && is_semicolon(kind)
+        && !matches!(last, TokenKind::Select | TokenKind::Colon)
+        && begins(sequel, rest)
 }
 
 /// Whether it ends in front of the token, whatever parentheses are open.

@@ -4,8 +4,8 @@ ghost use Rattle.std.specs.Prelude.{◌≡◌, ◌≤◌, ◌<◌, ◌^◌, if�
 ghost use Rattle.vhdl_parser_further.specs.Units as spec;
 ghost use Rattle.vhdl_tree.specs.Lexeme.{same_kind};
 
-use crate::kind::{is_end, opens};
-use vhdl_lexer::{Token, TokenKind};
+use crate::kind::opens;
+use vhdl_lexer::{Token, TokenKind, is_end};
 
 /// Whether these tokens begin with the head of an architecture.
 #[tactic(auto, unfolding(crate::specs::Units::begins_architecture))]

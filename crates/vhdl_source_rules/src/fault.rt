@@ -3,37 +3,30 @@
 ghost use Rattle.std.specs.Prelude.{◌≡◌};
 ghost use Rattle.vhdl_source_rules.specs.Faults.{of_lex, of_syntax, of_name, of_elab};
 
-use std::fmt;
+use thiserror::Error;
 use vhdl_expand_rules::ElabFault;
 use vhdl_lexer::LexFault;
 use vhdl_names_rules::NameFault;
 use vhdl_parser::SyntaxFault;
 
 /// Why a source has no netlist with this top, by the first layer that refuses it. A layer's want of memory is `NoMemory`.
-#[derive(Clone, Copy)]
+#[derive(Clone, Copy, Debug, Error)]
 pub enum SourceFault {
     /// The source has no tokens.
+    #[error(transparent)]
     Lex(LexFault),
     /// The tokens are no file.
+    #[error(transparent)]
     Syntax(SyntaxFault),
     /// A rule on names or types is broken.
+    #[error(transparent)]
     Name(NameFault),
     /// The file's units have no design with this top.
+    #[error(transparent)]
     Elab(ElabFault),
     /// Memory was refused.
+    #[error("out of memory")]
     NoMemory,
-}
-
-impl fmt::Display for SourceFault {
-    fn fmt<W: fmt::Write>(&self, f: &mut fmt::Formatter<W>) -> fmt::Result {
-        match *self {
-            SourceFault::Lex(fault) => write!(f, "lexer: {fault}"),
-            SourceFault::Syntax(fault) => write!(f, "parser: {fault}"),
-            SourceFault::Name(fault) => write!(f, "names: {fault}"),
-            SourceFault::Elab(fault) => write!(f, "elaboration: {fault}"),
-            SourceFault::NoMemory => f.write_str("out of memory"),
-        }
-    }
 }
 
 impl From<LexFault> for SourceFault {

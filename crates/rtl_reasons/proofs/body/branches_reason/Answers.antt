@@ -1,4 +1,4 @@
-use Rattle.std.proofs.Common.{◌||◌, nat_lt, length, drop, Option, ap, sym, ◌∙◌}
+use Rattle.std.proofs.Common.{◌||◌, nat_lt, length, drop, Option, Some, ap, sym, ◌∙◌}
 use Rattle.std.specs.Prelude.{is_some}
 use Rattle.rtl_reasons.specs.declared.reason.Reason.{Reason}
 use Rattle.rtl_reasons.specs.Reasons.{other_before, tests_of}
@@ -18,7 +18,8 @@ returns-in-Some-other_before c =
 
 pub returns-then-stands_behind : goal.returns-then-stands_behind
 returns-then-stands_behind c =
-    sym (own-is c.args.net.now c.args.found c.args.otherwise.now c.args.branches.now
+    ap Some c.plain.ensures
+    ∙ sym (own-is c.args.net.now c.args.found c.args.otherwise.now c.args.branches.now
     ∙ (λ k. told_by c.args.found.at ((sym c.reset_reason.ensures ∙ c.in_default.is) k) ((sym c.other_before.ensures ∙ c.in_default-other_before.is) k) ((sym c.stands_behind.ensures ∙ c.if-stands_behind.true) k)))
 
 pub returns : goal.returns

@@ -12,7 +12,7 @@ use Rattle.rtl_body_facts.proofs.Anys.{or_none}
 use Rattle.rtl_body_facts.proofs.EveryPath.{any_more, goes_on, adds_all}
 use Rattle.rtl_remarks.specs.Undefined.{may_assign}
 use Rattle.rtl_remarks.specs.Tables.{statement_may, branch_may, alternative_may}
-use Rattle.rtl_remarks.proofs.Meanwhile.{body_may, if_may, if_alone_may, case_may, adds_both, kept_running}
+use Rattle.rtl_remarks.proofs.Meanwhile.{body_may, if_may, if_alone_may, case_may, adds_both, kept_running, kept_all}
 use Rattle.rtl_remarks.proofs.assigned.+may_assign.Goals as goal
 
 pub push_body-loop-statement-init : goal.push_body-loop-statement-init
@@ -64,9 +64,19 @@ push_branch-returns t c =
     let b = c.args.branch.now in
     λ n.
     adds_all n c.extend_from_slice.new.self.items c.args.nets.now.items c.in_ok-found.found.items _
-    (c.in_ok-extend_from_slice.ensures.items ∙ ap (λ (xs : List ℕ). c.args.nets.now.items ++ xs) c.deref-4.ensures.value)
-    (kept_running ds c.args.kept n b c.in_ok-found.found.items c.deref-2.result.now c.deref-3.result.now c.push_body.new.nets.items c.in_ok-failing.failing.items c.deref.result.now c.in_ok-found.ensures c.deref-2.ensures.value
-    c.deref-3.ensures.value c.deref.ensures.value (c.in_ok-failing.ensures.are n) (c.in_ok-push_body.ensures n ∙ ap (λ (xs : List ℕ). is_in n xs || may_assign ds c.args.kept n (statements_of c.deref.result.now)) c.new-inner.ensures.items))
+    (c.in_ok-extend_from_slice.ensures.items ∙ ap (λ (xs : List ℕ). c.args.nets.now.items ++ xs) c.deref-5.ensures.value)
+    (kept_running ds c.args.kept n b c.in_ok-found.found.items c.deref-3.result.now c.deref-4.result.now c.push_body-2.new.nets.items c.in_ok-failing.failing.items c.deref-2.result.now c.in_ok-found.ensures c.deref-3.ensures.value
+    c.deref-4.ensures.value c.deref-2.ensures.value (c.in_ok-failing.ensures.are n) (c.in_ok-push_body.ensures n ∙ ap (λ (xs : List ℕ). is_in n xs || may_assign ds c.args.kept n (statements_of c.deref-2.result.now)) c.new-inner.ensures.items)
+    c.if-kept.false)
+
+pub push_branch-returns-then-kept : goal.push_branch-returns-then-kept
+push_branch-returns-then-kept t c =
+    let ds = c.args.drives.now in
+    let b = c.args.branch.now in
+    on_ok_weaker c.push_body.result
+    (λ h n. h n ∙ ap (λ (xs : List Statement). is_in n c.args.nets.now.items || may_assign ds c.args.kept n (statements_of xs)) c.deref.ensures.value
+    ∙ ap (λ x. is_in n c.args.nets.now.items || x) (kept_all ds c.args.kept n b c.if-kept.true))
+    c.push_body.ensures
 
 pub push_statement-returns-in-Some : goal.push_statement-returns-in-Some
 push_statement-returns-in-Some t c =

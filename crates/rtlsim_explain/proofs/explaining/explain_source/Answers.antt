@@ -1,7 +1,7 @@
 use Rattle.std.proofs.Common.{subst}
 use Rattle.rtl_sink.specs.Written.{Goes}
 use Rattle.rtlsim_explain.specs.Explained.{Seen, paragraph, seen_told}
-use Rattle.rtlsim_forms.specs.Words.{read_of}
+use Rattle.rtlsim_tokens.specs.Words.{read_of}
 use Rattle.rtlsim_explain.proofs.explaining.explain_source.Goals as goal
 
 pub returns-in-Byte : goal.returns-in-Byte

@@ -1,7 +1,7 @@
 use Rattle.std.proofs.Common.{subst}
 use Rattle.rtl_sink.specs.Written.{Goes}
 use Rattle.rtl_sink.proofs.Writing.{Goes-append}
-use Rattle.rtlsim_forms.specs.Forms.{Said}
+use Rattle.rtlsim_tokens.specs.Forms.{Said}
 use Rattle.rtlsim_explain.proofs.explaining.push_refusal_sentence.Goals as goal
 
 pub returns : goal.returns

@@ -1,6 +1,6 @@
 use Rattle.std.proofs.Common.{◌≡◌, refl}
 use Rattle.rtlsim_explain.specs.Explained.{Seen}
-use Rattle.rtlsim_forms.specs.Words.{Read}
+use Rattle.rtlsim_tokens.specs.Words.{Read}
 use Rattle.rtlsim_files.specs.Files.{Spot}
 use Rattle.vhdl_expected.specs.Told.{Expected, expected_of}
 use Rattle.rtlsim_explain.proofs.explaining.site_at.Goals as goal

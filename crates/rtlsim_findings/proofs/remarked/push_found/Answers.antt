@@ -2,7 +2,8 @@ use Rattle.std.proofs.Common.{◌≡◌, ℕ, List, ◌∷◌, ◌++◌, map, ap
 use Rattle.std.specs.Prelude.{slice_index_or}
 use Rattle.rtl_net.specs.Nets.{NetlistView}
 use Rattle.rtl_remarks.specs.declared.remark.Remark.{Remark}
-use Rattle.rtl_remarks.specs.declared.remark.Remark.TheVariants.{Undriven}
+use Rattle.rtl_remarks.specs.declared.remark.RemarkKind.TheVariants.{Undriven}
+use Rattle.rtl_remarks.specs.Remarks.{at_net}
 use Rattle.rtlsim_findings.specs.Remarked.{RemarkView, remark_view, found_from, ended, begun_by}
 use Rattle.rtlsim_findings.proofs.Lists.{cut, rest}
 use Rattle.rtlsim_findings.proofs.remarked.push_found.Goals as goal
@@ -24,7 +25,6 @@ pub loop-left-preserved : goal.loop-left-preserved
 loop-left-preserved c =
     let l = c.loop-left in
     let net = c.args.net.now in
-    let d = Undriven 0 0 in
+    let d = at_net Undriven 0 in
     let remark = slice_index_or l.left.now 0 d in
-    let pushed = c.in_ok-push_ended.ensures ∙ ap (λ n. map remark_view l.found.items ++ ended net n l.before remark) c.deref.ensures.value in
-    more net l.first.items _ l.before remark (rest l.left.now) l.left.now _ _ _ (cut l.left.now d c.in-len1-up.len_at_least) pushed c.in_ok-first-2.ensures l.invariant
+    more net l.first.items _ l.before remark (rest l.left.now) l.left.now _ _ _ (cut l.left.now d c.in-len1-up.len_at_least) c.in_ok-push_ended.ensures.found c.in_ok-push_ended.ensures.first l.invariant

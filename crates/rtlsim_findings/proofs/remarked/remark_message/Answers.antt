@@ -1,11 +1,10 @@
-use Rattle.std.proofs.Common.{◌≡◌, ap, subst, ◌∙◌}
+use Rattle.std.proofs.Common.{◌≡◌, subst, ◌∙◌}
 use Rattle.std.specs.Prelude.{IfOk}
-use Rattle.rtlsim_findings.specs.Mixed.{name_of_process}
 use Rattle.rtlsim_findings.proofs.Sentences.{same_sentence}
 use Rattle.rtlsim_findings.proofs.remarked.remark_message.Goals as goal
 
 pub returns : goal.returns
 returns c =
-    let process = c.deref.ensures.value ∙ c.in_ok-process.ensures ∙ ap (name_of_process c.args.net.now) c.remark_process.ensures in
+    let process = c.deref.ensures.value ∙ c.in_ok-process.ensures in
     subst (λ t. IfOk c.sentence.result (λ text. text.items ≡ t))
     (same_sentence c.remark_report.result _ _ _ _ _ c.remark_report.ensures process c.deref-2.ensures.value) c.sentence.ensures

@@ -1,10 +1,10 @@
 use Rattle.std.proofs.Common.{◌∙◌}
-use Rattle.rtlsim_hints.specs.Bounds.{declared_view}
-use Rattle.rtlsim_hints.proofs.Folds.{declared_more}
+use Rattle.rtlsim_hints.specs.Bounds.{declared_at, declared_view}
+use Rattle.rtlsim_tokens.proofs.Folds.{found_more}
 use Rattle.rtlsim_hints.proofs.bound.declared_in.Goals as goal
 
 pub loop-left-preserved : goal.loop-left-preserved
 loop-left-preserved c = rw c.declared_at-found.ensures (
-    declared_more c.args.text.now c.args.name.now c.args.in_list (declared_view c.loop-left.found) _ c.loop-left.left.now c.in-len1-up.len_at_least
+    found_more (declared_at c.args.text.now c.args.name.now c.args.in_list) (declared_view c.loop-left.found) _ c.loop-left.left.now c.in-len1-up.len_at_least
     ∙ c.loop-left.invariant
     )

@@ -1,8 +1,7 @@
 use Rattle.std.proofs.Common.{◌≡◌, length}
 use Rattle.std.specs.List.{list_all}
-use Rattle.rtlsim_tokens.specs.Choices.{is_among}
-use Rattle.rtlsim_tokens.specs.Statements.{choices_in, HasRoom}
-use Rattle.rtlsim_forms.specs.Words.{read_of, text_of}
+use Rattle.rtlsim_tokens.specs.Choices.{HasRoom, choices_in, is_among}
+use Rattle.rtlsim_tokens.specs.Words.{read_of, text_of}
 use Rattle.rtlsim_tokens.proofs.choice.are_literals.Given as goal
 
 -- the choices that are left decide

@@ -1,6 +1,5 @@
 use Rattle.std.proofs.Common.{◌≡◌, length}
-use Rattle.rtlsim_tokens.specs.Choices.{is_written}
-use Rattle.rtlsim_tokens.specs.Statements.{choices_in, HasRoom}
+use Rattle.rtlsim_tokens.specs.Choices.{HasRoom, choices_in, is_written}
 use Rattle.rtlsim_tokens.proofs.choice.is_choice.Given as goal
 
 -- the choices that are left decide

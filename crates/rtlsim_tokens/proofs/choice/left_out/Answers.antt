@@ -1,5 +1,5 @@
 use Rattle.std.proofs.Common.{ℕ, List, Some, sym, ap, ◌∙◌}
-use Rattle.rtlsim_tokens.specs.Statements.{choices_in}
+use Rattle.rtlsim_tokens.specs.Choices.{choices_in}
 use Rattle.rtlsim_tokens.proofs.Choices.{left_here, left_more}
 use Rattle.rtlsim_tokens.proofs.choice.left_out.Goals as goal
 

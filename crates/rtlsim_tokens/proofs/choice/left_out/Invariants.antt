@@ -1,6 +1,5 @@
 use Rattle.std.proofs.Common.{◌≡◌, length}
-use Rattle.rtlsim_tokens.specs.Choices.{left_out}
-use Rattle.rtlsim_tokens.specs.Statements.{choices_in}
+use Rattle.rtlsim_tokens.specs.Choices.{choices_in, left_out}
 use Rattle.rtlsim_tokens.proofs.choice.left_out.Given as goal
 
 -- the literals before those that are left are choices

@@ -1,6 +1,6 @@
 use Rattle.std.proofs.Common.{ap, sym, ◌∙◌}
 use Rattle.rtlsim_tokens.specs.Choices.{missing_of, type_of}
-use Rattle.rtlsim_forms.specs.Words.{read_of}
+use Rattle.rtlsim_tokens.specs.Words.{read_of}
 use Rattle.rtlsim_tokens.proofs.Choices.{missing_found, missing_none}
 use Rattle.rtlsim_tokens.proofs.choice.missing.Goals as goal
 

@@ -1,6 +1,6 @@
 use Rattle.std.proofs.Common.{◌^◌, sym, ◌∙◌, arith}
 use Rattle.rtlsim_tokens.proofs.Choices.{choice_end, choice_here, choice_more, room_behind}
-use Rattle.rtlsim_forms.proofs.Rest.{rest_shorter}
+use Rattle.rtlsim_tokens.proofs.Rest.{rest_shorter}
 use Rattle.rtlsim_tokens.proofs.choice.next_choice.Goals as goal
 
 pub returns-then-ends-clause-value : goal.returns-then-ends-clause-value

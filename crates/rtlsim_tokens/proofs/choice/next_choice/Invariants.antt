@@ -1,6 +1,5 @@
 use Rattle.std.proofs.Common.{◌≡◌, ◌+◌, ◌≤◌, ◌<◌, ◌^◌, length}
-use Rattle.rtlsim_tokens.specs.Choices.{choices_from}
-use Rattle.rtlsim_tokens.specs.Statements.{choices_in}
+use Rattle.rtlsim_tokens.specs.Choices.{choices_from, choices_in}
 use Rattle.rtlsim_tokens.proofs.choice.next_choice.Given as goal
 
 -- no choice stands before what is left

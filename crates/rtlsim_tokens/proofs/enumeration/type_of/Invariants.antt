@@ -1,11 +1,12 @@
 use Rattle.std.proofs.Common.{◌≡◌, length}
-use Rattle.rtlsim_tokens.specs.Choices.{type_from, type_of}
-use Rattle.rtlsim_forms.specs.Words.{read_of}
+use Rattle.rtlsim_tokens.specs.Choices.{type_at, type_of}
+use Rattle.rtlsim_tokens.specs.Parts.{found_by}
+use Rattle.rtlsim_tokens.specs.Words.{read_of}
 use Rattle.rtlsim_tokens.proofs.enumeration.type_of.Given as goal
 
 -- the tokens that are left decide, behind what was found
 abbrev pub invariant-loop-left : goal.invariant-loop-left
-invariant-loop-left l = type_from (read_of l.found) l.literal l.words.text.now l.left ≡ type_of (read_of l.words) l.literal
+invariant-loop-left l = found_by (type_at l.literal l.words.text.now) (read_of l.found) l.left ≡ type_of (read_of l.words) l.literal
 
 abbrev pub decreases-loop-left : goal.decreases-loop-left
 decreases-loop-left l = length l.left

@@ -1,16 +1,13 @@
 use Rattle.std.proofs.Common.{sym, ◌∙◌, arith}
-use Rattle.vhdl_names_further.proofs.Blanks.{blanked_all, blanked_more, blanked_none}
+use Rattle.vhdl_names_further.proofs.Blanks.{blanked_more, blanked_none, blanked_whole}
 use Rattle.vhdl_names_further.proofs.blanking.blank_out.Goals as goal
 
 pub loop-at-init : goal.loop-at-init
-loop-at-init c = record { blank = sym (blanked_none c.args.extent.start 0 c.args.left.now); least = omega arith; most = omega arith }
+loop-at-init c = blanked_whole c.args.extent c.args.left.now
 
 pub loop-at-preserved : goal.loop-at-preserved
-loop-at-preserved c = record {
-  blank = blanked_more c.args.extent.start c.loop-at.at _ c.args.left.now c.loop-at.left c.loop-at.invariant.blank c.loop-at.invariant.least (omega arith) c.blank.ensures;
-  least = omega arith;
-  most = omega arith;
-}
+loop-at-preserved c =
+    blanked_more c.args.extent.end c.loop-at.at _ c.loop-at.left (omega arith) (omega arith) c.blank.ensures ∙ c.loop-at.invariant
 
 pub returns : goal.returns
-returns c = c.loop-at.invariant.blank ∙ blanked_all c.args.extent c.loop-at.at _ c.args.left.now c.min-end.ensures (omega arith) c.loop-at.invariant.most
+returns c = sym (blanked_none c.loop-at.at c.args.extent.end 0 c.loop-at.left (omega arith)) ∙ c.loop-at.invariant

@@ -1,14 +1,10 @@
-use Rattle.std.proofs.Common.{◌≡◌, ◌-◌, ◌≤◌, max}
-use Rattle.vhdl_lexer.specs.Extents.{blanked_from}
+use Rattle.std.proofs.Common.{◌≡◌, ◌-◌}
+use Rattle.vhdl_lexer.specs.Extents.{blanked, blanked_from}
 use Rattle.vhdl_names_further.proofs.blanking.blank_out.Given as goal
 
--- what is before the place is blank
+-- what is from the place on is to be blank still
 abbrev pub invariant-loop-at : goal.invariant-loop-at
-invariant-loop-at l = record {
-  blank : l.left ≡ blanked_from (record { start = l.fn.extent.start; end = l.at }) 0 l.initial.left;
-  least : l.fn.extent.start ≤ l.at;
-  most : l.at ≤ max l.end l.fn.extent.start;
-}
+invariant-loop-at l = blanked_from (record { start = l.at; end = l.fn.extent.end }) 0 l.left ≡ blanked l.fn.extent l.initial.left
 
 abbrev pub decreases-loop-at : goal.decreases-loop-at
 decreases-loop-at l = l.end - l.at

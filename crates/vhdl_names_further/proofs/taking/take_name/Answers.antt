@@ -2,9 +2,7 @@ use Rattle.std.proofs.Common.{refl, sym, ◌∙◌, None, arith}
 use Rattle.std.proofs.lemmas.Bool.{false≢true}
 use Rattle.vhdl_lexer.proofs.Reached.{cut_within}
 use Rattle.vhdl_lexer.proofs.Walks.{depth_within}
-use Rattle.vhdl_names_further.proofs.Order.{walked_more, walked_none}
-use Rattle.vhdl_names_further.proofs.Uses.{out_more, uses_more}
-use Rattle.vhdl_names_further.proofs.Walks.{rest_within}
+use Rattle.vhdl_names_further.proofs.Walks.{out_more, rest_within, uses_more, walked_more, walked_none}
 use Rattle.vhdl_names_further.proofs.taking.take_name.Goals as goal
 
 pub loop-others-init : goal.loop-others-init

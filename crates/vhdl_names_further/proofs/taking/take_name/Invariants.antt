@@ -1,8 +1,8 @@
 use Rattle.std.proofs.Common.{◌≡◌, ◌+◌, ◌≤◌, length}
 use Rattle.vhdl_lexer.specs.Cut.{AreWithin}
 use Rattle.vhdl_names_further.specs.Taken.{statements_of, with_name, without}
-use Rattle.vhdl_names_further.specs.steps.Once.{IsOut}
-use Rattle.vhdl_names_further.proofs.Order.{Walked}
+use Rattle.vhdl_names_further.specs.Once.{IsOut}
+use Rattle.vhdl_names_further.proofs.Walks.{Walked}
 use Rattle.vhdl_names_further.proofs.taking.take_name.Given as goal
 
 -- what the tokens that are left take out decides

@@ -1,6 +1,6 @@
 use Rattle.std.proofs.Common.{sym, ap, ◌∙◌}
 use Rattle.vhdl_names_further.proofs.Blanks.{begun_twice}
-use Rattle.vhdl_names_further.specs.steps.Once.{without_begun}
+use Rattle.vhdl_names_further.specs.Once.{without_begun}
 use Rattle.vhdl_names_further.proofs.taking.take_once.Goals as goal
 
 pub returns-clause-out : goal.returns-clause-out

@@ -1,0 +1,34 @@
+use Rattle.std.proofs.Common.{ℕ, List, ap, subst, sym, ◌∙◌}
+use Rattle.std.specs.List.Sorted.{IsStrictlyIncreasing}
+use Rattle.rtl_model.specs.bodies.Kinds.{clocking}
+use Rattle.rtl_net.specs.Nets.{body_of}
+use Rattle.rtl_remarks.specs.Remarks.{named, leaves_out, reset_branch, stays_undefined, edge_branch}
+use Rattle.rtl_remarks.specs.Tables.{AreThose}
+use Rattle.rtl_remarks.proofs.LeftOut.{if_ok, left_nets, stay_nets}
+use Rattle.rtl_remarks.proofs.processes.named.Goals as goal
+
+pub left_out-requires : goal.left_out-requires
+left_out-requires c = subst IsStrictlyIncreasing (sym c.inputs-inputs.ensures) c.is_elaborated.ensures.in_range.inputs_rise
+
+pub stay_undefined-requires : goal.stay_undefined-requires
+stay_undefined-requires c = subst IsStrictlyIncreasing (sym c.inputs-inputs.ensures) c.is_elaborated.ensures.in_range.inputs_rise
+
+pub returns-in-NotReset : goal.returns-in-NotReset
+returns-in-NotReset c =
+    let net = c.args.net.now in
+    let p = c.args.process.now in
+    if_ok _ _ c.left_out.result
+    (λ v h. (left_nets net.types p c.requires.in_range (reset_branch (clocking net.inputs (body_of p))) v.items
+    (subst (λ (ins : List ℕ). AreThose (leaves_out p (reset_branch (clocking ins (body_of p)))) v.items) c.inputs-inputs.ensures h))
+    ∙ ap (λ k. named net k p) (sym c.in-NotReset.is))
+    c.left_out.ensures
+
+pub returns-in-NeverKnown : goal.returns-in-NeverKnown
+returns-in-NeverKnown c =
+    let net = c.args.net.now in
+    let p = c.args.process.now in
+    if_ok _ _ c.stay_undefined.result
+    (λ v h. (stay_nets net.types p c.requires.in_range (edge_branch (clocking net.inputs (body_of p))) v.items
+    (subst (λ (ins : List ℕ). AreThose (stays_undefined p (edge_branch (clocking ins (body_of p)))) v.items) c.inputs-inputs.ensures h))
+    ∙ ap (λ k. named net k p) (sym c.in-NeverKnown.is))
+    c.stay_undefined.ensures

@@ -1,0 +1,209 @@
+//! Forms of VHDL that aren't read: what is said of each.
+
+use vhdl_lexer::TokenKind;
+
+/// What is said behind the word, and what a designer does about it.
+pub type Said = (&'static str, &'static str);
+
+/// What has to stand before a word for a form to begin there.
+#[derive(Clone, Copy)]
+pub enum Behind {
+    /// Anything.
+    Anything,
+    /// A token of this kind.
+    Kind(TokenKind),
+    /// The end of a name or literal, or `)`.
+    Operand,
+    /// The colon of a declaration, or its mode.
+    Declared,
+    /// A token of this kind, and then a name or literal.
+    Opener(TokenKind),
+    /// A token of this kind, then a name, and its index up to here.
+    Index(TokenKind),
+    /// A name with which a statement begins, or a type in a declaration.
+    Target,
+    /// The end of a line that may lack its `;` or its last word.
+    NewLine,
+    /// A label and a name, and the name's index, or what of it stands before here.
+    Instance,
+    /// The `begin` of an architecture, and no process that isn't ended.
+    Concurrent,
+}
+
+/// A form begins at this word, in letters of either case, behind that; the empty word stands for any.
+pub type FormWord = (&'static [u8], Behind, Said);
+
+pub const WHOLE_NUMBERS: Said = (
+    "isn't read here: signals, ports and variables of whole numbers aren't served",
+    "declare it as unsigned(7 downto 0), as wide as it needs, and write n + 1 or n = 5 as before",
+);
+
+pub const NUMBER_RANGE: Said = (
+    "isn't read here: a whole number has no range of its own, and is a generic, a constant or a loop's index",
+    "drop the range of a generic or constant; declare a signal, port or variable as unsigned(7 downto 0), as \
+     wide as it needs, and write n + 1 or n = 5 as before",
+);
+
+pub const RANGE_ATTRIBUTE: Said = (
+    "isn't read here: of the attributes only 'event is served",
+    "write the bounds themselves, or a generic in their place",
+);
+
+pub const ARRAY: Said = (
+    "isn't read here: array types aren't served",
+    "take one vector of at most 64 elements and slices of it, or a signal for each word",
+);
+
+pub const RECORD: Said = (
+    "isn't read here: records and selected names aren't served",
+    "declare a signal for each element of the record, and write names without a library or package before them",
+);
+
+/// A point behind the name with which an instance or a type begins.
+pub const INSTANCE: Said = (
+    "isn't read here: an instance names its entity behind the word entity, and a type has no package before it",
+    "write u : entity work.k port map (..), and types by their own names",
+);
+
+pub const OTHER_TYPE: Said = (
+    "isn't read here: such types and objects aren't served",
+    "use std_logic, std_logic_vector, unsigned or an enumeration; a generic is an integer, natural or positive",
+);
+
+pub const SUBPROGRAM: Said = (
+    "isn't read here: functions and procedures aren't served",
+    "write the computation as a process with a variable, or as an entity of its own",
+);
+
+pub const PACKAGE: Said = (
+    "isn't read here: packages of one's own aren't served",
+    "declare its constants and types in the architecture that uses them",
+);
+
+pub const ATTRIBUTE: Said = (
+    "isn't read here: attributes aren't declared or specified here",
+    "leave the line out; it changes nothing that is simulated",
+);
+
+pub const ALIAS: Said = (
+    "isn't read here: aliases aren't served",
+    "write the name itself, or assign it to a signal of the other name",
+);
+
+pub const SUBTYPE: Said = (
+    "isn't read here: subtypes aren't declared here",
+    "write the type with its range at each declaration",
+);
+
+pub const MODE: Said = (
+    "isn't read here: ports are in or out",
+    "take an in port and an out port; an out port can be read",
+);
+
+pub const WAIT: Said = (
+    "isn't read here: a process doesn't wait",
+    "write a register as process (clk) with if rising_edge(clk) then .. end if; inside, any other process as \
+     process (all); what a testbench waits for stands in the stimulus",
+);
+
+pub const DELAY: Said = (
+    "isn't read here: assignments have no delay",
+    "leave out the delay; inputs change at times that the stimulus says",
+);
+
+pub const MESSAGE: Said = (
+    "isn't read here: messages and assertions aren't served",
+    "leave it out, and look at the trace",
+);
+
+pub const BLOCK: Said = (
+    "isn't read here: blocks, guards and configurations aren't served",
+    "write the statements in the architecture, and name the entity in the instance: entity work.name",
+);
+
+pub const OTHER_LOOP: Said = (
+    "isn't read here: a loop is `for i in range loop`, and goes through its whole range",
+    "write a for loop over all turns, with an if inside it",
+);
+
+pub const AGGREGATE: Said = (
+    "isn't read here: the only aggregate is (others => value), and a formal is a whole port",
+    "write a & b for (a, b); assign (others => '0') first and then the element that differs",
+);
+
+/// A logical operator before one vector.
+pub const REDUCTION: Said = (
+    "isn't read here: a logical operator stands between two operands",
+    "assign a variable the first element, and go on in a loop: for i in 1 to 7 loop p := p xor v(i); end loop;",
+);
+
+pub const SHIFT: Said = (
+    "isn't read here: shifts and rotations aren't operators here",
+    "write shift_left(p, 1) or shift_right(p, 1) of unsigned, or slices and &",
+);
+
+pub const ABSOLUTE: Said = (
+    "isn't read here: there are no absolute values",
+    "compare with 0, and subtract in the branch where the number is negative",
+);
+
+pub const POWER: Said = (
+    "isn't read here: ** isn't served",
+    "write the power as a number or as a generic",
+);
+
+pub const QUALIFIED: Said = (
+    "isn't read here: qualified expressions aren't served",
+    "leave out the type and the tick, or write a conversion: unsigned(..)",
+);
+
+pub const SECOND_INDEX: Said = (
+    "isn't read here: a name has one index or slice",
+    "assign the first part to a signal or variable, and index that",
+);
+
+/// Values in maps, and other values than literals in a default.
+pub const ACTUAL: Said = (
+    "can't stand here: a port map gives names of signals, a generic map whole numbers, a default (others => \
+     '0') or (others => '1')",
+    "assign the value to a signal first, and give that signal's name",
+);
+
+pub const DEFAULT: Said = (
+    "can't stand here: the value of a constant and a default are one literal, another constant or (others => value)",
+    "write the value itself, and assign what is computed to a signal",
+);
+
+/// Vector types without a range.
+pub const VECTOR: Said = (
+    "needs its range here, and no generic is of a vector type",
+    "write std_logic_vector(7 downto 0); make a generic an integer, natural or positive",
+);
+
+/// Types of one element with a range.
+pub const ELEMENT: Said = (
+    "is one element: no range follows it, and no generic is of it",
+    "write std_logic_vector(3 downto 0) for several; make a generic an integer, natural or positive",
+);
+
+pub const ORDER: Said = (
+    "is served between unsigned and whole numbers alone",
+    "write unsigned(v) < unsigned(w); compare elements and literals of an enumeration by = and /=",
+);
+
+pub const DYNAMIC_INDEX: Said = (
+    "isn't served: a number stays unsigned, and indices are static",
+    "write n = 5 for to_integer(n) = 5; for v(to_integer(p)) compare in a loop: for i in 0 to 3 loop if p = i \
+     then y <= v(i); end if; end loop;",
+);
+
+pub const SIGNED: Said = (
+    "isn't served: numbers are unsigned",
+    "use unsigned, with the sign extended by hand",
+);
+
+/// What else is left out.
+pub const OTHER: Said = (
+    "is VHDL that isn't served here, or not in this place",
+    "see docs/LANGUAGE.md for what is read, and for the way round",
+);

@@ -1,2 +1,0 @@
--- What functions of the code do on their way.
-pub mod Once
