@@ -10,7 +10,7 @@ use rtl_eval::trees;
 use rtl_kernel::Pick;
 use rtl_net::Net;
 use rtl_run::{RunFault, Simulation, Summary};
-use rtl_sink::{Sink, push_text};
+use rtl_sink::{Sink, Unwatched, push_text};
 use rtl_stim::{MapAgenda, StimFault, StimProblem, Stimulus};
 use std::alloc::Global;
 
@@ -58,7 +58,13 @@ pub fn simulate<P: Pick, W: Sink>(
         stimulus,
         limit,
     };
-    simulation.run(alloc, &mut MapAgenda::new(alloc), pick, trace)
+    simulation.run_watched(
+        alloc,
+        &mut MapAgenda::new(alloc),
+        pick,
+        &mut Unwatched,
+        trace,
+    )
 }
 
 /// Writes how a simulation ended.

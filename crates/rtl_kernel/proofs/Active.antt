@@ -1,5 +1,5 @@
 -- The processes with an active driver.
-use Rattle.std.proofs.Common.{◌≡◌, ℕ, suc, ◌<◌, ◌≤◌, false, not, ◌==◌, List, [], ◌∷◌, length, get_or, set, map, Option, Some, None, refl, sym, ap, ◌∙◌, arith, ◌⊎◌, inl, inr, IsSome, Contains}
+use Rattle.std.proofs.Common.{◌≡◌, ℕ, ◌<◌, ◌≤◌, false, not, ◌==◌, List, [], ◌∷◌, length, get_or, set, map, Option, Some, None, refl, sym, ap, ◌∙◌, arith, ◌⊎◌, inl, inr, IsSome, Contains}
 use Rattle.std.specs.List.{list_any}
 use Rattle.std.specs.Option.{is_some}
 use Rattle.std.proofs.lemmas.Bool.{cases_eq, cases_lt, ne_eqb}
@@ -12,7 +12,7 @@ use Rattle.rtl_kernel.specs.worklists.Numbers.{Numbers, IsWith}
 use Rattle.rtl_model.specs.simulation.Cycle.{all_driver_values}
 use Rattle.rtl_model.proofs.simulation.Rows.{driven_all_at, get_or-map, length-driven, none_pending_at}
 use Rattle.rtl_kernel.specs.drivers.Transactions.{IsActive, pending_of, transaction_at, without_entries}
-use Rattle.rtl_kernel.proofs.Updating.{pending_without}
+use Rattle.rtl_kernel.proofs.Updating.{length-driven_all, pending_without}
 
 -- ---- whether there is one
 
@@ -124,9 +124,5 @@ each_driver_taken outcomes old new is each p =
     ∙ ap length (get_or-map (map {B = Option ℕ} (λ (x : Option ℕ). None)) (pending_of outcomes) p []) ∙ length-map (get_or (pending_of outcomes) p []) _)
 
 pub rows_taken : (outcomes : List Outcome) (old new : List (List ℕ)) → new ≡ all_driver_values (pending_of outcomes) old → length old ≡ length outcomes → length new ≡ length outcomes
-rows_taken outcomes old new is as_many = ap length is ∙ by (pending_of outcomes) old (length-map outcomes _ ∙ sym as_many) ∙ as_many
-  where
-    by : (ps : List (List (Option ℕ))) (xs : List (List ℕ)) → length ps ≡ length xs → length (all_driver_values ps xs) ≡ length xs
-    by [] xs l = refl
-    by (p ∷ ps) [] l = absurd (omega arith)
-    by (p ∷ ps) (x ∷ xs) l = ap suc (by ps xs (omega arith))
+rows_taken outcomes old new is as_many =
+    ap length is ∙ length-driven_all (pending_of outcomes) old (length-map outcomes _ ∙ sym as_many) ∙ as_many

@@ -51,7 +51,8 @@ covers_set v old new net value below C A = record {
     by n h (inl e) = rw e A.added
     by n h (inr other) = A.kept (group_of v n) (C.events n (rw (get_or-set_other v.current net n value 0 other) at h))
 
--- values other than those that were there are written to nets of a group that had no event: each group has one that had one, and so has this
+-- values other than those that were there are written to nets of a group that had no event: each
+-- group has one that had one, and so has this
 pub sure_written : (v : TwoValues) (old new : Numbers) (first group : ℕ) (values current : List ℕ) → ((k : ℕ) → k < length values → group_of v (first + k) ≡ group)
     → first + length values ≤ length v.groups.of_net → IsWritten first values v.current current → IsOther first values v.current → CoverEvents v old.members
     → (Contains old.members group → ⊥) → IsWith group old new → All (HasEventIn v) old.members → All (HasEventIn (record v { current = current })) new.members

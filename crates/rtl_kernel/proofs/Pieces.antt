@@ -8,7 +8,7 @@ module _ (of_net targets : List ℕ) (cut : Cut) (C : IsCut of_net targets cut) 
   abbrev net : ℕ
   net = get_or targets first 0
 
-  net_is : (k : ℕ) → k < len → get_or targets (first + k) 0 ≡ cut.net + (first - cut.place) + k
+  pub net_is : (k : ℕ) → k < len → get_or targets (first + k) 0 ≡ cut.net + (first - cut.place) + k
   net_is k l =
       let at : first + k ≡ cut.place + (first - cut.place + k) = omega (arith, from) in
       let e : cut.net + (first - cut.place + k) ≡ cut.net + (first - cut.place) + k = omega arith in
@@ -32,19 +32,13 @@ module _ (of_net targets : List ℕ) (cut : Cut) (C : IsCut of_net targets cut) 
       ap (λ (n : ℕ). get_or of_net n 0) at ∙ C.in_group (first - cut.place + k) (omega (arith, l, from, to))
       ∙ sym (ap (λ (n : ℕ). get_or of_net n 0) here ∙ C.in_group (first - cut.place) (omega (arith, some, from, to)))
 
-  pub piece_cut : (k : ℕ) → k < len → get_or of_net (get_or targets first 0 + k) 0 ≡ cut.group
-  piece_cut k l =
-      let some : 0 < len = omega (arith, l) in
-      let at : get_or targets first 0 + k ≡ cut.net + (first - cut.place + k) = (let e = first_is some in omega (arith, e)) in
-      ap (λ (n : ℕ). get_or of_net n 0) at ∙ C.in_group (first - cut.place + k) (omega (arith, l, from, to))
-
 -- the places from `first` on up to the end of their cut, or up to another end
 module _ (of_net targets : List ℕ) (cuts : List Cut) (numbers : List ℕ) (A : AreCuts of_net targets cuts numbers) (first end beyond : ℕ) (there : first < length targets) (before : first < end)
     (is : beyond ≡ min end ((get_or cuts (get_or numbers first 0) no_cut).place + (get_or cuts (get_or numbers first 0) no_cut).len)) where
   cut_here : IsCut of_net targets (get_or cuts (get_or numbers first 0) no_cut)
   cut_here = A.are_cuts (get_or numbers first 0) no_cut ((A.numbers_are first there).0)
 
-  has_place : HasPlace (get_or cuts (get_or numbers first 0) no_cut) first
+  pub has_place : HasPlace (get_or cuts (get_or numbers first 0) no_cut) first
   has_place = (A.numbers_are first there).1
 
   pub some_here : first < beyond
@@ -58,6 +52,3 @@ module _ (of_net targets : List ℕ) (cuts : List Cut) (numbers : List ℕ) (A :
 
   pub group_here : (k : ℕ) → k < beyond - first → get_or of_net (get_or targets first 0 + k) 0 ≡ get_or of_net (get_or targets first 0) 0
   group_here = (let h = some_here in piece_group of_net targets (get_or cuts (get_or numbers first 0) no_cut) cut_here first (beyond - first) has_place.from (omega (arith, is, h)))
-
-  pub cut_group_here : (k : ℕ) → k < beyond - first → get_or of_net (get_or targets first 0 + k) 0 ≡ (get_or cuts (get_or numbers first 0) no_cut).group
-  cut_group_here = (let h = some_here in piece_cut of_net targets (get_or cuts (get_or numbers first 0) no_cut) cut_here first (beyond - first) has_place.from (omega (arith, is, h)))

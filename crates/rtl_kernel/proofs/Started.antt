@@ -2,12 +2,12 @@
 use Rattle.std.proofs.Common.{◌≡◌, ℕ, zero, suc, ◌+◌, ◌<◌, ◌≤◌, Bool, true, List, [], ◌∷◌, ◌++◌, length, get_or, map, replicate, take, Option, None, refl, sym, ap, subst, ◌∙◌, arith, ◌⊎◌, inl, inr, IsSome, Contains, All, append_assoc, length-append, ◌-◌}
 use Rattle.std.proofs.lemmas.Bool.{cases_lt}
 use Rattle.std.proofs.lemmas.Option.{slice_get_within}
-use Rattle.std.proofs.lemmas.List.{append-nil, get_or_append_left, get_or-append_right, get_or_default, length-map, length-replicate, take_more}
+use Rattle.std.proofs.lemmas.List.{append-nil, get_or_append_left, get_or-append_right, get_or_default, length-map, length-replicate, map_more, map_push}
 use Rattle.vhdl_values.specs.declared.scalar.Nine.{Nine}
 use Rattle.vhdl_values.specs.Scalar.{code_of}
 use Rattle.vhdl_values.proofs.Codes.{code_of_below}
 use Rattle.rtl_model.specs.bodies.Types.{ElementType, nine_valued}
-use Rattle.rtl_model.specs.nets.FlatNetlist.{FlatProcess, FlatVariable, FlatDriver, IsInRange, element_starts, no_flat_process}
+use Rattle.rtl_model.specs.nets.FlatNetlist.{FlatNetlist, FlatProcess, FlatVariable, FlatDriver, IsInRange, element_starts, no_flat_process}
 use Rattle.rtl_model.specs.nets.CoreNetlist.{core_netlist, core_process}
 use Rattle.rtl_model.specs.nets.Wiring.{IsConnected}
 use Rattle.rtl_model.specs.simulation.Netlist.{Process}
@@ -16,27 +16,26 @@ use Rattle.rtl_model.specs.simulation.Laws.{IsConsistent}
 use Rattle.rtl_model.specs.simulation.Range.{AreInputs, StateInRange}
 use Rattle.rtl_model.proofs.basics.Lists.{contains_in, in_contains, get_or-map_within}
 use Rattle.rtl_model.proofs.nets.InRange.{keeps_range, limit-at}
-use Rattle.rtl_awaited_edges.specs.declared.awaited.ClockEdge.{ClockEdge}
 use Rattle.rtl_awaited_edges.specs.Awaiting.{AreFollowers}
 use Rattle.rtl_eval.specs.Runs.{Outcome}
-use Rattle.rtl_net_groups.specs.Cuts.{Cutting, AreCutsOf}
+use Rattle.rtl_net_groups.specs.Cuts.{AreCutsOf}
 use Rattle.rtl_net.specs.Core.{core}
 use Rattle.rtl_net.specs.Nets.{NetlistView, flat, driver_view, process_view}
 use Rattle.rtl_net.specs.declared.process.Driver as r
 use Rattle.rtl_net.specs.declared.process.Process as q
 use Rattle.rtl_kernel.specs.drivers.Starts.{AreFresh, elements_of, no_entries, start_row, starts_of}
-use Rattle.rtl_kernel.specs.drivers.Brought.{MarkAlone}
-use Rattle.rtl_kernel.specs.drivers.Transactions.{Transactions, all_targets, no_outcome}
-use Rattle.rtl_kernel.specs.kernel.Kept.{HaveRoom, IsKernel, IsSound, RunBodies, state_of}
+use Rattle.rtl_kernel.specs.drivers.Brought.{NotedNets}
+use Rattle.rtl_kernel.specs.drivers.Transactions.{all_targets, no_outcome}
+use Rattle.rtl_kernel.specs.kernel.Given.{AreFirst}
+use Rattle.rtl_kernel.specs.kernel.Kept.{HaveRoom, IsKernel, IsSound, Parts, RunBodies, state_of}
 use Rattle.rtl_kernel.specs.kernel.Simulation.{each_given, initial_inputs}
 use Rattle.rtl_kernel.specs.values.TwoValues.{TwoValues, AreChanged}
-use Rattle.rtl_kernel.specs.wakes.ToRun.{ToRun}
-use Rattle.rtl_kernel.specs.wakes.Woken.{IsIndex, wakers_of}
-use Rattle.rtl_kernel.specs.worklists.Numbers.{Numbers}
 use Rattle.rtl_kernel.proofs.Changing.{changed_below, given_values}
 use Rattle.rtl_kernel.proofs.Inputs.{input_has}
 use Rattle.rtl_kernel.proofs.Steps.{keeps, stays}
 use Rattle.rtl_kernel.proofs.Updating.{none_in_replicate}
+use Rattle.rtl_kernel.proofs.Wholes.{cuts_there}
+use Rattle.rtl_kernel.proofs.Wiring.{nets_there}
 
 -- ---- the lists of the code, and those of rtl_model
 
@@ -85,13 +84,13 @@ none_fresh (x ∷ ps) (suc p) a = none_fresh ps p a
 
 -- ---- new values of all inputs
 
-given_named : (ns : List ℕ) (vs : List Nine) (n value : ℕ) → Contains (each_given ns vs) (n, value) → Contains ns n
+pub given_named : (ns : List ℕ) (vs : List Nine) (n value : ℕ) → Contains (each_given ns vs) (n, value) → Contains ns n
 given_named [] vs n value (k, l, e) = absurd (omega arith)
 given_named (m ∷ ns) [] n value (k, l, e) = absurd (omega arith)
 given_named (m ∷ ns) (v ∷ vs) n value (zero, l, e) = (zero, omega arith, ap (λ (c : ℕ × ℕ). c.0) e)
 given_named (m ∷ ns) (v ∷ vs) n value (suc k, l, e) = let (j, within, is) = given_named ns vs n value (k, omega arith, e) in (suc j, omega arith, is)
 
-given_below : (ns : List ℕ) (vs : List Nine) → All (λ (c : ℕ × ℕ). c.1 < 9) (each_given ns vs)
+pub given_below : (ns : List ℕ) (vs : List Nine) → All (λ (c : ℕ × ℕ). c.1 < 9) (each_given ns vs)
 given_below [] vs k d l = absurd (omega arith)
 given_below (m ∷ ns) [] k d l = absurd (omega arith)
 given_below (m ∷ ns) (v ∷ vs) zero d l = code_of_below v
@@ -108,88 +107,95 @@ length-given [] vs e = refl
 length-given (n ∷ ns) [] e = absurd (omega arith)
 length-given (n ∷ ns) (v ∷ vs) e = ap suc (length-given ns vs (omega arith))
 
+module _ (net : FlatNetlist) (R : IsInRange net) (initial : List Nine) where
+  pub first_is : (now : List ℕ) → AreChanged (each_given net.inputs initial) net.start now
+      → now ≡ with_inputs (core_netlist net) (initial_inputs net initial) net.start
+  first_is now A =
+      given_values (core_netlist net) (each_given net.inputs initial) net.start now refl A
+      (λ n value h. contains_in net.inputs n (given_named net.inputs initial n value h))
+
+  pub first_inputs : AreInputs (core_netlist net) (initial_inputs net initial)
+  first_inputs n is_input =
+      let has = input_has net R n (in_contains net.inputs n is_input) in
+      let limit_is = limit-at net.types n nine_valued has in
+      let there : n < length net.start = rw (R.each_starts) (slice_get_within net.types n nine_valued has) in
+      rw limit_is (changed_below (each_given net.inputs initial) net.start n 9 (given_below net.inputs initial)
+      (rw limit_is at ((keeps_range net R).starts_in_range.in_range n there)))
+
+-- outcomes before any run have the room that the bodies want
+pub have_room : {E : Type 0} (most : E → ℕ) (net : NetlistView) (bodies : List E) (outcomes : List Outcome) → length bodies ≡ length (flat net).processes
+    → AreFresh most net.processes bodies outcomes → HaveRoom most (flat net) bodies outcomes
+have_room most net bodies outcomes as_many F = record {
+  as_many = many ∙ sym (length-map net.processes process_view);
+  own = λ p l. record {
+    each_driver = ap length (sym (get_or-map_within (λ (o : Outcome). o.entries) outcomes p no_outcome [] l))
+        ∙ ap (λ (rows : List (List (Option ℕ))). length (get_or rows p [])) F.entries ∙ each_none net.processes p;
+    each_element = sym (get_or-map_within (λ (o : Outcome). o.starts) outcomes p no_outcome [] l)
+        ∙ ap (λ (rows : List (List ℕ)). get_or rows p []) F.starts ∙ each_element net.processes p;
+  };
+  room = λ p e l. F.room p e (omega (arith, l, many, as_many, length-map net.processes process_view)) l;
+}
+  where
+    many : length outcomes ≡ length net.processes
+    many = sym (length-map outcomes (λ (o : Outcome). o.entries)) ∙ ap length F.entries ∙ length-map net.processes no_entries
+
 -- ---- the kernel
 
-module _ {E : Type 0} (process : E → FlatProcess) (types : E → List ElementType) (most : E → ℕ) (net : NetlistView) (bodies : List E)
-    (v : TwoValues) (t : Transactions) (r : ToRun) (initial : List Nine) (R : IsInRange (flat net)) (C : IsConnected (flat net)) (B : RunBodies process types (flat net) bodies)
-    (before : v.before ≡ v.current) (A : AreChanged (each_given net.inputs initial) net.starts v.current) (drivers : t.drivers ≡ map start_row net.processes)
-    (F : AreFresh most net.processes bodies t.outcomes) (waiting : r.waiting ≡ replicate (length net.processes) true) where
+module _ {E : Type 0} (process : E → FlatProcess) (types : E → List ElementType) (most : E → ℕ) (bodies : List E) (net : NetlistView) (k : Parts)
+    (initial : List Nine) (R : IsInRange (flat net)) (C : IsConnected (flat net)) (B : RunBodies process types (flat net) bodies) (N : AreFirst net initial k.nets)
+    (drivers : k.drivers.drivers ≡ map start_row net.processes) (F : AreFresh most net.processes bodies k.drivers.outcomes)
+    (waiting : k.resumed.waiting ≡ replicate (length net.processes) true) where
+  abbrev v : TwoValues
+  v = k.nets.values
+
   abbrev inputs : ℕ → ℕ
   inputs = initial_inputs (flat net) initial
 
   current_is : v.current ≡ with_inputs (core_netlist (flat net)) inputs net.starts
-  current_is =
-      given_values (core_netlist (flat net)) (each_given net.inputs initial) net.starts v.current refl A
-      (λ n value h. contains_in net.inputs n (given_named net.inputs initial n value h))
+  current_is = first_is (flat net) R initial v.current N.current
 
-  pub is_started : state_of v t r ≡ start_state (core_netlist (flat net)) inputs
+  pub is_started : state_of v k.drivers k.resumed ≡ start_state (core_netlist (flat net)) inputs
   is_started =
-      let first = before ∙ current_is in
+      let first = N.no_event ∙ current_is in
       let rows = drivers ∙ drivers_are net.inputs net.processes in
       let pending = F.entries ∙ pending_are net.inputs net.processes in
       let waits = waiting ∙ waiting_are net.inputs net.processes in
       λ i. record { before = first i; now = current_is i; drivers = rows i; pending = pending i; waiting = waits i }
 
-  are_inputs : AreInputs (core_netlist (flat net)) inputs
-  are_inputs n is_input =
-      let has = input_has (flat net) R n (in_contains net.inputs n is_input) in
-      let limit = limit-at net.types n nine_valued has in
-      let S = (keeps_range (flat net) R).starts_in_range in
-      let there : n < length net.starts = rw (R.each_starts) (slice_get_within net.types n nine_valued has) in
-      rw limit (changed_below (each_given net.inputs initial) net.starts n 9 (given_below net.inputs initial) (rw limit at (S.in_range n there)))
-
-  outcomes_many : length t.outcomes ≡ length net.processes
-  outcomes_many = sym (length-map t.outcomes (λ (o : Outcome). o.entries)) ∙ ap length F.entries ∙ length-map net.processes no_entries
-
-  have_room : HaveRoom most (flat net) bodies t.outcomes
-  have_room = record {
-    as_many = outcomes_many ∙ sym (length-map net.processes process_view);
-    own = λ p l. record {
-      each_driver = ap length (sym (get_or-map_within (λ (o : Outcome). o.entries) t.outcomes p no_outcome [] l)) ∙ ap (λ (rows : List (List (Option ℕ))). length (get_or rows p [])) F.entries
-          ∙ each_none net.processes p;
-      each_element = sym (get_or-map_within (λ (o : Outcome). o.starts) t.outcomes p no_outcome [] l) ∙ ap (λ (rows : List (List ℕ)). get_or rows p []) F.starts ∙ each_element net.processes p;
-    };
-    room = λ p e l. F.room p e (omega (arith, l, outcomes_many, B.as_many, length-map net.processes process_view)) l;
-  }
-
-  sound : IsSound (flat net) (state_of v t r)
+  sound : IsSound (flat net) (state_of v k.drivers k.resumed)
   sound = record {
     each_process = ap length waiting ∙ length-replicate (length net.processes) true ∙ sym (length-map net.processes process_view);
     each_row = ap length drivers ∙ length-map net.processes start_row ∙ sym (length-map net.processes process_view);
-    in_range = subst (StateInRange (core_netlist (flat net))) (sym is_started) ((keeps (flat net) R C).starts inputs are_inputs);
+    in_range = subst (StateInRange (core_netlist (flat net))) (sym is_started) ((keeps (flat net) R C).starts inputs (first_inputs (flat net) R initial));
     consistent = subst (IsConsistent (core_netlist (flat net))) (sym is_started) ((stays (flat net) R C).starts inputs);
     fresh = λ p waits a. none_fresh net.processes p (subst (λ (rows : List (List (Option ℕ))). (place : ℕ) × IsSome (get_or (get_or rows p []) place None)) F.entries a);
   }
 
-  pub kept_started : (cuts : Cutting) (alone : List Bool) (noted : Numbers) (awaited : Option ClockEdge) (followers : List Bool) → IsIndex (map (λ (p : q.Process). p.wakes.items) net.processes) (wakers_of v.groups) → length v.groups.of_net ≡ length net.types
-      → MarkAlone (flat net) v.groups alone → AreCutsOf v.groups.of_net (all_targets net.processes) cuts → noted ≡ record { bound = length v.groups.listed; members = [] }
-      → AreFollowers (core net) awaited followers → IsKernel process types most net bodies cuts alone v t r noted awaited followers
-  kept_started cuts alone noted awaited followers I each_net marks are_cuts idle follow = record {
-    in_range = R;
-    connected = C;
-    run_bodies = B;
-    room = have_room;
-    sound = sound;
-    is_index = I;
-    each_net = each_net;
-    marked = marks;
-    are_cuts = are_cuts;
-    follow = follow;
-    idle = idle;
-  }
+  pub kept_started : AreCutsOf v.groups.of_net (all_targets net.processes) k.cuts → AreFollowers (core net) k.awaited k.followers
+      → IsKernel process types most bodies k
+  kept_started are_cuts follow =
+      subst (λ (n : NotedNets). IsKernel process types most bodies (record k { nets = n })) same (record {
+        of_net = record {
+          in_range = R;
+          connected = C;
+          run_bodies = B;
+          is_index = N.is_index;
+          are_cuts = cuts_there net v.groups k.cuts (nets_there net R) are_cuts;
+          follow = follow;
+        };
+        room = have_room most net bodies k.drivers.outcomes B.as_many F;
+        sound = sound;
+        idle = N.none_noted;
+      })
+    where
+      same : record (k.nets) { net = net } ≡ k.nets
+      same = λ i. record { net = sym N.net_is i; values = v; noted = k.nets.noted }
 
 -- ---- one process more
 
 pub element_starts-push : (vs : List FlatVariable) (v : FlatVariable) → element_starts (vs ++ v ∷ []) ≡ element_starts vs ++ v.starts
 element_starts-push [] v = append-nil v.starts
 element_starts-push (w ∷ vs) v = ap (λ (xs : List ℕ). w.starts ++ xs) (element_starts-push vs v) ∙ sym (append_assoc w.starts (element_starts vs) v.starts)
-
-pub map_push : {X Y : Type 0} (f : X → Y) (xs : List X) (x : X) → map f (xs ++ x ∷ []) ≡ map f xs ++ f x ∷ []
-map_push f [] x = refl
-map_push {X} {Y} f (y ∷ xs) x = ap (λ (ys : List Y). f y ∷ ys) (map_push f xs x)
-
-pub map_more : {X Y : Type 0} (f : X → Y) (xs : List X) (k : ℕ) (d : X) → k < length xs → map f (take (k + 1) xs) ≡ map f (take k xs) ++ f (get_or xs k d) ∷ []
-map_more f xs k d l = ap (map f) (take_more xs k d l) ∙ map_push f (take k xs) (get_or xs k d)
 
 pub fresh_more : {E : Type 0} (most : E → ℕ) (ps : List q.Process) (bodies : List E) (os : List Outcome) (k : ℕ) (o : Outcome) (d : q.Process) (b : E) → k < length ps → length os ≡ k
     → AreFresh most (take k ps) bodies os → o.entries ≡ no_entries (get_or ps k d) → o.starts ≡ elements_of (get_or ps k d) → k < length bodies → most (get_or bodies k b) ≤ o.room

@@ -9,7 +9,7 @@ use Rattle.rtl_model.specs.nets.FlatNetlist.{FlatNetlist, IsInRange, flat_source
 use Rattle.rtl_model.specs.nets.CoreNetlist.{core_netlist}
 use Rattle.rtl_model.specs.nets.Wiring.{IsConnected}
 use Rattle.rtl_model.specs.simulation.Netlist.{Source, Driver, Idle, process}
-use Rattle.rtl_model.specs.simulation.Cycle.{State, over, all_driver_values, after_update, after_inputs, after_run, is_quiet}
+use Rattle.rtl_model.specs.simulation.Cycle.{State, over, after_update, after_inputs, after_run, is_quiet}
 use Rattle.rtl_model.specs.simulation.Elaborated.{IsWired}
 use Rattle.rtl_model.specs.simulation.Laws.{StepsKeepRange, StaysConsistent}
 use Rattle.rtl_model.specs.simulation.Range.{IsValuation, AreInputs}
@@ -24,6 +24,7 @@ use Rattle.rtl_model.proofs.simulation.StatesInRange.{states_in_range}
 use Rattle.rtl_kernel.specs.drivers.Rows.{IsSourceThere}
 use Rattle.rtl_kernel.specs.drivers.Transactions.{IsActive}
 use Rattle.rtl_kernel.specs.kernel.Kept.{IsSound}
+use Rattle.rtl_kernel.proofs.Updating.{length-driven_all}
 
 -- over a row without a transaction
 pub over_fresh : (as' bs : List (Option ℕ)) → length bs ≤ length as' → ((place : ℕ) → IsSome (get_or bs place None) → ⊥) → over as' bs ≡ as'
@@ -91,11 +92,6 @@ module _ (net : FlatNetlist) (in_range : IsInRange net) (connected : IsConnected
     consistent = stays.updates s;
     fresh = λ p waits (place, some). let e = none_pending_at s.pending p place in let f = ap is_some e in cc;
   }
-    where
-      length-driven_all : (ps : List (List (Option ℕ))) (xs : List (List ℕ)) → length ps ≡ length xs → length (all_driver_values ps xs) ≡ length xs
-      length-driven_all [] xs l = refl
-      length-driven_all (p ∷ ps) [] l = absurd (omega arith)
-      length-driven_all (p ∷ ps) (x ∷ xs) l = ap suc (length-driven_all ps xs (omega arith))
 
   pub sound_given : (inputs : ℕ → ℕ) (s : State) → AreInputs (core_netlist net) inputs → is_quiet s ≡ true → IsSound net s → IsSound net (after_inputs (core_netlist net) inputs s)
   sound_given inputs s A quiet S = record {

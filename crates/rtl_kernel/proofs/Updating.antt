@@ -9,20 +9,18 @@ use Rattle.rtl_eval.specs.Spans.{places_of}
 use Rattle.rtl_eval.specs.Tracked.{AreAssigned}
 use Rattle.rtl_eval.proofs.Assigned.{no_entry}
 use Rattle.rtl_eval.proofs.Places.{left_of, none_behind}
-use Rattle.rtl_model.specs.nets.FlatNetlist.{FlatNetlist}
 use Rattle.rtl_model.specs.simulation.Cycle.{driver_values, all_driver_values, none_pending}
 use Rattle.rtl_model.specs.simulation.Machine.{entry_or}
 use Rattle.rtl_model.proofs.basics.Lists.{get_or-map_within}
 use Rattle.rtl_model.proofs.simulation.Rows.{driven_all_at, driven_at, length-driven}
 use Rattle.std.specs.Option.{is_some}
+use Rattle.rtl_net.specs.Nets.{NetlistView}
 use Rattle.rtl_net.specs.declared.process.Driver as net
-use Rattle.rtl_net.specs.declared.process.Process.{Process}
-use Rattle.rtl_kernel.specs.values.TwoValues.{TwoValues, IsWritten}
-use Rattle.rtl_kernel.specs.worklists.Numbers.{Numbers}
-use Rattle.rtl_kernel.specs.drivers.Brought.{Brings}
-use Rattle.rtl_kernel.specs.drivers.Transactions.{IsActive, nets_of, targets_of, pending_of, without_entries}
+use Rattle.rtl_kernel.specs.values.TwoValues.{IsWritten}
+use Rattle.rtl_kernel.specs.drivers.Brought.{NotedNets, IsDriver, IsDriverOf, Brings}
+use Rattle.rtl_kernel.specs.drivers.Transactions.{Transactions, IsActive, driver_at, nets_of, targets_of, pending_of, without_entries}
 use Rattle.rtl_kernel.specs.drivers.Updates.{TakesEntries, IsTaken, IsUpdating}
-use Rattle.rtl_kernel.proofs.Brought.{brings_none, brings_then, brings_all_none, brings_all_more}
+use Rattle.rtl_kernel.proofs.Brought.{brought_none, brought_then, brings_one}
 
 -- ---- one row
 
@@ -57,17 +55,18 @@ driven_from entries old new as_many unassigned assigned =
 
 -- ---- all rows
 
+pub length-driven_all : (ps : List (List (Option ℕ))) (xs : List (List ℕ)) → length ps ≡ length xs
+    → length (all_driver_values ps xs) ≡ length xs
+length-driven_all [] xs l = refl
+length-driven_all (p ∷ ps) [] l = absurd (omega arith)
+length-driven_all (p ∷ ps) (x ∷ xs) l = ap suc (length-driven_all ps xs (omega arith))
+
 -- without an active driver the rows are those that they drive
 pub all_driven : (pending : List (List (Option ℕ))) (drivers new : List (List ℕ)) → length new ≡ length drivers → length pending ≡ length drivers
     → ((p : ℕ) → get_or new p [] ≡ driver_values (get_or pending p []) (get_or drivers p [])) → new ≡ all_driver_values pending drivers
 all_driven pending drivers new as_many rows_too each =
     ext_get_or [] new (all_driver_values pending drivers) (as_many ∙ sym (length-driven_all pending drivers rows_too))
     (λ p l. each p ∙ sym (driven_all_at pending drivers p))
-  where
-    length-driven_all : (ps : List (List (Option ℕ))) (xs : List (List ℕ)) → length ps ≡ length xs → length (all_driver_values ps xs) ≡ length xs
-    length-driven_all [] xs l = refl
-    length-driven_all (p ∷ ps) [] l = absurd (omega arith)
-    length-driven_all (p ∷ ps) (x ∷ xs) l = ap suc (length-driven_all ps xs (omega arith))
 
 -- an outcome without an entry is the same without entries
 pub none_to_take : (outcomes : List Outcome) → ((p : ℕ) → IsActive (pending_of outcomes) p → ⊥) → map without_entries outcomes ≡ outcomes
@@ -91,27 +90,28 @@ pending_without (o ∷ outcomes) = let rest = pending_without outcomes in λ i. 
 pub net_at : (ds : List net.Driver) (k : ℕ) (d : net.Driver) → k < length ds → get_or (nets_of ds) k 0 ≡ (get_or ds k d).net
 net_at ds k d within = get_or-map_within (λ (d : net.Driver). d.net) ds k d 0 within
 
-module _ (wiring : FlatNetlist) (targets : List ℕ) (entries : List (Option ℕ)) where
-  pub takes_none : (old : List ℕ) (nets : TwoValues) (noted : Numbers) → TakesEntries wiring targets entries old nets noted old nets noted
-  takes_none old nets noted = record {
+module _ (targets : List ℕ) (entries : List (Option ℕ)) where
+  pub takes_none : (old : List ℕ) (nets : NotedNets) → TakesEntries targets entries old nets old nets
+  takes_none old nets = record {
     as_many = refl;
     unassigned = λ q e. refl;
     stay = λ q h. h;
-    brings = brings_none wiring targets old nets noted;
+    brings = brought_none (λ place net. IsDriver targets place net) (λ q. get_or old q 0) nets;
   }
 
   -- the places from one on, whose transactions are these, are taken together
-  pub takes_run : (old new : List ℕ) (nets nets' : TwoValues) (noted noted' : Numbers) (place : ℕ) (values : List ℕ)
+  pub takes_run : (old new : List ℕ) (nets nets' : NotedNets) (place : ℕ) (values : List ℕ)
       → ((k : ℕ) → k < length values → get_or entries (place + k) None ≡ Some (get_or values k 0)) → IsWritten place values old new
-      → Brings wiring targets old new nets noted nets' noted' → TakesEntries wiring targets entries old nets noted new nets' noted'
-  takes_run old new nets nets' noted noted' place values are W B = record {
+      → Brings targets old new nets nets' → TakesEntries targets entries old nets new nets'
+  takes_run old new nets nets' place values are W B = record {
     as_many = W.as_many;
     unassigned = λ q e. unassigned q e (cases_lt q place) (cases_lt q (place + length values));
     stay = λ q h w e. stay q h w e (cases_lt q place) (cases_lt q (place + length values));
     brings = B;
   }
     where
-      unassigned : (q : ℕ) → get_or entries q None ≡ None → (q < place) ⊎ (place ≤ q) → (q < place + length values) ⊎ (place + length values ≤ q) → get_or new q 0 ≡ get_or old q 0
+      unassigned : (q : ℕ) → get_or entries q None ≡ None → (q < place) ⊎ (place ≤ q)
+          → (q < place + length values) ⊎ (place + length values ≤ q) → get_or new q 0 ≡ get_or old q 0
       unassigned q e (inl low) _ = W.below q low
       unassigned q e (inr from) (inr high) = W.behind q high
       unassigned q e (inr from) (inl l) =
@@ -120,8 +120,8 @@ module _ (wiring : FlatNetlist) (targets : List ℕ) (entries : List (Option ℕ
           let none = ap (λ (p : ℕ). get_or entries p None) (sym at) ∙ e in
           absurd cc
 
-      stay : (q : ℕ) → IsTaken entries old q → (w : ℕ) → get_or entries q None ≡ Some w → (q < place) ⊎ (place ≤ q) → (q < place + length values) ⊎ (place + length values ≤ q)
-          → get_or new q 0 ≡ w
+      stay : (q : ℕ) → IsTaken entries old q → (w : ℕ) → get_or entries q None ≡ Some w → (q < place) ⊎ (place ≤ q)
+          → (q < place + length values) ⊎ (place + length values ≤ q) → get_or new q 0 ≡ w
       stay q h w e (inl low) _ = W.below q low ∙ h w e
       stay q h w e (inr from) (inr high) = W.behind q high ∙ h w e
       stay q h w e (inr from) (inl l) =
@@ -131,19 +131,19 @@ module _ (wiring : FlatNetlist) (targets : List ℕ) (entries : List (Option ℕ
           let has = ap (λ (p : ℕ). get_or entries p None) (sym at) ∙ e in
           ap (λ (p : ℕ). get_or new p 0) at ∙ W.written (q - place) within ∙ (let is : get_or values (q - place) 0 ≡ w = cc in is)
 
-  pub takes_then : (old mid new : List ℕ) (nets nets' nets'' : TwoValues) (noted noted' noted'' : Numbers) → TakesEntries wiring targets entries old nets noted mid nets' noted'
-      → TakesEntries wiring targets entries mid nets' noted' new nets'' noted'' → TakesEntries wiring targets entries old nets noted new nets'' noted''
-  takes_then old mid new nets nets' nets'' noted noted' noted'' A B = record {
+  pub takes_then : (old mid new : List ℕ) (a b d : NotedNets) → TakesEntries targets entries old a mid b → TakesEntries targets entries mid b new d
+      → TakesEntries targets entries old a new d
+  takes_then old mid new a b d A B = record {
     as_many = B.as_many ∙ A.as_many;
     unassigned = λ q e. B.unassigned q e ∙ A.unassigned q e;
     stay = λ q h. B.stay q (A.stay q h);
-    brings = brings_then wiring targets old mid new nets nets' nets'' noted noted' noted'' A.brings B.brings;
+    brings = brought_then (λ place net. IsDriver targets place net) (λ q. get_or old q 0) (λ q. get_or mid q 0) (λ q. get_or new q 0) a b d A.brings B.brings;
   }
 
   -- where all are taken, they have what they are driven to
-  pub taken_values : (old : List ℕ) (nets : TwoValues) (noted : Numbers) (new : List ℕ) (nets' : TwoValues) (noted' : Numbers) → TakesEntries wiring targets entries old nets noted new nets' noted'
+  pub taken_values : (old : List ℕ) (a : NotedNets) (new : List ℕ) (b : NotedNets) → TakesEntries targets entries old a new b
       → ((q : ℕ) → IsTaken entries new q) → new ≡ driver_values entries old
-  taken_values old nets noted new nets' noted' T taken = driven_from entries old new T.as_many T.unassigned taken
+  taken_values old a new b T taken = driven_from entries old new T.as_many T.unassigned taken
 
 module _ (entries : List (Option ℕ)) where
   pub taken_here : (values : List ℕ) (place v : ℕ) → get_or entries place None ≡ Some v → get_or values place 0 ≡ v → IsTaken entries values place
@@ -200,9 +200,8 @@ module _ (entries : List (Option ℕ)) where
 length-cleared : (o : Outcome) → without_entries (without_entries o) ≡ without_entries o
 length-cleared o = ap (λ (n : ℕ). record { entries = replicate {A = Option ℕ} n None; starts = o.starts; variables = o.variables; room = o.room; laid = o.laid; bits = o.bits }) (length-replicate (length o.entries) None)
 
-module _ (wiring : FlatNetlist) (active : List ℕ) (processes : List Process) (outcomes : List Outcome) (drivers : List (List ℕ)) (nets : TwoValues) (noted : Numbers) where
-  pub updating_none_yet : ((p : ℕ) → IsActive (pending_of outcomes) p → Contains active p)
-      → IsUpdating wiring active 0 processes outcomes drivers nets noted outcomes drivers nets noted
+module _ (active : List ℕ) (t : Transactions) (nets : NotedNets) where
+  pub updating_none_yet : ((p : ℕ) → IsActive (pending_of t.outcomes) p → Contains active p) → IsUpdating active 0 t nets t nets
   updating_none_yet all_active = record {
     each_outcome = refl;
     each_row = refl;
@@ -211,13 +210,19 @@ module _ (wiring : FlatNetlist) (active : List ℕ) (processes : List Process) (
     each_value = λ p. refl;
     driven_stay = λ p. refl;
     left = λ p a. let (k, l, is) = all_active p a in (k, omega arith, l, get_or_default active k 0 p l ∙ is);
-    brings = brings_all_none wiring processes drivers nets noted;
+    brings = brought_none (IsDriverOf nets.net.processes) (λ d. driver_at t.drivers d.0 d.1) nets;
   }
 
-  module _ (i : ℕ) (outcomes' : List Outcome) (drivers' : List (List ℕ)) (nets' : TwoValues) (noted' : Numbers) (I : IsUpdating wiring active i processes outcomes drivers nets noted outcomes' drivers' nets' noted') where
-    module _ (p : ℕ) (o cleared : Outcome) (row : List ℕ) (nets'' : TwoValues) (noted'' : Numbers) (is : get_or active i 0 ≡ p) (there : p < length outcomes') (there_too : p < length drivers')
+  module _ (i : ℕ) (t' : Transactions) (nets' : NotedNets) (I : IsUpdating active i t nets t' nets') where
+    abbrev outcomes' : List Outcome
+    outcomes' = t'.outcomes
+
+    abbrev drivers' : List (List ℕ)
+    drivers' = t'.drivers
+
+    module _ (p : ℕ) (o cleared : Outcome) (row : List ℕ) (nets'' : NotedNets) (is : get_or active i 0 ≡ p) (there : p < length outcomes') (there_too : p < length drivers')
         (o_is : get_or outcomes' p o ≡ o) (cleared_is : cleared ≡ without_entries o) (row_is : row ≡ driver_values o.entries (get_or drivers' p []))
-        (as_many : length (get_or drivers' p []) ≡ length o.entries) (T : Brings wiring (targets_of processes p) (get_or drivers' p []) row nets' noted' nets'' noted'') where
+        (as_many : length (get_or drivers' p []) ≡ length o.entries) (T : Brings (targets_of nets'.net.processes p) (get_or drivers' p []) row nets' nets'') where
       abbrev nones : List (Option ℕ)
       nones = replicate (length o.entries) None
 
@@ -239,7 +244,11 @@ module _ (wiring : FlatNetlist) (active : List ℕ) (processes : List Process) (
       row_length : length row ≡ length o.entries
       row_length = ap length row_is ∙ length-driven o.entries (get_or drivers' p []) ∙ as_many
 
-      pub updating_one : IsUpdating wiring active (i + 1) processes outcomes drivers nets noted (set outcomes' p cleared) (set drivers' p row) nets'' noted''
+      -- the processes are those from which the update began
+      own : Brings (targets_of nets.net.processes p) (get_or drivers' p []) row nets' nets''
+      own = subst (λ (n : NetlistView). Brings (targets_of n.processes p) (get_or drivers' p []) row nets' nets'') I.brings.stay.net_stays T
+
+      pub updating_one : IsUpdating active (i + 1) t nets (record { drivers = set drivers' p row; outcomes = set outcomes' p cleared }) nets''
       updating_one = record {
         each_outcome = length-set outcomes' p cleared ∙ I.each_outcome;
         each_row = length-set drivers' p row ∙ I.each_row;
@@ -248,19 +257,20 @@ module _ (wiring : FlatNetlist) (active : List ℕ) (processes : List Process) (
         each_value = λ q. value q (cases_eq q p);
         driven_stay = λ q. driven_too q (cases_eq q p);
         left = λ q a. left q a (cases_eq q p);
-        brings = brings_all_more wiring processes drivers drivers' p row nets nets' nets'' noted noted' noted'' there_too I.brings T;
+        brings = brought_then (IsDriverOf nets.net.processes) (λ d. driver_at t.drivers d.0 d.1) (λ d. driver_at drivers' d.0 d.1)
+            (λ d. driver_at (set drivers' p row) d.0 d.1) nets nets' nets'' I.brings (brings_one nets.net.processes drivers' p row there_too nets' nets'' own);
       }
         where
-          entry : (q : ℕ) → (q ≡ p) ⊎ (q ≡ p → ⊥) → length (get_or (pending_of (set outcomes' p cleared)) q []) ≡ length (get_or (pending_of outcomes) q [])
+          entry : (q : ℕ) → (q ≡ p) ⊎ (q ≡ p → ⊥) → length (get_or (pending_of (set outcomes' p cleared)) q []) ≡ length (get_or (pending_of t.outcomes) q [])
           entry q (inl e) = rw e (ap length at_p ∙ length-replicate (length o.entries) None ∙ sym (ap length entries_at) ∙ I.each_entry p)
           entry q (inr n) = ap length (at_other q n) ∙ I.each_entry q
 
-          value : (q : ℕ) → (q ≡ p) ⊎ (q ≡ p → ⊥) → length (get_or (set drivers' p row) q []) ≡ length (get_or drivers q [])
+          value : (q : ℕ) → (q ≡ p) ⊎ (q ≡ p → ⊥) → length (get_or (set drivers' p row) q []) ≡ length (get_or t.drivers q [])
           value q (inl e) = rw e (ap length row_at_p ∙ row_length ∙ sym as_many ∙ I.each_value p)
           value q (inr n) = ap length (get_or-set_other drivers' p q row [] n) ∙ I.each_value q
 
           driven_too : (q : ℕ) → (q ≡ p) ⊎ (q ≡ p → ⊥) → driver_values (get_or (pending_of (set outcomes' p cleared)) q []) (get_or (set drivers' p row) q [])
-              ≡ driver_values (get_or (pending_of outcomes) q []) (get_or drivers q [])
+              ≡ driver_values (get_or (pending_of t.outcomes) q []) (get_or t.drivers q [])
           driven_too q (inl e) =
               rw e (ap (λ (a : List (Option ℕ)). driver_values a (get_or (set drivers' p row) p [])) at_p ∙ ap (driver_values nones) row_at_p
               ∙ driven_cleared (length o.entries) row (sym row_length) ∙ row_is ∙ ap (λ (a : List (Option ℕ)). driver_values a (get_or drivers' p [])) (sym entries_at) ∙ I.driven_stay p)
@@ -280,12 +290,12 @@ module _ (wiring : FlatNetlist) (active : List ℕ) (processes : List Process) (
       none_left_active : (p : ℕ) → IsActive (pending_of outcomes') p → ⊥
       none_left_active p a = let (k, from, within, at) = I.left p a in omega (arith, from, within, done)
 
-      pub updated_outcomes : outcomes' ≡ map without_entries outcomes
+      pub updated_outcomes : outcomes' ≡ map without_entries t.outcomes
       updated_outcomes = sym (none_to_take outcomes' none_left_active) ∙ I.outcomes_stay
 
-      pub updated_drivers : length drivers ≡ length outcomes → ((p : ℕ) → length (get_or drivers p []) ≡ length (get_or (pending_of outcomes) p []))
-          → drivers' ≡ all_driver_values (pending_of outcomes) drivers
+      pub updated_drivers : length t.drivers ≡ length t.outcomes → ((p : ℕ) → length (get_or t.drivers p []) ≡ length (get_or (pending_of t.outcomes) p []))
+          → drivers' ≡ all_driver_values (pending_of t.outcomes) t.drivers
       updated_drivers as_many each =
-          all_driven (pending_of outcomes) drivers drivers' I.each_row (length-map outcomes _ ∙ sym as_many)
+          all_driven (pending_of t.outcomes) t.drivers drivers' I.each_row (length-map t.outcomes _ ∙ sym as_many)
           (λ p. sym (driven_none (get_or (pending_of outcomes') p []) (get_or drivers' p []) (I.each_entry p ∙ sym (each p) ∙ sym (I.each_value p))
           (λ place some. none_left_active p (place, some))) ∙ I.driven_stay p)

@@ -1,3 +1,4 @@
 pub mod Simulation
+pub mod Given
 pub mod Picked
 pub mod Kept

@@ -33,7 +33,8 @@ pub fn are_other(old: &[u8], new: &[u8]) -> bool
     are_any_other(old, new)
 }
 
-/// Whether so many values differ, or at most twice as many: the first so many and the last, which may overlap.
+/// Whether so many values differ, or at most twice as many: the first so many and the last, which
+/// may overlap.
 #[inline(always)]
 fn are_ends_other<const LANES: usize>(old: &[u8], new: &[u8]) -> bool
     requires most { LANES ≤ 64 }
@@ -69,7 +70,8 @@ fn are_any_other(old: &[u8], new: &[u8]) -> bool
     is_one_other(&old[done + more..], &new[done + more..])
 }
 
-/// How many values are alike, so many at a time, from the first on and as far as there are so many; none where some of them differ.
+/// How many values are alike, so many at a time, from the first on and as far as there are so many;
+/// none where some of them differ.
 fn alike_lanes<const LANES: usize>(old: &[u8], new: &[u8]) -> Option<usize>
     requires lanes { 0 < LANES }
     requires most { LANES ≤ 64 }

@@ -23,7 +23,7 @@ pub fn driver_cuts(
 }
 
 /// The nets of the drivers of each process.
-fn target_lists(alloc: Global, processes: &[Process]) -> Result<Lists<usize>, AllocError>
+pub fn target_lists(alloc: Global, processes: &[Process]) -> Result<Lists<usize>, AllocError>
     ensures { IfOk result (λ targets. targets ≡ all_targets processes.now) }
 {
     let mut targets = Lists::new(alloc)?;

@@ -1,9 +1,11 @@
 //! The kernel.
 
-ghost use Rattle.std.specs.Prelude.{◌≡◌, ◌<◌, ◌≤◌, ℕ, List, All, length, slice_index, Contains, IfOk, MatchResult, IsTrue, true};
+ghost use Rattle.std.specs.Prelude.{◌≡◌, ◌<◌, ◌≤◌, ℕ, List, All, length, slice_index, Contains, IfOk, MatchResult};
+ghost use Rattle.std.specs.Prelude.{IsTrue, true};
 ghost use Rattle.std.specs.List.{count_by};
 ghost use Rattle.rtl_model.specs.nets.CoreNetlist.{core_netlist};
-ghost use Rattle.rtl_model.specs.simulation.Cycle.{start_state, after_inputs, after_update, after_run, with_changes, is_quiet};
+ghost use Rattle.rtl_model.specs.simulation.Cycle.{start_state, after_inputs, after_update, after_run, with_changes};
+ghost use Rattle.rtl_model.specs.simulation.Cycle.{is_quiet};
 ghost use Rattle.rtl_model.specs.simulation.Moments.{HasNoneToRun, HasRun, Delta, SettlesTo, IsUnsettled};
 ghost use Rattle.rtl_awaited_edges.specs.Awaiting.{IsAsleep, first_edge};
 ghost use Rattle.rtl_net.specs.Nets.{flat};
@@ -15,13 +17,9 @@ ghost use Rattle.rtl_net_groups.specs.Touching.{Touches};
 use crate::both::both;
 use crate::cutting::driver_cuts;
 use crate::drivers::Drivers;
+use crate::nets::Nets;
 use crate::pick::Pick;
 use crate::resumed::Resumed;
-use crate::starts::first_values;
-use crate::update::resolve_groups;
-use crate::values::Values;
-use crate::wakes::alone_groups;
-use crate::worklist::Worklist;
 use rtl_awaited_edges::{ClockEdge, followers_of, is_asleep};
 use rtl_eval::Exec;
 use rtl_net::Net;
@@ -30,35 +28,31 @@ use std::alloc::{AllocError, Global};
 use std::marker::Model;
 use vhdl_values::Nine;
 
-/// A simulation of a netlist. What a cycle costs goes by the drivers, nets and processes that it touches; `new` takes all
-/// memory, and no other call takes any.
+/// A simulation of a netlist. What a cycle costs goes by the drivers, nets and processes that it
+/// touches; `new` takes all memory, and no other call takes any.
 pub struct Kernel<'a, E: Exec> {
-    net: &'a Net,
     bodies: &'a [E],
+    nets: Nets<'a>,
     cuts: Cuts,
-    alone: Vec<bool>,
-    values: Values,
     drivers: Drivers,
     resumed: Resumed,
-    noted: Worklist,
-    /// The edge that the first process awaits of those that await one, and who awaits just that one.
+    /// The edge that the first process awaits of those that await one, and who awaits just that
+    /// one.
     awaited: Option<ClockEdge>,
     followers: Vec<bool>,
-    /// What was read of the process that is to run next: so it comes from memory while the present one runs. Nothing asks for it.
+    /// What was read of the process that is to run next: so it comes from memory while the present
+    /// one runs. Nothing asks for it.
     ahead: usize,
 }
 
 impl<E: Exec> Drop for Kernel<'_, E> {
     fn drop(self) {
         let Kernel {
-            net: _,
             bodies: _,
+            nets: _,
             cuts: _,
-            alone: _,
-            values: _,
             drivers: _,
             resumed: _,
-            noted: _,
             awaited: _,
             followers: _,
             ahead: _,
@@ -81,14 +75,21 @@ impl<'a, E: Exec> Model for Kernel<'a, E> {
 
     ghost use Rattle.rtl_kernel.specs.kernel.Kept.{IsKernel, state_of};
 
-    ghost view = { λ k. record { net = k.net.now; state = state_of k.values k.drivers k.resumed } };
+    ghost view = { λ k. record { net = k.nets.net; state = state_of k.nets.values k.drivers k.resumed } };
 
-    ghost invariant = { λ k. IsKernel E.process E.types E.most k.net.now k.bodies.now k.cuts k.alone.items k.values k.drivers k.resumed k.noted k.awaited k.followers.items };
+    ghost invariant = { λ k. IsKernel E.process E.types E.most k.bodies.now (record {
+      nets = k.nets;
+      cuts = k.cuts;
+      drivers = k.drivers;
+      resumed = k.resumed;
+      awaited = k.awaited;
+      followers = k.followers.items;
+    }) };
 }
 
 impl<'a, E: Exec> Kernel<'a, E> {
-    /// A simulation that is to be started: of this netlist, whose k-th process the k-th body runs, with a value for each of the
-    /// netlist's inputs, in their order.
+    /// A simulation that is to be started: of this netlist, whose k-th process the k-th body runs,
+    /// with a value for each of the netlist's inputs, in their order.
     ///
     /// It takes the room of all later calls.
     pub fn new(
@@ -106,26 +107,19 @@ impl<'a, E: Exec> Kernel<'a, E> {
     {
         net.is_elaborated();
         let processes = net.processes();
-        let values = first_values(alloc, net, initial)?;
-        let groups = values.groups();
-        let alone = alone_groups(alloc, net, groups)?;
-        let cuts = driver_cuts(alloc, groups.of_net(), processes);
-        let noted = Worklist::new(alloc, groups.count());
+        let nets = Nets::new(alloc, net, initial)?;
+        let cuts = driver_cuts(alloc, nets.values().groups().of_net(), processes);
         let drivers = Drivers::new(alloc, processes, bodies);
         let resumed = Resumed::all(alloc, processes.len());
-        let updates = both(cuts, noted);
-        let runs = both(drivers, resumed);
-        let runs = both(runs, followers_of(alloc, net));
-        let ((cuts, noted), ((drivers, resumed), (awaited, followers))) = both(updates, runs)?;
+        let parts = both(cuts, drivers);
+        let waits = both(resumed, followers_of(alloc, net));
+        let ((cuts, drivers), (resumed, (awaited, followers))) = both(parts, waits)?;
         Ok(Kernel {
-            net,
             bodies,
+            nets,
             cuts,
-            alone,
-            values,
             drivers,
             resumed,
-            noted,
             awaited,
             followers,
             ahead: 0,
@@ -137,7 +131,7 @@ impl<'a, E: Exec> Kernel<'a, E> {
         requires { net < length self.now.net.types }
         ensures { result ≡ slice_index self.entry.now.state.now net }
     {
-        self.values.now()[net]
+        self.nets.values().now()[net]
     }
 
     /// The values of all nets now, as codes, by the nets' numbers.
@@ -145,7 +139,7 @@ impl<'a, E: Exec> Kernel<'a, E> {
         ensures value { result.now ≡ self.now.state.now }
         ensures as_many { length result.now ≡ length self.now.net.types }
     {
-        self.values.now()
+        self.nets.values().now()
     }
 
     /// The values of all nets before the last update, as codes, by the nets' numbers.
@@ -153,16 +147,18 @@ impl<'a, E: Exec> Kernel<'a, E> {
         ensures value { result.now ≡ self.now.state.before }
         ensures as_many { length result.now ≡ length self.now.net.types }
     {
-        self.values.before()
+        self.nets.values().before()
     }
 
-    /// Marks the chunks of the nets that may have an event: in time that goes by the groups of those that have one.
+    /// Marks the chunks of the nets that may have an event: in time that goes by the groups of
+    /// those that have one.
     pub fn mark_changed(&self, touched: &mut Touched)
         requires { touched.old.nets ≡ length self.now.net.types }
         ensures { Touches touched.old touched.new self.now.state.before self.now.state.now }
     {
-        let groups = self.values.groups();
-        let changed = self.values.changed().groups;
+        let values = self.nets.values();
+        let groups = values.groups();
+        let changed = values.changed().groups;
         for group in changed {
             touched.mark_run(groups.first(*group), groups.end(*group));
         }
@@ -175,24 +171,31 @@ impl<'a, E: Exec> Kernel<'a, E> {
         self.drivers.is_quiet()
     }
 
-    /// Initialization (IEEE 1076-2008, 14.7.5.2): each process has its turn once, in the order that the picker answers. The body of
-    /// one that is asleep isn't called, since it would assign nothing: the state is as if it had run.
+    /// Initialization (IEEE 1076-2008, 14.7.5.2): each process has its turn once, in the order that
+    /// the picker answers. The body of one that is asleep isn't called, since it would assign
+    /// nothing: the state is as if it had run.
     pub fn start<P: Pick>(&mut self, pick: &mut P)
         ensures net { self.new.net ≡ self.old.net }
         ensures ran { HasRun (core_netlist (flat self.old.net)) self.old.state self.new.state }
-        ensures picked { HasRunAsPicked P.picks (core_netlist (flat self.old.net)) pick.old pick.new self.old.state self.new.state }
+        ensures picked { HasRunAsPicked P.picks (core_netlist (flat self.old.net))
+            pick.old pick.new self.old.state self.new.state }
     {
         self.run_all(pick);
     }
 
-    /// A cycle in which in ports of the top get new values (14.7.5.3), where no driver is active and no process is to run.
+    /// A cycle in which in ports of the top get new values (14.7.5.3), where no driver is active
+    /// and no process is to run.
     pub fn apply<P: Pick>(&mut self, changes: &[(usize, Nine)], pick: &mut P)
         requires inputs { All (λ c. Contains self.old.net.inputs c.0) changes.now }
         requires ready { HasNoneToRun self.old.state }
         requires quiet { IsTrue (is_quiet self.old.state) }
         ensures net { self.new.net ≡ self.old.net }
-        ensures ran { HasRun (core_netlist (flat self.old.net)) (after_inputs (core_netlist (flat self.old.net)) (with_changes (changes_of changes.now) self.old.state.now) self.old.state) self.new.state }
-        ensures picked { HasRunAsPicked P.picks (core_netlist (flat self.old.net)) pick.old pick.new (after_inputs (core_netlist (flat self.old.net)) (with_changes (changes_of changes.now) self.old.state.now) self.old.state) self.new.state }
+        ensures ran { HasRun (core_netlist (flat self.old.net))
+            (after_inputs (core_netlist (flat self.old.net)) (with_changes (changes_of changes.now) self.old.state.now)
+            self.old.state) self.new.state }
+        ensures picked { HasRunAsPicked P.picks (core_netlist (flat self.old.net)) pick.old pick.new
+            (after_inputs (core_netlist (flat self.old.net)) (with_changes (changes_of changes.now) self.old.state.now)
+            self.old.state) self.new.state }
     {
         self.change(changes);
         self.run_all(pick);
@@ -202,26 +205,32 @@ impl<'a, E: Exec> Kernel<'a, E> {
     pub fn cycle<P: Pick>(&mut self, pick: &mut P)
         requires ready { HasNoneToRun self.old.state }
         ensures net { self.new.net ≡ self.old.net }
-        ensures delta { (order : List ℕ) × Delta (core_netlist (flat self.old.net)) order self.old.state self.new.state }
+        ensures delta { (order : List ℕ) × Delta (core_netlist (flat self.old.net))
+            order self.old.state self.new.state }
         ensures ready { HasNoneToRun self.new.state }
-        ensures picked { HasRunAsPicked P.picks (core_netlist (flat self.old.net)) pick.old pick.new (after_update (core_netlist (flat self.old.net)) self.old.state) self.new.state }
+        ensures picked { HasRunAsPicked P.picks (core_netlist (flat self.old.net)) pick.old pick.new
+            (after_update (core_netlist (flat self.old.net)) self.old.state) self.new.state }
     {
         self.update();
         self.run_all(pick);
     }
 
-    /// Delta cycles until no driver is active, at most so many, where no process is to run. The answer is the number of
-    /// delta cycles; where that is above the limit, the state is the one after as many as the limit.
+    /// Delta cycles until no driver is active, at most so many, where no process is to run. The
+    /// answer is the number of delta cycles; where that is above the limit, the state is the one
+    /// after as many as the limit.
     pub fn settle<P: Pick>(&mut self, limit: u32, pick: &mut P) -> Result<u32, NoSettling>
         requires ready { HasNoneToRun self.old.state }
         ensures net { self.new.net ≡ self.old.net }
         ensures ready { HasNoneToRun self.new.state }
         ensures settled { MatchResult result
-            (λ deltas. SettlesTo (core_netlist (flat self.old.net)) self.old.state deltas self.new.state × (deltas ≤ limit))
+            (λ deltas. SettlesTo (core_netlist (flat self.old.net)) self.old.state deltas self.new.state
+            × (deltas ≤ limit))
             (λ _. IsUnsettled (core_netlist (flat self.old.net)) self.old.state limit self.new.state) }
         ensures picked { MatchResult result
-            (λ deltas. HasDeltasAsPicked P.picks (core_netlist (flat self.old.net)) deltas pick.old pick.new self.old.state self.new.state)
-            (λ _. HasDeltasAsPicked P.picks (core_netlist (flat self.old.net)) limit pick.old pick.new self.old.state self.new.state) }
+            (λ deltas. HasDeltasAsPicked P.picks (core_netlist (flat self.old.net))
+            deltas pick.old pick.new self.old.state self.new.state)
+            (λ _. HasDeltasAsPicked P.picks (core_netlist (flat self.old.net))
+            limit pick.old pick.new self.old.state self.new.state) }
     {
         for deltas in 0..limit {
             if self.is_quiet() {
@@ -236,14 +245,17 @@ impl<'a, E: Exec> Kernel<'a, E> {
         }
     }
 
-    /// Runs the process at a place among those that are to run, in order of number. One that would assign nothing, since the edge
-    /// that it acts at isn't there, is only taken off their list. The next one is brought from memory meanwhile.
+    /// Runs the process at a place among those that are to run, in order of number. One that would
+    /// assign nothing, since the edge that it acts at isn't there, is only taken off their list.
+    /// The next one is brought from memory meanwhile.
     #[inline(always)]
     fn run_one(&mut self, place: usize, asleep: bool)
         requires place { place < count_by (λ b. b) self.old.state.waiting }
-        requires asleep { asleep ≡ true → IsAsleep (first_edge (core_netlist (flat self.old.net)).processes) self.old.state.before self.old.state.now }
+        requires asleep { asleep ≡ true → IsAsleep (first_edge (core_netlist (flat self.old.net)).processes)
+            self.old.state.before self.old.state.now }
         ensures net { self.new.net ≡ self.old.net }
-        ensures ran { (process : ℕ) × IsAt self.old.state.waiting place process × (self.new.state ≡ after_run (core_netlist (flat self.old.net)) process self.old.state) }
+        ensures ran { (process : ℕ) × IsAt self.old.state.waiting place process
+            × (self.new.state ≡ after_run (core_netlist (flat self.old.net)) process self.old.state) }
     {
         let process = self.resumed.take(place);
         if asleep && self.followers[process] {
@@ -251,18 +263,21 @@ impl<'a, E: Exec> Kernel<'a, E> {
         }
         let bodies = self.bodies;
         self.ahead = self.resumed.look_ahead(bodies, &self.drivers);
+        let values = self.nets.values();
         let body = &bodies[process];
         self.drivers
-            .run(process, body, self.values.now(), self.values.before());
+            .run(process, body, values.now(), values.before());
     }
 
     /// Runs all processes that are to run.
     fn run_all<P: Pick>(&mut self, pick: &mut P)
         ensures net { self.new.net ≡ self.old.net }
         ensures ran { HasRun (core_netlist (flat self.old.net)) self.old.state self.new.state }
-        ensures picked { HasRunAsPicked P.picks (core_netlist (flat self.old.net)) pick.old pick.new self.old.state self.new.state }
+        ensures picked { HasRunAsPicked P.picks (core_netlist (flat self.old.net))
+            pick.old pick.new self.old.state self.new.state }
     {
-        let asleep = is_asleep(self.awaited, self.values.before(), self.values.now());
+        let values = self.nets.values();
+        let asleep = is_asleep(self.awaited, values.before(), values.now());
         let mut left = self.resumed.len();
         while left > 0 {
             let place = pick.pick(left);
@@ -271,29 +286,17 @@ impl<'a, E: Exec> Kernel<'a, E> {
         }
     }
 
-    /// Gives all active drivers and their nets their new values, and resumes the processes that wake.
+    /// Gives all active drivers and their nets their new values, and resumes the processes that
+    /// wake.
     fn update(&mut self)
         requires ready { HasNoneToRun self.old.state }
         ensures net { self.new.net ≡ self.old.net }
         ensures state { self.new.state ≡ after_update (core_netlist (flat self.old.net)) self.old.state }
     {
-        let net = self.net;
-        self.values.begin();
-        self.drivers.update(
-            &self.cuts,
-            &self.alone,
-            net,
-            &mut self.values,
-            &mut self.noted,
-        );
-        resolve_groups(
-            self.noted.members(),
-            net,
-            self.drivers.values(),
-            &mut self.values,
-        );
-        self.noted.clear();
-        self.resumed.resume(&self.values);
+        self.nets.begin();
+        self.drivers.update(&self.cuts, &mut self.nets);
+        self.nets.resolve(self.drivers.values());
+        self.resumed.resume(self.nets.values());
     }
 
     /// Gives in ports new values, and resumes the processes that wake.
@@ -302,10 +305,10 @@ impl<'a, E: Exec> Kernel<'a, E> {
         requires ready { HasNoneToRun self.old.state }
         requires quiet { IsTrue (is_quiet self.old.state) }
         ensures net { self.new.net ≡ self.old.net }
-        ensures state { self.new.state ≡ after_inputs (core_netlist (flat self.old.net)) (with_changes (changes_of changes.now) self.old.state.now) self.old.state }
+        ensures state { self.new.state ≡ after_inputs (core_netlist (flat self.old.net))
+            (with_changes (changes_of changes.now) self.old.state.now) self.old.state }
     {
-        self.values.begin();
-        self.values.set_all(changes);
-        self.resumed.resume(&self.values);
+        self.nets.give(changes);
+        self.resumed.resume(self.nets.values());
     }
 }

@@ -6,6 +6,7 @@ mod comparing;
 mod cutting;
 mod drivers;
 mod kernel;
+mod nets;
 mod pick;
 mod resolution;
 mod resumed;
@@ -16,6 +17,8 @@ mod values;
 mod wakes;
 mod worklist;
 
+pub use cutting::target_lists;
 pub use kernel::{Kernel, NoSettling};
 pub use pick::{Forward, Pick, Reverse};
 pub use slices::replace;
+pub use starts::{fresh_outcomes, starting_codes, variable_starts};

@@ -24,11 +24,13 @@ fn source_value(source: &Source, drivers: &[Vec<u8>]) -> u8
     }
 }
 
-/// The value that these sources, of which there is one at least, give their net (IEEE 1076-2008, 14.7.3.2).
+/// The value that these sources, of which there is one at least, give their net (IEEE 1076-2008,
+/// 14.7.3.2).
 pub fn resolution(sources: &[Source], drivers: &[Vec<u8>]) -> u8
     requires some { 0 < length sources.now }
     requires there { All (λ source. IsSourceThere (rows drivers.now) (source_view source)) sources.now }
-    ensures { result ≡ core_resolve (map (λ source. cycle.source_value (rows drivers.now) (source_view source)) sources.now) }
+    ensures { result ≡ core_resolve (map (λ source. cycle.source_value (rows drivers.now) (source_view source))
+        sources.now) }
 {
     if sources.len() == 1 {
         return source_value(&sources[0], drivers);
@@ -39,7 +41,8 @@ pub fn resolution(sources: &[Source], drivers: &[Vec<u8>]) -> u8
 /// The resolution of several values.
 fn several(sources: &[Source], drivers: &[Vec<u8>]) -> u8
     requires there { All (λ source. IsSourceThere (rows drivers.now) (source_view source)) sources.now }
-    ensures { result ≡ code_of (fold resolution_table nine.Z (map value_of_code (map (λ source. cycle.source_value (rows drivers.now) (source_view source)) sources.now))) }
+    ensures { result ≡ code_of (fold resolution_table nine.Z
+        (map value_of_code (map (λ source. cycle.source_value (rows drivers.now) (source_view source)) sources.now))) }
 {
     let mut value = Nine::Z;
     for source in sources {

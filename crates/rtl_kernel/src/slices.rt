@@ -11,7 +11,8 @@ use std::simd::prelude::*;
 pub fn replace(over: &mut [u8], first: usize, values: &[u8]) -> bool
     requires { first + length values.now ≤ length over.old }
     ensures written { IsWritten first values.now over.old over.new }
-    ensures alike { result ≡ false → (k : ℕ) → k < length values.now → slice_index over.old (first + k) ≡ slice_index values.now k }
+    ensures alike { result ≡ false → (k : ℕ) → k < length values.now
+        → slice_index over.old (first + k) ≡ slice_index values.now k }
     ensures other { result ≡ true → IsOther first values.now over.old }
 {
     let end = first + values.len();
@@ -48,7 +49,8 @@ fn replace_all(over: &mut [u8], values: &[u8]) -> bool
     replace_long(over, values)
 }
 
-/// The same of so many values, or of at most twice as many: of the first so many and of the last, which may overlap.
+/// The same of so many values, or of at most twice as many: of the first so many and of the last,
+/// which may overlap.
 #[inline(always)]
 fn replace_ends<const LANES: usize>(over: &mut [u8], values: &[u8]) -> bool
     requires lanes { 0 < LANES }
@@ -86,7 +88,8 @@ fn replace_long(over: &mut [u8], values: &[u8]) -> bool
     differ
 }
 
-/// The same from a place on, so many at a time and as far as there are so many. Answers where it ends.
+/// The same from a place on, so many at a time and as far as there are so many. Answers where it
+/// ends.
 #[inline(always)]
 fn replace_lanes<const LANES: usize>(
     over: &mut [u8],

@@ -1,24 +1,31 @@
 //! What nets, drivers and variables start with.
 
-ghost use Rattle.std.specs.Prelude.{◌≡◌, length, map, IfOk};
+ghost use Rattle.std.specs.Prelude.{◌≡◌, ◌<◌, All, length, map, IfOk};
 ghost use Rattle.rtl_model.specs.nets.FlatNetlist.{element_starts};
 ghost use Rattle.rtl_net.specs.Nets.{variable_view};
-ghost use Rattle.rtl_net.specs.Nets.{flat};
-ghost use Rattle.rtl_net.specs.declared.process.Process.{Process};
-ghost use Rattle.rtl_kernel.specs.drivers.Brought.{AreAloneAlike};
-ghost use Rattle.rtl_kernel.specs.drivers.Starts.{starts_of};
+ghost use Rattle.rtl_kernel.specs.drivers.Rows.{rows};
+ghost use Rattle.rtl_kernel.specs.drivers.Starts.{AreFresh, start_row, starts_of};
 ghost use Rattle.rtl_kernel.specs.kernel.Simulation.{each_given};
 ghost use Rattle.rtl_kernel.specs.values.TwoValues.{AreChanged};
-ghost use Rattle.rtl_kernel.specs.wakes.Woken.{IsIndex, wakers_of};
 
-use crate::values::Values;
-use crate::wakes::wake_groups;
-use rtl_net::{Driver, Net, Variable};
+use rtl_eval::{Drives, Exec};
+use rtl_net::{Driver, Net, Process, Variable};
 use std::alloc::{AllocError, Global};
 use vhdl_values::Nine;
 
+/// What the drivers of each process start with.
+pub fn start_rows(alloc: Global, processes: &[Process]) -> Result<Vec<Vec<u8>>, AllocError>
+    ensures { IfOk result (λ all. rows all.items ≡ map start_row processes.now) }
+{
+    let mut all = Vec::with_capacity(alloc, processes.len())?;
+    for process in processes {
+        all.push(start_values(alloc, &process.drives)?)?;
+    }
+    Ok(all)
+}
+
 /// What these drivers start with.
-pub fn start_values(alloc: Global, drives: &[Driver]) -> Result<Vec<u8>, AllocError>
+fn start_values(alloc: Global, drives: &[Driver]) -> Result<Vec<u8>, AllocError>
     ensures { IfOk result (λ v. v.items ≡ starts_of drives.now) }
 {
     let mut starts = Vec::with_capacity(alloc, drives.len())?;
@@ -39,26 +46,49 @@ pub fn variable_starts(alloc: Global, variables: &[Variable]) -> Result<Vec<u8>,
     Ok(starts)
 }
 
-/// What the nets start with, in groups that the same processes wake on, where the inputs have these values now.
-pub fn first_values(alloc: Global, net: &Net, initial: &[Nine]) -> Result<Values, AllocError>
+/// The outcomes of these processes before any run, each with the room that its body's run wants.
+pub fn fresh_outcomes<E: Exec>(
+    alloc: Global,
+    processes: &[Process],
+    bodies: &[E],
+) -> Result<Vec<Drives>, AllocError>
+    requires { length bodies.now ≡ length processes.now }
+    ensures { IfOk result (λ all. AreFresh E.most processes.now bodies.now all.items) }
+{
+    let mut outcomes = Vec::with_capacity(alloc, processes.len())?;
+    for number in 0..processes.len() {
+        let process = &processes[number];
+        let starts = variable_starts(alloc, &process.variables)?;
+        let room = bodies[number].room();
+        outcomes.push(Drives::new(alloc, process.drives.len(), &starts, room)?)?;
+    }
+    Ok(outcomes)
+}
+
+/// What the nets start with, where the inputs have these values.
+pub fn first_codes(alloc: Global, net: &Net, initial: &[Nine]) -> Result<Vec<u8>, AllocError>
     requires { length initial.now ≡ length net.now.inputs }
-    ensures index { IfOk result (λ v. IsIndex (map (λ (p : Process). p.wakes.items) net.now.processes) (wakers_of v.groups)) }
-    ensures each_net { IfOk result (λ v. length v.groups.of_net ≡ length net.now.types) }
-    ensures alike { IfOk result (λ v. AreAloneAlike (flat net.now) v.groups.of_net) }
-    ensures before { IfOk result (λ v. v.before ≡ v.current) }
-    ensures current { IfOk result (λ v. AreChanged (each_given net.now.inputs initial.now) net.now.starts v.current) }
+    ensures { IfOk result (λ v. AreChanged (each_given net.now.inputs initial.now) net.now.starts v.items) }
 {
     net.is_elaborated();
-    let codes = starting_codes(alloc, net)?;
-    let layout = wake_groups(alloc, net)?;
-    let mut values = Values::new(alloc, layout, &codes)?;
-    values.set_each(net.inputs(), initial);
-    values.begin();
-    Ok(values)
+    let mut codes = starting_codes(alloc, net)?;
+    give_each(net.inputs(), initial, &mut codes);
+    Ok(codes)
+}
+
+/// Gives each of these nets the value of the same number.
+fn give_each(nets: &[usize], values: &[Nine], codes: &mut [u8])
+    requires as_many { length values.now ≡ length nets.now }
+    requires there { All (λ n. n < length codes.old) nets.now }
+    ensures { AreChanged (each_given nets.now values.now) codes.old codes.new }
+{
+    for number in 0..nets.len() {
+        codes[nets[number]] = values[number].code();
+    }
 }
 
 /// What the nets start with.
-fn starting_codes(alloc: Global, net: &Net) -> Result<Vec<u8>, AllocError>
+pub fn starting_codes(alloc: Global, net: &Net) -> Result<Vec<u8>, AllocError>
     ensures { IfOk result (λ v. v.items ≡ net.now.starts) }
 {
     let nets = net.nets();

@@ -13,15 +13,17 @@ use crate::resolution::resolution;
 use crate::values::Values;
 use rtl_net::Net;
 
-/// Gives the nets of these groups the resolution of their sources (IEEE 1076-2008, 14.7.3.2). Those without a source keep
-/// their values.
+/// Gives the nets of these groups the resolution of their sources (IEEE 1076-2008, 14.7.3.2). Those
+/// without a source keep their values.
 pub fn resolve_groups(groups: &[usize], net: &Net, drivers: &[Vec<u8>], values: &mut Values)
     requires groups { All (λ g. g < length values.old.groups.listed) groups.now }
     requires as_many { length values.old.current ≡ length net.now.types }
-    requires there { (n : ℕ) (source : core.Source) → Contains (flat_sources (flat net.now) n) source → IsSourceThere (rows drivers.now) source }
+    requires there { (n : ℕ) (source : core.Source) → Contains (flat_sources (flat net.now) n) source
+        → IsSourceThere (rows drivers.now) source }
     ensures groups { values.new.groups ≡ values.old.groups }
     ensures before { values.new.before ≡ values.old.before }
-    ensures current { AreResolved (core_netlist (flat net.now)) (rows drivers.now) (λ n. Contains groups.now (group_of values.old n))
+    ensures current { AreResolved (core_netlist (flat net.now)) (rows drivers.now)
+        (λ n. Contains groups.now (group_of values.old n))
         values.old.current values.new.current }
 {
     for group in groups {
@@ -33,10 +35,12 @@ pub fn resolve_groups(groups: &[usize], net: &Net, drivers: &[Vec<u8>], values: 
 fn resolve_group(group: usize, net: &Net, drivers: &[Vec<u8>], values: &mut Values)
     requires group { group < length values.old.groups.listed }
     requires as_many { length values.old.current ≡ length net.now.types }
-    requires there { (n : ℕ) (source : core.Source) → Contains (flat_sources (flat net.now) n) source → IsSourceThere (rows drivers.now) source }
+    requires there { (n : ℕ) (source : core.Source) → Contains (flat_sources (flat net.now) n) source
+        → IsSourceThere (rows drivers.now) source }
     ensures groups { values.new.groups ≡ values.old.groups }
     ensures before { values.new.before ≡ values.old.before }
-    ensures current { AreResolved (core_netlist (flat net.now)) (rows drivers.now) (λ n. group_of values.old n ≡ group) values.old.current values.new.current }
+    ensures current { AreResolved (core_netlist (flat net.now)) (rows drivers.now) (λ n. group_of values.old n ≡ group)
+        values.old.current values.new.current }
 {
     let first = values.groups().first(group);
     let end = values.groups().end(group);

@@ -3,7 +3,7 @@
 ghost use Rattle.std.specs.Prelude.{◌≡◌, ◌+◌, ◌<◌, ◌≤◌, ℕ, true, false, length, slice_index, slice_set, All, IfOk};
 ghost use Rattle.rtl_net_groups.specs.Groups.{AreRuns};
 ghost use Rattle.rtl_model.specs.basics.Valuations.{has_event};
-ghost use Rattle.rtl_kernel.specs.kernel.Simulation.{changes_of, each_given};
+ghost use Rattle.rtl_kernel.specs.kernel.Simulation.{changes_of};
 ghost use Rattle.rtl_kernel.specs.values.TwoValues.{AreChanged, CoverEvents, HasEventIn, HasWritten, group_of};
 
 use crate::comparing::are_other;
@@ -14,8 +14,9 @@ use std::alloc::{AllocError, Global};
 use std::marker::Model;
 use vhdl_values::Nine;
 
-/// The nets' values before the last update and now, as codes, with the groups whose nets may differ in the two: so what a
-/// cycle costs here goes by the groups of the nets that it changes. All memory is taken by `new`.
+/// The nets' values before the last update and now, as codes, with the groups whose nets may differ
+/// in the two: so what a cycle costs here goes by the groups of the nets that it changes. All
+/// memory is taken by `new`.
 pub struct Values {
     groups: Groups,
     before: Vec<u8>,
@@ -143,19 +144,6 @@ impl Values {
         self.once = true;
     }
 
-    /// Gives each of these nets the value of the same number.
-    pub fn set_each(&mut self, nets: &[usize], values: &[Nine])
-        requires as_many { length values.now ≡ length nets.now }
-        requires there { All (λ n. n < length self.old.current) nets.now }
-        ensures groups { self.new.groups ≡ self.old.groups }
-        ensures before { self.new.before ≡ self.old.before }
-        ensures current { AreChanged (each_given nets.now values.now) self.old.current self.new.current }
-    {
-        for number in 0..nets.len() {
-            self.set(nets[number], values[number].code());
-        }
-    }
-
     /// Gives nets values now, one after the other.
     pub fn set_all(&mut self, changes: &[(usize, Nine)])
         requires { All (λ c. c.0 < length self.old.current) changes.now }
@@ -202,7 +190,8 @@ fn bring_up(before: &mut [u8], current: &[u8], groups: &Groups, changed: &[usize
     requires runs { AreRuns groups.now.of_net groups.now.first }
     requires each_group { length groups.now.listed ≡ length groups.now.first }
     requires each_net { length groups.now.of_net ≡ length current.now }
-    requires covers { CoverEvents (record { groups = groups.now; before = before.old; current = current.now }) changed.now }
+    requires covers { CoverEvents (record { groups = groups.now; before = before.old; current = current.now })
+        changed.now }
     ensures { before.new ≡ current.now }
 {
     for group in changed {

@@ -11,13 +11,14 @@ use rtl_net::{Net, Process, Signal};
 use rtl_net_groups::{Groups, Lists};
 use std::alloc::{AllocError, Global};
 
-/// A netlist's nets in groups that the same processes wake on, and that have one source each, or none of them just
-/// one.
+/// A netlist's nets in groups that the same processes wake on, and that have one source each, or
+/// none of them just one.
 pub fn wake_groups(alloc: Global, net: &Net) -> Result<Groups, AllocError>
     ensures runs { IfOk result (λ groups. AreRuns groups.of_net groups.first) }
     ensures each_group { IfOk result (λ groups. length groups.listed ≡ length groups.first) }
     ensures as_many { IfOk result (λ groups. length groups.of_net ≡ length net.now.types) }
-    ensures index { IfOk result (λ groups. IsIndex (map (λ (p : Process). p.wakes.items) net.now.processes) (wakers_of groups)) }
+    ensures index { IfOk result (λ groups. IsIndex (map (λ (p : Process). p.wakes.items) net.now.processes)
+        (wakers_of groups)) }
     ensures alike { IfOk result (λ groups. AreAloneAlike (flat net.now) groups.of_net) }
 {
     let mut declared = declarations(alloc, net.nets(), net.signals())?;
@@ -38,7 +39,8 @@ fn wake_lists(alloc: Global, processes: &[Process]) -> Result<Lists<usize>, Allo
     Ok(wakes)
 }
 
-/// For each of so many nets the first of these signals that has it, which is the one that it was declared as.
+/// For each of so many nets the first of these signals that has it, which is the one that it was
+/// declared as.
 fn declarations(alloc: Global, nets: usize, signals: &[Signal]) -> Result<Vec<usize>, AllocError>
     ensures { IfOk result (λ declared. length declared.items ≡ nets) }
 {
@@ -73,7 +75,8 @@ fn tell_apart(declared: &mut Vec<usize>, net: &Net)
     }
 }
 
-/// A number for this one, odd where it is to be. As long as they aren't huge, numbers that differ stay different.
+/// A number for this one, odd where it is to be. As long as they aren't huge, numbers that differ
+/// stay different.
 fn told_apart(number: usize, is_odd: bool) -> usize
     ensures { (is_odd ≡ true) ↔ (result % 2 ≡ 1) }
 {

@@ -7,7 +7,8 @@ ghost use Rattle.rtl_kernel.specs.worklists.Numbers.{IsWith};
 use std::alloc::{AllocError, Global};
 use std::marker::Model;
 
-/// A set of numbers below a bound: a mark for each number, and a list of the marked ones. All memory is taken by `new`.
+/// A set of numbers below a bound: a mark for each number, and a list of the marked ones. All
+/// memory is taken by `new`.
 pub struct Worklist {
     marks: Vec<bool>,
     members: Vec<usize>,

@@ -1,24 +1,21 @@
 -- New values of inputs.
-use Rattle.std.proofs.Common.{refl, ap, subst, arith, zero, suc, ◌≡◌, ℕ, ◌<◌, ◌≤◌, true, false, List, [], ◌∷◌, length, get_or, set, sym, ◌∙◌, ◌⊎◌, inl, inr, Contains, All, ◌==◌}
+use Rattle.std.proofs.Common.{subst, ◌≡◌, ℕ, ◌<◌, ◌≤◌, true, false, List, [], ◌∷◌, length, get_or, set, sym, ◌∙◌, ◌⊎◌, inl, inr, Contains, All, ◌==◌}
 use Rattle.std.specs.List.{list_any}
 use Rattle.std.proofs.lemmas.Bool.{cases_Bool, cases_eq, cases_lt}
 use Rattle.std.proofs.lemmas.List.{get_or-set_same, get_or-set_other, get_or_past, length-set}
 use Rattle.std.proofs.lemmas.Option.{slice_get_within}
 use Rattle.vhdl_values.specs.declared.scalar.Nine.{Nine}
-use Rattle.vhdl_values.proofs.Codes.{code_of_below}
 use Rattle.rtl_model.specs.bodies.Types.{nine_valued}
 use Rattle.rtl_model.specs.nets.Wiring.{IsConnected}
-use Rattle.rtl_model.proofs.basics.Lists.{contains_in, in_contains}
-use Rattle.rtl_model.proofs.nets.InRange.{keeps_range, limit-at}
 use Rattle.rtl_model.specs.nets.FlatNetlist.{FlatNetlist, IsInRange}
 use Rattle.rtl_model.specs.nets.CoreNetlist.{core_netlist}
-use Rattle.rtl_model.specs.simulation.Cycle.{with_changes, with_inputs}
-use Rattle.rtl_model.specs.simulation.Range.{AreInputs, IsValuation, limit}
+use Rattle.rtl_model.specs.simulation.Cycle.{with_changes}
+use Rattle.rtl_model.specs.simulation.Range.{IsValuation, limit}
 use Rattle.rtl_model.proofs.simulation.Consistent.{each_change_is_made}
 use Rattle.rtl_kernel.specs.kernel.Simulation.{changes_of, each_given, initial_inputs}
 use Rattle.rtl_kernel.specs.values.TwoValues.{AreChanged}
-use Rattle.rtl_kernel.proofs.Changing.{changed_below, given_values}
-use Rattle.rtl_kernel.proofs.Inputs.{are_inputs, input_has, named}
+use Rattle.rtl_kernel.proofs.Inputs.{are_inputs, named}
+use Rattle.rtl_kernel.proofs.Started.{first_inputs, first_is}
 use Rattle.rtl_kernel.proofs.Steps.{keeps}
 
 -- the same changes give a net the same, where it had the same
@@ -32,6 +29,9 @@ changed_alike (c ∷ cs) v w n many same =
     by (inl e) (inr l) = rw e (get_or_past (set v c.0 c.1) c.0 0 (rw length-set l) ∙ sym (get_or_past (set w c.0 c.1) c.0 0 (rw (length-set, ← many) l)))
     by (inr ne) _ = get_or-set_other v c.0 n c.1 0 ne ∙ same ∙ sym (get_or-set_other w c.0 n c.1 0 ne)
 
+pub inputs_below : (net : FlatNetlist) → IsInRange net → All (λ (n : ℕ). n < length net.start) net.inputs
+inputs_below net R k d l = rw (R.each_starts) (slice_get_within net.types _ nine_valued (R.inputs k d l))
+
 module _ (net : FlatNetlist) (R : IsInRange net) (cs : List (ℕ × Nine)) (inputs : All (λ (c : ℕ × Nine). Contains net.inputs c.0) cs) where
   pub changed_in_range : (old new : List ℕ) → IsValuation (core_netlist net) old → AreChanged (changes_of cs) old new → IsValuation (core_netlist net) new
   changed_in_range old new V A = record { each_net = A.as_many ∙ V.each_net; in_range = λ n l. rw (A.each n) (by n l (cases_Bool (list_any (λ m. m == n) net.inputs))) }
@@ -42,28 +42,7 @@ module _ (net : FlatNetlist) (R : IsInRange net) (cs : List (ℕ × Nine)) (inpu
 
 -- ---- the first values of all inputs
 
-given_named : (ns : List ℕ) (vs : List Nine) (n value : ℕ) → Contains (each_given ns vs) (n, value) → Contains ns n
-given_named [] vs n value (k, l, e) = absurd (omega arith)
-given_named (m ∷ ns) [] n value (k, l, e) = absurd (omega arith)
-given_named (m ∷ ns) (v ∷ vs) n value (zero, l, e) = (zero, omega arith, ap (λ (c : ℕ × ℕ). c.0) e)
-given_named (m ∷ ns) (v ∷ vs) n value (suc k, l, e) = let (j, within, is) = given_named ns vs n value (k, omega arith, e) in (suc j, omega arith, is)
-
-given_below : (ns : List ℕ) (vs : List Nine) → All (λ (c : ℕ × ℕ). c.1 < 9) (each_given ns vs)
-given_below [] vs k d l = absurd (omega arith)
-given_below (m ∷ ns) [] k d l = absurd (omega arith)
-given_below (m ∷ ns) (v ∷ vs) zero d l = code_of_below v
-given_below (m ∷ ns) (v ∷ vs) (suc k) d l = given_below ns vs k d (omega arith)
-
 module _ (net : FlatNetlist) (R : IsInRange net) (C : IsConnected net) (initial : List Nine) (now : List ℕ) (A : AreChanged (each_given net.inputs initial) net.start now) where
-  pub first_is : now ≡ with_inputs (core_netlist net) (initial_inputs net initial) net.start
-  first_is = given_values (core_netlist net) (each_given net.inputs initial) net.start now refl A (λ n value h. contains_in net.inputs n (given_named net.inputs initial n value h))
-
-  first_inputs : AreInputs (core_netlist net) (initial_inputs net initial)
-  first_inputs n is_input =
-      let has = input_has net R n (in_contains net.inputs n is_input) in
-      let limit_is = limit-at net.types n nine_valued has in
-      let there : n < length net.start = rw (R.each_starts) (slice_get_within net.types n nine_valued has) in
-      rw limit_is (changed_below (each_given net.inputs initial) net.start n 9 (given_below net.inputs initial) (rw limit_is at ((keeps_range net R).starts_in_range.in_range n there)))
-
   pub first_in_range : IsValuation (core_netlist net) now
-  first_in_range = subst (λ (v : List ℕ). IsValuation (core_netlist net) v) (sym first_is) ((keeps net R C).starts (initial_inputs net initial) first_inputs).now
+  first_in_range =
+      subst (λ (v : List ℕ). IsValuation (core_netlist net) v) (sym (first_is net R initial now A)) ((keeps net R C).starts (initial_inputs net initial) (first_inputs net R initial)).now

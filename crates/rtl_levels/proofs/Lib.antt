@@ -11,13 +11,13 @@ pub mod Whole
 pub mod Spanned
 pub mod Sweeping
 pub mod Together
-pub mod Replaced
+pub mod Advancing
 pub mod Awake
 pub mod Resting
 pub mod Changed
 pub mod Stepping
-pub mod Rooms
 pub mod Wired
+pub mod Planned
 pub mod Machines
 pub mod Ordering
 pub mod Touching

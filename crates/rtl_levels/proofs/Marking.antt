@@ -7,9 +7,6 @@ use Rattle.rtl_kernel.specs.values.TwoValues.{IsWritten}
 use Rattle.rtl_levels.specs.Marks.{Marks, IsOfRun, Follows}
 
 module _ (index : List (List ℕ)) where
-  pub marks_none : (nets : ℕ → Type 0) (v : List ℕ) (m : List Bool) → Marks index nets v v m m
-  marks_none nets v m = record { as_many = refl; kept = λ k h. h; followed = λ net k differs f. absurd (differs refl); no_other = λ k h. inl h }
-
   pub marks_same : (nets : ℕ → Type 0) (v w : List ℕ) (m : List Bool) → ((n : ℕ) → get_or v n 0 ≡ get_or w n 0) → Marks index nets v w m m
   marks_same nets v w m same = record { as_many = refl; kept = λ k h. h; followed = λ net k differs f. absurd (differs (same net)); no_other = λ k h. inl h }
 

@@ -2,39 +2,43 @@
 use Rattle.std.proofs.Common.{◌≡◌, ℕ, ◌<◌, Bool, true, false, List, length, get_or, Option, None, sym, ap, subst, ◌∙◌, ◌⊎◌, inl, inr}
 use Rattle.std.proofs.lemmas.Bool.{cases_Bool}
 use Rattle.rtl_model.specs.simulation.Netlist.{Netlist, process, target, HasPlace, IsCombinational}
-use Rattle.rtl_model.specs.simulation.Elaborated.{IsElaborated}
-use Rattle.rtl_model.specs.simulation.Accepted.{IsAccepted}
 use Rattle.rtl_model.specs.simulation.Machine.{entry_or}
 use Rattle.rtl_model.proofs.simulation.Faultless.{faultless}
-use Rattle.rtl_model.proofs.simulation.Leveled.{leveled}
+use Rattle.rtl_model.proofs.simulation.Leveled.{Leveled, leveled}
+use Rattle.rtl_kernel.specs.wakes.Woken.{wakers_of}
+use Rattle.rtl_levels.specs.declared.schedule.Schedule.{Schedule}
+use Rattle.rtl_levels.specs.Kept.{IsPlanned}
 use Rattle.rtl_levels.specs.Running.{IsSettled}
 use Rattle.rtl_levels.specs.Marks.{Marks}
-use Rattle.rtl_levels.specs.Scheduled.{IsSchedule}
 use Rattle.rtl_levels.specs.Steps.{AllTakeOver, IsSwept, ComesToRest, IsCombinationallyDriven, IsDrivenByMarked}
 use Rattle.rtl_levels.proofs.Settling.{each_stays_settled, one_process}
-use Rattle.rtl_levels.proofs.Sweeping.{at, at_rank, reads_agree}
+use Rattle.rtl_levels.proofs.Sweeping.{at_rank, reads_agree}
 
-module _ (net : Netlist) (E : IsElaborated net) (A : IsAccepted net) (marked : List Bool) (clocked_alone : (p : ℕ) → get_or marked p false ≡ true → IsCombinational net p → ⊥)
+module _ (net : Netlist) (schedule : Schedule) (P : IsPlanned net schedule) (marked : List Bool) (clocked_alone : (p : ℕ) → get_or marked p false ≡ true → IsCombinational net p → ⊥)
     (entries : ℕ → List (Option ℕ)) (v w : List ℕ) (T : AllTakeOver net marked entries v w) where
+  abbrev L : Leveled net
+  L = leveled net P.elaborated (faultless net P.accepted)
+
   -- a combinational process's nets are no marked one's
-  pub not_marked : (p place : ℕ) → IsCombinational net p → HasPlace net p place → IsDrivenByMarked net marked (target net p place) → ⊥
+  not_marked : (p place : ℕ) → IsCombinational net p → HasPlace net p place → IsDrivenByMarked net marked (target net p place) → ⊥
   not_marked p place c h (q, at, m, has, t) =
-      let e = one_process net (leveled net E (faultless net A)) q p at place has h t in
+      let e = one_process net L q p at place has h t in
       clocked_alone q m (subst (λ (x : ℕ). IsCombinational net x) e c)
 
-  pub not_combinational : (p place : ℕ) → get_or marked p false ≡ true → HasPlace net p place → IsCombinationallyDriven net (target net p place) → ⊥
+  not_combinational : (p place : ℕ) → get_or marked p false ≡ true → HasPlace net p place → IsCombinationallyDriven net (target net p place) → ⊥
   not_combinational p place m h (q, at, c, has, t) =
-      let e = one_process net (leveled net E (faultless net A)) q p at place has h t in
+      let e = one_process net L q p at place has h t in
       clocked_alone p m (subst (λ (x : ℕ). IsCombinational net x) (sym e) c)
 
   -- what was clean and isn't marked still is
-  pub stays_clean : (order : List ℕ) (readers clocked : List (List ℕ)) (S : IsSchedule net order readers clocked) (nets : ℕ → Type 0) (a b : List Bool) → Marks readers nets v w a b
-      → ((k : ℕ) → k < length order → get_or a k false ≡ false → IsSettled net v (get_or order k 0))
-      → (k : ℕ) → k < length order → get_or b k false ≡ false → IsSettled net w (get_or order k 0)
-  stays_clean order readers clocked S nets a b M clean k l none =
-      each_stays_settled net E (get_or order k 0) v w (at_rank net order readers clocked S k l) (clean k l (was (cases_Bool (get_or a k false))))
-      (reads_agree net order readers clocked S E A nets v w a b M k l none)
-      (λ place h. T.on_others (target net (get_or order k 0) place) (not_marked (get_or order k 0) place (at_rank net order readers clocked S k l) h))
+  pub stays_clean : (nets : ℕ → Type 0) (a b : List Bool) → Marks (wakers_of schedule.readers) nets v w a b
+      → ((k : ℕ) → k < length schedule.order.items → get_or a k false ≡ false → IsSettled net v (get_or schedule.order.items k 0))
+      → (k : ℕ) → k < length schedule.order.items → get_or b k false ≡ false → IsSettled net w (get_or schedule.order.items k 0)
+  stays_clean nets a b M clean k l none =
+      let p = get_or schedule.order.items k 0 in
+      let c = at_rank net schedule P k l in
+      each_stays_settled net P.elaborated p v w c (clean k l (was (cases_Bool (get_or a k false)))) (reads_agree net schedule P nets v w a b M k l none)
+      (λ place h. T.on_others (target net p place) (not_marked p place c h))
     where
       was : (get_or a k false ≡ true) ⊎ (get_or a k false ≡ false) → get_or a k false ≡ false
       was (inl h) = let f = M.kept k h in cc

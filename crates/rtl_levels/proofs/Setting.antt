@@ -1,26 +1,51 @@
 -- Nets of one group that get values together.
-use Rattle.std.proofs.Common.{◌≡◌, ◌<◌, ◌≤◌, ◌+◌, ℕ, Bool, List, [], get_or, length, ap, sym, subst, ◌∙◌, arith}
+use Rattle.std.proofs.Common.{◌≡◌, ◌<◌, ◌+◌, ℕ, List, [], Vec, get_or, length, ap, sym, subst, ◌∙◌, arith}
+use Rattle.std.specs.Global.{Global}
 use Rattle.std.proofs.lemmas.List.{length-map}
 use Rattle.rtl_net_groups.specs.Groups.{Grouping}
+use Rattle.rtl_net_groups.specs.Touching.{MarksRun}
 use Rattle.rtl_kernel.specs.values.TwoValues.{IsWritten}
 use Rattle.rtl_kernel.specs.wakes.Woken.{AddsPlaces, wakers_of}
 use Rattle.rtl_kernel.proofs.Grouped.{wakers_at}
-use Rattle.rtl_levels.specs.Marks.{IsOfRun, Marks}
-use Rattle.rtl_levels.proofs.Marking.{marks_run}
+use Rattle.rtl_kernel.proofs.Replaced.{same_values}
+use Rattle.rtl_levels.specs.declared.state.State.{State}
+use Rattle.rtl_levels.specs.States.{GetValues, StandTogether}
+use Rattle.rtl_levels.proofs.Marking.{marks_run, marks_same}
+use Rattle.rtl_levels.proofs.Touching.{touches_run, touches_same}
 
-module _ (groups : Grouping) (many : ℕ) (each_net : length (wakers_of groups) ≡ many) (first : ℕ) where
-  in_nets : (n : ℕ) → n < many → n < length groups.of_net
-  in_nets n l = omega (arith, l, each_net, length-map groups.of_net (λ (g : ℕ). get_or groups.listed g []))
-
-  pub set_marks : (v w given : List ℕ) (a b : List Bool) → length v ≡ many → first + length given ≤ many → 0 < length given
-      → ((k : ℕ) → k < length given → get_or groups.of_net (first + k) 0 ≡ get_or groups.of_net first 0) → (followers : List ℕ) → followers ≡ get_or (wakers_of groups) first []
-      → IsWritten first given v w → length b ≡ length a → AddsPlaces followers a b → Marks (wakers_of groups) (IsOfRun first (length given)) v w a b
-  set_marks v w given a b as_many there some together followers are written lasting adds =
-      marks_run (wakers_of groups) v w first given a b some alike written lasting (subst (λ (xs : List ℕ). AddsPlaces xs a b) are adds)
+module _ (readers : Grouping) (first : ℕ) (given : List ℕ) (a : State) where
+  pub get_new : (b : State) → StandTogether readers first (length given) a → IsWritten first given a.values.items b.values.items → 0 < length given → (followers : List ℕ)
+      → followers ≡ get_or (wakers_of readers) first [] → length b.dirty.items ≡ length a.dirty.items → AddsPlaces followers a.dirty.items b.dirty.items
+      → MarksRun first (first + length given) a.touched b.touched → GetValues readers first given a b
+  get_new b T W some followers are lasting adds M = record {
+    written = W;
+    advances = record {
+      as_many = W.as_many;
+      marks = marks_run (wakers_of readers) a.values.items b.values.items first given a.dirty.items b.dirty.items some alike W lasting
+          (subst (λ (xs : List ℕ). AddsPlaces xs a.dirty.items b.dirty.items) are adds);
+      touched = touches_run a.touched b.touched first given a.values.items b.values.items W M;
+    };
+  }
     where
-      here : first < many
-      here = omega (arith, there, some)
+      in_nets : (n : ℕ) → n < length a.values.items → n < length readers.of_net
+      in_nets n l = omega (arith, l, T.followed.each_net, length-map readers.of_net (λ (g : ℕ). get_or readers.listed g []))
 
-      alike : (k : ℕ) → k < length given → get_or (wakers_of groups) (first + k) [] ≡ get_or (wakers_of groups) first []
-      alike k l = wakers_at groups (first + k) (in_nets (first + k) (omega (arith, l, there))) ∙ ap (λ (g : ℕ). get_or groups.listed g []) (together k l)
-          ∙ sym (wakers_at groups first (in_nets first here))
+      alike : (k : ℕ) → k < length given → get_or (wakers_of readers) (first + k) [] ≡ get_or (wakers_of readers) first []
+      alike k l =
+          wakers_at readers (first + k) (in_nets (first + k) (omega (arith, l, T.there))) ∙ ap (λ (g : ℕ). get_or readers.listed g []) (T.together k l)
+          ∙ sym (wakers_at readers first (in_nets first (omega (arith, T.there, some))))
+
+  -- those that they have
+  pub get_same : (w : Vec ℕ Global) → IsWritten first given a.values.items w.items → ((k : ℕ) → k < length given → get_or a.values.items (first + k) 0 ≡ get_or given k 0)
+      → GetValues readers first given a (record a { values = w })
+  get_same w W same =
+      let stay = same_values first given a.values.items w.items W same in
+      let at : (n : ℕ) → get_or a.values.items n 0 ≡ get_or w.items n 0 = λ n. ap (λ (vs : List ℕ). get_or vs n 0) stay in
+      record {
+        written = W;
+        advances = record {
+          as_many = W.as_many;
+          marks = marks_same _ _ a.values.items w.items a.dirty.items at;
+          touched = touches_same a.touched a.values.items w.items at;
+        };
+      }

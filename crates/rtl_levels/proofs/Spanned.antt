@@ -1,63 +1,119 @@
--- The entries of a span that are taken over by a process whose drivers are one cut.
-use Rattle.std.proofs.Common.{◌≡◌, ℕ, ◌+◌, ◌<◌, ◌≤◌, List, Bool, Option, Some, None, arith, length, get_or, drop, sym, subst, ◌∙◌, ◌⊎◌, Contains, IsSome}
+-- Entries that are taken over, span by span.
+use Rattle.std.proofs.Common.{◌≡◌, ℕ, ◌+◌, ◌<◌, ◌≤◌, List, Option, Some, None, arith, length, get_or, drop, ap, sym, subst, ◌∙◌, ◌⊎◌, inl, inr, Contains, IsSome}
 use Rattle.std.specs.List.{range_with_len}
+use Rattle.std.proofs.lemmas.Bool.{cases_lt}
 use Rattle.std.proofs.lemmas.List.Elements.{Contains-get_or}
 use Rattle.std.proofs.lemmas.List.FromFn.{get_or-range_with_len, length-range_with_len}
 use Rattle.rtl_eval.specs.declared.spans.Span.{Span}
 use Rattle.rtl_eval.specs.Spans.{places_of}
 use Rattle.rtl_eval.specs.Tracked.{AreAssigned, LieWithin}
 use Rattle.rtl_eval.proofs.Places.{place_assigned}
+use Rattle.rtl_net_groups.specs.Groups.{Grouping}
 use Rattle.rtl_kernel.specs.drivers.Updates.{IsTaken}
-use Rattle.rtl_kernel.specs.values.TwoValues.{IsWritten}
-use Rattle.rtl_kernel.proofs.Updating.{left_one}
-use Rattle.rtl_levels.specs.Marks.{IsOfRun, Marks}
+use Rattle.rtl_kernel.specs.wakes.Woken.{AreDifferent}
+use Rattle.rtl_kernel.proofs.Updating.{left_all, left_one, none_left, taken_more}
+use Rattle.rtl_levels.specs.declared.state.State.{State}
+use Rattle.rtl_levels.specs.Marks.{IsOfRun}
 use Rattle.rtl_levels.specs.Running.{TakesPart, at_targets}
-use Rattle.rtl_levels.proofs.Marking.{marks_wider}
-use Rattle.rtl_levels.proofs.Taking.{part_run, taken_here}
+use Rattle.rtl_levels.specs.States.{Advances, GetValues, StandTogether, TakeEntries, TakeSome}
+use Rattle.rtl_levels.proofs.Advancing.{advances_none, advances_then, advances_wider}
+use Rattle.rtl_levels.proofs.Taking.{part_all, part_none, part_run, part_then, taken_here}
 use Rattle.rtl_levels.proofs.Whole.{run_differs}
 
-module _ (base : ℕ) (entries : List (Option ℕ)) where
-  abbrev pub run : List ℕ
-  run = range_with_len base (length entries)
+abbrev pub no_span : Span
+no_span = record { first = 0; len = 0 }
 
-  module _ (spans : List Span) (i : ℕ) (d : Span) (l : i < length spans) (A : AreAssigned entries (places_of spans)) (within : LieWithin (length entries) spans)
-      (assigned : List ℕ) (as_many : length assigned ≡ (get_or spans i d).len)
-      (has : (k : ℕ) → k < (get_or spans i d).len → IsSome (get_or entries ((get_or spans i d).first + k) None) → get_or entries ((get_or spans i d).first + k) None ≡ Some (get_or assigned k 0))
-      (old new : List ℕ) (W : IsWritten (base + (get_or spans i d).first) assigned old new) where
-    abbrev place : ℕ
-    place = (get_or spans i d).first
+module _ (readers : Grouping) (targets : List ℕ) (entries : List (Option ℕ)) where
+  pub some_none : (from : ℕ) (a : State) → TakeSome readers targets entries from from a a
+  some_none from a = record { part = part_none targets entries a.values.items; taken = λ q l k. absurd (omega (arith, l, k)); advances = advances_none readers (Contains targets) a }
 
-    short : place + length assigned ≤ length run
-    short = let end = within i d l in omega (arith, end, as_many, length-range_with_len base (length entries))
+  pub some_then : (from middle end : ℕ) (a b c : State) → TakeSome readers targets entries from middle a b → TakeSome readers targets entries middle end b c → TakeSome readers targets entries from end a c
+  some_then from middle end a b c S T = record {
+    part = part_then targets entries a.values.items b.values.items c.values.items S.part T.part;
+    taken = λ q low high. by q low high (cases_lt q middle);
+    advances = advances_then readers (Contains targets) a b c S.advances T.advances;
+  }
+    where
+      by : (q : ℕ) → from ≤ q → q < end → (q < middle) ⊎ (middle ≤ q) → IsTaken entries (at_targets targets c.values.items) q
+      by q low high (inl l) = T.part.stay q (S.taken q low l)
+      by q low high (inr le) = T.taken q le high
 
-    are : (k : ℕ) → k < length assigned → get_or entries (place + k) None ≡ Some (get_or assigned k 0)
-    are k m = let n : k < (get_or spans i d).len = omega (arith, m, as_many) in has k n (place_assigned entries spans A i k d l n)
+  -- those of places whose nets stand one behind the other
+  pub some_run : AreDifferent targets → (first net : ℕ) (given : List ℕ) → first + length given ≤ length targets → ((k : ℕ) → k < length given → get_or targets (first + k) 0 ≡ net + k)
+      → ((k : ℕ) → k < length given → get_or entries (first + k) None ≡ Some (get_or given k 0)) → (a b : State) → GetValues readers net given a b
+      → TakeSome readers targets entries first (first + length given) a b
+  some_run differ first net given within is are a b G = record {
+    part = part;
+    taken = taken_more entries (at_targets targets a.values.items) (at_targets targets b.values.items) first first given are
+        (taken_here targets entries differ a.values.items b.values.items first net given within is are G.written) part.stay (λ q l k. absurd (omega (arith, l, k)));
+    advances = advances_wider readers (IsOfRun net (length given)) (Contains targets) of_run a b G.advances;
+  }
+    where
+      part : TakesPart targets entries a.values.items b.values.items
+      part = part_run targets entries differ a.values.items b.values.items first net given within is are G.written
 
-    is : (k : ℕ) → k < length assigned → get_or run (place + k) 0 ≡ base + place + k
-    is k m =
-        let e : base + (place + k) ≡ base + place + k = omega arith in
-        let in_run = short in
-        get_or-range_with_len base (length entries) (place + k) 0 (omega (arith, m, in_run, length-range_with_len base (length entries))) ∙ e
+      of_run : (n : ℕ) → IsOfRun net (length given) n → Contains targets n
+      of_run n r = let l = r.within in subst (λ (m : ℕ). Contains targets m) (is r.at l ∙ sym r.is) (Contains-get_or targets (first + r.at) 0 (omega (arith, l, within)))
 
-    pub span_part : TakesPart run entries old new
-    span_part = part_run run entries (run_differs base (length entries)) old new place (base + place) assigned short is are W
+  -- those of the spans before the index
+  pub record IsTaking (spans : List Span) (index : ℕ) (a b : State) : Type 0 where
+    pub part : TakesPart targets entries a.values.items b.values.items
+    pub left : (q : ℕ) → IsTaken entries (at_targets targets b.values.items) q ⊎ Contains (places_of (drop index spans)) q
+    pub advances : Advances readers (Contains targets) a b
 
-    pub span_left : ((q : ℕ) → IsTaken entries (at_targets run old) q ⊎ Contains (places_of (drop i spans)) q)
-        → (q : ℕ) → IsTaken entries (at_targets run new) q ⊎ Contains (places_of (drop (i + 1) spans)) q
-    span_left left = left_one entries (at_targets run old) (at_targets run new) spans i d l span_part.stay taken left
-      where
-        taken : (k : ℕ) → k < (get_or spans i d).len → IsTaken entries (at_targets run new) (place + k)
-        taken k m x e =
-            let n : k < length assigned = omega (arith, m, as_many) in
-            let one = are k n in
-            let same : get_or assigned k 0 ≡ x = cc in
-            taken_here run entries (run_differs base (length entries)) old new place (base + place) assigned short is are W k n ∙ same
+  module _ (spans : List Span) where
+    pub taking_none : AreAssigned entries (places_of spans) → (a : State) → IsTaking spans 0 a a
+    taking_none A a = record {
+      part = part_none targets entries a.values.items;
+      left = left_all entries (at_targets targets a.values.items) spans A;
+      advances = advances_none readers (Contains targets) a;
+    }
 
-    pub span_marks : (index : List (List ℕ)) (a b : List Bool) → Marks index (IsOfRun (base + place) (length assigned)) old new a b → Marks index (Contains run) old new a b
-    span_marks index a b M = marks_wider index (IsOfRun (base + place) (length assigned)) (Contains run) of_run old new a b M
-      where
-        of_run : (n : ℕ) → IsOfRun (base + place) (length assigned) n → Contains run n
-        of_run n r =
-            let w = r.within in
-            let in_run = short in
-            subst (λ (m : ℕ). Contains run m) (is r.at w ∙ sym r.is) (Contains-get_or run (place + r.at) 0 (omega (arith, w, in_run)))
+    pub taking_more : (i : ℕ) (d : Span) → i < length spans → (a b c : State) → IsTaking spans i a b
+        → TakeSome readers targets entries (get_or spans i d).first ((get_or spans i d).first + (get_or spans i d).len) b c → IsTaking spans (i + 1) a c
+    taking_more i d l a b c I S = record {
+      part = part_then targets entries a.values.items b.values.items c.values.items I.part S.part;
+      left = left_one entries (at_targets targets b.values.items) (at_targets targets c.values.items) spans i d l S.part.stay
+          (λ k m. S.taken ((get_or spans i d).first + k) (omega arith) (omega (arith, m))) I.left;
+      advances = advances_then readers (Contains targets) a b c I.advances S.advances;
+    }
+
+    pub taking_all : (i : ℕ) → length spans ≤ i → (a b : State) → IsTaking spans i a b → TakeEntries readers targets entries a b
+    taking_all i done a b I = record {
+      taken = part_all targets entries a.values.items b.values.items I.part (none_left entries (at_targets targets b.values.items) spans i done I.left);
+      advances = I.advances;
+    }
+
+-- a span of a process whose drivers are one cut
+module _ (readers : Grouping) (base : ℕ) (entries : List (Option ℕ)) (spans : List Span) (within : LieWithin (length entries) spans) (i : ℕ) (d : Span) (l : i < length spans)
+    (assigned : List ℕ) (as_many : length assigned ≡ (get_or spans i d).len) where
+  abbrev first : ℕ
+  first = (get_or spans i d).first
+
+  pub span_together : (s : State) → StandTogether readers base (length entries) s → StandTogether readers (base + first) (length assigned) s
+  span_together s T = record {
+    followed = T.followed;
+    there = omega (arith, within i d l, as_many, T.there);
+    together = λ k m. ap (λ (n : ℕ). get_or readers.of_net n 0) (at k) ∙ T.together (first + k) (omega (arith, within i d l, m, as_many)) ∙ sym (T.together first (omega (arith, within i d l, m, as_many)));
+  }
+    where
+      at : (k : ℕ) → base + first + k ≡ base + (first + k)
+      at k = omega arith
+
+  pub span_taken : AreAssigned entries (places_of spans)
+      → ((k : ℕ) → k < (get_or spans i d).len → IsSome (get_or entries (first + k) None) → get_or entries (first + k) None ≡ Some (get_or assigned k 0))
+      → (a b : State) → GetValues readers (base + first) assigned a b → TakeSome readers (range_with_len base (length entries)) entries first (first + (get_or spans i d).len) a b
+  span_taken A has a b G =
+      subst (λ (n : ℕ). TakeSome readers (range_with_len base (length entries)) entries first (first + n) a b) as_many
+      (some_run readers (range_with_len base (length entries)) entries (run_differs base (length entries)) first (base + first) assigned short is are a b G)
+    where
+      short : first + length assigned ≤ length (range_with_len base (length entries))
+      short = omega (arith, within i d l, as_many, length-range_with_len base (length entries))
+
+      is : (k : ℕ) → k < length assigned → get_or (range_with_len base (length entries)) (first + k) 0 ≡ base + first + k
+      is k m =
+          let e : base + (first + k) ≡ base + first + k = omega arith in
+          get_or-range_with_len base (length entries) (first + k) 0 (omega (arith, m, short, length-range_with_len base (length entries))) ∙ e
+
+      are : (k : ℕ) → k < length assigned → get_or entries (first + k) None ≡ Some (get_or assigned k 0)
+      are k m = let n : k < (get_or spans i d).len = omega (arith, m, as_many) in has k n (place_assigned entries spans A i k d l n)

@@ -1,4 +1,5 @@
--- The processes that a loop over changes, and one over the processes that follow a net, have come by.
+-- The processes that a loop over changes, and one over the processes that follow a net, have come
+-- by.
 use Rattle.std.proofs.Common.{◌≡◌, ℕ, ◌+◌, ◌<◌, ◌≤◌, Bool, true, false, List, [], length, get_or, refl, sym, ap, subst, ◌∙◌, arith, ◌⊎◌, inl, inr, Contains, All}
 use Rattle.std.proofs.lemmas.Bool.{cases_Bool, cases_lt}
 use Rattle.std.proofs.lemmas.List.{get_or_default, length-map}

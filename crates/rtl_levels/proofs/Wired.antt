@@ -2,32 +2,26 @@
 use Rattle.std.proofs.Common.{◌≡◌, ℕ, ◌<◌, ◌≤◌, true, false, List, [], length, get_or, map, Option, sym, ap, subst, ◌∙◌, arith, ◌⊎◌, inl, inr, All}
 use Rattle.std.proofs.lemmas.Bool.{cases_Bool, cases_lt}
 use Rattle.std.proofs.lemmas.List.Elements.{All-map}
-use Rattle.std.proofs.lemmas.List.{get_or-set_same, get_or_default, get_or_past, length-map}
+use Rattle.std.proofs.lemmas.List.{get_or-set_same, get_or_default, ext_get_or, get_or_past, length-map}
 use Rattle.rtl_model.specs.bodies.Types.{ElementType, KeepsTypes}
 use Rattle.rtl_model.specs.nets.CoreNetlist.{core_process, part_effect}
-use Rattle.rtl_model.specs.nets.FlatNetlist.{FlatProcess, IsInRange, element_starts, no_flat_process, process_at}
+use Rattle.rtl_model.specs.nets.FlatNetlist.{FlatProcess, IsInRange, no_flat_process, process_at}
 use Rattle.rtl_model.specs.simulation.Levels.{is_clocked}
 use Rattle.rtl_model.proofs.nets.InRange.{process_in_range}
 use Rattle.rtl_model.specs.simulation.Netlist as m
 use Rattle.rtl_model.specs.simulation.Netlist.{process, IsCombinational}
-use Rattle.rtl_model.specs.simulation.Elaborated.{IsElaborated}
 use Rattle.rtl_model.proofs.basics.Lists.{get_or-map_within}
 use Rattle.rtl_model.proofs.nets.Processes.{process-core_net}
-use Rattle.rtl_model.proofs.nets.Connected.{connected_is_elaborated}
-use Rattle.rtl_model.proofs.simulation.Leveled.{Leveled}
 use Rattle.rtl_model.specs.simulation.Range.{IsValuation}
 use Rattle.rtl_eval.specs.Runs.{Outcome, IsOf}
 use Rattle.rtl_kernel.specs.drivers.Transactions.{HasRunOf, all_targets, nets_of, no_outcome}
-use Rattle.rtl_kernel.specs.wakes.Woken.{AreDifferent}
 use Rattle.rtl_kernel.proofs.Steps.{keeps_types}
 use Rattle.rtl_kernel.proofs.Wiring.{nets_there, targets_are}
-use Rattle.rtl_net_groups.specs.Cuts.{AreCuts, AreCutsOf, Cutting}
-use Rattle.rtl_net.specs.Nets.{NetlistView, flat, process_view, variable_view}
+use Rattle.rtl_net.specs.Nets.{NetlistView, flat, process_view}
 use Rattle.rtl_net.specs.declared.process.Process.{Process}
 use Rattle.rtl_net.specs.Core.{core}
 use Rattle.rtl_levels.specs.Kept.{MayRun}
 use Rattle.rtl_levels.specs.Scheduled.{clocked_wakes, wakes_by_rank}
-use Rattle.rtl_levels.proofs.Settling.{one_place}
 
 -- what a run of a process has left, and what others had left
 module _ (entries : List (Option ℕ)) (p : ℕ) (old new : List Outcome) (R : HasRunOf entries p old new) where
@@ -62,18 +56,17 @@ module _ (net : NetlistView) where
   pub processes_many : length (core net).processes ≡ length net.processes
   processes_many = length-map (flat net).processes (core_process net.inputs) ∙ length-map net.processes process_view
 
+  pub combinational_there : (p : ℕ) → IsCombinational (core net) p → p < length net.processes
+  combinational_there p c = rw (← processes_many) c.0
+
+  pub drives_of_all : all_targets net.processes ≡ map (λ (x : m.Process). x.drives) (core net).processes
+  drives_of_all =
+      ext_get_or [] (all_targets net.processes) _ (length-map net.processes _ ∙ sym (length-map (core net).processes _ ∙ processes_many))
+      (λ p l. targets_are net p ∙ sym (get_or-map_within (λ (x : m.Process). x.drives) (core net).processes p m.no_process [] (rw (processes_many, ← length-map net.processes (λ (x : Process). nets_of x.drives.items)) l)))
+
   -- as many as a process drives have entries
   pub driven_many : (p : ℕ) (o : Outcome) → IsOf (process_at (flat net) p) o → length (process (core net) p).drives ≡ length o.entries
   driven_many p o own = ap (λ (x : m.Process). length x.drives) (process-core_net (flat net) p) ∙ length-map (process_at (flat net) p).drivers _ ∙ sym own.each_driver
-
-  pub own_cuts_are : (of_net : List ℕ) (cutting : Cutting) → AreCutsOf of_net (all_targets net.processes) cutting → (p : ℕ) → p < length net.processes
-      → AreCuts of_net (process (core net) p).drives (get_or cutting.cuts p []) (get_or cutting.numbers p [])
-  own_cuts_are of_net cutting C p there =
-      subst (λ (ns : List ℕ). AreCuts of_net ns (get_or cutting.cuts p []) (get_or cutting.numbers p [])) (targets_are net p)
-      (C.each p (rw (length-map net.processes (λ (x : Process). nets_of x.drives.items)) there))
-
-  pub own_targets_there : Leveled (core net) → (p : ℕ) (limit : ℕ) → limit ≡ length (core net).start → All (λ (n : ℕ). n < limit) (process (core net) p).drives
-  own_targets_there L p limit many = λ k d l. rw many (subst (λ (n : ℕ). n < length (core net).start) (get_or_default (process (core net) p).drives k 0 d l) (L.elaborated.wiring.targets_are_nets p k l))
 
   module _ (p : ℕ) (q : Process) (there : p < length net.processes) (is : q ≡ get_or net.processes p q) where
     pub drives_are : nets_of q.drives.items ≡ (process (core net) p).drives
@@ -81,26 +74,6 @@ module _ (net : NetlistView) where
         ap (λ (x : Process). nets_of x.drives.items) is
         ∙ sym (get_or-map_within (λ (x : Process). nets_of x.drives.items) net.processes p q [] there)
         ∙ targets_are net p
-
-    module _ (of_net : List ℕ) (cutting : Cutting) (C : AreCutsOf of_net (all_targets net.processes) cutting) where
-      pub cuts_many : p < length cutting.cuts
-      cuts_many = rw (C.each_process, length-map net.processes (λ (x : Process). nets_of x.drives.items)) there
-
-      pub cuts_are : AreCuts of_net (nets_of q.drives.items) (get_or cutting.cuts p []) (get_or cutting.numbers p [])
-      cuts_are =
-          subst (λ (ns : List ℕ). AreCuts of_net ns (get_or cutting.cuts p []) (get_or cutting.numbers p []))
-          (get_or-map_within (λ (x : Process). nets_of x.drives.items) net.processes p q [] there ∙ sym (ap (λ (x : Process). nets_of x.drives.items) is))
-          (C.each p (rw (length-map net.processes (λ (x : Process). nets_of x.drives.items)) there))
-
-    pub drivers_many : length q.drives.items ≡ length (process_at (flat net) p).drivers
-    drivers_many =
-        sym (length-map q.drives.items _) ∙ ap (λ (x : Process). length (process_view x).drivers) is
-        ∙ sym (ap (λ (x : FlatProcess). length x.drivers) (get_or-map_within process_view net.processes p q no_flat_process there))
-
-    pub starts_are : element_starts (map variable_view q.variables.items) ≡ element_starts (process_at (flat net) p).variables
-    starts_are =
-        ap (λ (x : Process). element_starts (process_view x).variables) is
-        ∙ sym (ap (λ (x : FlatProcess). element_starts x.variables) (get_or-map_within process_view net.processes p q no_flat_process there))
 
     pub wakes_are : q.wakes.items ≡ (process (core net) p).wakes
     wakes_are =
@@ -110,12 +83,6 @@ module _ (net : NetlistView) where
 
 module _ {E : Type 0} (process_of : E → FlatProcess) (types : E → List ElementType) (most : E → ℕ) (net : NetlistView) (bodies : List E) (runs : List Outcome)
     (M : MayRun process_of types most net bodies runs) where
-  pub elaborated : IsElaborated (core net)
-  elaborated = connected_is_elaborated (flat net) M.in_range M.connected
-
-  pub combinational_there : (p : ℕ) → IsCombinational (core net) p → p < length net.processes
-  combinational_there p c = rw (← processes_many net) c.0
-
   pub runs_many : length runs ≡ length net.processes
   runs_many = M.room.as_many ∙ length-map net.processes process_view
 
@@ -134,7 +101,7 @@ module _ {E : Type 0} (process_of : E → FlatProcess) (types : E → List Eleme
   types_are : types e ≡ (flat net).types
   types_are = ap types is ∙ M.run_bodies.among p e in_bodies
 
-  process_is : process_of e ≡ process_at (flat net) p
+  pub process_is : process_of e ≡ process_at (flat net) p
   process_is = ap process_of is ∙ M.run_bodies.each p e in_bodies
 
   pub each_given : (v : List ℕ) → IsValuation (core net) v → length v ≡ length (types e)
@@ -147,6 +114,9 @@ module _ {E : Type 0} (process_of : E → FlatProcess) (types : E → List Eleme
   effect_is before v =
       ap (λ (x : FlatProcess). part_effect x x.body before v) process_is
       ∙ sym (ap (λ (x : m.Process). x.effect before v) (process-core_net (flat net) p))
+
+  pub effect_left : (before v : List ℕ) (entries : List (Option ℕ)) → entries ≡ part_effect (process_of e) (process_of e).body before v → entries ≡ (process (core net) p).effect before v
+  effect_left before v entries left = left ∙ effect_is before v
 
   -- the run that is there has its room
   module _ (o : Outcome) (was : o ≡ get_or runs p o) where
@@ -162,11 +132,3 @@ module _ {E : Type 0} (process_of : E → FlatProcess) (types : E → List Eleme
         let body : most e ≡ most (get_or bodies p e) = ap most is in
         let run : o.room ≡ (get_or runs p no_outcome).room = ap (λ (x : Outcome). x.room) was_run in
         omega (arith, fits, body, run)
-
-module _ (net : NetlistView) (L : Leveled (core net)) (p : ℕ) (q : Process) (there : p < length net.processes) (is : q ≡ get_or net.processes p q) where
-  pub targets_differ : AreDifferent (nets_of q.drives.items)
-  targets_differ = subst AreDifferent (sym (drives_are net p q there is)) (λ j k l m e. one_place (core net) L p j k l m e)
-
-  pub targets_there : (values : List ℕ) → length values ≡ length (core net).start → All (λ n. n < length values) (nets_of q.drives.items)
-  targets_there values many =
-      subst (λ (ns : List ℕ). All (λ n. n < length values) ns) (sym (drives_are net p q there is)) (own_targets_there net L p (length values) many)

@@ -36,7 +36,8 @@ EachRunSettles =
 
 -- ---- clocked processes
 
--- Before the first moment there is no edge: what a run of the clocked process p leaves gives what its registers start with.
+-- Before the first moment there is no edge: what a run of the clocked process p leaves gives what
+-- its registers start with.
 abbrev pub EachStartIsTaken : Type 0
 EachStartIsTaken =
     (net : Netlist) → IsElaborated net → IsAccepted net → (inputs : ℕ → ℕ) (p clock place : ℕ) (edge : Edge) (before : List ℕ)
@@ -46,8 +47,9 @@ EachStartIsTaken =
 
 -- What the clocked process p does from the valuation v with new inputs.
 pub record EdgeIsTaken (net : Netlist) (v : List ℕ) (inputs : ℕ → ℕ) (p clock : ℕ) (edge : Edge) : Type 0 where
-  -- Whatever the other nets had before, a run of p leaves what its registers have next. It reads the new inputs, and so does
-  -- what is done in v itself: without a race no data input changes at an edge, and no branch reads a clock.
+  -- Whatever the other nets had before, a run of p leaves what its registers have next. It reads
+  -- the new inputs, and so does what is done in v itself: without a race no data input changes at
+  -- an edge, and no branch reads a clock.
   pub taken : (before : List ℕ) (place : ℕ) → slice_index before clock ≡ slice_index v clock
       → entry_or (slice_index_or ((process net p).effect before (with_inputs net inputs v)) place None) (slice_index v (target net p place))
       ≡ register_next net p place clock edge v inputs
@@ -76,8 +78,8 @@ EachResetIsKept = (net : Netlist) → IsElaborated net → IsAccepted net → (i
 abbrev pub AgreeOnInputs : Netlist → (given other : ℕ → ℕ) → Type 0
 AgreeOnInputs net given other = (n : ℕ) → IsInput net n → given n ≡ other n
 
--- What begins as the machine does is its run's first valuation, and what a step gives is the next, by any values that agree with
--- the stimulus on the inputs.
+-- What begins as the machine does is its run's first valuation, and what a step gives is the next,
+-- by any values that agree with the stimulus on the inputs.
 pub record GoesOnAlike (net : Netlist) (stimulus : ℕ → ℕ → ℕ) (run : ℕ → List ℕ) : Type 0 where
   pub first : (given : ℕ → ℕ) (v : List ℕ) → AgreeOnInputs net given (stimulus 0) → IsFirst net given v → v ≡ run 0
   pub step : (m : ℕ) (given : ℕ → ℕ) (v : List ℕ) → AgreeOnInputs net given (stimulus (suc m)) → IsStep net (run m) given v → v ≡ run (suc m)

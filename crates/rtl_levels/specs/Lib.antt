@@ -4,5 +4,6 @@ pub mod Machine
 pub mod Scheduled
 pub mod Pieces
 pub mod Marks
+pub mod States
 pub mod Steps
 pub mod Kept

@@ -1,4 +1,5 @@
--- Marks of those that are to run, because a net that they are sensitive to has changed (IEEE 1076-2008, 14.7.5.3).
+-- Marks of those that are to run, because a net that they are sensitive to has changed (IEEE
+-- 1076-2008, 14.7.5.3).
 use Rattle.std.specs.Prelude.{◌≡◌, ℕ, ◌+◌, ◌<◌, ◌⊎◌, Bool, false, List, [], length, slice_index, slice_index_or, IsTrue, Contains}
 
 -- Of an index: for each net the numbers of those that are sensitive to it.
@@ -11,8 +12,8 @@ module _ (index : List (List ℕ)) where
   abbrev pub AreBelow : ℕ → Type 0
   AreBelow many = (net number : ℕ) → Follows net number → number < many
 
-  -- Whatever follows a net that changes from v to w is marked. What gets marked follows one of these nets, changed or not: a net
-  -- that is set twice may have its old value again.
+  -- Whatever follows a net that changes from v to w is marked. What gets marked follows one of
+  -- these nets, changed or not: a net that is set twice may have its old value again.
   pub record Marks (nets : ℕ → Type 0) (v w : List ℕ) (old new : List Bool) : Type 0 where
     pub as_many : length new ≡ length old
     pub kept : (k : ℕ) → IsTrue (slice_index_or old k false) → IsTrue (slice_index_or new k false)

@@ -1,4 +1,5 @@
--- The order in which a moment's processes are run, and who is sensitive to which net (IEEE 1076-2008, 14.7.5.3).
+-- The order in which a moment's processes are run, and who is sensitive to which net (IEEE
+-- 1076-2008, 14.7.5.3).
 use Rattle.std.specs.Option.{is_some}
 use Rattle.std.specs.Prelude.{◌≡◌, ℕ, ◌<◌, ◌≤◌, Bool, not, All, List, [], ◌∷◌, length, map, slice_index, slice_index_or, Contains, Option, Some, None, IsSome, if◌then◌else◌}
 use Rattle.rtl_model.specs.simulation.Netlist.{Netlist, Process, process, IsCombinational}
@@ -21,8 +22,8 @@ wakes_by_rank net order = map (λ (p : ℕ). (process net p).wakes) order
 abbrev pub clocked_wakes : Process → List ℕ
 clocked_wakes p = if is_clocked p.kind then p.wakes else []
 
--- For each net, `readers` has the ranks of the combinational processes that are sensitive to it, and `clocked` the clocked
--- processes.
+-- For each net, `readers` has the ranks of the combinational processes that are sensitive to it,
+-- and `clocked` the clocked processes.
 pub record IsSchedule (net : Netlist) (order : List ℕ) (readers clocked : List (List ℕ)) : Type 0 where
   pub order_is : IsOrder net order
   pub readers_are : IsIndex (wakes_by_rank net order) readers

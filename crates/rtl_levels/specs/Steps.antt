@@ -13,16 +13,16 @@ IsDrivenByMarked net marked n =
 abbrev pub IsCombinationallyDriven : Netlist → (n : ℕ) → Type 0
 IsCombinationallyDriven net n = (p : ℕ) × (place : ℕ) × IsCombinational net p × HasPlace net p place × (target net p place ≡ n)
 
--- Of the marked processes those that still are have run from the values before and v, and left these entries. The others would
--- leave none.
+-- Of the marked processes those that still are have run from the values before and v, and left
+-- these entries. The others would leave none.
 pub record HaveRun (net : Netlist) (before v : List ℕ) (marked still : List Bool) (entries : ℕ → List (Option ℕ)) : Type 0 where
   pub fewer : (p : ℕ) → IsTrue (slice_index_or still p false) → IsTrue (slice_index_or marked p false)
   pub ran : (p : ℕ) → IsTrue (slice_index_or still p false) → entries p ≡ (process net p).effect before v
   pub asleep : (p place : ℕ) → IsTrue (slice_index_or marked p false) → slice_index_or still p false ≡ false
       → slice_index_or ((process net p).effect before v) place None ≡ None
 
--- Of these processes those that still are marked have run from the values before and v, and what had run so before still
--- has. Those that no longer are marked would leave nothing.
+-- Of these processes those that still are marked have run from the values before and v, and what
+-- had run so before still has. Those that no longer are marked would leave nothing.
 pub record SomeHaveRun (net : Netlist) (before v : List ℕ) (these : ℕ → Type 0) (marked still : List Bool)
     (was entries : ℕ → List (Option ℕ)) : Type 0 where
   pub as_many : length still ≡ length marked
@@ -61,8 +61,8 @@ pub record IsSwept (net : Netlist) (v w : List ℕ) : Type 0 where
   pub settled : (p : ℕ) → IsCombinational net p → IsSettled net w p
   pub on_others : (n : ℕ) → (IsCombinationallyDriven net n → ⊥) → slice_index w n ≡ slice_index v n
 
--- The marked processes, which are to be clocked, have run together from the values before and v, and with what they assigned
--- all combinational ones have settled in w.
+-- The marked processes, which are to be clocked, have run together from the values before and v,
+-- and with what they assigned all combinational ones have settled in w.
 pub record ComesToRest (net : Netlist) (marked : List Bool) (before v w : List ℕ) : Type 0 where
   pub each_net : length w ≡ length v
   pub on_marked : (p place : ℕ) → IsTrue (slice_index_or marked p false) → HasPlace net p place

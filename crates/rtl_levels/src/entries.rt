@@ -1,129 +1,72 @@
 //! Entries that are taken over.
 
-ghost use Rattle.std.specs.Prelude.{◌≡◌, ℕ, ◌+◌, ◌<◌, ◌≤◌, length, slice_index, slice_index_or, All, Contains, None, IsSome};
+ghost use Rattle.std.specs.Prelude.{◌≡◌, ℕ, ◌+◌, ◌<◌, ◌≤◌, length, slice_index_or, None, IsSome};
 ghost use Rattle.std.specs.List.{range_with_len};
 ghost use Rattle.rtl_model.specs.nets.FlatNetlist.{process_at};
-ghost use Rattle.rtl_model.specs.simulation.Accepted.{IsAccepted};
-ghost use Rattle.rtl_model.specs.simulation.Elaborated.{IsElaborated};
 ghost use Rattle.rtl_model.specs.simulation.Netlist.{process};
 ghost use Rattle.rtl_eval.specs.Runs.{IsOf};
 ghost use Rattle.rtl_kernel.specs.drivers.Transactions.{nets_of};
-ghost use Rattle.rtl_kernel.specs.drivers.Updates.{IsTaken};
-ghost use Rattle.rtl_kernel.specs.wakes.Woken.{AreDifferent, wakers_of};
 ghost use Rattle.rtl_net.specs.Core.{core};
 ghost use Rattle.rtl_net.specs.Nets.{flat};
-ghost use Rattle.rtl_net_groups.specs.Touching.{Touches};
-ghost use Rattle.rtl_levels.specs.Kept.{HasCuts};
-ghost use Rattle.rtl_levels.specs.Marks.{AreBelow, Marks};
+ghost use Rattle.rtl_levels.specs.Kept.{IsPlanned};
 ghost use Rattle.rtl_levels.specs.Pieces.{AreCutFor, IsPiece};
-ghost use Rattle.rtl_levels.specs.Running.{TakesOver, TakesPart, at_targets};
+ghost use Rattle.rtl_levels.specs.States.{IsFollowed, StandTogether, TakeEntries, TakeSome};
 
-use crate::marks::{set_run, set_short};
 use crate::schedule::Schedule;
+use crate::state::State;
 use rtl_eval::{Drives, Span};
 use rtl_net::{Driver, Net};
-use rtl_net_groups::{Groups, Touched};
+use rtl_net_groups::Groups;
 
-/// Gives the nets of a process's drivers the entries that a run has left, and marks what is sensitive to those that change, and
-/// their chunks. If its drivers are one cut, nothing is looked up for a place.
+/// Gives the nets of a process's drivers the entries that a run has left, and marks what is
+/// sensitive to those that change, and their chunks. If its drivers are one cut, nothing is looked
+/// up for a place.
 #[inline(always)]
-pub fn take_over(
-    net: &Net,
-    schedule: &Schedule,
-    number: usize,
-    outcome: &Drives,
-    values: &mut Vec<u8>,
-    marks: &mut Vec<bool>,
-    touched: &mut Touched,
-)
-    requires elaborated { IsElaborated (core net.now) }
-    requires accepted { IsAccepted (core net.now) }
+pub fn take_over(net: &Net, schedule: &Schedule, number: usize, outcome: &Drives, state: &mut State)
+    requires planned { IsPlanned (core net.now) schedule.now }
     requires there { number < length net.now.processes }
     requires own { IsOf (process_at (flat net.now) number) outcome.now }
-    requires each_value { length values.old.items ≡ length (core net.now).start }
-    requires cuts { HasCuts net.now schedule.now }
-    requires each_net { length (wakers_of schedule.now.readers) ≡ length values.old.items }
-    requires below { AreBelow (wakers_of schedule.now.readers) (length marks.old.items) }
-    requires nets { touched.old.nets ≡ length values.old.items }
-    ensures taken { TakesOver (process (core net.now) number).drives outcome.now.entries values.old.items values.new.items }
-    ensures marks { Marks (wakers_of schedule.now.readers) (Contains (process (core net.now) number).drives) values.old.items values.new.items marks.old.items marks.new.items }
-    ensures touched { Touches touched.old touched.new values.old.items values.new.items }
+    requires followed { IsFollowed schedule.now.readers state.old }
+    ensures { TakeEntries schedule.now.readers (process (core net.now) number).drives outcome.now.entries
+        state.old state.new }
 {
     match schedule.wholes[number] {
-        Some(first) => take_whole(&schedule.readers, first, outcome, values, marks, touched),
+        Some(first) => take_whole(&schedule.readers, first, outcome, state),
         None => {
             let processes = net.processes();
             let drives = processes[number].drives.as_slice();
-            take_spans(drives, schedule, number, outcome, values, marks, touched);
+            take_spans(drives, schedule, number, outcome, state);
         }
     }
 }
 
 /// The same where the drivers' nets stand one behind the other from this one on, in one group.
 #[inline(never)]
-fn take_whole(
-    readers: &Groups,
-    first: usize,
-    outcome: &Drives,
-    values: &mut Vec<u8>,
-    marks: &mut Vec<bool>,
-    touched: &mut Touched,
-)
-    requires there { first + length outcome.now.entries ≤ length values.old.items }
-    requires together { (k : ℕ) → k < length outcome.now.entries → slice_index readers.now.of_net (first + k) ≡ slice_index readers.now.of_net first }
-    requires each_net { length (wakers_of readers.now) ≡ length values.old.items }
-    requires below { AreBelow (wakers_of readers.now) (length marks.old.items) }
-    requires nets { touched.old.nets ≡ length values.old.items }
-    ensures taken { TakesOver (range_with_len first (length outcome.now.entries)) outcome.now.entries values.old.items values.new.items }
-    ensures marks { Marks (wakers_of readers.now) (Contains (range_with_len first (length outcome.now.entries))) values.old.items values.new.items marks.old.items marks.new.items }
-    ensures touched { Touches touched.old touched.new values.old.items values.new.items }
+fn take_whole(readers: &Groups, first: usize, outcome: &Drives, state: &mut State)
+    requires { StandTogether readers.now first (length outcome.now.entries) state.old }
+    ensures { let entries = outcome.now.entries in
+        TakeEntries readers.now (range_with_len first (length entries)) entries state.old state.new }
 {
     let spans = outcome.assigned();
     if spans.len() == 1 {
         let span = spans[0];
         let assigned = outcome.values(span);
-        set_short(
-            readers,
-            first + span.first,
-            assigned,
-            values,
-            marks,
-            touched,
-        );
+        state.set_short(readers, first + span.first, assigned);
     } else {
-        take_each(readers, first, outcome, values, marks, touched);
+        take_each(readers, first, outcome, state);
     }
 }
 
 /// The same, however many spans are assigned.
 #[inline(never)]
-fn take_each(
-    readers: &Groups,
-    first: usize,
-    outcome: &Drives,
-    values: &mut Vec<u8>,
-    marks: &mut Vec<bool>,
-    touched: &mut Touched,
-)
-    requires there { first + length outcome.now.entries ≤ length values.old.items }
-    requires together { (k : ℕ) → k < length outcome.now.entries → slice_index readers.now.of_net (first + k) ≡ slice_index readers.now.of_net first }
-    requires each_net { length (wakers_of readers.now) ≡ length values.old.items }
-    requires below { AreBelow (wakers_of readers.now) (length marks.old.items) }
-    requires nets { touched.old.nets ≡ length values.old.items }
-    ensures taken { TakesOver (range_with_len first (length outcome.now.entries)) outcome.now.entries values.old.items values.new.items }
-    ensures marks { Marks (wakers_of readers.now) (Contains (range_with_len first (length outcome.now.entries))) values.old.items values.new.items marks.old.items marks.new.items }
-    ensures touched { Touches touched.old touched.new values.old.items values.new.items }
+fn take_each(readers: &Groups, first: usize, outcome: &Drives, state: &mut State)
+    requires { StandTogether readers.now first (length outcome.now.entries) state.old }
+    ensures { let entries = outcome.now.entries in
+        TakeEntries readers.now (range_with_len first (length entries)) entries state.old state.new }
 {
     for span in outcome.assigned() {
         let assigned = outcome.values(*span);
-        set_run(
-            readers,
-            first + span.first,
-            assigned,
-            values,
-            marks,
-            touched,
-        );
+        state.set_run(readers, first + span.first, assigned);
     }
 }
 
@@ -134,25 +77,15 @@ fn take_spans(
     schedule: &Schedule,
     number: usize,
     outcome: &Drives,
-    values: &mut Vec<u8>,
-    marks: &mut Vec<bool>,
-    touched: &mut Touched,
+    state: &mut State,
 )
     requires each_driver { length drives.now ≡ length outcome.now.entries }
-    requires there { All (λ n. n < length values.old.items) (nets_of drives.now) }
-    requires once { AreDifferent (nets_of drives.now) }
     requires cuts { AreCutFor schedule.now (nets_of drives.now) number }
-    requires each_net { length (wakers_of schedule.now.readers) ≡ length values.old.items }
-    requires below { AreBelow (wakers_of schedule.now.readers) (length marks.old.items) }
-    requires nets { touched.old.nets ≡ length values.old.items }
-    ensures taken { TakesOver (nets_of drives.now) outcome.now.entries values.old.items values.new.items }
-    ensures marks { Marks (wakers_of schedule.now.readers) (Contains (nets_of drives.now)) values.old.items values.new.items marks.old.items marks.new.items }
-    ensures touched { Touches touched.old touched.new values.old.items values.new.items }
+    requires followed { IsFollowed schedule.now.readers state.old }
+    ensures { TakeEntries schedule.now.readers (nets_of drives.now) outcome.now.entries state.old state.new }
 {
     for span in outcome.assigned() {
-        take_span(
-            drives, schedule, number, outcome, *span, values, marks, touched,
-        );
+        take_span(drives, schedule, number, outcome, *span, state);
     }
 }
 
@@ -163,23 +96,15 @@ fn take_span(
     number: usize,
     outcome: &Drives,
     span: Span,
-    values: &mut Vec<u8>,
-    marks: &mut Vec<bool>,
-    touched: &mut Touched,
+    state: &mut State,
 )
     requires each_driver { length drives.now ≡ length outcome.now.entries }
     requires within { span.first + span.len ≤ length outcome.now.entries }
     requires all { (k : ℕ) → k < span.len → IsSome (slice_index_or outcome.now.entries (span.first + k) None) }
-    requires there { All (λ n. n < length values.old.items) (nets_of drives.now) }
-    requires once { AreDifferent (nets_of drives.now) }
     requires cuts { AreCutFor schedule.now (nets_of drives.now) number }
-    requires each_net { length (wakers_of schedule.now.readers) ≡ length values.old.items }
-    requires below { AreBelow (wakers_of schedule.now.readers) (length marks.old.items) }
-    requires nets { touched.old.nets ≡ length values.old.items }
-    ensures taking { TakesPart (nets_of drives.now) outcome.now.entries values.old.items values.new.items }
-    ensures taken { (k : ℕ) → k < span.len → IsTaken outcome.now.entries (at_targets (nets_of drives.now) values.new.items) (span.first + k) }
-    ensures marks { Marks (wakers_of schedule.now.readers) (Contains (nets_of drives.now)) values.old.items values.new.items marks.old.items marks.new.items }
-    ensures touched { Touches touched.old touched.new values.old.items values.new.items }
+    requires followed { IsFollowed schedule.now.readers state.old }
+    ensures { TakeSome schedule.now.readers (nets_of drives.now) outcome.now.entries span.first (span.first + span.len)
+        state.old state.new }
 {
     let end = span.first + span.len;
     let mut first = span.first;
@@ -190,14 +115,7 @@ fn take_span(
             len: beyond - first,
         };
         let assigned = outcome.values(piece);
-        set_run(
-            &schedule.readers,
-            drives[first].net,
-            assigned,
-            values,
-            marks,
-            touched,
-        );
+        state.set_run(&schedule.readers, drives[first].net, assigned);
         first = beyond;
     }
 }

@@ -1,25 +1,24 @@
-//! The synchronous machine, registers first and then the other processes in order of level: a simulation of an accepted netlist
-//! without delta cycles (`Machine`), and
-//! what running one process does to a valuation, as laws over the definitions of `rtl_model`.
+//! The synchronous machine, registers first and then the other processes in order of level: a
+//! simulation of an accepted netlist without delta cycles (`Machine`), and what running one process
+//! does to a valuation, as laws over the definitions of `rtl_model`.
 //!
-//! `specs/Running.antt` says what it is for a process to be settled, written and reset, and `specs/Laws.antt` has the laws.
-//! `specs/Machine.antt` is what callers see of a machine; its steps are `rtl_model`'s `IsFirst` and `IsStep`.
-//! `specs/Scheduled.antt`, `Marks.antt`, `Steps.antt` and `Kept.antt` say how its parts go together.
+//! `specs/Running.antt` says what it is for a process to be settled, written and reset, and
+//! `specs/Laws.antt` has the laws. `specs/Machine.antt` is what callers see of a machine; its steps
+//! are `rtl_model`'s `IsFirst` and `IsStep`. `specs/Scheduled.antt`, `Marks.antt`, `States.antt`,
+//! `Steps.antt` and `Kept.antt` say how its parts go together.
 #![tactic(auto)]
 
 mod clocked;
 mod entries;
-mod initial;
 mod inputs;
 pub mod laws;
 mod machine;
 mod marks;
 mod order;
-mod outcomes;
 mod running;
 mod schedule;
+mod state;
 mod sweep;
-mod targets;
 mod wholes;
 
 pub use machine::Machine;

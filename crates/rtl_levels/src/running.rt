@@ -1,21 +1,18 @@
 //! Runs of single processes.
 
-ghost use Rattle.std.specs.Prelude.{◌≡◌, ◌<◌, length, Contains};
+ghost use Rattle.std.specs.Prelude.{◌<◌, length};
 ghost use Rattle.rtl_model.specs.simulation.Netlist.{process, IsCombinational};
 ghost use Rattle.rtl_model.specs.simulation.Range.{IsValuation};
 ghost use Rattle.rtl_kernel.specs.drivers.Transactions.{HasRunOf};
-ghost use Rattle.rtl_kernel.specs.wakes.Woken.{wakers_of};
 ghost use Rattle.rtl_net.specs.Core.{core};
-ghost use Rattle.rtl_net_groups.specs.Touching.{Touches};
-ghost use Rattle.rtl_levels.specs.Kept.{HasCuts, MayRun};
-ghost use Rattle.rtl_levels.specs.Marks.{AreBelow, Marks};
-ghost use Rattle.rtl_levels.specs.Running.{IsWritten};
+ghost use Rattle.rtl_levels.specs.Kept.{IsPlanned, IsStateOf, MayRun};
+ghost use Rattle.rtl_levels.specs.States.{TakeEntries};
 
 use crate::entries::take_over;
 use crate::schedule::Schedule;
+use crate::state::State;
 use rtl_eval::{Drives, Exec};
 use rtl_net::Net;
-use rtl_net_groups::Touched;
 
 /// Runs the body of a process; what it assigns is what its run leaves.
 pub fn run<E: Exec>(
@@ -31,7 +28,8 @@ pub fn run<E: Exec>(
     requires before { IsValuation (core net.now) before.now }
     requires values { IsValuation (core net.now) values.now }
     ensures may { MayRun E.process E.types E.most net.now bodies.now runs.new.items }
-    ensures ran { HasRunOf ((process (core net.now) number).effect before.now values.now) number runs.old.items runs.new.items }
+    ensures ran { HasRunOf ((process (core net.now) number).effect before.now values.now) number
+        runs.old.items runs.new.items }
 {
     bodies[number].run(values, before, &mut runs[number]);
 }
@@ -43,23 +41,17 @@ pub fn settle<E: Exec>(
     schedule: &Schedule,
     number: usize,
     runs: &mut Vec<Drives>,
-    values: &mut Vec<u8>,
-    marks: &mut Vec<bool>,
-    touched: &mut Touched,
+    state: &mut State,
 )
     requires may { MayRun E.process E.types E.most net.now bodies.now runs.old.items }
+    requires planned { IsPlanned (core net.now) schedule.now }
     requires combinational { IsCombinational (core net.now) number }
-    requires in_range { IsValuation (core net.now) values.old.items }
-    requires cuts { HasCuts net.now schedule.now }
-    requires each_net { length (wakers_of schedule.now.readers) ≡ length values.old.items }
-    requires below { AreBelow (wakers_of schedule.now.readers) (length marks.old.items) }
-    requires nets { touched.old.nets ≡ length values.old.items }
+    requires state { IsStateOf (core net.now) schedule.now state.old }
     ensures may { MayRun E.process E.types E.most net.now bodies.now runs.new.items }
-    ensures in_range { IsValuation (core net.now) values.new.items }
-    ensures written { IsWritten (core net.now) number values.old.items values.new.items }
-    ensures marks { Marks (wakers_of schedule.now.readers) (Contains (process (core net.now) number).drives) values.old.items values.new.items marks.old.items marks.new.items }
-    ensures touched { Touches touched.old touched.new values.old.items values.new.items }
+    ensures state { IsStateOf (core net.now) schedule.now state.new }
+    ensures written { let p = process (core net.now) number in let v = state.old.values.items in
+        TakeEntries schedule.now.readers p.drives (p.effect v v) state.old state.new }
 {
-    run(net, bodies, number, values, values, runs);
-    take_over(net, schedule, number, &runs[number], values, marks, touched);
+    run(net, bodies, number, &state.values, &state.values, runs);
+    take_over(net, schedule, number, &runs[number], state);
 }

@@ -8,17 +8,18 @@ ghost use Rattle.rtl_levels.specs.Kept.{IsPlanned};
 ghost use Rattle.rtl_levels.specs.Scheduled.{clocked_wakes, wakes_by_rank};
 
 use crate::order::order_of;
-use crate::targets::target_lists;
 use crate::wholes::wholes_of;
 use rtl_awaited_edges::{ClockEdge, edges_of, leaders_of};
+use rtl_kernel::target_lists;
 use rtl_net::Net;
 use rtl_net_groups::{Cuts, Groups, Lists};
 use std::alloc::{AllocError, Global};
 
-/// The combinational processes in the order in which they are run, the ranks of those that are sensitive to each net, and
-/// the clocked processes that are; the cuts of each process's drivers over nets that the same combinational ones are
-/// sensitive to, and where there is one alone its first net; and of each process the edge without which it assigns
-/// nothing, if it is clocked and has no reset, and a process that awaits the same.
+/// The combinational processes in the order in which they are run, the ranks of those that are
+/// sensitive to each net, and the clocked processes that are; the cuts of each process's drivers
+/// over nets that the same combinational ones are sensitive to, and where there is one alone its
+/// first net; and of each process the edge without which it assigns nothing, if it is clocked and
+/// has no reset, and a process that awaits the same.
 pub struct Schedule {
     pub order: Vec<usize>,
     pub readers: Groups,
@@ -48,7 +49,7 @@ impl Schedule {
     pub fn new(alloc: Global, net: &Net, levels: &[Option<u32>]) -> Result<Schedule, AllocError>
         requires accepted { IsAccepted (core net.now) }
         requires levels { (greatest : ℕ) × AreLevels (core net.now) levels.now greatest }
-        ensures { IfOk result (IsPlanned net.now) }
+        ensures { IfOk result (IsPlanned (core net.now)) }
     {
         let order = order_of(alloc, levels)?;
         let together = vec![in alloc; 0; net.nets()]?;

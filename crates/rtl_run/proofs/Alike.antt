@@ -66,24 +66,23 @@ module _ (agree : EveryOrderIsOne) (net : NetlistView) (s : StimulusView) (limit
     whole : (summary also : Summary) → IsWhole net s limit old one summary → IsWhole net s limit old other also → AreAlike old one other (Ok summary) (Ok also)
     whole summary also A B = record {
       same = λ i. Ok (record { moments = count i; most_deltas = most i });
-      text = whole_text net s A.settled;
-      one_took = (A.text.whole A.intact).1;
-      other_took = subst (λ (settled : List Settled). TakesAll old other (whole_text net s settled)) (sym same) (B.text.whole B.intact).1;
+      text = whole_text net s A.all.settled;
+      one_took = (A.all.text.whole A.all.intact).1;
+      other_took = subst (λ (settled : List Settled). TakesAll old other (whole_text net s settled)) (sym same) (B.all.text.whole B.all.intact).1;
     }
       where
-        same : A.settled ≡ B.settled
-        same = same_settled A.settled B.settled A.are B.are (A.all ∙ sym B.all)
+        same : A.all.settled ≡ B.all.settled
+        same = same_settled A.all.settled B.all.settled A.all.are B.all.are (A.all.all ∙ sym B.all.all)
 
         count : summary.moments ≡ also.moments
-        count = A.count ∙ A.all ∙ sym B.all ∙ sym B.count
-
-        other_most : IsMost (core net) (inputs_at s) (pred (length A.settled)) also.most_deltas
-        other_most = subst (λ (settled : List Settled). IsMost (core net) (inputs_at s) (pred (length settled)) also.most_deltas) (sym same) B.most
+        count = A.all.count_is ∙ A.all.all ∙ sym B.all.all ∙ sym B.all.count_is
 
         most : summary.most_deltas ≡ also.most_deltas
         most =
-            let up = at_most (pred (length A.settled)) summary.most_deltas also.most_deltas A.most other_most in
-            let down = at_most (pred (length A.settled)) also.most_deltas summary.most_deltas other_most A.most in
+            let last = pred summary.moments in
+            let other_most = subst (λ (k : ℕ). IsMost (core net) (inputs_at s) k also.most_deltas) (ap pred (sym count)) B.most in
+            let up = at_most last summary.most_deltas also.most_deltas A.most other_most in
+            let down = at_most last also.most_deltas summary.most_deltas other_most A.most in
             omega (arith, up, down)
 
     stops : (time also : ℕ) → StopsAt net s limit old one time → StopsAt net s limit old other also
@@ -117,8 +116,8 @@ module _ (agree : EveryOrderIsOne) (net : NetlistView) (s : StimulusView) (limit
         → IsComplete answer → IsComplete also → AreAlike old one other answer also
     alike (Ok summary) (Ok also) A B is too = whole summary also A B
     alike (Err (NoSettling time)) (Err (NoSettling also)) A B is too = stops time also A B
-    alike (Ok summary) (Err (NoSettling time)) A B is too = absurd (not_both A.settled (length B.settled) A.are (let all = A.all in let more = B.more in omega (arith, all, more)) B.never)
-    alike (Err (NoSettling time)) (Ok summary) A B is too = absurd (not_both B.settled (length A.settled) B.are (let all = B.all in let more = A.more in omega (arith, all, more)) A.never)
+    alike (Ok summary) (Err (NoSettling time)) A B is too = absurd (not_both A.all.settled (length B.settled) A.all.are (let all = A.all.all in let more = B.more in omega (arith, all, more)) B.never)
+    alike (Err (NoSettling time)) (Ok summary) A B is too = absurd (not_both B.all.settled (length A.settled) B.all.are (let all = B.all.all in let more = A.more in omega (arith, all, more)) A.never)
     alike (Err Memory) also A B is too = absurd is
     alike (Err Output) also A B is too = absurd is
     alike (Ok summary) (Err Memory) A B is too = absurd too

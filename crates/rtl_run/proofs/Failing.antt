@@ -1,26 +1,35 @@
 -- What a watch was told of a moment that doesn't settle.
-use Rattle.std.proofs.Common.{◌≡◌, ℕ, ◌<◌, List, length, sym, subst}
+use Rattle.std.proofs.Common.{◌≡◌, ℕ, ◌<◌, List, length, sym, subst, ap, ◌∙◌, arith}
 use Rattle.std.specs.Prelude.{slice_index}
-use Rattle.rtl_model.specs.simulation.Cycle.{State}
-use Rattle.rtl_model.specs.simulation.Moments.{Begun, IsUnsettled}
+use Rattle.rtl_model.specs.simulation.Moments.{Begun}
 use Rattle.rtl_net.specs.Core.{core}
-use Rattle.rtl_net.specs.Nets.{NetlistView}
-use Rattle.rtl_stim.specs.Stimuli.{StimulusView, moments, inputs_at}
+use Rattle.rtl_stim.specs.Stimuli.{moments, inputs_at}
 use Rattle.rtl_sink.specs.Stands.{Stand}
 use Rattle.rtl_run.specs.declared.summary.RunFault.{RunFault}
-use Rattle.rtl_run.specs.declared.summary.RunFault.TheVariants.{NoSettling}
-use Rattle.rtl_run.specs.simulations.Watched.{AreStands, WasTold}
+use Rattle.rtl_run.specs.simulations.Engines.{CourseView, IsStuck}
+use Rattle.rtl_run.specs.simulations.Answered.{Fails, StopsAt}
+use Rattle.rtl_run.specs.simulations.Watched.{StandsFrom, WasTold}
+use Rattle.rtl_run.proofs.Stands.{HasHeard}
+use Rattle.rtl_sink.specs.Written.{SinkState}
 
-pub told_unsettled : (net : NetlistView) (s : StimulusView) (limit : ℕ) (Told : List Stand → Type 0) (Stuck : List Stand → (before now : List ℕ) → (time : ℕ) → Type 0)
-    → (fault : RunFault) (time : ℕ) → fault ≡ NoSettling time → (stands : List Stand) → AreStands net s stands → length stands < length (moments s)
-    → slice_index (moments s) (length stands) ≡ time → (begun state : State) → Begun (core net) (inputs_at s) (length stands) begun → IsUnsettled (core net) begun limit state
-    → Stuck stands state.before state.now time → WasTold net s limit Told Stuck fault
-told_unsettled net s limit Told Stuck fault time is stands are more is_at begun state is_begun unsettled stuck =
-    subst (λ (f : RunFault). WasTold net s limit Told Stuck f) (sym is) (record {
-      stands = stands;
-      are = are;
-      more = more;
-      is_at = is_at;
-      never = record { begun = begun; is_begun = is_begun; state = state; unsettled = unsettled };
-      stuck = stuck;
-    })
+module _ (r : CourseView) (m time : ℕ) (Tells : (before now : List ℕ) → Type 0) (fault : RunFault) (S : IsStuck r m time Tells fault) where
+  pub told_stuck : (Told Now : List Stand → Type 0) (Stuck : List Stand → (before now : List ℕ) → (time : ℕ) → Type 0) → (H : HasHeard (StandsFrom r.net r.stimulus) Told m)
+      → m < length (moments r.stimulus) → slice_index (moments r.stimulus) m ≡ time
+      → ((before now : List ℕ) → Tells before now → Stuck H.stands before now time) → WasTold r.net r.stimulus r.limit Now Stuck fault
+  told_stuck Told Now Stuck H there is_at stuck =
+      subst (λ (f : RunFault). WasTold r.net r.stimulus r.limit Now Stuck f) (sym S.is) (record {
+        stands = H.stands;
+        are = H.are;
+        more = let many = H.many in omega (arith, there, many);
+        is_at = ap (λ (k : ℕ). slice_index (moments r.stimulus) k) H.many ∙ is_at;
+        never = record {
+          begun = S.never.begun;
+          is_begun = subst (λ (k : ℕ). Begun (core r.net) (inputs_at r.stimulus) k S.never.begun) (sym H.many) S.never.is_begun;
+          state = S.never.state;
+          unsettled = S.never.unsettled;
+        };
+        stuck = stuck S.never.state.before S.never.state.now S.tells;
+      })
+
+  pub stops_stuck : (old new : SinkState) → StopsAt r.net r.stimulus r.limit old new time → Fails r.net r.stimulus r.limit old new fault
+  stops_stuck old new stops = subst (λ (f : RunFault). Fails r.net r.stimulus r.limit old new f) (sym S.is) stops

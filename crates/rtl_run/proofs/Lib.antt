@@ -6,15 +6,14 @@ pub mod Admitting
 pub mod Stands
 pub mod Moments
 pub mod Going
+pub mod Events
 pub mod Failing
 pub mod Theorem
 pub mod BadLines
 pub mod Refusals
 pub mod Texts
 pub mod Traces
-pub mod Told
 pub mod Codes
-pub mod FirstMoment
 pub mod Saying
 pub mod Alike
 pub mod levels

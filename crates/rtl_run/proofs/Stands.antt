@@ -1,26 +1,25 @@
 -- What a watch is told, moment by moment.
 use Rattle.std.proofs.Common.{◌≡◌, ℕ, zero, suc, ◌+◌, ◌<◌, ◌≤◌, ◌⊎◌, List, [], ◌∷◌, ◌++◌, length, Some, inl, inr, refl, sym, ap, subst, ◌∙◌, ⊎_elim, arith}
 use Rattle.std.specs.Prelude.{slice_get, slice_index_or}
-use Rattle.rtl_model.specs.simulation.Cycle.{State}
 use Rattle.rtl_net.specs.Nets.{NetlistView}
 use Rattle.rtl_agenda.specs.Agenda.{Change}
 use Rattle.rtl_stim.specs.Moments.{GivesNext}
 use Rattle.rtl_stim.specs.Stimuli.{StimulusView, moments}
 use Rattle.rtl_sink.specs.Stands.{Stand}
-use Rattle.rtl_run.specs.simulations.Running.{HasSettledIn}
+use Rattle.rtl_run.specs.simulations.Engines.{CourseView, ComesTo}
 use Rattle.rtl_run.specs.simulations.Watched.{until_of, StandsFrom, IsToldAll, IsToldFirst}
 
 abbrev no_stand : List Stand
 no_stand = []
 
 -- what stands in a list with one more is of the list, or that one
-at_end : (xs : List Stand) (y : Stand) (m : ℕ) (x : Stand) → slice_get (xs ++ y ∷ []) m ≡ Some x → (slice_get xs m ≡ Some x) ⊎ ((m ≡ length xs) × (x ≡ y))
+pub at_end : {A : Type 0} (xs : List A) (y : A) (m : ℕ) (x : A) → slice_get (xs ++ y ∷ []) m ≡ Some x → (slice_get xs m ≡ Some x) ⊎ ((m ≡ length xs) × (x ≡ y))
 at_end [] y zero x is = inr (refl, cc)
 at_end [] y (suc m) x is = cc
 at_end (z ∷ xs) y zero x is = inl is
 at_end (z ∷ xs) y (suc m) x is = ⊎_elim (λ h. inl h) (λ h. inr (ap suc h.0, h.1)) (at_end xs y m x is)
 
-one_more : (xs : List Stand) (y : Stand) → length (xs ++ y ∷ []) ≡ suc (length xs)
+pub one_more : {A : Type 0} (xs : List A) (y : A) → length (xs ++ y ∷ []) ≡ suc (length xs)
 one_more [] y = refl
 one_more (x ∷ xs) y = ap suc (one_more xs y)
 
@@ -56,9 +55,9 @@ module _ (At : ℕ → Stand → Type 0) where
     told = tells H.stands H.told;
   }
 
-  -- of so many moments, while nothing more is told
-  pub hears_on : (Told Then : List Stand → Type 0) (m n : ℕ) → HasHeard At Told m → m ≡ n → ((stands : List Stand) → Told stands → Then stands) → HasHeard At Then n
-  hears_on Told Then m n H same still = record { stands = H.stands; are = H.are; many = H.many ∙ same; told = still H.stands H.told }
+  -- while nothing more is told
+  pub hears_on : (Told Then : List Stand → Type 0) (m : ℕ) → HasHeard At Told m → ((stands : List Stand) → Told stands → Then stands) → HasHeard At Then m
+  hears_on Told Then m H still = record { stands = H.stands; are = H.are; many = H.many; told = still H.stands H.told }
 
 -- ---- until when
 
@@ -84,10 +83,11 @@ until_end s m stop is all =
 
 -- ---- of a simulation
 
-module _ (net : NetlistView) (s : StimulusView) where
-  pub stands_from : (limit m : ℕ) (state : State) → HasSettledIn net s limit m state → (x : Stand) → state.now ≡ x.values → x.until ≡ until_of s m → StandsFrom net s m x
-  stands_from limit m state settled x values until = record { deltas = settled.deltas; state = state; settled = settled.settled; values = values; until = until }
+pub stands_from : (r : CourseView) (m until : ℕ) (values : List ℕ) → ComesTo r m values → until ≡ until_of r.stimulus m
+    → StandsFrom r.net r.stimulus m (record { values = values; until = until })
+stands_from r m until values C is = record { deltas = C.deltas; state = C.settles.state; settled = C.settles.settled; values = C.settles.values; until = is }
 
+module _ (net : NetlistView) (s : StimulusView) where
   pub heard_all : (Told : List Stand → Type 0) (m : ℕ) → HasHeard (StandsFrom net s) Told m → m ≡ length (moments s) → IsToldAll net s Told
   heard_all Told m H all = record { stands = H.stands; are = H.are; all = H.many ∙ all; told = H.told }
 

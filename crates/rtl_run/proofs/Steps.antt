@@ -11,7 +11,7 @@ use Rattle.vhdl_values.specs.Scalar.{code_of}
 use Rattle.rtl_model.specs.simulation.Netlist.{IsInput}
 use Rattle.rtl_model.specs.simulation.Cycle.{State, start_state, after_inputs, with_changes}
 use Rattle.rtl_model.specs.simulation.Elaborated.{IsWired}
-use Rattle.rtl_model.specs.simulation.Moments.{Begun, HasRun}
+use Rattle.rtl_model.specs.simulation.Moments.{Begun, HasRun, HasSettled}
 use Rattle.rtl_model.proofs.nets.Connected.{connected_is_elaborated}
 use Rattle.rtl_model.proofs.simulation.Consistent.{takes_inputs_alone, each_input_holds}
 use Rattle.rtl_model.proofs.simulation.Past.{ends_at_last}
@@ -31,7 +31,6 @@ use Rattle.rtl_stim.specs.Stimuli.{StimulusView, initial_values, inputs_at, mome
 use Rattle.rtl_stim.proofs.Next.{any_from, each_begins_at_zero, each_moment_follows}
 use Rattle.rtl_stim.proofs.Values.{first_or_later}
 use Rattle.rtl_net.specs.Core.{core}
-use Rattle.rtl_run.specs.simulations.Running.{HasSettledIn}
 
 is_same : (m n : ℕ) → (m == n) ≡ true → m ≡ n
 is_same m n e = grind (arith, nat_tests)
@@ -92,23 +91,12 @@ module _ (net : NetlistView) (is_net : IsNet net) (s : StimulusView) (ports : Ha
   leads m t changes values as_many holds next n is =
       next.lead values n (let less = below n is in omega (arith, less, as_many)) (subst (λ (ns : List ℕ). Contains ns n) (sym own) (contained n is)) (holds n is)
 
-  next_inputs : (m t : ℕ) (changes : List Change) (quiet : State) → length quiet.now ≡ length net.types → HasSettledIn net s 0 m quiet → GivesNext s m t changes
-      → (n : ℕ) → IsInput (core net) n → with_changes (changes_of changes) quiet.now n ≡ inputs_at s (suc m) n
-  next_inputs m t changes quiet as_many has next =
-      leads m t changes quiet.now as_many (λ n is. (each_input_holds (core net) wired (inputs_at s) m n is).settled has.deltas quiet has.settled) next
-
-  pub next_begun : (limit m t : ℕ) (changes : List Change) (quiet state : State) → length quiet.now ≡ length net.types → HasSettledIn net s limit m quiet → GivesNext s m t changes
-      → HasRun (core net) (after_inputs (core net) (with_changes (changes_of changes) quiet.now) quiet) state → Begun (core net) (inputs_at s) (suc m) state
-  next_begun limit m t changes quiet state as_many has next run =
-      let own_inputs = next_inputs m t changes quiet as_many (record { deltas = has.deltas; settled = has.settled }) next in
-      let at = (takes_inputs_alone (core net) _ (inputs_at s (suc m)) own_inputs).gives quiet in (
-        has.settled.0,
-        has.deltas,
-        quiet,
-        has.settled.1,
-        has.settled.2,
-        subst (λ (from : State). HasRun (core net) from state) at run,
-      )
+  pub next_begun : (m t : ℕ) (changes : List Change) (quiet : State) (k : ℕ) (state : State) → length quiet.now ≡ length net.types → HasSettled (core net) (inputs_at s) m k quiet
+      → GivesNext s m t changes → HasRun (core net) (after_inputs (core net) (with_changes (changes_of changes) quiet.now) quiet) state → Begun (core net) (inputs_at s) (suc m) state
+  next_begun m t changes quiet k state as_many has next run =
+      let own_inputs = leads m t changes quiet.now as_many (λ n is. (each_input_holds (core net) wired (inputs_at s) m n is).settled k quiet has) next in
+      let at = (takes_inputs_alone (core net) _ (inputs_at s (suc m)) own_inputs).gives quiet in
+      (has.0, k, quiet, has.1, has.2, subst (λ (from : State). HasRun (core net) from state) at run)
 
 -- ---- what the agenda gives
 

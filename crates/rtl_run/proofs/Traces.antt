@@ -1,18 +1,26 @@
--- What a simulation answers, of an accepted netlist under a stimulus without a race.
+-- What a simulation writes, and what a watch is told of it, of an accepted netlist under a stimulus without a race.
 use Rattle.std.proofs.Common.{◌≡◌, ℕ, pred, ◌≤◌, List, length, refl, sym, ap, subst, ◌∙◌}
-use Rattle.rtl_model.specs.simulation.Moments.{IsMost}
+use Rattle.rtl_model.specs.simulation.Moments.{HasSettled, IsMost}
 use Rattle.rtl_model.specs.simulation.Laws.{OneGreatestCount}
 use Rattle.rtl_net.specs.Nets.{NetlistView, flat}
 use Rattle.rtl_net.specs.Elaborated.{IsNet}
 use Rattle.rtl_net.specs.Core.{core}
+use Rattle.rtl_sink.specs.Stands.{Stand}
 use Rattle.rtl_sink.specs.Written.{SinkState, TakesAll}
 use Rattle.rtl_model.proofs.nets.Connected.{connected_is_elaborated}
 use Rattle.rtl_stim.specs.Stimuli.{StimulusView, moments, inputs_at}
 use Rattle.rtl_stim.proofs.Next.{each_begins_at_zero}
+use Rattle.rtl_run.specs.declared.summary.RunFault.{RunFault}
+use Rattle.rtl_run.specs.declared.summary.RunFault.TheVariants.{NoSettling, Memory, Output}
 use Rattle.rtl_run.specs.declared.summary.Summary.{Summary}
-use Rattle.rtl_run.specs.simulations.Answered.{IsWhole, StopsAt, LeavesBeginning}
+use Rattle.rtl_run.specs.Faults.{of_run}
 use Rattle.rtl_run.specs.Synchronous.{SaysYes, IsSynchronous}
-use Rattle.rtl_run.specs.Traced.{machine_text, IsTrace, TracesAll, TracesBeginning}
+use Rattle.rtl_run.specs.Traced.{machine_text, IsTrace, TracesMoments, TracesAll, TracesBeginning, Leaves}
+use Rattle.rtl_run.specs.Watched.{AreStandsOf, IsToldRun, IsToldRunFirst}
+use Rattle.rtl_run.specs.simulations.Answered.{Fails, IsWhole, LeavesBeginning, WritesAll}
+use Rattle.rtl_run.specs.simulations.Engines.{ComesTo}
+use Rattle.rtl_run.specs.simulations.Simulated.{NeverSettles}
+use Rattle.rtl_run.specs.simulations.Watched.{AreStands, IsToldAll, IsToldFirst, WasTold}
 use Rattle.rtl_run.proofs.Texts.{are_of_run, whole_is, beginning_is}
 
 module _ (net : NetlistView) (s : StimulusView) (limit : ℕ) (run : ℕ → List ℕ) (synchronous : IsSynchronous (core net) limit (inputs_at s) run) where
@@ -20,13 +28,26 @@ module _ (net : NetlistView) (s : StimulusView) (limit : ℕ) (run : ℕ → Lis
   is_trace = record { run = run; synchronous = synchronous; is = refl }
 
   -- each moment settles
-  pub never_stops : (time : ℕ) (old new : SinkState) → StopsAt net s limit old new time → ⊥
-  never_stops time old new stops =
-      let never = stops.never in
-      let settles = synchronous.settles (length stops.settled) never.begun never.is_begun in
+  pub never_settles : (m : ℕ) → NeverSettles net s limit m → ⊥
+  never_settles m never =
+      let settles = synchronous.settles m never.begun never.is_begun in
       never.unsettled.never settles.0 settles.2 settles.1
 
-  pub beginning : (old new : SinkState) → LeavesBeginning net s limit old new → TracesBeginning net s limit old new
+  -- in the valuation of the run
+  pub comes_to_run : (m : ℕ) → ComesTo (record { net = net; stimulus = s; limit = limit }) m (run m)
+  comes_to_run m =
+      let begun = synchronous.comes m in
+      let settles = synchronous.settles m begun.0 begun.1 in
+      let goes_on = settles.1.goes_on in
+      let has : HasSettled (core net) (inputs_at s) m settles.0 goes_on.0 = (begun.0, begun.1, (settles.1, goes_on.1)) in
+      record { deltas = settles.0; settles = record { state = goes_on.0; settled = has; values = synchronous.is_machine m settles.0 goes_on.0 has }; within = settles.2 }
+
+  pub is_of_run : (m : ℕ) (values : List ℕ) → ComesTo (record { net = net; stimulus = s; limit = limit }) m values → values ≡ run m
+  is_of_run m values C = sym C.settles.values ∙ synchronous.is_machine m C.deltas C.settles.state C.settles.settled
+
+  -- ---- what went out
+
+  beginning : (old new : SinkState) → LeavesBeginning net s limit old new → TracesBeginning net s limit old new
   beginning old new leaves = record {
     text = machine_text net s run;
     trace = is_trace;
@@ -34,20 +55,50 @@ module _ (net : NetlistView) (s : StimulusView) (limit : ℕ) (run : ℕ → Lis
         (are_of_run net s limit run leaves.settled synchronous.is_machine leaves.are) leaves.is leaves.taken;
   }
 
-  pub whole : (old new : SinkState) (summary : Summary) → IsNet net → OneGreatestCount → SaysYes (core net) limit → IsWhole net s limit old new summary → TracesAll net s limit old new summary
-  whole old new summary is_net one said all =
-      let text = whole_is net s run all.settled (each_begins_at_zero s).0 all.all (are_of_run net s limit run all.settled synchronous.is_machine all.are) in
-      let last = ap pred all.all in
-      let most = subst (λ (k : ℕ). IsMost (core net) (inputs_at s) k summary.most_deltas) last all.most in
-      let greatest = one (core net) said.levels said.report.greatest (connected_is_elaborated (flat net) is_net.in_range is_net.connected) said.accepted said.report.levels_are (inputs_at s) (pred (length (moments s))) in
-      let same : summary.most_deltas ≡ greatest.0 = greatest.3 summary.most_deltas most in
-      let within = subst (λ (b : ℕ). greatest.0 ≤ b) (sym said.report.rest.bound_is) greatest.2 in
-      record {
-        text = machine_text net s run;
-        trace = is_trace;
-        taken = subst (λ (t : List ℕ). TakesAll old new t) text (all.text.whole all.intact).1;
-        intact = all.intact;
-        count = all.count ∙ all.all;
-        most = most;
-        within = subst (λ (k : ℕ). k ≤ limit) (sym same) within;
-      }
+  module _ (old new : SinkState) where
+    pub leaves : (fault : RunFault) → Fails net s limit old new fault → Leaves net s limit old new (of_run fault)
+    leaves (NoSettling time) stops = absurd (never_settles (length stops.settled) stops.never)
+    leaves Memory (left, intact) = (beginning old new left, intact)
+    leaves Output (left, failed) = (beginning old new left, failed)
+
+    pub is_another : (fault : RunFault) → Fails net s limit old new fault → (time : ℕ) → fault ≡ NoSettling time → ⊥
+    is_another fault fails time is =
+        let stops = subst (λ (f : RunFault). Fails net s limit old new f) is fails in
+        never_settles (length stops.settled) stops.never
+
+    pub traces_moments : (count : ℕ) → WritesAll net s limit old new count → TracesMoments net s limit old new count
+    traces_moments count all =
+        let text = whole_is net s run all.settled (each_begins_at_zero s).0 all.all (are_of_run net s limit run all.settled synchronous.is_machine all.are) in
+        record {
+          text = machine_text net s run;
+          trace = is_trace;
+          taken = subst (λ (t : List ℕ). TakesAll old new t) text (all.text.whole all.intact).1;
+          intact = all.intact;
+          count_is = all.count_is ∙ all.all;
+        }
+
+    pub whole : (summary : Summary) → IsNet net → OneGreatestCount → SaysYes (core net) limit → IsWhole net s limit old new summary → TracesAll net s limit old new summary
+    whole summary is_net one said is_whole =
+        let moments_are = is_whole.all.count_is ∙ is_whole.all.all in
+        let most = subst (λ (k : ℕ). IsMost (core net) (inputs_at s) k summary.most_deltas) (ap pred moments_are) is_whole.most in
+        let greatest = one (core net) said.levels said.report.greatest (connected_is_elaborated (flat net) is_net.in_range is_net.connected) said.accepted said.report.levels_are (inputs_at s) (pred (length (moments s))) in
+        let same : summary.most_deltas ≡ greatest.0 = greatest.3 summary.most_deltas most in
+        let within = subst (λ (b : ℕ). greatest.0 ≤ b) (sym said.report.rest.bound_is) greatest.2 in
+        record { all = traces_moments summary.moments is_whole.all; most = most; within = subst (λ (k : ℕ). k ≤ limit) (sym same) within }
+
+  -- ---- what the watch was told
+
+  module _ (Told : List Stand → Type 0) where
+    stands_of : (stands : List Stand) → AreStands net s stands → AreStandsOf s run stands
+    stands_of stands are m x is = let from = are m x is in (sym from.values ∙ synchronous.is_machine m from.deltas from.state from.settled, from.until)
+
+    pub told_run : IsToldAll net s Told → IsToldRun net s limit Told
+    told_run all = record { run = run; synchronous = synchronous; stands = all.stands; are = stands_of all.stands all.are; all = all.all; told = all.told }
+
+    told_some : IsToldFirst net s Told → IsToldRunFirst net s limit Told
+    told_some first = record { run = run; synchronous = synchronous; stands = first.stands; are = stands_of first.stands first.are; there = first.there; told = first.told }
+
+    pub told_first : (Stuck : List Stand → (before now : List ℕ) → (time : ℕ) → Type 0) (fault : RunFault) → WasTold net s limit Told Stuck fault → IsToldRunFirst net s limit Told
+    told_first Stuck (NoSettling time) told = absurd (never_settles (length told.stands) told.never)
+    told_first Stuck Memory told = told_some told
+    told_first Stuck Output told = told_some told

@@ -1,4 +1,2 @@
 pub mod Alike
-pub mod Going
-pub mod Stands
 pub mod Turns

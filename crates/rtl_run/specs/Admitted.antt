@@ -1,5 +1,5 @@
--- Which netlists and texts of stimuli are simulated as a synchronous machine, and why others are refused: by the checker
--- first, then by the text, and then by a race.
+-- Which netlists and texts of stimuli are simulated as a synchronous machine, and why others are refused: by the
+-- checker first, then by the text, and then by a race.
 use Rattle.std.specs.Prelude.{◌≡◌, ℕ, suc, ◌<◌, List, map, length, slice_index, Ok, Err}
 use Rattle.rtl_model.specs.simulation.Netlist.{Edge}
 use Rattle.rtl_model.specs.simulation.Accepted.{IsAccepted}
@@ -25,8 +25,8 @@ module _ (net : NetlistView) (text : List ℕ) where
     pub says : IsRead net text (Ok s)
     pub raceless : IsRaceless (core net) (inputs_at s)
 
-  -- The text says a stimulus of an accepted netlist, and this is its earliest race: at the time of the moment after m, of the
-  -- lowest data input that changes there with the lowest clock that has an active edge.
+  -- The text says a stimulus of an accepted netlist, and this is its earliest race: at the time of the moment after m,
+  -- of the lowest data input that changes there with the lowest clock that has an active edge.
   pub record HasFirstRace (time input clock : ℕ) : Type 0 where
     pub accepted : IsAccepted (core net)
     pub s : StimulusView

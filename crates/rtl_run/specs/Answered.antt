@@ -1,4 +1,5 @@
--- What `run` and `eval` answer on a netlist: nothing is written before the checker, the stimulus and the search for a race have passed.
+-- What `run` and `eval` answer on a netlist: nothing is written before the checker, the stimulus and the search for a
+-- race have passed.
 use Rattle.std.specs.Prelude.{◌≡◌, ℕ, ◌⊎◌, List, Result, Err}
 use Rattle.rtl_net.specs.Nets.{NetlistView}
 use Rattle.rtl_sink.specs.Written.{SinkState}
@@ -16,13 +17,15 @@ pub record Admits (net : NetlistView) (text : List ℕ) (Done : StimulusView →
   pub done : Done stimulus bound
 
 -- they are refused, and nothing is written
-pub record IsNetRefused {A : Type 0} (net : NetlistView) (text : List ℕ) (old new : SinkState) (answer : Result A MachineFault) : Type 0 where
+pub record IsNetRefused {A : Type 0} (net : NetlistView) (text : List ℕ) (old new : SinkState)
+    (answer : Result A MachineFault) : Type 0 where
   pub fault : MachineFault
   pub is : answer ≡ Err fault
   pub why : RefusesNet net text fault
   pub nothing : new ≡ old
 
--- Where the checker says yes with a bound and the stimulus has no race, the trace of the synchronous machine's run is written,
--- and each moment settles within the bound, whatever the orders of processes. Else the refusal says why.
+-- Where the checker says yes with a bound and the stimulus has no race, the trace of the synchronous machine's run is
+-- written, and each moment settles within the bound, whatever the orders of processes. Else the refusal says why.
 abbrev pub RunsNet : NetlistView → (text : List ℕ) → (old new : SinkState) → Result Summary MachineFault → Type 0
-RunsNet net text old new answer = Admits net text (λ s bound. Traces net s bound old new answer) ⊎ IsNetRefused net text old new answer
+RunsNet net text old new answer =
+    Admits net text (λ s bound. Traces net s bound old new answer) ⊎ IsNetRefused net text old new answer

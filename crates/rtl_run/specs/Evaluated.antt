@@ -1,5 +1,5 @@
--- What `eval` prints: for each out port of the top in order of declaration a line NAME=VALUE, with its value in the first
--- valuation of the synchronous machine under the stimulus that the words say.
+-- What `eval` prints: for each out port of the top in order of declaration a line NAME=VALUE, with its value in the
+-- first valuation of the synchronous machine under the stimulus that the words say.
 use Rattle.std.specs.Prelude.{◌≡◌, ℕ, ◌==◌, ◌&&◌, ◌⊎◌, Bool, not, if◌then◌else◌, List, [], ◌++◌, map, flat_map, slice_index, codes, Result, Ok, Err}
 use Rattle.vhdl_values.specs.Scalar.{letter_of, value_of_code}
 use Rattle.rtl_net.specs.Nets.{NetlistView, SignalView}
@@ -51,6 +51,8 @@ module _ (net : NetlistView) (s : StimulusView) (bound : ℕ) where
   Prints old new (Err _) = ⊥
 
 -- `eval` refuses what `run` refuses under the stimulus that the words say.
-abbrev pub Evaluates : NetlistView → (words : List (List ℕ)) → (old new : SinkState) → Result (Unit {0}) MachineFault → Type 0
+abbrev pub Evaluates : NetlistView → (words : List (List ℕ)) → (old new : SinkState)
+    → Result (Unit {0}) MachineFault → Type 0
 Evaluates net words old new answer =
-    Admits net (words_text words) (λ s bound. Prints net s bound old new answer) ⊎ IsNetRefused net (words_text words) old new answer
+    Admits net (words_text words) (λ s bound. Prints net s bound old new answer)
+    ⊎ IsNetRefused net (words_text words) old new answer

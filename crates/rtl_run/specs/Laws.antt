@@ -25,6 +25,7 @@ pub record AreAlike (old one other : SinkState) (answer also : Result Summary Ru
 -- Of one netlist, stimulus and limit, two runs into sinks that are alike before, by whatever orders.
 abbrev pub EachOrderIsWrittenAlike : Type 0
 EachOrderIsWrittenAlike =
-    (net : NetlistView) (s : StimulusView) (limit : ℕ) (old one other : SinkState) (answer also : Result Summary RunFault)
+    (net : NetlistView) (s : StimulusView) (limit : ℕ) (old one other : SinkState)
+    (answer also : Result Summary RunFault)
     → Answers net s limit old one answer → Answers net s limit old other also → IsComplete answer → IsComplete also
     → AreAlike old one other answer also

@@ -38,7 +38,8 @@ pub record IsSynchronous (net : Netlist) (bound : ℕ) (stimulus : ℕ → ℕ �
   pub one_source : (n : ℕ) → length (sources_of net n) ≤ 1
   -- each moment comes, and whatever the orders so far, it settles within the bound
   pub comes : (m : ℕ) → (begun : State) × Begun net stimulus m begun
-  pub settles : (m : ℕ) (begun : State) → Begun net stimulus m begun → (deltas : ℕ) × SettlesIn net begun deltas × (deltas ≤ bound)
+  pub settles : (m : ℕ) (begun : State) → Begun net stimulus m begun → (deltas : ℕ) × SettlesIn net begun deltas
+      × (deltas ≤ bound)
   -- the first within the greatest level, where no process has a reset
   pub starts : (levels : List (Option ℕ)) (greatest : ℕ) → AreLevels net levels greatest → HasNoReset net
       → (begun : State) → Begun net stimulus 0 begun → (deltas : ℕ) × SettlesIn net begun deltas × (deltas ≤ greatest)
@@ -49,8 +50,10 @@ pub record IsSynchronous (net : Netlist) (bound : ℕ) (stimulus : ℕ → ℕ �
   -- and all combinational nets are the solution of their equations, of which there is one for any inputs and registers.
   pub one_solution : (inputs registers : ℕ → ℕ) → HasOneSolution net inputs registers
 
--- Where the checker says yes with a bound, then for every stimulus without a race the simulation is a synchronous machine.
+-- Where the checker says yes with a bound, then for every stimulus without a race the simulation is a synchronous
+-- machine.
 abbrev pub EachAcceptedIsSynchronous : Type 0
 EachAcceptedIsSynchronous =
-    (net : NetlistView) (bound : ℕ) (stimulus : ℕ → ℕ → ℕ) → IsNet net → SaysYes (core net) bound → IsRaceless (core net) stimulus
+    (net : NetlistView) (bound : ℕ) (stimulus : ℕ → ℕ → ℕ) → IsNet net → SaysYes (core net) bound
+    → IsRaceless (core net) stimulus
     → (run : ℕ → List ℕ) × IsSynchronous (core net) bound stimulus run

@@ -19,7 +19,8 @@ run_at run (t ∷ times) = record { time = t; values = run 0 } ∷ run_at (λ m.
 
 -- the whole trace of a machine's run under a stimulus (IEEE 1364-2005, clause 18)
 abbrev pub machine_text : NetlistView → StimulusView → (run : ℕ → List ℕ) → List ℕ
-machine_text net s run = trace_text net.scopes net.signals (run 0) (run_at (λ m. run (suc m)) (behind_first (moments s))) s.schedule.stop
+machine_text net s run =
+    trace_text net.scopes net.signals (run 0) (run_at (λ m. run (suc m)) (behind_first (moments s))) s.schedule.stop
 
 module _ (net : NetlistView) (s : StimulusView) (bound : ℕ) where
   -- the netlist is a synchronous machine under the stimulus, and this is the trace of its run
@@ -28,14 +29,18 @@ module _ (net : NetlistView) (s : StimulusView) (bound : ℕ) where
     pub synchronous : IsSynchronous (core net) bound (inputs_at s) run
     pub is : text ≡ machine_text net s run
 
-  -- The whole trace went out. The summary tells how many moments there were, and the greatest number of delta cycles that
-  -- one takes, whatever the orders of processes: it is within the bound.
-  pub record TracesAll (old new : SinkState) (summary : Summary) : Type 0 where
+  -- the whole trace went out, of so many moments
+  pub record TracesMoments (old new : SinkState) (count : ℕ) : Type 0 where
     pub text : List ℕ
     pub trace : IsTrace text
     pub taken : TakesAll old new text
     pub intact : IsIntact new
-    pub count : summary.moments ≡ length (moments s)
+    pub count_is : count ≡ length (moments s)
+
+  -- The summary tells how many moments there were, and the greatest number of delta cycles that one takes, whatever the
+  -- orders of processes: it is within the bound.
+  pub record TracesAll (old new : SinkState) (summary : Summary) : Type 0 where
+    pub all : TracesMoments old new summary.moments
     pub most : IsMost (core net) (inputs_at s) (pred (length (moments s))) summary.most_deltas
     pub within : summary.most_deltas ≤ bound
 
@@ -46,8 +51,11 @@ module _ (net : NetlistView) (s : StimulusView) (bound : ℕ) where
     pub taken : TakesBeginning old new text
 
   -- Each moment settles, so nothing but memory and the output can fail.
+  abbrev pub Leaves : (old new : SinkState) → MachineFault → Type 0
+  Leaves old new Memory = TracesBeginning old new × IsIntact new
+  Leaves old new Output = TracesBeginning old new × HasFailed new
+  Leaves old new _ = ⊥
+
   abbrev pub Traces : (old new : SinkState) → Result Summary MachineFault → Type 0
   Traces old new (Ok summary) = TracesAll old new summary
-  Traces old new (Err Memory) = TracesBeginning old new × IsIntact new
-  Traces old new (Err Output) = TracesBeginning old new × HasFailed new
-  Traces old new (Err _) = ⊥
+  Traces old new (Err fault) = Leaves old new fault

@@ -1,5 +1,5 @@
--- What a watch is told of a simulation of an accepted netlist under a stimulus without a race: the machine's valuation at each moment, and
--- until when it stands.
+-- What a watch is told of a simulation of an accepted netlist under a stimulus without a race: the machine's valuation
+-- at each moment, and until when it stands.
 use Rattle.std.specs.Prelude.{◌≡◌, ◌≤◌, ◌⊎◌, ℕ, List, [], length, slice_get, Some}
 use Rattle.rtl_net.specs.Nets.{NetlistView}
 use Rattle.rtl_net.specs.Core.{core}
@@ -11,7 +11,8 @@ use Rattle.rtl_run.specs.Synchronous.{IsSynchronous}
 
 -- these are the first valuations of a run
 abbrev pub AreStandsOf : StimulusView → (run : ℕ → List ℕ) → List Stand → Type 0
-AreStandsOf s run stands = (m : ℕ) (x : Stand) → slice_get stands m ≡ Some x → (x.values ≡ run m) × (x.until ≡ until_of s m)
+AreStandsOf s run stands =
+    (m : ℕ) (x : Stand) → slice_get stands m ≡ Some x → (x.values ≡ run m) × (x.until ≡ until_of s m)
 
 -- the netlist is a synchronous machine under the stimulus, and its valuation at each moment was told, in order
 pub record IsToldRun (net : NetlistView) (s : StimulusView) (bound : ℕ) (Told : List Stand → Type 0) : Type 0 where

@@ -17,12 +17,13 @@ filled (Some sides) = if length sides.0 == 0 || length sides.1 == 0 then None el
 abbrev pub is_word : List ℕ → Bool
 is_word word = list_all (λ b. nat_le 33 b) word
 
--- The name and the value of a word, cut at its first `=`. A word without one, with an empty side, or with a blank or control
--- character has none.
+-- The name and the value of a word, cut at its first `=`. A word without one, with an empty side, or with a blank or
+-- control character has none.
 abbrev pub sides : List ℕ → Pair
 sides word = if is_word word then filled (halves word) else None
 
--- The line of a stimulus that says the same: from 0 on the input of this name has this value. A word that has none is a bad line.
+-- The line of a stimulus that says the same: from 0 on the input of this name has this value. A word that has none is a
+-- bad line.
 abbrev pub set_line : Pair → List ℕ
 set_line None = codes "=\n"
 set_line (Some sides) = codes "at 0 " ++ sides.0 ++ codes " " ++ sides.1 ++ codes "\n"
@@ -36,7 +37,9 @@ words_text words = flat_map word_line words ++ codes "stop 0\n"
 
 -- ---- what such a text says
 
--- The text of words says what their names and values say: each sets its input at 0, where the simulation stops; the first bad word is
--- told by its place, from 1.
+-- The text of words says what their names and values say: each sets its input at 0, where the simulation stops; the
+-- first bad word is told by its place, from 1.
 abbrev pub EachWordSets : Type 0
-EachWordSets = (inputs : List Input) (words : List (List ℕ)) → schedule_of inputs (words_text words) ≡ schedule_of_pairs inputs (map sides words)
+EachWordSets =
+    (inputs : List Input) (words : List (List ℕ))
+    → schedule_of inputs (words_text words) ≡ schedule_of_pairs inputs (map sides words)

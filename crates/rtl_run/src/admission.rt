@@ -18,7 +18,8 @@ use rtl_net::Net;
 use rtl_stim::{StimFault, Stimulus, first_race};
 use std::alloc::Global;
 
-/// A stimulus without a race, of an accepted netlist, whose processes have these levels and whose moments settle within the bound.
+/// A stimulus without a race, of an accepted netlist, whose processes have these levels and whose
+/// moments settle within the bound.
 pub struct Admitted {
     pub stimulus: Stimulus,
     pub bound: u32,
@@ -35,13 +36,13 @@ impl Drop for Admitted {
     }
 }
 
-/// Checks a netlist, reads the text of a stimulus for it, and looks for a race. It takes the checker's memory, the
-/// stimulus's and that of the search.
+/// Checks a netlist, reads the text of a stimulus for it, and looks for a race. It takes the
+/// checker's memory, the stimulus's and that of the search.
 ///
 /// # Errors
 ///
-/// `Rejected` with what the checker found; then `Stim` with the first bad line of the text; then `Stim` with the earliest
-/// race. `Memory` where a growth was refused.
+/// `Rejected` with what the checker found; then `Stim` with the first bad line of the text; then
+/// `Stim` with the earliest race. `Memory` where a growth was refused.
 pub fn admit(alloc: Global, net: &Net, text: &[u8]) -> Result<Admitted, MachineFault>
     requires { HasOwnPorts net.now }
     ensures admitted { IfOk result (λ a. IsAdmitted net.now text.now a.bound a.stimulus) }
@@ -60,7 +61,8 @@ pub(crate) fn admit_words(
     words: &[&[u8]],
 ) -> Result<Admitted, MachineFault>
     requires { HasOwnPorts net.now }
-    ensures admitted { IfOk result (λ a. IsAdmitted net.now (words_text (map (λ word. word.now) words.now)) a.bound a.stimulus) }
+    ensures admitted { let text = words_text (map (λ word. word.now) words.now) in
+        IfOk result (λ a. IsAdmitted net.now text a.bound a.stimulus) }
     ensures refused { IfErr result (RefusesNet net.now (words_text (map (λ word. word.now) words.now))) }
 {
     each_word_sets();
@@ -81,7 +83,8 @@ fn without_race(
     requires report { IsReportOf (core net.now) report }
     requires ports { HasOwnPorts net.now }
     requires inputs { stimulus.inputs ≡ inputs_of net.now }
-    ensures admitted { (text : List ℕ) → IsRead net.now text (Ok stimulus) → IfOk result (λ a. IsAdmitted net.now text a.bound a.stimulus) }
+    ensures admitted { (text : List ℕ) → IsRead net.now text (Ok stimulus)
+        → IfOk result (λ a. IsAdmitted net.now text a.bound a.stimulus) }
     ensures levels { IfOk result (λ a. (greatest : ℕ) × AreLevels (core net.now) a.levels.items greatest) }
     ensures refused { (text : List ℕ) → IsRead net.now text (Ok stimulus) → IfErr result (RefusesNet net.now text) }
 {

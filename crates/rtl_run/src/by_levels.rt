@@ -12,37 +12,23 @@ use crate::level_summary::LevelSummary;
 use crate::prepared::{Prepared, prepare};
 use crate::stepping::Stepping;
 use rtl_net::Net;
-use rtl_sink::{Sink, Unwatched, Watch};
+use rtl_sink::{Sink, Watch};
 use std::alloc::Global;
 
-/// Simulates a netlist under the stimulus that a text says, as the synchronous machine that it is: at each moment the
-/// clocked processes that the inputs wake run, and then the combinational ones once in order of level. It writes the
-/// trace that `run` writes. Nothing is written before the checker, the stimulus and the search for a race have passed.
+/// Simulates a netlist under the stimulus that a text says, as the synchronous machine that it is:
+/// at each moment the clocked processes that the inputs wake run, and then the combinational ones
+/// once in order of level. It writes the trace that `run_watched` writes. Nothing is written before
+/// the checker, the stimulus and the search for a race have passed. The watch is told the machine's
+/// valuation at each moment, as soon as it is known until when that stands.
 ///
-/// It takes the checker's memory, the stimulus's, the machine's, that of the names' blocks, and a byte for each net.
-///
-/// # Errors
-///
-/// `Rejected` with what the checker found; then `Stim` with the first bad line of the text, or with the earliest race. Nothing
-/// is written till here. `Memory` and `Output` leave a beginning of the trace.
-pub fn run_levels<W: Sink>(
-    alloc: Global,
-    net: &Net,
-    text: &[u8],
-    out: &mut W,
-) -> Result<LevelSummary, MachineFault>
-    requires ports { HasOwnPorts net.now }
-    requires intact { IsIntact (W.state out.old) }
-    ensures { RunsLevels net.now text.now (W.state out.old) (W.state out.new) result }
-{
-    run_levels_watched(alloc, net, text, &mut Unwatched, out)
-}
-
-/// The same, and the watch is told the machine's valuation at each moment, as soon as it is known until when that stands.
+/// It takes the checker's memory, the stimulus's, the machine's, that of the names' blocks, and a
+/// byte for each net.
 ///
 /// # Errors
 ///
-/// As `run_levels`.
+/// `Rejected` with what the checker found; then `Stim` with the first bad line of the text, or with
+/// the earliest race. Nothing is written till here. `Memory` and `Output` leave a beginning of the
+/// trace.
 pub fn run_levels_watched<V: Watch, W: Sink>(
     alloc: Global,
     net: &Net,
@@ -53,7 +39,8 @@ pub fn run_levels_watched<V: Watch, W: Sink>(
     requires ports { HasOwnPorts net.now }
     requires intact { IsIntact (W.state out.old) }
     ensures runs { RunsLevels net.now text.now (W.state out.old) (W.state out.new) result }
-    ensures told { IfOk result (λ _. Admits net.now text.now (λ s bound. IsToldRun net.now s bound (λ stands. V.told watch.old stands watch.new))) }
+    ensures told { IfOk result (λ _. Admits net.now text.now
+        (λ s bound. IsToldRun net.now s bound (λ stands. V.told watch.old stands watch.new))) }
     ensures failing { IfErr result (λ _. WasToldRun net.now text.now (λ stands. V.told watch.old stands watch.new)) }
 {
     net.is_elaborated();

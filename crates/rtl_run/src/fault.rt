@@ -1,13 +1,14 @@
 //! Why a netlist is not simulated as a machine.
 
-ghost use Rattle.std.specs.Prelude.{◌≡◌};
+ghost use Rattle.std.specs.Prelude.{◌≡◌, ℕ};
 ghost use Rattle.rtl_run.specs.declared.fault.MachineFault.TheVariants.{Memory, Output};
-ghost use Rattle.rtl_run.specs.Faults.{of_stim};
+ghost use Rattle.rtl_run.specs.declared.summary.RunFault.TheVariants.{NoSettling};
+ghost use Rattle.rtl_run.specs.Faults.{of_run, of_stim};
 
+use crate::summary::RunFault;
 use rtl_check::CheckFault;
 use rtl_sink::WriteFailed;
 use rtl_stim::StimFault;
-use rtl_vcd::VcdFault;
 use std::alloc::AllocError;
 
 /// Why a netlist is not simulated, or what is written of it not the whole.
@@ -50,10 +51,14 @@ impl From<WriteFailed> for MachineFault {
     }
 }
 
-impl From<VcdFault> for MachineFault {
-    ghost from_gives = { λ _ fault. fault ≡ Output };
-
-    fn from(_failed: VcdFault) -> MachineFault {
-        MachineFault::Output
+/// Why a simulation fails whose moments all settle.
+pub(crate) fn settled_fault(fault: RunFault) -> MachineFault
+    requires { (time : ℕ) → fault ≡ NoSettling time → ⊥ }
+    ensures { result ≡ of_run fault }
+{
+    match fault {
+        RunFault::NoSettling { .. } => unreachable!(),
+        RunFault::Memory => MachineFault::Memory,
+        RunFault::Output => MachineFault::Output,
     }
 }

@@ -1,7 +1,7 @@
 //! What a levelized simulation came to.
 
-/// How many moments there were, and the bound of the checker's report, which no moment's delta cycles pass where one simulates by
-/// events.
+/// How many moments there were, and the bound of the checker's report, which no moment's delta
+/// cycles pass where one simulates by events.
 #[derive(Clone, Copy)]
 pub struct LevelSummary {
     pub moments: u64,

@@ -12,7 +12,8 @@ use rtl_net::{Net, Signal};
 use rtl_sink::{Sink, push_text};
 use vhdl_values::Nine;
 
-/// Writes the line of each out port of the top, in order of declaration, where the nets have these values. It takes no memory.
+/// Writes the line of each out port of the top, in order of declaration, where the nets have these
+/// values. It takes no memory.
 pub fn push_ports<W: Sink>(net: &Net, values: &[u8], out: &mut W)
     ensures { Goes (W.state out.old) (W.state out.new) (port_lines net.now values.now) }
 {

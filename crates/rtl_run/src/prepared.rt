@@ -15,7 +15,8 @@ use std::alloc::Global;
 /// How many slots the agenda of a simulation has.
 pub const SLOTS: usize = 256;
 
-/// A stimulus without a race, the bodies of the netlist's processes, and an agenda in which nothing waits.
+/// A stimulus without a race, the bodies of the netlist's processes, and an agenda in which nothing
+/// waits.
 #[derive(Drop)]
 pub(crate) struct Prepared<'a> {
     pub(crate) admitted: Admitted,
@@ -34,7 +35,9 @@ pub(crate) fn prepare<'a>(
     text: &[u8],
 ) -> Result<Prepared<'a>, MachineFault>
     requires { HasOwnPorts net.now }
-    ensures { MatchResult result (λ p. IsPrepared net.now text.now p.admitted p.bodies.items (⟦<Wheel as Agenda>⟧.state p.agenda)) (RefusesNet net.now text.now) }
+    ensures { MatchResult result
+        (λ p. IsPrepared net.now text.now p.admitted p.bodies.items (⟦<Wheel as Agenda>⟧.state p.agenda))
+        (RefusesNet net.now text.now) }
 {
     let admitted = admit(alloc, net, text)?;
     let bodies = codes(alloc, net)?;

@@ -25,7 +25,7 @@ use Rattle.vhdl_names_declarations.specs.Entered.{entering, entered}
 use Rattle.vhdl_names_declarations.proofs.Orders.{first_is}
 use Rattle.vhdl_names_declarations.proofs.Regions.{names-append, still_twice}
 
-abbrev pair : {A B : Type 0} → A → B → A × B
+abbrev pub pair : {A B : Type 0} → A → B → A × B
 pair x y = (x, y)
 
 abbrev pub made : List Declared → List u.Generic → List u.Port → Interface

@@ -19,9 +19,7 @@ use Rattle.vhdl_names_declarations.specs.Entered.{more, entered, entering}
 use Rattle.vhdl_names_units.specs.declared.declaration.Declaration.{Declaration}
 use Rattle.vhdl_names_units.specs.views.Declarations.{declaration_view, declarations_view}
 use Rattle.vhdl_names_components.specs.Components.{inner, has_interface, is_new}
-
-abbrev pair : {A B : Type 0} → A → B → A × B
-pair x y = (x, y)
+use Rattle.vhdl_names_components.proofs.Interfacing.{pair}
 
 abbrev none_analysed : List u.Declaration
 none_analysed = []
@@ -39,7 +37,7 @@ same_entity c e = same_generics c.generics e.1.generic_text && same_ports c.port
 abbrev pub of_entity : Sight → t.Component → ℕ × EntityView → Option (Sight × List u.Declaration)
 of_entity s c e = met (same_entity c e) >>= λ _. (has_interface s c >>= λ _. closed s c e)
 
-abbrev there : Option (Unit {0})
+abbrev pub there : Option (Unit {0})
 there = Some tt
 
 abbrev none : {B : Type 0} → Option B

@@ -1,12 +1,11 @@
 -- What is told of a part of a component is told of it.
-use Rattle.std.proofs.Common.{◌≡◌, ◌≢◌, ℕ, ◌&&◌, Bool, true, false, List, [], ◌∷◌, Option, Some, None, refl}
+use Rattle.std.proofs.Common.{◌≡◌, ◌≢◌, ℕ, Bool, true, false, List, [], ◌∷◌, Some, None, refl}
 use Rattle.vhdl_tree.specs.Tree as t
 use Rattle.vhdl_names_rules.specs.declared.fault.NameFault.{NameFault}
 use Rattle.vhdl_names_rules.specs.declared.fault.NameFault.TheVariants.{NoMemory}
 use Rattle.vhdl_names_rules.specs.declared.fault.NameProblem.TheVariants.{Undeclared, WrongKind}
 use Rattle.vhdl_names_rules.specs.Rules.{met}
 use Rattle.vhdl_names_rules.specs.Visibility.{Sight, declare, unfinished}
-use Rattle.vhdl_names_rules.specs.SameText.{same_generics, same_ports}
 use Rattle.vhdl_names_rules.specs.Interfaces as are
 use Rattle.vhdl_names_rules.specs.Interfaces.{EntityView, entity_named}
 use Rattle.vhdl_names_rules.proofs.laws.Rules.{comes}
@@ -18,6 +17,7 @@ use Rattle.vhdl_names_rules.proofs.kept.Interfaces.{interface_kept}
 use Rattle.vhdl_names_declarations.specs.Entered.{more}
 use Rattle.vhdl_names_declarations.proofs.Breaking.{standing_once}
 use Rattle.vhdl_names_components.proofs.Interfacing.{told_nothing}
+use Rattle.vhdl_names_components.proofs.Standing.{same_entity, there}
 use Rattle.vhdl_names_components.specs.Components.{inner, has_interface, is_new}
 
 abbrev pub named_twice : Sight → t.Component → Broken
@@ -39,15 +39,9 @@ ends_so c = end_name c.name c.end_name
 abbrev pub behind : List EntityView → Sight → t.Component → Broken
 behind es s c = has_entity es c ▸ (is_entity es c ▸ (interface_of s c ▸ ends_so c))
 
-abbrev pub are_same : t.Component → ℕ × EntityView → Bool
-are_same c e = same_generics c.generics e.1.generic_text && same_ports c.ports e.1.port_text
-
 holds : (b : Bool) → met b ≡ Some tt → b ≡ true
 holds true h = refl
 holds false h = absurd cc
-
-abbrev there : Option (Unit {0})
-there = Some tt
 
 -- a name that is new stands once
 module _ (es : List EntityView) (s : Sight) (c : t.Component) (new : is_new s.region c.name.text ≡ Some tt) where
@@ -75,11 +69,11 @@ module _ (es : List EntityView) (s : Sight) (c : t.Component) (new : is_new s.re
     pub other_entity : (f : NameFault) → Tells (same_text c e) f → Tells (component es s c) f
     other_entity f h = behind_entity f (told_left (is_entity es c) (interface_of s c ▸ ends_so c) f (told_given (same_text c) (entity_named es c.name.text) e f is h))
 
-    module _ (same : met (are_same c e) ≡ Some tt) where
+    module _ (same : met (same_entity c e) ≡ Some tt) where
       behind_text : (f : NameFault) → Tells (interface_of s c ▸ ends_so c) f → Tells (component es s c) f
       behind_text f h =
           behind_entity f (told_right (is_entity es c) (interface_of s c ▸ ends_so c) f
-          (given_kept (same_text c) (entity_named es c.name.text) e is (unless_kept WrongKind c.name.at (are_same c e) (holds (are_same c e) same))) h)
+          (given_kept (same_text c) (entity_named es c.name.text) e is (unless_kept WrongKind c.name.at (same_entity c e) (holds (same_entity c e) same))) h)
 
       pub own_region : (f : NameFault) → Tells (interface_of s c) f → Tells (component es s c) f
       own_region f h = behind_text f (told_left (interface_of s c) (ends_so c) f h)

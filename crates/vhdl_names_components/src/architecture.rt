@@ -40,9 +40,11 @@ fn declaration(
     requires counts { AreCounts counts (sight_view sight.old).region }
     requires outermost { region_view sight.old.enclosing ≡ [] }
     ensures given { Gives (λ d. (sight_view sight.new, analysed_view d))
-        (entering (rules.declaration (entities_view entities.now)) (sight_view sight.old) (tree.declaration_view one.now)) result }
+        (entering (rules.declaration (entities_view entities.now)) (sight_view sight.old)
+        (tree.declaration_view one.now)) result }
     ensures outermost { OnOk result (region_view sight.new.enclosing ≡ []) }
-    ensures told { IfErr result (Tells (broken.declaration (entities_view entities.now) (sight_view sight.old) (tree.declaration_view one.now))) }
+    ensures told { IfErr result (Tells (broken.declaration (entities_view entities.now) (sight_view sight.old)
+        (tree.declaration_view one.now))) }
 {
     match one {
         syntax::Declaration::Signals(one) => {
@@ -88,10 +90,12 @@ pub fn declarations(
 ) -> Result<Vec<Declaration>, NameFault>
     requires { region_view sight.old.enclosing ≡ [] }
     ensures given { Gives (λ v. (sight_view sight.new, declarations_view v))
-        (entering (in_order with_declared (rules.declaration (entities_view entities.now))) (sight_view sight.old) (map tree.declaration_view all.now)) result }
+        (entering (in_order with_declared (rules.declaration (entities_view entities.now))) (sight_view sight.old)
+        (map tree.declaration_view all.now)) result }
     ensures outermost { OnOk result (region_view sight.new.enclosing ≡ []) }
-    ensures told { IfErr result (Tells (declarations_broken.in_order with_declared (rules.declaration (entities_view entities.now)) (broken.declaration (entities_view entities.now)) (sight_view sight.old)
-        (map tree.declaration_view all.now))) }
+    ensures told { IfErr result (Tells (declarations_broken.in_order with_declared
+        (rules.declaration (entities_view entities.now)) (broken.declaration (entities_view entities.now))
+        (sight_view sight.old) (map tree.declaration_view all.now))) }
 {
     let mut done = Vec::new(alloc);
     names_are_apart(&sight.region);

@@ -42,10 +42,12 @@ fn is_new(region: &Region, name: &Identifier) -> Result<(), NameFault>
 
 /// A component that differs from its entity, in as little as an optional word, is of WrongKind.
 fn is_entity(component: &Component, entity: &Entity) -> Result<(), NameFault>
-    ensures given { Gives (λ x. x) (rule WrongKind (same_generics (option_generics_view component.now.generics) (option_generics_view entity.now.generics)
+    ensures given { Gives (λ x. x) (rule WrongKind
+        (same_generics (option_generics_view component.now.generics) (option_generics_view entity.now.generics)
         && same_ports (option_ports_view component.now.ports) (option_ports_view entity.now.ports))) result }
     ensures fault { IfErr result (λ f. f ≡ At WrongKind component.now.name.at) }
-    ensures told { IfErr result (Tells (unless WrongKind component.now.name.at (same_generics (option_generics_view component.now.generics) (option_generics_view entity.now.generics)
+    ensures told { IfErr result (Tells (unless WrongKind component.now.name.at
+        (same_generics (option_generics_view component.now.generics) (option_generics_view entity.now.generics)
         && same_ports (option_ports_view component.now.ports) (option_ports_view entity.now.ports)))) }
 {
     if has_interface(component, entity) {
@@ -62,7 +64,8 @@ fn own_region(alloc: Global, sight: &mut Sight, component: &Component) -> Result
     ensures given { Gives (λ x. x) (spec.has_interface (sight_view sight.old) (component_view component.now)) result }
     ensures kept { OnOk result (sight_view sight.new ≡ sight_view sight.old) }
     ensures outermost { OnOk result (region_view sight.new.enclosing ≡ []) }
-    ensures told { IfErr result (Tells (broken.interface (spec.inner (sight_view sight.old)) (component_view component.now).generics (component_view component.now).ports)) }
+    ensures told { IfErr result (Tells (broken.interface (spec.inner (sight_view sight.old))
+        (component_view component.now).generics (component_view component.now).ports)) }
 {
     mem::swap(&mut sight.region, &mut sight.enclosing);
     let _interface = interface_of(alloc, sight, &component.generics, &component.ports)?;
@@ -83,9 +86,11 @@ pub fn component(
 ) -> Result<(), NameFault>
     requires { region_view sight.old.enclosing ≡ [] }
     ensures given { Gives (λ _. (sight_view sight.new, []))
-        (entering (rules.component (entities_view entities.now)) (sight_view sight.old) (component_view component.now)) result }
+        (entering (rules.component (entities_view entities.now)) (sight_view sight.old)
+        (component_view component.now)) result }
     ensures outermost { OnOk result (region_view sight.new.enclosing ≡ []) }
-    ensures told { IfErr result (Tells (broken.component (entities_view entities.now) (sight_view sight.old) (component_view component.now))) }
+    ensures told { IfErr result (Tells (broken.component (entities_view entities.now) (sight_view sight.old)
+        (component_view component.now))) }
 {
     let name = &component.name;
     is_new(&sight.region, name)?;

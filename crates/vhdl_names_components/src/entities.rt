@@ -1,6 +1,6 @@
 //! The entities of a file, by name (IEEE 1076-2008, 13.1).
 
-ghost use Rattle.std.specs.Prelude.{◌≡◌, ◌≢◌, ◌++◌, ◌∷◌, [], map, not, IfErr};
+ghost use Rattle.std.specs.Prelude.{◌≡◌, ◌≢◌, IfErr};
 ghost use Rattle.vhdl_names_components.specs.Views.{entity_view, entities_view, named_view, one_more};
 ghost use Rattle.vhdl_names_rules.specs.Gives.{Gives};
 ghost use Rattle.vhdl_names_rules.specs.Interfaces as rules;
@@ -24,7 +24,8 @@ pub fn add_entity<'a>(
     entities: &mut Entities<'a>,
     entity: EntityInterface<'a>,
 ) -> Result<(), NameFault>
-    ensures given { Gives (λ _. entities_view entities.new) (one_more (entities_view entities.old) (entity_view entity.entry)) result }
+    ensures given { Gives (λ _. entities_view entities.new)
+        (one_more (entities_view entities.old) (entity_view entity.entry)) result }
     ensures told { IfErr result (Tells (refused Twice entity.entry.tree.now.name.at)) }
     ensures kept { IfErr result (λ f. f ≢ NoMemory → entities_view entities.new ≡ entities_view entities.old) }
 {
@@ -42,7 +43,8 @@ pub fn entity_named<'e, 'a>(
     entities: &'e Entities<'a>,
     name: &Identifier,
 ) -> Result<(usize, &'e EntityInterface<'a>), NameFault>
-    ensures given { Gives (λ x. (x.0, named_view name.now.text.items x.1.now)) (rules.entity_named (entities_view entities.now) name.now.text.items) result }
+    ensures given { Gives (λ x. (x.0, named_view name.now.text.items x.1.now))
+        (rules.entity_named (entities_view entities.now) name.now.text.items) result }
     ensures told { IfErr result (Tells (refused Undeclared name.now.at)) }
 {
     match entities.get_full(name.text.as_slice()) {

@@ -1,6 +1,6 @@
 //! Interfaces of entities and components (IEEE 1076-2008, 3.2, 6.5.6 and 6.8).
 
-ghost use Rattle.std.specs.Prelude.{◌≡◌, [], map, option_map, OnOk, IfOk, IfErr};
+ghost use Rattle.std.specs.Prelude.{◌≡◌, [], map, option_map, OnOk, IfErr};
 ghost use Rattle.vhdl_names_declarations.specs.Contexts.{context_view};
 ghost use Rattle.vhdl_names_declarations.specs.Entered.{entering};
 ghost use Rattle.vhdl_names_components.specs.Views.{interface_in, entity_view, entity_in};
@@ -10,7 +10,7 @@ ghost use Rattle.vhdl_names_rules.specs.Interfaces as rules;
 ghost use Rattle.vhdl_names_rules.specs.Rules.{all_of};
 ghost use Rattle.vhdl_names_rules.specs.Visibility.{with_declared};
 ghost use Rattle.vhdl_tree.specs.View as view;
-ghost use Rattle.vhdl_names_types.specs.Views.{sight_view, region_view};
+ghost use Rattle.vhdl_names_types.specs.Views.{sight_view};
 ghost use Rattle.vhdl_names_units.specs.views.Declarations.{all_generics_view, all_ports_view};
 ghost use Rattle.vhdl_names_rules.specs.problems.Broken.{Tells, ◌▸◌};
 ghost use Rattle.vhdl_names_rules.specs.problems.Declarations.{end_name};
@@ -79,9 +79,11 @@ fn generics_if_any(
     all: &Option<Vec<Generic>>,
 ) -> Result<Vec<Generics>, NameFault>
     ensures given { Gives (λ v. (sight_view sight.new, all_generics_view v))
-        (entering (in_order with_declared generic) (sight_view sight.old) (all_of (view.option_generics_view all.now))) result }
+        (entering (in_order with_declared generic) (sight_view sight.old)
+        (all_of (view.option_generics_view all.now))) result }
     ensures kept { OnOk result (sight.new ≡ record sight.old { region = sight.new.region }) }
-    ensures told { IfErr result (Tells (broken.generics (sight_view sight.old) (all_of (view.option_generics_view all.now)))) }
+    ensures told { IfErr result (Tells (broken.generics (sight_view sight.old)
+        (all_of (view.option_generics_view all.now)))) }
 {
     match all {
         Some(all) => generics(alloc, sight, all),
@@ -96,9 +98,11 @@ fn ports_if_any(
     all: &Option<Vec<Port>>,
 ) -> Result<Vec<Ports>, NameFault>
     ensures given { Gives (λ v. (sight_view sight.new, all_ports_view v))
-        (entering (in_order with_declared port) (sight_view sight.old) (all_of (view.option_ports_view all.now))) result }
+        (entering (in_order with_declared port) (sight_view sight.old)
+        (all_of (view.option_ports_view all.now))) result }
     ensures kept { OnOk result (sight.new ≡ record sight.old { region = sight.new.region }) }
-    ensures told { IfErr result (Tells (broken.ports (sight_view sight.old) (all_of (view.option_ports_view all.now)))) }
+    ensures told { IfErr result (Tells (broken.ports (sight_view sight.old)
+        (all_of (view.option_ports_view all.now)))) }
 {
     match all {
         Some(all) => ports(alloc, sight, all),
@@ -117,9 +121,11 @@ pub fn interface_of(
 ) -> Result<(Vec<Generics>, Vec<Ports>), NameFault>
     requires { (sight_view sight.old).region ≡ [] }
     ensures given { Gives (λ x. interface_in (sight_view sight.new).region x)
-        (rules.interface (sight_view sight.old) (view.option_generics_view generics.now) (view.option_ports_view ports.now)) result }
+        (rules.interface (sight_view sight.old) (view.option_generics_view generics.now)
+        (view.option_ports_view ports.now)) result }
     ensures kept { OnOk result (sight.new ≡ record sight.old { region = sight.new.region }) }
-    ensures told { IfErr result (Tells (broken.interface (sight_view sight.old) (view.option_generics_view generics.now) (view.option_ports_view ports.now))) }
+    ensures told { IfErr result (Tells (broken.interface (sight_view sight.old)
+        (view.option_generics_view generics.now) (view.option_ports_view ports.now))) }
 {
     let generics = generics_if_any(alloc, sight, generics)?;
     let ports = ports_if_any(alloc, sight, ports)?;
@@ -136,8 +142,10 @@ fn entity_in<'a>(
     architecture: Option<&'a Identifier>,
 ) -> Result<EntityInterface<'a>, NameFault>
     requires { (sight_view sight.old).region ≡ [] }
-    ensures given { Gives entity_view (entity_in (context_view context) (sight_view sight.old) (view.entity_view tree.now) (option_map (λ i. i.now.text.items) architecture.entry)) result }
-    ensures told { IfErr result (Tells (broken.interface (sight_view sight.old) (view.entity_view tree.now).generics (view.entity_view tree.now).ports
+    ensures given { Gives entity_view (entity_in (context_view context) (sight_view sight.old)
+        (view.entity_view tree.now) (option_map (λ i. i.now.text.items) architecture.entry)) result }
+    ensures told { IfErr result (Tells (broken.interface (sight_view sight.old)
+        (view.entity_view tree.now).generics (view.entity_view tree.now).ports
         ▸ end_name (view.entity_view tree.now).name (view.entity_view tree.now).end_name)) }
 {
     let (generics, ports) = interface_of(alloc, sight, &tree.generics, &tree.ports)?;
@@ -161,7 +169,8 @@ pub fn entity<'a>(
     architecture: Option<&'a Identifier>,
 ) -> Result<EntityInterface<'a>, NameFault>
     ensures given { Gives entity_view
-        (rules.entity (map view.context_view items.now) (view.entity_view tree.now) (option_map (λ i. i.now.text.items) architecture.entry)) result }
+        (rules.entity (map view.context_view items.now) (view.entity_view tree.now)
+        (option_map (λ i. i.now.text.items) architecture.entry)) result }
     ensures told { IfErr result (Tells (broken.entity (map view.context_view items.now) (view.entity_view tree.now))) }
 {
     let context = context_after(Context::NONE, items)?;

@@ -66,7 +66,8 @@ fn copy_one(
     name: &[u8],
     meaning: &Meaning,
 ) -> Result<(), NameFault>
-    ensures given { Gives (λ _. region_view copy.new) (more (region_view copy.old) (declare name.now (meaning_view meaning.now) ∷ [])) result }
+    ensures given { Gives (λ _. region_view copy.new)
+        (more (region_view copy.old) (declare name.now (meaning_view meaning.now) ∷ [])) result }
     ensures told { IfErr result (Tells (broken.standing_twice (region_view copy.old) (ident 0 name.now ∷ []))) }
 {
     let meaning = copied_meaning(alloc, meaning)?;
@@ -99,7 +100,8 @@ pub fn architecture_sight(
 ) -> Result<Sight, NameFault>
     ensures given { Gives sight_view (sight_behind (entity_view entity.now) (map view.context_view items.now)) result }
     ensures outermost { IfOk result (λ s. region_view s.enclosing ≡ []) }
-    ensures told { IfErr result (Tells (broken.context (entity_view entity.now).context (map view.context_view items.now))) }
+    ensures told { IfErr result (Tells (broken.context (entity_view entity.now).context
+        (map view.context_view items.now))) }
 {
     let context = context_after(entity.context, items)?;
     let region = copied_region(alloc, &entity.region)?;

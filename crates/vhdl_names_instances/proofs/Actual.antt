@@ -1,14 +1,13 @@
 -- Actuals, one after another.
-use Rattle.std.proofs.Common.{◌≡◌, ℕ, zero, suc, Bool, true, false, List, [], ◌∷◌, ◌++◌, map, drop, Option, Some, None, Box, Global, refl, ap, sym, ◌∙◌, true≢false}
+use Rattle.std.proofs.Common.{◌≡◌, ℕ, zero, suc, Bool, true, false, List, [], ◌∷◌, ◌++◌, map, drop, Option, Some, None, refl, ap, sym, ◌∙◌, true≢false}
 use Rattle.std.specs.Prelude.{option_map, slice_get}
 use Rattle.std.specs.Borrow.{Bor}
 use Rattle.std.proofs.lemmas.Option.{slice_get-map}
 use Rattle.std.proofs.lemmas.List.{append_assoc, append-nil}
 use Rattle.vhdl_tree.specs.Tree as t
 use Rattle.vhdl_tree.specs.Tree.{Pair, all_joined}
-use Rattle.vhdl_tree.specs.View.{view, pair_view}
+use Rattle.vhdl_tree.specs.View.{view, chain_view, pair_view}
 use Rattle.vhdl_tree.specs.declared.expression.Expr.{Expr}
-use Rattle.vhdl_tree.specs.declared.expression.Expr.TheVariants as x
 use Rattle.vhdl_tree.specs.declared.expression.Chain.{Chain, out-Chain}
 use Rattle.vhdl_tree.specs.declared.operator.Operator.{Operator}
 use Rattle.vhdl_tree.proofs.Rows.{chain_is}
@@ -42,11 +41,10 @@ joined : (b : Bool) (op : Operator) (at : ℕ) (d e : t.Expr) (ps : List Pair) �
 joined b op at d e [] = refl
 joined b op at d e (p ∷ ps) = joined false p.operator p.at (t.binary b op at d e) p.operand ps
 
-pub chain_is_no_name : (e : Expr) (chain : Box Chain Global) → e ≡ x.Chain chain → as_name (view e) ≡ None
-chain_is_no_name e chain is =
-    let c = out-Chain chain.value in
-    ap (λ y. as_name (view y)) is ∙ ap as_name (chain_is chain.value)
-    ∙ joined true c.second.operator c.second.at (view c.first) (view c.second.operand) (map pair_view c.rest.items)
+pub chain_is_no_name : (chain : Chain) → None ≡ as_name (chain_view chain)
+chain_is_no_name chain =
+    let c = out-Chain chain in
+    sym (ap as_name (chain_is chain) ∙ joined true c.second.operator c.second.at (view c.first) (view c.second.operand) (map pair_view c.rest.items))
 
 -- ---- ports in order
 

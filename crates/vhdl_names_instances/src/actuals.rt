@@ -41,14 +41,7 @@ fn as_name(e: &Expr) -> Option<&Name>
 {
     match e {
         Expr::Name(name) => Some(name),
-        Expr::Integer(_) => None,
-        Expr::Character { .. } => None,
-        Expr::StringLiteral(_) => None,
-        Expr::BitString(_) => None,
-        Expr::Parens { .. } => None,
-        Expr::Not { .. } => None,
-        Expr::Signed { .. } => None,
-        Expr::Chain(_) => None,
+        _ => None,
     }
 }
 

@@ -1,5 +1,5 @@
 -- The drivers of all processes, and their transactions (IEEE 1076-2008, 14.7.2).
-use Rattle.std.specs.Prelude.{◌≡◌, ℕ, List, [], length, map, replicate, slice_index, slice_index_or, slice_set, Option, None, IsSome}
+use Rattle.std.specs.Prelude.{◌≡◌, ℕ, ◌<◌, List, [], length, map, replicate, slice_index, slice_index_or, slice_set, Option, None, IsSome}
 use Rattle.rtl_eval.specs.Runs.{Outcome, Leaves}
 use Rattle.rtl_net.specs.declared.process.Driver as net
 use Rattle.rtl_net.specs.declared.process.Process.{Process}
@@ -33,6 +33,17 @@ all_targets ps = map (λ (q : Process). nets_of q.drives.items) ps
 
 abbrev pub targets_of : List Process → (process : ℕ) → List ℕ
 targets_of ps p = slice_index_or (all_targets ps) p []
+
+-- each driver of these processes has its entry
+pub record HaveEntries (processes : List Process) (outcomes : List Outcome) : Type 0 where
+  pub as_many : length processes ≡ length outcomes
+  pub each_driver : (p : ℕ) → length (targets_of processes p) ≡ length (slice_index_or (pending_of outcomes) p [])
+
+-- each driver of this process has its entry and its value
+pub record IsRow (processes : List Process) (process : ℕ) (entries : List (Option ℕ)) (values : List ℕ) : Type 0 where
+  pub there : process < length processes
+  pub each_entry : length (targets_of processes process) ≡ length entries
+  pub each_value : length values ≡ length entries
 
 abbrev pub driver_at : List (List ℕ) → (process place : ℕ) → ℕ
 driver_at rows p place = slice_index (slice_index_or rows p []) place

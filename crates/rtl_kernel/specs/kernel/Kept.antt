@@ -1,6 +1,7 @@
 -- What holds of every kernel.
 use Rattle.std.specs.Prelude.{◌≡◌, ℕ, ◌<◌, ◌≤◌, Bool, List, [], length, map, slice_index_or, Option}
-use Rattle.rtl_net_groups.specs.Cuts.{Cutting, AreCutsOf}
+use Rattle.rtl_net_groups.specs.Cuts.{Cutting}
+use Rattle.rtl_net_groups.specs.Groups.{Grouping}
 use Rattle.rtl_model.specs.bodies.Types.{ElementType}
 use Rattle.rtl_model.specs.nets.FlatNetlist.{FlatNetlist, FlatProcess, IsInRange, process_at}
 use Rattle.rtl_model.specs.nets.CoreNetlist.{core_netlist}
@@ -11,15 +12,15 @@ use Rattle.rtl_model.specs.simulation.Range.{StateInRange}
 use Rattle.rtl_awaited_edges.specs.declared.awaited.ClockEdge.{ClockEdge}
 use Rattle.rtl_awaited_edges.specs.Awaiting.{AreFollowers}
 use Rattle.rtl_eval.specs.Runs.{Outcome, IsOf}
-use Rattle.rtl_kernel.specs.drivers.Brought.{MarkAlone}
-use Rattle.rtl_kernel.specs.drivers.Transactions.{Transactions, IsActive, all_targets, no_outcome, pending_of}
+use Rattle.rtl_kernel.specs.drivers.Brought.{NotedNets}
+use Rattle.rtl_kernel.specs.drivers.DriverCuts.{AreDriverCuts}
+use Rattle.rtl_kernel.specs.drivers.Transactions.{Transactions, IsActive, no_outcome, pending_of}
 use Rattle.rtl_kernel.specs.values.TwoValues.{TwoValues}
 use Rattle.rtl_net.specs.Core.{core}
 use Rattle.rtl_net.specs.Nets.{NetlistView, flat}
 use Rattle.rtl_net.specs.declared.process.Process.{Process}
 use Rattle.rtl_kernel.specs.wakes.ToRun.{ToRun}
 use Rattle.rtl_kernel.specs.wakes.Woken.{IsIndex, wakers_of}
-use Rattle.rtl_kernel.specs.worklists.Numbers.{Numbers}
 
 abbrev pub state_of : TwoValues → Transactions → ToRun → State
 state_of values transactions to_run = record {
@@ -50,19 +51,30 @@ pub record IsSound (net : FlatNetlist) (s : State) : Type 0 where
   -- what is still to run has no transaction
   pub fresh : (p : ℕ) → IsToRun s p → IsActive s.pending p → ⊥
 
--- what a kernel keeps is of its netlist, and fits together
-pub record IsKernel {E : Type 0} (process : E → FlatProcess) (types : E → List ElementType) (most : E → ℕ)
-    (net : NetlistView) (bodies : List E) (cuts : Cutting) (alone : List Bool) (values : TwoValues) (drivers : Transactions) (resumed : ToRun) (noted : Numbers)
-    (awaited : Option ClockEdge) (followers : List Bool) : Type 0 where
+-- what a kernel has beside its bodies
+pub record Parts : Type 0 where
+  pub nets : NotedNets
+  pub cuts : Cutting
+  pub drivers : Transactions
+  pub resumed : ToRun
+  pub awaited : Option ClockEdge
+  pub followers : List Bool
+
+-- what stays as it is from step to step is of this netlist, whose nets are in these groups
+pub record AreOfNet {E : Type 0} (process : E → FlatProcess) (types : E → List ElementType) (net : NetlistView) (groups : Grouping)
+    (bodies : List E) (cuts : Cutting) (awaited : Option ClockEdge) (followers : List Bool) : Type 0 where
   pub in_range : IsInRange (flat net)
   pub connected : IsConnected (flat net)
   pub run_bodies : RunBodies process types (flat net) bodies
-  pub room : HaveRoom most (flat net) bodies drivers.outcomes
-  pub sound : IsSound (flat net) (state_of values drivers resumed)
-  pub is_index : IsIndex (map (λ (p : Process). p.wakes.items) net.processes) (wakers_of values.groups)
-  pub each_net : length values.groups.of_net ≡ length net.types
-  pub marked : MarkAlone (flat net) values.groups alone
-  pub are_cuts : AreCutsOf values.groups.of_net (all_targets net.processes) cuts
+  pub is_index : IsIndex (map (λ (p : Process). p.wakes.items) net.processes) (wakers_of groups)
+  pub are_cuts : AreDriverCuts net groups cuts
   pub follow : AreFollowers (core net) awaited followers
+
+-- what a kernel keeps is of its netlist, and fits together
+pub record IsKernel {E : Type 0} (process : E → FlatProcess) (types : E → List ElementType) (most : E → ℕ) (bodies : List E)
+    (k : Parts) : Type 0 where
+  pub of_net : AreOfNet process types k.nets.net k.nets.values.groups bodies k.cuts k.awaited k.followers
+  pub room : HaveRoom most (flat k.nets.net) bodies k.drivers.outcomes
+  pub sound : IsSound (flat k.nets.net) (state_of k.nets.values k.drivers k.resumed)
   -- no group is left over from an update
-  pub idle : noted ≡ record { bound = length values.groups.listed; members = [] }
+  pub idle : k.nets.noted ≡ []

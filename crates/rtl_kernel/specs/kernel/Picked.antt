@@ -1,5 +1,6 @@
--- Runs in the order that a picker answers, which the standard leaves open (IEEE 1076-2008, 14.7.5.3). Throughout,
--- `picks p count place q` is that the picker p, asked for one of so many processes, answers this place and is q from then on.
+-- Runs in the order that a picker answers, which the standard leaves open (IEEE 1076-2008,
+-- 14.7.5.3). Throughout, `picks p count place q` is that the picker p, asked for one of so many
+-- processes, answers this place and is q from then on.
 use Rattle.std.specs.Prelude.{◌≡◌, ℕ, zero, suc, Bool, false, List, [], ◌∷◌, take, slice_index_or, slice_set, IsTrue}
 use Rattle.std.specs.List.{count_by}
 use Rattle.rtl_model.specs.simulation.Netlist.{Netlist}

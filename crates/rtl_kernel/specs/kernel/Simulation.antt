@@ -1,4 +1,5 @@
--- What callers see of a kernel: the netlist that it simulates, and the state of the simulation (IEEE 1076-2008, 14.7.5).
+-- What callers see of a kernel: the netlist that it simulates, and the state of the simulation
+-- (IEEE 1076-2008, 14.7.5).
 use Rattle.std.specs.Prelude.{ℕ, List, [], ◌∷◌, map}
 use Rattle.vhdl_values.specs.declared.scalar.Nine.{Nine}
 use Rattle.vhdl_values.specs.Scalar.{code_of}

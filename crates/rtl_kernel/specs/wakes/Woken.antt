@@ -1,4 +1,5 @@
--- Which processes are resumed (IEEE 1076-2008, 14.7.5.3): those that are sensitive to a net with an event.
+-- Which processes are resumed (IEEE 1076-2008, 14.7.5.3): those that are sensitive to a net with an
+-- event.
 use Rattle.std.specs.Prelude.{◌≡◌, ℕ, ◌<◌, ◌≤◌, ◌⊎◌, false, Bool, List, [], length, map, slice_index, slice_index_or}
 use Rattle.std.specs.Prelude.{IsTrue, Contains, Vec}
 use Rattle.std.specs.Global.{Global}
@@ -11,7 +12,8 @@ use Rattle.rtl_kernel.specs.worklists.Marked.{AreMarked}
 abbrev pub wakers_of : Grouping → List (List ℕ)
 wakers_of groups = map (λ (g : ℕ). slice_index_or groups.listed g []) groups.of_net
 
--- index has for each net the processes that wake on it, wakes for each process the nets that it wakes on
+-- index has for each net the processes that wake on it, wakes for each process the nets that it
+-- wakes on
 pub record IsIndex (wakes index : List (List ℕ)) : Type 0 where
   pub all_are_in : (p n : ℕ) → Contains (slice_index_or wakes p []) n → Contains (slice_index_or index n []) p
   pub no_other : (n p : ℕ) → Contains (slice_index_or index n []) p → Contains (slice_index_or wakes p []) n

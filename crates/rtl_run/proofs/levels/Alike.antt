@@ -38,20 +38,20 @@ module _ (one : EachTraceIsTheOne) (reports : OneReport) (net : NetlistView) (te
   both : (A : Admits net text (λ s bound. Traces net s bound old left (Ok summary))) (B : Admits net text (λ s bound. TracesLevels net s bound old right (Ok levels)))
       → AreAlike old left right summary levels
   both A B = record {
-    text = A.done.text;
-    one_took = A.done.taken;
-    other_took = subst (λ (t : List ℕ). TakesAll old right t) (sym same_text) B.done.taken;
-    count = A.done.count ∙ ap (λ (s : StimulusView). length (moments s)) same ∙ sym B.done.count;
+    text = A.done.all.text;
+    one_took = A.done.all.taken;
+    other_took = subst (λ (t : List ℕ). TakesAll old right t) (sym same_text) B.done.all.taken;
+    count = A.done.all.count_is ∙ ap (λ (s : StimulusView). length (moments s)) same ∙ sym B.done.all.count_is;
     within = subst (λ (bound : ℕ). summary.most_deltas ≤ bound) (same_bound ∙ sym B.done.bound_is) A.done.within;
   }
     where
       same : A.stimulus ≡ B.stimulus
       same = same_stimulus net text A.bound B.bound A.stimulus B.stimulus A.admitted B.admitted
 
-      same_text : A.done.text ≡ B.done.text
+      same_text : A.done.all.text ≡ B.done.all.text
       same_text =
-          one net A.stimulus is_net A.admitted.accepted.accepted A.bound B.bound A.done.text B.done.text A.done.trace
-          (subst (λ (s : StimulusView). IsTrace net s B.bound B.done.text) (sym same) B.done.trace)
+          one net A.stimulus is_net A.admitted.accepted.accepted A.bound B.bound A.done.all.text B.done.all.text A.done.all.trace
+          (subst (λ (s : StimulusView). IsTrace net s B.bound B.done.all.text) (sym same) B.done.all.trace)
 
       same_bound : A.bound ≡ B.bound
       same_bound =

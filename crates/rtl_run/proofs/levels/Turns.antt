@@ -1,5 +1,5 @@
 -- One turn of a run: the machine steps to the next moment.
-use Rattle.std.proofs.Common.{◌≡◌, ℕ, zero, suc, List, sym, ap, subst, ◌∙◌, arith}
+use Rattle.std.proofs.Common.{◌≡◌, ℕ, zero, suc, List, sym, subst, ◌∙◌, arith}
 use Rattle.std.specs.Prelude.{All, Contains, IsTrue, slice_index}
 use Rattle.rtl_model.specs.simulation.Netlist.{Netlist, IsInput}
 use Rattle.rtl_model.specs.simulation.Accepted.{IsAccepted}
@@ -14,13 +14,11 @@ use Rattle.rtl_kernel.specs.kernel.Simulation.{changes_of, initial_inputs}
 use Rattle.rtl_agenda.specs.Agenda.{Change}
 use Rattle.rtl_stim.specs.Moments.{GivesNext}
 use Rattle.rtl_stim.specs.Ports.{HasOwnPorts, inputs_of}
-use Rattle.rtl_stim.specs.Stimuli.{StimulusView, moments, inputs_at, initial_values}
+use Rattle.rtl_stim.specs.Stimuli.{StimulusView, inputs_at, initial_values}
 use Rattle.rtl_net.specs.Core.{core}
 use Rattle.rtl_run.proofs.Steps.{first_inputs, leads, of_inputs}
 use Rattle.rtl_run.specs.Synchronous.{IsRaceless, IsSynchronous}
 use Rattle.rtl_levels.specs.Laws.{EachMachineGoesOnAlike}
-use Rattle.rtl_run.specs.declared.level_progress.Progress.{Progress}
-use Rattle.rtl_run.specs.levels.Running.{IsNext}
 
 -- These changes are of inputs, no data input races with a clock, and with them a machine with these values steps to the run's next valuation.
 pub record LeadsOn (run : ℕ → List ℕ) (m : ℕ) (net : NetlistView) (values : List ℕ) (changes : List Change) : Type 0 where
@@ -79,20 +77,8 @@ module _ (alike : EachMachineGoesOnAlike) (net : NetlistView) (is_net : IsNet ne
         (alike (core net) (connected_is_elaborated (flat net) is_net.in_range is_net.connected) accepted (inputs_at s) run synchronous.machine).step m
         (with_changes (changes_of taken) values) new lead (subst (λ (v : List ℕ). IsStep (core net) v (with_changes (changes_of taken) values) new) same step)
 
-    -- of a machine of this netlist, given these changes
-    pub leads_on : IsRaceless (core net) (inputs_at s) → (machine_net : NetlistView) → machine_net ≡ net → (changes : List Change) → changes ≡ taken → LeadsOn run m machine_net values changes
-    leads_on raceless machine_net is_same changes are =
-        subst (λ (n : NetlistView). LeadsOn run m n values changes) (sym is_same) (subst (λ (cs : List Change). LeadsOn run m net values cs) (sym are) (record {
-          inputs = of_inputs net is_net s ports inputs m time taken next;
-          raceless = no_race raceless;
-          steps = next_is;
-        }))
-
--- with these the machine has the run's next valuation
-pub is_next : (net : NetlistView) (s : StimulusView) (run : ℕ → List ℕ) (p : Progress) (m time : ℕ) (taken : List Change) → GivesNext s m time taken → suc m ≡ p.moments
-    → (new : List ℕ) → new ≡ run (suc m) → IsNext net s run p time new
-is_next net s run p m time taken next is_last new same = record {
-  there = let more = next.there in omega (arith, more, is_last);
-  is = subst (λ (k : ℕ). slice_index (moments s) k ≡ time) is_last next.is;
-  of_run = same ∙ ap run is_last;
-}
+    -- of a machine of this netlist
+    pub leads_on : IsRaceless (core net) (inputs_at s) → (machine_net : NetlistView) → machine_net ≡ net → LeadsOn run m machine_net values taken
+    leads_on raceless machine_net is_same =
+        subst (λ (n : NetlistView). LeadsOn run m n values taken) (sym is_same)
+        (record { inputs = of_inputs net is_net s ports inputs m time taken next; raceless = no_race raceless; steps = next_is })

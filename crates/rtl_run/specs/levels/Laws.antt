@@ -15,11 +15,12 @@ use Rattle.rtl_run.specs.levels.Answered.{RunsLevels}
 -- an accepted netlist has one trace under a stimulus
 abbrev pub EachTraceIsTheOne : Type 0
 EachTraceIsTheOne =
-    (net : NetlistView) (s : StimulusView) → IsNet net → IsAccepted (core net) → (bound other_bound : ℕ) (text other : List ℕ)
+    (net : NetlistView) (s : StimulusView) → IsNet net → IsAccepted (core net)
+    → (bound other_bound : ℕ) (text other : List ℕ)
     → IsTrace net s bound text → IsTrace net s other_bound other → text ≡ other
 
--- Both sinks took one text. Both answers tell the same number of moments, and the bound that one tells is none below the greatest
--- number of delta cycles that the other tells.
+-- Both sinks took one text. Both answers tell the same number of moments, and the bound that one tells is none below
+-- the greatest number of delta cycles that the other tells.
 pub record AreAlike (old one other : SinkState) (summary : Summary) (levels : LevelSummary) : Type 0 where
   pub text : List ℕ
   pub one_took : TakesAll old one text
@@ -27,9 +28,11 @@ pub record AreAlike (old one other : SinkState) (summary : Summary) (levels : Le
   pub count : summary.moments ≡ levels.moments
   pub within : summary.most_deltas ≤ levels.bound
 
--- Of one netlist and one text, `run` and `run_levels` into sinks that are alike before: where both come to their end, they have written
--- the same bytes.
+-- Of one netlist and one text, `run` and `run_levels` into sinks that are alike before: where both come to their end,
+-- they have written the same bytes.
 abbrev pub EachRunIsWrittenAlike : Type 0
 EachRunIsWrittenAlike =
-    (net : NetlistView) (text : List ℕ) → IsNet net → (old one other : SinkState) (summary : Summary) (levels : LevelSummary)
-    → RunsNet net text old one (Ok summary) → RunsLevels net text old other (Ok levels) → AreAlike old one other summary levels
+    (net : NetlistView) (text : List ℕ) → IsNet net
+    → (old one other : SinkState) (summary : Summary) (levels : LevelSummary)
+    → RunsNet net text old one (Ok summary) → RunsLevels net text old other (Ok levels)
+    → AreAlike old one other summary levels

@@ -17,16 +17,19 @@ IsTextOf net s settled text =
     (text ≡ text_so_far net s settled) ⊎ ((length settled ≡ length (moments s)) × (text ≡ whole_text net s settled))
 
 module _ (net : NetlistView) (s : StimulusView) (limit : ℕ) (old new : SinkState) where
-  -- Each moment settles within the limit, the whole trace went out, and the summary tells the number of moments and the
-  -- greatest number of delta cycles that one takes.
-  pub record IsWhole (summary : Summary) : Type 0 where
+  -- Each moment settles within the limit, there are so many, and the whole trace went out.
+  pub record WritesAll (count : ℕ) : Type 0 where
     pub settled : List Settled
     pub are : AreMoments net s limit settled
     pub all : length settled ≡ length (moments s)
     pub text : Goes old new (whole_text net s settled)
     pub intact : IsIntact new
-    pub count : summary.moments ≡ length settled
-    pub most : IsMost (core net) (inputs_at s) (pred (length settled)) summary.most_deltas
+    pub count_is : count ≡ length settled
+
+  -- The summary tells the number of moments and the greatest number of delta cycles that one takes.
+  pub record IsWhole (summary : Summary) : Type 0 where
+    pub all : WritesAll summary.moments
+    pub most : IsMost (core net) (inputs_at s) (pred summary.moments) summary.most_deltas
 
   -- The moments before this time settle, and their trace went out; the moment at this time doesn't settle.
   pub record StopsAt (time : ℕ) : Type 0 where
@@ -46,8 +49,11 @@ module _ (net : NetlistView) (s : StimulusView) (limit : ℕ) (old new : SinkSta
     pub is : IsTextOf net s settled text
     pub taken : TakesBeginning old new text
 
+  abbrev pub Fails : RunFault → Type 0
+  Fails (NoSettling time) = StopsAt time
+  Fails Memory = LeavesBeginning × IsIntact new
+  Fails Output = LeavesBeginning × HasFailed new
+
   abbrev pub Answers : Result Summary RunFault → Type 0
   Answers (Ok summary) = IsWhole summary
-  Answers (Err (NoSettling time)) = StopsAt time
-  Answers (Err Memory) = LeavesBeginning × IsIntact new
-  Answers (Err Output) = LeavesBeginning × HasFailed new
+  Answers (Err fault) = Fails fault

@@ -31,4 +31,5 @@ text_so_far net s (x ∷ xs) =
 -- the whole trace, where all moments settle so
 abbrev pub whole_text : NetlistView → StimulusView → List Settled → List ℕ
 whole_text net s [] = header_text net.scopes net.signals
-whole_text net s (x ∷ xs) = trace_text net.scopes net.signals x.values (at_times xs (behind_first (moments s))) s.schedule.stop
+whole_text net s (x ∷ xs) =
+    trace_text net.scopes net.signals x.values (at_times xs (behind_first (moments s))) s.schedule.stop

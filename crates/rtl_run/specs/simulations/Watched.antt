@@ -42,8 +42,8 @@ pub record IsToldFirst (net : NetlistView) (s : StimulusView) (Told : List Stand
   pub there : length stands ≤ length (moments s)
   pub told : Told stands
 
--- It was told what the moments before this time settle to, in order, and then of the moment at this time, which doesn't settle: the values
--- before the last delta cycle allowed, and those after it.
+-- It was told what the moments before this time settle to, in order, and then of the moment at this time, which doesn't
+-- settle: the values before the last delta cycle allowed, and those after it.
 pub record IsToldUnsettled (net : NetlistView) (s : StimulusView) (limit time : ℕ)
     (Stuck : List Stand → (before now : List ℕ) → (time : ℕ) → Type 0) : Type 0 where
   pub stands : List Stand

@@ -1,8 +1,8 @@
-use Rattle.rtl_net.specs.Nets.{flat}
 use Rattle.rtl_kernel.specs.drivers.Rows.{rows}
 use Rattle.rtl_kernel.specs.drivers.Updates.{IsUpdating}
 use Rattle.rtl_kernel.proofs.drivers.update_rows.Given as goal
 
 abbrev pub invariant-loop-process : goal.invariant-loop-process
-invariant-loop-process l = IsUpdating (flat l.wiring) l.active l.process-index l.wiring.processes l.initial.outcomes.items (rows l.initial.drivers.items) l.initial.nets l.initial.noted
-    l.outcomes.items (rows l.drivers.items) l.nets l.noted
+invariant-loop-process l =
+    IsUpdating l.process-items l.process-index (record { drivers = rows l.initial.drivers.items; outcomes = l.initial.outcomes.items }) l.initial.nets
+    (record { drivers = rows l.drivers.items; outcomes = l.outcomes.items }) l.nets

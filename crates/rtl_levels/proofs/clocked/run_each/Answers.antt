@@ -8,9 +8,10 @@ use Rattle.rtl_awaited_edges.proofs.Leading.{as_leader}
 use Rattle.rtl_eval.specs.Runs.{Outcome}
 use Rattle.rtl_kernel.specs.drivers.Transactions.{no_outcome}
 use Rattle.rtl_net.specs.Core.{core}
+use Rattle.rtl_levels.specs.Kept.{entries_of}
 use Rattle.rtl_levels.proofs.Awake.{next_has_run, none_has_run, one_has_run, one_is_idle, one_sleeps}
 use Rattle.rtl_levels.proofs.Visiting.{IsAmong, all_among, none_among}
-use Rattle.rtl_levels.proofs.Wired.{elaborated, processes_many, ran_entries, runs_many}
+use Rattle.rtl_levels.proofs.Wired.{processes_many, ran_entries, runs_many}
 use Rattle.rtl_levels.proofs.clocked.run_each.Goals as goal
 use Rattle.rtl_levels.proofs.clocked.run_each.Goals.{then-index+then-seen, then-index+else-seen, else-index}
 
@@ -18,7 +19,7 @@ pub loop-place-init : goal.loop-place-init
 loop-place-init g c = record {
   may = c.requires.may;
   ran = none_has_run (core c.args.net.now) c.args.before.now c.args.values.now (IsAmong c.args.processes.now 0) (none_among c.args.processes.now) c.args.marked.now.items
-      (λ p. (get_or c.args.runs.now.items p no_outcome).entries);
+      (entries_of c.args.runs.now.items);
   seen = λ e. let f : false ≡ true = e in cc;
 }
 
@@ -41,14 +42,14 @@ loop-place-preserved g c =
     let first = c.args.marked.now.items in
     let marked = c.loop-place.marked.items in
     let runs = c.loop-place.runs.items in
-    let was : ℕ → List (Option ℕ) = λ q. (get_or c.args.runs.now.items q no_outcome).entries in
-    let entries : ℕ → List (Option ℕ) = λ q. (get_or runs q no_outcome).entries in
+    let was = entries_of c.args.runs.now.items in
+    let entries = entries_of runs in
     let I = c.loop-place.invariant in
     let within : p < length first = c.requires.there i 0 c.loop-place-test.true in
     let in_marked : p < length marked = omega (arith, within, I.ran.as_many) in
     let read = get_or_default marked p false c.index.result.now in_marked ∙ sym c.index.ensures in
-    let in_edges : p < length edges = omega (arith, within, c.requires.each_process, c.requires.edges.each_process, processes_many view) in
-    let in_leaders : p < length leaders = omega (arith, in_edges, c.requires.leaders.each_process) in
+    let in_edges : p < length edges = omega (arith, within, c.requires.each_process, c.requires.planned.edges.each_process) in
+    let in_leaders : p < length leaders = omega (arith, in_edges, c.requires.planned.leaders.each_process) in
     elim c.if-index.branch [
       | then-index+then-seen w ↦ rw (w.marked-is, w.runs-is, w.seen-is)
           (let leader = w.index-leader.result.now in
@@ -59,15 +60,15 @@ loop-place-preserved g c =
             may = I.may;
             ran = next_has_run net before v processes i p refl first marked (set marked p false) was entries entries I.ran
                 (one_sleeps net before v p marked entries in_marked
-                (nothing_left view (elaborated _ _ _ _ _ _ c.requires.may) edges c.requires.edges before v p (as_leader edges leaders c.requires.leaders before v p in_edges sleeps)));
+                (nothing_left view c.requires.planned.elaborated edges c.requires.planned.edges before v p (as_leader edges leaders c.requires.planned.leaders before v p in_edges sleeps)));
             seen = seen_of edges before v leader w.look_at-seen.result w.look_at-seen.ensures.leader asleep;
           })
       | then-index+else-seen w ↦ rw (w.marked-is, w.runs-is, w.seen-is)
           (let R = w.run.ensures.ran in
-          let there : p < length runs = omega (arith, within, c.requires.each_process, runs_many _ _ _ view c.args.bodies.now runs I.may) in
+          let there : p < length runs = omega (arith, within, c.requires.each_process, processes_many view, runs_many _ _ _ view c.args.bodies.now runs I.may) in
           let asleep = subst (λ (es : List (Option ClockEdge)). w.look_at-seen.result.asleep ≡ true → IsAsleep (get_or es w.index-leader.result.now None) before v)
           w.deref.ensures.value w.look_at-seen.ensures.asleep in
-          let after : ℕ → List (Option ℕ) = λ q. (get_or w.run.new.runs.items q no_outcome).entries in
+          let after = entries_of w.run.new.runs.items in
           record {
             may = w.run.ensures.may;
             ran = next_has_run net before v processes i p refl first marked marked was entries after I.ran
@@ -83,15 +84,18 @@ loop-place-preserved g c =
           })
     ]
 
+pub run-requires-clause-there : goal.run-requires-clause-there
+run-requires-clause-there g c = omega (arith, c.requires.there c.loop-place.place 0 c.loop-place-test.true, c.requires.each_process, processes_many c.args.net.now)
+
 pub look_at-seen-requires-clause-before : goal.look_at-seen-requires-clause-before
 look_at-seen-requires-clause-before g c =
     rw (c.deref.ensures.value)
-    (clock_there c.args.net.now c.requires.may.in_range c.args.schedule.now.edges.items c.requires.edges c.args.before.now c.requires.before.each_net c.index-leader.result.now)
+    (clock_there c.args.net.now c.requires.may.in_range c.args.schedule.now.edges.items c.requires.planned.edges c.args.before.now c.requires.before.each_net c.index-leader.result.now)
 
 pub look_at-seen-requires-clause-values : goal.look_at-seen-requires-clause-values
 look_at-seen-requires-clause-values g c =
     rw (c.deref.ensures.value)
-    (clock_there c.args.net.now c.requires.may.in_range c.args.schedule.now.edges.items c.requires.edges c.args.values.now c.requires.values.each_net c.index-leader.result.now)
+    (clock_there c.args.net.now c.requires.may.in_range c.args.schedule.now.edges.items c.requires.planned.edges c.args.values.now c.requires.values.each_net c.index-leader.result.now)
 
 pub returns-clause-ran : goal.returns-clause-ran
 returns-clause-ran g c =

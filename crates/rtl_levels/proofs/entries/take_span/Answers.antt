@@ -1,16 +1,15 @@
-use Rattle.std.proofs.Common.{◌≡◌, ℕ, ◌+◌, ◌-◌, ◌<◌, ◌≤◌, List, Option, Some, None, arith, length, get_or, ap, sym, subst, ◌∙◌, Contains}
+use Rattle.std.proofs.Common.{◌≡◌, ℕ, ◌+◌, ◌-◌, ◌<◌, ◌≤◌, All, List, [], Option, Some, None, arith, length, get_or, ap, subst, ◌∙◌, Contains}
 use Rattle.std.specs.Prelude.{IsSome}
 use Rattle.std.proofs.lemmas.List.{length-map}
-use Rattle.std.proofs.lemmas.List.Elements.{Contains-get_or}
 use Rattle.rtl_kernel.specs.drivers.Transactions.{nets_of}
-use Rattle.rtl_kernel.specs.wakes.Woken.{wakers_of}
-use Rattle.rtl_kernel.proofs.Updating.{net_at, taken_more}
+use Rattle.rtl_kernel.proofs.Updating.{net_at}
 use Rattle.rtl_net.specs.declared.process.Driver.{Driver}
-use Rattle.rtl_levels.specs.Marks.{IsOfRun}
-use Rattle.rtl_levels.specs.Running.{at_targets}
-use Rattle.rtl_levels.proofs.Marking.{marks_none, marks_then, marks_wider}
-use Rattle.rtl_levels.proofs.Taking.{part_none, part_then, part_run, taken_here}
-use Rattle.rtl_levels.proofs.Touching.{touches_none, touches_then}
+use Rattle.rtl_net_groups.specs.Groups.{Grouping}
+use Rattle.rtl_levels.specs.declared.state.State.{State}
+use Rattle.rtl_levels.specs.Pieces.{IsPiece}
+use Rattle.rtl_levels.specs.States.{IsFollowed, StandTogether, TakeSome}
+use Rattle.rtl_levels.proofs.Advancing.{still_followed}
+use Rattle.rtl_levels.proofs.Spanned.{some_none, some_run, some_then}
 use Rattle.rtl_levels.proofs.entries.take_span.Goals as goal
 
 abbrev none : Driver
@@ -23,94 +22,60 @@ entry_of entries from len first k low high all has =
     let at : from + (first - from + k) ≡ first + k = omega (arith, low) in
     has (subst (λ (p : ℕ). IsSome (get_or entries p None)) at (all (first - from + k) (omega (arith, low, high))))
 
+-- the nets of a piece stand together
+piece_together : (readers : Grouping) (targets : List ℕ) (first end beyond net many : ℕ) → IsPiece readers.of_net targets first end beyond → All (λ (n : ℕ). n < length readers.of_net) targets
+    → get_or targets first 0 ≡ net → many ≡ beyond - first → (s : State) → IsFollowed readers s → StandTogether readers net many s
+piece_together readers targets first end beyond net many P nets at as_many s I =
+    let last = beyond - first - 1 in
+    let is = P.nets last (omega (arith, P.some)) in
+    let below = nets (first + last) 0 (omega (arith, P.some, P.within)) in
+    record {
+      followed = I;
+      there = omega (arith, is, below, at, as_many, P.some, I.each_net, length-map readers.of_net (λ (g : ℕ). get_or readers.listed g []));
+      together = λ k l. subst (λ (n : ℕ). get_or readers.of_net (n + k) 0 ≡ get_or readers.of_net n 0) at (P.in_group k (omega (arith, l, as_many)));
+    }
+
 pub loop-first-init : goal.loop-first-init
-loop-first-init c = record { from = omega arith; to = omega arith; part = part_none _ _ _; taken = λ q l k. absurd (omega (arith, l, k)); marks = marks_none _ _ _ _; touched = touches_none _ _ }
+loop-first-init c = record { from = omega arith; to = omega arith; some = some_none c.args.schedule.now.readers (nets_of c.args.drives.now) c.args.outcome.now.entries c.args.span.first c.args.state.now }
 
-pub set_run-requires-clause-there : goal.set_run-requires-clause-there
-set_run-requires-clause-there c =
-    let of_net = c.args.schedule.now.readers.of_net in
+pub set_run-requires : goal.set_run-requires
+set_run-requires c =
+    let readers = c.args.schedule.now.readers in
     let drives = c.args.drives.now in
-    let targets = nets_of drives in
     let first = c.loop-first.first in
-    let I = c.loop-first.invariant in
-    let V = c.values-assigned.ensures in
     let in_drives : first < length drives = omega (arith, c.loop-first-test.true, c.requires.within, c.requires.each_driver) in
-    let in_targets : first < length targets = rw length-map in_drives in
-    let P = c.piece_end-beyond.ensures in
-    let some = P.some in
-    let to = P.to in
-    let within = P.within in
-    let target = net_at drives first none in_drives in
-    let net_here = P.nets in
-    let last = c.piece_end-beyond.result - first - 1 in
-    let is = net_here last (omega (arith, some)) in
-    let below = c.requires.there (first + last) 0 (omega (arith, some, within)) in
-    omega (arith, is, below, target, V.as_many, some, I.part.each_net)
-
-pub set_run-requires-clause-together : goal.set_run-requires-clause-together
-set_run-requires-clause-together c = λ k l.
-    let of_net = c.args.schedule.now.readers.of_net in
-    let drives = c.args.drives.now in
-    let targets = nets_of drives in
-    let first = c.loop-first.first in
-    let V = c.values-assigned.ensures in
-    let in_drives : first < length drives = omega (arith, c.loop-first-test.true, c.requires.within, c.requires.each_driver) in
-    let in_targets : first < length targets = rw length-map in_drives in
-    let target = net_at drives first none in_drives in
-    let P = c.piece_end-beyond.ensures in
-    let group_here = P.in_group in
-    subst (λ (n : ℕ). get_or of_net (n + k) 0 ≡ get_or of_net n 0) target (group_here k (omega (arith, l, V.as_many)))
-
-pub set_run-requires-clause-each_net : goal.set_run-requires-clause-each_net
-set_run-requires-clause-each_net c = c.requires.each_net ∙ sym c.loop-first.invariant.part.each_net
-
-pub set_run-requires-clause-nets : goal.set_run-requires-clause-nets
-set_run-requires-clause-nets c = c.loop-first.invariant.touched.nets_stay ∙ c.requires.nets ∙ sym c.loop-first.invariant.part.each_net
-
-pub set_run-requires-clause-below : goal.set_run-requires-clause-below
-set_run-requires-clause-below c = λ n k f. rw (c.loop-first.invariant.marks.as_many) (c.requires.below n k f)
+    piece_together readers (nets_of drives) first _ c.piece_end-beyond.result (get_or drives first none).net (length c.values-assigned.result.now) c.piece_end-beyond.ensures c.requires.cuts.nets
+    (net_at drives first none in_drives) c.values-assigned.ensures.as_many c.loop-first.state
+    (still_followed readers (Contains (nets_of drives)) c.args.state.now c.loop-first.state c.loop-first.invariant.some.advances c.requires.followed)
 
 pub loop-first-preserved : goal.loop-first-preserved
 loop-first-preserved c =
-    let of_net = c.args.schedule.now.readers.of_net in
+    let readers = c.args.schedule.now.readers in
     let drives = c.args.drives.now in
     let targets = nets_of drives in
+    let entries = c.args.outcome.now.entries in
     let first = c.loop-first.first in
     let I = c.loop-first.invariant in
     let V = c.values-assigned.ensures in
-    let in_drives : first < length drives = omega (arith, c.loop-first-test.true, c.requires.within, c.requires.each_driver) in
-    let in_targets : first < length targets = rw length-map in_drives in
     let P = c.piece_end-beyond.ensures in
-    let some = P.some in
-    let to = P.to in
-    let within = P.within in
-    let target = net_at drives first none in_drives in
-    let net_here = P.nets in
-    let entries = c.args.outcome.now.entries in
     let assigned = c.values-assigned.result.now in
-    let start = c.args.values.now.items in
-    let old = c.loop-first.values.items in
-    let new = c.set_run.new.values.items in
-    let long : first + length assigned ≡ c.piece_end-beyond.result = omega (arith, V.as_many, some) in
-    let short : first + length assigned ≤ length targets = omega (arith, long, within) in
-    let are : (k : ℕ) → k < length assigned → get_or entries (first + k) None ≡ Some (get_or assigned k 0) =
-    λ k l. entry_of entries c.args.span.first c.args.span.len first k I.from (omega (arith, l, long, to)) c.requires.all (V.entries k (omega (arith, l, V.as_many))) in
+    let in_drives : first < length drives = omega (arith, c.loop-first-test.true, c.requires.within, c.requires.each_driver) in
     let net = (get_or drives first none).net in
-    let is : (k : ℕ) → k < length assigned → get_or targets (first + k) 0 ≡ net + k = λ k l. net_here k (omega (arith, l, V.as_many)) ∙ ap (λ (n : ℕ). n + k) target in
-    let part = part_run targets entries c.requires.once old new first net assigned short is are c.set_run.ensures.written in
-    let here = taken_here targets entries c.requires.once old new first net assigned short is are c.set_run.ensures.written in
-    let index = wakers_of c.args.schedule.now.readers in
-    let of_targets : (n : ℕ) → IsOfRun net (length assigned) n → Contains targets n =
-    λ n r. subst (λ (m : ℕ). Contains targets m) (is r.at r.within ∙ sym r.is) (Contains-get_or targets (first + r.at) 0 (let l = r.within in omega (arith, l, short))) in
+    let long : first + length assigned ≡ c.piece_end-beyond.result = omega (arith, V.as_many, P.some) in
+    let are : (k : ℕ) → k < length assigned → get_or entries (first + k) None ≡ Some (get_or assigned k 0) =
+    λ k l. entry_of entries c.args.span.first c.args.span.len first k I.from (omega (arith, l, long, P.to)) c.requires.all (V.entries k (omega (arith, l, V.as_many))) in
+    let is : (k : ℕ) → k < length assigned → get_or targets (first + k) 0 ≡ net + k =
+    λ k l. P.nets k (omega (arith, l, V.as_many)) ∙ ap (λ (n : ℕ). n + k) (net_at drives first none in_drives) in
+    let one = some_run readers targets entries c.requires.cuts.once first net assigned (omega (arith, long, P.within)) is are c.loop-first.state c.set_run.new.self c.set_run.ensures in
     record {
-      from = omega (arith, I.from, some);
-      to = to;
-      part = part_then targets entries start old new I.part part;
-      taken = λ q low high. taken_more entries (at_targets targets old) (at_targets targets new) c.args.span.first first assigned are here part.stay I.taken q low (omega (arith, high, long));
-      marks = marks_then index (Contains targets) start old new c.args.marks.now.items c.loop-first.marks.items c.set_run.new.marks.items I.marks
-          (marks_wider index (IsOfRun net (length assigned)) (Contains targets) of_targets old new c.loop-first.marks.items c.set_run.new.marks.items c.set_run.ensures.marks);
-      touched = touches_then _ _ _ _ _ _ I.touched c.set_run.ensures.touched;
+      from = omega (arith, I.from, P.some);
+      to = P.to;
+      some = some_then readers targets entries c.args.span.first first c.piece_end-beyond.result c.args.state.now c.loop-first.state c.set_run.new.self I.some
+          (subst (λ (n : ℕ). TakeSome readers targets entries first n c.loop-first.state c.set_run.new.self) long one);
     }
 
-pub returns-clause-taken : goal.returns-clause-taken
-returns-clause-taken c = λ k l. c.loop-first.invariant.taken (c.args.span.first + k) (omega arith) (omega (arith, l, c.loop-first-test.false))
+pub returns : goal.returns
+returns c =
+    let I = c.loop-first.invariant in
+    let done : c.loop-first.first ≡ c.args.span.first + c.args.span.len = omega (arith, I.to, c.loop-first-test.false) in
+    subst (λ (n : ℕ). TakeSome c.args.schedule.now.readers (nets_of c.args.drives.now) c.args.outcome.now.entries c.args.span.first n c.args.state.now c.loop-first.state) done I.some

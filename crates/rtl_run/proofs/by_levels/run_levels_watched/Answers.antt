@@ -9,15 +9,17 @@ pub trace-requires : goal.trace-requires
 trace-requires g c =
     let P = c.in_ok-admitted.ensures in
     record {
-      accepted = P.admitted.accepted;
       levels = rw c.deref-2.ensures.value P.levels;
-      raceless = P.admitted.raceless;
-      bodies = rw c.deref.ensures.value P.bodies;
-      ports = c.requires.ports;
-      inputs = P.admitted.says.0;
-      waiting = P.waiting;
-      last = P.last;
-      intact = c.requires.intact;
+      ready = record {
+        accepted = P.admitted.accepted;
+        raceless = P.admitted.raceless;
+        run = rw c.deref.ensures.value P.bodies;
+        ports = c.requires.ports;
+        inputs = P.admitted.says.0;
+        waiting = P.waiting;
+        last = P.last;
+        intact = c.requires.intact;
+      };
     }
 
 pub returns-in_err-admitted-clause-runs : goal.returns-in_err-admitted-clause-runs

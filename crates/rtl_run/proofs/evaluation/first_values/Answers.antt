@@ -1,28 +1,57 @@
-use Rattle.std.proofs.Common.{List, map, ap, subst, ◌∙◌}
-use Rattle.vhdl_values.specs.declared.scalar.Nine.{Nine}
-use Rattle.rtl_model.specs.nets.CoreNetlist.{core_netlist}
-use Rattle.rtl_model.specs.simulation.Cycle.{start_state}
-use Rattle.rtl_model.specs.simulation.Moments.{HasRun}
-use Rattle.rtl_model.proofs.simulation.Order.{HasRun-done}
-use Rattle.rtl_net.specs.Nets.{flat}
+use Rattle.std.proofs.Common.{◌≡◌, ℕ, List, length, map, ap, ◌∙◌}
+use Rattle.std.proofs.lemmas.Result.{IfOk-weaker}
 use Rattle.rtl_net.specs.Core.{core}
-use Rattle.rtl_kernel.specs.kernel.Simulation.{Simulation, initial_inputs}
-use Rattle.rtl_run.proofs.Steps.{first_begun}
+use Rattle.rtl_stim.specs.Stimuli.{inputs_at}
+use Rattle.rtl_run.specs.Evaluated.{IsFirstOf}
+use Rattle.rtl_run.specs.Synchronous.{IsSynchronous}
+use Rattle.rtl_run.specs.simulations.Engines.{CourseView, Shows}
 use Rattle.rtl_run.proofs.Codes.{run_of, codes_run}
+use Rattle.rtl_run.proofs.Traces.{is_of_run, never_settles}
 use Rattle.rtl_run.proofs.evaluation.first_values.Goals as goal
+use Rattle.rtl_run.proofs.evaluation.first_values.Goals.{After-is_elaborated, After-values}
 
-pub new-requires-clause-bodies : goal.new-requires-clause-bodies
-new-requires-clause-bodies c =
-    codes_run c.args.net.now c.deref.result.now (ap (map run_of) c.deref.ensures.value ∙ c.in_ok-bodies.ensures)
+runs : (c : After-is_elaborated) → (run : ℕ → List ℕ) × IsSynchronous (core c.args.net.now) c.args.admitted.now.bound (inputs_at c.args.admitted.now.stimulus) run
+runs c =
+    c.accepted_nets_are_synchronous.ensures c.args.net.now c.args.admitted.now.bound (inputs_at c.args.admitted.now.stimulus) c.is_elaborated.ensures c.requires.accepted c.requires.raceless
 
-pub settled_values-requires-clause-ready : goal.settled_values-requires-clause-ready
-settled_values-requires-clause-ready c = HasRun-done (core_netlist (flat c.in_ok-kernel.kernel.net)) c.in_ok-kernel.kernel.state c.start.new.self.state c.start.ensures.ran
+abbrev course : (c : After-is_elaborated) → CourseView
+course c = record { net = c.args.net.now; stimulus = c.args.admitted.now.stimulus; limit = c.args.admitted.now.bound }
 
-pub settled_values-requires-clause-begun : goal.settled_values-requires-clause-begun
-settled_values-requires-clause-begun c =
+shows : (c : After-values) → Shows (record { net = c.args.net.now; stimulus = c.args.admitted.now.stimulus; limit = c.args.admitted.now.bound }) 0 c.values.result.now
+shows c =
+    let r : CourseView = record { net = c.args.net.now; stimulus = c.args.admitted.now.stimulus; limit = c.args.admitted.now.bound } in
+    c.values.ensures.shows r 0 (c.in-Ok.ensures.starts r c.in_ok-engine.ensures)
+
+pub new-requires : goal.new-requires
+new-requires c = record {
+  bodies = codes_run c.args.net.now c.deref.result.now (ap (map run_of) c.deref.ensures.value ∙ c.in_ok-bodies.ensures);
+  ports = c.requires.ports;
+  inputs = c.requires.inputs;
+}
+
+pub start-requires : goal.start-requires
+start-requires c = (course (goal.at.start-requires c).After-is_elaborated, c.in_ok-engine.ensures)
+
+pub unreachable-requires : goal.unreachable-requires
+unreachable-requires c =
+    let at = (goal.at.unreachable-requires c).After-is_elaborated in
+    let run = runs at in
+    let stuck = c.in-Err.ensures.starts (course at) c.in_ok-engine.ensures in
+    never_settles c.args.net.now c.args.admitted.now.stimulus c.args.admitted.now.bound run.0 run.1 0 stuck.never
+
+pub returns-clause-first : goal.returns-clause-first
+returns-clause-first c =
+    let at = goal.at.returns-clause-first c in
+    let run = runs at.After-is_elaborated in
     let net = c.args.net.now in
     let s = c.args.admitted.now.stimulus in
-    let state = c.start.new.self.state in
-    let ran = subst (λ (k : Simulation). HasRun (core_netlist (flat k.net)) k.state state) c.in_ok-kernel.ensures c.start.ensures.ran in
-    let run = subst (λ (vs : List Nine). HasRun (core net) (start_state (core net) (initial_inputs (flat net) vs)) state) c.initial.ensures ran in
-    first_begun net c.is_elaborated.ensures s c.requires.ports c.requires.inputs state run
+    let bound = c.args.admitted.now.bound in
+    let shows = shows at.After-values in
+    IfOk-weaker c.from_slice.result (λ values. values.items ≡ c.values.result.now) (λ values. IsFirstOf net s bound values.items)
+    (λ values is. record { run = run.0; synchronous = run.1; is = is ∙ is_of_run net s bound run.0 run.1 0 c.values.result.now shows.comes }) c.from_slice.ensures.items
+
+pub returns-clause-as_many : goal.returns-clause-as_many
+returns-clause-as_many c =
+    let shows = shows (goal.at.returns-clause-as_many c).After-values in
+    IfOk-weaker c.from_slice.result (λ values. values.items ≡ c.values.result.now) (λ values. length values.items ≡ length c.args.net.now.types)
+    (λ values is. ap length is ∙ shows.as_many) c.from_slice.ensures.items

@@ -5,13 +5,13 @@ use Rattle.rtl_run.proofs.Admitting.{admits}
 use Rattle.rtl_run.proofs.Results.{err_with, any_err}
 use Rattle.rtl_run.proofs.running.run_watched.Goals as goal
 
-pub trace_watched-requires : goal.trace_watched-requires
-trace_watched-requires g c =
+pub trace-requires : goal.trace-requires
+trace-requires g c =
     let P = c.in_ok-admitted.ensures in
     record {
       accepted = P.admitted.accepted;
       raceless = P.admitted.raceless;
-      bodies = rw c.deref.ensures.value P.bodies;
+      run = rw c.deref.ensures.value P.bodies;
       ports = c.requires.ports;
       inputs = P.admitted.says.0;
       waiting = P.waiting;
@@ -32,13 +32,13 @@ pub returns-in_err-admitted-clause-failing : goal.returns-in_err-admitted-clause
 returns-in_err-admitted-clause-failing g c = any_err _ c.from_residual.result (inl (g.met.V.Watch.nothing c.args.watch.now))
 
 pub returns-clause-runs : goal.returns-clause-runs
-returns-clause-runs g c = inl (admits _ c.in_ok-admitted.ensures.admitted c.trace_watched.ensures.traces)
+returns-clause-runs g c = inl (admits _ c.in_ok-admitted.ensures.admitted c.trace.ensures.traces)
 
 pub returns-clause-told : goal.returns-clause-told
-returns-clause-told g c = IfOk-weaker c.trace_watched.result _ _ (λ summary told. admits _ c.in_ok-admitted.ensures.admitted told) c.trace_watched.ensures.told
+returns-clause-told g c = IfOk-weaker c.trace.result _ _ (λ summary told. admits _ c.in_ok-admitted.ensures.admitted told) c.trace.ensures.told
 
 pub returns-clause-failing : goal.returns-clause-failing
-returns-clause-failing g c = IfErr-weaker c.trace_watched.result _ _ (λ fault first. inr (admits _ c.in_ok-admitted.ensures.admitted first)) c.trace_watched.ensures.failing
+returns-clause-failing g c = IfErr-weaker c.trace.result _ _ (λ fault first. inr (admits _ c.in_ok-admitted.ensures.admitted first)) c.trace.ensures.failing
 
 pub prepare-requires : goal.prepare-requires
 prepare-requires g c = c.requires.ports

@@ -1,5 +1,4 @@
-use Rattle.std.proofs.Common.{ℕ, List, Vec, ap, sym, subst, ◌∙◌, length, get_or, []}
-use Rattle.std.specs.Global.{Global}
+use Rattle.std.proofs.Common.{List, ap, sym, subst, ◌∙◌, length, get_or, []}
 use Rattle.std.proofs.lemmas.List.{length-map}
 use Rattle.rtl_eval.specs.Runs.{Outcome}
 use Rattle.rtl_model.proofs.basics.Lists.{Contains-none}
@@ -8,9 +7,6 @@ use Rattle.rtl_kernel.specs.drivers.Transactions.{IsActive, pending_of, without_
 use Rattle.rtl_kernel.specs.worklists.Numbers.{Numbers}
 use Rattle.rtl_kernel.proofs.Active.{none_active, each_driver_taken, rows_taken}
 use Rattle.rtl_kernel.proofs.drivers.Drivers.update.Goals as goal
-
-pub update_rows-requires-clause-all_active : goal.update_rows-requires-clause-all_active
-update_rows-requires-clause-all_active c = rw (c.members.ensures.value) c.self.invariant.all_active
 
 pub invariant_of-self : goal.invariant_of-self
 invariant_of-self c =
@@ -21,7 +17,7 @@ invariant_of-self c =
     let new = rows c.update_rows.new.drivers.items in
     let many = ap length E.outcomes ∙ length-map outcomes without_entries in
     record {
-      as_many = sym (length-map c.update_rows.new.drivers.items (λ (v : Vec ℕ Global). v.items)) ∙ rows_taken outcomes old new E.drivers (length-map c.self.inside.drivers.items _ ∙ I.as_many) ∙ sym many;
+      as_many = rows_taken outcomes old new E.drivers I.as_many ∙ sym many;
       bound = ap (λ (w : Numbers). w.bound) c.clear.ensures ∙ I.bound ∙ sym many;
       each_driver = λ p. each_driver_taken outcomes old new E.drivers I.each_driver p ∙ ap (λ (os : List Outcome). length (get_or (pending_of os) p [])) (sym E.outcomes);
       all_active = λ p a. absurd (none_active outcomes p (subst (λ (os : List Outcome). IsActive (pending_of os) p) E.outcomes a));

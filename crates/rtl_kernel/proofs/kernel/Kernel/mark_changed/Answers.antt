@@ -8,9 +8,9 @@ loop-group-init g c = touched_none _ _ _
 
 pub mark_run-requires : goal.mark_run-requires
 mark_run-requires g c =
-    let each : length c.groups-groups.result.now.of_net ≡ length c.self.inside.net.now.types =
-    ap (λ (x : Grouping). length x.of_net) c.groups-groups.ensures.value ∙ c.self.invariant.each_net in
-    let nets : c.args.touched.now.nets ≡ length c.self.inside.net.now.types = rw (← c.self.view_is) at c.requires in
+    let each : length c.groups-groups.result.now.of_net ≡ length c.self.inside.nets.net.types =
+    ap (λ (x : Grouping). length x.of_net) c.groups-groups.ensures.value ∙ c.values-values.ensures.grouped in
+    let nets : c.args.touched.now.nets ≡ length c.self.inside.nets.net.types = rw (← c.self.view_is) at c.requires in
     let within = c.end.ensures.within in
     let stay = c.loop-group.invariant.nets_stay in
     omega (arith, within, each, nets, stay)
@@ -25,7 +25,7 @@ loop-group-preserved g c =
 
 pub returns : goal.returns
 returns g c =
-    let values = c.self.inside.values in
+    let values = c.values-values.result.now in
     let changed = c.changed.result.groups.now in
     let k = c.loop-group.group-index in
     let of = c.groups-groups.ensures.value in
@@ -33,6 +33,6 @@ returns g c =
     let A : AreTouched values.groups changed k c.args.touched.now c.loop-group.touched =
     subst (λ (x : Grouping). AreTouched x changed k c.args.touched.now c.loop-group.touched) of c.loop-group.invariant in
     let all : length changed ≤ k = omega (arith, c.loop-group-test.false) in
-    rw (← c.self.view_is)
+    rw (← c.self.view_is, ← c.values-values.ensures.value)
     (touches_events values changed k c.args.touched.now c.loop-group.touched c.changed.ensures.covers all
-    (sym (ap (λ (x : Grouping). length x.of_net) of) ∙ c.groups-groups.ensures.each_net) (S.before.each_net ∙ sym S.now.each_net) A)
+    (sym (ap (λ (x : Grouping). length x.of_net) of) ∙ c.groups-groups.ensures.each_net) (rw (c.values-values.ensures.value) (S.before.each_net ∙ sym S.now.each_net)) A)

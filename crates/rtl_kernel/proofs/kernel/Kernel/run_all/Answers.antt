@@ -12,10 +12,10 @@ use Rattle.rtl_kernel.proofs.Picking.{run_first}
 use Rattle.rtl_kernel.proofs.kernel.Kernel.run_all.Goals as goal
 
 pub is_asleep-asleep-requires-clause-before : goal.is_asleep-asleep-requires-clause-before
-is_asleep-asleep-requires-clause-before g c = rw (c.before-2.ensures.value) (kept.clock_before _ _ _ _ _ _ _ _ _ _ _ _ _ c.self.invariant)
+is_asleep-asleep-requires-clause-before g c = rw (c.before-2.ensures.value, c.values-values.ensures.value) (kept.clock_before c.self.invariant)
 
 pub is_asleep-asleep-requires-clause-values : goal.is_asleep-asleep-requires-clause-values
-is_asleep-asleep-requires-clause-values g c = rw (c.now.ensures) (kept.clock_now _ _ _ _ _ _ _ _ _ _ _ _ _ c.self.invariant)
+is_asleep-asleep-requires-clause-values g c = rw (c.now.ensures, c.values-values.ensures.value) (kept.clock_now c.self.invariant)
 
 pub loop-left-init : goal.loop-left-init
 loop-left-init g c = record {
@@ -24,8 +24,8 @@ loop-left-init g c = record {
   net = refl;
   asleep = λ e.
       rw (← c.self.view_is)
-      (subst (λ (o : Option ClockEdge). IsAsleep o c.self.inside.values.before c.self.inside.values.current) c.self.invariant.follow.first
-      (rw (c.before-2.ensures.value, c.now.ensures) at (c.is_asleep-asleep.ensures e)));
+      (subst (λ (o : Option ClockEdge). IsAsleep o c.self.inside.nets.values.before c.self.inside.nets.values.current) c.self.invariant.of_net.follow.first
+      (rw (c.before-2.ensures.value, c.now.ensures, c.values-values.ensures.value) at (c.is_asleep-asleep.ensures e)));
   rest = λ t last h. h;
 }
 

@@ -1,15 +1,18 @@
-use Rattle.std.proofs.Common.{◌≡◌, ◌<◌, ℕ, List, Option, All, length, ap, sym, subst, ◌∙◌}
+use Rattle.std.proofs.Common.{◌≡◌, ◌<◌, ℕ, List, Option, All, length, map, ap, sym, subst, ◌∙◌}
 use Rattle.std.proofs.lemmas.List.{length-map}
 use Rattle.std.proofs.lemmas.Result.{IfOk-from_err}
+use Rattle.rtl_model.specs.simulation.Netlist.{Process}
+use Rattle.rtl_model.proofs.nets.Connected.{connected_is_elaborated}
 use Rattle.rtl_kernel.specs.drivers.Transactions.{all_targets}
 use Rattle.rtl_kernel.proofs.Grouped.{groups_index}
 use Rattle.rtl_net_groups.specs.Cuts.{AreCutsOf}
 use Rattle.rtl_net.specs.Core.{core}
+use Rattle.rtl_net.specs.Nets.{flat}
 use Rattle.rtl_awaited_edges.specs.declared.awaited.ClockEdge.{ClockEdge}
 use Rattle.rtl_awaited_edges.specs.Awaiting.{AreLeaders}
 use Rattle.rtl_levels.specs.Scheduled.{wakes_by_rank}
 use Rattle.rtl_levels.proofs.Ordering.{is_order}
-use Rattle.rtl_levels.proofs.Wired.{all_targets_there, clocked_there, processes_many, rows_there}
+use Rattle.rtl_levels.proofs.Wired.{all_targets_there, clocked_there, drives_of_all, processes_many, rows_there}
 use Rattle.rtl_levels.proofs.schedule.Schedule.new.Goals as goal
 
 pub wakes_of-requires : goal.wakes_of-requires
@@ -61,18 +64,18 @@ returns c =
     let many : length c.deref-2.result.now ≡ length net.types = c.deref-2.ensures.len ∙ c.in_ok-together.ensures.len ∙ c.nets.ensures.count in
     let many' : length c.deref-3.result.now ≡ length net.types = c.deref-3.ensures.len ∙ c.in_ok-together.ensures.len ∙ c.nets.ensures.count in
     record {
+      elaborated = connected_is_elaborated (flat net) R c.nets.ensures.elaborated.connected;
+      accepted = c.requires.accepted;
       schedule = record {
         order_is = is_order (core net) c.requires.accepted c.args.levels.now greatest V order c.in_ok-order.ensures;
         readers_are = rw (← ranks) (groups_index c.in_ok-readers.readers c.deref-2.result.now c.in_ok-by_rank.by_rank (rw (ranks, many) (rows_there net R order)) c.in_ok-readers.ensures);
         clocked_are = rw (← c.in_ok-by_process.ensures) (groups_index c.in_ok-clocked.clocked c.deref-3.result.now c.in_ok-by_process.by_process (rw (c.in_ok-by_process.ensures, many') (clocked_there net R)) c.in_ok-clocked.ensures);
       };
-      each_reader = length-map c.in_ok-readers.readers.of_net _ ∙ c.in_ok-readers.ensures.each_net ∙ c.deref-2.ensures.len ∙ c.in_ok-together.ensures.len ∙ c.nets.ensures.count;
-      each_clocked = length-map c.in_ok-clocked.clocked.of_net _ ∙ c.in_ok-clocked.ensures.each_net ∙ c.deref-3.ensures.len ∙ c.in_ok-together.ensures.len ∙ c.nets.ensures.count;
-      cuts = record {
-        cuts = subst (λ (ns : List ℕ). AreCutsOf ns (all_targets net.processes) c.in_ok-cuts.cuts) c.of_net.ensures.value
-            (subst (λ (ts : List (List ℕ)). AreCutsOf c.of_net.result.now ts c.in_ok-cuts.cuts) (c.in_ok-targets.ensures ∙ ap all_targets c.processes.ensures) c.in_ok-cuts.ensures);
-        wholes = c.in_ok-wholes.ensures;
-      };
+      each_reader = length-map c.in_ok-readers.readers.of_net _ ∙ c.in_ok-readers.ensures.each_net ∙ many ∙ sym R.each_starts;
+      each_clocked = length-map c.in_ok-clocked.clocked.of_net _ ∙ c.in_ok-clocked.ensures.each_net ∙ many' ∙ sym R.each_starts;
+      cuts = subst (λ (ns : List ℕ). AreCutsOf ns (map (λ (p : Process). p.drives) (core net).processes) c.in_ok-cuts.cuts) c.of_net.ensures.value
+          (subst (λ (ts : List (List ℕ)). AreCutsOf c.of_net.result.now ts c.in_ok-cuts.cuts) (c.in_ok-targets.ensures ∙ ap all_targets c.processes.ensures ∙ drives_of_all net) c.in_ok-cuts.ensures);
+      wholes = c.in_ok-wholes.ensures;
       edges = c.in_ok-edges.ensures;
       leaders = subst (λ (es : List (Option ClockEdge)). AreLeaders es c.in_ok-leaders.leaders.items) c.deref-4.ensures.value c.in_ok-leaders.ensures;
     }

@@ -1,0 +1,94 @@
+//! The values of the nets, and what their changes mark.
+
+ghost use Rattle.std.specs.Prelude.{◌≡◌, ℕ, ◌<◌, true, false, length, slice_index_or, slice_set, IfOk};
+ghost use Rattle.rtl_levels.specs.States.{Advances, GetValues, IsFollowed, StandTogether};
+
+use crate::marks::{followers_of, mark, mark_followers};
+use rtl_kernel::replace;
+use rtl_net_groups::{Groups, Touched};
+use std::alloc::{AllocError, Global};
+
+/// The values of all nets, as codes, with marks of the combinational processes that are to run, by
+/// rank, and of the chunks of the nets that the step under way may have changed.
+pub struct State {
+    pub values: Vec<u8>,
+    pub dirty: Vec<bool>,
+    pub touched: Touched,
+}
+
+impl Drop for State {
+    fn drop(self) {
+        let State {
+            values: _,
+            dirty: _,
+            touched: _,
+        } = self;
+    }
+}
+
+impl State {
+    /// These values, where all of so many combinational processes are to run.
+    pub fn new(alloc: Global, values: Vec<u8>, ranks: usize) -> Result<State, AllocError>
+        ensures values { IfOk result (λ s. s.values.items ≡ values.items) }
+        ensures each_rank { IfOk result (λ s. length s.dirty.items ≡ ranks) }
+        ensures all_dirty { IfOk result (λ s. (k : ℕ) → k < ranks → slice_index_or s.dirty.items k false ≡ true) }
+        ensures each_chunk { IfOk result (λ s. s.touched.nets ≡ length values.items) }
+    {
+        let dirty = vec![in alloc; true; ranks]?;
+        let touched = Touched::new(alloc, values.len())?;
+        Ok(State {
+            values,
+            dirty,
+            touched,
+        })
+    }
+
+    /// Gives a net a value, and marks what is sensitive to it, if it is another than it has, and its
+    /// chunk.
+    #[inline(always)]
+    pub fn set(&mut self, readers: &Groups, net: usize, value: u8)
+        requires there { net < length self.old.values.items }
+        requires followed { IsFollowed readers.now self.old }
+        ensures value { self.new.values.items ≡ slice_set self.old.values.items net value }
+        ensures advances { Advances readers.now (λ n. n ≡ net) self.old self.new }
+    {
+        mark_followers(readers, &self.values, net, value, &mut self.dirty);
+        self.values[net] = value;
+        self.touched.mark_run(net, net + 1);
+    }
+
+    /// Gives nets that stand one behind the other in one group these values, and marks what is
+    /// sensitive to them, and their chunks, if one gets another value than it has.
+    #[inline(always)]
+    fn set_here(&mut self, readers: &Groups, first: usize, given: &[u8])
+        requires { StandTogether readers.now first (length given.now) self.old }
+        ensures { GetValues readers.now first given.now self.old self.new }
+    {
+        if replace(&mut self.values, first, given) {
+            mark(&mut self.dirty, followers_of(readers, first));
+            self.touched.mark_run(first, first + given.len());
+        }
+    }
+
+    /// The same by a call.
+    #[inline(never)]
+    pub fn set_run(&mut self, readers: &Groups, first: usize, given: &[u8])
+        requires { StandTogether readers.now first (length given.now) self.old }
+        ensures { GetValues readers.now first given.now self.old self.new }
+    {
+        self.set_here(readers, first, given);
+    }
+
+    /// The same, without a call where there are at most 32.
+    #[inline(always)]
+    pub fn set_short(&mut self, readers: &Groups, first: usize, given: &[u8])
+        requires { StandTogether readers.now first (length given.now) self.old }
+        ensures { GetValues readers.now first given.now self.old self.new }
+    {
+        if given.len() > 32 {
+            self.set_run(readers, first, given);
+        } else {
+            self.set_here(readers, first, given);
+        }
+    }
+}

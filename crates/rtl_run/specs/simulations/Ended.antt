@@ -1,0 +1,18 @@
+-- What a course ends in, for the sink and for the watch.
+use Rattle.std.specs.Prelude.{ℕ, List}
+use Rattle.rtl_sink.specs.Stands.{Stand}
+use Rattle.rtl_sink.specs.Written.{SinkState}
+use Rattle.rtl_run.specs.declared.summary.RunFault.{RunFault}
+use Rattle.rtl_run.specs.simulations.Answered.{Fails, WritesAll}
+use Rattle.rtl_run.specs.simulations.Engines.{CourseView}
+use Rattle.rtl_run.specs.simulations.Watched.{IsToldAll, WasTold}
+
+-- all moments, of which there are so many
+abbrev pub EndsAll : CourseView → (old new : SinkState) → (Told : List Stand → Type 0) → (count : ℕ) → Type 0
+EndsAll r old new Told count = WritesAll r.net r.stimulus r.limit old new count × IsToldAll r.net r.stimulus Told
+
+-- some of them
+abbrev pub EndsBefore : CourseView → (old new : SinkState) → (Told : List Stand → Type 0)
+    → (Stuck : List Stand → (before now : List ℕ) → (time : ℕ) → Type 0) → RunFault → Type 0
+EndsBefore r old new Told Stuck fault =
+    Fails r.net r.stimulus r.limit old new fault × WasTold r.net r.stimulus r.limit Told Stuck fault

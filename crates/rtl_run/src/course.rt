@@ -1,0 +1,102 @@
+//! The course of a simulation, from moment to moment.
+
+ghost use Rattle.std.specs.Prelude.{◌≡◌, ℕ, pred, ◌<◌, [], length, None, MatchResult, OnOk};
+ghost use Rattle.rtl_net_groups.specs.Touching.{KeepsLeft};
+ghost use Rattle.rtl_sink.specs.Written.{SinkState, IsIntact};
+ghost use Rattle.rtl_run.specs.simulations.Engines.{course_of};
+ghost use Rattle.rtl_run.specs.simulations.Ended.{EndsAll, EndsBefore};
+ghost use Rattle.rtl_run.specs.simulations.Running.{HasCome, IsNextMoment, GoesOn};
+
+use crate::engine::Engine;
+use crate::progress::Progress;
+use crate::summary::RunFault;
+use rtl_net::Net;
+use rtl_sink::{Sink, Watch};
+use rtl_stim::{Agenda, Stimulus};
+use rtl_vcd::{Blocks, VcdFault, end, first, header};
+use std::alloc::Global;
+
+/// A netlist under a stimulus, with so many delta cycles at most in each moment.
+#[derive(Drop)]
+pub(crate) struct Course<'a> {
+    pub(crate) net: &'a Net,
+    pub(crate) stimulus: &'a Stimulus,
+    pub(crate) limit: u32,
+}
+
+impl Course<'_> {
+    /// Lets an engine compute each moment, from 0 to the stimulus's stop, and writes the trace. The
+    /// agenda is new: nothing waits in it. The watch is told what each moment settles to, as soon
+    /// as it is known until when that stands; and where a moment doesn't settle, the values before
+    /// the last delta cycle allowed and after it. It answers how many moments there were.
+    ///
+    /// It takes the agenda's memory, that of the names' blocks, and a byte for each net.
+    pub(crate) fn trace<G: Engine, A: Agenda, V: Watch, W: Sink>(
+        &self,
+        alloc: Global,
+        engine: &mut G,
+        agenda: &mut A,
+        watch: &mut V,
+        out: &mut W,
+    ) -> Result<u64, RunFault>
+        requires begun { G.has_begun engine.old (course_of self.now) }
+        requires waiting { (A.state agenda.old).waiting ≡ [] }
+        requires last { (A.state agenda.old).last ≡ None }
+        requires intact { IsIntact (W.state out.old) }
+        ensures { let r = course_of self.now in let old = W.state out.old in let new = W.state out.new in
+            MatchResult result
+            (λ moments. G.is_at engine.new r (pred moments)
+            × EndsAll r old new (λ stands. V.told watch.old stands watch.new) moments)
+            (EndsBefore r old new (λ stands. V.told watch.old stands watch.new)
+            (λ stands before now time. V.stuck watch.old stands before now time watch.new)) }
+    {
+        self.stimulus.load(agenda)?;
+        let blocks = Blocks::new(alloc, self.net)?;
+        let stop = self.stimulus.stop();
+        header(self.net, out)?;
+        engine.start(watch)?;
+        first(self.net, engine.values(), out)?;
+        let mut progress = Progress {
+            now: 0,
+            shown: Vec::from_slice(alloc, engine.values())?,
+            printed: 0,
+            moments: 1,
+        };
+        while let Some(time) = agenda.next() {
+            watch.stood(engine.values(), time);
+            engine.step(time, agenda.changes(), watch)?;
+            self.stimulus.refill(time, agenda)?;
+            self.go_on(time, &blocks, engine, &mut progress, out)?;
+        }
+        watch.stood(engine.values(), stop + 1);
+        end(progress.printed, stop, out)?;
+        Ok(progress.moments)
+    }
+
+    /// Writes what changes at the moment of this time, which has settled.
+    fn go_on<G: Engine, W: Sink>(
+        &self,
+        time: u64,
+        blocks: &Blocks<'_>,
+        engine: &G,
+        progress: &mut Progress,
+        out: &mut W,
+    ) -> Result<(), VcdFault>
+        requires blocks { blocks.now ≡ self.now.net.now }
+        requires intact { IsIntact (W.state out.old) }
+        requires as_many { length progress.old.shown.items ≡ length self.now.net.now.types }
+        requires left { KeepsLeft (G.chunks engine.now) progress.old.shown.items (G.valuation engine.now) }
+        requires settled { G.is_at engine.now (course_of self.now) progress.old.moments }
+        requires room { progress.old.moments < 18446744073709551615 }
+        ensures as_many { length progress.new.shown.items ≡ length self.now.net.now.types }
+        ensures shown { OnOk result (progress.new.shown.items ≡ G.valuation engine.now) }
+        ensures goes_on { (start : SinkState) → HasCome (course_of self.now) start (W.state out.old) progress.old
+            → IsNextMoment (course_of self.now) progress.old time
+            → GoesOn (course_of self.now) start (W.state out.new) progress.old time progress.new result }
+    {
+        let touched = engine.touched();
+        let is_printed = blocks.moment(time, touched, &progress.shown, engine.values(), out)?;
+        progress.add(time, touched, engine.values(), is_printed);
+        Ok(())
+    }
+}
