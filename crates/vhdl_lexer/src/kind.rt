@@ -58,14 +58,14 @@ fn leads(kind: TokenKind) -> bool
 }
 
 /// `else`
-pub fn is_else(kind: TokenKind) -> bool
+fn is_else(kind: TokenKind) -> bool
     ensures { result ≡ spec.is_else kind }
 {
     matches!(kind, TokenKind::Else)
 }
 
 /// Whether an `else` behind the token is one of an `if`: behind `;` or `then`.
-pub fn is_before_else(kind: TokenKind) -> bool
+fn is_before_else(kind: TokenKind) -> bool
     ensures { result ≡ spec.is_before_else kind }
 {
     matches!(kind, TokenKind::Semicolon | TokenKind::Then)
