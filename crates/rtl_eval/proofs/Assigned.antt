@@ -87,7 +87,7 @@ pub length_sets : {X : Type 0} (ys xs : List X) (first : ℕ) → length (sets x
 length_sets [] xs first = refl
 length_sets (y ∷ ys) xs first = length_sets ys (set xs first y) (suc first) ∙ length-set xs first y
 
--- a part that is filled, and one that is copied
+-- a part that is filled, and one that is made
 pub part_filled : {X : Type 0} (first len : ℕ) (xs new : List X) (y : X) → first + len ≤ length xs → new ≡ replicate (length (between first (first + len) xs)) y
     → put_mid first (first + len - first) xs new ≡ sets xs first (replicate len y)
 part_filled {X = X} first len xs new y within is =
@@ -96,14 +96,6 @@ part_filled {X = X} first len xs new y within is =
     ap (put_mid first (first + len - first) xs) (is ∙ ap (λ (n : ℕ). replicate n y) many)
     ∙ ap (λ (n : ℕ). put_mid first n xs (replicate len y)) back
     ∙ part_is_set first len xs (replicate len y) (length-replicate len y) within
-
-pub part_copied : {X : Type 0} (first : ℕ) (xs new ys : List X) → first + length ys ≤ length xs → new ≡ ys
-    → put_mid first (first + length ys - first) xs new ≡ sets xs first ys
-part_copied {X = X} first xs new ys within is =
-    let back : first + length ys - first ≡ length ys = omega arith in
-    ap (put_mid first (first + length ys - first) xs) is
-    ∙ ap (λ (n : ℕ). put_mid first n xs ys) back
-    ∙ part_is_set first (length ys) xs ys refl within
 
 pub part_made : {X : Type 0} (first len : ℕ) (xs new ys : List X) → length ys ≡ len → first + len ≤ length xs → new ≡ ys
     → put_mid first (first + len - first) xs new ≡ sets xs first ys

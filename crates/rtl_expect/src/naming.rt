@@ -5,7 +5,6 @@ ghost use Rattle.rtl_model.specs.bodies.Fits.{IsWidth};
 ghost use Rattle.rtl_net.specs.Nets.{scope_view, signal_view};
 ghost use Rattle.rtl_net.specs.Elaborated.{AreScopes};
 ghost use Rattle.rtl_stim_lines.specs.Lines.{Word};
-ghost use Rattle.rtl_stim_lines.specs.Inputs.{small};
 ghost use Rattle.rtl_expect.specs.Names as names;
 ghost use Rattle.rtl_expect.specs.Lines as lines;
 ghost use Rattle.rtl_expect.specs.Naming.{HasNumbers, kept_number};
@@ -47,7 +46,7 @@ fn add_signal(
         ≡ (if lines.is_named (map scope_view scopes.now) name (signal_view signal.now) then Some number else kept_number table.old name)) }
 {
     let name = full_name(alloc, scopes, signal)?;
-    let key = small_letters(alloc, &name)?;
+    let key = name.to_ascii_lowercase(alloc)?;
     table.insert(key, number)?;
     Ok(())
 }
@@ -80,13 +79,6 @@ fn add_labels(scopes: &[Scope], scope: usize, text: &mut Vec<u8>) -> Result<(), 
     Ok(())
 }
 
-/// A name in small letters.
-fn small_letters(alloc: Global, name: &[u8]) -> Result<Vec<u8>, AllocError>
-    ensures { IfOk result (λ letters. letters.items ≡ small name.now) }
-{
-    name.iter().map(|b| b.to_ascii_lowercase()).collect(alloc)
-}
-
 /// The signal with a full name, in letters of either case, and its number. It takes memory for the name, and time for its letters.
 pub(crate) fn signal_named<'n>(
     alloc: Global,
@@ -114,6 +106,6 @@ fn number_named(
 ) -> Result<Option<usize>, AllocError>
     ensures { IfOk result (λ number. number ≡ kept_number table.now name.now) }
 {
-    let key = small_letters(alloc, name)?;
+    let key = name.to_ascii_lowercase(alloc)?;
     Ok(table.get(key.as_slice()).copied())
 }

@@ -8,9 +8,10 @@ use Rattle.rtl_net.specs.Nets.{NetlistView, flat}
 use Rattle.rtl_net.specs.declared.process.Process.{Process}
 use Rattle.rtl_kernel.specs.drivers.Brought.{IsAlone, MarkAlone, NotedNets, AreNoted, IsDriver, IsDriverOf, IsBrought, is_noted, has_kept, has_value, Stay, AreBrought, Brings, BringsAll}
 use Rattle.rtl_kernel.specs.drivers.Transactions.{driver_at, targets_of}
-use Rattle.rtl_kernel.specs.values.TwoValues.{TwoValues, HasWritten, IsWritten, group_of}
+use Rattle.rtl_kernel.specs.values.TwoValues.{TwoValues, HasWritten, group_of}
+use Rattle.rtl_net_groups.specs.Written.{IsWritten}
 use Rattle.rtl_kernel.specs.worklists.Numbers.{Numbers}
-use Rattle.rtl_kernel.proofs.Replaced.{same_values}
+use Rattle.rtl_net_groups.proofs.Replaced.{same_values}
 
 -- the nets of a marked group have one source each
 pub alone_marked : (wiring : FlatNetlist) (groups : Grouping) (marks : List Bool) (group : ℕ) → MarkAlone wiring groups marks

@@ -10,7 +10,8 @@ use Rattle.rtl_net_groups.specs.Groups.{Grouping, AreNetsOf}
 use Rattle.rtl_model.specs.basics.Valuations.{has_event}
 use Rattle.rtl_model.proofs.simulation.Rows.{differs_event}
 use Rattle.rtl_kernel.specs.worklists.Numbers.{Numbers, IsWith}
-use Rattle.rtl_kernel.specs.values.TwoValues.{TwoValues, CoverEvents, HasEventIn, IsOther, IsWritten, group_of}
+use Rattle.rtl_kernel.specs.values.TwoValues.{TwoValues, CoverEvents, HasEventIn, group_of}
+use Rattle.rtl_net_groups.specs.Written.{IsOther, IsWritten}
 
 -- a group that is put in is one more
 covers_set-there : (P : ℕ → Type 0) (old new : Numbers) (group : ℕ) → All P old.members → P group → IsWith group old new → All P new.members

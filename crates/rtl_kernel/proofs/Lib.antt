@@ -1,8 +1,5 @@
-pub mod Lanes
 pub mod Marks
 pub mod Runs
-pub mod Replaced
-pub mod Ends
 pub mod Pieces
 pub mod Events
 pub mod Cycles

@@ -16,7 +16,7 @@ use Rattle.rtl_model.proofs.simulation.Rows.{driven_all_at, driven_at, length-dr
 use Rattle.std.specs.Option.{is_some}
 use Rattle.rtl_net.specs.Nets.{NetlistView}
 use Rattle.rtl_net.specs.declared.process.Driver as net
-use Rattle.rtl_kernel.specs.values.TwoValues.{IsWritten}
+use Rattle.rtl_net_groups.specs.Written.{IsWritten}
 use Rattle.rtl_kernel.specs.drivers.Brought.{NotedNets, IsDriver, IsDriverOf, Brings}
 use Rattle.rtl_kernel.specs.drivers.Transactions.{Transactions, IsActive, driver_at, nets_of, targets_of, pending_of, without_entries}
 use Rattle.rtl_kernel.specs.drivers.Updates.{TakesEntries, IsTaken, IsUpdating}

@@ -2,7 +2,6 @@
 #![tactic(auto)]
 
 mod both;
-mod comparing;
 mod cutting;
 mod drivers;
 mod kernel;
@@ -10,7 +9,6 @@ mod nets;
 mod pick;
 mod resolution;
 mod resumed;
-mod slices;
 mod starts;
 mod update;
 mod values;
@@ -20,5 +18,4 @@ mod worklist;
 pub use cutting::target_lists;
 pub use kernel::{Kernel, NoSettling};
 pub use pick::{Forward, Pick, Reverse};
-pub use slices::replace;
 pub use starts::{fresh_outcomes, starting_codes, variable_starts};

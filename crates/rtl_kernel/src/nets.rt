@@ -1,26 +1,25 @@
 //! The nets, as an update of their drivers goes on.
 
-ghost use Rattle.std.specs.Prelude.{◌≡◌, ◌+◌, ◌<◌, ◌≤◌, ℕ, [], List, All, Contains, length, IfOk};
+ghost use Rattle.std.specs.Prelude.{◌≡◌, ◌+◌, ◌<◌, ◌≤◌, ℕ, List, All, Contains, length, IfOk};
 ghost use Rattle.rtl_model.specs.nets.FlatNetlist.{flat_sources};
 ghost use Rattle.rtl_model.specs.simulation.Netlist as core;
 ghost use Rattle.rtl_net.specs.Nets.{flat};
 ghost use Rattle.rtl_net_groups.specs.Cuts.{IsCut};
+ghost use Rattle.rtl_net_groups.specs.Written.{IsWritten};
 ghost use Rattle.rtl_kernel.specs.drivers.Brought.{Brings, begun};
 ghost use Rattle.rtl_kernel.specs.drivers.DriverCuts.{IsCutThere};
 ghost use Rattle.rtl_kernel.specs.drivers.Resolved.{NotedAreResolved};
 ghost use Rattle.rtl_kernel.specs.drivers.Rows.{rows, IsSourceThere};
 ghost use Rattle.rtl_kernel.specs.kernel.Given.{AreFirst, AreGiven};
 ghost use Rattle.rtl_kernel.specs.kernel.Simulation.{changes_of};
-ghost use Rattle.rtl_kernel.specs.values.TwoValues.{IsWritten};
 
-use crate::slices::replace;
 use crate::starts::first_codes;
 use crate::update::resolve_groups;
 use crate::values::Values;
 use crate::wakes::{alone_groups, wake_groups};
 use crate::worklist::Worklist;
 use rtl_net::Net;
-use rtl_net_groups::Cut;
+use rtl_net_groups::{Cut, replace};
 use std::alloc::{AllocError, Global};
 use std::marker::Model;
 use vhdl_values::Nine;

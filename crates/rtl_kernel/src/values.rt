@@ -1,15 +1,13 @@
 //! The values of the nets.
 
-ghost use Rattle.std.specs.Prelude.{◌≡◌, ◌+◌, ◌<◌, ◌≤◌, ℕ, true, false, length, slice_index, slice_set, All, IfOk};
+ghost use Rattle.std.specs.Prelude.{◌≡◌, ◌+◌, ◌<◌, ◌≤◌, ℕ, true, false, length, slice_set, All, IfOk};
 ghost use Rattle.rtl_net_groups.specs.Groups.{AreRuns};
 ghost use Rattle.rtl_model.specs.basics.Valuations.{has_event};
 ghost use Rattle.rtl_kernel.specs.kernel.Simulation.{changes_of};
 ghost use Rattle.rtl_kernel.specs.values.TwoValues.{AreChanged, CoverEvents, HasEventIn, HasWritten, group_of};
 
-use crate::comparing::are_other;
-use crate::slices::replace;
 use crate::worklist::Worklist;
-use rtl_net_groups::Groups;
+use rtl_net_groups::{Groups, are_other, replace};
 use std::alloc::{AllocError, Global};
 use std::marker::Model;
 use vhdl_values::Nine;

@@ -3,7 +3,7 @@ use Rattle.std.proofs.Common.{◌≡◌, ℕ, ◌+◌, ◌-◌, ◌<◌, ◌≤�
 use Rattle.std.proofs.lemmas.Bool.{cases_eq, cases_lt}
 use Rattle.std.proofs.lemmas.List.{get_or-set_other}
 use Rattle.rtl_kernel.specs.wakes.Woken.{AddsPlaces}
-use Rattle.rtl_kernel.specs.values.TwoValues.{IsWritten}
+use Rattle.rtl_net_groups.specs.Written.{IsWritten}
 use Rattle.rtl_levels.specs.Marks.{Marks, IsOfRun, Follows}
 
 module _ (index : List (List ℕ)) where

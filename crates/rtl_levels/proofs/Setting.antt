@@ -4,10 +4,10 @@ use Rattle.std.specs.Global.{Global}
 use Rattle.std.proofs.lemmas.List.{length-map}
 use Rattle.rtl_net_groups.specs.Groups.{Grouping}
 use Rattle.rtl_net_groups.specs.Touching.{MarksRun}
-use Rattle.rtl_kernel.specs.values.TwoValues.{IsWritten}
+use Rattle.rtl_net_groups.specs.Written.{IsWritten}
 use Rattle.rtl_kernel.specs.wakes.Woken.{AddsPlaces, wakers_of}
 use Rattle.rtl_kernel.proofs.Grouped.{wakers_at}
-use Rattle.rtl_kernel.proofs.Replaced.{same_values}
+use Rattle.rtl_net_groups.proofs.Replaced.{same_values}
 use Rattle.rtl_levels.specs.declared.state.State.{State}
 use Rattle.rtl_levels.specs.States.{GetValues, StandTogether}
 use Rattle.rtl_levels.proofs.Marking.{marks_run, marks_same}

@@ -5,7 +5,7 @@ use Rattle.std.proofs.lemmas.List.{get_or_past, length-map}
 use Rattle.rtl_model.specs.simulation.Machine.{entry_or}
 use Rattle.rtl_model.proofs.basics.Lists.{get_or-map_within}
 use Rattle.rtl_kernel.specs.drivers.Updates.{IsTaken}
-use Rattle.rtl_kernel.specs.values.TwoValues.{IsWritten}
+use Rattle.rtl_net_groups.specs.Written.{IsWritten}
 use Rattle.rtl_kernel.specs.wakes.Woken.{AreDifferent}
 use Rattle.rtl_levels.specs.Running.{TakesOver, TakesPart, at_targets}
 

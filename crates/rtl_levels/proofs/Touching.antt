@@ -2,7 +2,7 @@
 use Rattle.std.proofs.Common.{◌≡◌, ℕ, ◌+◌, ◌<◌, ◌≤◌, List, length, get_or, set, refl, sym, ◌∙◌, arith, ◌⊎◌, inl, inr}
 use Rattle.std.proofs.lemmas.Bool.{cases_lt}
 use Rattle.std.proofs.lemmas.List.{get_or-set_other}
-use Rattle.rtl_kernel.specs.values.TwoValues.{IsWritten}
+use Rattle.rtl_net_groups.specs.Written.{IsWritten}
 use Rattle.rtl_net_groups.specs.Touching.{Chunks, IsLeft, MarksRun, Touches}
 
 -- values that stay

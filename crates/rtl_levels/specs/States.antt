@@ -2,7 +2,7 @@
 use Rattle.std.specs.Prelude.{◌≡◌, ℕ, ◌+◌, ◌<◌, ◌≤◌, false, List, length, slice_index, slice_index_or, Option, Contains}
 use Rattle.rtl_model.specs.simulation.Netlist.{Netlist}
 use Rattle.rtl_kernel.specs.drivers.Updates.{IsTaken}
-use Rattle.rtl_kernel.specs.values.TwoValues.{IsWritten as HasRun}
+use Rattle.rtl_net_groups.specs.Written.{IsWritten as HasRun}
 use Rattle.rtl_kernel.specs.wakes.Woken.{wakers_of}
 use Rattle.rtl_net_groups.specs.Groups.{Grouping}
 use Rattle.rtl_net_groups.specs.Touching.{Touches}

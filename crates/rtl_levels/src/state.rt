@@ -4,8 +4,7 @@ ghost use Rattle.std.specs.Prelude.{◌≡◌, ℕ, ◌<◌, true, false, length
 ghost use Rattle.rtl_levels.specs.States.{Advances, GetValues, IsFollowed, StandTogether};
 
 use crate::marks::{followers_of, mark, mark_followers};
-use rtl_kernel::replace;
-use rtl_net_groups::{Groups, Touched};
+use rtl_net_groups::{Groups, Touched, replace};
 use std::alloc::{AllocError, Global};
 
 /// The values of all nets, as codes, with marks of the combinational processes that are to run, by

@@ -2,17 +2,16 @@
 use Rattle.std.proofs.Common.{◌≡◌, ℕ, zero, suc, ◌+◌, ◌-◌, ◌<◌, ◌≤◌, Bool, true, false, ◌==◌, cond, List, [], ◌∷◌, ◌++◌, length, map, slice_index_or, slice_get, Option, Some, None, refl, sym, ap, ◌∙◌, arith, codes, subst}
 use Rattle.std.specs.Prelude.{option_map}
 use Rattle.std.proofs.lemmas.List.{append_assoc, get_or-map, length-map}
-use Rattle.std.proofs.lemmas.Option.{slice_get-map, slice_get-get_or, get_or_from_slice_get}
+use Rattle.std.proofs.lemmas.Option.{get_or_from_slice_get}
 use Rattle.rtl_net.specs.declared.signal.Scope.{Scope}
 use Rattle.rtl_net.specs.Nets.{ScopeView, SignalView, scope_view, label_at, parent_of}
 use Rattle.rtl_net.specs.Names.{Element, place_in, element_or, element_from, behind_parent, path_within, path}
-use Rattle.rtl_net.specs.declared.signal.Signal.{Signal}
 use Rattle.rtl_net.specs.declared.net.Owner.{Owner}
 use Rattle.rtl_net.specs.declared.net.Net.TheInside.{Inside}
 use Rattle.rtl_net.specs.Nets.{type_of}
 use Rattle.rtl_net.specs.NetOf.{net_of, owner_view, IsKept}
 use Rattle.rtl_net.proofs.Tables.{tabled-at}
-use Rattle.rtl_net.specs.Nets.{NetlistView, signal_view}
+use Rattle.rtl_net.specs.Nets.{NetlistView}
 use Rattle.rtl_net.specs.Names.{element_of}
 use Rattle.rtl_net.specs.Elaborated.{AreScopes, IsNet, SignalInRange, width_of}
 
@@ -127,7 +126,6 @@ pub record IsOwner (net : NetlistView) (e : Element) : Type 0 where
   pub signal : SignalView
   pub is : slice_get net.signals e.signal ≡ Some signal
   pub within : e.place < width_of signal.kind
-  pub scope : signal.scope < length net.scopes
 
 pub owner-sound : (net : NetlistView) → IsNet net → (n : ℕ) (e : Element) → element_of net n ≡ Some e → IsOwner net e
 owner-sound net is_net n e h =
@@ -143,13 +141,7 @@ owner-sound net is_net n e h =
       signal = found.signal;
       is = is;
       within = omega (arith, place-below found.signal.nets n e.place found.place, shown.as_declared);
-      scope = shown.scope;
     }
-
--- a signal of the code at its place
-pub signal-at : (xs : List Signal) (k : ℕ) (x : Signal) (s : SignalView) → k < length xs → x ≡ slice_index_or xs k x → slice_get (map signal_view xs) k ≡ Some s → signal_view x ≡ s
-signal-at xs k x s l e h =
-    ap signal_view e ∙ some-same _ _ (sym (ap (option_map signal_view) (slice_get-get_or xs k x l)) ∙ sym (slice_get-map signal_view xs k) ∙ h)
 
 -- ---- the tables of a netlist
 
@@ -160,22 +152,3 @@ kept-element i kept n o l e =
 
 pub kept-owner : (i : Inside) → IsKept i → (n : ℕ) (o : Owner) → n < length (net_of i).types → o ≡ slice_index_or i.owners.items n o → IsOwner (net_of i) (owner_view o)
 kept-owner i kept n o l e = owner-sound (net_of i) kept.net n (owner_view o) (kept-element i kept n o l e)
-
--- of the signal of an owner
-pub record OwnedSignal (i : Inside) (o : Owner) (s : Signal) : Type 0 where
-  pub scope : s.scope < length i.scopes.items
-  pub within : o.place < width_of s.kind
-  pub is : slice_get (map signal_view i.signals.items) o.signal ≡ Some (signal_view s)
-
-pub kept-signal : (i : Inside) → IsKept i → (n : ℕ) (o : Owner) (s : Signal) → n < length (net_of i).types → o ≡ slice_index_or i.owners.items n o → s ≡ slice_index_or i.signals.items o.signal s → OwnedSignal i o s
-kept-signal i kept n o s l e h =
-    let owner = kept-owner i kept n o l e in
-    let l' : o.signal < length i.signals.items = omega (arith, owner.there, length-map i.signals.items signal_view) in
-    let same = signal-at i.signals.items o.signal s owner.signal l' h owner.is in
-    let scope : s.scope ≡ owner.signal.scope = ap (λ (x : SignalView). x.scope) same in
-    let kind : s.kind ≡ owner.signal.kind = ap (λ (x : SignalView). x.kind) same in
-    record {
-      scope = omega (arith, scope, owner.scope, length-map i.scopes.items scope_view);
-      within = subst (λ k. o.place < width_of k) (sym kind) owner.within;
-      is = owner.is ∙ ap (λ (x : SignalView). Some x) (sym same);
-    }

@@ -1,13 +1,13 @@
 //! Names of nets and processes, as messages and traces print them.
 
-ghost use Rattle.std.specs.Prelude.{◌≡◌, ◌<◌, ◌≤◌, ◌-◌, max, min, ◌++◌, length, map, option_map, decimal, IfOk, OnOk};
-ghost use Rattle.rtl_net.specs.Nets.{scope_view, signal_view};
+ghost use Rattle.std.specs.Prelude.{◌≡◌, ◌<◌, ◌≤◌, ◌-◌, max, min, ◌++◌, length, map, option_map, slice_get, decimal, IfOk, IfSome, OnOk};
+ghost use Rattle.rtl_net.specs.Nets.{scope_view};
 ghost use Rattle.rtl_net.specs.Elaborated.{AreScopes, width_of};
 ghost use Rattle.rtl_net.specs.Names as spec;
 
 use crate::net::{Net, NoMemory};
 use crate::process::Process;
-use crate::signal::{Scope, Signal, SignalKind};
+use crate::signal::{Scope, SignalKind};
 use itoa::Buffer;
 
 impl Net {
@@ -18,9 +18,22 @@ impl Net {
         ensures { IfOk result (λ name. name.items ≡ spec.net_name self.now net) }
     {
         let owner = self.owners[net];
+        self.element_name(owner.signal, owner.place)
+    }
+
+    /// The name of a signal's element, by its place from the left: `path.name`, or `path.name(i)` where the signal is a
+    /// vector. It takes the memory of the name.
+    pub fn element_name(&self, signal: usize, place: usize) -> Result<Vec<u8>, NoMemory>
+        requires there { signal < length self.now.signals }
+        requires within { IfSome (slice_get self.now.signals signal) (λ s. place < width_of s.kind) }
+        ensures { IfOk result (λ name. name.items ≡ spec.signal_name self.now.scopes place (slice_get self.now.signals signal)) }
+    {
+        let signal = &self.signals[signal];
         let mut name = Vec::new(*self.owners.allocator());
-        let signal = &self.signals[owner.signal];
-        push_element(&self.scopes, signal, owner.place, &mut name)?;
+        push_path(&self.scopes, signal.scope, &mut name)?;
+        name.push(b'.')?;
+        name.extend_from_slice(&signal.name)?;
+        signal.kind.push_index(place, &mut name)?;
         Ok(name)
     }
 
@@ -34,25 +47,6 @@ impl Net {
         push_process(&self.scopes, &self.processes[process], process, &mut name)?;
         Ok(name)
     }
-}
-
-/// Appends the name of a signal's element, with its scope's path.
-fn push_element(
-    scopes: &[Scope],
-    signal: &Signal,
-    place: usize,
-    name: &mut Vec<u8>,
-) -> Result<(), NoMemory>
-    requires scopes { AreScopes (map scope_view scopes.now) }
-    requires there { signal.now.scope < length scopes.now }
-    requires within { place < width_of signal.now.kind }
-    ensures { OnOk result (name.new.items ≡ name.old.items ++ spec.name_of_element (map scope_view scopes.now) (signal_view signal.now) place) }
-{
-    push_path(scopes, signal.scope, name)?;
-    name.push(b'.')?;
-    name.extend_from_slice(&signal.name)?;
-    push_index(signal.kind, place, name)?;
-    Ok(())
 }
 
 /// Appends the name of a process, with its scope's path.
@@ -88,17 +82,19 @@ fn push_path(scopes: &[Scope], scope: usize, name: &mut Vec<u8>) -> Result<(), N
     Ok(())
 }
 
-/// Appends `(i)` behind the name of a vector, where i is the index of the element at this place.
-fn push_index(kind: SignalKind, place: usize, name: &mut Vec<u8>) -> Result<(), NoMemory>
-    requires { place < width_of kind }
-    ensures { OnOk result (name.new.items ≡ name.old.items ++ spec.index_suffix kind place) }
-{
-    if let SignalKind::Vector { left, right } = kind {
-        name.push(b'(')?;
-        push_number(index_at(left, right, place), name)?;
-        name.push(b')')?;
+impl SignalKind {
+    /// Appends `(i)` behind the name of a vector, where i is the index of the element at this place.
+    pub fn push_index(self, place: usize, name: &mut Vec<u8>) -> Result<(), NoMemory>
+        requires { place < width_of self }
+        ensures { OnOk result (name.new.items ≡ name.old.items ++ spec.index_suffix self place) }
+    {
+        if let SignalKind::Vector { left, right } = self {
+            name.push(b'(')?;
+            push_number(index_at(left, right, place), name)?;
+            name.push(b')')?;
+        }
+        Ok(())
     }
-    Ok(())
 }
 
 /// The index of a vector's element at this place from the left.

@@ -7,3 +7,7 @@ pub mod Cutting
 pub mod Ends
 pub mod Bringing
 pub mod MarkedLists
+pub mod Lanes
+pub mod Writing
+pub mod BothEnds
+pub mod Replaced

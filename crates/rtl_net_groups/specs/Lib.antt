@@ -4,4 +4,5 @@ pub mod Cuts
 pub mod Kept
 pub mod NextMarks
 pub mod Touching
+pub mod Written
 pub mod steps

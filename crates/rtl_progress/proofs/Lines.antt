@@ -3,14 +3,14 @@ use Rattle.std.proofs.Common.{◌≡◌, ℕ, zero, suc, ◌+◌, ◌-◌, ◌<�
 use Rattle.std.specs.Prelude.{unwrap_or, bytes_eq, codes, slice_index_or, ◌==◌, if◌then◌else◌}
 use Rattle.std.specs.List.{slice_split, onto_first, position_or_len}
 use Rattle.std.specs.Option.{option_or}
-use Rattle.std.proofs.lemmas.List.Splits.{slice_split_first, slice_split_none, slice_split-cons_yes, slice_split-cons_no, length-slice_split}
+use Rattle.std.proofs.lemmas.List.Splits.{slice_split-cons_yes, slice_split-cons_no}
 use Rattle.std.proofs.lemmas.List.{take_rest}
-use Rattle.std.proofs.lemmas.List.Elements.{All-from_get_or}
 use Rattle.std.proofs.lemmas.List.Quantifiers.{position-Some}
-use Rattle.std.proofs.lemmas.List.Sums.{prefix_len-le-length, position_or_len_is, fails_before_first}
+use Rattle.std.proofs.lemmas.List.Sums.{prefix_len-le-length, position_or_len_is}
 use Rattle.std.proofs.lemmas.Bool.Decides.{nat_tests}
-use Rattle.rtl_stim_lines.specs.Lines.{Word, ends_line, without_return, as_lines, lines_of, is_blank, is_word, words_of}
+use Rattle.rtl_stim_lines.specs.Lines.{Word, ends_line, without_return, lines_of, is_blank, is_word, words_of}
 use Rattle.rtl_stim_lines.specs.Forms.{Clock, form_of, at_form, clock_form, number_of}
+use Rattle.rtl_stim_lines.proofs.Parts.{lines_end, lines_more}
 use Rattle.rtl_progress.specs.Stops.{stop_said, stop_in, first_stop, stop_of}
 
 -- ---- parts of a text
@@ -22,30 +22,6 @@ found p xs n h =
 
 missing : (p : ℕ → Bool) (xs : List ℕ) → position p xs ≡ None → length xs ≤ position_or_len p xs
 missing p xs h = grind (arith, nat_tests)
-
-part_alone : (p : ℕ → Bool) (xs : List ℕ) → position p xs ≡ None → slice_split p xs ≡ xs ∷ []
-part_alone p xs h =
-    let all = missing p xs h in
-    slice_split_none p xs (All-from_get_or (λ (x : ℕ). p x ≡ false) xs 0 (λ i less. fails_before_first p xs i 0 (omega (arith, all, less))))
-
-part_first : (p : ℕ → Bool) (xs : List ℕ) (n : ℕ) → position p xs ≡ Some n → slice_split p xs ≡ take n xs ∷ slice_split p (drop (n + 1) xs)
-part_first p xs n h =
-    let (same, less) = found p xs n h in
-    slice_split_first p xs 0 (omega (arith, same, less)) ∙ ap (λ (k : ℕ). take k xs ∷ slice_split p (drop (k + 1) xs)) same
-
--- ---- lines
-
-ends_more : (part : List ℕ) (parts : List (List ℕ)) (n : ℕ) → length parts ≡ n + 1 → as_lines (part ∷ parts) ≡ without_return part ∷ as_lines parts
-ends_more part [] n e = absurd (omega (arith, e))
-ends_more part (next ∷ parts) n e = refl
-
-lines_end : (text : List ℕ) → position ends_line text ≡ None → lines_of text ≡ text ∷ []
-lines_end text h = ap as_lines (part_alone ends_line text h)
-
-lines_more : (text : List ℕ) (k : ℕ) → position ends_line text ≡ Some k → lines_of text ≡ without_return (take k text) ∷ lines_of (drop (k + 1) text)
-lines_more text k h =
-    ap as_lines (part_first ends_line text k h)
-    ∙ ends_more (take k text) (slice_split ends_line (drop (k + 1) text)) _ (length-slice_split ends_line (drop (k + 1) text))
 
 -- ---- when they say to stop
 

@@ -11,6 +11,7 @@ use Rattle.rtl_stim_lines.specs.declared.faults.StimProblem.{StimProblem}
 use Rattle.rtl_stim_lines.specs.declared.faults.StimFault.{StimFault}
 use Rattle.rtl_stim_lines.specs.Lines.{Word, ends_line, without_return, as_lines, lines_of, is_blank, is_word, words_of, says_nothing}
 use Rattle.rtl_stim_lines.specs.Forms.{form_of}
+use Rattle.rtl_stim_lines.proofs.Parts.{as_lines_more}
 use Rattle.rtl_stim_lines.specs.Inputs.{Input, input_at, input_named, values_for}
 use Rattle.rtl_stim_lines.specs.Courses.{Course}
 use Rattle.rtl_stim_lines.specs.Reading.{Said, nothing_said, after_set, course_at, with_course, set_values, set_input, after_form, after_line, in_line, one_more, after_lines, ended}
@@ -142,10 +143,6 @@ line_of None good = bad_line
 line_of (Some sides) good = set_line_of sides.0 sides.1 good
 
 -- ---- lines
-
-as_lines_more : (part : List ℕ) (parts : List (List ℕ)) → 0 < length parts → as_lines (part ∷ parts) ≡ without_return part ∷ as_lines parts
-as_lines_more part [] some = absurd (omega (arith, some))
-as_lines_more part (next ∷ parts) some = refl
 
 keeps_return : (body : List ℕ) → 0 < length body → All (λ b. is_plain b ≡ true) body → without_return body ≡ body
 keeps_return body some plain =

@@ -1,9 +1,9 @@
 -- One text after another.
-use Rattle.std.proofs.Common.{◌≡◌, ℕ, ◌+◌, ◌≤◌, List, ◌++◌, Option, ◌⊎◌, inl, inr, Bool, true, false, refl, length, take, drop, sym, ap, ◌∙◌, ◌-◌, ◌<◌, min, arith, length-drop, append-nil, append_assoc, get_or, []}
+use Rattle.std.proofs.Common.{◌≡◌, ℕ, ◌+◌, ◌≤◌, List, ◌++◌, Option, ◌⊎◌, inl, inr, Bool, true, false, refl, length, take, take-add, drop, sym, ◌-◌, ◌<◌, min, arith, append-nil, append_assoc, get_or, []}
 use Rattle.std.proofs.KnownBytes.{Appends-nil, Appends-trans, Appends-kept, Keeps-refl, Keeps-trans}
 use Rattle.std.specs.Io.KnownBytes.{Appends}
-use Rattle.std.proofs.Math.Seq.{take-append-add, take-length}
-use Rattle.std.proofs.lemmas.List.{take-append-le, length-take-le, take-append-drop, take_min, take_more}
+use Rattle.std.proofs.Math.Seq.{take-append-add}
+use Rattle.std.proofs.lemmas.List.{take-append-le, take_min, take_more, take_rest}
 use Rattle.std.specs.Prelude.{◌==◌, flat_map}
 use Rattle.std.proofs.lemmas.Grind.{flat_map-append}
 use Rattle.std.proofs.lemmas.Bool.Decides.{nat_tests}
@@ -48,19 +48,11 @@ Goes-append a b c x y p q = record {
       (second.0, Keeps-trans a.taken b.taken c.taken first.1 second.1);
 }
 
-take-add : (xs : List ℕ) (i n : ℕ) → i ≤ length xs → take i xs ++ take n (drop i xs) ≡ take (i + n) xs
-take-add xs i n le =
-    sym (take-append-add (take i xs) (drop i xs) n) ∙ ap (λ k. take (k + n) (take i xs ++ drop i xs)) (length-take-le i xs le)
-    ∙ ap (take (i + n)) (take-append-drop i xs)
-
-take-rest : (xs : List ℕ) (i : ℕ) → take (length xs - i) (drop i xs) ≡ drop i xs
-take-rest xs i = rw (← length-drop i xs) (take-length (drop i xs))
-
 -- one more piece of a text
-pub Appends-more : (a b c : Option (List ℕ)) (text : List ℕ) (done n : ℕ) → done ≤ length text → Appends a b (take done text) →
+pub Appends-more : (a b c : Option (List ℕ)) (text : List ℕ) (done n : ℕ) → Appends a b (take done text) →
     Appends b c (take n (take (length text - done) (drop done text))) → Appends a c (take (done + n) text)
-Appends-more a b c text done n le p q =
-    rw (← take-add text done n le, ← take-rest text done) (Appends-trans a b c (take done text) (take n (take (length text - done) (drop done text))) p q)
+Appends-more a b c text done n p q =
+    rw (take-add done n text, ← take_rest text done) (Appends-trans a b c (take done text) (take n (take (length text - done) (drop done text))) p q)
 
 -- to take some is no failure
 pub fails_at-some : (n : ℕ) (bytes : List ℕ) → (n ≡ 0 → ⊥) → fails_at n bytes ≡ false

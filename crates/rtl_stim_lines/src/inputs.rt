@@ -36,7 +36,7 @@ pub fn add_input(
     requires { All (λ other. other.name ≢ small name.now) (inputs_view inputs.old) }
     ensures { OnOk result (inputs_view inputs.new ≡ inputs_view inputs.old ++ named_input (small name.now) input ∷ []) }
 {
-    let name = small_letters(alloc, name)?;
+    let name = name.to_ascii_lowercase(alloc)?;
     inputs.insert(name, input)?;
     Ok(())
 }
@@ -51,16 +51,9 @@ pub fn input_named<'i>(
     ensures within { IfOk result (λ found. IfSome found (λ p. p.0 < length (inputs_view inputs.now))) }
     ensures input { IfOk result (λ found. IfSome found (λ p. IsElementsOf p.1.now (input_at (inputs_view inputs.now) p.0))) }
 {
-    let name = small_letters(alloc, name)?;
+    let name = name.to_ascii_lowercase(alloc)?;
     match inputs.get_full(name.as_slice()) {
         None => Ok(None),
         Some((place, _, input)) => Ok(Some((place, input))),
     }
-}
-
-/// A name in small letters.
-fn small_letters(alloc: Global, name: &[u8]) -> Result<Vec<u8>, AllocError>
-    ensures { IfOk result (λ v. v.items ≡ small name.now) }
-{
-    name.iter().map(|b| b.to_ascii_lowercase()).collect(alloc)
 }

@@ -1,6 +1,6 @@
 //! The names that the lines of a stimulus have.
 
-ghost use Rattle.std.specs.Prelude.{◌≡◌, ◌||◌, List, map, option_map, bytes_eq, IfOk, OnOk};
+ghost use Rattle.std.specs.Prelude.{◌≡◌, ◌||◌, map, option_map, bytes_eq, IfOk, OnOk};
 ghost use Rattle.std.specs.List.{list_any};
 ghost use Rattle.rtl_stim_lines.specs.Forms as forms;
 ghost use Rattle.rtl_stim_lines.specs.Inputs as inputs;
@@ -17,13 +17,6 @@ use std::alloc::Global;
 
 /// Names in small letters, each once.
 pub(crate) type Names = IndexSet<Vec<u8>>;
-
-/// A name in small letters.
-pub(crate) fn small(alloc: Global, name: &[u8]) -> Result<Vec<u8>, NoMemory>
-    ensures { IfOk result (λ letters. letters.items ≡ inputs.small name.now) }
-{
-    name.iter().map(|b| b.to_ascii_lowercase()).collect(alloc)
-}
 
 /// The name in a line of these words, if it has one.
 fn name_in<'a>(words: &[&'a [u8]]) -> Option<&'a [u8]>
@@ -44,7 +37,7 @@ fn add_name(alloc: Global, name: &[u8], names: &mut Names) -> Result<(), NoMemor
     ensures { OnOk result ((letters : Word) → has_name letters names.new
         ≡ (has_name letters names.old || bytes_eq letters (inputs.small name.now))) }
 {
-    names.insert(small(alloc, name)?)?;
+    names.insert(name.to_ascii_lowercase(alloc)?)?;
     Ok(())
 }
 

@@ -9,7 +9,7 @@ ghost use Rattle.rtl_stim_lines.specs.Inputs as inputs;
 ghost use Rattle.rtl_stim_remarks.specs.Naming as spec;
 ghost use Rattle.rtl_stim_remarks.specs.Kept.{has_name};
 
-use crate::names::{Names, names_of, small};
+use crate::names::{Names, names_of};
 use rtl_body_facts::sort_once;
 use rtl_net::{Net, NoMemory, Signal};
 use std::alloc::Global;
@@ -22,7 +22,7 @@ fn is_named(alloc: Global, names: &Names, signal: &Signal) -> Result<bool, NoMem
     if !signal.port || signal.scope != 0 {
         return Ok(false);
     }
-    let name = small(alloc, &signal.name)?;
+    let name = signal.name.to_ascii_lowercase(alloc)?;
     Ok(names.contains(name.as_slice()))
 }
 

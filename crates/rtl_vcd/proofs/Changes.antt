@@ -16,7 +16,7 @@ use Rattle.rtl_vcd.proofs.Pages.{Passes-nil}
 use Rattle.std.proofs.lemmas.List.{length-append}
 use Rattle.std.proofs.lemmas.List.Elements.{All-get_or}
 use Rattle.rtl_vcd.proofs.Names.{numbered_next}
-use Rattle.rtl_vcd.proofs.Runs.{are_same}
+use Rattle.rtl_net_groups.proofs.Lanes.{are_same}
 use Rattle.rtl_vcd.proofs.Stamps.{change_is, printed_is_some}
 use Rattle.rtl_vcd.proofs.Ends.{run_tells, run_prints, within, no_name, ready_at}
 

@@ -3,7 +3,7 @@ use Rattle.std.proofs.Common.{◌≡◌, ℕ, ◌+◌, ◌-◌, ◌<◌, ◌≤�
 use Rattle.std.specs.Prelude.{codes}
 use Rattle.std.specs.Str.{bytes_eq}
 use Rattle.std.specs.List.{range_with_len}
-use Rattle.std.proofs.lemmas.List.{length-map, length-take, get_or-take, get_or-drop}
+use Rattle.std.proofs.lemmas.List.{length-map, length-take, get_or-take, get_or-drop, take_rest}
 use Rattle.std.proofs.lemmas.Simd.{pick_l-range_with_len}
 use Rattle.rtl_net.specs.declared.signal.SignalKind.{SignalKind}
 use Rattle.rtl_net.specs.declared.signal.SignalKind.TheVariants.{One, Vector, Enumeration}
@@ -14,7 +14,7 @@ use Rattle.rtl_vcd.specs.declared.ready.Run.{Run}
 use Rattle.rtl_vcd.specs.Values.{code, character, binary, binary_digits, value_change}
 use Rattle.rtl_vcd.specs.Trace.{printed}
 use Rattle.rtl_vcd.specs.Ready.{form_of, beginning, behind, elements_as, elements, line}
-use Rattle.rtl_vcd.proofs.Runs.{behind_page, rest_is}
+use Rattle.rtl_vcd.proofs.Runs.{behind_page}
 use Rattle.rtl_vcd.proofs.Binaries.{length-binary}
 
 -- nothing prints more characters than a vector
@@ -92,7 +92,7 @@ pub alike_rest : (r : Run) (old new : List ℕ) (n : ℕ) → r.count ≡ n → 
     → take n (take (length old - r.first) (drop r.first old)) ≡ take n (take (length new - r.first) (drop r.first new))
     → elements r old ≡ elements r new
 alike_rest r old new n count some e =
-    let same = ap (take n) (sym (rest_is r.first old)) ∙ e ∙ ap (take n) (rest_is r.first new) in
+    let same = ap (take n) (sym (take_rest old r.first)) ∙ e ∙ ap (take n) (take_rest new r.first) in
     alike r old new (omega (arith, count, some)) (subst (λ m. take m (drop r.first old) ≡ take m (drop r.first new)) (sym count) same)
 
 pub alike_slice : (r : Run) (old new : List ℕ) → 0 < r.count

@@ -1,6 +1,6 @@
 -- The texts of names one after another, and what every name of a netlist is shown to be.
-use Rattle.std.proofs.Common.{◌≡◌, ℕ, suc, ◌+◌, ◌-◌, ◌<◌, ◌≤◌, List, [], ◌∷◌, ◌++◌, length, map, take, drop, get_or, sym, ap, subst, ◌∙◌, arith, append_assoc, append-nil, All}
-use Rattle.std.proofs.lemmas.List.{take_more, take_all, length-map, length-take-le, get_or-map, take-take, drop-take, take-append-drop, length-drop, get_or-drop, take-map, drop-map}
+use Rattle.std.proofs.Common.{◌≡◌, ℕ, suc, ◌+◌, ◌-◌, ◌<◌, ◌≤◌, List, [], ◌∷◌, ◌++◌, length, map, take, take-add, drop, get_or, sym, ap, subst, ◌∙◌, arith, append_assoc, append-nil, All}
+use Rattle.std.proofs.lemmas.List.{take_more, take_rest, length-map, length-take-le, get_or-map, length-drop, get_or-drop, take-map, drop-map}
 use Rattle.std.proofs.lemmas.List.Elements.{All-get_or, All-weaker, All-take, All-drop}
 use Rattle.std.proofs.lemmas.Option.{slice_get_within}
 use Rattle.rtl_net.specs.declared.signal.Signal.{Signal}
@@ -37,29 +37,20 @@ numbered_more f signals i s lt is =
     ∙ ap (λ x. numbered f 0 (map signal_view (take i signals)) ++ f (0 + i) x) name
     ∙ ap (λ n. numbered f 0 (map signal_view (take i signals)) ++ f n (signal_view s)) e
 
-pub take_further : {X : Type 0} (n m : ℕ) (xs : List X) → take (n + m) xs ≡ take n xs ++ take m (drop n xs)
-take_further n m xs =
-    let shorter : take n (take (n + m) xs) ≡ take n xs = take-take n (n + m) xs (omega arith) in
-    sym (take-append-drop n (take (n + m) xs)) ∙ ap (λ t. t ++ drop n (take (n + m) xs)) shorter ∙ ap (λ t. take n xs ++ t) (drop-take n m xs)
-
 -- the first names, and some behind them
 pub numbered_further : (f : ℕ → SignalView → List ℕ) (k n m : ℕ) (names : List SignalView) → n ≤ length names
     → numbered f k (take (n + m) names) ≡ numbered f k (take n names) ++ numbered f (k + n) (take m (drop n names))
 numbered_further f k n m names le =
     let count : k + length (take n names) ≡ k + n = omega (arith, length-take-le n names le) in
-    ap (numbered f k) (take_further n m names)
+    ap (numbered f k) (take-add n m names)
     ∙ numbered-append f k (take n names) (take m (drop n names))
     ∙ ap (λ i. numbered f k (take n names) ++ numbered f i (take m (drop n names))) count
 
--- what is left behind so many
-pub rest_of : {X : Type 0} (n : ℕ) (xs : List X) → take (length xs - n) (drop n xs) ≡ drop n xs
-rest_of n xs = take_all (length xs - n) (drop n xs) (omega (arith, length-drop n xs))
-
 pub length-rest : {X : Type 0} (n : ℕ) (xs : List X) → length (take (length xs - n) (drop n xs)) ≡ length xs - n
-length-rest n xs = ap length (rest_of n xs) ∙ length-drop n xs
+length-rest n xs = ap length (take_rest xs n) ∙ length-drop n xs
 
 pub rest_of_names : (signals : List Signal) (n : ℕ) → map signal_view (take (length signals - n) (drop n signals)) ≡ drop n (map signal_view signals)
-rest_of_names signals n = ap (map signal_view) (rest_of n signals) ∙ sym (drop-map signal_view n signals)
+rest_of_names signals n = ap (map signal_view) (take_rest signals n) ∙ sym (drop-map signal_view n signals)
 
 -- each of these names is shown
 pub shown_at : (nets : ℕ) (signals : List Signal) (i : ℕ) (s : Signal) → i < length signals → s ≡ get_or signals i s

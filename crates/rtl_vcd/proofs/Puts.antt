@@ -3,13 +3,13 @@ use Rattle.std.proofs.Common.{◌≡◌, ℕ, ◌+◌, ◌-◌, ◌<◌, ◌≤�
 use Rattle.std.specs.Prelude.{◌==◌}
 use Rattle.std.specs.Str.{bytes_eq}
 use Rattle.std.proofs.lemmas.Bool.{cases_Bool, eqb-true, eqb-false}
-use Rattle.std.proofs.lemmas.List.{append_cancel_left, length-append, length-map, length-take-le, map-append, take-append-drop, take_at, take_all, take_more, take_more_set, length-set}
+use Rattle.std.proofs.lemmas.List.{append_cancel_left, length-append, length-map, length-take-le, map-append, take-append-drop, take_at, take_all, take_more, take_more_set, take_rest, length-set}
 use Rattle.std.proofs.lemmas.Simd.{take_more_put_chunk}
 use lib.Lanes.{put_chunk}
 use Rattle.rtl_vcd.specs.Values.{character}
 use Rattle.rtl_vcd.specs.Puts.{IsPut}
 use Rattle.rtl_vcd.proofs.Printing.{same_test}
-use Rattle.rtl_vcd.proofs.Runs.{are_same, are_others, same_from, others_from, rest_is}
+use Rattle.rtl_net_groups.proofs.Lanes.{are_same, are_others, same_from, others_from}
 
 -- two texts of two parts, the first of which are as long
 pub other_both : (a b c d : List ℕ) (p q : Bool) → length a ≡ length b → p ≡ not (bytes_eq a b) → q ≡ not (bytes_eq c d) → (p || q) ≡ not (bytes_eq (a ++ c) (b ++ d))
@@ -55,8 +55,8 @@ put_parts room mid put from n old new p q long le one more =
     let k : length (take n new) ≡ n = length-take-le n new le in
     let first : length (take n old) ≡ length (take n new) = omega (arith, k, length-take-le n old (omega (arith, long, le))) in
     let rest : IsPut mid put (from + n) (drop n old) (drop n new) q =
-    subst (λ xs. IsPut mid put (from + n) xs (drop n new) q) (rest_is n old)
-    (subst (λ ys. IsPut mid put (from + n) (take (length old - n) (drop n old)) ys q) (rest_is n new) more) in
+    subst (λ xs. IsPut mid put (from + n) xs (drop n new) q) (take_rest old n)
+    (subst (λ ys. IsPut mid put (from + n) (take (length old - n) (drop n old)) ys q) (take_rest new n) more) in
     let both = put_behind room mid put from (take n old) (drop n old) (take n new) (drop n new) p q first one
     (subst (λ m. IsPut mid put (from + m) (drop n old) (drop n new) q) (sym k) rest) in
     subst (λ xs. IsPut room put from xs new (p || q)) (take-append-drop n old)

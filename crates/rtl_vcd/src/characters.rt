@@ -1,11 +1,11 @@
 //! Values as characters, so many at a time.
 
-ghost use Rattle.std.specs.Prelude.{◌≡◌, ◌+◌, ◌≤◌, ◌++◌, not, true, length, map, take};
-ghost use Rattle.std.specs.Str.{bytes_eq};
+ghost use Rattle.std.specs.Prelude.{◌≡◌, ◌+◌, ◌≤◌, ◌++◌, true, length, map, take};
 ghost use lib.Lanes.{Each1};
 ghost use Rattle.rtl_vcd.specs.Values.{character};
 ghost use Rattle.rtl_vcd.specs.Puts.{plain, PrintsDigit, IsPut};
 
+use rtl_net_groups::are_different;
 use std::simd::prelude::*;
 
 /// Puts what so many new values from this place on print as behind the first bytes of the room. Answers whether the old ones
@@ -74,16 +74,6 @@ fn characters<const LANES: usize>(values: &[u8]) -> Simd<u8, LANES>
     let are_open = lanes.simd_eq(Simd::splat(4));
     let others = are_open.select(Simd::splat(b'z'), Simd::splat(b'x'));
     are_digits.select(digits, others)
-}
-
-/// Whether a lane of one is another than that of the other.
-fn are_different<const LANES: usize>(before: Simd<u8, LANES>, after: Simd<u8, LANES>) -> bool
-    requires most { LANES ≤ 64 }
-    requires before { length before ≡ LANES }
-    requires after { length after ≡ LANES }
-    ensures { result ≡ not (bytes_eq before.entry after.entry) }
-{
-    before.simd_ne(after).to_bitmask() != 0
 }
 
 /// Whether these values are the same in both.

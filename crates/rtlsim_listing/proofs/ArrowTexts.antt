@@ -1,6 +1,5 @@
 -- Names without an index, and the nets that a process is sensitive to.
-use Rattle.std.proofs.Common.{◌≡◌, ℕ, zero, suc, ◌<◌, false, List, [], ◌∷◌, ◌++◌, Some, All, length, length-drop, take, drop, get_or, refl, sym, ap, ◌∙◌, ◌-◌, arith}
-use Rattle.std.proofs.Math.Seq.{take-length}
+use Rattle.std.proofs.Common.{◌≡◌, ℕ, zero, suc, ◌<◌, false, List, [], ◌∷◌, ◌++◌, Some, All, length, take, drop, get_or, refl, sym, ap, ◌∙◌, arith}
 use Rattle.std.specs.Prelude.{if◌then◌else◌, bytes_eq, slice_get, slice_index}
 use Rattle.std.proofs.lemmas.Option.{slice_get_within, slice_get-get_or, get_or_from_slice_get}
 use Rattle.rtl_check.proofs.Rows.{nets_of_wakes}
@@ -19,8 +18,6 @@ wakes_there net is p x at k d lt =
     nets_of_wakes net is p x (slice_get_within net.processes p x at) (sym (get_or_from_slice_get net.processes p x x at)) k d lt
 
 -- all from a place on
-pub rest_from : (xs : List ℕ) (at : ℕ) → take (length xs - at) (drop at xs) ≡ drop at xs
-rest_from xs at = rw (← length-drop at xs) (take-length (drop at xs))
 
 -- where no index begins, the byte is one of the name
 one_more : (name : List ℕ) (at : ℕ) → at < length name → is_index (drop at name) ≡ false

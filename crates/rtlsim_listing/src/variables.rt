@@ -1,12 +1,10 @@
 //! Elements of variables.
 
-ghost use Rattle.std.specs.Prelude.{◌≡◌, ◌++◌, ◌<◌, ◌≤◌, ◌-◌, max, min, length, Some, IfOk, OnOk};
+ghost use Rattle.std.specs.Prelude.{◌≡◌, length, Some, IfOk};
 ghost use Rattle.rtl_net.specs.Elaborated.{width_of};
-ghost use Rattle.rtl_net.specs.Names as names;
 ghost use Rattle.rtlsim_listing.specs.CheckText.{element_name, variable_name};
 
-use crate::texts::push_decimal;
-use rtl_net::{Net, NoMemory, SignalKind, Variable};
+use rtl_net::{Net, NoMemory, Variable};
 use std::alloc::Global;
 
 /// The name of a variable's element, empty where there is no such variable.
@@ -36,33 +34,7 @@ fn element_name(alloc: Global, variable: &Variable, place: usize) -> Result<Vec<
 {
     let mut text = Vec::from_slice(alloc, &variable.name)?;
     if place < variable.starts.len() {
-        push_index(variable.kind, place, &mut text)?;
+        variable.kind.push_index(place, &mut text)?;
     }
     Ok(text)
-}
-
-/// Appends `(i)` behind the name of a vector, where i is the index of the element at this place.
-fn push_index(kind: SignalKind, place: usize, text: &mut Vec<u8>) -> Result<(), NoMemory>
-    requires { place < width_of kind }
-    ensures { OnOk result (text.new.items ≡ text.old.items ++ names.index_suffix kind place) }
-{
-    if let SignalKind::Vector { left, right } = kind {
-        text.extend_from_slice(b"(")?;
-        push_decimal(index_at(left, right, place), text)?;
-        text.extend_from_slice(b")")?;
-    }
-    Ok(())
-}
-
-/// The index of a vector's element at this place from the left.
-fn index_at(left: u32, right: u32, place: usize) -> usize
-    requires { place ≤ max left right - min left right }
-    ensures { result ≡ names.index_at left right place }
-{
-    let left = left as usize;
-    if left <= right as usize {
-        left + place
-    } else {
-        left - place
-    }
 }

@@ -1,7 +1,6 @@
 //! The expansion of a design, from the name of its top on (IEEE 1076-2008, 14.2).
 
-ghost use Rattle.std.specs.Prelude.{◌≡◌, ◌≢◌, ◌⊎◌, [], map, find, option_map, bytes_eq, Err, IfErr, IfOk};
-ghost use Rattle.std.specs.Char.{to_ascii_lowercase};
+ghost use Rattle.std.specs.Prelude.{◌≡◌, ◌≢◌, ◌⊎◌, [], map, find, option_map, bytes_eq, Err, IfErr};
 ghost use Rattle.vhdl_names_rules.specs.units.Units as u;
 ghost use Rattle.vhdl_names_rules.specs.units.Bytes.{units_bytes};
 ghost use Rattle.vhdl_names_units.specs.views.Units.{entity_view, units_view};
@@ -19,20 +18,13 @@ ghost use Rattle.vhdl_expand.specs.Views.{declared_view};
 use crate::declarative::interface;
 use crate::declared::InstanceObjects;
 use crate::walk::Walk;
-use std::alloc::{AllocError, Global};
+use std::alloc::Global;
 use vhdl_expand_rules::{ElabFault, ElabProblem, Integers};
 use vhdl_expand_tree::{Budget, Design};
 use vhdl_names_units::{Actuals, Entity, Units};
 
 /// How many instances may be nested, the top among them.
 const LEVELS: u32 = 32;
-
-/// A text in small letters.
-fn small_letters(alloc: Global, text: &[u8]) -> Result<Vec<u8>, AllocError>
-    ensures { IfOk result (λ v. v.items ≡ map to_ascii_lowercase text.now) }
-{
-    text.iter().map(|b| b.to_ascii_lowercase()).collect(alloc)
-}
 
 /// The first entity of this name.
 fn named<'a>(units: &'a [Entity], name: &[u8]) -> Option<&'a Entity>
@@ -73,7 +65,7 @@ pub fn expand(alloc: Global, units: &Units, top: &[u8]) -> Result<Design, ElabFa
     ensures given { Charges (units_bytes (units_view units.now)) design_view (within_limits (expanded_design (units_view units.now) top.now)) result }
     ensures begun { IfErr result (λ fault. fault ≢ NoMemory → (within_limits (expanded_design (units_view units.now) top.now) ≡ Err (fault_told fault)) ⊎ HasInterface (units_view units.now) top.now) }
 {
-    let name = small_letters(alloc, top)?;
+    let name = top.to_ascii_lowercase(alloc)?;
     let Some(unit) = named(&units.entities, &name) else {
         return Err(ElabProblem::NoTop.at(0));
     };

@@ -1,8 +1,7 @@
 -- What stands between quotation marks, and the values of literals in turn.
-use Rattle.std.proofs.Common.{◌≡◌, ◌≢◌, ℕ, suc, ◌+◌, ◌-◌, ◌≤◌, ◌<◌, Bool, true, false, cond, List, [], ◌∷◌, ◌++◌, length, length-drop, take, drop, get_or, Option, Some, None, Result, Ok, Err, IfErr, append-nil, refl, ap, ◌∙◌, arith}
-use Rattle.std.proofs.Math.Seq.{take-length}
+use Rattle.std.proofs.Common.{◌≡◌, ◌≢◌, ℕ, suc, ◌+◌, ◌-◌, ◌≤◌, ◌<◌, Bool, true, false, cond, List, [], ◌∷◌, ◌++◌, length, take, drop, get_or, Option, Some, None, Result, Ok, Err, IfErr, append-nil, refl, ap, ◌∙◌, arith}
 use Rattle.std.proofs.lemmas.Bool.Decides.{nat_tests}
-use Rattle.std.proofs.lemmas.List.{drop_all}
+use Rattle.std.proofs.lemmas.List.{drop_all, take_rest}
 use Rattle.std.specs.List.{position_or_len, after_first}
 use Rattle.std.specs.Prelude.{◌==◌, position, not, filter}
 use Rattle.vhdl_values.specs.declared.scalar.Nine.{Nine}
@@ -26,15 +25,12 @@ missed : (b : Bool) (n : ℕ) → cond b (Some n) None ≡ None → b ≡ false
 missed true n e = absurd (cc)
 missed false n e = refl
 
-pub rest_from : (xs : List ℕ) (i : ℕ) → take (length xs - i) (drop i xs) ≡ drop i xs
-rest_from xs i = rw (← length-drop i xs) (take-length (drop i xs))
-
 past_end : (xs : List ℕ) → position (λ b. b == quote) xs ≡ None → length xs ≤ position_or_len (λ b. b == quote) xs
 past_end xs e = let late = missed _ _ e in grind (arith, nat_tests, late)
 
 -- behind the first quotation mark
 pub behind_quote : (xs : List ℕ) (i : ℕ) → position (λ b. b == quote) xs ≡ Some i → take (length xs - (i + 1)) (drop (i + 1) xs) ≡ after_first (λ b. b == quote) xs
-behind_quote xs i e = rw (found _ _ i e) (rest_from xs (i + 1))
+behind_quote xs i e = rw (found _ _ i e) (take_rest xs (i + 1))
 
 pub no_quote : (xs : List ℕ) → position (λ b. b == quote) xs ≡ None → after_first (λ b. b == quote) xs ≡ []
 no_quote xs e = let late = past_end xs e in drop_all (position_or_len (λ b. b == quote) xs + 1) xs (omega (arith, late))

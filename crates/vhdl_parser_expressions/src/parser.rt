@@ -1,7 +1,6 @@
 //! A parser's place among the tokens.
 
-ghost use Rattle.std.specs.Prelude.{false, ◌≡◌, ◌∷◌, ◌≤◌, ◌+◌, ℕ, List, length, map, slice_index, IfOk};
-ghost use Rattle.std.specs.Char.{to_ascii_lowercase};
+ghost use Rattle.std.specs.Prelude.{false, ◌≡◌, ◌∷◌, ◌≤◌, ◌+◌, ℕ, List, length, slice_index, IfOk};
 ghost use Rattle.vhdl_lexer.specs.Cut.{AreWithin};
 ghost use Rattle.vhdl_lexer.specs.declared.token.TokenKind.TheVariants as k;
 ghost use Rattle.vhdl_tree.specs.Lexeme.{Lexeme, lexemes, same_kind};
@@ -10,7 +9,7 @@ ghost use Rattle.vhdl_parser_expressions.specs.reader.Input as read;
 ghost use Rattle.vhdl_parser_expressions.specs.reader.Input.{Reads, Takes};
 
 use crate::stop::Stop;
-use std::alloc::{AllocError, Global};
+use std::alloc::Global;
 use std::marker::Model;
 use vhdl_lexer::{Token, TokenKind};
 use vhdl_tree::{Identifier, Literal};
@@ -150,10 +149,8 @@ impl<'a> Parser<'a> {
         ensures { Reads ident_view (read.identifier self.old) result self.new }
     {
         let (token, rest) = next_token(self.tokens, TokenKind::Identifier)?;
-        let text = small_letters(
-            self.alloc,
-            &self.source[token.start as usize..token.end as usize],
-        )?;
+        let word = &self.source[token.start as usize..token.end as usize];
+        let text = word.to_ascii_lowercase(self.alloc)?;
         self.tokens = rest;
         Ok(Identifier {
             at: token.start as usize,
@@ -240,12 +237,6 @@ fn next_token(tokens: &[Token], kind: TokenKind) -> Result<(Token, &[Token]), St
             }
         }
     }
-}
-
-fn small_letters(alloc: Global, text: &[u8]) -> Result<Vec<u8>, AllocError>
-    ensures { IfOk result (λ v. v.items ≡ map to_ascii_lowercase text.now) }
-{
-    text.iter().map(|b| b.to_ascii_lowercase()).collect(alloc)
 }
 
 fn second(text: &[u8]) -> u8

@@ -1,6 +1,7 @@
 -- The values of all nets before the last update and now, and the groups that the nets stand in.
-use Rattle.std.specs.Prelude.{◌≡◌, ℕ, ◌+◌, ◌<◌, ◌≤◌, true, All, List, length, slice_index, Contains}
+use Rattle.std.specs.Prelude.{◌≡◌, ℕ, ◌<◌, true, All, List, length, slice_index, Contains}
 use Rattle.rtl_net_groups.specs.Groups.{Grouping}
+use Rattle.rtl_net_groups.specs.Written.{IsWritten}
 use Rattle.rtl_model.specs.basics.Valuations.{has_event}
 use Rattle.rtl_model.specs.simulation.Cycle.{with_changes}
 
@@ -20,26 +21,6 @@ HasEventIn v group = (n : ℕ) × (group_of v n ≡ group) × (n < length v.grou
 pub record CoverEvents (v : TwoValues) (groups : List ℕ) : Type 0 where
   pub there : All (λ g. g < length v.groups.listed) groups
   pub events : (n : ℕ) → has_event v.before v.current n ≡ true → Contains groups (group_of v n)
-
--- new has these values from the place `first` on, and else what old has
-pub record IsWritten (first : ℕ) (values old new : List ℕ) : Type 0 where
-  pub as_many : length new ≡ length old
-  pub written : (k : ℕ) → k < length values → slice_index new (first + k) ≡ slice_index values k
-  pub below : (q : ℕ) → q < first → slice_index new q ≡ slice_index old q
-  pub behind : (q : ℕ) → first + length values ≤ q → slice_index new q ≡ slice_index old q
-
--- from the place `first` on, old has another value than one of these
-pub record IsOther (first : ℕ) (values old : List ℕ) : Type 0 where
-  pub place : ℕ
-  pub there : place < length values
-  pub differ : slice_index old (first + place) ≡ slice_index values place → ⊥
-
--- as many values differ at this place or behind it
-pub record IsOtherFrom (from : ℕ) (values old : List ℕ) : Type 0 where
-  pub place : ℕ
-  pub behind : from ≤ place
-  pub there : place < length values
-  pub differ : slice_index old place ≡ slice_index values place → ⊥
 
 -- new has these values now from this net on
 pub record HasWritten (first : ℕ) (values : List ℕ) (old new : TwoValues) : Type 0 where

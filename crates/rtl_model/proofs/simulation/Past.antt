@@ -43,7 +43,7 @@ module _ (net : Netlist) (E : IsElaborated net) (A : Faultless net) (inputs othe
     on_combinational = s.on_combinational;
   }
 
-  first_other : (v : List ℕ) → IsFirst net inputs v → IsFirst net other v
+  pub first_other : (v : List ℕ) → IsFirst net inputs v → IsFirst net other v
   first_other v f = record {
     registers = f.registers;
     next = λ p place clock edge is h. f.next p place clock edge is h
@@ -51,7 +51,7 @@ module _ (net : Netlist) (E : IsElaborated net) (A : Faultless net) (inputs othe
     solves = solves_other f.registers v f.solves;
   }
 
-  step_other : (v w : List ℕ) → IsStep net v inputs w → IsStep net v other w
+  pub step_other : (v w : List ℕ) → IsStep net v inputs w → IsStep net v other w
   step_other v w f = record {
     registers = f.registers;
     next = λ p place clock edge is h. f.next p place clock edge is h ∙ same p place clock edge is;

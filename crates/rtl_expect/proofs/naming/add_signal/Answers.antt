@@ -8,4 +8,4 @@ use Rattle.rtl_expect.proofs.naming.add_signal.Goals as goal
 pub returns : goal.returns
 returns c = λ name.
     one_more_name c.args.table.now c.insert.new.self c.in_ok-key.key c.args.number (full_name (map scope_view c.args.scopes.now) (signal_view c.args.signal.now)) name
-    c.in_ok-insert.ensures.updates (c.in_ok-key.ensures ∙ ap small (c.deref.ensures.value ∙ c.in_ok-name.ensures))
+    c.in_ok-insert.ensures.updates (c.in_ok-key.ensures.ok ∙ ap small (c.deref.ensures.value ∙ c.in_ok-name.ensures))

@@ -6,5 +6,5 @@ use Rattle.rtl_stim_remarks.proofs.names.add_name.Goals as goal
 pub returns : goal.returns
 returns c =
     let before = c.args.names.now.keys in
-    let name = c.in_ok-small.field-0 in
-    λ w. ap (has w) c.in_ok-insert.ensures.keys ∙ has_inserted w name before ∙ ap (λ k. has w before || bytes_eq w k) c.in_ok-small.ensures
+    let name = c.in_ok-to_ascii_lowercase.field-0 in
+    λ w. ap (has w) c.in_ok-insert.ensures.keys ∙ has_inserted w name before ∙ ap (λ k. has w before || bytes_eq w k) c.in_ok-to_ascii_lowercase.ensures.ok

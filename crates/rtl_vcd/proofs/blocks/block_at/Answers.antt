@@ -1,8 +1,7 @@
-use Rattle.std.proofs.Common.{◌≡◌, ◌+◌, ◌++◌, length, take, drop, arith, refl, subst, sym, ap, ◌∙◌}
+use Rattle.std.proofs.Common.{◌≡◌, ◌+◌, ◌++◌, length, take, take-add, drop, arith, refl, subst, sym, ap, ◌∙◌}
 use Rattle.std.proofs.lemmas.List.{length-map, drop-drop}
 use Rattle.rtl_net.specs.Nets.{signal_view}
 use Rattle.rtl_vcd.specs.Blocks.{IsBlockOf}
-use Rattle.rtl_vcd.proofs.Names.{take_further}
 use Rattle.rtl_vcd.proofs.Hulls.{ends_within, same_bounds}
 use Rattle.rtl_vcd.proofs.blocks.block_at.Goals as goal
 
@@ -33,7 +32,7 @@ loop-next-preserved c =
     let I = c.loop-next.invariant in
     let within = ends_within types more next names I.1 c.close_at-more.ensures.block in
     let further : take before.names (drop first names) ++ take more.names (drop next names) ≡ take (before.names + more.names) (drop first names) =
-    sym (take_further before.names more.names (drop first names)
+    sym (take-add before.names more.names (drop first names)
     ∙ ap (λ ns. take before.names (drop first names) ++ take more.names ns) (drop-drop before.names first names ∙ ap (λ n. drop n names) I.0)) in (
       omega (arith, I.0, c.with-block.ensures.names),
       within,

@@ -3,7 +3,7 @@ use Rattle.std.specs.Prelude.{replicate}
 use Rattle.std.proofs.lemmas.Bool.{not-true}
 use Rattle.std.proofs.lemmas.Simd.{chunk-fits, zip2_splat, splat_is_map, length-zip2, length-replicate}
 use Rattle.rtl_vcd.proofs.Plain.{digits_from}
-use Rattle.rtl_vcd.proofs.Runs.{same_from}
+use Rattle.rtl_net_groups.proofs.Lanes.{same_from}
 use Rattle.rtl_vcd.proofs.characters.are_digits.Goals as goal
 
 pub returns : goal.returns

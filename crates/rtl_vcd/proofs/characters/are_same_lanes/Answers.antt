@@ -1,6 +1,6 @@
 use Rattle.std.proofs.Common.{sym, ◌∙◌}
 use Rattle.std.proofs.lemmas.Bool.{not-true}
-use Rattle.rtl_vcd.proofs.Runs.{same_from}
+use Rattle.rtl_net_groups.proofs.Lanes.{same_from}
 use Rattle.rtl_vcd.proofs.characters.are_same_lanes.Goals as goal
 
 pub returns : goal.returns

@@ -1,5 +1,5 @@
 use Rattle.std.proofs.Common.{◌≡◌, ◌+◌, ◌-◌, ◌||◌, All, length, map, take, drop, ◌∙◌, subst, sym, ap, arith}
-use Rattle.std.proofs.lemmas.List.{length-map}
+use Rattle.std.proofs.lemmas.List.{length-map, take_rest}
 use Rattle.std.proofs.lemmas.List.Elements.{All-drop}
 use Rattle.rtl_vcd.specs.Shown.{IsShown}
 use Rattle.rtl_vcd.specs.Pages.{Passes}
@@ -8,7 +8,7 @@ use Rattle.rtl_vcd.proofs.Pages.{Passes-append}
 use Rattle.rtl_net.specs.Nets.{signal_view}
 use Rattle.rtl_vcd.specs.Trace.{are_some}
 use Rattle.rtl_vcd.specs.Blocks.{changes_from, continued}
-use Rattle.rtl_vcd.proofs.Names.{rest_of, rest_of_names, length-rest}
+use Rattle.rtl_vcd.proofs.Names.{rest_of_names, length-rest}
 use Rattle.rtl_vcd.proofs.Ends.{rest_ready}
 use Rattle.rtl_vcd.proofs.Stamps.{changes_behind, continued_more, or_append}
 use Rattle.rtl_vcd.proofs.moment.push_changes.Goals as goal
@@ -29,7 +29,7 @@ push_part-part-requires-clause-ready g c =
     let names = c.args.names.now in
     let runs = c.args.runs.now in
     subst (λ ss. AreReady (c.args.first + next) ss (take (length runs - next) (drop next runs))) (sym (rest_of_names names next))
-    (subst (AreReady (c.args.first + next) (drop next (map signal_view names))) (sym (rest_of next runs)) (rest_ready c.args.first (map signal_view names) runs next c.requires.runs))
+    (subst (AreReady (c.args.first + next) (drop next (map signal_view names))) (sym (take_rest runs next)) (rest_ready c.args.first (map signal_view names) runs next c.requires.runs))
 
 pub loop-next-preserved : goal.loop-next-preserved
 loop-next-preserved g c =

@@ -1,5 +1,5 @@
 use Rattle.std.proofs.Common.{arith, ap, ◌∙◌, not}
-use Rattle.rtl_vcd.proofs.Runs.{are_others}
+use Rattle.rtl_net_groups.proofs.Lanes.{are_others}
 use Rattle.rtl_vcd.proofs.Binaries.{others_at_last, others_before_last}
 use Rattle.rtl_vcd.proofs.positions.+is_other_position.Goals as goal
 

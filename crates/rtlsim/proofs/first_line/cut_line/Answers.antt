@@ -1,7 +1,6 @@
-use Rattle.std.proofs.Common.{◌≡◌, ℕ, ◌+◌, ◌-◌, ◌≤◌, Bool, true, false, List, Some, None, cond, length, length-drop, take, drop, refl, sym, ◌∙◌, arith}
-use Rattle.std.proofs.Math.Seq.{take-length}
+use Rattle.std.proofs.Common.{◌≡◌, ℕ, ◌+◌, ◌≤◌, Bool, true, false, List, Some, None, cond, length, refl, sym, ◌∙◌, arith}
 use Rattle.std.proofs.lemmas.Bool.Decides.{nat_tests}
-use Rattle.std.proofs.lemmas.List.{take_all, drop_all}
+use Rattle.std.proofs.lemmas.List.{take_all, take_rest, drop_all}
 use Rattle.std.specs.List.{position_or_len}
 use Rattle.std.specs.Prelude.{position}
 use Rattle.rtl_stim_lines.specs.Lines.{ends_line}
@@ -15,9 +14,6 @@ missed : (b : Bool) (n : ℕ) → cond b (Some n) None ≡ None → b ≡ false
 missed true n e = absurd (cc)
 missed false n e = refl
 
-rest_from : (xs : List ℕ) (i : ℕ) → take (length xs - i) (drop i xs) ≡ drop i xs
-rest_from xs i = rw (← length-drop i xs) (take-length (drop i xs))
-
 at_end : (xs : List ℕ) (i : ℕ) → position ends_line xs ≡ Some i → position_or_len ends_line xs ≡ i
 at_end xs i e = found _ _ i e
 
@@ -28,7 +24,7 @@ pub returns-in-Some-clause-line : goal.returns-in-Some-clause-line
 returns-in-Some-clause-line c = rw (at_end _ _ (sym c.line_end.ensures.end ∙ c.in-Some.is)) refl
 
 pub returns-in-Some-clause-rest : goal.returns-in-Some-clause-rest
-returns-in-Some-clause-rest c = rw (at_end _ _ (sym c.line_end.ensures.end ∙ c.in-Some.is)) (rest_from c.args.all.now (c.in-Some.at + 1))
+returns-in-Some-clause-rest c = rw (at_end _ _ (sym c.line_end.ensures.end ∙ c.in-Some.is)) (take_rest c.args.all.now (c.in-Some.at + 1))
 
 pub returns-in-None-clause-line : goal.returns-in-None-clause-line
 returns-in-None-clause-line c = sym (take_all _ _ (past_end _ (sym c.line_end.ensures.end ∙ c.in-None.is)))

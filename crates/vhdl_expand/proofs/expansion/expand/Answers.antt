@@ -28,7 +28,7 @@ use Rattle.vhdl_expand.proofs.expansion.expand.Goals as goal
 pub returns-in_default-clause-given : goal.returns-in_default-clause-given
 returns-in_default-clause-given c =
     let us = units_view c.args.units.now in
-    let named = ap (λ n. find (λ (e : Entity). bytes_eq e.name n) us) (sym (c.deref-2.ensures.value ∙ c.in_ok-name.ensures))
+    let named = ap (λ n. find (λ (e : Entity). bytes_eq e.name n) us) (sym (c.deref-2.ensures.value ∙ c.in_ok-name.ensures.ok))
     ∙ ap (λ es. find (λ (e : Entity). bytes_eq e.name c.deref-2.result.now) (map entity_view es)) (sym c.deref.ensures.value) ∙ c.in_default.ensures in
     let none : c.named.result ≡ None = first_of (search rules, grind (arith, common_steps)) in
     λ _. told_at c.at.ensures (other_told NoTop 0 no_top_other (no_top us c.args.top.now named))
@@ -36,7 +36,7 @@ returns-in_default-clause-given c =
 pub returns-in_err-declared-clause-given : goal.returns-in_err-declared-clause-given
 returns-in_err-declared-clause-given c =
     let us = units_view c.args.units.now in
-    let named = ap (λ n. find (λ (e : Entity). bytes_eq e.name n) us) (sym (c.deref-2.ensures.value ∙ c.in_ok-name.ensures))
+    let named = ap (λ n. find (λ (e : Entity). bytes_eq e.name n) us) (sym (c.deref-2.ensures.value ∙ c.in_ok-name.ensures.ok))
     ∙ ap (λ es. find (λ (e : Entity). bytes_eq e.name c.deref-2.result.now) (map entity_view es)) (sym c.deref.ensures.value) ∙ c.in-Some.ensures in
     let e = entity_view c.in-Some.unit.now in
     let among = found_among (λ (x : Entity). bytes_eq x.name (map to_ascii_lowercase c.args.top.now)) us e named in
@@ -53,7 +53,7 @@ returns-in_err-top-clause-given c =
     let us = units_view c.args.units.now in
     let e = entity_view c.in-Some.unit.now in
     let d = declared_view c.in_ok-declared.declared in
-    let named = ap (λ n. find (λ (e : Entity). bytes_eq e.name n) us) (sym (c.deref-2.ensures.value ∙ c.in_ok-name.ensures))
+    let named = ap (λ n. find (λ (e : Entity). bytes_eq e.name n) us) (sym (c.deref-2.ensures.value ∙ c.in_ok-name.ensures.ok))
     ∙ ap (λ es. find (λ (e : Entity). bytes_eq e.name c.deref-2.result.now) (map entity_view es)) (sym c.deref.ensures.value) ∙ c.in-Some.ensures in
     let same = ap (λ b. charged b instance_costs (instance_of us 32 e.at e d)) (sym c.whole-left.ensures)
     ∙ ap (λ es. charged (budget_view c.whole-left.result) instance_costs (instance_of (map entity_view es) 32 e.at e d)) (sym c.deref-3.ensures.value) in
@@ -68,7 +68,7 @@ returns-clause-given c =
     let us = units_view c.args.units.now in
     let e = entity_view c.in-Some.unit.now in
     let d = declared_view c.in_ok-declared.declared in
-    let named = ap (λ n. find (λ (e : Entity). bytes_eq e.name n) us) (sym (c.deref-2.ensures.value ∙ c.in_ok-name.ensures))
+    let named = ap (λ n. find (λ (e : Entity). bytes_eq e.name n) us) (sym (c.deref-2.ensures.value ∙ c.in_ok-name.ensures.ok))
     ∙ ap (λ es. find (λ (e : Entity). bytes_eq e.name c.deref-2.result.now) (map entity_view es)) (sym c.deref.ensures.value) ∙ c.in-Some.ensures in
     let same = ap (λ b. charged b instance_costs (instance_of us 32 e.at e d)) (sym c.whole-left.ensures)
     ∙ ap (λ es. charged (budget_view c.whole-left.result) instance_costs (instance_of (map entity_view es) 32 e.at e d)) (sym c.deref-3.ensures.value) in
@@ -79,7 +79,7 @@ returns-clause-given c =
 pub returns-in_default-clause-begun : goal.returns-in_default-clause-begun
 returns-in_default-clause-begun c =
     let us = units_view c.args.units.now in
-    let named = ap (λ n. find (λ (e : Entity). bytes_eq e.name n) us) (sym (c.deref-2.ensures.value ∙ c.in_ok-name.ensures))
+    let named = ap (λ n. find (λ (e : Entity). bytes_eq e.name n) us) (sym (c.deref-2.ensures.value ∙ c.in_ok-name.ensures.ok))
     ∙ ap (λ es. find (λ (e : Entity). bytes_eq e.name c.deref-2.result.now) (map entity_view es)) (sym c.deref.ensures.value) ∙ c.in_default.ensures in
     let none : c.named.result ≡ None = first_of (search rules, grind (arith, common_steps)) in
     λ _. inl (same_at c.at.ensures (no_top us c.args.top.now named))
@@ -87,7 +87,7 @@ returns-in_default-clause-begun c =
 pub returns-in_err-declared-clause-begun : goal.returns-in_err-declared-clause-begun
 returns-in_err-declared-clause-begun c =
     let us = units_view c.args.units.now in
-    let named = ap (λ n. find (λ (e : Entity). bytes_eq e.name n) us) (sym (c.deref-2.ensures.value ∙ c.in_ok-name.ensures))
+    let named = ap (λ n. find (λ (e : Entity). bytes_eq e.name n) us) (sym (c.deref-2.ensures.value ∙ c.in_ok-name.ensures.ok))
     ∙ ap (λ es. find (λ (e : Entity). bytes_eq e.name c.deref-2.result.now) (map entity_view es)) (sym c.deref.ensures.value) ∙ c.in-Some.ensures in
     let stopped : c.in_err-declared.field-0.0 ≢ NoMemory → (within_limits (expanded_design us c.args.top.now) ≡ Err (fault_told c.in_err-declared.field-0.0)) ⊎ HasInterface us c.args.top.now =
     λ n. inl (no_top_interface us c.args.top.now (entity_view c.in-Some.unit.now) named (c.in_err-declared.ensures n)) in
@@ -96,7 +96,7 @@ returns-in_err-declared-clause-begun c =
 pub returns-in_err-top-clause-begun : goal.returns-in_err-top-clause-begun
 returns-in_err-top-clause-begun c =
     let us = units_view c.args.units.now in
-    let named = ap (λ n. find (λ (e : Entity). bytes_eq e.name n) us) (sym (c.deref-2.ensures.value ∙ c.in_ok-name.ensures))
+    let named = ap (λ n. find (λ (e : Entity). bytes_eq e.name n) us) (sym (c.deref-2.ensures.value ∙ c.in_ok-name.ensures.ok))
     ∙ ap (λ es. find (λ (e : Entity). bytes_eq e.name c.deref-2.result.now) (map entity_view es)) (sym c.deref.ensures.value) ∙ c.in-Some.ensures in
     let stopped : c.in_err-top.field-0.0 ≢ NoMemory → (within_limits (expanded_design us c.args.top.now) ≡ Err (fault_told c.in_err-top.field-0.0)) ⊎ HasInterface us c.args.top.now =
     λ n. inr (has_interface us c.args.top.now (entity_view c.in-Some.unit.now) (declared_view c.in_ok-declared.declared) named c.in_ok-declared.ensures) in

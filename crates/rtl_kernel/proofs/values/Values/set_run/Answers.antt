@@ -3,8 +3,8 @@ use Rattle.std.specs.Vec.{with_items}
 use Rattle.rtl_kernel.specs.values.Differing.{two_of}
 use Rattle.rtl_kernel.specs.values.TwoValues.{CoverEvents, HasEventIn}
 use Rattle.rtl_kernel.proofs.Events.{covers_written, sure_written}
-use Rattle.rtl_kernel.proofs.Replaced.{same_values}
-use Rattle.rtl_kernel.proofs.Runs.{written_items}
+use Rattle.rtl_net_groups.proofs.Replaced.{same_values}
+use Rattle.rtl_net_groups.proofs.Writing.{written_items}
 use Rattle.rtl_kernel.proofs.values.Values.set_run.Goals as goal
 
 pub insert-requires : goal.insert-requires

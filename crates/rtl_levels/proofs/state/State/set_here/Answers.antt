@@ -1,6 +1,6 @@
 use Rattle.std.proofs.Common.{◌+◌, ℕ, List, get_or, length, ap, sym, ◌∙◌, arith}
 use Rattle.rtl_kernel.specs.wakes.Woken.{wakers_of}
-use Rattle.rtl_kernel.proofs.Runs.{written_items}
+use Rattle.rtl_net_groups.proofs.Writing.{written_items}
 use Rattle.rtl_levels.proofs.Setting.{get_new, get_same}
 use Rattle.rtl_levels.proofs.Visiting.{followers_below}
 use Rattle.rtl_levels.proofs.state.State.set_here.Goals as goal

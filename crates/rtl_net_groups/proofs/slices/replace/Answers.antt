@@ -1,16 +1,17 @@
-use Rattle.std.proofs.Common.{◌+◌, ℕ, List, get_or, length, sym, ap, ◌∙◌, subst, arith}
+use Rattle.std.proofs.Common.{◌+◌, ◌-◌, ℕ, List, get_or, length, sym, ap, ◌∙◌, subst, arith}
 use Rattle.std.proofs.lemmas.List.Edits.{get_or-between}
-use Rattle.rtl_eval.proofs.Assigned.{part_copied}
-use Rattle.rtl_kernel.specs.values.TwoValues.{IsWritten}
-use Rattle.rtl_kernel.proofs.Runs.{is_written}
-use Rattle.rtl_kernel.proofs.slices.replace.Goals as goal
+use borrow.Rule.Slice.PartMut.{put_mid}
+use Rattle.rtl_net_groups.specs.Written.{IsWritten}
+use Rattle.rtl_net_groups.proofs.Writing.{is_written}
+use Rattle.rtl_net_groups.proofs.slices.replace.Goals as goal
 
 pub returns-clause-written : goal.returns-clause-written
 returns-clause-written c =
     let old = c.args.over.now in
     let first = c.args.first in
     let values = c.args.values.now in
-    subst (IsWritten first values old) (sym (part_copied first old c.replace_all.new.over values c.requires c.replace_all.ensures.written)) (is_written old first values c.requires)
+    let many = first + length values - first in
+    subst (λ new. IsWritten first values old (put_mid first many old new)) (sym c.replace_all.ensures.written) (is_written old first many values (omega arith) (omega (arith, c.requires)))
 
 pub returns-clause-alike : goal.returns-clause-alike
 returns-clause-alike c same k l =

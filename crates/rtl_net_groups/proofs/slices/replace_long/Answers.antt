@@ -1,5 +1,5 @@
-use Rattle.rtl_kernel.proofs.Replaced.{other_of_three}
-use Rattle.rtl_kernel.proofs.slices.replace_long.Goals as goal
+use Rattle.rtl_net_groups.proofs.Replaced.{other_of_three}
+use Rattle.rtl_net_groups.proofs.slices.replace_long.Goals as goal
 
 pub returns-clause-other : goal.returns-clause-other
 returns-clause-other c =

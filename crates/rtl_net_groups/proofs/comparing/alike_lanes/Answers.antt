@@ -1,6 +1,6 @@
-use Rattle.std.proofs.Common.{ℕ, List, ◌++◌, arith, sym, ap, ap₂, take, drop, ◌∙◌}
-use Rattle.rtl_kernel.proofs.Lanes.{same_from, others_from, take_further}
-use Rattle.rtl_kernel.proofs.comparing.alike_lanes.Goals as goal
+use Rattle.std.proofs.Common.{ℕ, List, ◌++◌, arith, sym, ap, ap₂, take, drop, take-add, ◌∙◌}
+use Rattle.rtl_net_groups.proofs.Lanes.{same_from, others_from}
+use Rattle.rtl_net_groups.proofs.comparing.alike_lanes.Goals as goal
 
 pub returns-then-are_different-clause-otherwise : goal.returns-then-are_different-clause-otherwise
 returns-then-are_different-clause-otherwise g c =
@@ -12,8 +12,8 @@ loop-at-preserved g c =
     let old = c.args.old.now in
     let new = c.args.new.now in
     let at = c.loop-at.at in (
-      take_further at g.row.LANES old
+      take-add at g.row.LANES old
           ∙ ap₂ (λ xs ys. xs ++ ys) c.loop-at.invariant.0 (same_from _ _ (sym c.if-are_different.false ∙ c.are_different.ensures))
-          ∙ sym (take_further at g.row.LANES new),
+          ∙ sym (take-add at g.row.LANES new),
       omega (arith, c.loop-at-test.true, c.loop-at.invariant.1),
     )

@@ -2,9 +2,9 @@ use Rattle.std.proofs.Common.{◌≡◌, ◌+◌, ◌≤◌, ◌++◌, inr, leng
 use Rattle.std.proofs.lemmas.Bool.{or_cases}
 use Rattle.std.proofs.lemmas.Simd.{get_or-put_chunk_above, length-chunk, take_more_put_chunk, length-put_chunk}
 use lib.Lanes.{chunk, put_chunk}
-use Rattle.rtl_kernel.proofs.Lanes.{others_from, same_from}
-use Rattle.rtl_kernel.proofs.Replaced.{neither, other_lanes, put_same}
-use Rattle.rtl_kernel.proofs.slices.replace_lanes.Goals as goal
+use Rattle.rtl_net_groups.proofs.Lanes.{others_from, same_from}
+use Rattle.rtl_net_groups.proofs.Replaced.{neither, other_lanes, put_same}
+use Rattle.rtl_net_groups.proofs.slices.replace_lanes.Goals as goal
 
 pub loop-at-preserved : goal.loop-at-preserved
 loop-at-preserved g c =

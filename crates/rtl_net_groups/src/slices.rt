@@ -1,7 +1,7 @@
 //! Runs of values.
 
 ghost use Rattle.std.specs.Prelude.{◌≡◌, ◌+◌, ◌<◌, ◌≤◌, ◌⊎◌, ℕ, true, false, length, slice_index, take};
-ghost use Rattle.rtl_kernel.specs.values.TwoValues.{IsOther, IsOtherFrom, IsWritten};
+ghost use Rattle.rtl_net_groups.specs.Written.{IsOther, IsOtherFrom, IsWritten};
 
 use crate::comparing::are_different;
 use std::simd::prelude::*;

@@ -1,7 +1,7 @@
 use Rattle.std.proofs.Common.{sym, ◌∙◌, arith}
 use Rattle.std.proofs.lemmas.List.{take_all}
-use Rattle.rtl_kernel.proofs.Lanes.{are_same}
-use Rattle.rtl_kernel.proofs.comparing.is_one_other.Goals as goal
+use Rattle.rtl_net_groups.proofs.Lanes.{are_same}
+use Rattle.rtl_net_groups.proofs.comparing.is_one_other.Goals as goal
 
 pub returns : goal.returns
 returns c =

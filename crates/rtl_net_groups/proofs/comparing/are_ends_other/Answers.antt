@@ -1,6 +1,6 @@
 use Rattle.std.proofs.Common.{◌-◌, length, ap, ℕ, arith}
-use Rattle.rtl_kernel.proofs.Ends.{ends_tell}
-use Rattle.rtl_kernel.proofs.comparing.are_ends_other.Goals as goal
+use Rattle.rtl_net_groups.proofs.BothEnds.{ends_tell}
+use Rattle.rtl_net_groups.proofs.comparing.are_ends_other.Goals as goal
 
 pub returns : goal.returns
 returns g c =

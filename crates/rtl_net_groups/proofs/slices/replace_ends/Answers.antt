@@ -1,9 +1,9 @@
 use Rattle.std.proofs.Common.{◌-◌, length, sym, ◌∙◌, arith, refl, ⊎_elim}
 use Rattle.std.proofs.lemmas.Bool.{or_cases}
-use Rattle.rtl_kernel.proofs.Ends.{ends_alike, ends_written}
-use Rattle.rtl_kernel.proofs.Lanes.{others_from, same_from}
-use Rattle.rtl_kernel.proofs.Replaced.{neither, other_lanes}
-use Rattle.rtl_kernel.proofs.slices.replace_ends.Goals as goal
+use Rattle.rtl_net_groups.proofs.BothEnds.{ends_alike, ends_written}
+use Rattle.rtl_net_groups.proofs.Lanes.{others_from, same_from}
+use Rattle.rtl_net_groups.proofs.Replaced.{neither, other_lanes}
+use Rattle.rtl_net_groups.proofs.slices.replace_ends.Goals as goal
 
 pub returns-clause-written : goal.returns-clause-written
 returns-clause-written g c =

@@ -1,5 +1,5 @@
 use Rattle.std.specs.Prelude.{◌≡◌, ◌-◌, ◌≤◌, take, length}
-use Rattle.rtl_kernel.proofs.comparing.alike_lanes.Given as goal
+use Rattle.rtl_net_groups.proofs.comparing.alike_lanes.Given as goal
 
 -- the values before this place are alike
 abbrev pub invariant-loop-at : goal.invariant-loop-at

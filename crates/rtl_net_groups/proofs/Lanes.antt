@@ -1,8 +1,8 @@
 -- Values that differ, lane by lane and part by part.
-use Rattle.std.proofs.Common.{◌≡◌, ℕ, Bool, true, false, not, cond, eqb, List, [], ◌∷◌, ◌++◌, ◌+◌, ◌-◌, length, map, take, drop, w8, refl, ap, ap₂, ◌∙◌, ◌≤◌, ◌%◌, ◌^◌, sym, arith, ⊎_elim}
+use Rattle.std.proofs.Common.{◌≡◌, ℕ, Bool, true, false, not, cond, eqb, List, [], ◌∷◌, ◌++◌, ◌+◌, ◌-◌, length, map, take, drop, take-add, w8, refl, ap, ap₂, ◌∙◌, ◌≤◌, ◌%◌, ◌^◌, sym, arith, ⊎_elim}
 use Rattle.std.specs.Str.{bytes_eq}
 use Rattle.std.proofs.lemmas.Bool.{eqb-true, eqb-false, cases_Bool, false_from_ne_true, both_ways, not-true, not-false}
-use Rattle.std.proofs.lemmas.List.{take-append-drop, take-take, drop-take, take_all, length-drop}
+use Rattle.std.proofs.lemmas.List.{take-append-drop, take_rest}
 use Rattle.std.proofs.lemmas.Simd.{length-zip2, tops_compared, mask_l-mod}
 use Rattle.std.proofs.lemmas.Slice.Eq.{bytes_eq-Decides}
 use lib.Lanes.{top, zip2, mask_l}
@@ -59,19 +59,11 @@ others_from a b e same = both_ways (bytes_eq a b) (not-true (bytes_eq a b) (sym 
 
 -- ---- parts
 
-pub take_further : (n m : ℕ) (xs : List ℕ) → take (n + m) xs ≡ take n xs ++ take m (drop n xs)
-take_further n m xs =
-    let shorter : take n (take (n + m) xs) ≡ take n xs = take-take n (n + m) xs (omega arith) in
-    sym (take-append-drop n (take (n + m) xs)) ∙ ap (λ t. t ++ drop n (take (n + m) xs)) shorter ∙ ap (λ t. take n xs ++ t) (drop-take n m xs)
-
-rest_is : (n : ℕ) (values : List ℕ) → take (length values - n) (drop n values) ≡ drop n values
-rest_is n values = take_all (length values - n) (drop n values) (omega (arith, length-drop n values))
-
 -- where the first are alike, the others tell
 pub rest_tells : (n : ℕ) (old new : List ℕ) → take n old ≡ take n new
     → bytes_eq (take (length old - n) (drop n old)) (take (length new - n) (drop n new)) ≡ bytes_eq old new
 rest_tells n old new e =
-    rw (rest_is n old, rest_is n new) (same_test (drop n old) (drop n new) old new
+    rw (take_rest old n, take_rest new n) (same_test (drop n old) (drop n new) old new
     (λ r. sym (take-append-drop n old) ∙ ap₂ (λ xs ys. xs ++ ys) e r ∙ take-append-drop n new) (ap (drop n)))
   where
     same_test : (a b c d : List ℕ) → (a ≡ b → c ≡ d) → (c ≡ d → a ≡ b) → bytes_eq a b ≡ bytes_eq c d
@@ -83,7 +75,7 @@ rest_tells n old new e =
 pub further_alike : (n m : ℕ) (old new : List ℕ) → take n old ≡ take n new
     → take m (take (length old - n) (drop n old)) ≡ take m (take (length new - n) (drop n new)) → take (n + m) old ≡ take (n + m) new
 further_alike n m old new first next =
-    take_further n m old ∙ ap₂ (λ xs ys. xs ++ ys) first (sym (ap (take m) (rest_is n old)) ∙ next ∙ ap (take m) (rest_is n new)) ∙ sym (take_further n m new)
+    take-add n m old ∙ ap₂ (λ xs ys. xs ++ ys) first (sym (ap (take m) (take_rest old n)) ∙ next ∙ ap (take m) (take_rest new n)) ∙ sym (take-add n m new)
 
 pub rest_alike : (n : ℕ) (old new : List ℕ) → old ≡ new → take (length old - n) (drop n old) ≡ take (length new - n) (drop n new)
 rest_alike n old new e = ap (λ (xs : List ℕ). take (length xs - n) (drop n xs)) e

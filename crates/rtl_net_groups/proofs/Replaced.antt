@@ -4,8 +4,8 @@ use Rattle.std.proofs.lemmas.Bool.{cases_lt}
 use Rattle.std.proofs.lemmas.List.{ext_get_or, take-append-drop}
 use Rattle.std.proofs.lemmas.Simd.{get_or-chunk, length-chunk, put_chunk_is}
 use lib.Lanes.{chunk, put_chunk}
-use Rattle.rtl_kernel.specs.values.TwoValues.{IsOtherFrom, IsWritten}
-use Rattle.rtl_kernel.proofs.Runs.{first_difference}
+use Rattle.rtl_net_groups.specs.Written.{IsOtherFrom, IsWritten}
+use Rattle.rtl_net_groups.proofs.Writing.{first_difference}
 
 -- a part that is written over itself changes nothing
 pub put_same : (i n : ℕ) (xs : List ℕ) → i + n ≤ length xs → xs ≡ put_chunk i xs (chunk i n xs)

@@ -1,6 +1,6 @@
 use Rattle.std.specs.Prelude.{◌≡◌, ℕ, ◌-◌, ◌≤◌, ◌⊎◌, true, false, take, length, slice_index}
-use Rattle.rtl_kernel.specs.values.TwoValues.{IsOtherFrom}
-use Rattle.rtl_kernel.proofs.slices.replace_lanes.Given as goal
+use Rattle.rtl_net_groups.specs.Written.{IsOtherFrom}
+use Rattle.rtl_net_groups.proofs.slices.replace_lanes.Given as goal
 
 abbrev pub invariant-loop-at : goal.invariant-loop-at
 invariant-loop-at g l = record {

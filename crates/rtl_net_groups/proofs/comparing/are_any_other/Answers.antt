@@ -1,6 +1,6 @@
 use Rattle.std.proofs.Common.{◌+◌, not, ap, ◌∙◌}
-use Rattle.rtl_kernel.proofs.Lanes.{are_others, rest_alike, rest_tells, further_alike}
-use Rattle.rtl_kernel.proofs.comparing.are_any_other.Goals as goal
+use Rattle.rtl_net_groups.proofs.Lanes.{are_others, rest_alike, rest_tells, further_alike}
+use Rattle.rtl_net_groups.proofs.comparing.are_any_other.Goals as goal
 
 pub returns-in_default-alike_lanes : goal.returns-in_default-alike_lanes
 returns-in_default-alike_lanes c =

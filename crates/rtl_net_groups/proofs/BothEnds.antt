@@ -5,7 +5,7 @@ use Rattle.std.proofs.lemmas.Bool.{cases_lt}
 use Rattle.std.proofs.lemmas.List.{ext_get_or}
 use Rattle.std.proofs.lemmas.Simd.{get_or-chunk, get_or-put_chunk_at, get_or-put_chunk_below, length-chunk, length-put_chunk}
 use lib.Lanes.{chunk, put_chunk}
-use Rattle.rtl_kernel.proofs.Lanes.{are_others, are_same, others_from, same_from}
+use Rattle.rtl_net_groups.proofs.Lanes.{are_others, are_same, others_from, same_from}
 
 in_chunk : (i n : ℕ) (xs : List ℕ) (k : ℕ) → i ≤ k → k < i + n → get_or (chunk i n xs) (k - i) 0 ≡ get_or xs k 0
 in_chunk i n xs k low high =

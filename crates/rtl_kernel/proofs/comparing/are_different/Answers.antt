@@ -1,6 +1,0 @@
-use Rattle.std.proofs.Common.{sym, ◌∙◌, arith}
-use Rattle.rtl_kernel.proofs.Lanes.{differ_tells}
-use Rattle.rtl_kernel.proofs.comparing.are_different.Goals as goal
-
-pub returns : goal.returns
-returns g c = differ_tells c.args.before c.args.after (c.requires.before ∙ sym c.requires.after) (omega (arith, c.requires.before, c.requires.most))
