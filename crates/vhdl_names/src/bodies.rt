@@ -17,7 +17,7 @@ ghost use Rattle.vhdl_names_rules.specs.Files.{labelled};
 ghost use Rattle.vhdl_names_rules.specs.Interfaces.{EntityView};
 ghost use Rattle.vhdl_tree.specs.Tree as t;
 ghost use Rattle.vhdl_tree.specs.View as view;
-ghost use Rattle.vhdl_names_types.specs.Views.{region_view, sight_view};
+ghost use Rattle.vhdl_names_types.specs.Views.{region_view};
 ghost use Rattle.vhdl_names_units.specs.views.Declarations.{declarations_view};
 ghost use Rattle.vhdl_names_units.specs.views.Units.{architecture_view};
 
@@ -57,23 +57,22 @@ fn declare_each(
 /// The labels and statements of an architecture behind these declarations. Of a label that stands
 /// twice and a fault of the statements the earlier one is told.
 fn body(
-    alloc: Global,
     formals: &InstanceEntities,
     sight: &mut Sight,
     declarations: Vec<Declaration>,
     tree: &syntax::Architecture,
 ) -> Result<Architecture, NameFault>
-    requires outside { (sight_view sight.old).variables ≡ [] }
+    requires outside { sight.old.variables ≡ [] }
     ensures given { (all : List EntityView) → AreEntities formals.now all → IfOk result (λ a.
-        steps.body all (sight_view sight.old) (declarations_view declarations) (view.architecture_view tree.now) ≡ Some (architecture_view a)) }
+        steps.body all sight.old (declarations_view declarations) (view.architecture_view tree.now) ≡ Some (architecture_view a)) }
     ensures told { (all : List EntityView) → AreEntities formals.now all
-        → IfErr result (Tells (broken.body all (sight_view sight.old) (t.concurrents_of (view.architecture_view tree.now).statements)
+        → IfErr result (Tells (broken.body all sight.old (t.concurrents_of (view.architecture_view tree.now).statements)
         ▸ end_name (view.architecture_view tree.now).name (view.architecture_view tree.now).end_name)) }
 {
-    let labels = declare_each(alloc, &mut sight.region, &tree.statements);
-    let statements = earlier_of(labels, concurrents(alloc, formals, sight, &tree.statements))?;
+    let labels = declare_each(sight.alloc, &mut sight.region, &tree.statements);
+    let statements = earlier_of(labels, concurrents(formals, sight, &tree.statements))?;
     ends(&tree.name, &tree.end_name)?;
-    let name = copied(alloc, &tree.name)?;
+    let name = copied(sight.alloc, &tree.name)?;
     Ok(Architecture {
         name,
         declarations,
@@ -83,20 +82,19 @@ fn body(
 
 /// An architecture in this sight: its declarations, and what follows them.
 fn within(
-    alloc: Global,
     given: &Given<'_, '_>,
     sight: &mut Sight,
     tree: &syntax::Architecture,
 ) -> Result<Architecture, NameFault>
     requires table { AreEntities given.now.formals.now (entities_view given.now.entities.now) }
-    requires outside { (sight_view sight.old).variables ≡ [] }
-    requires outermost { region_view sight.old.enclosing ≡ [] }
-    ensures given { IfOk result (λ a. steps.within (entities_view given.now.entities.now) (sight_view sight.old) (view.architecture_view tree.now) ≡ Some (architecture_view a)) }
-    ensures told { (e : EntityView) → (items : List t.ContextItem) → sight_behind e items ≡ Some (sight_view sight.old)
+    requires outside { sight.old.variables ≡ [] }
+    requires outermost { sight.old.enclosing ≡ [] }
+    ensures given { IfOk result (λ a. steps.within (entities_view given.now.entities.now) sight.old (view.architecture_view tree.now) ≡ Some (architecture_view a)) }
+    ensures told { (e : EntityView) → (items : List t.ContextItem) → sight_behind e items ≡ Some sight.old
         → IfErr result (Tells (broken.architecture (entities_view given.now.entities.now) e items (view.architecture_view tree.now))) }
 {
-    let declarations = declarations(alloc, given.entities, sight, &tree.declarations)?;
-    body(alloc, given.formals, sight, declarations, tree)
+    let declarations = declarations(given.entities, sight, &tree.declarations)?;
+    body(given.formals, sight, declarations, tree)
 }
 
 /// An architecture of an entity, behind its context items.
@@ -114,5 +112,5 @@ pub fn architecture(
         (map view.context_view items.now) (view.architecture_view tree.now)) result }
 {
     let mut sight = architecture_sight(alloc, entity, items)?;
-    within(alloc, given, &mut sight, tree)
+    within(given, &mut sight, tree)
 }

@@ -12,13 +12,11 @@ ghost use Rattle.vhdl_names_rules.specs.Rules.{each};
 ghost use Rattle.vhdl_names_rules.specs.Visibility.{Sight as SightView, Declared, with_variables};
 ghost use Rattle.vhdl_tree.specs.Tree.{statements_of};
 ghost use Rattle.vhdl_tree.specs.View as tree;
-ghost use Rattle.vhdl_names_types.specs.Views.{sight_view};
 ghost use Rattle.vhdl_names_units.specs.views.Concurrent.{sensitivity_view, process_view};
 ghost use Rattle.vhdl_names_units.specs.views.Sequential.{body_view};
 
 use crate::process_labels::statement_labels_are_distinct;
 use indexmap::IndexMap;
-use std::alloc::Global;
 use vhdl_names_declarations::objects::variables;
 use vhdl_names_expressions::signal;
 use vhdl_names_rules::{NameFault, NameProblem, SignalPart};
@@ -30,17 +28,13 @@ use vhdl_tree::Identifier;
 
 /// The signals of a list of names.
 #[tactic(auto, using(vhdl_names_units::proofs::Lists::each_in_turn))]
-fn places(
-    alloc: Global,
-    sight: &Sight,
-    names: &[syntax::Name],
-) -> Result<Vec<SignalPart>, NameFault>
-    ensures given { Gives all_places_view (each (steps.place_of (sight_view sight.now)) (map tree.name_view names.now)) result }
-    ensures told { IfErr result (Tells (any_of (statements.signal (sight_view sight.now)) (map tree.name_view names.now))) }
+fn places(sight: &Sight, names: &[syntax::Name]) -> Result<Vec<SignalPart>, NameFault>
+    ensures given { Gives all_places_view (each (steps.place_of sight.now) (map tree.name_view names.now)) result }
+    ensures told { IfErr result (Tells (any_of (statements.signal sight.now) (map tree.name_view names.now))) }
 {
-    let mut all = Vec::new(alloc);
+    let mut all = Vec::new(sight.alloc);
     for name in names {
-        let named = signal(alloc, sight, name)?;
+        let named = signal(sight, name)?;
         all.push(named.place)?;
     }
     Ok(all)
@@ -50,66 +44,58 @@ fn places(
 /// process has a sensitivity list.
 #[tactic(auto, using(crate::proofs::Resuming::listed))]
 fn sensitivity(
-    alloc: Global,
     sight: &Sight,
     at: usize,
     list: &syntax::Sensitivity,
 ) -> Result<Sensitivity, NameFault>
-    ensures given { Gives sensitivity_view (rules.sensitivity (sight_view sight.now) (tree.sensitivity_view list.now)) result }
-    ensures told { IfErr result (Tells (broken.sensitivity (sight_view sight.now) at (tree.sensitivity_view list.now))) }
+    ensures given { Gives sensitivity_view (rules.sensitivity sight.now (tree.sensitivity_view list.now)) result }
+    ensures told { IfErr result (Tells (broken.sensitivity sight.now at (tree.sensitivity_view list.now))) }
 {
     match list {
         syntax::Sensitivity::Absent => Err(NameProblem::NoSensitivity.at(at)),
         syntax::Sensitivity::All => Ok(Sensitivity::All),
-        syntax::Sensitivity::Names(names) => {
-            Ok(Sensitivity::Listed(places(alloc, sight, names)?))
-        }
+        syntax::Sensitivity::Names(names) => { Ok(Sensitivity::Listed(places(sight, names)?)) }
     }
 }
 
 /// What the statements of a process do. Of a label that stands twice and another fault the earlier
 /// one is told.
-fn body(
-    alloc: Global,
-    sight: &mut Sight,
-    list: &[syntax::Sequential],
-) -> Result<Vec<Statement>, NameFault>
-    ensures given { Gives body_view (steps.body (sight_view sight.old) (map tree.sequential_view list.now)) result }
-    ensures kept { sight_view sight.new ≡ sight_view sight.old }
-    ensures told { IfErr result (Tells (broken.body (sight_view sight.old) (statements_of (map tree.sequential_view list.now)))) }
+fn body(sight: &mut Sight, list: &[syntax::Sequential]) -> Result<Vec<Statement>, NameFault>
+    ensures given { Gives body_view (steps.body sight.old (map tree.sequential_view list.now)) result }
+    ensures kept { sight.new ≡ sight.old }
+    ensures told { IfErr result (Tells (broken.body sight.old (statements_of (map tree.sequential_view list.now)))) }
 {
-    let statements = analysed(alloc, sight, list);
-    match statement_labels_are_distinct(alloc, list) {
+    let statements = analysed(sight, list);
+    match statement_labels_are_distinct(sight.alloc, list) {
         Ok(()) => statements,
         Err(fault) => Err(earlier_in(fault, statements)),
     }
 }
 
 /// Outside a process again, where no variables are in sight.
-fn leave_process(alloc: Global, sight: &mut Sight)
-    ensures { (outer : SightView) (ds : List Declared) → outer.variables ≡ [] → sight_view sight.old ≡ with_variables outer ds → sight_view sight.new ≡ outer }
+fn leave_process(sight: &mut Sight)
+    ensures { (outer : SightView) (ds : List Declared) → outer.variables ≡ [] → sight.old ≡ with_variables outer ds → sight.new ≡ outer }
 {
-    sight.variables = IndexMap::new(alloc);
+    sight.variables = IndexMap::new(sight.alloc);
 }
 
 /// A process behind its label, in the order of its parts.
 fn process_in_turn(
-    alloc: Global,
     sight: &mut Sight,
     label: &Option<Identifier>,
     process: &syntax::Process,
 ) -> Result<Process, NameFault>
-    requires outside { (sight_view sight.old).variables ≡ [] }
-    ensures given { Gives process_view (steps.process (sight_view sight.old) (tree.option_ident_view label.now) (tree.process_view process.now)) result }
-    ensures kept { OnOk result (sight_view sight.new ≡ sight_view sight.old) }
-    ensures told { IfErr result (Tells (broken.process (sight_view sight.old) (tree.option_ident_view label.now) (tree.process_view process.now))) }
+    requires outside { sight.old.variables ≡ [] }
+    ensures given { Gives process_view (steps.process sight.old (tree.option_ident_view label.now) (tree.process_view process.now)) result }
+    ensures kept { OnOk result (sight.new ≡ sight.old) }
+    ensures told { IfErr result (Tells (broken.process sight.old (tree.option_ident_view label.now) (tree.process_view process.now))) }
 {
-    let sensitivity = sensitivity(alloc, sight, process.at, &process.sensitivity)?;
-    let variables = variables(alloc, sight, &process.variables)?;
-    let statements = body(alloc, sight, &process.statements)?;
-    leave_process(alloc, sight);
+    let sensitivity = sensitivity(sight, process.at, &process.sensitivity)?;
+    let variables = variables(sight, &process.variables)?;
+    let statements = body(sight, &process.statements)?;
+    leave_process(sight);
     label_ends(label, &process.end_label)?;
-    let label = copied_label(alloc, label)?;
+    let label = copied_label(sight.alloc, label)?;
     Ok(Process {
         at: process.at,
         label,
@@ -122,15 +108,14 @@ fn process_in_turn(
 /// A process behind its label: its variables are a region of their own, and in sight of its
 /// statements alone. It fails at the first byte where a rule is broken, or where memory is refused.
 pub fn process(
-    alloc: Global,
     sight: &mut Sight,
     label: &Option<Identifier>,
     process: &syntax::Process,
 ) -> Result<Process, NameFault>
-    requires outside { (sight_view sight.old).variables ≡ [] }
-    ensures given { Gives process_view (rules.process (sight_view sight.old) (tree.option_ident_view label.now) (tree.process_view process.now)) result }
-    ensures kept { OnOk result (sight_view sight.new ≡ sight_view sight.old) }
-    ensures told { IfErr result (Tells (broken.process (sight_view sight.old) (tree.option_ident_view label.now) (tree.process_view process.now))) }
+    requires outside { sight.old.variables ≡ [] }
+    ensures given { Gives process_view (rules.process sight.old (tree.option_ident_view label.now) (tree.process_view process.now)) result }
+    ensures kept { OnOk result (sight.new ≡ sight.old) }
+    ensures told { IfErr result (Tells (broken.process sight.old (tree.option_ident_view label.now) (tree.process_view process.now))) }
 {
-    process_in_turn(alloc, sight, label, process)
+    process_in_turn(sight, label, process)
 }

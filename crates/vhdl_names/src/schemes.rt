@@ -7,10 +7,8 @@ ghost use Rattle.vhdl_names_rules.specs.Concurrent as rules;
 ghost use Rattle.vhdl_names_rules.specs.Gives.{Gives};
 ghost use Rattle.vhdl_names_rules.specs.units.Units as u;
 ghost use Rattle.vhdl_tree.specs.View.{scheme_view};
-ghost use Rattle.vhdl_names_types.specs.Views.{sight_view};
 ghost use Rattle.vhdl_names_units.specs.views.Concurrent.{generated};
 
-use std::alloc::Global;
 use vhdl_names_expressions::{static_condition, static_range};
 use vhdl_names_rules::NameFault;
 use vhdl_names_types::Sight;
@@ -18,15 +16,13 @@ use vhdl_names_units::Scheme;
 use vhdl_tree as syntax;
 
 /// A parameter's range, or a condition over static integers.
-pub fn scheme(alloc: Global, sight: &Sight, scheme: &syntax::Scheme) -> Result<Scheme, NameFault>
+pub fn scheme(sight: &Sight, scheme: &syntax::Scheme) -> Result<Scheme, NameFault>
     ensures given { (label : List ℕ) (at : ℕ) (body : u.Concurrents) → Gives (generated label at body)
-        (rules.generated (sight_view sight.now) label at (scheme_view scheme.now) body) result }
-    ensures told { IfErr result (Tells (broken.scheme (sight_view sight.now) (scheme_view scheme.now))) }
+        (rules.generated sight.now label at (scheme_view scheme.now) body) result }
+    ensures told { IfErr result (Tells (broken.scheme sight.now (scheme_view scheme.now))) }
 {
     match scheme {
-        syntax::Scheme::For { range, .. } => Ok(Scheme::For(static_range(alloc, sight, range)?)),
-        syntax::Scheme::If { condition } => {
-            Ok(Scheme::If(static_condition(alloc, sight, condition)?))
-        }
+        syntax::Scheme::For { range, .. } => Ok(Scheme::For(static_range(sight, range)?)),
+        syntax::Scheme::If { condition } => { Ok(Scheme::If(static_condition(sight, condition)?)) }
     }
 }

@@ -15,12 +15,10 @@ ghost use Rattle.vhdl_names_rules.specs.Visibility as visibility;
 ghost use Rattle.vhdl_tree.specs.Tree as t;
 ghost use Rattle.vhdl_tree.specs.View as tree;
 ghost use Rattle.vhdl_tree.specs.declared.concurrent.Generate.{out-Generate};
-ghost use Rattle.vhdl_names_types.specs.Views.{sight_view};
 ghost use Rattle.vhdl_names_units.specs.views.Concurrent as views;
 
 use crate::processes::process;
 use crate::schemes::scheme;
-use std::alloc::Global;
 use vhdl_names_declarations::labels_are_distinct;
 use vhdl_names_instances::{InstanceEntities, instance_in_turn};
 use vhdl_names_rules::NameFault;
@@ -31,45 +29,37 @@ use vhdl_tree as syntax;
 use vhdl_tree::Identifier;
 
 /// The sight within a for-generate.
-fn enter_parameter(
-    alloc: Global,
-    sight: &mut Sight,
-    parameter: &Identifier,
-) -> Result<(), NameFault>
-    ensures given { Gives (λ _. sight_view sight.new) (Some (visibility.within_generate (sight_view sight.old) (tree.ident_view parameter.now))) result }
+fn enter_parameter(sight: &mut Sight, parameter: &Identifier) -> Result<(), NameFault>
+    ensures given { Gives (λ _. sight.new) (Some (visibility.within_generate sight.old (tree.ident_view parameter.now))) result }
     ensures told { IfErr result (Tells (nothing)) }
 {
-    let name = parameter.text.to_vec(alloc)?;
+    let name = parameter.text.to_vec(sight.alloc)?;
     let meaning = Meaning::GenerateParameter(sight.generates.len());
     sight.generates.push(Declared { name, meaning })?;
     Ok(())
 }
 
 /// The sight within a generate.
-fn enter_generate(
-    alloc: Global,
-    sight: &mut Sight,
-    scheme: &syntax::Scheme,
-) -> Result<(), NameFault>
-    ensures given { Gives (λ _. sight_view sight.new) (Some (rules.sight_within (sight_view sight.old) (tree.scheme_view scheme.now))) result }
+fn enter_generate(sight: &mut Sight, scheme: &syntax::Scheme) -> Result<(), NameFault>
+    ensures given { Gives (λ _. sight.new) (Some (rules.sight_within sight.old (tree.scheme_view scheme.now))) result }
     ensures told { IfErr result (Tells (nothing)) }
 {
     match scheme {
-        syntax::Scheme::For { parameter, .. } => enter_parameter(alloc, sight, parameter),
+        syntax::Scheme::For { parameter, .. } => enter_parameter(sight, parameter),
         syntax::Scheme::If { .. } => Ok(()),
     }
 }
 
 /// The sight outside a for-generate again.
 fn leave_parameter(sight: &mut Sight)
-    ensures { (outer : visibility.Sight) (d : visibility.Declared) → sight_view sight.old ≡ steps.in_generate outer d → sight_view sight.new ≡ outer }
+    ensures { (outer : visibility.Sight) (d : visibility.Declared) → sight.old ≡ steps.in_generate outer d → sight.new ≡ outer }
 {
     sight.generates.pop();
 }
 
 /// The sight outside a generate again.
 fn leave_generate(sight: &mut Sight, scheme: &syntax::Scheme)
-    ensures { (outer : visibility.Sight) → sight_view sight.old ≡ rules.sight_within outer (tree.scheme_view scheme.now) → sight_view sight.new ≡ outer }
+    ensures { (outer : visibility.Sight) → sight.old ≡ rules.sight_within outer (tree.scheme_view scheme.now) → sight.new ≡ outer }
 {
     match scheme {
         syntax::Scheme::For { .. } => leave_parameter(sight),
@@ -81,21 +71,20 @@ fn leave_generate(sight: &mut Sight, scheme: &syntax::Scheme)
 #[cycle(concurrent)]
 #[tactic(auto, using(vhdl_names_units::proofs::Lists::each_in_turn))]
 fn statements(
-    alloc: Global,
     entities: &InstanceEntities,
     sight: &mut Sight,
     list: &[syntax::Concurrent],
 ) -> Result<Vec<Concurrent>, NameFault>
-    requires outside { (sight_view sight.old).variables ≡ [] }
+    requires outside { sight.old.variables ≡ [] }
     ensures given { Gives views.concurrents_view (steps.all (instance_of (names_view entities.now.names) (seens_view entities.now.formals))
-        (sight_view sight.old) (map tree.concurrent_view list.now)) result }
-    ensures kept { OnOk result (sight_view sight.new ≡ sight_view sight.old) }
+        sight.old (map tree.concurrent_view list.now)) result }
+    ensures kept { OnOk result (sight.new ≡ sight.old) }
     ensures told { (all : List EntityView) → AreEntities entities.now all
-        → IfErr result (Tells (broken.concurrents all (sight_view sight.old) (t.concurrents_of (map tree.concurrent_view list.now)))) }
+        → IfErr result (Tells (broken.concurrents all sight.old (t.concurrents_of (map tree.concurrent_view list.now)))) }
 {
-    let mut all = Vec::new(alloc);
+    let mut all = Vec::new(sight.alloc);
     for item in list {
-        let next = statement(alloc, entities, sight, item)?;
+        let next = statement(entities, sight, item)?;
         all.push(next)?;
     }
     Ok(all)
@@ -105,34 +94,33 @@ fn statements(
 #[cycle(concurrent)]
 #[tactic(auto, unfolding(vhdl_names_rules::specs::problems::Concurrent::concurrent))]
 fn statement(
-    alloc: Global,
     entities: &InstanceEntities,
     sight: &mut Sight,
     item: &syntax::Concurrent,
 ) -> Result<Concurrent, NameFault>
-    requires outside { (sight_view sight.old).variables ≡ [] }
+    requires outside { sight.old.variables ≡ [] }
     ensures given { Gives views.concurrent_view (steps.concurrent (instance_of (names_view entities.now.names) (seens_view entities.now.formals))
-        (sight_view sight.old) (tree.concurrent_view item.now)) result }
-    ensures kept { OnOk result (sight_view sight.new ≡ sight_view sight.old) }
+        sight.old (tree.concurrent_view item.now)) result }
+    ensures kept { OnOk result (sight.new ≡ sight.old) }
     ensures told { (all : List EntityView) → AreEntities entities.now all
-        → IfErr result (Tells (broken.concurrent all (sight_view sight.old) (tree.concurrent_view item.now))) }
+        → IfErr result (Tells (broken.concurrent all sight.old (tree.concurrent_view item.now))) }
 {
     match item {
         syntax::Concurrent::Assignment(written) => {
-            Ok(Concurrent::Process(assignment(alloc, sight, written)?))
+            Ok(Concurrent::Process(assignment(sight, written)?))
         }
         syntax::Concurrent::Selected {
             label,
             assignment: written,
-        } => Ok(Concurrent::Process(selected(alloc, sight, label, written)?)),
+        } => Ok(Concurrent::Process(selected(sight, label, written)?)),
         syntax::Concurrent::Process {
             label,
             process: written,
-        } => Ok(Concurrent::Process(process(alloc, sight, label, written)?)),
+        } => Ok(Concurrent::Process(process(sight, label, written)?)),
         syntax::Concurrent::Instance { label, instance } => Ok(Concurrent::Instance(
-            instance_in_turn(alloc, entities, sight, label, instance)?,
+            instance_in_turn(entities, sight, label, instance)?,
         )),
-        syntax::Concurrent::Generate(written) => generate(alloc, entities, sight, written),
+        syntax::Concurrent::Generate(written) => generate(entities, sight, written),
     }
 }
 
@@ -140,20 +128,19 @@ fn statement(
 /// another fault the earlier one is told.
 #[cycle(concurrent)]
 fn labelled(
-    alloc: Global,
     entities: &InstanceEntities,
     sight: &mut Sight,
     list: &[syntax::Concurrent],
 ) -> Result<Vec<Concurrent>, NameFault>
-    requires outside { (sight_view sight.old).variables ≡ [] }
+    requires outside { sight.old.variables ≡ [] }
     ensures given { Gives views.concurrents_view (steps.labelled (instance_of (names_view entities.now.names) (seens_view entities.now.formals))
-        (sight_view sight.old) (map tree.concurrent_view list.now)) result }
-    ensures kept { OnOk result (sight_view sight.new ≡ sight_view sight.old) }
+        sight.old (map tree.concurrent_view list.now)) result }
+    ensures kept { OnOk result (sight.new ≡ sight.old) }
     ensures told { (all : List EntityView) → AreEntities entities.now all
-        → IfErr result (Tells (told.labelled all (sight_view sight.old) (map tree.concurrent_view list.now))) }
+        → IfErr result (Tells (told.labelled all sight.old (map tree.concurrent_view list.now))) }
 {
-    let all = statements(alloc, entities, sight, list);
-    match labels_are_distinct(alloc, list) {
+    let all = statements(entities, sight, list);
+    match labels_are_distinct(sight.alloc, list) {
         Ok(()) => all,
         Err(fault) => Err(earlier_in(fault, all)),
     }
@@ -162,26 +149,25 @@ fn labelled(
 /// A generate (11.9).
 #[cycle(concurrent)]
 fn generate(
-    alloc: Global,
     entities: &InstanceEntities,
     sight: &mut Sight,
     written: &syntax::Generate,
 ) -> Result<Concurrent, NameFault>
-    requires outside { (sight_view sight.old).variables ≡ [] }
+    requires outside { sight.old.variables ≡ [] }
     ensures given { Gives views.concurrent_view (steps.generate (instance_of (names_view entities.now.names) (seens_view entities.now.formals))
-        (sight_view sight.old) (tree.ident_view (out-Generate written.now).label) (out-Generate written.now).at (tree.scheme_view (out-Generate written.now).scheme)
+        sight.old (tree.ident_view (out-Generate written.now).label) (out-Generate written.now).at (tree.scheme_view (out-Generate written.now).scheme)
         (tree.concurrents_view (out-Generate written.now).statements) (tree.option_ident_view (out-Generate written.now).end_label)) result }
-    ensures kept { OnOk result (sight_view sight.new ≡ sight_view sight.old) }
+    ensures kept { OnOk result (sight.new ≡ sight.old) }
     ensures told { (all : List EntityView) → AreEntities entities.now all
-        → IfErr result (Tells (told.generate all (sight_view sight.old) (tree.ident_view (out-Generate written.now).label) (tree.scheme_view (out-Generate written.now).scheme)
+        → IfErr result (Tells (told.generate all sight.old (tree.ident_view (out-Generate written.now).label) (tree.scheme_view (out-Generate written.now).scheme)
         (tree.concurrents_view (out-Generate written.now).statements) (tree.option_ident_view (out-Generate written.now).end_label))) }
 {
-    let by = scheme(alloc, sight, &written.scheme)?;
-    enter_generate(alloc, sight, &written.scheme)?;
-    let body = labelled(alloc, entities, sight, &written.statements)?;
+    let by = scheme(sight, &written.scheme)?;
+    enter_generate(sight, &written.scheme)?;
+    let body = labelled(entities, sight, &written.statements)?;
     leave_generate(sight, &written.scheme);
     ends(&written.label, &written.end_label)?;
-    let label = copied(alloc, &written.label)?;
+    let label = copied(sight.alloc, &written.label)?;
     Ok(Concurrent::generated(label, written.at, by, body))
 }
 
@@ -189,17 +175,16 @@ fn generate(
 /// declarations in sight of them, and no variables. It fails at the first byte where a rule is
 /// broken, or where memory is refused.
 pub fn concurrents(
-    alloc: Global,
     entities: &InstanceEntities,
     sight: &mut Sight,
     list: &[syntax::Concurrent],
 ) -> Result<Vec<Concurrent>, NameFault>
-    requires outside { (sight_view sight.old).variables ≡ [] }
+    requires outside { sight.old.variables ≡ [] }
     ensures given { (all : List EntityView) → AreEntities entities.now all
-        → Gives steps.body_view (rules.concurrents all (sight_view sight.old) (t.concurrents_of (map tree.concurrent_view list.now))) result }
-    ensures kept { OnOk result (sight_view sight.new ≡ sight_view sight.old) }
+        → Gives steps.body_view (rules.concurrents all sight.old (t.concurrents_of (map tree.concurrent_view list.now))) result }
+    ensures kept { OnOk result (sight.new ≡ sight.old) }
     ensures told { (all : List EntityView) → AreEntities entities.now all
-        → IfErr result (Tells (broken.concurrents all (sight_view sight.old) (t.concurrents_of (map tree.concurrent_view list.now)))) }
+        → IfErr result (Tells (broken.concurrents all sight.old (t.concurrents_of (map tree.concurrent_view list.now)))) }
 {
-    statements(alloc, entities, sight, list)
+    statements(entities, sight, list)
 }

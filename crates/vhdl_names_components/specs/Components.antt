@@ -11,7 +11,7 @@ use Rattle.vhdl_names_units.specs.views.Declarations.{declaration_view}
 
 -- what is in sight where a component's region begins
 abbrev pub inner : Sight → Sight
-inner sight = record sight { region = []; outside = sight.region ++ sight.outside }
+inner sight = record sight { region = []; enclosing = sight.region ++ sight.enclosing }
 
 -- a component's generics and ports are there
 abbrev pub has_interface : Sight → t.Component → Option (Unit {0})

@@ -10,7 +10,7 @@ ghost use Rattle.vhdl_names_rules.specs.Files as rules;
 ghost use Rattle.vhdl_names_rules.specs.Gives.{Gives};
 ghost use Rattle.vhdl_names_rules.specs.Visibility.{with_declared};
 ghost use Rattle.vhdl_tree.specs.View as tree;
-ghost use Rattle.vhdl_names_types.specs.Views.{region_view, sight_view};
+ghost use Rattle.vhdl_names_types.specs.Views.{region_view};
 ghost use Rattle.vhdl_names_units.specs.views.Declarations.{declarations_view};
 ghost use Rattle.vhdl_names_rules.specs.problems.Broken.{Tells};
 ghost use Rattle.vhdl_names_rules.specs.problems.Declarations as declarations_broken;
@@ -18,7 +18,7 @@ ghost use Rattle.vhdl_names_rules.specs.problems.Files as broken;
 
 use crate::components::component;
 use crate::entities::Entities;
-use std::alloc::{AllocError, Global};
+use std::alloc::AllocError;
 use vhdl_names_declarations::Counts;
 use vhdl_names_declarations::constants::constants;
 use vhdl_names_declarations::enumeration::enumeration;
@@ -31,36 +31,35 @@ use vhdl_tree as syntax;
 /// One declaration, whose objects are numbered from here on. Nothing is analysed of a type or a
 /// component.
 fn declaration(
-    alloc: Global,
     entities: &Entities<'_>,
     sight: &mut Sight,
     counts: Counts,
     one: &syntax::Declaration,
 ) -> Result<Option<Declaration>, NameFault>
-    requires counts { AreCounts counts (sight_view sight.old).region }
-    requires outermost { region_view sight.old.enclosing ≡ [] }
-    ensures given { Gives (λ d. (sight_view sight.new, analysed_view d))
-        (entering (rules.declaration (entities_view entities.now)) (sight_view sight.old)
+    requires counts { AreCounts counts sight.old.region }
+    requires outermost { sight.old.enclosing ≡ [] }
+    ensures given { Gives (λ d. (sight.new, analysed_view d))
+        (entering (rules.declaration (entities_view entities.now)) sight.old
         (tree.declaration_view one.now)) result }
-    ensures outermost { OnOk result (region_view sight.new.enclosing ≡ []) }
-    ensures told { IfErr result (Tells (broken.declaration (entities_view entities.now) (sight_view sight.old)
+    ensures outermost { OnOk result (sight.new.enclosing ≡ []) }
+    ensures told { IfErr result (Tells (broken.declaration (entities_view entities.now) sight.old
         (tree.declaration_view one.now))) }
 {
     match one {
         syntax::Declaration::Signals(one) => {
-            let done = signals(alloc, sight, counts.signals, one)?;
+            let done = signals(sight, counts.signals, one)?;
             Ok(Some(done))
         }
         syntax::Declaration::Constants(one) => {
-            let done = constants(alloc, sight, counts.integers, counts.constants, one)?;
+            let done = constants(sight, counts.integers, counts.constants, one)?;
             Ok(Some(done))
         }
         syntax::Declaration::Enumeration(one) => {
-            enumeration(alloc, sight, counts.enumerations, one)?;
+            enumeration(sight, counts.enumerations, one)?;
             Ok(None)
         }
         syntax::Declaration::Component(one) => {
-            component(alloc, entities, sight, one)?;
+            component(entities, sight, one)?;
             Ok(None)
         }
     }
@@ -83,26 +82,25 @@ fn push_if_any(done: &mut Vec<Declaration>, one: Option<Declaration>) -> Result<
 /// The declarations of an architecture, which are in sight of what follows; no region encloses that
 /// of the sight. It takes memory for what is declared and analysed.
 pub fn declarations(
-    alloc: Global,
     entities: &Entities<'_>,
     sight: &mut Sight,
     all: &[syntax::Declaration],
 ) -> Result<Vec<Declaration>, NameFault>
-    requires { region_view sight.old.enclosing ≡ [] }
-    ensures given { Gives (λ v. (sight_view sight.new, declarations_view v))
-        (entering (in_order with_declared (rules.declaration (entities_view entities.now))) (sight_view sight.old)
+    requires { sight.old.enclosing ≡ [] }
+    ensures given { Gives (λ v. (sight.new, declarations_view v))
+        (entering (in_order with_declared (rules.declaration (entities_view entities.now))) sight.old
         (map tree.declaration_view all.now)) result }
-    ensures outermost { OnOk result (region_view sight.new.enclosing ≡ []) }
+    ensures outermost { OnOk result (sight.new.enclosing ≡ []) }
     ensures told { IfErr result (Tells (declarations_broken.in_order with_declared
         (rules.declaration (entities_view entities.now)) (broken.declaration (entities_view entities.now))
-        (sight_view sight.old) (map tree.declaration_view all.now))) }
+        sight.old (map tree.declaration_view all.now))) }
 {
-    let mut done = Vec::new(alloc);
+    let mut done = Vec::new(sight.alloc);
     names_are_apart(&sight.region);
     let mut counts = Counts::NONE.of(&sight.region, 0);
     for one in all {
         let first = sight.region.len();
-        let next = declaration(alloc, entities, sight, counts, one)?;
+        let next = declaration(entities, sight, counts, one)?;
         push_if_any(&mut done, next)?;
         counts = counts.of(&sight.region, first);
     }

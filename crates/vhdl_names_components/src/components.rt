@@ -11,7 +11,7 @@ ghost use Rattle.vhdl_names_rules.specs.SameText.{same_generics, same_ports};
 ghost use Rattle.vhdl_names_rules.specs.declared.fault.NameFault.TheVariants.{At};
 ghost use Rattle.vhdl_names_rules.specs.declared.fault.NameProblem.TheVariants.{Twice, WrongKind};
 ghost use Rattle.vhdl_tree.specs.View.{component_view, ident_view, option_generics_view, option_ports_view};
-ghost use Rattle.vhdl_names_types.specs.Views.{region_view, sight_view};
+ghost use Rattle.vhdl_names_types.specs.Views.{region_view};
 ghost use Rattle.vhdl_names_rules.specs.problems.Broken.{Tells, unless};
 ghost use Rattle.vhdl_names_rules.specs.problems.Interfaces as broken;
 ghost use Rattle.vhdl_names_rules.specs.problems.Declarations.{standing_twice};
@@ -19,7 +19,6 @@ ghost use Rattle.vhdl_names_rules.specs.problems.Declarations.{standing_twice};
 use crate::entities::{Entities, entity_named};
 use crate::interface::interface_of;
 use crate::interfaces::has_interface;
-use std::alloc::Global;
 use std::mem;
 use vhdl_names_declarations::{declare, ends};
 use vhdl_names_rules::{NameFault, NameProblem};
@@ -59,16 +58,16 @@ fn is_entity(component: &Component, entity: &Entity) -> Result<(), NameFault>
 
 /// A component's generics and ports, in a region of their own, which the region that the component
 /// stands in encloses.
-fn own_region(alloc: Global, sight: &mut Sight, component: &Component) -> Result<(), NameFault>
-    requires { region_view sight.old.enclosing ≡ [] }
-    ensures given { Gives (λ x. x) (spec.has_interface (sight_view sight.old) (component_view component.now)) result }
-    ensures kept { OnOk result (sight_view sight.new ≡ sight_view sight.old) }
-    ensures outermost { OnOk result (region_view sight.new.enclosing ≡ []) }
-    ensures told { IfErr result (Tells (broken.interface (spec.inner (sight_view sight.old))
+fn own_region(sight: &mut Sight, component: &Component) -> Result<(), NameFault>
+    requires { sight.old.enclosing ≡ [] }
+    ensures given { Gives (λ x. x) (spec.has_interface sight.old (component_view component.now)) result }
+    ensures kept { OnOk result (sight.new ≡ sight.old) }
+    ensures outermost { OnOk result (sight.new.enclosing ≡ []) }
+    ensures told { IfErr result (Tells (broken.interface (spec.inner sight.old)
         (component_view component.now).generics (component_view component.now).ports)) }
 {
     mem::swap(&mut sight.region, &mut sight.enclosing);
-    let _interface = interface_of(alloc, sight, &component.generics, &component.ports)?;
+    let _interface = interface_of(sight, &component.generics, &component.ports)?;
     sight.region.clear();
     mem::swap(&mut sight.region, &mut sight.enclosing);
     Ok(())
@@ -79,24 +78,28 @@ fn own_region(alloc: Global, sight: &mut Sight, component: &Component) -> Result
 /// memory for what is declared.
 #[tactic(auto, using(crate::proofs::Standing::component_in_turn))]
 pub fn component(
-    alloc: Global,
     entities: &Entities<'_>,
     sight: &mut Sight,
     component: &Component,
 ) -> Result<(), NameFault>
-    requires { region_view sight.old.enclosing ≡ [] }
-    ensures given { Gives (λ _. (sight_view sight.new, []))
-        (entering (rules.component (entities_view entities.now)) (sight_view sight.old)
+    requires { sight.old.enclosing ≡ [] }
+    ensures given { Gives (λ _. (sight.new, []))
+        (entering (rules.component (entities_view entities.now)) sight.old
         (component_view component.now)) result }
-    ensures outermost { OnOk result (region_view sight.new.enclosing ≡ []) }
-    ensures told { IfErr result (Tells (broken.component (entities_view entities.now) (sight_view sight.old)
+    ensures outermost { OnOk result (sight.new.enclosing ≡ []) }
+    ensures told { IfErr result (Tells (broken.component (entities_view entities.now) sight.old
         (component_view component.now))) }
 {
     let name = &component.name;
     is_new(&sight.region, name)?;
     let (number, entity) = entity_named(entities, name)?;
     is_entity(component, entity.tree)?;
-    own_region(alloc, sight, component)?;
+    own_region(sight, component)?;
     ends(name, &component.end_name)?;
-    declare(alloc, &mut sight.region, name, Meaning::Component(number))
+    declare(
+        sight.alloc,
+        &mut sight.region,
+        name,
+        Meaning::Component(number),
+    )
 }

@@ -10,7 +10,6 @@ ghost use Rattle.vhdl_names_rules.specs.Interfaces as rules;
 ghost use Rattle.vhdl_names_rules.specs.Rules.{all_of};
 ghost use Rattle.vhdl_names_rules.specs.Visibility.{with_declared};
 ghost use Rattle.vhdl_tree.specs.View as view;
-ghost use Rattle.vhdl_names_types.specs.Views.{sight_view};
 ghost use Rattle.vhdl_names_units.specs.views.Declarations.{all_generics_view, all_ports_view};
 ghost use Rattle.vhdl_names_rules.specs.problems.Broken.{Tells, ◌▸◌};
 ghost use Rattle.vhdl_names_rules.specs.problems.Declarations.{end_name};
@@ -74,39 +73,34 @@ impl EntityInterface<'_> {
 
 /// Generics, if any stand there.
 fn generics_if_any(
-    alloc: Global,
     sight: &mut Sight,
     all: &Option<Vec<Generic>>,
 ) -> Result<Vec<Generics>, NameFault>
-    ensures given { Gives (λ v. (sight_view sight.new, all_generics_view v))
-        (entering (in_order with_declared generic) (sight_view sight.old)
+    ensures given { Gives (λ v. (sight.new, all_generics_view v))
+        (entering (in_order with_declared generic) sight.old
         (all_of (view.option_generics_view all.now))) result }
     ensures kept { OnOk result (sight.new ≡ record sight.old { region = sight.new.region }) }
-    ensures told { IfErr result (Tells (broken.generics (sight_view sight.old)
+    ensures told { IfErr result (Tells (broken.generics sight.old
         (all_of (view.option_generics_view all.now)))) }
 {
     match all {
-        Some(all) => generics(alloc, sight, all),
-        None => generics(alloc, sight, &[]),
+        Some(all) => generics(sight, all),
+        None => generics(sight, &[]),
     }
 }
 
 /// Ports, if any stand there.
-fn ports_if_any(
-    alloc: Global,
-    sight: &mut Sight,
-    all: &Option<Vec<Port>>,
-) -> Result<Vec<Ports>, NameFault>
-    ensures given { Gives (λ v. (sight_view sight.new, all_ports_view v))
-        (entering (in_order with_declared port) (sight_view sight.old)
+fn ports_if_any(sight: &mut Sight, all: &Option<Vec<Port>>) -> Result<Vec<Ports>, NameFault>
+    ensures given { Gives (λ v. (sight.new, all_ports_view v))
+        (entering (in_order with_declared port) sight.old
         (all_of (view.option_ports_view all.now))) result }
     ensures kept { OnOk result (sight.new ≡ record sight.old { region = sight.new.region }) }
-    ensures told { IfErr result (Tells (broken.ports (sight_view sight.old)
+    ensures told { IfErr result (Tells (broken.ports sight.old
         (all_of (view.option_ports_view all.now)))) }
 {
     match all {
-        Some(all) => ports(alloc, sight, all),
-        None => ports(alloc, sight, &[]),
+        Some(all) => ports(sight, all),
+        None => ports(sight, &[]),
     }
 }
 
@@ -114,46 +108,44 @@ fn ports_if_any(
 /// sight. They stand in the sight's region then. It takes memory for what is declared and analysed.
 #[tactic(auto, using(crate::proofs::Interfacing::interface_in_turn))]
 pub fn interface_of(
-    alloc: Global,
     sight: &mut Sight,
     generics: &Option<Vec<Generic>>,
     ports: &Option<Vec<Port>>,
 ) -> Result<(Vec<Generics>, Vec<Ports>), NameFault>
-    requires { (sight_view sight.old).region ≡ [] }
-    ensures given { Gives (λ x. interface_in (sight_view sight.new).region x)
-        (rules.interface (sight_view sight.old) (view.option_generics_view generics.now)
+    requires { sight.old.region ≡ [] }
+    ensures given { Gives (λ x. interface_in sight.new.region x)
+        (rules.interface sight.old (view.option_generics_view generics.now)
         (view.option_ports_view ports.now)) result }
     ensures kept { OnOk result (sight.new ≡ record sight.old { region = sight.new.region }) }
-    ensures told { IfErr result (Tells (broken.interface (sight_view sight.old)
+    ensures told { IfErr result (Tells (broken.interface sight.old
         (view.option_generics_view generics.now) (view.option_ports_view ports.now))) }
 {
-    let generics = generics_if_any(alloc, sight, generics)?;
-    let ports = ports_if_any(alloc, sight, ports)?;
+    let generics = generics_if_any(sight, generics)?;
+    let ports = ports_if_any(sight, ports)?;
     Ok((generics, ports))
 }
 
 /// An entity whose context clauses bring this in sight, with the name of its architecture; nothing
 /// stands in its region yet.
 fn entity_in<'a>(
-    alloc: Global,
     context: Context,
     sight: &mut Sight,
     tree: &'a Entity,
     architecture: Option<&'a Identifier>,
 ) -> Result<EntityInterface<'a>, NameFault>
-    requires { (sight_view sight.old).region ≡ [] }
-    ensures given { Gives entity_view (entity_in (context_view context) (sight_view sight.old)
+    requires { sight.old.region ≡ [] }
+    ensures given { Gives entity_view (entity_in (context_view context) sight.old
         (view.entity_view tree.now) (option_map (λ i. i.now.text.items) architecture.entry)) result }
-    ensures told { IfErr result (Tells (broken.interface (sight_view sight.old)
+    ensures told { IfErr result (Tells (broken.interface sight.old
         (view.entity_view tree.now).generics (view.entity_view tree.now).ports
         ▸ end_name (view.entity_view tree.now).name (view.entity_view tree.now).end_name)) }
 {
-    let (generics, ports) = interface_of(alloc, sight, &tree.generics, &tree.ports)?;
+    let (generics, ports) = interface_of(sight, &tree.generics, &tree.ports)?;
     ends(&tree.name, &tree.end_name)?;
     Ok(EntityInterface {
         tree,
         context,
-        region: mem::replace(&mut sight.region, IndexMap::new(alloc)),
+        region: mem::replace(&mut sight.region, IndexMap::new(sight.alloc)),
         generics,
         ports,
         architecture,
@@ -175,5 +167,5 @@ pub fn entity<'a>(
 {
     let context = context_after(Context::NONE, items)?;
     let mut sight = sight_of(alloc, context, IndexMap::new(alloc))?;
-    entity_in(alloc, context, &mut sight, tree, architecture)
+    entity_in(context, &mut sight, tree, architecture)
 }

@@ -6,7 +6,7 @@ ghost use Rattle.vhdl_names_rules.specs.Visibility.{declare};
 ghost use Rattle.vhdl_names_components.specs.Views.{entity_view, sight_behind};
 ghost use Rattle.vhdl_names_rules.specs.Gives.{Gives};
 ghost use Rattle.vhdl_tree.specs.View as view;
-ghost use Rattle.vhdl_names_types.specs.Views.{meaning_view, region_view, sight_view};
+ghost use Rattle.vhdl_names_types.specs.Views.{meaning_view, region_view};
 ghost use Rattle.vhdl_names_rules.specs.problems.Broken.{Tells, nothing};
 ghost use Rattle.vhdl_names_rules.specs.problems.Declarations as broken;
 
@@ -98,8 +98,8 @@ pub fn architecture_sight(
     entity: &EntityInterface<'_>,
     items: &[ContextItem],
 ) -> Result<Sight, NameFault>
-    ensures given { Gives sight_view (sight_behind (entity_view entity.now) (map view.context_view items.now)) result }
-    ensures outermost { IfOk result (λ s. region_view s.enclosing ≡ []) }
+    ensures given { Gives (λ s. s) (sight_behind (entity_view entity.now) (map view.context_view items.now)) result }
+    ensures outermost { IfOk result (λ s. s.enclosing ≡ []) }
     ensures told { IfErr result (Tells (broken.context (entity_view entity.now).context
         (map view.context_view items.now))) }
 {

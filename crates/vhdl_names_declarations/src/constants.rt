@@ -10,7 +10,7 @@ ghost use Rattle.vhdl_names_rules.specs.Subtypes.{declaring_literal};
 ghost use Rattle.vhdl_names_rules.specs.Visibility as visibility;
 ghost use Rattle.vhdl_names_rules.specs.Visibility.{count_of, is_constant, is_integer_constant};
 ghost use Rattle.vhdl_tree.specs.View as tree;
-ghost use Rattle.vhdl_names_types.specs.Views.{meaning_view, sight_view};
+ghost use Rattle.vhdl_names_types.specs.Views.{meaning_view};
 ghost use Rattle.vhdl_names_units.specs.views.Answers.{fixed_view};
 ghost use Rattle.vhdl_names_units.specs.views.Declarations.{declaration_view};
 ghost use Rattle.vhdl_names_rules.specs.problems.Broken.{Tells};
@@ -48,30 +48,29 @@ fn single_expression(value: &Value) -> Result<&Expr, NameFault>
 
 /// Constants of a type of integers, which takes no range.
 fn integer(
-    alloc: Global,
     sight: &Sight,
     integer_type: IntegerType,
     declaration: &Constants,
 ) -> Result<Constant, NameFault>
-    ensures given { Gives typed.constant_view (typed.integer (sight_view sight.now) integer_type (tree.constants_view declaration.now)) result }
-    ensures told { IfErr result (Tells (broken.integer_constants (sight_view sight.now) (tree.constants_view declaration.now))) }
+    ensures given { Gives typed.constant_view (typed.integer sight.now integer_type (tree.constants_view declaration.now)) result }
+    ensures told { IfErr result (Tells (broken.integer_constants sight.now (tree.constants_view declaration.now))) }
 {
     if declaration.subtype.range.is_some() {
         return Err(NameProblem::LeftOut.at(declaration.subtype.mark.at));
     }
     let e = single_expression(&declaration.value)?;
-    let value = static_integer(alloc, sight, e)?;
+    let value = static_integer(sight, e)?;
     Ok(Constant::Integer(integer_type, value))
 }
 
 /// Constants of the nine values.
-fn other(alloc: Global, sight: &Sight, declaration: &Constants) -> Result<Constant, NameFault>
-    ensures given { Gives typed.constant_view (typed.other (sight_view sight.now) (tree.constants_view declaration.now)) result }
-    ensures told { IfErr result (Tells (broken.other_constants (sight_view sight.now) (tree.constants_view declaration.now))) }
+fn other(sight: &Sight, declaration: &Constants) -> Result<Constant, NameFault>
+    ensures given { Gives typed.constant_view (typed.other sight.now (tree.constants_view declaration.now)) result }
+    ensures told { IfErr result (Tells (broken.other_constants sight.now (tree.constants_view declaration.now))) }
 {
-    let subtype = subtype(alloc, sight, &declaration.subtype)?;
+    let subtype = subtype(sight, &declaration.subtype)?;
     let kind = kind_of(subtype.object_type, declaration.subtype.mark.at)?;
-    let value = fixed_value(alloc, sight, subtype.object_type, &declaration.value)?;
+    let value = fixed_value(sight, subtype.object_type, &declaration.value)?;
     Ok(Constant::Other(kind, subtype.form, value))
 }
 
@@ -86,18 +85,14 @@ fn as_integer_type(meaning: &Meaning) -> Option<IntegerType>
 }
 
 /// What constants of one declaration are, with their names hidden.
-fn typed_constant(
-    alloc: Global,
-    sight: &Sight,
-    declaration: &Constants,
-) -> Result<Constant, NameFault>
-    ensures given { Gives typed.constant_view (typed.constant (sight_view sight.now) (tree.constants_view declaration.now)) result }
-    ensures told { IfErr result (Tells (broken.typed_constants (sight_view sight.now) (tree.constants_view declaration.now))) }
+fn typed_constant(sight: &Sight, declaration: &Constants) -> Result<Constant, NameFault>
+    ensures given { Gives typed.constant_view (typed.constant sight.now (tree.constants_view declaration.now)) result }
+    ensures told { IfErr result (Tells (broken.typed_constants sight.now (tree.constants_view declaration.now))) }
 {
     let mark = meaning_of(sight, &declaration.subtype.mark)?;
     match as_integer_type(mark) {
-        Some(integer_type) => integer(alloc, sight, integer_type, declaration),
-        None => other(alloc, sight, declaration),
+        Some(integer_type) => integer(sight, integer_type, declaration),
+        None => other(sight, declaration),
     }
 }
 
@@ -151,25 +146,24 @@ fn declaration_of(names: Vec<Identifier>, constant: Constant) -> Declaration
 /// Constants of one declaration, numbered from here on within their class. Within it their names
 /// hide outer ones.
 pub fn constants(
-    alloc: Global,
     sight: &mut Sight,
     integers: usize,
     constants: usize,
     declaration: &Constants,
 ) -> Result<Declaration, NameFault>
-    requires integers { integers ≡ count_of is_integer_constant (sight_view sight.old).region }
-    requires constants { constants ≡ count_of is_constant (sight_view sight.old).region }
-    ensures given { Gives (λ o. (sight_view sight.new, declaration_view o))
-        (entering rules.constants (sight_view sight.old) (tree.constants_view declaration.now)) result }
+    requires integers { integers ≡ count_of is_integer_constant sight.old.region }
+    requires constants { constants ≡ count_of is_constant sight.old.region }
+    ensures given { Gives (λ o. (sight.new, declaration_view o))
+        (entering rules.constants sight.old (tree.constants_view declaration.now)) result }
     ensures kept { OnOk result (sight.new ≡ record sight.old { region = sight.new.region }) }
-    ensures told { IfErr result (Tells (broken.constants (sight_view sight.old) (tree.constants_view declaration.now))) }
+    ensures told { IfErr result (Tells (broken.constants sight.old (tree.constants_view declaration.now))) }
 {
     let first = sight.region.len();
-    hide(alloc, &mut sight.region, &declaration.names)?;
-    let typed = typed_constant(alloc, sight, declaration)?;
-    let class = class_of(alloc, &typed)?;
+    hide(sight.alloc, &mut sight.region, &declaration.names)?;
+    let typed = typed_constant(sight, declaration)?;
+    let class = class_of(sight.alloc, &typed)?;
     let number = number_of(&typed, integers, constants);
-    settle(alloc, &mut sight.region, first, number, &class)?;
-    let names = copied_names(alloc, &declaration.names)?;
+    settle(sight.alloc, &mut sight.region, first, number, &class)?;
+    let names = copied_names(sight.alloc, &declaration.names)?;
     Ok(declaration_of(names, typed))
 }

@@ -6,7 +6,7 @@ ghost use Rattle.vhdl_names_rules.specs.Declarations as rules;
 ghost use Rattle.vhdl_names_rules.specs.Gives.{Gives};
 ghost use Rattle.vhdl_names_rules.specs.Visibility.{count_of, names_of, is_enumeration_type};
 ghost use Rattle.vhdl_tree.specs.View.{ident_view, enumeration_view};
-ghost use Rattle.vhdl_names_types.specs.Views.{region_view, sight_view};
+ghost use Rattle.vhdl_names_types.specs.Views.{region_view};
 ghost use Rattle.vhdl_names_rules.specs.problems.Broken.{Tells};
 ghost use Rattle.vhdl_names_rules.specs.problems.Declarations as broken;
 
@@ -45,23 +45,22 @@ fn literals(
 /// An enumeration type of a number, and its literals. More than 256 literals are left out. It takes
 /// the memory of the names and their entries.
 pub fn enumeration(
-    alloc: Global,
     sight: &mut Sight,
     number: usize,
     declaration: &Enumeration,
 ) -> Result<(), NameFault>
-    requires { number ≡ count_of is_enumeration_type (sight_view sight.old).region }
-    ensures given { Gives (λ _. (sight_view sight.new, []))
-        (entering rules.enumeration (sight_view sight.old) (enumeration_view declaration.now)) result }
+    requires { number ≡ count_of is_enumeration_type sight.old.region }
+    ensures given { Gives (λ _. (sight.new, []))
+        (entering rules.enumeration sight.old (enumeration_view declaration.now)) result }
     ensures kept { OnOk result (sight.new ≡ record sight.old { region = sight.new.region }) }
-    ensures told { IfErr result (Tells (broken.enumeration (sight_view sight.old) (enumeration_view declaration.now))) }
+    ensures told { IfErr result (Tells (broken.enumeration sight.old (enumeration_view declaration.now))) }
 {
     let count = declaration.literals.len();
     if count > 256 {
         return Err(NameProblem::LeftOut.at(declaration.name.at));
     }
     declare(
-        alloc,
+        sight.alloc,
         &mut sight.region,
         &declaration.name,
         Meaning::EnumerationType {
@@ -69,6 +68,11 @@ pub fn enumeration(
             count: count as u16,
         },
     )?;
-    literals(alloc, &mut sight.region, number, &declaration.literals)?;
+    literals(
+        sight.alloc,
+        &mut sight.region,
+        number,
+        &declaration.literals,
+    )?;
     Ok(())
 }

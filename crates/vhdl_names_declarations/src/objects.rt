@@ -10,7 +10,6 @@ ghost use Rattle.vhdl_names_rules.specs.Rules.{if_any};
 ghost use Rattle.vhdl_names_rules.specs.Subtypes as types;
 ghost use Rattle.vhdl_names_rules.specs.Visibility.{count_of, is_signal, is_variable, with_variables};
 ghost use Rattle.vhdl_tree.specs.View as tree;
-ghost use Rattle.vhdl_names_types.specs.Views.{sight_view};
 ghost use Rattle.vhdl_names_units.specs.views.Answers.{subtype_view, fixed_view};
 ghost use Rattle.vhdl_names_units.specs.views.Declarations.{declaration_view, object_view, objects_view};
 ghost use Rattle.vhdl_names_rules.specs.problems.Broken.{Tells, of_any};
@@ -30,33 +29,31 @@ use vhdl_tree::{Identifier, Signals, Subtype as TreeSubtype, Value, Variables};
 
 /// A default for objects of a type, if there is one.
 pub fn fixed_if_any(
-    alloc: Global,
     sight: &Sight,
     object_type: ObjectType,
     value: &Option<Value>,
 ) -> Result<Option<Fixed>, NameFault>
-    ensures given { Gives (option_map fixed_view) (if_any (types.fixed_value (sight_view sight.now) object_type) (tree.option_value_view value.now)) result }
-    ensures told { IfErr result (Tells (of_any (subtypes_broken.fixed_value (sight_view sight.now) object_type) (tree.option_value_view value.now))) }
+    ensures given { Gives (option_map fixed_view) (if_any (types.fixed_value sight.now object_type) (tree.option_value_view value.now)) result }
+    ensures told { IfErr result (Tells (of_any (subtypes_broken.fixed_value sight.now object_type) (tree.option_value_view value.now))) }
 {
     match value {
         None => Ok(None),
-        Some(value) => Ok(Some(fixed_value(alloc, sight, object_type, value)?)),
+        Some(value) => Ok(Some(fixed_value(sight, object_type, value)?)),
     }
 }
 
 /// The type of objects, and their default.
 pub fn object_type(
-    alloc: Global,
     sight: &Sight,
     indication: &TreeSubtype,
     value: &Option<Value>,
 ) -> Result<(Subtype, Option<Fixed>), NameFault>
     ensures given { Gives (λ x. (subtype_view x.0, option_map fixed_view x.1))
-        (typed_object (sight_view sight.now) (tree.subtype_view indication.now) (tree.option_value_view value.now)) result }
-    ensures told { IfErr result (Tells (broken.object (sight_view sight.now) (tree.subtype_view indication.now) (tree.option_value_view value.now))) }
+        (typed_object sight.now (tree.subtype_view indication.now) (tree.option_value_view value.now)) result }
+    ensures told { IfErr result (Tells (broken.object sight.now (tree.subtype_view indication.now) (tree.option_value_view value.now))) }
 {
-    let subtype = subtype(alloc, sight, indication)?;
-    let default = fixed_if_any(alloc, sight, subtype.object_type, value)?;
+    let subtype = subtype(sight, indication)?;
+    let default = fixed_if_any(sight, subtype.object_type, value)?;
     Ok((subtype, default))
 }
 
@@ -81,64 +78,58 @@ pub fn objects(
 
 /// Signals of one declaration, numbered from here on. Within it their names hide outer ones.
 pub fn signals(
-    alloc: Global,
     sight: &mut Sight,
     number: usize,
     declaration: &Signals,
 ) -> Result<Declaration, NameFault>
-    requires { number ≡ count_of is_signal (sight_view sight.old).region }
-    ensures given { Gives (λ o. (sight_view sight.new, declaration_view o))
-        (entering rules.signals (sight_view sight.old) (tree.signals_view declaration.now)) result }
+    requires { number ≡ count_of is_signal sight.old.region }
+    ensures given { Gives (λ o. (sight.new, declaration_view o))
+        (entering rules.signals sight.old (tree.signals_view declaration.now)) result }
     ensures kept { OnOk result (sight.new ≡ record sight.old { region = sight.new.region }) }
-    ensures told { IfErr result (Tells (broken.signals (sight_view sight.old) (tree.signals_view declaration.now))) }
+    ensures told { IfErr result (Tells (broken.signals sight.old (tree.signals_view declaration.now))) }
 {
     let first = sight.region.len();
-    hide(alloc, &mut sight.region, &declaration.names)?;
-    let (subtype, default) = object_type(alloc, sight, &declaration.subtype, &declaration.default)?;
+    hide(sight.alloc, &mut sight.region, &declaration.names)?;
+    let (subtype, default) = object_type(sight, &declaration.subtype, &declaration.default)?;
     let class = ObjectClass::Signal(subtype.object_type);
-    settle(alloc, &mut sight.region, first, number, &class)?;
-    let objects = objects(alloc, &declaration.names, subtype, default)?;
+    settle(sight.alloc, &mut sight.region, first, number, &class)?;
+    let objects = objects(sight.alloc, &declaration.names, subtype, default)?;
     Ok(Declaration::Signals(objects))
 }
 
 /// Variables of one declaration, numbered from here on. Within it their names hide outer ones.
 fn variables_of_one(
-    alloc: Global,
     sight: &mut Sight,
     number: usize,
     declaration: &Variables,
 ) -> Result<Objects, NameFault>
-    requires { number ≡ count_of is_variable (sight_view sight.old).variables }
-    ensures given { Gives (λ o. (sight_view sight.new, object_view o))
-        (entering_variables rules.variables (sight_view sight.old) (tree.variables_view declaration.now)) result }
-    ensures told { IfErr result (Tells (broken.variables (sight_view sight.old) (tree.variables_view declaration.now))) }
+    requires { number ≡ count_of is_variable sight.old.variables }
+    ensures given { Gives (λ o. (sight.new, object_view o))
+        (entering_variables rules.variables sight.old (tree.variables_view declaration.now)) result }
+    ensures told { IfErr result (Tells (broken.variables sight.old (tree.variables_view declaration.now))) }
 {
     let first = sight.variables.len();
-    hide(alloc, &mut sight.variables, &declaration.names)?;
-    let (subtype, default) = object_type(alloc, sight, &declaration.subtype, &declaration.default)?;
+    hide(sight.alloc, &mut sight.variables, &declaration.names)?;
+    let (subtype, default) = object_type(sight, &declaration.subtype, &declaration.default)?;
     let class = ObjectClass::Variable(subtype.object_type);
-    settle(alloc, &mut sight.variables, first, number, &class)?;
-    let objects = objects(alloc, &declaration.names, subtype, default)?;
+    settle(sight.alloc, &mut sight.variables, first, number, &class)?;
+    let objects = objects(sight.alloc, &declaration.names, subtype, default)?;
     Ok(objects)
 }
 
 /// The variables of a process, which are in sight of what follows. It takes memory for what is
 /// declared and analysed.
-pub fn variables(
-    alloc: Global,
-    sight: &mut Sight,
-    all: &[Variables],
-) -> Result<Vec<Objects>, NameFault>
-    ensures given { Gives (λ v. (sight_view sight.new, objects_view v))
-        (entering_variables (rules.in_order with_variables rules.variables) (sight_view sight.old) (map tree.variables_view all.now)) result }
-    ensures told { IfErr result (Tells (broken.in_order with_variables rules.variables broken.variables (sight_view sight.old) (map tree.variables_view all.now))) }
+pub fn variables(sight: &mut Sight, all: &[Variables]) -> Result<Vec<Objects>, NameFault>
+    ensures given { Gives (λ v. (sight.new, objects_view v))
+        (entering_variables (rules.in_order with_variables rules.variables) sight.old (map tree.variables_view all.now)) result }
+    ensures told { IfErr result (Tells (broken.in_order with_variables rules.variables broken.variables sight.old (map tree.variables_view all.now))) }
 {
-    let mut done = Vec::new(alloc);
+    let mut done = Vec::new(sight.alloc);
     names_are_apart(&sight.variables);
     let mut counts = Counts::NONE.of(&sight.variables, 0);
     for one in all {
         let first = sight.variables.len();
-        let next = variables_of_one(alloc, sight, counts.variables, one)?;
+        let next = variables_of_one(sight, counts.variables, one)?;
         done.push(next)?;
         counts = counts.of(&sight.variables, first);
     }

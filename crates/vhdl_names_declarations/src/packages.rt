@@ -6,7 +6,7 @@ ghost use Rattle.vhdl_names_declarations.specs.Entered.{more};
 ghost use Rattle.vhdl_names_declarations.specs.Rows.{builtin_view, row_view};
 ghost use Rattle.vhdl_names_rules.specs.Gives.{Gives};
 ghost use Rattle.vhdl_names_rules.specs.Packages as rules;
-ghost use Rattle.vhdl_names_types.specs.Views.{meaning_view, region_view, sight_view};
+ghost use Rattle.vhdl_names_types.specs.Views.{meaning_view, region_view};
 ghost use Rattle.vhdl_names_rules.specs.problems.Broken.{Tells, refused, nothing};
 ghost use Rattle.vhdl_names_rules.specs.declared.fault.NameProblem.TheVariants.{Twice};
 
@@ -162,12 +162,13 @@ pub fn visible(alloc: Global, context: Context) -> Result<Region, NameFault>
 /// What is in sight of a region where nothing else is declared. It takes the memory of the
 /// packages' names.
 pub fn sight_of(alloc: Global, context: Context, region: Region) -> Result<Sight, NameFault>
-    ensures sight { Gives sight_view (Some (rules.sight_of (context_view context) (region_view region))) result }
-    ensures enclosing { IfOk result (λ s. region_view s.enclosing ≡ []) }
+    ensures sight { Gives (λ s. s) (Some (rules.sight_of (context_view context) (region_view region))) result }
+    ensures enclosing { IfOk result (λ s. s.enclosing ≡ []) }
     ensures told { IfErr result (Tells (nothing)) }
 {
     let packages = visible(alloc, context)?;
     Ok(Sight {
+        alloc,
         loops: Vec::new(alloc),
         variables: IndexMap::new(alloc),
         generates: Vec::new(alloc),

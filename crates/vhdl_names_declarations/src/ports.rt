@@ -7,7 +7,6 @@ ghost use Rattle.vhdl_names_rules.specs.Declarations as rules;
 ghost use Rattle.vhdl_names_rules.specs.Gives.{Gives};
 ghost use Rattle.vhdl_names_rules.specs.Visibility.{count_of, is_port, with_declared};
 ghost use Rattle.vhdl_tree.specs.View as tree;
-ghost use Rattle.vhdl_names_types.specs.Views.{sight_view};
 ghost use Rattle.vhdl_names_units.specs.views.Answers.{subtype_view, fixed_view};
 ghost use Rattle.vhdl_names_units.specs.views.Declarations.{ports_view, all_ports_view};
 ghost use Rattle.vhdl_names_rules.specs.problems.Broken.{Tells, refused};
@@ -19,7 +18,6 @@ use crate::class::ObjectClass;
 use crate::counts::Counts;
 use crate::objects::{fixed_if_any, objects};
 use crate::region::{hide, settle};
-use std::alloc::Global;
 use vhdl_names_expressions::subtype;
 use vhdl_names_rules::{ElementKind, NameFault, NameProblem, ObjectType};
 use vhdl_names_types::{Sight, names_are_apart};
@@ -49,52 +47,48 @@ fn mode_of(mode: Option<Mode>) -> Mode
 }
 
 /// The type, kind and default of ports of one declaration.
-fn port_type(
-    alloc: Global,
-    sight: &Sight,
-    port: &Port,
-) -> Result<(Subtype, ElementKind, Option<Fixed>), NameFault>
-    ensures given { Gives (λ x. (subtype_view x.0, x.1, option_map fixed_view x.2)) (typed_port (sight_view sight.now) (tree.port_view port.now)) result }
-    ensures told { IfErr result (Tells (broken.typed_port (sight_view sight.now) (tree.port_view port.now))) }
+fn port_type(sight: &Sight, port: &Port) -> Result<(Subtype, ElementKind, Option<Fixed>), NameFault>
+    ensures given { Gives (λ x. (subtype_view x.0, x.1, option_map fixed_view x.2)) (typed_port sight.now (tree.port_view port.now)) result }
+    ensures told { IfErr result (Tells (broken.typed_port sight.now (tree.port_view port.now))) }
 {
-    let subtype = subtype(alloc, sight, &port.subtype)?;
+    let subtype = subtype(sight, &port.subtype)?;
     let kind = kind_of(subtype.object_type, port.subtype.mark.at)?;
-    let default = fixed_if_any(alloc, sight, subtype.object_type, &port.default)?;
+    let default = fixed_if_any(sight, subtype.object_type, &port.default)?;
     Ok((subtype, kind, default))
 }
 
 /// Ports of one declaration, numbered from here on. Their names are declared behind their type and
 /// default, which they do not hide.
-fn port(alloc: Global, sight: &mut Sight, number: usize, port: &Port) -> Result<Ports, NameFault>
-    requires { number ≡ count_of is_port (sight_view sight.old).region }
-    ensures given { Gives (λ p. (sight_view sight.new, ports_view p)) (entering rules.port (sight_view sight.old) (tree.port_view port.now)) result }
+fn port(sight: &mut Sight, number: usize, port: &Port) -> Result<Ports, NameFault>
+    requires { number ≡ count_of is_port sight.old.region }
+    ensures given { Gives (λ p. (sight.new, ports_view p)) (entering rules.port sight.old (tree.port_view port.now)) result }
     ensures kept { OnOk result (sight.new ≡ record sight.old { region = sight.new.region }) }
-    ensures told { IfErr result (Tells (broken.port (sight_view sight.old) (tree.port_view port.now))) }
+    ensures told { IfErr result (Tells (broken.port sight.old (tree.port_view port.now))) }
 {
     let first = sight.region.len();
-    let typed = port_type(alloc, sight, port);
-    hide(alloc, &mut sight.region, &port.names)?;
+    let typed = port_type(sight, port);
+    hide(sight.alloc, &mut sight.region, &port.names)?;
     let (subtype, kind, default) = typed?;
     let mode = mode_of(port.mode);
     let class = ObjectClass::Port(mode, kind);
-    settle(alloc, &mut sight.region, first, number, &class)?;
-    let objects = objects(alloc, &port.names, subtype, default)?;
+    settle(sight.alloc, &mut sight.region, first, number, &class)?;
+    let objects = objects(sight.alloc, &port.names, subtype, default)?;
     Ok(Ports { mode, objects })
 }
 
 /// Ports of an interface. It takes memory for what is declared and analysed.
-pub fn ports(alloc: Global, sight: &mut Sight, all: &[Port]) -> Result<Vec<Ports>, NameFault>
-    ensures given { Gives (λ v. (sight_view sight.new, all_ports_view v))
-        (entering (rules.in_order with_declared rules.port) (sight_view sight.old) (map tree.port_view all.now)) result }
+pub fn ports(sight: &mut Sight, all: &[Port]) -> Result<Vec<Ports>, NameFault>
+    ensures given { Gives (λ v. (sight.new, all_ports_view v))
+        (entering (rules.in_order with_declared rules.port) sight.old (map tree.port_view all.now)) result }
     ensures kept { OnOk result (sight.new ≡ record sight.old { region = sight.new.region }) }
-    ensures told { IfErr result (Tells (interfaces_broken.ports (sight_view sight.old) (map tree.port_view all.now))) }
+    ensures told { IfErr result (Tells (interfaces_broken.ports sight.old (map tree.port_view all.now))) }
 {
-    let mut done = Vec::new(alloc);
+    let mut done = Vec::new(sight.alloc);
     names_are_apart(&sight.region);
     let mut counts = Counts::NONE.of(&sight.region, 0);
     for one in all {
         let first = sight.region.len();
-        let next = port(alloc, sight, counts.ports, one)?;
+        let next = port(sight, counts.ports, one)?;
         done.push(next)?;
         counts = counts.of(&sight.region, first);
     }

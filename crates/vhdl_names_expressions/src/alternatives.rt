@@ -10,7 +10,7 @@ ghost use Rattle.vhdl_names_rules.specs.Rules.{each};
 ghost use Rattle.vhdl_names_rules.specs.declared.kind.ObjectType.TheVariants.{Elements, Enumeration};
 ghost use Rattle.vhdl_tree.specs.Tree as t;
 ghost use Rattle.vhdl_tree.specs.View.{view, ident_view, suffix_view, option_ident_view, choice_view as tree_choice_view};
-ghost use Rattle.vhdl_names_types.specs.Views.{sight_view, meaning_view};
+ghost use Rattle.vhdl_names_types.specs.Views.{meaning_view};
 ghost use Rattle.vhdl_names_expressions.specs.Chosen.{is_bare};
 ghost use Rattle.vhdl_names_units.specs.views.Answers.{choice_view, choices_view};
 
@@ -98,8 +98,8 @@ fn is_bare_name(name: &Name) -> bool
 /// A name as a choice, with nothing behind it.
 #[tactic(auto, using(crate::proofs::Choosing::chosen_named))]
 fn chosen_name(sight: &Sight, object_type: ObjectType, name: &Name) -> Result<Choice, NameFault>
-    ensures given { Gives choice_view (rules.chosen (sight_view sight.now) object_type (t.named (ident_view name.now.identifier) (suffix_view name.now.suffix) (option_ident_view name.now.attribute))) result }
-    ensures told { IfErr result (Tells (broken.chosen (sight_view sight.now) object_type (t.named (ident_view name.now.identifier) (suffix_view name.now.suffix) (option_ident_view name.now.attribute)))) }
+    ensures given { Gives choice_view (rules.chosen sight.now object_type (t.named (ident_view name.now.identifier) (suffix_view name.now.suffix) (option_ident_view name.now.attribute))) result }
+    ensures told { IfErr result (Tells (broken.chosen sight.now object_type (t.named (ident_view name.now.identifier) (suffix_view name.now.suffix) (option_ident_view name.now.attribute)))) }
 {
     let meaning = meaning_of(sight, &name.identifier)?;
     if !is_bare_name(name) {
@@ -123,50 +123,43 @@ fn literal_choice(alloc: Global, object_type: ObjectType, e: &Expr) -> Result<Ch
 }
 
 /// A literal as it stands, or a name with nothing behind it; no other expression is a choice.
-fn chosen(
-    alloc: Global,
-    sight: &Sight,
-    object_type: ObjectType,
-    e: &Expr,
-) -> Result<Choice, NameFault>
-    ensures given { Gives choice_view (rules.chosen (sight_view sight.now) object_type (view e.now)) result }
-    ensures told { IfErr result (Tells (broken.chosen (sight_view sight.now) object_type (view e.now))) }
+fn chosen(sight: &Sight, object_type: ObjectType, e: &Expr) -> Result<Choice, NameFault>
+    ensures given { Gives choice_view (rules.chosen sight.now object_type (view e.now)) result }
+    ensures told { IfErr result (Tells (broken.chosen sight.now object_type (view e.now))) }
 {
     match name_of(e) {
         Some(name) => chosen_name(sight, object_type, name),
-        None => literal_choice(alloc, object_type, e),
+        None => literal_choice(sight.alloc, object_type, e),
     }
 }
 
 /// One choice that is not `others`. It takes memory for what is analysed.
 pub fn choice(
-    alloc: Global,
     sight: &Sight,
     object_type: ObjectType,
     choice: &TreeChoice,
 ) -> Result<Choice, NameFault>
-    ensures given { Gives choice_view (rules.choice (sight_view sight.now) object_type (tree_choice_view choice.now)) result }
-    ensures told { IfErr result (Tells (broken.choice (sight_view sight.now) object_type (tree_choice_view choice.now))) }
+    ensures given { Gives choice_view (rules.choice sight.now object_type (tree_choice_view choice.now)) result }
+    ensures told { IfErr result (Tells (broken.choice sight.now object_type (tree_choice_view choice.now))) }
 {
     match choice {
-        TreeChoice::Expr(e) => chosen(alloc, sight, object_type, e),
+        TreeChoice::Expr(e) => chosen(sight, object_type, e),
         TreeChoice::Others { at } => Err(NameProblem::WrongKind.at(*at)),
     }
 }
 
 /// Choices without `others`, in order.
 fn each_choice(
-    alloc: Global,
     sight: &Sight,
     object_type: ObjectType,
     all: &[TreeChoice],
 ) -> Result<Vec<Choice>, NameFault>
-    ensures given { Gives choices_view (each (rules.choice (sight_view sight.now) object_type) (map tree_choice_view all.now)) result }
-    ensures told { IfErr result (Tells (any_of (broken.choice (sight_view sight.now) object_type) (map tree_choice_view all.now))) }
+    ensures given { Gives choices_view (each (rules.choice sight.now object_type) (map tree_choice_view all.now)) result }
+    ensures told { IfErr result (Tells (any_of (broken.choice sight.now object_type) (map tree_choice_view all.now))) }
 {
-    let mut done = Vec::new(alloc);
+    let mut done = Vec::new(sight.alloc);
     for one in all {
-        let next = choice(alloc, sight, object_type, one)?;
+        let next = choice(sight, object_type, one)?;
         done.push(next)?;
     }
     Ok(done)
@@ -198,16 +191,15 @@ fn are_others(all: &[TreeChoice]) -> bool
 /// for what is analysed, and fails at the first byte where a rule is broken.
 #[tactic(auto, using(crate::proofs::Choosing::choices_others, crate::proofs::Choosing::choices_each))]
 pub fn choices(
-    alloc: Global,
     sight: &Sight,
     object_type: ObjectType,
     all: &[TreeChoice],
 ) -> Result<Vec<Choice>, NameFault>
-    ensures given { Gives choices_view (rules.choices (sight_view sight.now) object_type (map tree_choice_view all.now)) result }
-    ensures told { IfErr result (Tells (broken.choices (sight_view sight.now) object_type (map tree_choice_view all.now))) }
+    ensures given { Gives choices_view (rules.choices sight.now object_type (map tree_choice_view all.now)) result }
+    ensures told { IfErr result (Tells (broken.choices sight.now object_type (map tree_choice_view all.now))) }
 {
     if are_others(all) {
-        return Ok(Vec::new(alloc));
+        return Ok(Vec::new(sight.alloc));
     }
-    each_choice(alloc, sight, object_type, all)
+    each_choice(sight, object_type, all)
 }

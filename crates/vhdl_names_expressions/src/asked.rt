@@ -12,7 +12,7 @@ ghost use Rattle.vhdl_names_rules.specs.Gives.{Gives};
 ghost use Rattle.vhdl_names_rules.specs.declared.kind.ObjectType.TheVariants.{Elements, Enumeration};
 ghost use Rattle.vhdl_names_rules.specs.views.Tests.{test_view, static_test_view};
 ghost use Rattle.vhdl_tree.specs.View as trees;
-ghost use Rattle.vhdl_names_types.specs.Views.{sight_view, typed_view};
+ghost use Rattle.vhdl_names_types.specs.Views.{typed_view};
 ghost use Rattle.vhdl_names_expressions.specs.Asked.{static_condition as static_condition_of, selected_by};
 ghost use Rattle.vhdl_names_units.specs.views.Answers.{given_view, selector_view};
 
@@ -37,11 +37,11 @@ fn as_test(operand: Typed, at: usize) -> Result<Test, NameFault>
 
 /// A condition: a truth, or one element (9.2.9).
 #[tactic(auto, using(crate::proofs::Asking::condition_is))]
-pub fn condition(alloc: Global, sight: &Sight, e: &Expr) -> Result<Test, NameFault>
-    ensures given { Gives test_view (rules.condition (sight_view sight.now) (trees.view e.now)) result }
-    ensures told { IfErr result (Tells (broken.condition (sight_view sight.now) (trees.view e.now))) }
+pub fn condition(sight: &Sight, e: &Expr) -> Result<Test, NameFault>
+    ensures given { Gives test_view (rules.condition sight.now (trees.view e.now)) result }
+    ensures told { IfErr result (Tells (broken.condition sight.now (trees.view e.now))) }
 {
-    let value = typed(alloc, sight, e)?;
+    let value = typed(sight, e)?;
     as_test(value, start(e))
 }
 
@@ -61,11 +61,11 @@ fn as_static_test(operand: Typed, at: usize) -> Result<StaticTest, NameFault>
 }
 
 /// A generate's condition, which is over static integers alone.
-pub fn static_condition(alloc: Global, sight: &Sight, e: &Expr) -> Result<StaticTest, NameFault>
-    ensures given { Gives static_test_view (static_condition_of (sight_view sight.now) (trees.view e.now)) result }
-    ensures told { IfErr result (Tells (broken.static_condition (sight_view sight.now) (trees.view e.now))) }
+pub fn static_condition(sight: &Sight, e: &Expr) -> Result<StaticTest, NameFault>
+    ensures given { Gives static_test_view (static_condition_of sight.now (trees.view e.now)) result }
+    ensures told { IfErr result (Tells (broken.static_condition sight.now (trees.view e.now))) }
 {
-    let value = typed(alloc, sight, e)?;
+    let value = typed(sight, e)?;
     as_static_test(value, start(e))
 }
 
@@ -154,23 +154,18 @@ fn as_filled(
 /// What is given to a target of a type: a value, or `(others => e)` for each element of a vector
 /// (9.3.3).
 #[tactic(auto, using(crate::proofs::Asking::given_single, crate::proofs::Asking::given_others))]
-pub fn given(
-    alloc: Global,
-    sight: &Sight,
-    object_type: ObjectType,
-    value: &TreeValue,
-) -> Result<Given, NameFault>
-    ensures given { Gives given_view (rules.value_given (sight_view sight.now) object_type (trees.value_view value.now)) result }
-    ensures told { IfErr result (Tells (broken.value_given (sight_view sight.now) object_type (trees.value_view value.now))) }
+pub fn given(sight: &Sight, object_type: ObjectType, value: &TreeValue) -> Result<Given, NameFault>
+    ensures given { Gives given_view (rules.value_given sight.now object_type (trees.value_view value.now)) result }
+    ensures told { IfErr result (Tells (broken.value_given sight.now object_type (trees.value_view value.now))) }
 {
     match value {
         TreeValue::Expr(e) => {
-            let operand = typed(alloc, sight, e)?;
-            as_value(alloc, object_type, operand, start(e))
+            let operand = typed(sight, e)?;
+            as_value(sight.alloc, object_type, operand, start(e))
         }
         TreeValue::Others { at, element } => {
-            let operand = typed(alloc, sight, element)?;
-            as_filled(alloc, object_type, operand, *at, start(element))
+            let operand = typed(sight, element)?;
+            as_filled(sight.alloc, object_type, operand, *at, start(element))
         }
     }
 }
@@ -199,10 +194,10 @@ fn as_selector(operand: Typed, at: usize) -> Result<(ObjectType, Value), NameFau
 
 /// The type and the value that a case selects by: elements of the nine values, or an enumeration
 /// (10.9).
-pub fn selector(alloc: Global, sight: &Sight, e: &Expr) -> Result<(ObjectType, Value), NameFault>
-    ensures given { Gives selector_view (selected_by (sight_view sight.now) (trees.view e.now)) result }
-    ensures told { IfErr result (Tells (choices.selected_by (sight_view sight.now) (trees.view e.now))) }
+pub fn selector(sight: &Sight, e: &Expr) -> Result<(ObjectType, Value), NameFault>
+    ensures given { Gives selector_view (selected_by sight.now (trees.view e.now)) result }
+    ensures told { IfErr result (Tells (choices.selected_by sight.now (trees.view e.now))) }
 {
-    let value = typed(alloc, sight, e)?;
+    let value = typed(sight, e)?;
     as_selector(value, start(e))
 }

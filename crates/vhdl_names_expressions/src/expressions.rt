@@ -15,9 +15,8 @@ ghost use Rattle.vhdl_tree.specs.View.{view, suffix_view, ident_view, range_view
 ghost use Rattle.vhdl_names_expressions.specs.Chosen.{is_name, arguments_of, started, links_of};
 ghost use Rattle.vhdl_names_expressions.specs.Steps.{is_parens, enclosed_if, linked, all_linked};
 ghost use Rattle.vhdl_names_expressions.specs.Breaking.{link_breaks, all_break, started_breaks};
-ghost use Rattle.vhdl_names_types.specs.Views.{meaning_view, sight_view, typed_view, typed_suffix_view};
+ghost use Rattle.vhdl_names_types.specs.Views.{meaning_view, typed_view, typed_suffix_view};
 
-use std::alloc::Global;
 use vhdl_names_rules::{NameFault, NameProblem, Static, StaticRange};
 use vhdl_names_types::{
     Meaning, Sight, Typed, TypedSuffix, attributed, bit_string_literal, character_literal, denoted,
@@ -116,71 +115,65 @@ fn is_one_name(arguments: &[Expr]) -> bool
 /// is analysed.
 #[cycle(typed)]
 #[tactic(auto, unfolding(vhdl_names_rules::specs::Expressions::typed))]
-pub fn typed(alloc: Global, sight: &Sight, e: &Expr) -> Result<Typed, NameFault>
-    ensures given { Gives typed_view (rules.typed (sight_view sight.now) (view e.now)) result }
-    ensures told { IfErr result (Tells (broken.typed (sight_view sight.now) (view e.now))) }
+pub fn typed(sight: &Sight, e: &Expr) -> Result<Typed, NameFault>
+    ensures given { Gives typed_view (rules.typed sight.now (view e.now)) result }
+    ensures told { IfErr result (Tells (broken.typed sight.now (view e.now))) }
 {
     match e {
         Expr::Integer(literal) => integer_literal(literal),
         Expr::Character { at, code } => character_literal(*code, *at),
-        Expr::StringLiteral(literal) => string_literal(alloc, literal),
-        Expr::BitString(literal) => bit_string_literal(alloc, literal),
-        Expr::Name(name) => named(alloc, sight, name),
+        Expr::StringLiteral(literal) => string_literal(sight.alloc, literal),
+        Expr::BitString(literal) => bit_string_literal(sight.alloc, literal),
+        Expr::Name(name) => named(sight, name),
         Expr::Parens { inner, .. } => {
-            let operand = typed(alloc, sight, inner)?;
+            let operand = typed(sight, inner)?;
             Ok(enclosed(operand))
         }
         Expr::Not { at, operand } => {
-            let operand = typed(alloc, sight, operand)?;
-            inverse(alloc, *at, operand)
+            let operand = typed(sight, operand)?;
+            inverse(sight.alloc, *at, operand)
         }
         Expr::Signed { sign, at, operand } => {
-            let operand = typed(alloc, sight, operand)?;
-            signed(alloc, *sign, operand, *at)
+            let operand = typed(sight, operand)?;
+            signed(sight.alloc, *sign, operand, *at)
         }
         Expr::Chain(chain) => {
-            let begun = begun(alloc, sight, chain)?;
-            further(alloc, sight, chain, begun)
+            let begun = begun(sight, chain)?;
+            further(sight, chain, begun)
         }
     }
 }
 
 /// A chain's first operand and its first operator with the right operand.
 #[cycle(typed)]
-fn begun(alloc: Global, sight: &Sight, chain: &Chain) -> Result<Typed, NameFault>
-    ensures given { Gives typed_view (started (sight_view sight.now) chain.now) result }
-    ensures told { IfErr result (Tells (started_breaks (sight_view sight.now) chain.now)) }
+fn begun(sight: &Sight, chain: &Chain) -> Result<Typed, NameFault>
+    ensures given { Gives typed_view (started sight.now chain.now) result }
+    ensures told { IfErr result (Tells (started_breaks sight.now chain.now)) }
 {
-    let first = typed(alloc, sight, &chain.first)?;
+    let first = typed(sight, &chain.first)?;
     let after_parens = stands_in_parens(&chain.first);
-    link(alloc, sight, &chain.second, after_parens, first)
+    link(sight, &chain.second, after_parens, first)
 }
 
 /// A chain's further operators, on what stands before them.
 #[cycle(typed)]
-fn further(alloc: Global, sight: &Sight, chain: &Chain, before: Typed) -> Result<Typed, NameFault>
-    ensures given { Gives typed_view (all_linked (sight_view sight.now) (Some (typed_view before)) (links_of chain.now)) result }
-    ensures told { IfErr result (Tells (all_break (sight_view sight.now) (Some (typed_view before)) (links_of chain.now))) }
+fn further(sight: &Sight, chain: &Chain, before: Typed) -> Result<Typed, NameFault>
+    ensures given { Gives typed_view (all_linked sight.now (Some (typed_view before)) (links_of chain.now)) result }
+    ensures told { IfErr result (Tells (all_break sight.now (Some (typed_view before)) (links_of chain.now))) }
 {
-    links(alloc, sight, &chain.rest, before)
+    links(sight, &chain.rest, before)
 }
 
 /// An operator and its right operand, behind a left one that may stand in parentheses.
 #[cycle(typed)]
-fn link(
-    alloc: Global,
-    sight: &Sight,
-    link: &Link,
-    after_parens: bool,
-    first: Typed,
-) -> Result<Typed, NameFault>
-    ensures given { Gives typed_view (linked (sight_view sight.now) after_parens (Some (typed_view first)) link.now) result }
-    ensures told { IfErr result (Tells (link_breaks (sight_view sight.now) after_parens (Some (typed_view first)) link.now)) }
+fn link(sight: &Sight, link: &Link, after_parens: bool, first: Typed) -> Result<Typed, NameFault>
+    ensures given { Gives typed_view (linked sight.now after_parens (Some (typed_view first)) link.now) result }
+    ensures told { IfErr result (Tells (link_breaks sight.now after_parens (Some (typed_view first)) link.now)) }
 {
-    let operand = typed(alloc, sight, &link.operand)?;
+    let operand = typed(sight, &link.operand)?;
     let operand = beside(after_parens, operand);
     operated(
-        alloc,
+        sight.alloc,
         sight.has_numbers,
         link.operator,
         link.at,
@@ -192,13 +185,13 @@ fn link(
 /// A chain's further links, on what stands before them.
 #[cycle(typed)]
 #[tactic(auto, using(crate::proofs::Chains::all_linked_none))]
-fn links(alloc: Global, sight: &Sight, links: &[Link], first: Typed) -> Result<Typed, NameFault>
-    ensures given { Gives typed_view (all_linked (sight_view sight.now) (Some (typed_view first)) links.now) result }
-    ensures told { IfErr result (Tells (all_break (sight_view sight.now) (Some (typed_view first)) links.now)) }
+fn links(sight: &Sight, links: &[Link], first: Typed) -> Result<Typed, NameFault>
+    ensures given { Gives typed_view (all_linked sight.now (Some (typed_view first)) links.now) result }
+    ensures told { IfErr result (Tells (all_break sight.now (Some (typed_view first)) links.now)) }
 {
     let mut done = first;
     for next in links {
-        done = link(alloc, sight, next, false, done)?;
+        done = link(sight, next, false, done)?;
     }
     Ok(done)
 }
@@ -256,15 +249,15 @@ fn of_no_value(
 /// What a name is, with what follows its identifier.
 #[cycle(typed)]
 #[tactic(auto, using(crate::proofs::Chains::named_in_turn))]
-fn named(alloc: Global, sight: &Sight, name: &Name) -> Result<Typed, NameFault>
-    ensures given { Gives typed_view (rules.typed (sight_view sight.now) (t.named (ident_view name.now.identifier) (suffix_view name.now.suffix) (option_map ident_view name.now.attribute))) result }
-    ensures told { IfErr result (Tells (broken.typed (sight_view sight.now) (t.named (ident_view name.now.identifier) (suffix_view name.now.suffix) (option_map ident_view name.now.attribute)))) }
+fn named(sight: &Sight, name: &Name) -> Result<Typed, NameFault>
+    ensures given { Gives typed_view (rules.typed sight.now (t.named (ident_view name.now.identifier) (suffix_view name.now.suffix) (option_map ident_view name.now.attribute))) result }
+    ensures told { IfErr result (Tells (broken.typed sight.now (t.named (ident_view name.now.identifier) (suffix_view name.now.suffix) (option_map ident_view name.now.attribute)))) }
 {
     let at = name.identifier.at;
     let meaning = meaning_of(sight, &name.identifier)?;
-    let suffix = typed_suffix(alloc, sight, &name.suffix)?;
+    let suffix = typed_suffix(sight, &name.suffix)?;
     of_no_value(meaning, &suffix, &name.attribute)?;
-    let value = denoted(alloc, meaning, suffix, at)?;
+    let value = denoted(sight.alloc, meaning, suffix, at)?;
     attributed(&name.attribute, value, at)
 }
 
@@ -272,49 +265,49 @@ fn named(alloc: Global, sight: &Sight, name: &Name) -> Result<Typed, NameFault>
 /// analysed.
 #[cycle(typed)]
 #[tactic(auto, using(crate::proofs::Chains::sliced_is), unfolding(vhdl_names_rules::specs::Expressions::typed_suffix))]
-pub fn typed_suffix(alloc: Global, sight: &Sight, suffix: &Suffix) -> Result<TypedSuffix, NameFault>
-    ensures given { Gives typed_suffix_view (rules.typed_suffix (sight_view sight.now) (suffix_view suffix.now)) result }
-    ensures told { IfErr result (Tells (broken.typed_suffix (sight_view sight.now) (suffix_view suffix.now))) }
+pub fn typed_suffix(sight: &Sight, suffix: &Suffix) -> Result<TypedSuffix, NameFault>
+    ensures given { Gives typed_suffix_view (rules.typed_suffix sight.now (suffix_view suffix.now)) result }
+    ensures told { IfErr result (Tells (broken.typed_suffix sight.now (suffix_view suffix.now))) }
 {
     match suffix {
         Suffix::Plain => Ok(TypedSuffix::Plain),
-        Suffix::Arguments(all) => arguments(alloc, sight, all),
+        Suffix::Arguments(all) => arguments(sight, all),
         Suffix::Range(range) => {
-            let range = static_range(alloc, sight, range)?;
-            Ok(TypedSuffix::Range(Box::new(alloc, range)?))
+            let range = static_range(sight, range)?;
+            Ok(TypedSuffix::Range(Box::new(sight.alloc, range)?))
         }
     }
 }
 
 /// Indices or arguments.
 #[cycle(typed)]
-fn arguments(alloc: Global, sight: &Sight, all: &[Expr]) -> Result<TypedSuffix, NameFault>
-    ensures given { Gives typed_suffix_view (arguments_of (sight_view sight.now) (t.exprs_of (map view all.now))) result }
-    ensures told { IfErr result (Tells (broken.typed_each (sight_view sight.now) (t.exprs_of (map view all.now)))) }
+fn arguments(sight: &Sight, all: &[Expr]) -> Result<TypedSuffix, NameFault>
+    ensures given { Gives typed_suffix_view (arguments_of sight.now (t.exprs_of (map view all.now))) result }
+    ensures told { IfErr result (Tells (broken.typed_each sight.now (t.exprs_of (map view all.now)))) }
 {
-    let typed = typed_each(alloc, sight, all)?;
+    let typed = typed_each(sight, all)?;
     Ok(TypedSuffix::Arguments(is_one_name(all), typed))
 }
 
 /// The static integer that an expression is. It takes memory for what is analysed.
 #[cycle(typed)]
 #[tactic(auto, using(crate::proofs::Chains::static_is))]
-pub fn static_integer(alloc: Global, sight: &Sight, e: &Expr) -> Result<Static, NameFault>
-    ensures given { Gives static_view (rules.static (sight_view sight.now) (view e.now)) result }
-    ensures told { IfErr result (Tells (broken.static (sight_view sight.now) (view e.now))) }
+pub fn static_integer(sight: &Sight, e: &Expr) -> Result<Static, NameFault>
+    ensures given { Gives static_view (rules.static sight.now (view e.now)) result }
+    ensures told { IfErr result (Tells (broken.static sight.now (view e.now))) }
 {
-    let value = typed(alloc, sight, e)?;
+    let value = typed(sight, e)?;
     as_integer(value, start(e))
 }
 
 /// A range of static integers. It takes memory for what is analysed.
 #[cycle(typed)]
-pub fn static_range(alloc: Global, sight: &Sight, range: &Range) -> Result<StaticRange, NameFault>
-    ensures given { Gives range_view (rules.static_range (sight_view sight.now) (tree_range_view range.now)) result }
-    ensures told { IfErr result (Tells (broken.static_range (sight_view sight.now) (tree_range_view range.now))) }
+pub fn static_range(sight: &Sight, range: &Range) -> Result<StaticRange, NameFault>
+    ensures given { Gives range_view (rules.static_range sight.now (tree_range_view range.now)) result }
+    ensures told { IfErr result (Tells (broken.static_range sight.now (tree_range_view range.now))) }
 {
-    let left = static_integer(alloc, sight, &range.left)?;
-    let right = static_integer(alloc, sight, &range.right)?;
+    let left = static_integer(sight, &range.left)?;
+    let right = static_integer(sight, &range.right)?;
     Ok(StaticRange {
         left,
         direction: range.direction,
@@ -324,13 +317,13 @@ pub fn static_range(alloc: Global, sight: &Sight, range: &Range) -> Result<Stati
 
 /// Arguments with their types. It takes memory for what is analysed.
 #[cycle(typed)]
-pub fn typed_each(alloc: Global, sight: &Sight, arguments: &[Expr]) -> Result<Vec<Typed>, NameFault>
-    ensures given { Gives (λ v. map typed_view v.items) (rules.typed_each (sight_view sight.now) (t.exprs_of (map view arguments.now))) result }
-    ensures told { IfErr result (Tells (broken.typed_each (sight_view sight.now) (t.exprs_of (map view arguments.now)))) }
+pub fn typed_each(sight: &Sight, arguments: &[Expr]) -> Result<Vec<Typed>, NameFault>
+    ensures given { Gives (λ v. map typed_view v.items) (rules.typed_each sight.now (t.exprs_of (map view arguments.now))) result }
+    ensures told { IfErr result (Tells (broken.typed_each sight.now (t.exprs_of (map view arguments.now)))) }
 {
-    let mut done = Vec::new(alloc);
+    let mut done = Vec::new(sight.alloc);
     for argument in arguments {
-        let value = typed(alloc, sight, argument)?;
+        let value = typed(sight, argument)?;
         done.push(value)?;
     }
     Ok(done)

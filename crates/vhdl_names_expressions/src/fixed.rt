@@ -10,7 +10,7 @@ ghost use Rattle.vhdl_names_rules.specs.Subtypes as rules;
 ghost use Rattle.vhdl_names_rules.specs.declared.kind.ObjectType.TheVariants.{Elements, Enumeration};
 ghost use Rattle.vhdl_tree.specs.Tree as t;
 ghost use Rattle.vhdl_tree.specs.View.{view, ident_view, suffix_view, option_ident_view, value_view as tree_value_view};
-ghost use Rattle.vhdl_names_types.specs.Views.{sight_view, meaning_view, typed_view, typed_suffix_view};
+ghost use Rattle.vhdl_names_types.specs.Views.{meaning_view, typed_view, typed_suffix_view};
 ghost use Rattle.vhdl_names_expressions.specs.Chosen.{as_character};
 ghost use Rattle.vhdl_names_expressions.specs.Fixing.{encoded_fixed, filled_with, suffixed_value};
 ghost use Rattle.vhdl_names_units.specs.views.Answers.{fixed_view};
@@ -133,17 +133,12 @@ fn suffixed(
 
 /// The value that a name or a call is.
 #[tactic(auto, using(crate::proofs::Fixing::fixed_named))]
-fn fixed_name(
-    alloc: Global,
-    sight: &Sight,
-    object_type: ObjectType,
-    name: &Name,
-) -> Result<Fixed, NameFault>
-    ensures given { Gives fixed_view (rules.fixed (sight_view sight.now) object_type (t.named (ident_view name.now.identifier) (suffix_view name.now.suffix) (option_ident_view name.now.attribute))) result }
-    ensures told { IfErr result (Tells (broken.fixed (sight_view sight.now) object_type (t.named (ident_view name.now.identifier) (suffix_view name.now.suffix) (option_ident_view name.now.attribute)))) }
+fn fixed_name(sight: &Sight, object_type: ObjectType, name: &Name) -> Result<Fixed, NameFault>
+    ensures given { Gives fixed_view (rules.fixed sight.now object_type (t.named (ident_view name.now.identifier) (suffix_view name.now.suffix) (option_ident_view name.now.attribute))) result }
+    ensures told { IfErr result (Tells (broken.fixed sight.now object_type (t.named (ident_view name.now.identifier) (suffix_view name.now.suffix) (option_ident_view name.now.attribute)))) }
 {
     let meaning = meaning_of(sight, &name.identifier)?;
-    let suffix = typed_suffix(alloc, sight, &name.suffix)?;
+    let suffix = typed_suffix(sight, &name.suffix)?;
     if let Some(attribute) = &name.attribute {
         return Err(NameProblem::LeftOut.at(attribute.at));
     }
@@ -165,18 +160,13 @@ fn literal_value(alloc: Global, object_type: ObjectType, e: &Expr) -> Result<Fix
 }
 
 /// A name, a call of to_unsigned, or a literal; no other expression is the value of a constant.
-fn fixed(
-    alloc: Global,
-    sight: &Sight,
-    object_type: ObjectType,
-    e: &Expr,
-) -> Result<Fixed, NameFault>
-    ensures given { Gives fixed_view (rules.fixed (sight_view sight.now) object_type (view e.now)) result }
-    ensures told { IfErr result (Tells (broken.fixed (sight_view sight.now) object_type (view e.now))) }
+fn fixed(sight: &Sight, object_type: ObjectType, e: &Expr) -> Result<Fixed, NameFault>
+    ensures given { Gives fixed_view (rules.fixed sight.now object_type (view e.now)) result }
+    ensures told { IfErr result (Tells (broken.fixed sight.now object_type (view e.now))) }
 {
     match name_of(e) {
-        Some(name) => fixed_name(alloc, sight, object_type, name),
-        None => literal_value(alloc, object_type, e),
+        Some(name) => fixed_name(sight, object_type, name),
+        None => literal_value(sight.alloc, object_type, e),
     }
 }
 
@@ -226,16 +216,15 @@ fn filled(
 /// byte where a rule is broken.
 #[tactic(auto, using(crate::proofs::Fixing::fixed_single, crate::proofs::Fixing::fixed_others))]
 pub fn fixed_value(
-    alloc: Global,
     sight: &Sight,
     object_type: ObjectType,
     value: &TreeValue,
 ) -> Result<Fixed, NameFault>
-    ensures given { Gives fixed_view (rules.fixed_value (sight_view sight.now) object_type (tree_value_view value.now)) result }
-    ensures told { IfErr result (Tells (broken.fixed_value (sight_view sight.now) object_type (tree_value_view value.now))) }
+    ensures given { Gives fixed_view (rules.fixed_value sight.now object_type (tree_value_view value.now)) result }
+    ensures told { IfErr result (Tells (broken.fixed_value sight.now object_type (tree_value_view value.now))) }
 {
     match value {
-        TreeValue::Expr(e) => fixed(alloc, sight, object_type, e),
+        TreeValue::Expr(e) => fixed(sight, object_type, e),
         TreeValue::Others { at, element } => {
             filled(object_type, character_of(element), *at, start(element))
         }

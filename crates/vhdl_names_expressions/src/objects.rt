@@ -7,11 +7,10 @@ ghost use Rattle.vhdl_names_rules.specs.problems.Statements as broken;
 ghost use Rattle.vhdl_names_rules.specs.Gives.{Gives};
 ghost use Rattle.vhdl_names_rules.specs.Statements as rules;
 ghost use Rattle.vhdl_tree.specs.View.{name_view};
-ghost use Rattle.vhdl_names_types.specs.Views.{sight_view, meaning_view, typed_suffix_view};
+ghost use Rattle.vhdl_names_types.specs.Views.{meaning_view, typed_suffix_view};
 ghost use Rattle.vhdl_names_units.specs.views.Answers.{signal_name_view, variable_name_view};
 
 use crate::expressions::typed_suffix;
-use std::alloc::Global;
 use vhdl_names_rules::{NameFault, NameProblem, ObjectType, Signal, SignalPart};
 use vhdl_names_types::{Meaning, Sight, TypedSuffix, meaning_of, part_of};
 use vhdl_names_units::{SignalName, VariableName};
@@ -40,12 +39,12 @@ fn as_signal(meaning: &Meaning, suffix: TypedSuffix, at: usize) -> Result<Signal
 
 /// The signal that a name is.
 #[tactic(auto, using(crate::proofs::Asking::signal_in_turn))]
-pub fn signal(alloc: Global, sight: &Sight, name: &Name) -> Result<SignalName, NameFault>
-    ensures given { Gives signal_name_view (rules.signal (sight_view sight.now) (name_view name.now)) result }
-    ensures told { IfErr result (Tells (broken.signal (sight_view sight.now) (name_view name.now))) }
+pub fn signal(sight: &Sight, name: &Name) -> Result<SignalName, NameFault>
+    ensures given { Gives signal_name_view (rules.signal sight.now (name_view name.now)) result }
+    ensures told { IfErr result (Tells (broken.signal sight.now (name_view name.now))) }
 {
     let meaning = meaning_of(sight, &name.identifier)?;
-    let suffix = typed_suffix(alloc, sight, &name.suffix)?;
+    let suffix = typed_suffix(sight, &name.suffix)?;
     if let Some(attribute) = &name.attribute {
         return Err(NameProblem::LeftOut.at(attribute.at));
     }
@@ -54,11 +53,11 @@ pub fn signal(alloc: Global, sight: &Sight, name: &Name) -> Result<SignalName, N
 
 /// The target of a signal assignment: a signal that is no in port.
 #[tactic(auto, using(crate::proofs::Asking::target_is))]
-pub fn target(alloc: Global, sight: &Sight, name: &Name) -> Result<SignalName, NameFault>
-    ensures given { Gives signal_name_view (rules.target (sight_view sight.now) (name_view name.now)) result }
-    ensures told { IfErr result (Tells (broken.target (sight_view sight.now) (name_view name.now))) }
+pub fn target(sight: &Sight, name: &Name) -> Result<SignalName, NameFault>
+    ensures given { Gives signal_name_view (rules.target sight.now (name_view name.now)) result }
+    ensures told { IfErr result (Tells (broken.target sight.now (name_view name.now))) }
 {
-    let target = signal(alloc, sight, name)?;
+    let target = signal(sight, name)?;
     match target.mode {
         Some(Mode::In) => Err(NameProblem::WriteOfIn.at(name.identifier.at)),
         _ => Ok(target),
@@ -87,12 +86,12 @@ fn as_variable(meaning: &Meaning, suffix: TypedSuffix, at: usize) -> Result<Vari
 
 /// The target of a variable assignment: a variable.
 #[tactic(auto, using(crate::proofs::Asking::variable_in_turn))]
-pub fn variable(alloc: Global, sight: &Sight, name: &Name) -> Result<VariableName, NameFault>
-    ensures given { Gives variable_name_view (rules.variable (sight_view sight.now) (name_view name.now)) result }
-    ensures told { IfErr result (Tells (broken.variable (sight_view sight.now) (name_view name.now))) }
+pub fn variable(sight: &Sight, name: &Name) -> Result<VariableName, NameFault>
+    ensures given { Gives variable_name_view (rules.variable sight.now (name_view name.now)) result }
+    ensures told { IfErr result (Tells (broken.variable sight.now (name_view name.now))) }
 {
     let meaning = meaning_of(sight, &name.identifier)?;
-    let suffix = typed_suffix(alloc, sight, &name.suffix)?;
+    let suffix = typed_suffix(sight, &name.suffix)?;
     if let Some(attribute) = &name.attribute {
         return Err(NameProblem::LeftOut.at(attribute.at));
     }

@@ -8,12 +8,11 @@ ghost use Rattle.vhdl_names_rules.specs.Gives.{Gives};
 ghost use Rattle.vhdl_names_rules.specs.Expressions as expressions;
 ghost use Rattle.vhdl_names_rules.specs.Subtypes as rules;
 ghost use Rattle.vhdl_tree.specs.View as trees;
-ghost use Rattle.vhdl_names_types.specs.Views.{sight_view, meaning_view};
+ghost use Rattle.vhdl_names_types.specs.Views.{meaning_view};
 ghost use Rattle.vhdl_names_expressions.specs.Marking.{with_range};
 ghost use Rattle.vhdl_names_units.specs.views.Answers.{subtype_view};
 
 use crate::expressions::static_range;
-use std::alloc::Global;
 use vhdl_names_rules::{ElementKind, NameFault, NameProblem, ObjectType};
 use vhdl_names_types::{Meaning, Sight, meaning_of};
 use vhdl_names_units::{Form, Subtype};
@@ -58,19 +57,13 @@ fn marked(meaning: &Meaning, at: usize) -> Result<Subtype, NameFault>
 
 /// What objects of a type mark with a range are, where the mark is at byte `at`.
 #[tactic(auto, using(crate::proofs::Marks::no_range))]
-fn ranged(
-    alloc: Global,
-    sight: &Sight,
-    meaning: &Meaning,
-    range: &Range,
-    at: usize,
-) -> Result<Subtype, NameFault>
-    ensures given { Gives subtype_view (with_range (meaning_view meaning.now) (expressions.static_range (sight_view sight.now) (trees.range_view range.now))) result }
-    ensures told { IfErr result (Tells (unless (broken.mark_problem (meaning_view meaning.now)) at (broken.is_marked (meaning_view meaning.now) (Some (trees.range_view range.now))) ▸ range_breaks (sight_view sight.now) (trees.range_view range.now))) }
+fn ranged(sight: &Sight, meaning: &Meaning, range: &Range, at: usize) -> Result<Subtype, NameFault>
+    ensures given { Gives subtype_view (with_range (meaning_view meaning.now) (expressions.static_range sight.now (trees.range_view range.now))) result }
+    ensures told { IfErr result (Tells (unless (broken.mark_problem (meaning_view meaning.now)) at (broken.is_marked (meaning_view meaning.now) (Some (trees.range_view range.now))) ▸ range_breaks sight.now (trees.range_view range.now))) }
 {
     match meaning {
         Meaning::VectorType(kind, is_resolved) => {
-            let range = static_range(alloc, sight, range)?;
+            let range = static_range(sight, range)?;
             Ok(Subtype {
                 object_type: ObjectType::Elements(*kind),
                 form: Form::Vector(range),
@@ -85,13 +78,13 @@ fn ranged(
 /// range exactly where it is of vectors. It takes memory for what is analysed, and fails at the first
 /// byte where a rule is broken.
 #[tactic(auto, using(crate::proofs::Marks::subtype_alone, crate::proofs::Marks::subtype_ranged))]
-pub fn subtype(alloc: Global, sight: &Sight, indication: &TreeSubtype) -> Result<Subtype, NameFault>
-    ensures given { Gives subtype_view (rules.subtype (sight_view sight.now) (trees.subtype_view indication.now)) result }
-    ensures told { IfErr result (Tells (broken.subtype (sight_view sight.now) (trees.subtype_view indication.now))) }
+pub fn subtype(sight: &Sight, indication: &TreeSubtype) -> Result<Subtype, NameFault>
+    ensures given { Gives subtype_view (rules.subtype sight.now (trees.subtype_view indication.now)) result }
+    ensures told { IfErr result (Tells (broken.subtype sight.now (trees.subtype_view indication.now))) }
 {
     let meaning = meaning_of(sight, &indication.mark)?;
     match &indication.range {
         None => marked(meaning, indication.mark.at),
-        Some(range) => ranged(alloc, sight, meaning, range, indication.mark.at),
+        Some(range) => ranged(sight, meaning, range, indication.mark.at),
     }
 }

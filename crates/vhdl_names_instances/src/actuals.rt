@@ -17,10 +17,9 @@ ghost use Rattle.vhdl_names_rules.specs.Visibility as visibility;
 ghost use Rattle.vhdl_names_rules.specs.views.Integers.{static_view};
 ghost use Rattle.vhdl_names_rules.specs.views.Vectors.{place_view};
 ghost use Rattle.vhdl_tree.specs.View.{view, name_view, option_ident_view, suffix_view};
-ghost use Rattle.vhdl_names_types.specs.Views.{sight_view, meaning_view};
+ghost use Rattle.vhdl_names_types.specs.Views.{meaning_view};
 ghost use Rattle.vhdl_names_units.specs.views.Answers.{signal_name_view};
 
-use std::alloc::Global;
 use vhdl_names_expressions::{signal, start, static_integer, typed_suffix};
 use vhdl_names_rules::{ElementKind, NameFault, NameProblem, ObjectType, SignalPart, Static};
 use vhdl_names_types::{Meaning, Sight};
@@ -82,7 +81,7 @@ fn is_value(meaning: &Meaning, suffix: &Suffix) -> bool
 
 /// Whether a name is a value.
 fn names_value(sight: &Sight, name: &Name) -> bool
-    ensures { result ≡ broken.names_value (visibility.meaning (sight_view sight.now) name.now.identifier.text.items) (suffix_view name.now.suffix) }
+    ensures { result ≡ broken.names_value (visibility.meaning sight.now name.now.identifier.text.items) (suffix_view name.now.suffix) }
 {
     match sight.meaning(&name.identifier.text) {
         None => false,
@@ -101,43 +100,38 @@ fn left_out_place(name: &Name) -> usize
 }
 
 /// No signal, where a name is a value: it is an expression, which is left out.
-fn signal_of_value(alloc: Global, sight: &Sight, name: &Name) -> Result<SignalName, NameFault>
-    ensures given { broken.names_value (visibility.meaning (sight_view sight.now) name.now.identifier.text.items) (suffix_view name.now.suffix) ≡ true
-        → Gives signal_name_view (signal_of (sight_view sight.now) (name_view name.now)) result }
-    ensures told { broken.names_value (visibility.meaning (sight_view sight.now) name.now.identifier.text.items) (suffix_view name.now.suffix) ≡ true
-        → IfErr result (Tells (named (sight_view sight.now) (name_view name.now) ▸ refused LeftOut name.now.identifier.at)) }
+fn signal_of_value(sight: &Sight, name: &Name) -> Result<SignalName, NameFault>
+    ensures given { broken.names_value (visibility.meaning sight.now name.now.identifier.text.items) (suffix_view name.now.suffix) ≡ true
+        → Gives signal_name_view (signal_of sight.now (name_view name.now)) result }
+    ensures told { broken.names_value (visibility.meaning sight.now name.now.identifier.text.items) (suffix_view name.now.suffix) ≡ true
+        → IfErr result (Tells (named sight.now (name_view name.now) ▸ refused LeftOut name.now.identifier.at)) }
 {
-    typed_suffix(alloc, sight, &name.suffix)?;
+    typed_suffix(sight, &name.suffix)?;
     Err(NameProblem::LeftOut.at(left_out_place(name)))
 }
 
 /// The signal that an actual is.
-fn actual_signal(alloc: Global, sight: &Sight, name: &Name) -> Result<SignalName, NameFault>
-    ensures given { Gives signal_name_view (signal_of (sight_view sight.now) (name_view name.now)) result }
-    ensures told { IfErr result (Tells (broken.actual_signal (sight_view sight.now) (name_view name.now))) }
+fn actual_signal(sight: &Sight, name: &Name) -> Result<SignalName, NameFault>
+    ensures given { Gives signal_name_view (signal_of sight.now (name_view name.now)) result }
+    ensures told { IfErr result (Tells (broken.actual_signal sight.now (name_view name.now))) }
 {
     if names_value(sight, name) {
-        signal_of_value(alloc, sight, name)
+        signal_of_value(sight, name)
     } else {
-        signal(alloc, sight, name)
+        signal(sight, name)
     }
 }
 
 /// The actual of a port: the name of a signal or port, or of a part of one.
 #[tactic(auto, unfolding(vhdl_names_rules::specs::Instances::port_actual))]
-pub(crate) fn port_actual(
-    alloc: Global,
-    sight: &Sight,
-    port: PortType,
-    e: &Expr,
-) -> Result<SignalPart, NameFault>
-    ensures given { Gives place_view (rules.port_actual (sight_view sight.now) (steps.formal port) (view e.now)) result }
-    ensures told { IfErr result (Tells (broken.port_actual (sight_view sight.now) (steps.formal port) (view e.now))) }
+pub(crate) fn port_actual(sight: &Sight, port: PortType, e: &Expr) -> Result<SignalPart, NameFault>
+    ensures given { Gives place_view (rules.port_actual sight.now (steps.formal port) (view e.now)) result }
+    ensures told { IfErr result (Tells (broken.port_actual sight.now (steps.formal port) (view e.now))) }
 {
     match as_name(e) {
         None => Err(NameProblem::LeftOut.at(start(e))),
         Some(name) => {
-            let actual = actual_signal(alloc, sight, name)?;
+            let actual = actual_signal(sight, name)?;
             if !is_kind(port.kind, actual.object_type) {
                 return Err(NameProblem::TypeMismatch.at(name.identifier.at));
             }
@@ -151,16 +145,15 @@ pub(crate) fn port_actual(
 
 /// The actual of a port, if one is associated.
 fn port_entry(
-    alloc: Global,
     sight: &Sight,
     port: PortType,
     actual: &Option<&Expr>,
 ) -> Result<Option<SignalPart>, NameFault>
-    ensures { Gives (option_map place_view) (steps.port_entry (sight_view sight.now) port (actual_view actual.now)) result }
+    ensures { Gives (option_map place_view) (steps.port_entry sight.now port (actual_view actual.now)) result }
 {
     match actual {
         None => Ok(None),
-        Some(e) => Ok(Some(port_actual(alloc, sight, port, e)?)),
+        Some(e) => Ok(Some(port_actual(sight, port, e)?)),
     }
 }
 
@@ -187,35 +180,33 @@ pub(crate) fn port_at(ports: &[PortType], index: usize) -> Option<PortType>
 
 /// The actual of the port at a place, where there are both.
 fn entry(
-    alloc: Global,
     sight: &Sight,
     ports: &[PortType],
     actuals: &[Option<&Expr>],
     index: usize,
 ) -> Result<Option<Option<SignalPart>>, NameFault>
-    ensures { Gives (option_map (option_map place_view)) (steps.entry (sight_view sight.now) ports.now (map actual_view actuals.now) index) result }
+    ensures { Gives (option_map (option_map place_view)) (steps.entry sight.now ports.now (map actual_view actuals.now) index) result }
 {
     match port_at(ports, index) {
         None => Ok(None),
         Some(port) => match entry_at(actuals, index) {
             None => Ok(None),
-            Some(actual) => Ok(Some(port_entry(alloc, sight, port, &actual)?)),
+            Some(actual) => Ok(Some(port_entry(sight, port, &actual)?)),
         },
     }
 }
 
 /// The actuals of ports, in the order of the ports.
 pub(crate) fn port_actuals(
-    alloc: Global,
     sight: &Sight,
     ports: &[PortType],
     actuals: &[Option<&Expr>],
 ) -> Result<Actuals<SignalPart>, NameFault>
-    ensures { Gives places_view (steps.port_actuals (sight_view sight.now) ports.now (map actual_view actuals.now)) result }
+    ensures { Gives places_view (steps.port_actuals sight.now ports.now (map actual_view actuals.now)) result }
 {
-    let mut all = Actuals::none(alloc);
+    let mut all = Actuals::none(sight.alloc);
     for index in 0..ports.len() {
-        match entry(alloc, sight, ports, actuals, index)? {
+        match entry(sight, ports, actuals, index)? {
             None => return Ok(all),
             Some(actual) => all.push(actual)?,
         }
@@ -225,31 +216,29 @@ pub(crate) fn port_actuals(
 
 /// The actual of a generic, if one is associated: a static integer.
 pub(crate) fn generic_entry(
-    alloc: Global,
     sight: &Sight,
     actual: &Option<&Expr>,
 ) -> Result<Option<Static>, NameFault>
-    ensures given { Gives (option_map static_view) (if_any (static_of (sight_view sight.now)) (actual_view actual.now)) result }
-    ensures told { IfErr result (Tells (of_any (broken_static (sight_view sight.now)) (actual_view actual.now))) }
+    ensures given { Gives (option_map static_view) (if_any (static_of sight.now) (actual_view actual.now)) result }
+    ensures told { IfErr result (Tells (of_any (broken_static sight.now) (actual_view actual.now))) }
 {
     match actual {
         None => Ok(None),
-        Some(e) => Ok(Some(static_integer(alloc, sight, e)?)),
+        Some(e) => Ok(Some(static_integer(sight, e)?)),
     }
 }
 
 /// The actuals of generics, in the order of the generics.
 #[tactic(auto, using(vhdl_names_units::proofs::Lists::each_in_turn))]
 pub(crate) fn generic_actuals(
-    alloc: Global,
     sight: &Sight,
     actuals: &[Option<&Expr>],
 ) -> Result<Actuals<Static>, NameFault>
-    ensures { Gives statics_view (each (if_any (static_of (sight_view sight.now))) (map actual_view actuals.now)) result }
+    ensures { Gives statics_view (each (if_any (static_of sight.now)) (map actual_view actuals.now)) result }
 {
-    let mut all = Actuals::none(alloc);
+    let mut all = Actuals::none(sight.alloc);
     for actual in actuals {
-        let next = generic_entry(alloc, sight, actual)?;
+        let next = generic_entry(sight, actual)?;
         all.push(next)?;
     }
     Ok(all)

@@ -17,13 +17,12 @@ ghost use Rattle.vhdl_names_rules.specs.declared.fault.NameFault.TheVariants.{No
 ghost use Rattle.vhdl_names_rules.specs.declared.fault.NameProblem.TheVariants.{WrongKind};
 ghost use Rattle.vhdl_tree.specs.Tree.{Ident};
 ghost use Rattle.vhdl_tree.specs.View as tree;
-ghost use Rattle.vhdl_names_types.specs.Views.{sight_view, meaning_view};
+ghost use Rattle.vhdl_names_types.specs.Views.{meaning_view};
 ghost use Rattle.vhdl_names_units.specs.views.Concurrent.{instance_view};
 
 use crate::actuals::{PortType, generic_actuals, port_actuals};
 use crate::associations::{Names, associated};
 use crate::maps::maps;
-use std::alloc::Global;
 use vhdl_names_rules::{NameFault, NameProblem};
 use vhdl_names_types::{Meaning, Sight, meaning_of};
 use vhdl_names_units::{Instance, copied, is_text};
@@ -174,9 +173,9 @@ fn instantiated(
     unit: &Instantiated,
 ) -> Result<usize, NameFault>
     ensures given { Gives (λ k. k) (steps.instantiated (names_view entities.now.names) (seens_view entities.now.formals)
-        (sight_view sight.now) (tree.instantiated_view unit.now)) result }
+        sight.now (tree.instantiated_view unit.now)) result }
     ensures told { (views : List EntityView) → AreEntities entities.now views
-        → IfErr result (Tells (broken.instantiated views (sight_view sight.now) (tree.instantiated_view unit.now))) }
+        → IfErr result (Tells (broken.instantiated views sight.now (tree.instantiated_view unit.now))) }
 {
     match unit {
         Instantiated::Entity {
@@ -193,28 +192,25 @@ fn instantiated(
 
 /// An instance of the entity of a number, whose actuals come in the order of its formals.
 fn by_formals(
-    alloc: Global,
     sight: &Sight,
     label: &Identifier,
     unit: usize,
     formals: &Formals,
     instance: &syntax::Instance,
 ) -> Result<Instance, NameFault>
-    ensures { Gives instance_view (steps.with_formals (sight_view sight.now) (tree.ident_view label.now) unit (seen_view formals.now)
+    ensures { Gives instance_view (steps.with_formals sight.now (tree.ident_view label.now) unit (seen_view formals.now)
         (all_of (option_map tree.associations_view instance.now.generics)) (all_of (option_map tree.associations_view instance.now.ports))) result }
 {
     let generics = generic_actuals(
-        alloc,
         sight,
-        &associated(alloc, &formals.generics, listed(&instance.generics))?,
+        &associated(sight.alloc, &formals.generics, listed(&instance.generics))?,
     )?;
     let ports = port_actuals(
-        alloc,
         sight,
         &formals.port_types,
-        &associated(alloc, &formals.ports, listed(&instance.ports))?,
+        &associated(sight.alloc, &formals.ports, listed(&instance.ports))?,
     )?;
-    let label = copied(alloc, label)?;
+    let label = copied(sight.alloc, label)?;
     Ok(Instance {
         label,
         unit,
@@ -226,7 +222,6 @@ fn by_formals(
 /// What is told of maps with which something is wrong, as this fault shows: the first fault in order
 /// of the text.
 fn first_of_maps(
-    alloc: Global,
     sight: &Sight,
     formals: &Formals,
     instance: &syntax::Instance,
@@ -234,13 +229,13 @@ fn first_of_maps(
 ) -> NameFault
     ensures memory { result ≢ NoMemory → fault ≢ NoMemory }
     ensures told { (seen_of : EntityView) → seen_view formals.now ≡ seen seen_of
-        → (label : Ident) → (unit : ℕ) → (fault ≢ NoMemory → steps.with_formals (sight_view sight.now) label unit (seen_view formals.now)
+        → (label : Ident) → (unit : ℕ) → (fault ≢ NoMemory → steps.with_formals sight.now label unit (seen_view formals.now)
         (all_of (option_map tree.associations_view instance.now.generics)) (all_of (option_map tree.associations_view instance.now.ports)) ≡ None)
-        → Tells (broken.maps (sight_view sight.now) seen_of (tree.instance_view instance.now)) result }
+        → Tells (broken.maps sight.now seen_of (tree.instance_view instance.now)) result }
 {
     match fault {
         NameFault::NoMemory => NameFault::NoMemory,
-        NameFault::At { .. } => match maps(alloc, sight, formals, instance) {
+        NameFault::At { .. } => match maps(sight, formals, instance) {
             Ok(()) => fault,
             Err(first) => first,
         },
@@ -250,41 +245,39 @@ fn first_of_maps(
 /// An instance of the entity of a number, which has these formals. Of what is wrong with its maps the
 /// first in order of the text is told.
 fn with_formals(
-    alloc: Global,
     sight: &Sight,
     label: &Identifier,
     unit: usize,
     formals: &Formals,
     instance: &syntax::Instance,
 ) -> Result<Instance, NameFault>
-    ensures given { Gives instance_view (steps.with_formals (sight_view sight.now) (tree.ident_view label.now) unit (seen_view formals.now)
+    ensures given { Gives instance_view (steps.with_formals sight.now (tree.ident_view label.now) unit (seen_view formals.now)
         (all_of (option_map tree.associations_view instance.now.generics)) (all_of (option_map tree.associations_view instance.now.ports))) result }
     ensures told { (seen_of : EntityView) → seen_view formals.now ≡ seen seen_of
-        → IfErr result (Tells (broken.maps (sight_view sight.now) seen_of (tree.instance_view instance.now))) }
+        → IfErr result (Tells (broken.maps sight.now seen_of (tree.instance_view instance.now))) }
 {
-    match by_formals(alloc, sight, label, unit, formals, instance) {
+    match by_formals(sight, label, unit, formals, instance) {
         Ok(instance) => Ok(instance),
-        Err(fault) => Err(first_of_maps(alloc, sight, formals, instance, fault)),
+        Err(fault) => Err(first_of_maps(sight, formals, instance, fault)),
     }
 }
 
 /// An instance behind its label, in the order of its parts.
 pub fn instance_in_turn(
-    alloc: Global,
     entities: &InstanceEntities,
     sight: &Sight,
     label: &Identifier,
     instance: &syntax::Instance,
 ) -> Result<Instance, NameFault>
     ensures given { Gives instance_view (steps.instance (names_view entities.now.names) (seens_view entities.now.formals)
-        (sight_view sight.now) (tree.ident_view label.now) (tree.instance_view instance.now)) result }
+        sight.now (tree.ident_view label.now) (tree.instance_view instance.now)) result }
     ensures told { (views : List EntityView) → AreEntities entities.now views
-        → IfErr result (Tells (broken.instance views (sight_view sight.now) (tree.ident_view label.now) (tree.instance_view instance.now))) }
+        → IfErr result (Tells (broken.instance views sight.now (tree.ident_view label.now) (tree.instance_view instance.now))) }
 {
     let unit = instantiated(entities, sight, &instance.unit)?;
     match formals_at(entities, unit) {
         None => Err(NameProblem::Undeclared.at(label.at)),
-        Some(formals) => with_formals(alloc, sight, label, unit, formals, instance),
+        Some(formals) => with_formals(sight, label, unit, formals, instance),
     }
 }
 
@@ -292,16 +285,15 @@ pub fn instance_in_turn(
 /// generic, a static integer, and that of each port, a signal or port of the port's kind. It fails
 /// at the first byte where a rule is broken, or where memory is refused.
 pub fn instance(
-    alloc: Global,
     entities: &InstanceEntities,
     sight: &Sight,
     label: &Identifier,
     instance: &syntax::Instance,
 ) -> Result<Instance, NameFault>
     ensures given { (views : List EntityView) → AreEntities entities.now views
-        → Gives instance_view (rules.instance views (sight_view sight.now) (tree.ident_view label.now) (tree.instance_view instance.now)) result }
+        → Gives instance_view (rules.instance views sight.now (tree.ident_view label.now) (tree.instance_view instance.now)) result }
     ensures told { (views : List EntityView) → AreEntities entities.now views
-        → IfErr result (Tells (broken.instance views (sight_view sight.now) (tree.ident_view label.now) (tree.instance_view instance.now))) }
+        → IfErr result (Tells (broken.instance views sight.now (tree.ident_view label.now) (tree.instance_view instance.now))) }
 {
-    instance_in_turn(alloc, entities, sight, label, instance)
+    instance_in_turn(entities, sight, label, instance)
 }

@@ -12,7 +12,6 @@ ghost use Rattle.vhdl_names_rules.specs.problems.Instances as broken;
 ghost use Rattle.vhdl_names_rules.specs.Instances.{Formal};
 ghost use Rattle.vhdl_names_rules.specs.Interfaces.{EntityView};
 ghost use Rattle.vhdl_names_rules.specs.Rules.{all_of};
-ghost use Rattle.vhdl_names_types.specs.Views.{sight_view};
 ghost use Rattle.vhdl_tree.specs.Tree.{Ident};
 ghost use Rattle.vhdl_tree.specs.View as tree;
 
@@ -20,7 +19,6 @@ use crate::actuals::{PortType, generic_entry, port_actual, port_at};
 use crate::associations::{Names, expression_of, formal_at, is_named, take};
 use crate::instances::{Formals, listed};
 use indexmap::IndexSet;
-use std::alloc::Global;
 use vhdl_names_rules::NameFault;
 use vhdl_names_types::Sight;
 use vhdl_names_units::is_text;
@@ -29,7 +27,6 @@ use vhdl_tree::{Association, Expr};
 
 /// One more association of a generic map: the formal that it is for, and then its actual.
 fn read_generic(
-    alloc: Global,
     sight: &Sight,
     formals: &Names,
     taken: &mut Names,
@@ -37,32 +34,33 @@ fn read_generic(
     is_behind_named: bool,
     association: &Association,
 ) -> Result<(), NameFault>
-    ensures told { IfErr result (Tells (broken.association (names_view formals.now) (λ n e. broken_static (sight_view sight.now) e)
+    ensures told { IfErr result (Tells (broken.association (names_view formals.now) (λ n e. broken_static sight.now e)
         (drop index (names_view formals.now)) is_behind_named (names_view taken.old) (tree.association_view association.now))) }
-    ensures read { IfOk result (λ _. steps.one_read (names_view formals.now) (steps.is_static (sight_view sight.now)) index is_behind_named
+    ensures read { IfOk result (λ _. steps.one_read (names_view formals.now) (steps.is_static sight.now) index is_behind_named
         (names_view taken.old) (tree.association_view association.now) ≡ Some (names_view taken.new)) }
 {
-    take(alloc, formals, taken, index, is_behind_named, association)?;
-    generic_entry(alloc, sight, &expression_of(association))?;
+    take(
+        sight.alloc,
+        formals,
+        taken,
+        index,
+        is_behind_named,
+        association,
+    )?;
+    generic_entry(sight, &expression_of(association))?;
     Ok(())
 }
 
 /// A generic map, association by association.
-fn generic_map(
-    alloc: Global,
-    sight: &Sight,
-    formals: &Names,
-    list: &[Association],
-) -> Result<(), NameFault>
-    ensures told { IfErr result (Tells (broken.generic_map (sight_view sight.now) (names_view formals.now) (map tree.association_view list.now))) }
-    ensures kept { IfOk result (λ _. broken.generic_map (sight_view sight.now) (names_view formals.now) (map tree.association_view list.now) ≡ nothing) }
-    ensures given { IfOk result (λ _. is_some (steps.generics (sight_view sight.now) (names_view formals.now) (map tree.association_view list.now)) ≡ true) }
+fn generic_map(sight: &Sight, formals: &Names, list: &[Association]) -> Result<(), NameFault>
+    ensures told { IfErr result (Tells (broken.generic_map sight.now (names_view formals.now) (map tree.association_view list.now))) }
+    ensures kept { IfOk result (λ _. broken.generic_map sight.now (names_view formals.now) (map tree.association_view list.now) ≡ nothing) }
+    ensures given { IfOk result (λ _. is_some (steps.generics sight.now (names_view formals.now) (map tree.association_view list.now)) ≡ true) }
 {
-    let mut taken = IndexSet::new(alloc);
+    let mut taken = IndexSet::new(sight.alloc);
     let mut is_behind_named = false;
     for (index, association) in list.iter().enumerate() {
         read_generic(
-            alloc,
             sight,
             formals,
             &mut taken,
@@ -94,7 +92,6 @@ fn port_named(formals: &Formals, index: usize, name: &[u8]) -> Option<PortType>
 
 /// What is associated with a name, for the port at a place if it has this name.
 fn one_port(
-    alloc: Global,
     sight: &Sight,
     formals: &Formals,
     index: usize,
@@ -102,41 +99,34 @@ fn one_port(
     e: &Expr,
 ) -> Result<(), NameFault>
     ensures told { (all : List Formal) → names_view formals.now.ports ≡ map (λ f. f.name) all → formals.now.port_types.items ≡ map type_of all
-        → IfErr result (Tells (where_given (steps.port_named all index name.now) (λ p. broken.port_actual (sight_view sight.now) (formal p) (tree.view e.now)))) }
+        → IfErr result (Tells (where_given (steps.port_named all index name.now) (λ p. broken.port_actual sight.now (formal p) (tree.view e.now)))) }
     ensures fits { (all : List Formal) → names_view formals.now.ports ≡ map (λ f. f.name) all → formals.now.port_types.items ≡ map type_of all
-        → IfOk result (λ _. steps.fits_if_any (sight_view sight.now) (steps.port_named all index name.now) (tree.view e.now) ≡ true) }
+        → IfOk result (λ _. steps.fits_if_any sight.now (steps.port_named all index name.now) (tree.view e.now) ≡ true) }
 {
     match port_named(formals, index, name) {
         None => Ok(()),
         Some(port) => {
-            port_actual(alloc, sight, port, e)?;
+            port_actual(sight, port, e)?;
             Ok(())
         }
     }
 }
 
 /// What is associated with a name, for each port of this name.
-fn named_ports(
-    alloc: Global,
-    sight: &Sight,
-    formals: &Formals,
-    name: &[u8],
-    e: &Expr,
-) -> Result<(), NameFault>
+fn named_ports(sight: &Sight, formals: &Formals, name: &[u8], e: &Expr) -> Result<(), NameFault>
     ensures told { (all : List Formal) → names_view formals.now.ports ≡ map (λ f. f.name) all → formals.now.port_types.items ≡ map type_of all
-        → IfErr result (Tells (any_of (λ f. broken.port_actual (sight_view sight.now) f (tree.view e.now)) (broken.ports_named all name.now))) }
+        → IfErr result (Tells (any_of (λ f. broken.port_actual sight.now f (tree.view e.now)) (broken.ports_named all name.now))) }
     ensures fits { (all : List Formal) → names_view formals.now.ports ≡ map (λ f. f.name) all → formals.now.port_types.items ≡ map type_of all
-        → IfOk result (λ _. steps.fits (sight_view sight.now) all name.now (tree.view e.now) ≡ true) }
+        → IfOk result (λ _. steps.fits sight.now all name.now (tree.view e.now) ≡ true) }
 {
     for index in 0..formals.ports.len() {
-        one_port(alloc, sight, formals, index, name, e)?;
+        one_port(sight, formals, index, name, e)?;
     }
     Ok(())
 }
 
 /// One more association of a port map: the formal that it is for, and then its actual.
 fn read_port(
-    alloc: Global,
     sight: &Sight,
     formals: &Formals,
     taken: &mut Names,
@@ -145,14 +135,14 @@ fn read_port(
     association: &Association,
 ) -> Result<(), NameFault>
     ensures told { (all : List Formal) → names_view formals.now.ports ≡ map (λ f. f.name) all → formals.now.port_types.items ≡ map type_of all
-        → IfErr result (Tells (broken.association (map (λ f. f.name) all) (λ n e. any_of (λ f. broken.port_actual (sight_view sight.now) f e) (broken.ports_named all n))
+        → IfErr result (Tells (broken.association (map (λ f. f.name) all) (λ n e. any_of (λ f. broken.port_actual sight.now f e) (broken.ports_named all n))
         (drop index (map (λ f. f.name) all)) is_behind_named (names_view taken.old) (tree.association_view association.now))) }
     ensures read { (all : List Formal) → names_view formals.now.ports ≡ map (λ f. f.name) all → formals.now.port_types.items ≡ map type_of all
-        → IfOk result (λ _. steps.one_read (map (λ f. f.name) all) (steps.fits (sight_view sight.now) all) index is_behind_named
+        → IfOk result (λ _. steps.one_read (map (λ f. f.name) all) (steps.fits sight.now all) index is_behind_named
         (names_view taken.old) (tree.association_view association.now) ≡ Some (names_view taken.new)) }
 {
     take(
-        alloc,
+        sight.alloc,
         &formals.ports,
         taken,
         index,
@@ -163,28 +153,22 @@ fn read_port(
         None => Ok(()),
         Some(e) => {
             let name = formal_at(&formals.ports, index, association)?;
-            named_ports(alloc, sight, formals, name, e)
+            named_ports(sight, formals, name, e)
         }
     }
 }
 
 /// A port map, association by association.
-fn port_map(
-    alloc: Global,
-    sight: &Sight,
-    formals: &Formals,
-    list: &[Association],
-) -> Result<(), NameFault>
+fn port_map(sight: &Sight, formals: &Formals, list: &[Association]) -> Result<(), NameFault>
     ensures told { (all : List Formal) → names_view formals.now.ports ≡ map (λ f. f.name) all → formals.now.port_types.items ≡ map type_of all
-        → IfErr result (Tells (broken.port_map (sight_view sight.now) all (map tree.association_view list.now))) }
+        → IfErr result (Tells (broken.port_map sight.now all (map tree.association_view list.now))) }
     ensures given { (all : List Formal) → names_view formals.now.ports ≡ map (λ f. f.name) all → formals.now.port_types.items ≡ map type_of all
-        → IfOk result (λ _. is_some (steps.ports (sight_view sight.now) all (map tree.association_view list.now)) ≡ true) }
+        → IfOk result (λ _. is_some (steps.ports sight.now all (map tree.association_view list.now)) ≡ true) }
 {
-    let mut taken = IndexSet::new(alloc);
+    let mut taken = IndexSet::new(sight.alloc);
     let mut is_behind_named = false;
     for (index, association) in list.iter().enumerate() {
         read_port(
-            alloc,
             sight,
             formals,
             &mut taken,
@@ -200,17 +184,16 @@ fn port_map(
 /// The maps of an instance of an entity with these formals: they fail at the first byte where a rule
 /// is broken, or where memory is refused. Where no rule is broken, an instance is given.
 pub(crate) fn maps(
-    alloc: Global,
     sight: &Sight,
     formals: &Formals,
     instance: &syntax::Instance,
 ) -> Result<(), NameFault>
     ensures told { (seen_of : EntityView) → seen_view formals.now ≡ seen seen_of
-        → IfErr result (Tells (broken.maps (sight_view sight.now) seen_of (tree.instance_view instance.now))) }
+        → IfErr result (Tells (broken.maps sight.now seen_of (tree.instance_view instance.now))) }
     ensures given { (seen_of : EntityView) → seen_view formals.now ≡ seen seen_of → (label : Ident) → (unit : ℕ)
-        → IfOk result (λ _. is_some (with_formals (sight_view sight.now) label unit (seen_view formals.now)
+        → IfOk result (λ _. is_some (with_formals sight.now label unit (seen_view formals.now)
         (all_of (option_map tree.associations_view instance.now.generics)) (all_of (option_map tree.associations_view instance.now.ports))) ≡ true) }
 {
-    generic_map(alloc, sight, &formals.generics, listed(&instance.generics))?;
-    port_map(alloc, sight, formals, listed(&instance.ports))
+    generic_map(sight, &formals.generics, listed(&instance.generics))?;
+    port_map(sight, formals, listed(&instance.ports))
 }

@@ -49,7 +49,8 @@ inside_generate i counts sight n h =
       variables = all_more i (w.within_generate i) counts counts (more_generates i counts) sight.variables h.variables;
       generates = (lt-ltb (length sight.generates) (suc i.generates) (omega (arith, same)), all_more i (w.within_generate i) counts counts (more_generates i counts) sight.generates h.generates);
       region = all_more i (w.within_generate i) counts counts (more_generates i counts) sight.region h.region;
-      outside = all_more i (w.within_generate i) counts counts (more_generates i counts) sight.outside h.outside;
+      enclosing = all_more i (w.within_generate i) counts counts (more_generates i counts) sight.enclosing h.enclosing;
+      packages = all_more i (w.within_generate i) counts counts (more_generates i counts) sight.packages h.packages;
       loop_count = h.loop_count;
       generate_count = omega (arith, same);
     }

@@ -307,7 +307,7 @@ unfolding component
 component_step i counts entities sight c x h q =
     let a = comes (entity_named entities c.name.text) _ x q in
     let b = kept (same_generics c.generics a.value.1.generic_text && same_ports c.ports a.value.1.port_text) _ x a.rest in
-    let f = comes (interface (record sight { region = []; outside = sight.region ++ sight.outside }) c.generics c.ports) _ x b.1 in
+    let f = comes (interface (record sight { region = []; enclosing = sight.region ++ sight.enclosing }) c.generics c.ports) _ x b.1 in
     let g = kept (ends c.name.text c.end_name) _ x f.rest in
     subst (DeclarationStep i sight) (some_same _ x g.1) (record { more = counts; fit = refl; after = component_known i counts sight c.name.text a.value.0 h })
 

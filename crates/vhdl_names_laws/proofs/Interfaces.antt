@@ -43,7 +43,7 @@ visible_fits i counts c =
 -- where nothing is declared yet
 nothing_known : (c : Context) → IsKnown nothing_inside [] (sight_of c [])
 nothing_known c = record {
-  inside = record { loops = tt; variables = tt; generates = tt; region = tt; outside = visible_fits nothing_inside [] c; loop_count = refl; generate_count = refl };
+  inside = record { loops = tt; variables = tt; generates = tt; region = tt; enclosing = tt; packages = visible_fits nothing_inside [] c; loop_count = refl; generate_count = refl };
   generics = refl;
   integers = refl;
   constants = refl;
@@ -57,7 +57,7 @@ nothing_known c = record {
 -- the same region in another context
 pub in_context : (i : Inside) (counts : Counts) (c d : Context) (region : List Declared) → i.loops ≡ 0 → i.generates ≡ 0 → IsKnown i counts (sight_of c region) → IsKnown i counts (sight_of d region)
 in_context i counts c d region l g k = record {
-  inside = record { loops = tt; variables = tt; generates = tt; region = k.inside.region; outside = visible_fits i counts d; loop_count = sym l; generate_count = sym g };
+  inside = record { loops = tt; variables = tt; generates = tt; region = k.inside.region; enclosing = tt; packages = visible_fits i counts d; loop_count = sym l; generate_count = sym g };
   generics = k.generics;
   integers = k.integers;
   constants = k.constants;

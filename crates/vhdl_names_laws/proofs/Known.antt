@@ -24,7 +24,8 @@ inside_more i j few more sight m l g h = record {
   variables = all_more i j few more m sight.variables h.variables;
   generates = all_more i j few more m sight.generates h.generates;
   region = all_more i j few more m sight.region h.region;
-  outside = all_more i j few more m sight.outside h.outside;
+  enclosing = all_more i j few more m sight.enclosing h.enclosing;
+  packages = all_more i j few more m sight.packages h.packages;
   loop_count = h.loop_count ∙ l;
   generate_count = h.generate_count ∙ g;
 }
@@ -35,7 +36,8 @@ inside_with i counts sight ds h a = record {
   variables = h.variables;
   generates = h.generates;
   region = each_append (λ (d : Declared). MeaningFits i counts d.meaning) sight.region ds h.region a;
-  outside = h.outside;
+  enclosing = h.enclosing;
+  packages = h.packages;
   loop_count = h.loop_count;
   generate_count = h.generate_count;
 }
@@ -46,7 +48,8 @@ inside_variables i counts sight ds h a = record {
   variables = each_append (λ (d : Declared). MeaningFits i counts d.meaning) sight.variables ds h.variables a;
   generates = h.generates;
   region = h.region;
-  outside = h.outside;
+  enclosing = h.enclosing;
+  packages = h.packages;
   loop_count = h.loop_count;
   generate_count = h.generate_count;
 }

@@ -157,7 +157,8 @@ inside_loop i counts sight n h =
       variables = all_more i (w.within_loop i) counts counts (more_loops i counts) sight.variables h.variables;
       generates = all_more i (w.within_loop i) counts counts (more_loops i counts) sight.generates h.generates;
       region = all_more i (w.within_loop i) counts counts (more_loops i counts) sight.region h.region;
-      outside = all_more i (w.within_loop i) counts counts (more_loops i counts) sight.outside h.outside;
+      enclosing = all_more i (w.within_loop i) counts counts (more_loops i counts) sight.enclosing h.enclosing;
+      packages = all_more i (w.within_loop i) counts counts (more_loops i counts) sight.packages h.packages;
       loop_count = omega (arith, same);
       generate_count = h.generate_count;
     }

@@ -159,4 +159,4 @@ meant i counts sight h n d t =
     let P : Declared → Type 0 = λ d. MeaningFits i counts d.meaning in
     found_fits i counts n (in_sight sight) d
     (each_append P sight.loops _ h.loops (each_append P sight.variables _ h.variables (each_append P sight.generates _ h.generates
-    (each_append P sight.region _ h.region h.outside)))) t
+    (each_append P sight.region _ h.region (each_append P sight.enclosing _ h.enclosing h.packages))))) t

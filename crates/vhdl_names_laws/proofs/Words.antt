@@ -137,7 +137,7 @@ unfolding component
 component_named entities sight c x q =
     let a = comes (entity_named entities c.name.text) _ x q in
     let b = kept (same_generics c.generics a.value.1.generic_text && same_ports c.ports a.value.1.port_text) _ x a.rest in
-    let f = comes (interface (record sight { region = []; outside = sight.region ++ sight.outside }) c.generics c.ports) _ x b.1 in
+    let f = comes (interface (record sight { region = []; enclosing = sight.region ++ sight.enclosing }) c.generics c.ports) _ x b.1 in
     let g = kept (ends c.name.text c.end_name) _ x f.rest in
     subst (λ x. AllByRecursion IsNamed x.analysed) (some_same _ x g.1) tt
 

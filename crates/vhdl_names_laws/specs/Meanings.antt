@@ -80,7 +80,8 @@ pub record IsInside (i : Inside) (counts : Counts) (sight : Sight) : Type 0 wher
   pub variables : AllFit i counts sight.variables
   pub generates : AllFit i counts sight.generates
   pub region : AllFit i counts sight.region
-  pub outside : AllFit i counts sight.outside
+  pub enclosing : AllFit i counts sight.enclosing
+  pub packages : AllFit i counts sight.packages
   pub loop_count : length sight.loops ≡ i.loops
   pub generate_count : length sight.generates ≡ i.generates
 

@@ -74,6 +74,6 @@ unfoldable pub component : List EntityView → Sight → t.Component → Option 
 component entities sight c = do
   e ← entity_named entities c.name.text
   rule WrongKind (same_generics c.generics e.1.generic_text && same_ports c.ports e.1.port_text)
-  i ← interface (record sight { region = []; outside = sight.region ++ sight.outside }) c.generics c.ports
+  i ← interface (record sight { region = []; enclosing = sight.region ++ sight.enclosing }) c.generics c.ports
   rule WrongKind (ends c.name.text c.end_name)
   Some (record { declared = declare c.name.text (visibility.component e.0) ∷ []; analysed = [] })

@@ -74,4 +74,4 @@ visible c = (if c.has_numbers then numeric_std else []) ++ ((if c.has_logic then
 
 -- where nothing is declared yet
 abbrev pub sight_of : Context → List Declared → Sight
-sight_of c region = record { loops = []; variables = []; generates = []; region = region; outside = visible c; numbers = c.has_numbers }
+sight_of c region = record { loops = []; variables = []; generates = []; region = region; enclosing = []; packages = visible c; numbers = c.has_numbers }

@@ -95,14 +95,16 @@ pub record Sight : Type 0 where
   pub generates : List Declared
   -- the region of the entity and its architecture, up to the place
   pub region : List Declared
-  -- what is in sight from outside: the packages' declarations
-  pub outside : List Declared
+  -- the region that a component stands in
+  pub enclosing : List Declared
+  -- what is in sight of the packages
+  pub packages : List Declared
   -- whether the operators of numeric_std are in sight
   pub numbers : Bool
 
 -- an inner declaration hides the outer ones of its name
 abbrev pub in_sight : Sight → List Declared
-in_sight s = s.loops ++ (s.variables ++ (s.generates ++ (s.region ++ s.outside)))
+in_sight s = s.loops ++ (s.variables ++ (s.generates ++ (s.region ++ (s.enclosing ++ s.packages))))
 
 -- what a name means
 abbrev pub meaning : Sight → Name → Option Meaning

@@ -8,7 +8,6 @@ ghost use Rattle.vhdl_names_rules.specs.Concurrent as rules;
 ghost use Rattle.vhdl_names_rules.specs.Rules.{each, if_any};
 ghost use Rattle.vhdl_names_rules.specs.Gives.{Gives};
 ghost use Rattle.vhdl_tree.specs.View as tree;
-ghost use Rattle.vhdl_names_types.specs.Views.{sight_view};
 ghost use Rattle.vhdl_names_statements.specs.steps.Cases as cases;
 ghost use Rattle.vhdl_names_statements.specs.steps.Concurrent as steps;
 ghost use Rattle.vhdl_names_statements.specs.steps.Sequential as sequential;
@@ -57,47 +56,44 @@ fn assigning(
 
 /// An assignment alone.
 fn alone(
-    alloc: Global,
     sight: &Sight,
     target: &syntax::Name,
     value: &syntax::Value,
 ) -> Result<Vec<Statement>, NameFault>
-    ensures given { Gives views.statements_view (steps.alone (sight_view sight.now) (tree.name_view target.now) (tree.value_view value.now)) result }
-    ensures told { IfErr result (Tells (broken.assigned (sight_view sight.now) (tree.name_view target.now) (tree.value_view value.now))) }
+    ensures given { Gives views.statements_view (steps.alone sight.now (tree.name_view target.now) (tree.value_view value.now)) result }
+    ensures told { IfErr result (Tells (broken.assigned sight.now (tree.name_view target.now) (tree.value_view value.now))) }
 {
-    let statement = assigned(alloc, sight, target, value)?;
-    Ok(single(alloc, statement)?)
+    let statement = assigned(sight, target, value)?;
+    Ok(single(sight.alloc, statement)?)
 }
 
 /// `value when condition`.
 fn waveform(
-    alloc: Global,
     sight: &Sight,
     target: &syntax::Name,
     item: &syntax::Branch,
 ) -> Result<Branch, NameFault>
-    ensures given { Gives views.branch_view (steps.waveform (sight_view sight.now) (tree.name_view target.now) (tree.branch_view item.now)) result }
-    ensures told { IfErr result (Tells (problems.branch (sight_view sight.now) (tree.name_view target.now) (tree.branch_view item.now))) }
+    ensures given { Gives views.branch_view (steps.waveform sight.now (tree.name_view target.now) (tree.branch_view item.now)) result }
+    ensures told { IfErr result (Tells (problems.branch sight.now (tree.name_view target.now) (tree.branch_view item.now))) }
 {
-    let statements = alone(alloc, sight, target, &item.value)?;
-    let condition = condition(alloc, sight, &item.condition)?;
+    let statements = alone(sight, target, &item.value)?;
+    let condition = condition(sight, &item.condition)?;
     Ok(Branch::new(condition, statements))
 }
 
 /// Waveforms with conditions.
 #[tactic(auto, using(vhdl_names_units::proofs::Lists::each_in_turn))]
 fn waveforms(
-    alloc: Global,
     sight: &Sight,
     target: &syntax::Name,
     list: &[syntax::Branch],
 ) -> Result<Vec<Branch>, NameFault>
-    ensures given { Gives views.branches_view (each (steps.waveform (sight_view sight.now) (tree.name_view target.now)) (map tree.branch_view list.now)) result }
-    ensures told { IfErr result (Tells (any_of (problems.branch (sight_view sight.now) (tree.name_view target.now)) (map tree.branch_view list.now))) }
+    ensures given { Gives views.branches_view (each (steps.waveform sight.now (tree.name_view target.now)) (map tree.branch_view list.now)) result }
+    ensures told { IfErr result (Tells (any_of (problems.branch sight.now (tree.name_view target.now)) (map tree.branch_view list.now))) }
 {
-    let mut all = Vec::new(alloc);
+    let mut all = Vec::new(sight.alloc);
     for item in list {
-        let next = waveform(alloc, sight, target, item)?;
+        let next = waveform(sight, target, item)?;
         all.push(next)?;
     }
     Ok(all)
@@ -105,109 +101,99 @@ fn waveforms(
 
 /// What is assigned where no condition holds.
 fn otherwise(
-    alloc: Global,
     sight: &Sight,
     target: &syntax::Name,
     value: &Option<syntax::Value>,
 ) -> Result<Option<Vec<Statement>>, NameFault>
     ensures given { Gives views.option_statements_view
-        (if_any (steps.alone (sight_view sight.now) (tree.name_view target.now)) (option_map tree.value_view value.now)) result }
-    ensures told { IfErr result (Tells (of_any (broken.assigned (sight_view sight.now) (tree.name_view target.now)) (option_map tree.value_view value.now))) }
+        (if_any (steps.alone sight.now (tree.name_view target.now)) (option_map tree.value_view value.now)) result }
+    ensures told { IfErr result (Tells (of_any (broken.assigned sight.now (tree.name_view target.now)) (option_map tree.value_view value.now))) }
 {
     match value {
         None => Ok(None),
-        Some(value) => Ok(Some(alone(alloc, sight, target, value)?)),
+        Some(value) => Ok(Some(alone(sight, target, value)?)),
     }
 }
 
 /// Values under conditions.
 fn conditional(
-    alloc: Global,
     sight: &Sight,
     target: &syntax::Name,
     list: &[syntax::Branch],
     value: &Option<syntax::Value>,
 ) -> Result<Statement, NameFault>
-    ensures given { Gives views.statement_view (steps.conditional (sight_view sight.now) (tree.name_view target.now)
+    ensures given { Gives views.statement_view (steps.conditional sight.now (tree.name_view target.now)
         (map tree.branch_view list.now) (option_map tree.value_view value.now)) result }
-    ensures told { IfErr result (Tells (told.conditional (sight_view sight.now) (tree.name_view target.now) (map tree.branch_view list.now) (option_map tree.value_view value.now))) }
+    ensures told { IfErr result (Tells (told.conditional sight.now (tree.name_view target.now) (map tree.branch_view list.now) (option_map tree.value_view value.now))) }
 {
-    let branches = waveforms(alloc, sight, target, list)?;
-    let otherwise = otherwise(alloc, sight, target, value)?;
+    let branches = waveforms(sight, target, list)?;
+    let otherwise = otherwise(sight, target, value)?;
     Ok(Statement::conditional(target.identifier.at, branches, otherwise))
 }
 
 /// What an assignment does.
 fn body(
-    alloc: Global,
     sight: &Sight,
     target: &syntax::Name,
     list: &[syntax::Branch],
     value: &Option<syntax::Value>,
 ) -> Result<Statement, NameFault>
-    ensures given { Gives views.statement_view (steps.body (sight_view sight.now) (tree.name_view target.now)
+    ensures given { Gives views.statement_view (steps.body sight.now (tree.name_view target.now)
         (map tree.branch_view list.now) (option_map tree.value_view value.now)) result }
-    ensures told { IfErr result (Tells (told.conditional (sight_view sight.now) (tree.name_view target.now) (map tree.branch_view list.now) (option_map tree.value_view value.now))) }
+    ensures told { IfErr result (Tells (told.conditional sight.now (tree.name_view target.now) (map tree.branch_view list.now) (option_map tree.value_view value.now))) }
 {
     match (list, value) {
-        ([], Some(value)) => assigned(alloc, sight, target, value),
-        _ => conditional(alloc, sight, target, list, value),
+        ([], Some(value)) => assigned(sight, target, value),
+        _ => conditional(sight, target, list, value),
     }
 }
 
 /// A conditional assignment, or one of a value alone, in the order of its parts.
-fn assignment_in_turn(
-    alloc: Global,
-    sight: &Sight,
-    assignment: &syntax::Assignment,
-) -> Result<Process, NameFault>
-    ensures given { Gives one_process (steps.assignment (sight_view sight.now) (tree.assignment_view assignment.now)) result }
-    ensures told { IfErr result (Tells (problems.assignment (sight_view sight.now) (tree.assignment_view assignment.now))) }
+fn assignment_in_turn(sight: &Sight, assignment: &syntax::Assignment) -> Result<Process, NameFault>
+    ensures given { Gives one_process (steps.assignment sight.now (tree.assignment_view assignment.now)) result }
+    ensures told { IfErr result (Tells (problems.assignment sight.now (tree.assignment_view assignment.now))) }
 {
-    let _ = target(alloc, sight, &assignment.target)?;
+    let _ = target(sight, &assignment.target)?;
     let statement = body(
-        alloc,
         sight,
         &assignment.target,
         &assignment.branches,
         &assignment.otherwise,
     )?;
     let at = assignment.target.identifier.at;
-    Ok(assigning(alloc, at, &assignment.label, statement)?)
+    Ok(assigning(sight.alloc, at, &assignment.label, statement)?)
 }
 
 /// `value when choices`.
 fn chosen(
-    alloc: Global,
     sight: &Sight,
     selected: ObjectType,
     target: &syntax::Name,
     item: &syntax::Waveform,
 ) -> Result<Alternative, NameFault>
-    ensures given { Gives views.alternative_view (steps.chosen (sight_view sight.now) selected (tree.name_view target.now) (tree.waveform_view item.now)) result }
-    ensures told { IfErr result (Tells (problems.waveform (sight_view sight.now) selected (tree.name_view target.now) (tree.waveform_view item.now))) }
+    ensures given { Gives views.alternative_view (steps.chosen sight.now selected (tree.name_view target.now) (tree.waveform_view item.now)) result }
+    ensures told { IfErr result (Tells (problems.waveform sight.now selected (tree.name_view target.now) (tree.waveform_view item.now))) }
 {
-    let statements = alone(alloc, sight, target, &item.value)?;
-    let choices = choices(alloc, sight, selected, &item.choices)?;
+    let statements = alone(sight, target, &item.value)?;
+    let choices = choices(sight, selected, &item.choices)?;
     Ok(Alternative::new(choices, statements))
 }
 
 /// Waveforms with choices.
 #[tactic(auto, using(vhdl_names_units::proofs::Lists::each_in_turn))]
 fn all_chosen(
-    alloc: Global,
     sight: &Sight,
     selected: ObjectType,
     target: &syntax::Name,
     list: &[syntax::Waveform],
 ) -> Result<Vec<Alternative>, NameFault>
     ensures given { Gives views.alternatives_view
-        (each (steps.chosen (sight_view sight.now) selected (tree.name_view target.now)) (map tree.waveform_view list.now)) result }
-    ensures told { IfErr result (Tells (any_of (problems.waveform (sight_view sight.now) selected (tree.name_view target.now)) (map tree.waveform_view list.now))) }
+        (each (steps.chosen sight.now selected (tree.name_view target.now)) (map tree.waveform_view list.now)) result }
+    ensures told { IfErr result (Tells (any_of (problems.waveform sight.now selected (tree.name_view target.now)) (map tree.waveform_view list.now))) }
 {
-    let mut all = Vec::new(alloc);
+    let mut all = Vec::new(sight.alloc);
     for item in list {
-        let next = chosen(alloc, sight, selected, target, item)?;
+        let next = chosen(sight, selected, target, item)?;
         all.push(next)?;
     }
     Ok(all)
@@ -229,65 +215,58 @@ fn choice_lists(
 
 /// What a selected assignment does by the value selected, the last alternative apart.
 fn selected_parts(
-    alloc: Global,
     sight: &Sight,
     by: ObjectType,
     assignment: &syntax::SelectedAssignment,
 ) -> Result<(Vec<Alternative>, Vec<Statement>), NameFault>
     ensures given { Gives (λ p. cases.divided (views.alternatives_view p.0) (views.statements_view p.1))
-        (steps.parts (sight_view sight.now) by (tree.selected_assignment_view assignment.now)) result }
-    ensures told { IfErr result (Tells (problems.waveforms (sight_view sight.now) by (tree.selected_assignment_view assignment.now))) }
+        (steps.parts sight.now by (tree.selected_assignment_view assignment.now)) result }
+    ensures told { IfErr result (Tells (problems.waveforms sight.now by (tree.selected_assignment_view assignment.now))) }
 {
-    let _ = target(alloc, sight, &assignment.target)?;
-    let lists = choice_lists(alloc, &assignment.waveforms)?;
-    let all = all_chosen(alloc, sight, by, &assignment.target, &assignment.waveforms);
-    let all = covered(alloc, sight, by, assignment.at, &lists, all)?;
+    let _ = target(sight, &assignment.target)?;
+    let lists = choice_lists(sight.alloc, &assignment.waveforms)?;
+    let all = all_chosen(sight, by, &assignment.target, &assignment.waveforms);
+    let all = covered(sight, by, assignment.at, &lists, all)?;
     but_last(assignment.at, all)
 }
 
 /// A selected assignment, in the order of its parts.
 fn selected_in_turn(
-    alloc: Global,
     sight: &Sight,
     label: &Option<Identifier>,
     assignment: &syntax::SelectedAssignment,
 ) -> Result<Process, NameFault>
     ensures given { Gives one_process
-        (steps.selected (sight_view sight.now) (option_map tree.ident_view label.now) (tree.selected_assignment_view assignment.now)) result }
-    ensures told { IfErr result (Tells (problems.selected (sight_view sight.now) (tree.selected_assignment_view assignment.now))) }
+        (steps.selected sight.now (option_map tree.ident_view label.now) (tree.selected_assignment_view assignment.now)) result }
+    ensures told { IfErr result (Tells (problems.selected sight.now (tree.selected_assignment_view assignment.now))) }
 {
-    let (by, value) = selector(alloc, sight, &assignment.selector)?;
-    let (alternatives, others) = selected_parts(alloc, sight, by, assignment)?;
+    let (by, value) = selector(sight, &assignment.selector)?;
+    let (alternatives, others) = selected_parts(sight, by, assignment)?;
     let statement = Statement::selection(assignment.at, value, alternatives, others);
-    Ok(assigning(alloc, assignment.at, label, statement)?)
+    Ok(assigning(sight.alloc, assignment.at, label, statement)?)
 }
 
 /// What a conditional assignment, or one of a value alone, is analysed to: a process that is
 /// sensitive to what it reads. It fails at the first byte where a rule is broken, or where memory
 /// is refused.
-pub fn assignment(
-    alloc: Global,
-    sight: &Sight,
-    assignment: &syntax::Assignment,
-) -> Result<Process, NameFault>
-    ensures given { Gives one_process (rules.assignment (sight_view sight.now) (tree.assignment_view assignment.now)) result }
-    ensures told { IfErr result (Tells (problems.assignment (sight_view sight.now) (tree.assignment_view assignment.now))) }
+pub fn assignment(sight: &Sight, assignment: &syntax::Assignment) -> Result<Process, NameFault>
+    ensures given { Gives one_process (rules.assignment sight.now (tree.assignment_view assignment.now)) result }
+    ensures told { IfErr result (Tells (problems.assignment sight.now (tree.assignment_view assignment.now))) }
 {
-    assignment_in_turn(alloc, sight, assignment)
+    assignment_in_turn(sight, assignment)
 }
 
 /// What a selected assignment behind its label is analysed to: a process with a case that is
 /// sensitive to what it reads. It fails at the first byte where a rule is broken, or where memory
 /// is refused.
 pub fn selected(
-    alloc: Global,
     sight: &Sight,
     label: &Option<Identifier>,
     assignment: &syntax::SelectedAssignment,
 ) -> Result<Process, NameFault>
     ensures given { Gives one_process
-        (rules.selected (sight_view sight.now) (option_map tree.ident_view label.now) (tree.selected_assignment_view assignment.now)) result }
-    ensures told { IfErr result (Tells (problems.selected (sight_view sight.now) (tree.selected_assignment_view assignment.now))) }
+        (rules.selected sight.now (option_map tree.ident_view label.now) (tree.selected_assignment_view assignment.now)) result }
+    ensures told { IfErr result (Tells (problems.selected sight.now (tree.selected_assignment_view assignment.now))) }
 {
-    selected_in_turn(alloc, sight, label, assignment)
+    selected_in_turn(sight, label, assignment)
 }

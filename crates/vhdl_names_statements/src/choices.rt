@@ -12,7 +12,6 @@ ghost use Rattle.vhdl_names_rules.specs.Visibility.{is_among};
 ghost use Rattle.vhdl_names_rules.specs.Gives.{Gives};
 ghost use Rattle.vhdl_tree.specs.View as tree;
 ghost use Rattle.vhdl_names_units.specs.views.Answers.{choice_view};
-ghost use Rattle.vhdl_names_types.specs.Views.{sight_view};
 ghost use Rattle.vhdl_names_statements.specs.steps.Cases as steps;
 ghost use Rattle.vhdl_names_statements.specs.steps.Told as told;
 ghost use Rattle.vhdl_names_units.specs.Once.{one_name, names_view, key_of};
@@ -68,34 +67,32 @@ fn place(written: &syntax::Choice) -> usize
 
 /// A choice by itself, which none before it is.
 fn add_written(
-    alloc: Global,
     sight: &Sight,
     selected: ObjectType,
     keys: &mut Keys,
     written: &syntax::Choice,
 ) -> Result<(), NameFault>
-    ensures added { IfOk result (λ _. names_view keys.new ≡ told.with_choice (sight_view sight.now) selected (names_view keys.old) (tree.choice_view written.now)) }
-    ensures kept { IfOk result (λ _. told.once (sight_view sight.now) selected (names_view keys.old) (tree.choice_view written.now) ≡ nothing) }
-    ensures told { IfErr result (Tells (told.once (sight_view sight.now) selected (names_view keys.old) (tree.choice_view written.now))) }
+    ensures added { IfOk result (λ _. names_view keys.new ≡ told.with_choice sight.now selected (names_view keys.old) (tree.choice_view written.now)) }
+    ensures kept { IfOk result (λ _. told.once sight.now selected (names_view keys.old) (tree.choice_view written.now) ≡ nothing) }
+    ensures told { IfErr result (Tells (told.once sight.now selected (names_view keys.old) (tree.choice_view written.now))) }
 {
-    let analysed = choice(alloc, sight, selected, written)?;
-    add_choice(alloc, keys, &analysed, place(written))
+    let analysed = choice(sight, selected, written)?;
+    add_choice(sight.alloc, keys, &analysed, place(written))
 }
 
 /// Choices one after another, up to the first that is refused or stands twice.
 fn add_each(
-    alloc: Global,
     sight: &Sight,
     selected: ObjectType,
     keys: &mut Keys,
     list: &[syntax::Choice],
 ) -> Result<(), NameFault>
-    ensures added { IfOk result (λ _. names_view keys.new ≡ told.with_list (sight_view sight.now) selected (names_view keys.old) (map tree.choice_view list.now)) }
-    ensures kept { IfOk result (λ _. told.each_once (sight_view sight.now) selected (names_view keys.old) (map tree.choice_view list.now) ≡ nothing) }
-    ensures told { IfErr result (Tells (told.each_once (sight_view sight.now) selected (names_view keys.old) (map tree.choice_view list.now))) }
+    ensures added { IfOk result (λ _. names_view keys.new ≡ told.with_list sight.now selected (names_view keys.old) (map tree.choice_view list.now)) }
+    ensures kept { IfOk result (λ _. told.each_once sight.now selected (names_view keys.old) (map tree.choice_view list.now) ≡ nothing) }
+    ensures told { IfErr result (Tells (told.each_once sight.now selected (names_view keys.old) (map tree.choice_view list.now))) }
 {
     for written in list {
-        add_written(alloc, sight, selected, keys, written)?;
+        add_written(sight, selected, keys, written)?;
     }
     Ok(())
 }
@@ -124,19 +121,18 @@ fn others_last(at: usize, is_last: bool) -> Result<(), NameFault>
 
 /// The choices of one alternative.
 fn add_list(
-    alloc: Global,
     sight: &Sight,
     selected: ObjectType,
     keys: &mut Keys,
     is_last: bool,
     list: &[syntax::Choice],
 ) -> Result<(), NameFault>
-    ensures added { IfOk result (λ _. names_view keys.new ≡ told.with_list (sight_view sight.now) selected (names_view keys.old) (map tree.choice_view list.now)) }
-    ensures kept { IfOk result (λ _. told.alternative_in_place (sight_view sight.now) selected (names_view keys.old) is_last (map tree.choice_view list.now) ≡ nothing) }
-    ensures told { IfErr result (Tells (told.alternative_in_place (sight_view sight.now) selected (names_view keys.old) is_last (map tree.choice_view list.now))) }
+    ensures added { IfOk result (λ _. names_view keys.new ≡ told.with_list sight.now selected (names_view keys.old) (map tree.choice_view list.now)) }
+    ensures kept { IfOk result (λ _. told.alternative_in_place sight.now selected (names_view keys.old) is_last (map tree.choice_view list.now) ≡ nothing) }
+    ensures told { IfErr result (Tells (told.alternative_in_place sight.now selected (names_view keys.old) is_last (map tree.choice_view list.now))) }
 {
     match others_alone(list) {
-        None => add_each(alloc, sight, selected, keys, list),
+        None => add_each(sight, selected, keys, list),
         Some(at) => others_last(at, is_last),
     }
 }
@@ -144,25 +140,17 @@ fn add_list(
 /// The keys of all choices, in order of the text, up to the first that is refused, out of place or
 /// stands twice.
 fn told_apart(
-    alloc: Global,
     sight: &Sight,
     selected: ObjectType,
     lists: &[&[syntax::Choice]],
 ) -> Result<Keys, NameFault>
-    ensures added { IfOk result (λ keys. names_view keys ≡ told.with_lists (sight_view sight.now) selected [] (steps.all_lists lists.now)) }
-    ensures kept { IfOk result (λ _. told.in_place (sight_view sight.now) selected [] (steps.all_lists lists.now) ≡ nothing) }
-    ensures told { IfErr result (Tells (told.in_place (sight_view sight.now) selected [] (steps.all_lists lists.now))) }
+    ensures added { IfOk result (λ keys. names_view keys ≡ told.with_lists sight.now selected [] (steps.all_lists lists.now)) }
+    ensures kept { IfOk result (λ _. told.in_place sight.now selected [] (steps.all_lists lists.now) ≡ nothing) }
+    ensures told { IfErr result (Tells (told.in_place sight.now selected [] (steps.all_lists lists.now))) }
 {
-    let mut keys = IndexSet::new(alloc);
+    let mut keys = IndexSet::new(sight.alloc);
     for (index, list) in lists.iter().enumerate() {
-        add_list(
-            alloc,
-            sight,
-            selected,
-            &mut keys,
-            index + 1 == lists.len(),
-            list,
-        )?;
+        add_list(sight, selected, &mut keys, index + 1 == lists.len(), list)?;
     }
     Ok(keys)
 }
@@ -237,19 +225,18 @@ fn complete(
 /// wrong with the alternatives and with all their choices the earlier is told, and at last what is
 /// missing.
 pub(crate) fn covered(
-    alloc: Global,
     sight: &Sight,
     selected: ObjectType,
     at: usize,
     lists: &[&[syntax::Choice]],
     all: Result<Vec<Alternative>, NameFault>,
 ) -> Result<Vec<Alternative>, NameFault>
-    ensures given { (found : Option (List Chosen)) → Gives views.alternatives_view found all → IfOk all (told.HasChoices (sight_view sight.now) selected (steps.all_lists lists.now))
+    ensures given { (found : Option (List Chosen)) → Gives views.alternatives_view found all → IfOk all (told.HasChoices sight.now selected (steps.all_lists lists.now))
         → Gives views.alternatives_view (steps.covering selected (steps.all_lists lists.now) found) result }
-    ensures told { (b : Broken) → IfErr all (Tells b) → IfOk all (λ _. b ≡ nothing) → IfOk all (told.HasChoices (sight_view sight.now) selected (steps.all_lists lists.now))
-        → IfErr result (Tells (broken.covered (sight_view sight.now) selected at (steps.all_lists lists.now) b)) }
+    ensures told { (b : Broken) → IfErr all (Tells b) → IfOk all (λ _. b ≡ nothing) → IfOk all (told.HasChoices sight.now selected (steps.all_lists lists.now))
+        → IfErr result (Tells (broken.covered sight.now selected at (steps.all_lists lists.now) b)) }
 {
-    match told_apart(alloc, sight, selected, lists) {
+    match told_apart(sight, selected, lists) {
         Err(fault) => Err(earlier_in(fault, all)),
         Ok(keys) => {
             let all = all?;

@@ -12,7 +12,6 @@ ghost use Rattle.vhdl_tree.specs.View as tree;
 ghost use Rattle.vhdl_tree.specs.declared.sequential.Case.{out-Case};
 ghost use Rattle.vhdl_tree.specs.declared.sequential.For.{out-For};
 ghost use Rattle.vhdl_tree.specs.declared.sequential.If.{out-If};
-ghost use Rattle.vhdl_names_types.specs.Views.{sight_view};
 ghost use Rattle.vhdl_names_units.specs.views.Sequential as views;
 ghost use Rattle.vhdl_names_statements.specs.steps.Cases as cases;
 ghost use Rattle.vhdl_names_statements.specs.steps.Sequential as steps;
@@ -20,7 +19,6 @@ ghost use Rattle.vhdl_names_statements.specs.steps.Told as told;
 
 use crate::choices::{but_last, choice_lists, covered};
 use crate::held::ended;
-use std::alloc::Global;
 use vhdl_names_expressions::{choices, condition, given, selector, static_range, target, variable};
 use vhdl_names_rules::{NameFault, ObjectType};
 use vhdl_names_types::{Declared, Meaning, Sight};
@@ -30,16 +28,15 @@ use vhdl_tree::Identifier;
 
 /// An assignment to a signal.
 pub(crate) fn assigned(
-    alloc: Global,
     sight: &Sight,
     name: &syntax::Name,
     value: &syntax::Value,
 ) -> Result<Statement, NameFault>
-    ensures given { Gives views.statement_view (steps.assigned (sight_view sight.now) (tree.name_view name.now) (tree.value_view value.now)) result }
-    ensures told { IfErr result (Tells (broken.assigned (sight_view sight.now) (tree.name_view name.now) (tree.value_view value.now))) }
+    ensures given { Gives views.statement_view (steps.assigned sight.now (tree.name_view name.now) (tree.value_view value.now)) result }
+    ensures told { IfErr result (Tells (broken.assigned sight.now (tree.name_view name.now) (tree.value_view value.now))) }
 {
-    let signal = target(alloc, sight, name)?;
-    let value = given(alloc, sight, signal.object_type, value)?;
+    let signal = target(sight, name)?;
+    let value = given(sight, signal.object_type, value)?;
     Ok(Statement::Assign {
         target: signal.place,
         value,
@@ -47,17 +44,12 @@ pub(crate) fn assigned(
 }
 
 /// An assignment to a variable.
-fn set(
-    alloc: Global,
-    sight: &Sight,
-    name: &syntax::Name,
-    value: &syntax::Value,
-) -> Result<Statement, NameFault>
-    ensures given { Gives views.statement_view (steps.set (sight_view sight.now) (tree.name_view name.now) (tree.value_view value.now)) result }
-    ensures told { IfErr result (Tells (broken.variable_assigned (sight_view sight.now) (tree.name_view name.now) (tree.value_view value.now))) }
+fn set(sight: &Sight, name: &syntax::Name, value: &syntax::Value) -> Result<Statement, NameFault>
+    ensures given { Gives views.statement_view (steps.set sight.now (tree.name_view name.now) (tree.value_view value.now)) result }
+    ensures told { IfErr result (Tells (broken.variable_assigned sight.now (tree.name_view name.now) (tree.value_view value.now))) }
 {
-    let variable = variable(alloc, sight, name)?;
-    let value = given(alloc, sight, variable.object_type, value)?;
+    let variable = variable(sight, name)?;
+    let value = given(sight, variable.object_type, value)?;
     Ok(Statement::Set {
         at: variable.at,
         variable: variable.number,
@@ -67,12 +59,12 @@ fn set(
 }
 
 /// The sight within a loop.
-fn enter_loop(alloc: Global, sight: &mut Sight, parameter: &Identifier) -> Result<(), NameFault>
-    ensures given { Gives (λ _. sight_view sight.new) (Some (visibility.within_loop (sight_view sight.old) (tree.ident_view parameter.now))) result }
-    ensures refused { OnErr result (sight_view sight.new ≡ sight_view sight.old) }
+fn enter_loop(sight: &mut Sight, parameter: &Identifier) -> Result<(), NameFault>
+    ensures given { Gives (λ _. sight.new) (Some (visibility.within_loop sight.old (tree.ident_view parameter.now))) result }
+    ensures refused { OnErr result (sight.new ≡ sight.old) }
     ensures told { IfErr result (Tells (nothing)) }
 {
-    let name = parameter.text.to_vec(alloc)?;
+    let name = parameter.text.to_vec(sight.alloc)?;
     let meaning = Meaning::LoopParameter(sight.loops.len());
     sight.loops.push(Declared { name, meaning })?;
     Ok(())
@@ -80,7 +72,7 @@ fn enter_loop(alloc: Global, sight: &mut Sight, parameter: &Identifier) -> Resul
 
 /// The sight outside again.
 fn leave_loop(sight: &mut Sight)
-    ensures { (outer : visibility.Sight) (d : visibility.Declared) → sight_view sight.old ≡ steps.in_loop outer d → sight_view sight.new ≡ outer }
+    ensures { (outer : visibility.Sight) (d : visibility.Declared) → sight.old ≡ steps.in_loop outer d → sight.new ≡ outer }
 {
     sight.loops.pop();
 }
@@ -88,33 +80,25 @@ fn leave_loop(sight: &mut Sight)
 /// What sequential statements one after another are analysed to; `sight` has the declarations in
 /// sight of them, and is as before afterwards. It fails at the first byte where a rule is broken,
 /// or where memory is refused.
-pub fn analysed(
-    alloc: Global,
-    sight: &mut Sight,
-    list: &[syntax::Sequential],
-) -> Result<Vec<Statement>, NameFault>
-    ensures given { Gives views.body_view (rules.statements (sight_view sight.old) (t.statements_of (map tree.sequential_view list.now))) result }
-    ensures kept { sight_view sight.new ≡ sight_view sight.old }
-    ensures told { IfErr result (Tells (broken.statements (sight_view sight.old) (t.statements_of (map tree.sequential_view list.now)))) }
+pub fn analysed(sight: &mut Sight, list: &[syntax::Sequential]) -> Result<Vec<Statement>, NameFault>
+    ensures given { Gives views.body_view (rules.statements sight.old (t.statements_of (map tree.sequential_view list.now))) result }
+    ensures kept { sight.new ≡ sight.old }
+    ensures told { IfErr result (Tells (broken.statements sight.old (t.statements_of (map tree.sequential_view list.now)))) }
 {
-    statements(alloc, sight, list)
+    statements(sight, list)
 }
 
 /// Statements one after another.
 #[cycle(statements)]
 #[tactic(auto, using(vhdl_names_units::proofs::Lists::each_in_turn))]
-fn statements(
-    alloc: Global,
-    sight: &mut Sight,
-    list: &[syntax::Sequential],
-) -> Result<Vec<Statement>, NameFault>
-    ensures given { Gives views.statements_view (steps.all_labelled (sight_view sight.old) (map tree.sequential_view list.now)) result }
-    ensures kept { sight_view sight.new ≡ sight_view sight.old }
-    ensures told { IfErr result (Tells (broken.statements (sight_view sight.old) (t.statements_of (map tree.sequential_view list.now)))) }
+fn statements(sight: &mut Sight, list: &[syntax::Sequential]) -> Result<Vec<Statement>, NameFault>
+    ensures given { Gives views.statements_view (steps.all_labelled sight.old (map tree.sequential_view list.now)) result }
+    ensures kept { sight.new ≡ sight.old }
+    ensures told { IfErr result (Tells (broken.statements sight.old (t.statements_of (map tree.sequential_view list.now)))) }
 {
-    let mut all = Vec::new(alloc);
+    let mut all = Vec::new(sight.alloc);
     for item in list {
-        let next = statement(alloc, sight, item)?;
+        let next = statement(sight, item)?;
         all.push(next)?;
     }
     Ok(all)
@@ -123,43 +107,36 @@ fn statements(
 /// A statement behind its label.
 #[cycle(statements)]
 #[tactic(auto, unfolding(vhdl_names_rules::specs::Statements::statement))]
-fn statement(
-    alloc: Global,
-    sight: &mut Sight,
-    item: &syntax::Sequential,
-) -> Result<Statement, NameFault>
-    ensures given { Gives views.statement_view (steps.labelled (sight_view sight.old) (tree.sequential_view item.now)) result }
-    ensures kept { sight_view sight.new ≡ sight_view sight.old }
-    ensures told { IfErr result (Tells (broken.statement (sight_view sight.old) (tree.option_ident_view item.now.label) (tree.statement_view item.now.statement))) }
+fn statement(sight: &mut Sight, item: &syntax::Sequential) -> Result<Statement, NameFault>
+    ensures given { Gives views.statement_view (steps.labelled sight.old (tree.sequential_view item.now)) result }
+    ensures kept { sight.new ≡ sight.old }
+    ensures told { IfErr result (Tells (broken.statement sight.old (tree.option_ident_view item.now.label) (tree.statement_view item.now.statement))) }
 {
     match &item.statement {
         syntax::Statement::Null { .. } => Ok(Statement::Null),
-        syntax::Statement::SignalAssignment { target, value } => {
-            assigned(alloc, sight, target, value)
-        }
-        syntax::Statement::VariableAssignment { target, value } => set(alloc, sight, target, value),
-        syntax::Statement::If(conditional) => if_statement(alloc, sight, &item.label, conditional),
-        syntax::Statement::Case(case) => case_statement(alloc, sight, &item.label, case),
-        syntax::Statement::For(repeated) => for_loop(alloc, sight, &item.label, repeated),
+        syntax::Statement::SignalAssignment { target, value } => assigned(sight, target, value),
+        syntax::Statement::VariableAssignment { target, value } => set(sight, target, value),
+        syntax::Statement::If(conditional) => if_statement(sight, &item.label, conditional),
+        syntax::Statement::Case(case) => case_statement(sight, &item.label, case),
+        syntax::Statement::For(repeated) => for_loop(sight, &item.label, repeated),
     }
 }
 
 /// An if statement (10.8).
 #[cycle(statements)]
 fn if_statement(
-    alloc: Global,
     sight: &mut Sight,
     label: &Option<Identifier>,
     conditional: &syntax::If,
 ) -> Result<Statement, NameFault>
     ensures given { Gives views.statement_view
-        (steps.conditional (sight_view sight.old) (option_map tree.ident_view label.now) (out-If conditional.now).at (tree.conditionals_view (out-If conditional.now).branches)
+        (steps.conditional sight.old (option_map tree.ident_view label.now) (out-If conditional.now).at (tree.conditionals_view (out-If conditional.now).branches)
         (tree.option_sequentials_view (out-If conditional.now).otherwise) (tree.option_ident_view (out-If conditional.now).end_label)) result }
-    ensures kept { sight_view sight.new ≡ sight_view sight.old }
-    ensures told { IfErr result (Tells (broken.statement (sight_view sight.old) (option_map tree.ident_view label.now) (tree.if_view conditional.now))) }
+    ensures kept { sight.new ≡ sight.old }
+    ensures told { IfErr result (Tells (broken.statement sight.old (option_map tree.ident_view label.now) (tree.if_view conditional.now))) }
 {
-    let branches = branches(alloc, sight, &conditional.branches)?;
-    let otherwise = otherwise(alloc, sight, conditional)?;
+    let branches = branches(sight, &conditional.branches)?;
+    let otherwise = otherwise(sight, conditional)?;
     let (branches, otherwise) = ended(label, &conditional.end_label, (branches, otherwise))?;
     Ok(Statement::conditional(conditional.at, branches, otherwise))
 }
@@ -167,18 +144,14 @@ fn if_statement(
 /// The branches of an if statement.
 #[cycle(statements)]
 #[tactic(auto, using(vhdl_names_units::proofs::Lists::each_in_turn))]
-fn branches(
-    alloc: Global,
-    sight: &mut Sight,
-    list: &[syntax::Conditional],
-) -> Result<Vec<Branch>, NameFault>
-    ensures given { Gives views.branches_view (each (steps.guarded (sight_view sight.old)) (map tree.conditional_view list.now)) result }
-    ensures kept { sight_view sight.new ≡ sight_view sight.old }
-    ensures told { IfErr result (Tells (broken.conditionals (sight_view sight.old) (t.conditionals_of (map tree.conditional_view list.now)))) }
+fn branches(sight: &mut Sight, list: &[syntax::Conditional]) -> Result<Vec<Branch>, NameFault>
+    ensures given { Gives views.branches_view (each (steps.guarded sight.old) (map tree.conditional_view list.now)) result }
+    ensures kept { sight.new ≡ sight.old }
+    ensures told { IfErr result (Tells (broken.conditionals sight.old (t.conditionals_of (map tree.conditional_view list.now)))) }
 {
-    let mut all = Vec::new(alloc);
+    let mut all = Vec::new(sight.alloc);
     for item in list {
-        let next = branch(alloc, sight, item)?;
+        let next = branch(sight, item)?;
         all.push(next)?;
     }
     Ok(all)
@@ -186,72 +159,69 @@ fn branches(
 
 /// A condition, and the statements that it guards.
 #[cycle(statements)]
-fn branch(alloc: Global, sight: &mut Sight, item: &syntax::Conditional) -> Result<Branch, NameFault>
-    ensures given { Gives views.branch_view (steps.guarded (sight_view sight.old) (tree.conditional_view item.now)) result }
-    ensures kept { sight_view sight.new ≡ sight_view sight.old }
-    ensures told { IfErr result (Tells (told.guarded (sight_view sight.old) (tree.conditional_view item.now))) }
+fn branch(sight: &mut Sight, item: &syntax::Conditional) -> Result<Branch, NameFault>
+    ensures given { Gives views.branch_view (steps.guarded sight.old (tree.conditional_view item.now)) result }
+    ensures kept { sight.new ≡ sight.old }
+    ensures told { IfErr result (Tells (told.guarded sight.old (tree.conditional_view item.now))) }
 {
-    let condition = condition(alloc, sight, &item.condition)?;
-    let statements = statements(alloc, sight, &item.statements)?;
+    let condition = condition(sight, &item.condition)?;
+    let statements = statements(sight, &item.statements)?;
     Ok(Branch::new(condition, statements))
 }
 
 /// What an if statement does else.
 #[cycle(statements)]
 fn otherwise(
-    alloc: Global,
     sight: &mut Sight,
     conditional: &syntax::If,
 ) -> Result<Option<Vec<Statement>>, NameFault>
     ensures given { Gives views.option_statements_view
-        (if_any (steps.all_labelled (sight_view sight.old)) (tree.option_sequentials_view (out-If conditional.now).otherwise)) result }
-    ensures kept { sight_view sight.new ≡ sight_view sight.old }
-    ensures told { IfErr result (Tells (broken.otherwise (sight_view sight.old) (t.otherwise_of (tree.option_sequentials_view (out-If conditional.now).otherwise)))) }
+        (if_any (steps.all_labelled sight.old) (tree.option_sequentials_view (out-If conditional.now).otherwise)) result }
+    ensures kept { sight.new ≡ sight.old }
+    ensures told { IfErr result (Tells (broken.otherwise sight.old (t.otherwise_of (tree.option_sequentials_view (out-If conditional.now).otherwise)))) }
 {
     match &conditional.otherwise {
         None => Ok(None),
-        Some(list) => Ok(Some(statements(alloc, sight, list)?)),
+        Some(list) => Ok(Some(statements(sight, list)?)),
     }
 }
 
 /// A case statement (10.9).
 #[cycle(statements)]
 fn case_statement(
-    alloc: Global,
     sight: &mut Sight,
     label: &Option<Identifier>,
     case: &syntax::Case,
 ) -> Result<Statement, NameFault>
     ensures given { Gives views.statement_view
-        (cases.selection (sight_view sight.old) (option_map tree.ident_view label.now) (out-Case case.now).at (tree.view (out-Case case.now).selector)
+        (cases.selection sight.old (option_map tree.ident_view label.now) (out-Case case.now).at (tree.view (out-Case case.now).selector)
         (tree.alternatives_view (out-Case case.now).alternatives) (tree.option_ident_view (out-Case case.now).end_label)) result }
-    ensures kept { sight_view sight.new ≡ sight_view sight.old }
-    ensures told { IfErr result (Tells (broken.statement (sight_view sight.old) (option_map tree.ident_view label.now) (tree.case_view case.now))) }
+    ensures kept { sight.new ≡ sight.old }
+    ensures told { IfErr result (Tells (broken.statement sight.old (option_map tree.ident_view label.now) (tree.case_view case.now))) }
 {
-    let (selected, value) = selector(alloc, sight, &case.selector)?;
-    let (alternatives, others) = case_parts(alloc, sight, selected, label, case)?;
+    let (selected, value) = selector(sight, &case.selector)?;
+    let (alternatives, others) = case_parts(sight, selected, label, case)?;
     Ok(Statement::selection(case.at, value, alternatives, others))
 }
 
 /// What a case statement does by the value selected, the last alternative apart.
 #[cycle(statements)]
 fn case_parts(
-    alloc: Global,
     sight: &mut Sight,
     selected: ObjectType,
     label: &Option<Identifier>,
     case: &syntax::Case,
 ) -> Result<(Vec<Alternative>, Vec<Statement>), NameFault>
     ensures given { Gives (λ p. cases.divided (views.alternatives_view p.0) (views.statements_view p.1))
-        (cases.parts (sight_view sight.old) selected (option_map tree.ident_view label.now)
+        (cases.parts sight.old selected (option_map tree.ident_view label.now)
         (tree.alternatives_view (out-Case case.now).alternatives) (tree.option_ident_view (out-Case case.now).end_label)) result }
-    ensures kept { sight_view sight.new ≡ sight_view sight.old }
-    ensures told { IfErr result (Tells (told.parts (sight_view sight.old) selected (option_map tree.ident_view label.now)
+    ensures kept { sight.new ≡ sight.old }
+    ensures told { IfErr result (Tells (told.parts sight.old selected (option_map tree.ident_view label.now)
         (out-Case case.now).at (tree.alternatives_view (out-Case case.now).alternatives) (tree.option_ident_view (out-Case case.now).end_label))) }
 {
-    let lists = choice_lists(alloc, &case.alternatives)?;
-    let all = alternatives(alloc, sight, selected, &case.alternatives);
-    let all = covered(alloc, sight, selected, case.at, &lists, all)?;
+    let lists = choice_lists(sight.alloc, &case.alternatives)?;
+    let all = alternatives(sight, selected, &case.alternatives);
+    let all = covered(sight, selected, case.at, &lists, all)?;
     let all = ended(label, &case.end_label, all)?;
     but_last(case.at, all)
 }
@@ -260,18 +230,17 @@ fn case_parts(
 #[cycle(statements)]
 #[tactic(auto, using(vhdl_names_units::proofs::Lists::each_in_turn))]
 fn alternatives(
-    alloc: Global,
     sight: &mut Sight,
     selected: ObjectType,
     list: &[syntax::Alternative],
 ) -> Result<Vec<Alternative>, NameFault>
-    ensures given { Gives views.alternatives_view (each (cases.chosen (sight_view sight.old) selected) (map tree.alternative_view list.now)) result }
-    ensures kept { sight_view sight.new ≡ sight_view sight.old }
-    ensures told { IfErr result (Tells (broken.alternatives (sight_view sight.old) selected (t.alternatives_of (map tree.alternative_view list.now)))) }
+    ensures given { Gives views.alternatives_view (each (cases.chosen sight.old selected) (map tree.alternative_view list.now)) result }
+    ensures kept { sight.new ≡ sight.old }
+    ensures told { IfErr result (Tells (broken.alternatives sight.old selected (t.alternatives_of (map tree.alternative_view list.now)))) }
 {
-    let mut all = Vec::new(alloc);
+    let mut all = Vec::new(sight.alloc);
     for item in list {
-        let next = alternative(alloc, sight, selected, item)?;
+        let next = alternative(sight, selected, item)?;
         all.push(next)?;
     }
     Ok(all)
@@ -280,55 +249,49 @@ fn alternatives(
 /// Choices, and the statements that they guard.
 #[cycle(statements)]
 fn alternative(
-    alloc: Global,
     sight: &mut Sight,
     selected: ObjectType,
     item: &syntax::Alternative,
 ) -> Result<Alternative, NameFault>
-    ensures given { Gives views.alternative_view (cases.chosen (sight_view sight.old) selected (tree.alternative_view item.now)) result }
-    ensures kept { sight_view sight.new ≡ sight_view sight.old }
-    ensures told { IfErr result (Tells (told.alternative (sight_view sight.old) selected (tree.alternative_view item.now))) }
+    ensures given { Gives views.alternative_view (cases.chosen sight.old selected (tree.alternative_view item.now)) result }
+    ensures kept { sight.new ≡ sight.old }
+    ensures told { IfErr result (Tells (told.alternative sight.old selected (tree.alternative_view item.now))) }
 {
-    let choices = choices(alloc, sight, selected, &item.choices)?;
-    let statements = statements(alloc, sight, &item.statements)?;
+    let choices = choices(sight, selected, &item.choices)?;
+    let statements = statements(sight, &item.statements)?;
     Ok(Alternative::new(choices, statements))
 }
 
 /// A for loop (10.10).
 #[cycle(statements)]
 fn for_loop(
-    alloc: Global,
     sight: &mut Sight,
     label: &Option<Identifier>,
     repeated: &syntax::For,
 ) -> Result<Statement, NameFault>
     ensures given { Gives views.statement_view
-        (steps.repetition (sight_view sight.old) (option_map tree.ident_view label.now) (out-For repeated.now).at (tree.ident_view (out-For repeated.now).parameter)
+        (steps.repetition sight.old (option_map tree.ident_view label.now) (out-For repeated.now).at (tree.ident_view (out-For repeated.now).parameter)
         (tree.range_view (out-For repeated.now).range) (tree.sequentials_view (out-For repeated.now).statements) (tree.option_ident_view (out-For repeated.now).end_label)) result }
-    ensures kept { sight_view sight.new ≡ sight_view sight.old }
-    ensures told { IfErr result (Tells (broken.statement (sight_view sight.old) (option_map tree.ident_view label.now) (tree.for_view repeated.now))) }
+    ensures kept { sight.new ≡ sight.old }
+    ensures told { IfErr result (Tells (broken.statement sight.old (option_map tree.ident_view label.now) (tree.for_view repeated.now))) }
 {
-    let range = static_range(alloc, sight, &repeated.range)?;
-    let turn = turn(alloc, sight, repeated)?;
+    let range = static_range(sight, &repeated.range)?;
+    let turn = turn(sight, repeated)?;
     let (range, turn) = ended(label, &repeated.end_label, (range, turn))?;
     Ok(Statement::repetition(repeated.at, range, turn))
 }
 
 /// What a for loop does in a turn.
 #[cycle(statements)]
-fn turn(
-    alloc: Global,
-    sight: &mut Sight,
-    repeated: &syntax::For,
-) -> Result<Vec<Statement>, NameFault>
+fn turn(sight: &mut Sight, repeated: &syntax::For) -> Result<Vec<Statement>, NameFault>
     ensures given { Gives views.statements_view
-        (steps.turn (sight_view sight.old) (tree.ident_view (out-For repeated.now).parameter) (tree.sequentials_view (out-For repeated.now).statements)) result }
-    ensures kept { sight_view sight.new ≡ sight_view sight.old }
-    ensures told { IfErr result (Tells (broken.statements (visibility.within_loop (sight_view sight.old) (tree.ident_view (out-For repeated.now).parameter))
+        (steps.turn sight.old (tree.ident_view (out-For repeated.now).parameter) (tree.sequentials_view (out-For repeated.now).statements)) result }
+    ensures kept { sight.new ≡ sight.old }
+    ensures told { IfErr result (Tells (broken.statements (visibility.within_loop sight.old (tree.ident_view (out-For repeated.now).parameter))
         (t.statements_of (tree.sequentials_view (out-For repeated.now).statements)))) }
 {
-    enter_loop(alloc, sight, &repeated.parameter)?;
-    let found = statements(alloc, sight, &repeated.statements);
+    enter_loop(sight, &repeated.parameter)?;
+    let found = statements(sight, &repeated.statements);
     leave_loop(sight);
     found
 }

@@ -31,15 +31,13 @@ found_entries (e ∷ es) n = go (bytes_eq n e.0.items) (found_entries es n)
 
 -- from the innermost region outwards
 pub meaning_in_turn : (s : visibility.Sight) (n : visibility.Name) →
-    visibility.meaning s n ≡ option_or (found s.loops n) (option_or (found s.variables n) (option_or (found s.generates n) (option_or (found s.region n) (found s.outside n))))
+    visibility.meaning s n ≡ option_or (found s.loops n) (option_or (found s.variables n) (option_or (found s.generates n) (option_or (found s.region n) (option_or (found s.enclosing n) (found s.packages n)))))
 meaning_in_turn s n =
     found-append s.loops _ n
     ∙ ap (option_or (found s.loops n)) (found-append s.variables _ n
     ∙ ap (option_or (found s.variables n)) (found-append s.generates _ n
-    ∙ ap (option_or (found s.generates n)) (found-append s.region _ n)))
-
-pub outside_in_turn : (xs ys : List visibility.Declared) (n : visibility.Name) → found (xs ++ ys) n ≡ option_or (found xs n) (found ys n)
-outside_in_turn = found-append
+    ∙ ap (option_or (found s.generates n)) (found-append s.region _ n
+    ∙ ap (option_or (found s.region n)) (found-append s.enclosing _ n))))
 
 -- one more parameter, inside those before it
 pub innermost_more : (ds : List Declared) (i : ℕ) (d : Declared) (n : visibility.Name) → i < length ds → d ≡ get_or ds i d →

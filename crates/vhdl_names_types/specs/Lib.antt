@@ -1,3 +1,4 @@
+pub mod Seen
 pub mod Sights
 pub mod Steps
 pub mod Views

@@ -1,5 +1,5 @@
 -- What contracts see of declarations and types.
-use Rattle.std.specs.Prelude.{ℕ, List, ◌++◌, map, reverse, option_map, Vec}
+use Rattle.std.specs.Prelude.{ℕ, List, map, option_map, Vec}
 use Rattle.std.specs.Global.{Global}
 use Rattle.indexmap.specs.IndexMap.{IndexMap}
 use Rattle.vhdl_names_rules.specs.Visibility as visibility
@@ -12,7 +12,6 @@ use Rattle.vhdl_names_rules.specs.views.Tests.{test_view}
 use Rattle.vhdl_names_types.specs.declared.meaning.Meaning.{Meaning}
 use Rattle.vhdl_names_types.specs.declared.meaning.Meaning.TheVariants as m
 use Rattle.vhdl_names_types.specs.declared.meaning.Declared.{Declared}
-use Rattle.vhdl_names_types.specs.declared.sight.Sight.{Sight}
 use Rattle.vhdl_names_types.specs.declared.types.Typed.{Typed}
 use Rattle.vhdl_names_types.specs.declared.types.Typed.TheVariants as t
 use Rattle.vhdl_names_types.specs.declared.types.TypedSuffix.{TypedSuffix}
@@ -47,16 +46,6 @@ entry_view e = declare e.0.items (meaning_view e.1)
 
 abbrev pub region_view : {S : Type 0} → IndexMap (Vec ℕ Global) Meaning S → List visibility.Declared
 region_view r = map entry_view r.entries
-
-abbrev pub sight_view : Sight → visibility.Sight
-sight_view s = record {
-  loops = reverse (map declared_view s.loops.items);
-  variables = region_view s.variables;
-  generates = reverse (map declared_view s.generates.items);
-  region = region_view s.region;
-  outside = region_view s.enclosing ++ region_view s.packages;
-  numbers = s.has_numbers;
-}
 
 -- ---- expressions
 

@@ -3,7 +3,7 @@
 ghost use Rattle.std.specs.Prelude.{◌≡◌, ℕ, List, bytes_eq, map, reverse, option_map, option_copied, IfErr};
 ghost use Rattle.indexmap.specs.IndexMap.{IsUnique};
 ghost use Rattle.vhdl_names_rules.specs.Visibility as visibility;
-ghost use Rattle.vhdl_names_types.specs.Views.{meaning_view, declared_view, sight_view};
+ghost use Rattle.vhdl_names_types.specs.Views.{meaning_view, declared_view};
 ghost use Rattle.vhdl_names_rules.specs.Gives.{Gives};
 ghost use Rattle.vhdl_names_rules.specs.declared.fault.NameFault.TheVariants.{At};
 ghost use Rattle.vhdl_names_rules.specs.problems.Broken.{Tells};
@@ -14,6 +14,8 @@ ghost use Rattle.vhdl_tree.specs.View.{ident_view};
 
 use crate::meaning::{Declared, Meaning};
 use indexmap::IndexMap;
+use std::alloc::Global;
+use std::marker::Model;
 use vhdl_names_rules::{NameFault, NameProblem};
 use vhdl_tree::Identifier;
 
@@ -29,6 +31,8 @@ pub fn names_are_apart<T>(names: &IndexMap<Vec<u8>, T>)
 
 /// The declarations in sight of a place. What stands further up hides what stands below it.
 pub struct Sight {
+    /// The memory that is taken for what is analysed here.
+    pub alloc: Global,
     /// The parameters of the loops round the place, the outermost first.
     pub loops: Vec<Declared>,
     /// The variables of the process.
@@ -45,9 +49,21 @@ pub struct Sight {
     pub has_numbers: bool,
 }
 
+/// Contracts see what the rules call a sight.
+impl Model for Sight {
+    ghost use Rattle.vhdl_names_rules.specs.Visibility as visibility;
+
+    ghost Value = { visibility.Sight };
+
+    ghost use Rattle.vhdl_names_types.specs.Seen.{sight_view};
+
+    ghost view = { sight_view };
+}
+
 impl Drop for Sight {
     fn drop(self) {
         let Sight {
+            alloc: _,
             loops: _,
             variables: _,
             generates: _,
@@ -75,9 +91,9 @@ fn innermost<'a>(parameters: &'a [Declared], name: &[u8]) -> Option<&'a Meaning>
 
 impl Sight {
     /// What a name, in small letters, means here.
-    #[tactic(auto, using(crate::proofs::Sights::meaning_in_turn, crate::proofs::Sights::outside_in_turn, crate::proofs::Sights::found_entries))]
+    #[tactic(auto, using(crate::proofs::Sights::meaning_in_turn, crate::proofs::Sights::found_entries))]
     pub fn meaning(&self, name: &[u8]) -> Option<&Meaning>
-        ensures { visibility.meaning (sight_view self.now) name.now ≡ option_map meaning_view (option_copied result) }
+        ensures { visibility.meaning self.now name.now ≡ option_map meaning_view (option_copied result) }
     {
         if let Some(parameter) = innermost(&self.loops, name) {
             return Some(parameter);
@@ -222,9 +238,9 @@ fn missing(name: &[u8]) -> NameProblem
 /// use clause names, LeftOut if a package declares what the language leaves out, as `boolean`,
 /// `signed` and `to_integer`, and else Undeclared.
 pub fn meaning_of<'a>(sight: &'a Sight, name: &Identifier) -> Result<&'a Meaning, NameFault>
-    ensures meant { Gives (λ m. meaning_view m.now) (visibility.meaning (sight_view sight.now) name.now.text.items) result }
+    ensures meant { Gives (λ m. meaning_view m.now) (visibility.meaning sight.now name.now.text.items) result }
     ensures fault { IfErr result (λ f. f ≡ At (problem_of name.now.text.items) name.now.at) }
-    ensures told { IfErr result (Tells (broken.meaning (sight_view sight.now) (ident_view name.now))) }
+    ensures told { IfErr result (Tells (broken.meaning sight.now (ident_view name.now))) }
 {
     match sight.meaning(&name.text) {
         Some(meaning) => Ok(meaning),

@@ -66,11 +66,11 @@ interface_distinct items e architecture v h =
 
 component_is : (entities : List EntityView) (sight : Sight) (c : t.Component)
     → IsKept (lacking Undeclared c.name.at (entity_named entities c.name.text) ▸ where_given (entity_named entities c.name.text) (same_text c)
-    ▸ broken.interface (record sight { region = []; outside = sight.region ++ sight.outside }) c.generics c.ports ▸ end_name c.name c.end_name)
+    ▸ broken.interface (record sight { region = []; enclosing = sight.region ++ sight.enclosing }) c.generics c.ports ▸ end_name c.name c.end_name)
     → IsGiven (are.component entities sight c)
 unfolding are.component
 component_is entities sight c h =
-    let inner : Sight = record sight { region = []; outside = sight.region ++ sight.outside } in
+    let inner : Sight = record sight { region = []; enclosing = sight.region ++ sight.enclosing } in
     let k = parts _ _ h in
     let l = parts _ _ k.1 in
     let m = parts _ _ l.1 in

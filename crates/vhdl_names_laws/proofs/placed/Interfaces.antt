@@ -57,6 +57,6 @@ component_told P entities sight c h =
     (told_behind (told_lacking Undeclared c.name.at (entity_named entities c.name.text) name)
     (told_behind (told_given (entity_named entities c.name.text) (broken.same_text c)
     (λ e. told_unless WrongKind c.name.at (same_generics c.generics e.1.generic_text && same_ports c.ports e.1.port_text) name))
-    (told_behind (interface_told P (record sight { region = []; outside = sight.region ++ sight.outside }) c.generics c.ports
+    (told_behind (interface_told P (record sight { region = []; enclosing = sight.region ++ sight.enclosing }) c.generics c.ports
     (first P (spell_option spell_generics c.generics) _ generics) (first P (spell_option spell_ports c.ports) _ ports))
     (end_name_told P c.name c.end_name (first P (spell_option spell_ident c.end_name) _ end)))))

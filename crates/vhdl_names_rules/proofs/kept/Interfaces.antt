@@ -61,7 +61,7 @@ pub component_kept : (entities : List EntityView) (sight : Sight) (c : t.Compone
     → are_distinct (declared_names (sight.region ++ x.declared)) ≡ true → IsKept (broken.component entities sight c)
 unfolding are.component
 component_kept entities sight c x h distinct =
-    let inner : Sight = record sight { region = []; outside = sight.region ++ sight.outside } in
+    let inner : Sight = record sight { region = []; enclosing = sight.region ++ sight.enclosing } in
     let e = comes (entity_named entities c.name.text) _ x h in
     let same = kept (same_generics c.generics e.value.1.generic_text && same_ports c.ports e.value.1.port_text) _ x e.rest in
     let i = comes (are.interface inner c.generics c.ports) _ x same.1 in

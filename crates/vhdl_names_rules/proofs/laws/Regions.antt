@@ -119,7 +119,7 @@ unfolding component
 of_component entities sight c x e =
     let a = comes (entity_named entities c.name.text) _ x e in
     let b = kept (same_generics c.generics a.value.1.generic_text && same_ports c.ports a.value.1.port_text) _ x a.rest in
-    let i = comes (interface (record sight { region = []; outside = sight.region ++ sight.outside }) c.generics c.ports) _ x b.1 in
+    let i = comes (interface (record sight { region = []; enclosing = sight.region ++ sight.enclosing }) c.generics c.ports) _ x b.1 in
     let h = kept (ends c.name.text c.end_name) _ x i.rest in
     of_same _ x (c.name.text ∷ []) h.1 refl
 

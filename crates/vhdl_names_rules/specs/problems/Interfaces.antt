@@ -41,5 +41,5 @@ component entities sight c =
     standing_twice sight.region (c.name ∷ [])
     ▸ lacking Undeclared c.name.at (entity_named entities c.name.text)
     ▸ where_given (entity_named entities c.name.text) (same_text c)
-    ▸ interface (record sight { region = []; outside = sight.region ++ sight.outside }) c.generics c.ports
+    ▸ interface (record sight { region = []; enclosing = sight.region ++ sight.enclosing }) c.generics c.ports
     ▸ end_name c.name c.end_name

@@ -1,7 +1,6 @@
 use Rattle.std.proofs.Common.{map}
 use Rattle.vhdl_tree.specs.View as view
 use Rattle.vhdl_names_rules.specs.Files as rules
-use Rattle.vhdl_names_types.specs.Views.{sight_view}
 use Rattle.vhdl_names_units.specs.views.Units.{architecture_view}
 use Rattle.vhdl_names_components.specs.Views.{entities_view, entity_view}
 use Rattle.vhdl_names_rules.specs.problems.Files as broken
@@ -27,7 +26,7 @@ pub returns-clause-given : goal.returns-clause-given
 returns-clause-given c =
     let es = entities_view c.args.given.now.entities.now in
     ok_along architecture_view _ _ c.within.result
-    (then_within es (entity_view c.args.entity.now) (map view.context_view c.args.items.now) (view.architecture_view c.args.tree.now) (sight_view c.in_ok-sight.sight) c.in_ok-sight.ensures.given)
+    (then_within es (entity_view c.args.entity.now) (map view.context_view c.args.items.now) (view.architecture_view c.args.tree.now) c.in_ok-sight.sight c.in_ok-sight.ensures.given)
     c.within.ensures.given
 
 pub returns-clause-told : goal.returns-clause-told
@@ -37,5 +36,5 @@ returns-clause-told c =
     let items = map view.context_view c.args.items.now in
     let a = view.architecture_view c.args.tree.now in
     ok_finds architecture_view (rules.architecture es e items a) (broken.architecture es e items a) c.within.result (architecture_kept es e items a)
-    (ok_along architecture_view _ _ c.within.result (then_within es e items a (sight_view c.in_ok-sight.sight) c.in_ok-sight.ensures.given) c.within.ensures.given)
+    (ok_along architecture_view _ _ c.within.result (then_within es e items a c.in_ok-sight.sight c.in_ok-sight.ensures.given) c.within.ensures.given)
     (c.within.ensures.told e items c.in_ok-sight.ensures.given)

@@ -9,7 +9,7 @@ use Rattle.vhdl_names_rules.specs.problems.Labels.{labels_of}
 use Rattle.vhdl_names_rules.proofs.Telling.{told_left, told_right, told_same}
 use Rattle.vhdl_names_rules.proofs.kept.Keeping.{among_kept}
 use Rattle.vhdl_names_rules.proofs.kept.Concurrent.{concurrents_kept}
-use Rattle.vhdl_names_types.specs.Views.{sight_view, region_view}
+use Rattle.vhdl_names_types.specs.Views.{region_view}
 use Rattle.vhdl_names.specs.steps.Concurrents.{body_view}
 use Rattle.vhdl_names.specs.steps.Architectures.{with_region}
 use Rattle.vhdl_names.proofs.Finding.{or_memory, gives_finds, given_ok, found_ok, passed_err}
@@ -18,7 +18,7 @@ use Rattle.vhdl_names.proofs.bodies.body.Goals as goal
 
 pub returns-in_err-statements-clause-told : goal.returns-in_err-statements-clause-told
 returns-in_err-statements-clause-told c = λ all are.
-    let s = sight_view c.args.sight.now in
+    let s = c.args.sight.now in
     let a = view.architecture_view c.args.tree.now in
     let f = c.in_err-statements.field-0.0 in
     let r = region_view c.declare_each-labels.new.region in
@@ -38,7 +38,7 @@ returns-in_err-statements-clause-told c = λ all are.
 
 pub returns-in_err-ends-clause-told : goal.returns-in_err-ends-clause-told
 returns-in_err-ends-clause-told c = λ all are.
-    let s = sight_view c.args.sight.now in
+    let s = c.args.sight.now in
     let a = view.architecture_view c.args.tree.now in
     let f = c.in_err-ends.field-0.0 in
     let r = region_view c.declare_each-labels.new.region in

@@ -5,7 +5,6 @@ use Rattle.vhdl_names_rules.specs.Rules.{◌>>=◌}
 use Rattle.vhdl_names_rules.specs.Visibility.{with_declared}
 use Rattle.vhdl_names_rules.specs.Declarations.{in_order}
 use Rattle.vhdl_names_rules.specs.Files as rules
-use Rattle.vhdl_names_types.specs.Views.{sight_view}
 use Rattle.vhdl_names_units.specs.views.Declarations.{declarations_view}
 use Rattle.vhdl_names_units.specs.views.Units.{architecture_view}
 use Rattle.vhdl_names_declarations.specs.Entered.{entering}
@@ -26,7 +25,7 @@ pub returns-in_err-declarations-clause-told : goal.returns-in_err-declarations-c
 returns-in_err-declarations-clause-told c = λ e items h.
     let es = entities_view c.args.given.now.entities.now in
     let a = view.architecture_view c.args.tree.now in
-    let s = sight_view c.args.sight.now in
+    let s = c.args.sight.now in
     let f = c.in_err-declarations.field-0.0 in
     passed_err (broken.architecture es e items a) f _ c.from_residual.result c.from_residual.ensures.1 (λ e p. p)
     (declarations_told es e items a f s h
@@ -36,7 +35,7 @@ returns-in_err-declarations-clause-told c = λ e items h.
 pub returns-clause-given : goal.returns-clause-given
 returns-clause-given c =
     let es = entities_view c.args.given.now.entities.now in
-    let s = sight_view c.args.sight.now in
+    let s = c.args.sight.now in
     let a = view.architecture_view c.args.tree.now in
     ok_along architecture_view _ _ c.body.result
     (ap (λ o. o >>= λ w. steps.body es w.0 w.1 a)
@@ -47,8 +46,8 @@ pub returns-clause-told : goal.returns-clause-told
 returns-clause-told c = λ e items h.
     let es = entities_view c.args.given.now.entities.now in
     let a = view.architecture_view c.args.tree.now in
-    let s = sight_view c.args.sight.now in
-    let w = sight_view c.declarations.new.sight in
+    let s = c.args.sight.now in
+    let w = c.declarations.new.sight in
     let ds = declarations_view c.in_ok-declarations.declarations in
     let entered = ap (λ l. entering (in_order with_declared (rules.declaration es)) s (map view.declaration_view l)) (sym c.deref.ensures.value) ∙ c.in_ok-declarations.ensures.given in
     let whole = broken.body es w (t.concurrents_of a.statements) ▸ end_name a.name a.end_name in

@@ -3,7 +3,6 @@ use Rattle.vhdl_tree.specs.Tree as t
 use Rattle.vhdl_tree.specs.View as tree
 use Rattle.vhdl_names_rules.specs.Visibility.{are_distinct}
 use Rattle.vhdl_names_rules.specs.Statements as rules
-use Rattle.vhdl_names_types.specs.Views.{sight_view}
 use Rattle.vhdl_names_units.specs.views.Sequential.{body_view}
 use Rattle.vhdl_names_rules.specs.problems.Twice.{twice}
 use Rattle.vhdl_names_rules.specs.problems.Labels.{statement_labels}
@@ -18,7 +17,7 @@ use Rattle.vhdl_names.proofs.processes.body.Goals as goal
 
 pub returns-in-Ok-clause-told : goal.returns-in-Ok-clause-told
 returns-in-Ok-clause-told c =
-    let s = sight_view c.args.sight.now in
+    let s = c.args.sight.now in
     let xs = t.statements_of (map tree.sequential_view c.args.list.now) in
     let a = twice [] (statement_labels xs) in
     let b = statements s xs in
@@ -27,7 +26,7 @@ returns-in-Ok-clause-told c =
 
 pub returns-in-Err-clause-told : goal.returns-in-Err-clause-told
 returns-in-Err-clause-told c =
-    let s = sight_view c.args.sight.now in
+    let s = c.args.sight.now in
     let xs = t.statements_of (map tree.sequential_view c.args.list.now) in
     let a = twice [] (statement_labels xs) in
     let b = statements s xs in

@@ -1,7 +1,6 @@
 use Rattle.std.proofs.Common.{arith, ◌<◌, [], ◌∷◌, length, map, Option, Some, refl, ap, sym, ◌∙◌}
 use Rattle.std.proofs.lemmas.List.{at_drop_all, map-append}
 use Rattle.vhdl_tree.specs.View.{name_view}
-use Rattle.vhdl_names_types.specs.Views.{sight_view}
 use Rattle.vhdl_names_rules.specs.problems.Broken.{Tells, any_of}
 use Rattle.vhdl_names_rules.specs.Rules.{◌>>=◌}
 use Rattle.vhdl_names_rules.specs.Statements.{SignalName}
@@ -20,7 +19,7 @@ use Rattle.vhdl_names.proofs.processes.places.Goals as goal
 
 pub returns-in_err-named-clause-told : goal.returns-in_err-named-clause-told
 returns-in_err-named-clause-told c =
-    let b = signal (sight_view c.args.sight.now) in
+    let b = signal c.args.sight.now in
     let lt : c.loop-name.name-index < length c.args.names.now = omega arith in
     let h : Tells (any_of b (map name_view c.args.names.now)) c.in_err-named.field-0.0 =
     next_told name_view c.args.names.now c.loop-name.name-index c.name-item.result lt c.name-item.is b c.in_err-named.field-0.0 c.loop-name.invariant.1 c.in_err-named.ensures.told in
@@ -28,7 +27,7 @@ returns-in_err-named-clause-told c =
 
 pub returns-in_err-named-clause-given : goal.returns-in_err-named-clause-given
 returns-in_err-named-clause-given c =
-    let g = place_of (sight_view c.args.sight.now) in
+    let g = place_of c.args.sight.now in
     let lt : c.loop-name.name-index < length c.args.names.now = omega arith in
     passed_on _ _ c.in_err-named.field-0.0 _ c.from_residual.result c.from_residual.ensures.1 (λ e p. p)
     (λ n. none_more name_view c.args.names.now c.loop-name.name-index c.name-item.result lt c.name-item.is g (all_places_view c.loop-name.all) _ c.loop-name.invariant.0
@@ -42,7 +41,7 @@ returns-in_err-push-clause-told c = memory_told _ _ c.from_residual-in_err-push.
 
 pub loop-name-preserved : goal.loop-name-preserved
 loop-name-preserved c =
-    let s = sight_view c.args.sight.now in
+    let s = c.args.sight.now in
     let xs = c.args.names.now in
     let i = c.loop-name.name-index in
     let x = c.name-item.result in
@@ -56,11 +55,11 @@ loop-name-preserved c =
 pub loop-name-init : goal.loop-name-init
 loop-name-init c =
     let views = map name_view c.args.names.now in
-    let g = place_of (sight_view c.args.sight.now) in
+    let g = place_of c.args.sight.now in
     (each_in_turn g views ∙ ap (λ done. in_turn (one_more g) done views) (sym (ap (map place_view) c.new-all.ensures.items)), refl)
 
 pub returns-clause-given : goal.returns-clause-given
 returns-clause-given c =
-    let g = place_of (sight_view c.args.sight.now) in
+    let g = place_of c.args.sight.now in
     c.loop-name.invariant.0
     ∙ at_drop_all (λ left. in_turn (one_more g) (all_places_view c.loop-name.all) (map name_view left)) c.args.names.now c.loop-name.name-index c.loop-name-test.false

@@ -1,7 +1,6 @@
 use Rattle.std.proofs.Common.{map, ap, sym, ◌∙◌}
 use Rattle.vhdl_tree.specs.Tree as t
 use Rattle.vhdl_tree.specs.View as tree
-use Rattle.vhdl_names_types.specs.Views.{sight_view}
 use Rattle.vhdl_names_rules.specs.Visibility.{with_variables}
 use Rattle.vhdl_names_rules.specs.Declarations as declarations
 use Rattle.vhdl_names_rules.specs.problems.Broken.{Tells}
@@ -16,12 +15,12 @@ use Rattle.vhdl_names.proofs.processes.process_in_turn.Goals as goal
 
 pub returns-clause-kept : goal.returns-clause-kept
 returns-clause-kept c =
-    left_process (sight_view c.args.sight.now) (map tree.variables_view c.deref.result.now) _ _ _ _ c.requires.outside
+    left_process c.args.sight.now (map tree.variables_view c.deref.result.now) _ _ _ _ c.requires.outside
     c.in_ok-variables.ensures.given c.body.ensures.kept c.leave_process.ensures
 
 pub returns-in_err-sensitivity-clause-told : goal.returns-in_err-sensitivity-clause-told
 returns-in_err-sensitivity-clause-told c =
-    let s = sight_view c.args.sight.now in
+    let s = c.args.sight.now in
     let l = tree.option_ident_view c.args.label.now in
     let p = tree.process_view c.args.process.now in
     let h : Tells (broken.process s l p) c.in_err-sensitivity.field-0.0 = process_resumed s l p c.in_err-sensitivity.field-0.0 c.in_err-sensitivity.ensures.told in
@@ -29,7 +28,7 @@ returns-in_err-sensitivity-clause-told c =
 
 pub returns-in_err-variables-clause-told : goal.returns-in_err-variables-clause-told
 returns-in_err-variables-clause-told c =
-    let s = sight_view c.args.sight.now in
+    let s = c.args.sight.now in
     let l = tree.option_ident_view c.args.label.now in
     let p = tree.process_view c.args.process.now in
     let f = c.in_err-variables.field-0.0 in
@@ -40,26 +39,26 @@ returns-in_err-variables-clause-told c =
 
 pub returns-in_err-statements-clause-told : goal.returns-in_err-statements-clause-told
 returns-in_err-statements-clause-told c =
-    let s = sight_view c.args.sight.now in
+    let s = c.args.sight.now in
     let l = tree.option_ident_view c.args.label.now in
     let p = tree.process_view c.args.process.now in
     let f = c.in_err-statements.field-0.0 in
     let h : Tells (broken.process s l p) c.in_err-statements.field-0.0 =
     process_body s l p f _ c.in_ok-sensitivity.ensures.given _ _
     (ap (λ xs. steps.variables_in s (map tree.variables_view xs)) (sym c.deref.ensures.value) ∙ c.in_ok-variables.ensures.given)
-    (told_same _ _ f (ap (λ xs. broken.body (sight_view c.variables.new.sight) (t.statements_of (map tree.sequential_view xs))) c.deref-2.ensures.value)
+    (told_same _ _ f (ap (λ xs. broken.body c.variables.new.sight (t.statements_of (map tree.sequential_view xs))) c.deref-2.ensures.value)
     c.in_err-statements.ensures.told) in
     passed_err _ c.in_err-statements.field-0.0 _ c.from_residual-in_err-statements.result c.from_residual-in_err-statements.ensures.1 (λ e p. p) h
 
 pub returns-in_err-label_ends-clause-told : goal.returns-in_err-label_ends-clause-told
 returns-in_err-label_ends-clause-told c =
-    let s = sight_view c.args.sight.now in
+    let s = c.args.sight.now in
     let l = tree.option_ident_view c.args.label.now in
     let p = tree.process_view c.args.process.now in
     let f = c.in_err-label_ends.field-0.0 in
     let h : Tells (broken.process s l p) c.in_err-label_ends.field-0.0 =
     process_ends s l p f _ c.in_ok-sensitivity.ensures.given _ _
     (ap (λ xs. steps.variables_in s (map tree.variables_view xs)) (sym c.deref.ensures.value) ∙ c.in_ok-variables.ensures.given) _
-    (ap (λ xs. steps.body (sight_view c.variables.new.sight) (map tree.sequential_view xs)) (sym c.deref-2.ensures.value) ∙ c.in_ok-statements.ensures.given)
+    (ap (λ xs. steps.body c.variables.new.sight (map tree.sequential_view xs)) (sym c.deref-2.ensures.value) ∙ c.in_ok-statements.ensures.given)
     c.in_err-label_ends.ensures.told in
     passed_err _ c.in_err-label_ends.field-0.0 _ c.from_residual-in_err-label_ends.result c.from_residual-in_err-label_ends.ensures.1 (λ e p. p) h

@@ -7,7 +7,6 @@ use Rattle.vhdl_names_rules.specs.declared.fault.NameFault.TheVariants.{NoMemory
 use Rattle.vhdl_names_rules.specs.units.Units as u
 use Rattle.vhdl_names_rules.specs.Visibility.{are_distinct}
 use Rattle.vhdl_names_rules.specs.Concurrent.{concurrent_labels}
-use Rattle.vhdl_names_types.specs.Views.{sight_view}
 use Rattle.vhdl_names_types.proofs.Along.{gives_along}
 use Rattle.vhdl_names_types.proofs.Memory.{memory_gives, memory_told}
 use Rattle.vhdl_names_statements.proofs.steps.Told.{more_done, none_more}
@@ -36,7 +35,7 @@ use Rattle.vhdl_names.proofs.statements.+concurrent.Goals as goal
 pub generate-returns-in_err-by-clause-given : goal.generate-returns-in_err-by-clause-given
 generate-returns-in_err-by-clause-given m c =
     let f = instance (names_view c.args.entities.now.names) (seens_view c.args.entities.now.formals) in
-    let s = sight_view c.args.sight.now in
+    let s = c.args.sight.now in
     let label = tree.ident_view c.args.written.now.label in
     let k = tree.scheme_view c.args.written.now.scheme in
     let cs = tree.concurrents_view c.args.written.now.statements in
@@ -49,7 +48,7 @@ generate-returns-in_err-by-clause-given m c =
 pub statement-returns-in-Generate-clause-given : goal.statement-returns-in-Generate-clause-given
 statement-returns-in-Generate-clause-given m c =
     let f = instance (names_view c.args.entities.now.names) (seens_view c.args.entities.now.formals) in
-    let s = sight_view c.args.sight.now in
+    let s = c.args.sight.now in
     gives_along views.concurrent_view _ _ _
     (ap (λ x. steps.concurrent f s (tree.concurrent_view x)) c.in-Generate.is ∙ generate_gives f s c.in-Generate.written) c.generate.ensures.given
 
@@ -57,12 +56,12 @@ pub generate-returns-in_err-body-clause-given : goal.generate-returns-in_err-bod
 generate-returns-in_err-body-clause-given m c =
     let e = c.args.entities.now in
     let g = instance (names_view e.names) (seens_view e.formals) in
-    let s = sight_view c.args.sight.now in
+    let s = c.args.sight.now in
     let label = tree.ident_view c.args.written.now.label in
     let k = tree.scheme_view c.args.written.now.scheme in
     let cs = tree.concurrents_view c.args.written.now.statements in
     let end = tree.option_ident_view c.args.written.now.end_label in
-    let within = sight_view c.enter_generate.new.sight in
+    let within = c.enter_generate.new.sight in
     passed_on _ _ c.in_err-body.field-0.0 _ c.from_residual-in_err-body.result c.from_residual-in_err-body.ensures.1 (λ e p. p)
     (λ n. no_body g s label c.args.written.now.at k cs end within c.in_ok-enter_generate.ensures.given
     (ap (λ xs. steps.labelled g within (map tree.concurrent_view xs)) (sym c.deref.ensures.value) ∙ c.in_err-body.ensures.given n))
@@ -71,7 +70,7 @@ pub generate-returns-in_err-ends-clause-given : goal.generate-returns-in_err-end
 generate-returns-in_err-ends-clause-given m c =
     let e = c.args.entities.now in
     let g = instance (names_view e.names) (seens_view e.formals) in
-    let s = sight_view c.args.sight.now in
+    let s = c.args.sight.now in
     let label = tree.ident_view c.args.written.now.label in
     let k = tree.scheme_view c.args.written.now.scheme in
     let cs = tree.concurrents_view c.args.written.now.statements in
@@ -99,7 +98,7 @@ pub statement-returns-in_err-assignment-in-Assignment-clause-given : goal.statem
 statement-returns-in_err-assignment-in-Assignment-clause-given m c =
     let e = c.args.entities.now in
     let g = instance (names_view e.names) (seens_view e.formals) in
-    let s = sight_view c.args.sight.now in
+    let s = c.args.sight.now in
     passed_on _ _ c.in_err-assignment-in-Assignment.field-0.0 _ c.from_residual.result c.from_residual.ensures.1 (λ e p. p)
     (λ n. ap (λ x. steps.concurrent g s (tree.concurrent_view x)) c.in-Assignment.is ∙ c.in_err-assignment-in-Assignment.ensures.given n)
 
@@ -107,7 +106,7 @@ pub statement-returns-in_err-selected-in-Selected-clause-given : goal.statement-
 statement-returns-in_err-selected-in-Selected-clause-given m c =
     let e = c.args.entities.now in
     let g = instance (names_view e.names) (seens_view e.formals) in
-    let s = sight_view c.args.sight.now in
+    let s = c.args.sight.now in
     passed_on _ _ c.in_err-selected-in-Selected.field-0.0 _ c.from_residual-in_err-selected-in-Selected.result c.from_residual-in_err-selected-in-Selected.ensures.1 (λ e p. p)
     (λ n. ap (λ x. steps.concurrent g s (tree.concurrent_view x)) c.in-Selected.is ∙ c.in_err-selected-in-Selected.ensures.given n)
 
@@ -115,7 +114,7 @@ pub statement-returns-in_err-process-in-Process-clause-given : goal.statement-re
 statement-returns-in_err-process-in-Process-clause-given m c =
     let e = c.args.entities.now in
     let g = instance (names_view e.names) (seens_view e.formals) in
-    let s = sight_view c.args.sight.now in
+    let s = c.args.sight.now in
     passed_on _ _ c.in_err-process-in-Process.field-0.0 _ c.from_residual-in_err-process-in-Process.result c.from_residual-in_err-process-in-Process.ensures.1 (λ e p. p)
     (λ n. ap (λ x. steps.concurrent g s (tree.concurrent_view x)) c.in-Process.is ∙ ap (option_map u.process) (c.in_err-process-in-Process.ensures.given n))
 
@@ -123,7 +122,7 @@ pub statement-returns-in_err-instance_in_turn-in-Instance-clause-given : goal.st
 statement-returns-in_err-instance_in_turn-in-Instance-clause-given m c =
     let e = c.args.entities.now in
     let g = instance (names_view e.names) (seens_view e.formals) in
-    let s = sight_view c.args.sight.now in
+    let s = c.args.sight.now in
     passed_on _ _ c.in_err-instance_in_turn-in-Instance.field-0.0 _ c.from_residual-in_err-instance_in_turn-in-Instance.result c.from_residual-in_err-instance_in_turn-in-Instance.ensures.1 (λ e p. p)
     (λ n. ap (λ x. steps.concurrent g s (tree.concurrent_view x)) c.in-Instance.is ∙ ap (option_map u.instance) (c.in_err-instance_in_turn-in-Instance.ensures.given n))
 
@@ -131,7 +130,7 @@ statement-returns-in_err-instance_in_turn-in-Instance-clause-given m c =
 
 pub statements-returns-in_err-next-clause-told : goal.statements-returns-in_err-next-clause-told
 statements-returns-in_err-next-clause-told m c = λ es are.
-    let s = sight_view c.args.sight.now in
+    let s = c.args.sight.now in
     let b = broken.concurrent es s in
     let xs = c.args.list.now in
     let i = c.loop-item.item-index in
@@ -146,7 +145,7 @@ statements-returns-in_err-next-clause-told m c = λ es are.
 
 pub statements-returns-in_err-next-clause-given : goal.statements-returns-in_err-next-clause-given
 statements-returns-in_err-next-clause-given m c =
-    let s = sight_view c.args.sight.now in
+    let s = c.args.sight.now in
     let e = c.args.entities.now in
     let g = instance (names_view e.names) (seens_view e.formals) in
     let xs = c.args.list.now in
@@ -166,17 +165,17 @@ pub statements-loop-item-init : goal.statements-loop-item-init
 statements-loop-item-init m c =
     let e = c.args.entities.now in
     let g = instance (names_view e.names) (seens_view e.formals) in
-    (refl, (none_done tree.concurrent_view c.args.list.now (steps.concurrent g (sight_view c.args.sight.now)) _ (ap (map views.concurrent_view) c.new-all.ensures.items), λ es are. refl))
+    (refl, (none_done tree.concurrent_view c.args.list.now (steps.concurrent g c.args.sight.now) _ (ap (map views.concurrent_view) c.new-all.ensures.items), λ es are. refl))
 
 pub statements-returns-clause-given : goal.statements-returns-clause-given
 statements-returns-clause-given m c =
     let e = c.args.entities.now in
     let g = instance (names_view e.names) (seens_view e.formals) in
-    all_done tree.concurrent_view c.args.list.now (steps.concurrent g (sight_view c.args.sight.now)) _ c.loop-item.item-index c.loop-item-test.false c.loop-item.invariant.1.0
+    all_done tree.concurrent_view c.args.list.now (steps.concurrent g c.args.sight.now) _ c.loop-item.item-index c.loop-item-test.false c.loop-item.invariant.1.0
 
 pub statements-loop-item-preserved : goal.statements-loop-item-preserved
 statements-loop-item-preserved m c =
-    let s = sight_view c.args.sight.now in
+    let s = c.args.sight.now in
     let e = c.args.entities.now in
     let g = instance (names_view e.names) (seens_view e.formals) in
     let xs = c.args.list.now in
@@ -196,13 +195,13 @@ statements-loop-item-preserved m c =
 
 pub statement-returns-in-Generate-clause-told : goal.statement-returns-in-Generate-clause-told
 statement-returns-in-Generate-clause-told m c = λ es are.
-    let s = sight_view c.args.sight.now in
+    let s = c.args.sight.now in
     told_on _ _ c.generate.result (λ f. told_same _ _ f
     (sym (ap (λ x. broken.concurrent es s (tree.concurrent_view x)) c.in-Generate.is ∙ by.generate_told es s c.in-Generate.written))) (c.generate.ensures.told es are)
 
 pub labelled-returns-in-Ok-clause-told : goal.labelled-returns-in-Ok-clause-told
 labelled-returns-in-Ok-clause-told m c = λ es are.
-    let s = sight_view c.args.sight.now in
+    let s = c.args.sight.now in
     let cs = map tree.concurrent_view c.args.list.now in
     let a = twice [] (labels_of (t.concurrents_of cs)) in
     let b = broken.concurrents es s (t.concurrents_of cs) in
@@ -211,7 +210,7 @@ labelled-returns-in-Ok-clause-told m c = λ es are.
 
 pub labelled-returns-in-Err-clause-told : goal.labelled-returns-in-Err-clause-told
 labelled-returns-in-Err-clause-told m c = λ es are.
-    let s = sight_view c.args.sight.now in
+    let s = c.args.sight.now in
     let e = c.args.entities.now in
     let cs = map tree.concurrent_view c.args.list.now in
     let a = twice [] (labels_of (t.concurrents_of cs)) in
@@ -222,7 +221,7 @@ labelled-returns-in-Err-clause-told m c = λ es are.
 
 pub generate-returns-in_err-by-clause-told : goal.generate-returns-in_err-by-clause-told
 generate-returns-in_err-by-clause-told m c = λ es are.
-    let s = sight_view c.args.sight.now in
+    let s = c.args.sight.now in
     let label = tree.ident_view c.args.written.now.label in
     let k = tree.scheme_view c.args.written.now.scheme in
     let cs = tree.concurrents_view c.args.written.now.statements in
@@ -233,27 +232,27 @@ generate-returns-in_err-by-clause-told m c = λ es are.
 
 pub generate-returns-in_err-body-clause-told : goal.generate-returns-in_err-body-clause-told
 generate-returns-in_err-body-clause-told m c = λ es are.
-    let s = sight_view c.args.sight.now in
+    let s = c.args.sight.now in
     let label = tree.ident_view c.args.written.now.label in
     let k = tree.scheme_view c.args.written.now.scheme in
     let cs = tree.concurrents_view c.args.written.now.statements in
     let end = tree.option_ident_view c.args.written.now.end_label in
     let f = c.in_err-body.field-0.0 in
     let h : Tells (told.generate es s label k cs end) c.in_err-body.field-0.0 =
-    by.generate_inside es s label k cs end f _ (c.in_ok-by.ensures.given [] 0 u.no_concurrents) (sight_view c.enter_generate.new.sight) c.in_ok-enter_generate.ensures.given
-    (told_same _ _ f (ap (λ xs. told.labelled es (sight_view c.enter_generate.new.sight) (map tree.concurrent_view xs)) c.deref.ensures.value) (c.in_err-body.ensures.told es are)) in
+    by.generate_inside es s label k cs end f _ (c.in_ok-by.ensures.given [] 0 u.no_concurrents) c.enter_generate.new.sight c.in_ok-enter_generate.ensures.given
+    (told_same _ _ f (ap (λ xs. told.labelled es c.enter_generate.new.sight (map tree.concurrent_view xs)) c.deref.ensures.value) (c.in_err-body.ensures.told es are)) in
     passed_err _ c.in_err-body.field-0.0 _ c.from_residual-in_err-body.result c.from_residual-in_err-body.ensures.1 (λ e p. p) h
 
 pub generate-returns-in_err-ends-clause-told : goal.generate-returns-in_err-ends-clause-told
 generate-returns-in_err-ends-clause-told m c = λ es are.
-    let s = sight_view c.args.sight.now in
+    let s = c.args.sight.now in
     let e = c.args.entities.now in
     let label = tree.ident_view c.args.written.now.label in
     let k = tree.scheme_view c.args.written.now.scheme in
     let cs = tree.concurrents_view c.args.written.now.statements in
     let end = tree.option_ident_view c.args.written.now.end_label in
     let f = c.in_err-ends.field-0.0 in
-    let within = sight_view c.enter_generate.new.sight in
+    let within = c.enter_generate.new.sight in
     let g = instance (names_view e.names) (seens_view e.formals) in
     let h : Tells (told.generate es s label k cs end) c.in_err-ends.field-0.0 =
     by.generate_ends es s label k cs end f _ (c.in_ok-by.ensures.given [] 0 u.no_concurrents) within c.in_ok-enter_generate.ensures.given
@@ -264,7 +263,7 @@ generate-returns-in_err-ends-clause-told m c = λ es are.
 
 pub statement-returns-in_err-selected-in-Selected-clause-told : goal.statement-returns-in_err-selected-in-Selected-clause-told
 statement-returns-in_err-selected-in-Selected-clause-told m c = λ es are.
-    let s = sight_view c.args.sight.now in
+    let s = c.args.sight.now in
     let f = c.in_err-selected-in-Selected.field-0.0 in
     let h : Tells (broken.concurrent es s (tree.concurrent_view c.args.item.now)) c.in_err-selected-in-Selected.field-0.0 =
     told_same _ _ f
@@ -275,7 +274,7 @@ statement-returns-in_err-selected-in-Selected-clause-told m c = λ es are.
 
 pub statement-returns-in_err-process-in-Process-clause-told : goal.statement-returns-in_err-process-in-Process-clause-told
 statement-returns-in_err-process-in-Process-clause-told m c = λ es are.
-    let s = sight_view c.args.sight.now in
+    let s = c.args.sight.now in
     let f = c.in_err-process-in-Process.field-0.0 in
     let h : Tells (broken.concurrent es s (tree.concurrent_view c.args.item.now)) c.in_err-process-in-Process.field-0.0 =
     told_same _ _ f

@@ -1,6 +1,5 @@
 use Rattle.std.proofs.Common.{map}
 use Rattle.vhdl_tree.specs.View as tree
-use Rattle.vhdl_names_types.specs.Views.{sight_view}
 use Rattle.vhdl_names_units.specs.views.Concurrent.{concurrents_view, concurrents_of}
 use Rattle.vhdl_names_units.specs.Once.{names_view}
 use Rattle.vhdl_names_units.proofs.Lists.{gives_more}
@@ -14,5 +13,5 @@ pub returns-clause-given : goal.returns-clause-given
 returns-clause-given c = λ es are.
     let e = c.args.entities.now in
     gives_more concurrents_view concurrents_of _ _ _
-    (concurrents_by (instance (names_view e.names) (seens_view e.formals)) es (instance_gives e es are) (sight_view c.args.sight.now) (map tree.concurrent_view c.args.list.now))
+    (concurrents_by (instance (names_view e.names) (seens_view e.formals)) es (instance_gives e es are) c.args.sight.now (map tree.concurrent_view c.args.list.now))
     c.statements.ensures.given

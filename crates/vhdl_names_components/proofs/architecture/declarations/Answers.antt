@@ -5,7 +5,7 @@ use Rattle.vhdl_names_rules.specs.Declarations.{in_order}
 use Rattle.vhdl_names_rules.specs.Files.{declaration}
 use Rattle.vhdl_names_rules.specs.Visibility.{with_declared}
 use Rattle.vhdl_tree.specs.View as tree
-use Rattle.vhdl_names_types.specs.Views.{sight_view, entry_view}
+use Rattle.vhdl_names_types.specs.Views.{entry_view}
 use Rattle.vhdl_names_units.specs.views.Declarations.{declaration_view, declarations_view}
 use Rattle.vhdl_names_components.specs.Views.{entities_view}
 use Rattle.vhdl_names_components.specs.Components.{analysed_view}
@@ -23,8 +23,8 @@ use Rattle.vhdl_names_components.proofs.architecture.declarations.Goals as goal
 
 pub loop-one-init : goal.loop-one-init
 loop-one-init c = (
-  begins (declaration (entities_view c.args.entities.now)) tree.declaration_view (sight_view c.args.sight.now) c.args.all.now (names_apart c.args.sight.now.region.entries c.names_are_apart.ensures)
-      ∙ ap (λ l. left (declaration (entities_view c.args.entities.now)) tree.declaration_view (sight_view c.args.sight.now) (flat_map declaration_view l) c.args.all.now 0) (sym c.new-done.ensures.items),
+  begins (declaration (entities_view c.args.entities.now)) tree.declaration_view c.args.sight.now c.args.all.now (names_apart c.args.sight.now.region.entries c.names_are_apart.ensures)
+      ∙ ap (λ l. left (declaration (entities_view c.args.entities.now)) tree.declaration_view c.args.sight.now (flat_map declaration_view l) c.args.all.now 0) (sym c.new-done.ensures.items),
   c.of-counts.ensures,
   c.requires,
   λ f h. h,
@@ -33,34 +33,34 @@ loop-one-init c = (
 pub returns-in_err-next-clause-given : goal.returns-in_err-next-clause-given
 returns-in_err-next-clause-given c =
     let lt : c.loop-one.one-index < length c.args.all.now = omega arith in
-    let f : c.in_err-next.field-0.0 ≢ NoMemory → entering (in_order with_declared (declaration (entities_view c.args.entities.now))) (sight_view c.args.sight.now) (map tree.declaration_view c.args.all.now) ≡ None =
+    let f : c.in_err-next.field-0.0 ≢ NoMemory → entering (in_order with_declared (declaration (entities_view c.args.entities.now))) c.args.sight.now (map tree.declaration_view c.args.all.now) ≡ None =
     λ n. c.loop-one.invariant.0
-    ∙ fails (declaration (entities_view c.args.entities.now)) tree.declaration_view (sight_view c.loop-one.sight) (declarations_view c.loop-one.done) c.args.all.now c.loop-one.one-index c.one-item.result lt c.one-item.is (c.in_err-next.ensures.given n) in
+    ∙ fails (declaration (entities_view c.args.entities.now)) tree.declaration_view c.loop-one.sight (declarations_view c.loop-one.done) c.args.all.now c.loop-one.one-index c.one-item.result lt c.one-item.is (c.in_err-next.ensures.given n) in
     passed_on _ _ c.in_err-next.field-0.0 _ c.from_residual.result c.from_residual.ensures.1 (λ e p. p) f
 
 pub of-counts-requires-in-loop-one-clause-place : goal.of-counts-requires-in-loop-one-clause-place
 of-counts-requires-in-loop-one-clause-place c =
-    let h = place_within (declaration (entities_view c.args.entities.now)) (sight_view c.loop-one.sight) (sight_view c.declaration.new.sight) (tree.declaration_view c.one-item.result) (analysed_view c.in_ok-next.next) c.in_ok-next.ensures.given in
+    let h = place_within (declaration (entities_view c.args.entities.now)) c.loop-one.sight c.declaration.new.sight (tree.declaration_view c.one-item.result) (analysed_view c.in_ok-next.next) c.in_ok-next.ensures.given in
     let p = length-map c.loop-one.sight.region.entries entry_view in
     let q = length-map c.declaration.new.sight.region.entries entry_view in
     omega (arith, h, p, q, c.len-first.ensures.len)
 
 pub of-counts-requires-in-loop-one-clause-before : goal.of-counts-requires-in-loop-one-clause-before
 of-counts-requires-in-loop-one-clause-before c =
-    counts_before (declaration (entities_view c.args.entities.now)) c.loop-one.counts (sight_view c.loop-one.sight) (sight_view c.declaration.new.sight) (tree.declaration_view c.one-item.result) (analysed_view c.in_ok-next.next) c.len-first.result
+    counts_before (declaration (entities_view c.args.entities.now)) c.loop-one.counts c.loop-one.sight c.declaration.new.sight (tree.declaration_view c.one-item.result) (analysed_view c.in_ok-next.next) c.len-first.result
     c.in_ok-next.ensures.given (c.len-first.ensures.len ∙ sym (length-map c.loop-one.sight.region.entries entry_view)) c.loop-one.invariant.1
 
 pub loop-one-preserved : goal.loop-one-preserved
 loop-one-preserved c =
     let lt : c.loop-one.one-index < length c.args.all.now = omega arith in (
       c.loop-one.invariant.0
-          ∙ goes (declaration (entities_view c.args.entities.now)) tree.declaration_view (sight_view c.loop-one.sight) (sight_view c.declaration.new.sight) (declarations_view c.loop-one.done) (analysed_view c.in_ok-next.next) (declarations_view c.push_if_any.new.done)
+          ∙ goes (declaration (entities_view c.args.entities.now)) tree.declaration_view c.loop-one.sight c.declaration.new.sight (declarations_view c.loop-one.done) (analysed_view c.in_ok-next.next) (declarations_view c.push_if_any.new.done)
           c.args.all.now c.loop-one.one-index c.one-item.result lt c.one-item.is c.in_ok-next.ensures.given
           c.in_ok-push_if_any.ensures,
       c.of-counts-in-loop-one.ensures,
       c.in_ok-next.ensures.outermost,
       λ f h. c.loop-one.invariant.3 f
-          (told_behind in_region with_declared (declaration (entities_view c.args.entities.now)) (broken.declaration (entities_view c.args.entities.now)) (declaration_kept (entities_view c.args.entities.now)) tree.declaration_view (sight_view c.loop-one.sight) (sight_view c.declaration.new.sight) c.args.all.now c.loop-one.one-index c.one-item.result (analysed_view c.in_ok-next.next) f lt c.one-item.is c.in_ok-next.ensures.given h),
+          (told_behind in_region with_declared (declaration (entities_view c.args.entities.now)) (broken.declaration (entities_view c.args.entities.now)) (declaration_kept (entities_view c.args.entities.now)) tree.declaration_view c.loop-one.sight c.declaration.new.sight c.args.all.now c.loop-one.one-index c.one-item.result (analysed_view c.in_ok-next.next) f lt c.one-item.is c.in_ok-next.ensures.given h),
     )
 
 pub returns-clause-outermost : goal.returns-clause-outermost
@@ -68,11 +68,11 @@ returns-clause-outermost c = c.loop-one.invariant.2
 
 pub returns-clause-given : goal.returns-clause-given
 returns-clause-given c =
-    c.loop-one.invariant.0 ∙ ends (declaration (entities_view c.args.entities.now)) tree.declaration_view (sight_view c.loop-one.sight) (declarations_view c.loop-one.done) c.args.all.now c.loop-one.one-index (omega arith)
+    c.loop-one.invariant.0 ∙ ends (declaration (entities_view c.args.entities.now)) tree.declaration_view c.loop-one.sight (declarations_view c.loop-one.done) c.args.all.now c.loop-one.one-index (omega arith)
 
 pub returns-in_err-next-clause-told : goal.returns-in_err-next-clause-told
 returns-in_err-next-clause-told c =
     let lt : c.loop-one.one-index < length c.args.all.now = omega arith in
-    let f : Tells (declarations_broken.in_order with_declared (declaration (entities_view c.args.entities.now)) (broken.declaration (entities_view c.args.entities.now)) (sight_view c.args.sight.now) (map tree.declaration_view c.args.all.now)) c.in_err-next.field-0.0 =
-    c.loop-one.invariant.3 c.in_err-next.field-0.0 (told_at in_region with_declared (declaration (entities_view c.args.entities.now)) (broken.declaration (entities_view c.args.entities.now)) (declaration_kept (entities_view c.args.entities.now)) tree.declaration_view (sight_view c.loop-one.sight) c.args.all.now c.loop-one.one-index c.one-item.result c.in_err-next.field-0.0 lt c.one-item.is c.in_err-next.ensures.told) in
+    let f : Tells (declarations_broken.in_order with_declared (declaration (entities_view c.args.entities.now)) (broken.declaration (entities_view c.args.entities.now)) c.args.sight.now (map tree.declaration_view c.args.all.now)) c.in_err-next.field-0.0 =
+    c.loop-one.invariant.3 c.in_err-next.field-0.0 (told_at in_region with_declared (declaration (entities_view c.args.entities.now)) (broken.declaration (entities_view c.args.entities.now)) (declaration_kept (entities_view c.args.entities.now)) tree.declaration_view c.loop-one.sight c.args.all.now c.loop-one.one-index c.one-item.result c.in_err-next.field-0.0 lt c.one-item.is c.in_err-next.ensures.told) in
     tells.passed_on _ c.in_err-next.field-0.0 _ c.from_residual.result c.from_residual.ensures.1 (λ e p. p) f

@@ -3,7 +3,6 @@ use Rattle.vhdl_names_rules.specs.Declarations.{in_order}
 use Rattle.vhdl_names_rules.specs.Files.{declaration}
 use Rattle.vhdl_names_rules.specs.Visibility.{with_declared}
 use Rattle.vhdl_tree.specs.View.{declaration_view}
-use Rattle.vhdl_names_types.specs.Views.{sight_view, region_view}
 use Rattle.vhdl_names_units.specs.views.Declarations.{declarations_view}
 use Rattle.vhdl_names_declarations.specs.Counts.{AreCounts}
 use Rattle.vhdl_names_declarations.specs.Entered.{entering}
@@ -20,9 +19,9 @@ use Rattle.vhdl_names_components.proofs.architecture.declarations.Given as goal
 abbrev pub invariant-loop-one : goal.invariant-loop-one
 invariant-loop-one l =
     let declares = declaration (entities_view l.entities) in
-    (entering (in_order with_declared declares) (sight_view l.initial.sight) (map declaration_view l.all)
-    ≡ left declares declaration_view (sight_view l.sight) (declarations_view l.done) l.all l.one-index)
-    × AreCounts l.counts (region_view l.sight.region)
-    × (region_view l.sight.enclosing ≡ [])
-    × ((f : NameFault) → Tells (declarations_broken.in_order with_declared (declaration (entities_view l.entities)) (broken.declaration (entities_view l.entities)) (sight_view l.sight) (map declaration_view (drop l.one-index l.all))) f
-    → Tells (declarations_broken.in_order with_declared (declaration (entities_view l.entities)) (broken.declaration (entities_view l.entities)) (sight_view l.initial.sight) (map declaration_view l.all)) f)
+    (entering (in_order with_declared declares) l.initial.sight (map declaration_view l.all)
+    ≡ left declares declaration_view l.sight (declarations_view l.done) l.all l.one-index)
+    × AreCounts l.counts l.sight.region
+    × (l.sight.enclosing ≡ [])
+    × ((f : NameFault) → Tells (declarations_broken.in_order with_declared (declaration (entities_view l.entities)) (broken.declaration (entities_view l.entities)) l.sight (map declaration_view (drop l.one-index l.all))) f
+    → Tells (declarations_broken.in_order with_declared (declaration (entities_view l.entities)) (broken.declaration (entities_view l.entities)) l.initial.sight (map declaration_view l.all)) f)

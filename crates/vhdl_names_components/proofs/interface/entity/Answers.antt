@@ -1,7 +1,7 @@
 use Rattle.std.proofs.Common.{map, option_map, Some, sym, ap, ◌∙◌}
 use Rattle.vhdl_names_rules.specs.Packages.{sight_of}
 use Rattle.vhdl_tree.specs.View as view
-use Rattle.vhdl_names_types.specs.Views.{sight_view, entry_view}
+use Rattle.vhdl_names_types.specs.Views.{entry_view}
 use Rattle.vhdl_names_types.proofs.Along.{gives_along}
 use Rattle.vhdl_names_declarations.specs.Contexts.{context_view}
 use Rattle.vhdl_names_declarations.proofs.Breaking as tells
@@ -33,7 +33,7 @@ returns-clause-given c =
     let k = context_view c.in_ok-context.context in
     let seen = ap (λ l. Some (sight_of k (map entry_view l))) (sym c.new.ensures.empty) ∙ c.in_ok-sight.ensures.sight in
     gives_along entity_view _ _ c.entity_in.result
-    (entity_is (map view.context_view c.args.items.now) (view.entity_view c.args.tree.now) name k (sight_view c.in_ok-sight.sight) c.in_ok-context.ensures.given seen)
+    (entity_is (map view.context_view c.args.items.now) (view.entity_view c.args.tree.now) name k c.in_ok-sight.sight c.in_ok-context.ensures.given seen)
     c.entity_in.ensures.given
 
 pub returns-clause-told : goal.returns-clause-told
@@ -42,4 +42,4 @@ returns-clause-told c =
     let e = view.entity_view c.args.tree.now in
     let k = context_view c.in_ok-context.context in
     let seen = ap (λ l. Some (sight_of k (map entry_view l))) (sym c.new.ensures.empty) ∙ c.in_ok-sight.ensures.sight in
-    told_on _ (broken.entity items e) c.entity_in.result (behind_told items e k (sight_view c.in_ok-sight.sight) c.in_ok-context.ensures.given seen) c.entity_in.ensures.told
+    told_on _ (broken.entity items e) c.entity_in.result (behind_told items e k c.in_ok-sight.sight c.in_ok-context.ensures.given seen) c.entity_in.ensures.told

@@ -7,7 +7,7 @@ use Rattle.vhdl_names_rules.specs.problems.Interfaces as broken
 use Rattle.vhdl_names_rules.proofs.Telling.{told_left, told_right}
 use Rattle.vhdl_names_rules.proofs.kept.Interfaces.{interface_kept}
 use Rattle.vhdl_tree.specs.View as view
-use Rattle.vhdl_names_types.specs.Views.{sight_view, region_view}
+use Rattle.vhdl_names_types.specs.Views.{region_view}
 use Rattle.vhdl_names_declarations.specs.Contexts.{context_view}
 use Rattle.vhdl_names_declarations.proofs.Breaking as tells
 use Rattle.vhdl_names_components.specs.Views.{interface_in, entity_view, entity_of, behind_interface}
@@ -22,7 +22,7 @@ returns-in_err-generics-clause-given c =
 
 pub returns-in_err-generics-clause-told : goal.returns-in_err-generics-clause-told
 returns-in_err-generics-clause-told c =
-    let s = sight_view c.args.sight.now in
+    let s = c.args.sight.now in
     let e = view.entity_view c.args.tree.now in
     tells.passed_on _ c.in_err-generics.field-0.0 _ c.from_residual.result c.from_residual.ensures.1 (λ e p. p)
     (told_left (broken.interface s e.generics e.ports) (end_name e.name e.end_name) c.in_err-generics.field-0.0 c.in_err-generics.ensures.told)
@@ -32,13 +32,13 @@ returns-in_err-ends-clause-given c =
     let name = option_map (λ i. i.now.text.items) c.args.architecture in
     let k = context_view c.args.context in
     let e = view.entity_view c.args.tree.now in
-    let i = interface_in (sight_view c.interface_of.new.sight).region (c.in_ok-generics.generics, c.in_ok-generics.ports) in
+    let i = interface_in c.interface_of.new.sight.region (c.in_ok-generics.generics, c.in_ok-generics.ports) in
     passed_on entity_view _ c.in_err-ends.field-0.0 _ c.from_residual-in_err-ends.result c.from_residual-in_err-ends.ensures.1 (λ e p. p)
     (λ n. ap (behind_interface k e name) c.in_ok-generics.ensures.given ∙ ap (λ o. o >>= λ _. Some (entity_of k i e name)) (c.in_err-ends.ensures.given n))
 
 pub returns-in_err-ends-clause-told : goal.returns-in_err-ends-clause-told
 returns-in_err-ends-clause-told c =
-    let s = sight_view c.args.sight.now in
+    let s = c.args.sight.now in
     let e = view.entity_view c.args.tree.now in
     tells.passed_on _ c.in_err-ends.field-0.0 _ c.from_residual-in_err-ends.result c.from_residual-in_err-ends.ensures.1 (λ e p. p)
     (told_right (broken.interface s e.generics e.ports) (end_name e.name e.end_name) c.in_err-ends.field-0.0
@@ -50,7 +50,7 @@ returns-clause-given c =
     let k = context_view c.args.context in
     let e = view.entity_view c.args.tree.now in
     let made : Vec Generics Global × Vec Ports Global = (c.in_ok-generics.generics, c.in_ok-generics.ports) in
-    let i = interface_in (sight_view c.interface_of.new.sight).region made in
+    let i = interface_in c.interface_of.new.sight.region made in
     ap (behind_interface k e name) c.in_ok-generics.ensures.given
     ∙ ap (λ o. o >>= λ _. Some (entity_of k i e name)) c.in_ok-ends.ensures.given
     ∙ ap (λ r. Some (entity_of k (interface_in (region_view r) made) e name)) (sym c.replace.ensures.value)

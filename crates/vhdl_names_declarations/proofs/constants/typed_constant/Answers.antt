@@ -2,7 +2,7 @@ use Rattle.std.proofs.Common.{sym, subst, ◌∙◌}
 use Rattle.vhdl_tree.specs.View as tree
 use Rattle.vhdl_names_rules.specs.Visibility.{Meaning, meaning}
 use Rattle.vhdl_names_rules.specs.Subtypes.{as_integer_type}
-use Rattle.vhdl_names_types.specs.Views.{sight_view, meaning_view}
+use Rattle.vhdl_names_types.specs.Views.{meaning_view}
 use Rattle.vhdl_names_rules.specs.problems.Broken.{Tells, where_given}
 use Rattle.vhdl_names_rules.specs.problems.Declarations as broken
 use Rattle.vhdl_names_rules.specs.problems.Expressions as expressions_broken
@@ -13,16 +13,16 @@ use Rattle.vhdl_names_declarations.proofs.constants.typed_constant.Goals as goal
 
 pub returns-in_err-mark-clause-told : goal.returns-in_err-mark-clause-told
 returns-in_err-mark-clause-told c =
-    let s = sight_view c.args.sight.now in
+    let s = c.args.sight.now in
     let d = tree.constants_view c.args.declaration.now in
     let by = λ (m : Meaning). broken.constants_by s d (as_integer_type m) in
-    let f : Tells (broken.typed_constants (sight_view c.args.sight.now) (tree.constants_view c.args.declaration.now)) c.in_err-mark.field-0.0 =
+    let f : Tells (broken.typed_constants c.args.sight.now (tree.constants_view c.args.declaration.now)) c.in_err-mark.field-0.0 =
     told_left (expressions_broken.meaning s d.subtype.mark) (where_given (meaning s d.subtype.mark.text) by) c.in_err-mark.field-0.0 c.in_err-mark.ensures.told in
     passed_on _ c.in_err-mark.field-0.0 _ c.from_residual.result c.from_residual.ensures.1 (λ e p. p) f
 
 pub returns-in-Some-clause-told : goal.returns-in-Some-clause-told
 returns-in-Some-clause-told c =
-    let s = sight_view c.args.sight.now in
+    let s = c.args.sight.now in
     let d = tree.constants_view c.args.declaration.now in
     let n = d.subtype.mark.text in
     let by = λ (m : Meaning). broken.constants_by s d (as_integer_type m) in
@@ -33,7 +33,7 @@ returns-in-Some-clause-told c =
 
 pub returns-in-None-clause-told : goal.returns-in-None-clause-told
 returns-in-None-clause-told c =
-    let s = sight_view c.args.sight.now in
+    let s = c.args.sight.now in
     let d = tree.constants_view c.args.declaration.now in
     let n = d.subtype.mark.text in
     let by = λ (m : Meaning). broken.constants_by s d (as_integer_type m) in

@@ -9,7 +9,7 @@ use Rattle.vhdl_names_rules.specs.views.Integers.{static_view}
 use Rattle.vhdl_names_rules.specs.Visibility as visibility
 use Rattle.vhdl_names_rules.specs.Visibility.{names_of, all_declared, with_declared}
 use Rattle.vhdl_tree.specs.View.{ident_view, generic_view}
-use Rattle.vhdl_names_types.specs.Views.{region_view, sight_view, entry_view}
+use Rattle.vhdl_names_types.specs.Views.{region_view, entry_view}
 use Rattle.vhdl_names_declarations.specs.Entered.{more, entering}
 use Rattle.vhdl_names_declarations.specs.Typed.{typed_generic}
 use Rattle.vhdl_names_declarations.proofs.Declaring.{generic_is, generics_of}
@@ -26,9 +26,9 @@ use Rattle.vhdl_names_declarations.proofs.Regions.{names-all}
 
 pub returns-in_err-hide-clause-given : goal.returns-in_err-hide-clause-given
 returns-in_err-hide-clause-given c =
-    let s = sight_view c.args.sight.now in
+    let s = c.args.sight.now in
     let g = generic_view c.args.generic.now in
-    let f : c.in_err-hide.field-0.0 ≢ NoMemory → entering d.generic (sight_view c.args.sight.now) (generic_view c.args.generic.now) ≡ None =
+    let f : c.in_err-hide.field-0.0 ≢ NoMemory → entering d.generic c.args.sight.now (generic_view c.args.generic.now) ≡ None =
     λ n. generic_is s g c.args.number c.requires
     ∙ refused (λ s. s.region) with_declared s (names_of g.names) (λ x. c.args.number) (λ x. visibility.generic) (generics_of g)
     (ap (λ l. more s.region (all_declared visibility.unfinished (names_of (map ident_view l)))) (sym c.deref.ensures.value) ∙ c.in_err-hide.ensures.given n) (typed_generic s g) in
@@ -36,9 +36,9 @@ returns-in_err-hide-clause-given c =
 
 pub returns-in_err-integer_type-clause-given : goal.returns-in_err-integer_type-clause-given
 returns-in_err-integer_type-clause-given c =
-    let s = sight_view c.args.sight.now in
+    let s = c.args.sight.now in
     let g = generic_view c.args.generic.now in
-    let f : c.in_err-integer_type.field-0.0 ≢ NoMemory → entering d.generic (sight_view c.args.sight.now) (generic_view c.args.generic.now) ≡ None =
+    let f : c.in_err-integer_type.field-0.0 ≢ NoMemory → entering d.generic c.args.sight.now (generic_view c.args.generic.now) ≡ None =
     λ n. generic_is s g c.args.number c.requires
     ∙ unknown (λ s. s.region) with_declared s (names_of g.names) (λ x. c.args.number) (λ x. visibility.generic) (generics_of g) (typed_generic s g) (c.in_err-integer_type.ensures.given n) in
     gives_none _ _ c.in_err-integer_type.field-0.0 _ c.from_residual-in_err-integer_type.result c.from_residual-in_err-integer_type.ensures.1 (λ e p. p) f
@@ -55,7 +55,7 @@ settle-requires-clause-number c =
 
 pub returns-clause-given : goal.returns-clause-given
 returns-clause-given c =
-    let s = sight_view c.args.sight.now in
+    let s = c.args.sight.now in
     let g = generic_view c.args.generic.now in
     let hid : more s.region (all_declared visibility.unfinished (names_of g.names)) ≡ Some (region_view c.hide.new.region) =
     ap (λ l. more s.region (all_declared visibility.unfinished (names_of (map ident_view l)))) (sym c.deref.ensures.value) ∙ c.in_ok-hide.ensures.given in
@@ -69,20 +69,20 @@ returns-clause-given c =
 
 pub returns-in_err-hide-clause-told : goal.returns-in_err-hide-clause-told
 returns-in_err-hide-clause-told c =
-    let s = sight_view c.args.sight.now in
+    let s = c.args.sight.now in
     let g = generic_view c.args.generic.now in
-    let f : Tells (broken.generic (sight_view c.args.sight.now) (generic_view c.args.generic.now)) c.in_err-hide.field-0.0 =
+    let f : Tells (broken.generic c.args.sight.now (generic_view c.args.generic.now)) c.in_err-hide.field-0.0 =
     told_left (standing_twice s.region g.names) (broken.typed_generic s g) c.in_err-hide.field-0.0
     (subst (λ l. Tells (standing_twice s.region (map ident_view l)) c.in_err-hide.field-0.0) c.deref.ensures.value c.in_err-hide.ensures.told) in
     passed_on _ c.in_err-hide.field-0.0 _ c.from_residual.result c.from_residual.ensures.1 (λ e p. p) f
 
 pub returns-in_err-integer_type-clause-told : goal.returns-in_err-integer_type-clause-told
 returns-in_err-integer_type-clause-told c =
-    let s = sight_view c.args.sight.now in
+    let s = c.args.sight.now in
     let g = generic_view c.args.generic.now in
-    let hid : more (sight_view c.args.sight.now).region (all_declared visibility.unfinished (names_of (generic_view c.args.generic.now).names)) ≡ Some (region_view c.hide.new.region) =
-    ap (λ l. more (sight_view c.args.sight.now).region (all_declared visibility.unfinished (names_of (map ident_view l)))) (sym c.deref.ensures.value) ∙ c.in_ok-hide.ensures.given in
+    let hid : more c.args.sight.now.region (all_declared visibility.unfinished (names_of (generic_view c.args.generic.now).names)) ≡ Some (region_view c.hide.new.region) =
+    ap (λ l. more c.args.sight.now.region (all_declared visibility.unfinished (names_of (map ident_view l)))) (sym c.deref.ensures.value) ∙ c.in_ok-hide.ensures.given in
     let once = standing_once s.region (all_declared visibility.unfinished (names_of g.names)) g.names (names-all visibility.unfinished (names_of g.names)) (region_view c.hide.new.region) hid in
-    let f : Tells (broken.generic (sight_view c.args.sight.now) (generic_view c.args.generic.now)) c.in_err-integer_type.field-0.0 =
+    let f : Tells (broken.generic c.args.sight.now (generic_view c.args.generic.now)) c.in_err-integer_type.field-0.0 =
     told_right (standing_twice s.region g.names) (broken.typed_generic s g) c.in_err-integer_type.field-0.0 once c.in_err-integer_type.ensures.told in
     passed_on _ c.in_err-integer_type.field-0.0 _ c.from_residual-in_err-integer_type.result c.from_residual-in_err-integer_type.ensures.1 (λ e p. p) f

@@ -5,7 +5,7 @@ use Rattle.vhdl_names_rules.specs.Declarations.{in_order, generic}
 use Rattle.vhdl_names_rules.specs.Visibility.{with_declared}
 use Rattle.vhdl_tree.specs.View.{generic_view}
 use Rattle.vhdl_names_types.specs.declared.sight.Sight.{Sight}
-use Rattle.vhdl_names_types.specs.Views.{sight_view, entry_view}
+use Rattle.vhdl_names_types.specs.Views.{entry_view}
 use Rattle.vhdl_names_units.specs.views.Declarations.{generics_view, all_generics_view}
 use Rattle.vhdl_names_declarations.specs.Entered.{entering}
 use Rattle.vhdl_names_rules.specs.problems.Broken.{Tells}
@@ -21,8 +21,8 @@ use Rattle.vhdl_names_declarations.proofs.generics.generics.Goals as goal
 
 pub loop-one-init : goal.loop-one-init
 loop-one-init c = (
-  begins generic generic_view (sight_view c.args.sight.now) c.args.all.now (names_apart c.args.sight.now.region.entries c.names_are_apart.ensures)
-      ∙ ap (λ l. left generic generic_view (sight_view c.args.sight.now) (flat_map generics_view l) c.args.all.now 0) (sym c.new-done.ensures.items),
+  begins generic generic_view c.args.sight.now c.args.all.now (names_apart c.args.sight.now.region.entries c.names_are_apart.ensures)
+      ∙ ap (λ l. left generic generic_view c.args.sight.now (flat_map generics_view l) c.args.all.now 0) (sym c.new-done.ensures.items),
   c.of-counts.ensures,
   refl,
   λ f h. h,
@@ -31,34 +31,34 @@ loop-one-init c = (
 pub returns-in_err-next-clause-given : goal.returns-in_err-next-clause-given
 returns-in_err-next-clause-given c =
     let lt : c.loop-one.one-index < length c.args.all.now = omega arith in
-    let f : c.in_err-next.field-0.0 ≢ NoMemory → entering (in_order with_declared generic) (sight_view c.args.sight.now) (map generic_view c.args.all.now) ≡ None =
+    let f : c.in_err-next.field-0.0 ≢ NoMemory → entering (in_order with_declared generic) c.args.sight.now (map generic_view c.args.all.now) ≡ None =
     λ n. c.loop-one.invariant.0
-    ∙ fails generic generic_view (sight_view c.loop-one.sight) (all_generics_view c.loop-one.done) c.args.all.now c.loop-one.one-index c.one-item.result lt c.one-item.is (c.in_err-next.ensures.given n) in
+    ∙ fails generic generic_view c.loop-one.sight (all_generics_view c.loop-one.done) c.args.all.now c.loop-one.one-index c.one-item.result lt c.one-item.is (c.in_err-next.ensures.given n) in
     gives_none _ _ c.in_err-next.field-0.0 _ c.from_residual.result c.from_residual.ensures.1 (λ e p. p) f
 
 pub of-counts-requires-in-loop-one-clause-place : goal.of-counts-requires-in-loop-one-clause-place
 of-counts-requires-in-loop-one-clause-place c =
-    let h = place_within generic (sight_view c.loop-one.sight) (sight_view c.generic.new.sight) (generic_view c.one-item.result) (generics_view c.in_ok-next.next) c.in_ok-next.ensures.given in
+    let h = place_within generic c.loop-one.sight c.generic.new.sight (generic_view c.one-item.result) (generics_view c.in_ok-next.next) c.in_ok-next.ensures.given in
     let p = length-map c.loop-one.sight.region.entries entry_view in
     let q = length-map c.generic.new.sight.region.entries entry_view in
     omega (arith, h, p, q, c.len-first.ensures.len)
 
 pub of-counts-requires-in-loop-one-clause-before : goal.of-counts-requires-in-loop-one-clause-before
 of-counts-requires-in-loop-one-clause-before c =
-    counts_before generic c.loop-one.counts (sight_view c.loop-one.sight) (sight_view c.generic.new.sight) (generic_view c.one-item.result) (generics_view c.in_ok-next.next) c.len-first.result
+    counts_before generic c.loop-one.counts c.loop-one.sight c.generic.new.sight (generic_view c.one-item.result) (generics_view c.in_ok-next.next) c.len-first.result
     c.in_ok-next.ensures.given (c.len-first.ensures.len ∙ sym (length-map c.loop-one.sight.region.entries entry_view)) c.loop-one.invariant.1
 
 pub loop-one-preserved : goal.loop-one-preserved
 loop-one-preserved c =
     let lt : c.loop-one.one-index < length c.args.all.now = omega arith in (
       c.loop-one.invariant.0
-          ∙ goes generic generic_view (sight_view c.loop-one.sight) (sight_view c.generic.new.sight) (all_generics_view c.loop-one.done) (generics_view c.in_ok-next.next) (all_generics_view c.push.new.self)
+          ∙ goes generic generic_view c.loop-one.sight c.generic.new.sight (all_generics_view c.loop-one.done) (generics_view c.in_ok-next.next) (all_generics_view c.push.new.self)
           c.args.all.now c.loop-one.one-index c.one-item.result lt c.one-item.is c.in_ok-next.ensures.given
           (ap (flat_map generics_view) c.in_ok-push.ensures.items ∙ all_more generics_view c.loop-one.done.items c.in_ok-next.next),
       c.of-counts-in-loop-one.ensures,
       c.in_ok-next.ensures.kept ∙ ap (λ (s : Sight). record s { region = c.generic.new.sight.region }) c.loop-one.invariant.2,
       λ f h. c.loop-one.invariant.3 f
-          (told_behind in_region with_declared generic broken.generic generic_kept generic_view (sight_view c.loop-one.sight) (sight_view c.generic.new.sight) c.args.all.now c.loop-one.one-index c.one-item.result (generics_view c.in_ok-next.next) f lt c.one-item.is c.in_ok-next.ensures.given h),
+          (told_behind in_region with_declared generic broken.generic generic_kept generic_view c.loop-one.sight c.generic.new.sight c.args.all.now c.loop-one.one-index c.one-item.result (generics_view c.in_ok-next.next) f lt c.one-item.is c.in_ok-next.ensures.given h),
     )
 
 pub returns-clause-kept : goal.returns-clause-kept
@@ -66,11 +66,11 @@ returns-clause-kept c = c.loop-one.invariant.2
 
 pub returns-clause-given : goal.returns-clause-given
 returns-clause-given c =
-    c.loop-one.invariant.0 ∙ ends generic generic_view (sight_view c.loop-one.sight) (all_generics_view c.loop-one.done) c.args.all.now c.loop-one.one-index (omega arith)
+    c.loop-one.invariant.0 ∙ ends generic generic_view c.loop-one.sight (all_generics_view c.loop-one.done) c.args.all.now c.loop-one.one-index (omega arith)
 
 pub returns-in_err-next-clause-told : goal.returns-in_err-next-clause-told
 returns-in_err-next-clause-told c =
     let lt : c.loop-one.one-index < length c.args.all.now = omega arith in
-    let f : Tells (interfaces_broken.generics (sight_view c.args.sight.now) (map generic_view c.args.all.now)) c.in_err-next.field-0.0 =
-    c.loop-one.invariant.3 c.in_err-next.field-0.0 (told_at in_region with_declared generic broken.generic generic_kept generic_view (sight_view c.loop-one.sight) c.args.all.now c.loop-one.one-index c.one-item.result c.in_err-next.field-0.0 lt c.one-item.is c.in_err-next.ensures.told) in
+    let f : Tells (interfaces_broken.generics c.args.sight.now (map generic_view c.args.all.now)) c.in_err-next.field-0.0 =
+    c.loop-one.invariant.3 c.in_err-next.field-0.0 (told_at in_region with_declared generic broken.generic generic_kept generic_view c.loop-one.sight c.args.all.now c.loop-one.one-index c.one-item.result c.in_err-next.field-0.0 lt c.one-item.is c.in_err-next.ensures.told) in
     passed_on _ c.in_err-next.field-0.0 _ c.from_residual.result c.from_residual.ensures.1 (λ e p. p) f

@@ -4,7 +4,7 @@ use Rattle.vhdl_names_rules.specs.declared.fault.NameFault.TheVariants.{NoMemory
 use Rattle.vhdl_names_rules.specs.Declarations.{in_order, variables}
 use Rattle.vhdl_names_rules.specs.Visibility.{with_variables}
 use Rattle.vhdl_tree.specs.View.{variables_view}
-use Rattle.vhdl_names_types.specs.Views.{sight_view, entry_view}
+use Rattle.vhdl_names_types.specs.Views.{entry_view}
 use Rattle.vhdl_names_units.specs.views.Declarations.{object_view, objects_view}
 use Rattle.vhdl_names_declarations.specs.Entered.{entering_variables}
 use Rattle.vhdl_names_rules.specs.problems.Broken.{Tells}
@@ -19,8 +19,8 @@ use Rattle.vhdl_names_declarations.proofs.objects.variables.Goals as goal
 
 pub loop-one-init : goal.loop-one-init
 loop-one-init c = (
-  begins_variables variables variables_view (sight_view c.args.sight.now) c.args.all.now (names_apart c.args.sight.now.variables.entries c.names_are_apart.ensures)
-      ∙ ap (λ l. left_variables variables variables_view (sight_view c.args.sight.now) (flat_map object_view l) c.args.all.now 0) (sym c.new-done.ensures.items),
+  begins_variables variables variables_view c.args.sight.now c.args.all.now (names_apart c.args.sight.now.variables.entries c.names_are_apart.ensures)
+      ∙ ap (λ l. left_variables variables variables_view c.args.sight.now (flat_map object_view l) c.args.all.now 0) (sym c.new-done.ensures.items),
   c.of-counts.ensures,
   λ f h. h,
 )
@@ -28,42 +28,42 @@ loop-one-init c = (
 pub returns-in_err-next-clause-given : goal.returns-in_err-next-clause-given
 returns-in_err-next-clause-given c =
     let lt : c.loop-one.one-index < length c.args.all.now = omega arith in
-    let f : c.in_err-next.field-0.0 ≢ NoMemory → entering_variables (in_order with_variables variables) (sight_view c.args.sight.now) (map variables_view c.args.all.now) ≡ None =
+    let f : c.in_err-next.field-0.0 ≢ NoMemory → entering_variables (in_order with_variables variables) c.args.sight.now (map variables_view c.args.all.now) ≡ None =
     λ n. c.loop-one.invariant.0
-    ∙ fails_variables variables variables_view (sight_view c.loop-one.sight) (objects_view c.loop-one.done) c.args.all.now c.loop-one.one-index c.one-item.result lt c.one-item.is (c.in_err-next.ensures.given n) in
+    ∙ fails_variables variables variables_view c.loop-one.sight (objects_view c.loop-one.done) c.args.all.now c.loop-one.one-index c.one-item.result lt c.one-item.is (c.in_err-next.ensures.given n) in
     gives_none _ _ c.in_err-next.field-0.0 _ c.from_residual.result c.from_residual.ensures.1 (λ e p. p) f
 
 pub of-counts-requires-in-loop-one-clause-place : goal.of-counts-requires-in-loop-one-clause-place
 of-counts-requires-in-loop-one-clause-place c =
-    let h = place_within_variables variables (sight_view c.loop-one.sight) (sight_view c.variables_of_one.new.sight) (variables_view c.one-item.result) (object_view c.in_ok-next.next) c.in_ok-next.ensures.given in
+    let h = place_within_variables variables c.loop-one.sight c.variables_of_one.new.sight (variables_view c.one-item.result) (object_view c.in_ok-next.next) c.in_ok-next.ensures.given in
     let p = length-map c.loop-one.sight.variables.entries entry_view in
     let q = length-map c.variables_of_one.new.sight.variables.entries entry_view in
     omega (arith, h, p, q, c.len-first.ensures.len)
 
 pub of-counts-requires-in-loop-one-clause-before : goal.of-counts-requires-in-loop-one-clause-before
 of-counts-requires-in-loop-one-clause-before c =
-    counts_before_variables variables c.loop-one.counts (sight_view c.loop-one.sight) (sight_view c.variables_of_one.new.sight) (variables_view c.one-item.result) (object_view c.in_ok-next.next) c.len-first.result
+    counts_before_variables variables c.loop-one.counts c.loop-one.sight c.variables_of_one.new.sight (variables_view c.one-item.result) (object_view c.in_ok-next.next) c.len-first.result
     c.in_ok-next.ensures.given (c.len-first.ensures.len ∙ sym (length-map c.loop-one.sight.variables.entries entry_view)) c.loop-one.invariant.1
 
 pub loop-one-preserved : goal.loop-one-preserved
 loop-one-preserved c =
     let lt : c.loop-one.one-index < length c.args.all.now = omega arith in (
       c.loop-one.invariant.0
-          ∙ goes_variables variables variables_view (sight_view c.loop-one.sight) (sight_view c.variables_of_one.new.sight) (objects_view c.loop-one.done) (object_view c.in_ok-next.next) (objects_view c.push.new.self)
+          ∙ goes_variables variables variables_view c.loop-one.sight c.variables_of_one.new.sight (objects_view c.loop-one.done) (object_view c.in_ok-next.next) (objects_view c.push.new.self)
           c.args.all.now c.loop-one.one-index c.one-item.result lt c.one-item.is c.in_ok-next.ensures.given
           (ap (flat_map object_view) c.in_ok-push.ensures.items ∙ all_more object_view c.loop-one.done.items c.in_ok-next.next),
       c.of-counts-in-loop-one.ensures,
       λ f h. c.loop-one.invariant.2 f
-          (told_behind of_process with_variables variables broken.variables variables_kept variables_view (sight_view c.loop-one.sight) (sight_view c.variables_of_one.new.sight) c.args.all.now c.loop-one.one-index c.one-item.result (object_view c.in_ok-next.next) f lt c.one-item.is c.in_ok-next.ensures.given h),
+          (told_behind of_process with_variables variables broken.variables variables_kept variables_view c.loop-one.sight c.variables_of_one.new.sight c.args.all.now c.loop-one.one-index c.one-item.result (object_view c.in_ok-next.next) f lt c.one-item.is c.in_ok-next.ensures.given h),
     )
 
 pub returns-clause-given : goal.returns-clause-given
 returns-clause-given c =
-    c.loop-one.invariant.0 ∙ ends_variables variables variables_view (sight_view c.loop-one.sight) (objects_view c.loop-one.done) c.args.all.now c.loop-one.one-index (omega arith)
+    c.loop-one.invariant.0 ∙ ends_variables variables variables_view c.loop-one.sight (objects_view c.loop-one.done) c.args.all.now c.loop-one.one-index (omega arith)
 
 pub returns-in_err-next-clause-told : goal.returns-in_err-next-clause-told
 returns-in_err-next-clause-told c =
     let lt : c.loop-one.one-index < length c.args.all.now = omega arith in
-    let f : Tells (broken.in_order with_variables variables broken.variables (sight_view c.args.sight.now) (map variables_view c.args.all.now)) c.in_err-next.field-0.0 =
-    c.loop-one.invariant.2 c.in_err-next.field-0.0 (told_at of_process with_variables variables broken.variables variables_kept variables_view (sight_view c.loop-one.sight) c.args.all.now c.loop-one.one-index c.one-item.result c.in_err-next.field-0.0 lt c.one-item.is c.in_err-next.ensures.told) in
+    let f : Tells (broken.in_order with_variables variables broken.variables c.args.sight.now (map variables_view c.args.all.now)) c.in_err-next.field-0.0 =
+    c.loop-one.invariant.2 c.in_err-next.field-0.0 (told_at of_process with_variables variables broken.variables variables_kept variables_view c.loop-one.sight c.args.all.now c.loop-one.one-index c.one-item.result c.in_err-next.field-0.0 lt c.one-item.is c.in_err-next.ensures.told) in
     passed_on _ c.in_err-next.field-0.0 _ c.from_residual.result c.from_residual.ensures.1 (λ e p. p) f

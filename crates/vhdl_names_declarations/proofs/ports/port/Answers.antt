@@ -9,7 +9,7 @@ use Rattle.vhdl_names_rules.specs.Visibility as visibility
 use Rattle.vhdl_names_rules.specs.Visibility.{names_of, all_declared, with_declared}
 use Rattle.vhdl_tree.specs.View as tree
 use Rattle.vhdl_tree.specs.View.{ident_view}
-use Rattle.vhdl_names_types.specs.Views.{region_view, sight_view, entry_view}
+use Rattle.vhdl_names_types.specs.Views.{region_view, entry_view}
 use Rattle.vhdl_names_units.specs.views.Answers.{subtype_view, fixed_view}
 use Rattle.vhdl_names_declarations.specs.Entered.{more, entering}
 use Rattle.vhdl_names_declarations.specs.Settled.{settled}
@@ -29,9 +29,9 @@ use Rattle.vhdl_names_declarations.proofs.Regions.{names-all}
 
 pub returns-in_err-hide-clause-given : goal.returns-in_err-hide-clause-given
 returns-in_err-hide-clause-given c =
-    let s = sight_view c.args.sight.now in
+    let s = c.args.sight.now in
     let g = tree.port_view c.args.port.now in
-    let f : c.in_err-hide.field-0.0 ≢ NoMemory → entering d.port (sight_view c.args.sight.now) (tree.port_view c.args.port.now) ≡ None =
+    let f : c.in_err-hide.field-0.0 ≢ NoMemory → entering d.port c.args.sight.now (tree.port_view c.args.port.now) ≡ None =
     λ n. port_is s g c.args.number c.requires
     ∙ refused (λ s. s.region) with_declared s (names_of g.names) (λ x. c.args.number) (port_class g) (ports_of g)
     (ap (λ l. more s.region (all_declared visibility.unfinished (names_of (map ident_view l)))) (sym c.deref.ensures.value) ∙ c.in_err-hide.ensures.given n) (typed_port s g) in
@@ -39,21 +39,21 @@ returns-in_err-hide-clause-given c =
 
 pub returns-in_err-subtype-clause-given : goal.returns-in_err-subtype-clause-given
 returns-in_err-subtype-clause-given c =
-    let s = sight_view c.args.sight.now in
+    let s = c.args.sight.now in
     let g = tree.port_view c.args.port.now in
-    let hid : more (sight_view c.args.sight.now).region (all_declared visibility.unfinished (names_of (tree.port_view c.args.port.now).names)) ≡ Some (region_view c.hide.new.region) =
-    ap (λ l. more (sight_view c.args.sight.now).region (all_declared visibility.unfinished (names_of (map ident_view l)))) (sym c.deref.ensures.value) ∙ c.in_ok-hide.ensures.given in
-    let f : c.in_err-subtype.field-0.0 ≢ NoMemory → entering d.port (sight_view c.args.sight.now) (tree.port_view c.args.port.now) ≡ None =
+    let hid : more c.args.sight.now.region (all_declared visibility.unfinished (names_of (tree.port_view c.args.port.now).names)) ≡ Some (region_view c.hide.new.region) =
+    ap (λ l. more c.args.sight.now.region (all_declared visibility.unfinished (names_of (map ident_view l)))) (sym c.deref.ensures.value) ∙ c.in_ok-hide.ensures.given in
+    let f : c.in_err-subtype.field-0.0 ≢ NoMemory → entering d.port c.args.sight.now (tree.port_view c.args.port.now) ≡ None =
     λ n. port_is s g c.args.number c.requires
     ∙ unknown (λ s. s.region) with_declared s (names_of g.names) (λ x. c.args.number) (port_class g) (ports_of g) (typed_port s g) (c.in_err-subtype.ensures.given n) in
     gives_none _ _ c.in_err-subtype.field-0.0 _ c.from_residual-in_err-subtype.result c.from_residual-in_err-subtype.ensures.1 (λ e p. p) f
 
 pub returns-clause-given : goal.returns-clause-given
 returns-clause-given c =
-    let s = sight_view c.args.sight.now in
+    let s = c.args.sight.now in
     let g = tree.port_view c.args.port.now in
-    let hid : more (sight_view c.args.sight.now).region (all_declared visibility.unfinished (names_of (tree.port_view c.args.port.now).names)) ≡ Some (region_view c.hide.new.region) =
-    ap (λ l. more (sight_view c.args.sight.now).region (all_declared visibility.unfinished (names_of (map ident_view l)))) (sym c.deref.ensures.value) ∙ c.in_ok-hide.ensures.given in
+    let hid : more c.args.sight.now.region (all_declared visibility.unfinished (names_of (tree.port_view c.args.port.now).names)) ≡ Some (region_view c.hide.new.region) =
+    ap (λ l. more c.args.sight.now.region (all_declared visibility.unfinished (names_of (map ident_view l)))) (sym c.deref.ensures.value) ∙ c.in_ok-hide.ensures.given in
     let size : c.len-first.result ≡ length (region_view c.args.sight.now.region) = c.len-first.ensures.len ∙ sym (length-map c.args.sight.now.region.entries entry_view) in
     let x : Subtype × ElementKind × Option Fixed = (subtype_view c.in_ok-subtype.subtype, c.in_ok-subtype.kind, option_map fixed_view c.in_ok-subtype.default) in
     port_is s g c.args.number c.requires
@@ -67,20 +67,20 @@ returns-clause-given c =
 
 pub returns-in_err-hide-clause-told : goal.returns-in_err-hide-clause-told
 returns-in_err-hide-clause-told c =
-    let s = sight_view c.args.sight.now in
+    let s = c.args.sight.now in
     let g = tree.port_view c.args.port.now in
-    let f : Tells (broken.port (sight_view c.args.sight.now) (tree.port_view c.args.port.now)) c.in_err-hide.field-0.0 =
+    let f : Tells (broken.port c.args.sight.now (tree.port_view c.args.port.now)) c.in_err-hide.field-0.0 =
     told_left (standing_twice s.region g.names) (broken.typed_port s g) c.in_err-hide.field-0.0
     (subst (λ l. Tells (standing_twice s.region (map ident_view l)) c.in_err-hide.field-0.0) c.deref.ensures.value c.in_err-hide.ensures.told) in
     passed_on _ c.in_err-hide.field-0.0 _ c.from_residual.result c.from_residual.ensures.1 (λ e p. p) f
 
 pub returns-in_err-subtype-clause-told : goal.returns-in_err-subtype-clause-told
 returns-in_err-subtype-clause-told c =
-    let s = sight_view c.args.sight.now in
+    let s = c.args.sight.now in
     let g = tree.port_view c.args.port.now in
-    let hid : more (sight_view c.args.sight.now).region (all_declared visibility.unfinished (names_of (tree.port_view c.args.port.now).names)) ≡ Some (region_view c.hide.new.region) =
-    ap (λ l. more (sight_view c.args.sight.now).region (all_declared visibility.unfinished (names_of (map ident_view l)))) (sym c.deref.ensures.value) ∙ c.in_ok-hide.ensures.given in
+    let hid : more c.args.sight.now.region (all_declared visibility.unfinished (names_of (tree.port_view c.args.port.now).names)) ≡ Some (region_view c.hide.new.region) =
+    ap (λ l. more c.args.sight.now.region (all_declared visibility.unfinished (names_of (map ident_view l)))) (sym c.deref.ensures.value) ∙ c.in_ok-hide.ensures.given in
     let once = standing_once s.region (all_declared visibility.unfinished (names_of g.names)) g.names (names-all visibility.unfinished (names_of g.names)) (region_view c.hide.new.region) hid in
-    let f : Tells (broken.port (sight_view c.args.sight.now) (tree.port_view c.args.port.now)) c.in_err-subtype.field-0.0 =
+    let f : Tells (broken.port c.args.sight.now (tree.port_view c.args.port.now)) c.in_err-subtype.field-0.0 =
     told_right (standing_twice s.region g.names) (broken.typed_port s g) c.in_err-subtype.field-0.0 once c.in_err-subtype.ensures.told in
     passed_on _ c.in_err-subtype.field-0.0 _ c.from_residual-in_err-subtype.result c.from_residual-in_err-subtype.ensures.1 (λ e p. p) f

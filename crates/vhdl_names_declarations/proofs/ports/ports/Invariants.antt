@@ -2,7 +2,6 @@ use Rattle.std.proofs.Common.{◌≡◌, map, drop}
 use Rattle.vhdl_names_rules.specs.Declarations.{in_order, port}
 use Rattle.vhdl_names_rules.specs.Visibility.{with_declared}
 use Rattle.vhdl_tree.specs.View.{port_view}
-use Rattle.vhdl_names_types.specs.Views.{sight_view, region_view}
 use Rattle.vhdl_names_units.specs.views.Declarations.{all_ports_view}
 use Rattle.vhdl_names_declarations.specs.Counts.{AreCounts}
 use Rattle.vhdl_names_rules.specs.declared.fault.NameFault.{NameFault}
@@ -15,7 +14,7 @@ use Rattle.vhdl_names_declarations.proofs.ports.ports.Given as goal
 -- what is left, on what is done, gives the whole; what is in the region is counted; nothing else in sight changes; what is told of what is left is told of the whole
 abbrev pub invariant-loop-one : goal.invariant-loop-one
 invariant-loop-one l =
-    (entering (in_order with_declared port) (sight_view l.initial.sight) (map port_view l.all) ≡ left port port_view (sight_view l.sight) (all_ports_view l.done) l.all l.one-index)
-    × AreCounts l.counts (region_view l.sight.region)
+    (entering (in_order with_declared port) l.initial.sight (map port_view l.all) ≡ left port port_view l.sight (all_ports_view l.done) l.all l.one-index)
+    × AreCounts l.counts l.sight.region
     × (l.sight ≡ record l.initial.sight { region = l.sight.region })
-    × ((f : NameFault) → Tells (interfaces_broken.ports (sight_view l.sight) (map port_view (drop l.one-index l.all))) f → Tells (interfaces_broken.ports (sight_view l.initial.sight) (map port_view l.all)) f)
+    × ((f : NameFault) → Tells (interfaces_broken.ports l.sight (map port_view (drop l.one-index l.all))) f → Tells (interfaces_broken.ports l.initial.sight (map port_view l.all)) f)

@@ -1,7 +1,6 @@
 use Rattle.std.proofs.Common.{option_map, option_copied, ap, sym, ◌∙◌}
 use Rattle.vhdl_tree.specs.View.{view, name_view}
 use Rattle.vhdl_names_types.proofs.Along.{gives_along}
-use Rattle.vhdl_names_types.specs.Views.{sight_view}
 use Rattle.vhdl_names_expressions.proofs.Choosing.{chosen_by, chosen_is}
 use Rattle.vhdl_names_units.specs.views.Answers.{choice_view}
 use Rattle.vhdl_names_expressions.proofs.Breaking.{told_as}
@@ -10,7 +9,7 @@ use Rattle.vhdl_names_expressions.proofs.alternatives.chosen.Goals as goal
 
 pub returns-in-Some-clause-given : goal.returns-in-Some-clause-given
 returns-in-Some-clause-given c =
-    let s = sight_view c.args.sight.now in
+    let s = c.args.sight.now in
     let e = view c.args.e.now in
     gives_along choice_view _ _ _
     (chosen_is s c.args.object_type e
@@ -19,7 +18,7 @@ returns-in-Some-clause-given c =
 
 pub returns-in-None-clause-given : goal.returns-in-None-clause-given
 returns-in-None-clause-given c =
-    let s = sight_view c.args.sight.now in
+    let s = c.args.sight.now in
     let e = view c.args.e.now in
     gives_along choice_view _ _ _
     (chosen_is s c.args.object_type e
@@ -28,7 +27,7 @@ returns-in-None-clause-given c =
 
 pub returns-in-Some-clause-told : goal.returns-in-Some-clause-told
 returns-in-Some-clause-told c =
-    let s = sight_view c.args.sight.now in
+    let s = c.args.sight.now in
     let e = view c.args.e.now in
     told_as _ _ _
     (sym
@@ -38,7 +37,7 @@ returns-in-Some-clause-told c =
 
 pub returns-in-None-clause-told : goal.returns-in-None-clause-told
 returns-in-None-clause-told c =
-    let s = sight_view c.args.sight.now in
+    let s = c.args.sight.now in
     let e = view c.args.e.now in
     told_as _ _ _
     (sym

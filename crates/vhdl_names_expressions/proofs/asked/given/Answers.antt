@@ -4,7 +4,7 @@ use Rattle.vhdl_names_rules.specs.declared.fault.NameProblem.TheVariants.{TypeMi
 use Rattle.vhdl_names_rules.specs.Expressions as are
 use Rattle.vhdl_names_rules.specs.Expressions.{as_value, as_filled}
 use Rattle.vhdl_names_units.specs.views.Answers.{given_view}
-use Rattle.vhdl_names_types.specs.Views.{sight_view, typed_view}
+use Rattle.vhdl_names_types.specs.Views.{typed_view}
 use Rattle.vhdl_names_rules.specs.problems.Broken.{Tells, ◌▸◌, unless, lacking, where_given}
 use Rattle.vhdl_names_rules.specs.problems.Places.{start}
 use Rattle.vhdl_names_rules.specs.problems.Expressions as broken
@@ -17,7 +17,7 @@ use Rattle.vhdl_names_expressions.proofs.asked.given.Goals as goal
 
 pub returns-in_err-operand-in-Expr-clause-told : goal.returns-in_err-operand-in-Expr-clause-told
 returns-in_err-operand-in-Expr-clause-told c =
-    let s = sight_view c.args.sight.now in
+    let s = c.args.sight.now in
     let e = view c.in-Expr.e in
     let f : Tells (broken.value_given s c.args.object_type (value_view c.args.value.now)) c.in_err-operand-in-Expr.field-0.0 =
     told_same _ _ c.in_err-operand-in-Expr.field-0.0 (sym (ap (λ v. broken.value_given s c.args.object_type (value_view v)) c.in-Expr.is))
@@ -27,7 +27,7 @@ returns-in_err-operand-in-Expr-clause-told c =
 
 pub returns-in_ok-operand-in-Expr-clause-told : goal.returns-in_ok-operand-in-Expr-clause-told
 returns-in_ok-operand-in-Expr-clause-told c =
-    let s = sight_view c.args.sight.now in
+    let s = c.args.sight.now in
     let e = view c.in-Expr.e in
     told_as _ _ _ (sym (ap (λ v. broken.value_given s c.args.object_type (value_view v)) c.in-Expr.is))
     (wanted_told (broken.typed s e) (are.typed s e) TypeMismatch _ (start e) (as_value c.args.object_type) given_view (typed_view c.in_ok-operand-in-Expr.operand) _
@@ -36,7 +36,7 @@ returns-in_ok-operand-in-Expr-clause-told c =
 
 pub returns-in_err-operand-in-Others-clause-told : goal.returns-in_err-operand-in-Others-clause-told
 returns-in_err-operand-in-Others-clause-told c =
-    let s = sight_view c.args.sight.now in
+    let s = c.args.sight.now in
     let e = view c.in-Others.element in
     let f : Tells (broken.value_given s c.args.object_type (value_view c.args.value.now)) c.in_err-operand-in-Others.field-0.0 =
     told_same _ _ c.in_err-operand-in-Others.field-0.0 (sym (ap (λ v. broken.value_given s c.args.object_type (value_view v)) c.in-Others.is))
@@ -47,7 +47,7 @@ returns-in_err-operand-in-Others-clause-told c =
 
 pub returns-in_ok-operand-in-Others-clause-told : goal.returns-in_ok-operand-in-Others-clause-told
 returns-in_ok-operand-in-Others-clause-told c =
-    let s = sight_view c.args.sight.now in
+    let s = c.args.sight.now in
     let e = view c.in-Others.element in
     let x = typed_view c.in_ok-operand-in-Others.operand in
     told_as _ _ _ (sym (ap (λ v. broken.value_given s c.args.object_type (value_view v)) c.in-Others.is))

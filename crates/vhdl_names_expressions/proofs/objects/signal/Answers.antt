@@ -4,7 +4,7 @@ use Rattle.vhdl_names_rules.specs.declared.fault.NameFault.TheVariants.{At}
 use Rattle.vhdl_names_rules.specs.declared.fault.NameProblem.TheVariants.{LeftOut}
 use Rattle.vhdl_names_rules.specs.Statements.{as_signal}
 use Rattle.vhdl_names_units.specs.views.Answers.{signal_name_view}
-use Rattle.vhdl_names_types.specs.Views.{sight_view, meaning_view, typed_suffix_view}
+use Rattle.vhdl_names_types.specs.Views.{meaning_view, typed_suffix_view}
 use Rattle.vhdl_names_rules.specs.problems.Broken.{Tells, refused, lacking}
 use Rattle.vhdl_names_rules.specs.problems.Statements.{signal_problem}
 use Rattle.vhdl_names_rules.specs.problems.Statements as broken
@@ -16,7 +16,7 @@ use Rattle.vhdl_names_expressions.proofs.objects.signal.Goals as goal
 
 pub returns-in_err-meaning-clause-told : goal.returns-in_err-meaning-clause-told
 returns-in_err-meaning-clause-told c =
-    let s = sight_view c.args.sight.now in
+    let s = c.args.sight.now in
     let n = name_view c.args.name.now in
     let f : Tells (broken.signal s n) c.in_err-meaning.field-0.0 =
     object_told s n (λ d x. lacking (signal_problem d) n.identifier.at (as_signal n.identifier.at d x)) c.in_err-meaning.field-0.0
@@ -25,7 +25,7 @@ returns-in_err-meaning-clause-told c =
 
 pub returns-in_err-suffix-clause-told : goal.returns-in_err-suffix-clause-told
 returns-in_err-suffix-clause-told c =
-    let s = sight_view c.args.sight.now in
+    let s = c.args.sight.now in
     let n = name_view c.args.name.now in
     let f : Tells (broken.signal s n) c.in_err-suffix.field-0.0 =
     object_told s n (λ d x. lacking (signal_problem d) n.identifier.at (as_signal n.identifier.at d x)) c.in_err-suffix.field-0.0
@@ -35,7 +35,7 @@ returns-in_err-suffix-clause-told c =
 
 pub returns-in-Some-clause-told : goal.returns-in-Some-clause-told
 returns-in-Some-clause-told c =
-    let s = sight_view c.args.sight.now in
+    let s = c.args.sight.now in
     let n = name_view c.args.name.now in
     object_told s n (λ d x. lacking (signal_problem d) n.identifier.at (as_signal n.identifier.at d x)) c.at.result
     (name_attribute s n.identifier n.suffix n.attribute (λ d x. lacking (signal_problem d) n.identifier.at (as_signal n.identifier.at d x)) (meaning_view c.in_ok-meaning.meaning.now) (typed_suffix_view c.in_ok-suffix.suffix)
@@ -44,7 +44,7 @@ returns-in-Some-clause-told c =
 
 pub returns-clause-told : goal.returns-clause-told
 returns-clause-told c =
-    let s = sight_view c.args.sight.now in
+    let s = c.args.sight.now in
     let n = name_view c.args.name.now in
     let d = meaning_view c.in_ok-meaning.meaning.now in
     let x = typed_suffix_view c.in_ok-suffix.suffix in

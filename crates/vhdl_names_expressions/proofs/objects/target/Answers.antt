@@ -8,7 +8,6 @@ use Rattle.vhdl_names_rules.specs.declared.fault.NameProblem.TheVariants.{WriteO
 use Rattle.vhdl_names_rules.specs.Statements as are
 use Rattle.vhdl_names_rules.specs.Statements.{is_input}
 use Rattle.vhdl_names_units.specs.views.Answers.{signal_name_view}
-use Rattle.vhdl_names_types.specs.Views.{sight_view}
 use Rattle.vhdl_names_rules.specs.problems.Broken.{Tells, unless, where_given}
 use Rattle.vhdl_names_rules.specs.problems.Statements as broken
 use Rattle.vhdl_names_rules.proofs.Telling.{told_left, told_right, told_given}
@@ -19,7 +18,7 @@ use Rattle.vhdl_names_expressions.proofs.objects.target.Goals as goal
 
 pub returns-in_err-target-clause-told : goal.returns-in_err-target-clause-told
 returns-in_err-target-clause-told c =
-    let s = sight_view c.args.sight.now in
+    let s = c.args.sight.now in
     let n = name_view c.args.name.now in
     let f : Tells (broken.target s n) c.in_err-target.field-0.0 =
     told_left (broken.signal s n) (where_given (are.signal s n) (λ x. unless WriteOfIn n.identifier.at (not (is_input x.mode)))) c.in_err-target.field-0.0 c.in_err-target.ensures.told in
@@ -27,7 +26,7 @@ returns-in_err-target-clause-told c =
 
 pub returns-in-Some-In-clause-told : goal.returns-in-Some-In-clause-told
 returns-in-Some-In-clause-told c =
-    let s = sight_view c.args.sight.now in
+    let s = c.args.sight.now in
     let n = name_view c.args.name.now in
     let is : c.in_ok-target.target.mode ≡ Some In = first_of (cc, search rules, grind (arith, common_steps)) in
     told_right (broken.signal s n) (where_given (are.signal s n) (λ x. unless WriteOfIn n.identifier.at (not (is_input x.mode)))) c.at.result

@@ -1,6 +1,6 @@
 use Rattle.std.proofs.Common.{Some, ap}
 use Rattle.vhdl_tree.specs.View.{range_view}
-use Rattle.vhdl_names_types.specs.Views.{sight_view, meaning_view}
+use Rattle.vhdl_names_types.specs.Views.{meaning_view}
 use Rattle.vhdl_names_rules.specs.problems.Broken.{Tells, ◌▸◌, unless}
 use Rattle.vhdl_names_rules.specs.problems.Expressions.{static_range}
 use Rattle.vhdl_names_rules.specs.problems.Subtypes.{mark_problem, is_marked}
@@ -12,7 +12,7 @@ use Rattle.vhdl_names_expressions.proofs.subtypes.ranged.Goals as goal
 
 pub returns-in_err-range-in-VectorType-clause-told : goal.returns-in_err-range-in-VectorType-clause-told
 returns-in_err-range-in-VectorType-clause-told c =
-    let s = sight_view c.args.sight.now in
+    let s = c.args.sight.now in
     let d = meaning_view c.args.meaning.now in
     let r = range_view c.args.range.now in
     let f : Tells (unless (mark_problem d) c.args.at (is_marked d (Some r)) ▸ static_range s r) c.in_err-range-in-VectorType.field-0.0 =
@@ -25,7 +25,7 @@ returns-in_default-clause-given c = λ n. no_range c.args.meaning.now c.in_defau
 
 pub returns-in_default-clause-told : goal.returns-in_default-clause-told
 returns-in_default-clause-told c =
-    let s = sight_view c.args.sight.now in
+    let s = c.args.sight.now in
     let d = meaning_view c.args.meaning.now in
     let r = range_view c.args.range.now in
     told_left (unless (mark_problem d) c.args.at (is_marked d (Some r))) (static_range s r) c.at.result

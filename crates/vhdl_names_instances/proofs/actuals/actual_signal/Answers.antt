@@ -6,7 +6,6 @@ use Rattle.vhdl_names_rules.specs.problems.Broken.{◌▸◌, refused}
 use Rattle.vhdl_names_rules.specs.problems.Instances.{actual_signal}
 use Rattle.vhdl_names_rules.specs.problems.Statements.{named, signal}
 use Rattle.vhdl_names_rules.proofs.Telling.{told_on, told_same}
-use Rattle.vhdl_names_types.specs.Views.{sight_view}
 use Rattle.vhdl_names_instances.proofs.actuals.actual_signal.Goals as goal
 
 pub returns-then-names_value-clause-given : goal.returns-then-names_value-clause-given
@@ -14,7 +13,7 @@ returns-then-names_value-clause-given c = c.signal_of_value.ensures.given (sym c
 
 pub returns-then-names_value-clause-told : goal.returns-then-names_value-clause-told
 returns-then-names_value-clause-told c =
-    let s = sight_view c.args.sight.now in
+    let s = c.args.sight.now in
     let n = name_view c.args.name.now in
     let is = sym c.names_value.ensures ∙ c.if-names_value.true in
     told_on (named s n ▸ refused LeftOut n.identifier.at) (actual_signal s n) c.signal_of_value.result
@@ -24,7 +23,7 @@ returns-then-names_value-clause-told c =
 
 pub returns-else-names_value-clause-told : goal.returns-else-names_value-clause-told
 returns-else-names_value-clause-told c =
-    let s = sight_view c.args.sight.now in
+    let s = c.args.sight.now in
     let n = name_view c.args.name.now in
     let is = sym c.names_value.ensures ∙ c.if-names_value.false in
     told_on (signal s n) (actual_signal s n) c.signal.result

@@ -4,7 +4,6 @@ use Rattle.std.proofs.lemmas.List.{at_drop_all, length_push, map-append}
 use Rattle.vhdl_names_rules.specs.declared.fault.NameFault.TheVariants.{NoMemory}
 use Rattle.vhdl_names_rules.specs.views.Vectors.{place_view}
 use Rattle.vhdl_names_units.specs.views.Actuals.{each_actual}
-use Rattle.vhdl_names_types.specs.Views.{sight_view}
 use Rattle.vhdl_names_expressions.proofs.Each.{behind, none_behind}
 use Rattle.vhdl_names_instances.specs.Views.{actual_view, places_view}
 use Rattle.vhdl_names_instances.specs.steps.Actuals as steps
@@ -14,7 +13,7 @@ use Rattle.vhdl_names_instances.proofs.actuals.port_actuals.Goals as goal
 
 pub returns-in_err-entry : goal.returns-in_err-entry
 returns-in_err-entry c =
-    let s = sight_view c.args.sight.now in
+    let s = c.args.sight.now in
     let es = map actual_view c.args.actuals.now in
     let f : c.in_err-entry.field-0.0 ≢ NoMemory → steps.port_actuals s c.args.ports.now es ≡ None =
     λ n. port_fails s _ _ c.args.ports.now es c.loop-index.index c.loop-index.invariant.rest (c.in_err-entry.ensures n) in
@@ -22,14 +21,14 @@ returns-in_err-entry c =
 
 pub returns-in-None : goal.returns-in-None
 returns-in-None c =
-    let s = sight_view c.args.sight.now in
+    let s = c.args.sight.now in
     let es = map actual_view c.args.actuals.now in
     actuals_end s _ _ c.args.ports.now es c.loop-index.index c.loop-index.invariant.rest
     (c.in_ok-entry.ensures ∙ ap (λ o. Some (option_map (option_map place_view) o)) c.in-None.is)
 
 pub loop-index-init : goal.loop-index-init
 loop-index-init c =
-    let all = steps.port_actuals (sight_view c.args.sight.now) c.args.ports.now (map actual_view c.args.actuals.now) in
+    let all = steps.port_actuals c.args.sight.now c.args.ports.now (map actual_view c.args.actuals.now) in
     record {
       rest = none_behind all ∙ ap (λ xs. behind (map (option_map place_view) xs) all) (sym c.none-all.ensures);
       long = ap length c.none-all.ensures;
@@ -37,7 +36,7 @@ loop-index-init c =
 
 pub loop-index-preserved : goal.loop-index-preserved
 loop-index-preserved c =
-    let s = sight_view c.args.sight.now in
+    let s = c.args.sight.now in
     let ps = c.args.ports.now in
     let es = map actual_view c.args.actuals.now in
     let x = option_map place_view c.in-Some.actual in
@@ -54,7 +53,7 @@ loop-index-preserved c =
 
 pub returns : goal.returns
 returns c =
-    let s = sight_view c.args.sight.now in
+    let s = c.args.sight.now in
     let es = drop c.loop-index.index (map actual_view c.args.actuals.now) in
     let past : length c.args.ports.now ≤ c.loop-index.index = omega arith in
     let ys = places_view c.loop-index.all in

@@ -1,6 +1,5 @@
 use Rattle.std.proofs.Common.{◌≡◌, length, map, drop}
 use Rattle.vhdl_names_units.specs.views.Actuals.{each_actual}
-use Rattle.vhdl_names_types.specs.Views.{sight_view}
 use Rattle.vhdl_names_expressions.proofs.Each.{behind}
 use Rattle.vhdl_names_instances.specs.Views.{actual_view, places_view}
 use Rattle.vhdl_names_instances.specs.steps.Actuals as steps
@@ -8,7 +7,7 @@ use Rattle.vhdl_names_instances.proofs.actuals.port_actuals.Given as goal
 
 abbrev pub invariant-loop-index : goal.invariant-loop-index
 invariant-loop-index l = record {
-  rest : steps.port_actuals (sight_view l.sight) l.ports (map actual_view l.actuals)
-      ≡ behind (places_view l.all) (steps.port_actuals (sight_view l.sight) (drop l.index l.ports) (drop l.index (map actual_view l.actuals)));
+  rest : steps.port_actuals l.sight l.ports (map actual_view l.actuals)
+      ≡ behind (places_view l.all) (steps.port_actuals l.sight (drop l.index l.ports) (drop l.index (map actual_view l.actuals)));
   long : length (each_actual l.all) ≡ l.index;
 }

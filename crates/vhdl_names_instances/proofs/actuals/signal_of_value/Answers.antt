@@ -4,7 +4,7 @@ use Rattle.vhdl_names_rules.specs.declared.fault.NameProblem.TheVariants.{LeftOu
 use Rattle.vhdl_names_rules.specs.Statements.{signal}
 use Rattle.vhdl_names_rules.specs.problems.Broken.{Tells, ◌▸◌, refused}
 use Rattle.vhdl_names_rules.specs.problems.Statements.{named}
-use Rattle.vhdl_names_types.specs.Views.{sight_view, typed_suffix_view}
+use Rattle.vhdl_names_types.specs.Views.{typed_suffix_view}
 use Rattle.vhdl_names_units.specs.views.Answers.{signal_name_view}
 use Rattle.vhdl_names_instances.proofs.Actual.{value_is_no_signal, suffix_told, value_told}
 use Rattle.vhdl_names_instances.proofs.Told.{passed_told, refused_gives}
@@ -12,21 +12,21 @@ use Rattle.vhdl_names_instances.proofs.actuals.signal_of_value.Goals as goal
 
 pub returns-in_err-typed_suffix-clause-given : goal.returns-in_err-typed_suffix-clause-given
 returns-in_err-typed_suffix-clause-given c = λ h.
-    let s = sight_view c.args.sight.now in
+    let s = c.args.sight.now in
     let n = name_view c.args.name.now in
     refused_gives signal_name_view (signal s n) _ c.from_residual.result c.from_residual.ensures.1 (value_is_no_signal s n h)
 
 pub returns-in_err-typed_suffix-clause-told : goal.returns-in_err-typed_suffix-clause-told
 returns-in_err-typed_suffix-clause-told c = λ h.
-    let s = sight_view c.args.sight.now in
+    let s = c.args.sight.now in
     let n = name_view c.args.name.now in
     passed_told (named s n ▸ refused LeftOut n.identifier.at) c.in_err-typed_suffix.field-0.0 _ c.from_residual.result c.from_residual.ensures.1 (λ e p. p)
     (suffix_told s n c.in_err-typed_suffix.field-0.0 h c.in_err-typed_suffix.ensures.told)
 
 pub returns-clause-given : goal.returns-clause-given
-returns-clause-given c = λ h n. value_is_no_signal (sight_view c.args.sight.now) (name_view c.args.name.now) h
+returns-clause-given c = λ h n. value_is_no_signal c.args.sight.now (name_view c.args.name.now) h
 
 pub returns-clause-told : goal.returns-clause-told
 returns-clause-told c = λ h.
-    value_told (sight_view c.args.sight.now) (name_view c.args.name.now) c.at.result c.left_out_place.result h (typed_suffix_view c.in_ok-typed_suffix.field-0) c.in_ok-typed_suffix.ensures.given
+    value_told c.args.sight.now (name_view c.args.name.now) c.at.result c.left_out_place.result h (typed_suffix_view c.in_ok-typed_suffix.field-0) c.in_ok-typed_suffix.ensures.given
     c.left_out_place.ensures (subst (Tells (refused LeftOut c.left_out_place.result)) (sym c.at.ensures) refl)

@@ -5,7 +5,6 @@ use Rattle.vhdl_names_rules.specs.problems.Instances as broken
 use Rattle.vhdl_names_instances.proofs.Told.{passed_told}
 use Rattle.vhdl_names_instances.proofs.Instanced.{unit_told, unseen_told, maps_told, of_each}
 use Rattle.vhdl_tree.specs.View as tree
-use Rattle.vhdl_names_types.specs.Views.{sight_view}
 use Rattle.vhdl_names_types.proofs.Along.{gives_along}
 use Rattle.vhdl_names_units.specs.views.Concurrent.{instance_view}
 use Rattle.vhdl_names_units.specs.Once.{names_view}
@@ -17,14 +16,14 @@ pub returns-in-Some-clause-given : goal.returns-in-Some-clause-given
 returns-in-Some-clause-given c =
     let e = c.args.entities.now in
     gives_along instance_view _ _ _
-    (instance_seen (names_view e.names) (seens_view e.formals) (sight_view c.args.sight.now) (tree.ident_view c.args.label.now)
+    (instance_seen (names_view e.names) (seens_view e.formals) c.args.sight.now (tree.ident_view c.args.label.now)
     (tree.instance_view c.args.instance.now) c.in_ok-unit.unit (seen_view c.in-Some.formals.now) c.in_ok-unit.ensures.given c.in-Some.ensures)
     c.with_formals.ensures.given
 
 pub returns-in_err-unit-clause-told : goal.returns-in_err-unit-clause-told
 returns-in_err-unit-clause-told c = λ es are.
     let e = c.args.entities.now in
-    let s = sight_view c.args.sight.now in
+    let s = c.args.sight.now in
     let l = tree.ident_view c.args.label.now in
     let i = tree.instance_view c.args.instance.now in
     passed_told (broken.instance es s l i) c.in_err-unit.field-0.0 _ c.from_residual.result c.from_residual.ensures.1 (λ e p. p)
@@ -33,7 +32,7 @@ returns-in_err-unit-clause-told c = λ es are.
 pub returns-in-None-clause-told : goal.returns-in-None-clause-told
 returns-in-None-clause-told c = λ es are.
     let e = c.args.entities.now in
-    let s = sight_view c.args.sight.now in
+    let s = c.args.sight.now in
     let l = tree.ident_view c.args.label.now in
     let i = tree.instance_view c.args.instance.now in
     unseen_told e es are s l i c.at.result c.in_ok-unit.unit c.in_ok-unit.ensures.given (sym c.in-None.ensures) (subst (Tells (refused Undeclared c.args.label.now.at)) (sym c.at.ensures) refl)
@@ -41,7 +40,7 @@ returns-in-None-clause-told c = λ es are.
 pub returns-in-Some-clause-told : goal.returns-in-Some-clause-told
 returns-in-Some-clause-told c = λ es are.
     let e = c.args.entities.now in
-    let s = sight_view c.args.sight.now in
+    let s = c.args.sight.now in
     let l = tree.ident_view c.args.label.now in
     let i = tree.instance_view c.args.instance.now in
     of_each (broken.instance es s l i) c.with_formals.result

@@ -12,7 +12,7 @@ use Rattle.vhdl_names_instances.specs.Breaking as breaking
 use Rattle.vhdl_names_instances.proofs.Told.{told_along, passed_told}
 use Rattle.vhdl_names_instances.proofs.Instanced.{entity_of_told}
 use Rattle.vhdl_tree.specs.View as tree
-use Rattle.vhdl_names_types.specs.Views.{sight_view, meaning_view}
+use Rattle.vhdl_names_types.specs.Views.{meaning_view}
 use Rattle.vhdl_names_types.proofs.Along.{gives_along}
 use Rattle.vhdl_names_units.specs.Once.{names_view}
 use Rattle.vhdl_names_instances.specs.Table.{seens_view}
@@ -23,13 +23,13 @@ pub returns-in-Entity-clause-given : goal.returns-in-Entity-clause-given
 returns-in-Entity-clause-given c =
     let e = c.args.entities.now in
     gives_along (λ k. k) _ _ _
-    (ap (λ u. steps.instantiated (names_view e.names) (seens_view e.formals) (sight_view c.args.sight.now) (tree.instantiated_view u)) c.in-Entity.is)
+    (ap (λ u. steps.instantiated (names_view e.names) (seens_view e.formals) c.args.sight.now (tree.instantiated_view u)) c.in-Entity.is)
     c.entity_of.ensures.given
 
 pub returns-in-Entity-clause-told : goal.returns-in-Entity-clause-told
 returns-in-Entity-clause-told c = λ es are.
     let e = c.args.entities.now in
-    let s = sight_view c.args.sight.now in
+    let s = c.args.sight.now in
     let library = tree.ident_view c.in-Entity.library in
     let name = tree.ident_view c.in-Entity.name in
     let a = option_map tree.ident_view c.in-Entity.architecture in
@@ -39,7 +39,7 @@ returns-in-Entity-clause-told c = λ es are.
 
 pub returns-in_err-meaning-in-Component-clause-told : goal.returns-in_err-meaning-in-Component-clause-told
 returns-in_err-meaning-in-Component-clause-told c = λ es are.
-    let s = sight_view c.args.sight.now in
+    let s = c.args.sight.now in
     let n = tree.ident_view c.in-Component.name in
     let fault = c.in_err-meaning-in-Component.field-0.0 in
     passed_told (broken.instantiated es s (tree.instantiated_view c.args.unit.now)) fault _ c.from_residual.result c.from_residual.ensures.1 (λ e p. p)
@@ -48,7 +48,7 @@ returns-in_err-meaning-in-Component-clause-told c = λ es are.
 
 pub returns-in_ok-meaning-in-Component-clause-told : goal.returns-in_ok-meaning-in-Component-clause-told
 returns-in_ok-meaning-in-Component-clause-told c = λ es are.
-    let s = sight_view c.args.sight.now in
+    let s = c.args.sight.now in
     let n = tree.ident_view c.in-Component.name in
     let m = meaning_view c.in_ok-meaning-in-Component.meaning.now in
     told_on (lacking WrongKind n.at (as_component m)) (broken.instantiated es s (tree.instantiated_view c.args.unit.now)) c.as_component.result

@@ -6,7 +6,6 @@ use Rattle.vhdl_names_units.specs.Once.{names_view}
 use Rattle.vhdl_names_rules.specs.problems.Broken.{Broken}
 use Rattle.vhdl_names_rules.specs.problems.Expressions.{static}
 use Rattle.vhdl_names_rules.specs.problems.Instances.{associations, generic_map}
-use Rattle.vhdl_names_types.specs.Views.{sight_view}
 use Rattle.vhdl_names_instances.specs.Table.{items}
 use Rattle.vhdl_names_instances.specs.steps.Maps.{is_static, reading}
 use Rattle.vhdl_names_instances.proofs.Porting.{static_keeps, generics_given}
@@ -16,7 +15,7 @@ use Rattle.vhdl_names_instances.proofs.maps.generic_map.Goals as goal
 
 pub loop-index-init : goal.loop-index-init
 loop-index-init c =
-    let s = sight_view c.args.sight.now in
+    let s = c.args.sight.now in
     let fs = names_view c.args.formals.now in
     let as' = map association_view c.args.list.now in
     let none = sym (ap (map items) c.new-taken.ensures.empty) in
@@ -24,7 +23,7 @@ loop-index-init c =
 
 pub returns-in_err-read_generic-clause-told : goal.returns-in_err-read_generic-clause-told
 returns-in_err-read_generic-clause-told c =
-    let s = sight_view c.args.sight.now in
+    let s = c.args.sight.now in
     let fs = names_view c.args.formals.now in
     let actual : Name → Expr → Broken = λ n e. static s e in
     let whole = generic_map s fs (map association_view c.args.list.now) in
@@ -36,7 +35,7 @@ returns-in_err-read_generic-clause-told c =
 
 pub loop-index-preserved : goal.loop-index-preserved
 loop-index-preserved c =
-    let s = sight_view c.args.sight.now in
+    let s = c.args.sight.now in
     let fs = names_view c.args.formals.now in
     let actual : Name → Expr → Broken = λ n e. static s e in
     let cs = c.args.list.now in
@@ -53,12 +52,12 @@ loop-index-preserved c =
 pub returns-clause-kept : goal.returns-clause-kept
 returns-clause-kept c =
     let le : length c.args.list.now ≤ c.loop-index.index = omega arith in
-    broken_end (names_view c.args.formals.now) (λ n e. static (sight_view c.args.sight.now) e) c.args.list.now c.loop-index.index c.loop-index.is_behind_named (names_view c.loop-index.taken) _ le
+    broken_end (names_view c.args.formals.now) (λ n e. static c.args.sight.now e) c.args.list.now c.loop-index.index c.loop-index.is_behind_named (names_view c.loop-index.taken) _ le
     c.loop-index.invariant.0
 
 pub returns-clause-given : goal.returns-clause-given
 returns-clause-given c =
-    let s = sight_view c.args.sight.now in
+    let s = c.args.sight.now in
     let fs = names_view c.args.formals.now in
     let ts = names_view c.loop-index.taken in
     let le : length c.args.list.now ≤ c.loop-index.index = omega arith in

@@ -5,7 +5,6 @@ use Rattle.vhdl_names_rules.specs.Instances.{port_formal}
 use Rattle.vhdl_names_rules.specs.Rules.{all_of}
 use Rattle.vhdl_names_rules.specs.problems.Instances as broken
 use Rattle.vhdl_names_rules.proofs.Telling.{told_on}
-use Rattle.vhdl_names_types.specs.Views.{sight_view}
 use Rattle.vhdl_names_instances.specs.Table.{Seen, seen_view}
 use Rattle.vhdl_names_instances.proofs.Told.{passed_told, ok_on}
 use Rattle.vhdl_names_instances.proofs.Mapping.{generic_map_told, port_map_told, maps_given}
@@ -13,14 +12,14 @@ use Rattle.vhdl_names_instances.proofs.maps.maps.Goals as goal
 
 pub returns-in_err-generic_map-clause-told : goal.returns-in_err-generic_map-clause-told
 returns-in_err-generic_map-clause-told c = λ e h.
-    let s = sight_view c.args.sight.now in
+    let s = c.args.sight.now in
     let i = tree.instance_view c.args.instance.now in
     passed_told (broken.maps s e i) c.in_err-generic_map.field-0.0 _ c.from_residual.result c.from_residual.ensures.1 (λ e p. p)
     (generic_map_told s e (seen_view c.args.formals.now) h i c.in_err-generic_map.field-0.0 (map tree.association_view c.listed.result.now) c.listed.ensures c.in_err-generic_map.ensures.told)
 
 pub returns-clause-told : goal.returns-clause-told
 returns-clause-told c = λ e h.
-    let s = sight_view c.args.sight.now in
+    let s = c.args.sight.now in
     let i = tree.instance_view c.args.instance.now in
     let bs = map tree.association_view c.listed-2.result.now in
     let fs = filter_map port_formal e.interface.declared in
@@ -30,7 +29,7 @@ returns-clause-told c = λ e h.
 
 pub returns-clause-given : goal.returns-clause-given
 returns-clause-given c = λ e h label unit.
-    let s = sight_view c.args.sight.now in
+    let s = c.args.sight.now in
     let i = tree.instance_view c.args.instance.now in
     let as' = map tree.association_view c.listed.result.now in
     let bs = map tree.association_view c.listed-2.result.now in

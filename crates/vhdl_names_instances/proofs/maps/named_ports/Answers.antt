@@ -1,6 +1,5 @@
 use Rattle.std.proofs.Common.{arith, ◌<◌, ◌≤◌, length, refl, subst}
 use Rattle.vhdl_tree.specs.View.{view}
-use Rattle.vhdl_names_types.specs.Views.{sight_view}
 use Rattle.vhdl_names_instances.proofs.Porting.{of_ports, within, port_told, ports_go, fits_go, fits_end}
 use Rattle.vhdl_names_instances.proofs.Told.{passed_told}
 use Rattle.vhdl_names_instances.proofs.maps.named_ports.Goals as goal
@@ -10,7 +9,7 @@ loop-index-init c = λ all h k. (refl, refl)
 
 pub returns-in_err-one_port-clause-told : goal.returns-in_err-one_port-clause-told
 returns-in_err-one_port-clause-told c = λ all h k.
-    let s = sight_view c.args.sight.now in
+    let s = c.args.sight.now in
     let n = c.args.name.now in
     let e = view c.args.e.now in
     let i = c.loop-index.index in
@@ -22,7 +21,7 @@ returns-in_err-one_port-clause-told c = λ all h k.
 
 pub loop-index-preserved : goal.loop-index-preserved
 loop-index-preserved c = λ all h k.
-    let s = sight_view c.args.sight.now in
+    let s = c.args.sight.now in
     let n = c.args.name.now in
     let e = view c.args.e.now in
     let i = c.loop-index.index in
@@ -37,4 +36,4 @@ returns-clause-fits c = λ all h k.
     let i = c.loop-index.index in
     let behind : length c.args.formals.now.ports.keys ≤ c.loop-index.index = omega arith in
     let le = subst (λ m. m ≤ i) (within all c.args.formals.now.ports.keys h) behind in
-    fits_end (sight_view c.args.sight.now) c.args.name.now (view c.args.e.now) all i _ le (c.loop-index.invariant all h k).1
+    fits_end c.args.sight.now c.args.name.now (view c.args.e.now) all i _ le (c.loop-index.invariant all h k).1

@@ -2,7 +2,6 @@ use Rattle.std.proofs.Common.{◌≡◌, List, map, drop}
 use Rattle.vhdl_tree.specs.View.{view}
 use Rattle.vhdl_names_rules.specs.Instances.{Formal}
 use Rattle.vhdl_names_units.specs.Once.{names_view}
-use Rattle.vhdl_names_types.specs.Views.{sight_view}
 use Rattle.vhdl_names_instances.specs.Table.{type_of}
 use Rattle.vhdl_names_instances.proofs.Porting.{of_ports, all_fit}
 use Rattle.vhdl_names_instances.proofs.maps.named_ports.Given as goal
@@ -10,5 +9,5 @@ use Rattle.vhdl_names_instances.proofs.maps.named_ports.Given as goal
 abbrev pub invariant-loop-index : goal.invariant-loop-index
 invariant-loop-index l =
     (all : List Formal) → names_view l.formals.ports ≡ map (λ (f : Formal). f.name) all → l.formals.port_types.items ≡ map type_of all
-    → (of_ports (sight_view l.sight) l.name (view l.e) all ≡ of_ports (sight_view l.sight) l.name (view l.e) (drop l.index all))
-    × (all_fit (sight_view l.sight) l.name (view l.e) all ≡ all_fit (sight_view l.sight) l.name (view l.e) (drop l.index all))
+    → (of_ports l.sight l.name (view l.e) all ≡ of_ports l.sight l.name (view l.e) (drop l.index all))
+    × (all_fit l.sight l.name (view l.e) all ≡ all_fit l.sight l.name (view l.e) (drop l.index all))

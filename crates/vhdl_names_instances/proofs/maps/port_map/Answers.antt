@@ -6,7 +6,6 @@ use Rattle.vhdl_names_rules.specs.Instances.{Formal}
 use Rattle.vhdl_names_units.specs.Once.{names_view}
 use Rattle.vhdl_names_rules.specs.problems.Broken.{Broken, any_of}
 use Rattle.vhdl_names_rules.specs.problems.Instances.{associations, port_actual, ports_named, port_map}
-use Rattle.vhdl_names_types.specs.Views.{sight_view}
 use Rattle.vhdl_names_instances.specs.Table.{items}
 use Rattle.vhdl_names_instances.specs.steps.Maps.{fits, reading}
 use Rattle.vhdl_names_instances.proofs.Porting.{port_keeps, ports_given}
@@ -16,7 +15,7 @@ use Rattle.vhdl_names_instances.proofs.maps.port_map.Goals as goal
 
 pub loop-index-init : goal.loop-index-init
 loop-index-init c = λ all h k.
-    let s = sight_view c.args.sight.now in
+    let s = c.args.sight.now in
     let fs = map (λ (f : Formal). f.name) all in
     let as' = map association_view c.args.list.now in
     let none = sym (ap (map items) c.new-taken.ensures.empty) in
@@ -24,7 +23,7 @@ loop-index-init c = λ all h k.
 
 pub returns-in_err-read_port-clause-told : goal.returns-in_err-read_port-clause-told
 returns-in_err-read_port-clause-told c = λ all h k.
-    let s = sight_view c.args.sight.now in
+    let s = c.args.sight.now in
     let fs = map (λ (f : Formal). f.name) all in
     let actual : Name → Expr → Broken = λ n e. any_of (λ f. port_actual s f e) (ports_named all n) in
     let whole = port_map s all (map association_view c.args.list.now) in
@@ -36,7 +35,7 @@ returns-in_err-read_port-clause-told c = λ all h k.
 
 pub loop-index-preserved : goal.loop-index-preserved
 loop-index-preserved c = λ all h k.
-    let s = sight_view c.args.sight.now in
+    let s = c.args.sight.now in
     let fs = map (λ (f : Formal). f.name) all in
     let actual : Name → Expr → Broken = λ n e. any_of (λ f. port_actual s f e) (ports_named all n) in
     let cs = c.args.list.now in
@@ -52,7 +51,7 @@ loop-index-preserved c = λ all h k.
 
 pub returns-clause-given : goal.returns-clause-given
 returns-clause-given c = λ all h k.
-    let s = sight_view c.args.sight.now in
+    let s = c.args.sight.now in
     let ts = names_view c.loop-index.taken in
     let le : length c.args.list.now ≤ c.loop-index.index = omega arith in
     ports_given s all (map association_view c.args.list.now) ts

@@ -8,7 +8,6 @@ use Rattle.vhdl_names_units.specs.Once.{names_view}
 use Rattle.vhdl_names_rules.specs.problems.Broken.{Broken, of_any}
 use Rattle.vhdl_names_rules.specs.problems.Expressions.{static}
 use Rattle.vhdl_names_rules.specs.problems.Instances.{association}
-use Rattle.vhdl_names_types.specs.Views.{sight_view}
 use Rattle.vhdl_names_instances.specs.steps.Maps.{is_static}
 use Rattle.vhdl_names_instances.proofs.Porting.{static_holds}
 use Rattle.vhdl_names_instances.proofs.Reading.{is_read, formal_told, actual_told, one_read_is}
@@ -20,7 +19,7 @@ returns-in_err-take-clause-told c =
     let fs = names_view c.args.formals.now in
     let ts = names_view c.args.taken.now in
     let a = association_view c.args.association.now in
-    let actual : Name → Expr → Broken = λ n e. static (sight_view c.args.sight.now) e in
+    let actual : Name → Expr → Broken = λ n e. static c.args.sight.now e in
     passed_told (association fs actual (drop c.args.index fs) c.args.is_behind_named ts a) c.in_err-take.field-0.0 _ c.from_residual.result c.from_residual.ensures.1 (λ e p. p)
     (formal_told fs actual c.args.index c.args.is_behind_named ts a c.in_err-take.field-0.0 c.in_err-take.ensures.told)
 
@@ -30,7 +29,7 @@ returns-in_err-generic_entry-clause-told c =
     let ts = names_view c.args.taken.now in
     let ts' = names_view c.take.new.taken in
     let a = association_view c.args.association.now in
-    let s = sight_view c.args.sight.now in
+    let s = c.args.sight.now in
     let actual : Name → Expr → Broken = λ n e. static s e in
     let fault = c.in_err-generic_entry.field-0.0 in
     let r = is_read fs c.args.index c.args.is_behind_named ts a ts' c.in_ok-take.ensures.given in
@@ -41,7 +40,7 @@ returns-in_err-generic_entry-clause-told c =
 
 pub returns-clause-read : goal.returns-clause-read
 returns-clause-read c =
-    let s = sight_view c.args.sight.now in
+    let s = c.args.sight.now in
     one_read_is (names_view c.args.formals.now) (is_static s) c.args.index c.args.is_behind_named (names_view c.args.taken.now) (association_view c.args.association.now)
     (names_view c.take.new.taken) c.in_ok-take.ensures.given
     (λ n e. static_holds s n _ _ (ap (if_any (rules.static s)) (sym c.expression_of.ensures) ∙ c.in_ok-generic_entry.ensures.given))

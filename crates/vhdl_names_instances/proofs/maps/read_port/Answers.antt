@@ -8,7 +8,6 @@ use Rattle.vhdl_names_units.specs.Once.{names_view}
 use Rattle.vhdl_names_rules.specs.problems.Broken.{Broken, any_of, of_any}
 use Rattle.vhdl_names_rules.specs.problems.Instances.{association, port_actual, ports_named}
 use Rattle.vhdl_names_rules.proofs.Telling.{told_on}
-use Rattle.vhdl_names_types.specs.Views.{sight_view}
 use Rattle.vhdl_names_instances.specs.Breaking.{one_association}
 use Rattle.vhdl_names_instances.specs.steps.Associations.{formal_at, one_taken}
 use Rattle.vhdl_names_instances.specs.steps.Maps.{fits, holds_if_any}
@@ -21,7 +20,7 @@ returns-in_err-take-clause-told c = λ all h k.
     let fs = map (λ (f : Formal). f.name) all in
     let ts = names_view c.args.taken.now in
     let a = association_view c.args.association.now in
-    let s = sight_view c.args.sight.now in
+    let s = c.args.sight.now in
     let actual : Name → Expr → Broken = λ n e. any_of (λ f. port_actual s f e) (ports_named all n) in
     let fault = c.in_err-take.field-0.0 in
     passed_told (association fs actual (drop c.args.index fs) c.args.is_behind_named ts a) fault _ c.from_residual.result c.from_residual.ensures.1 (λ e p. p)
@@ -33,7 +32,7 @@ returns-in_err-name-in-Some-clause-told c = λ all h k.
     let fs = map (λ (f : Formal). f.name) all in
     let ts = names_view c.args.taken.now in
     let a = association_view c.args.association.now in
-    let s = sight_view c.args.sight.now in
+    let s = c.args.sight.now in
     let actual : Name → Expr → Broken = λ n e. any_of (λ f. port_actual s f e) (ports_named all n) in
     let fault = c.in_err-name-in-Some.field-0.0 in
     let r = is_read (names_view c.args.formals.now.ports) c.args.index c.args.is_behind_named ts a (names_view c.take.new.taken) c.in_ok-take.ensures.given in
@@ -47,7 +46,7 @@ returns-in_ok-name-in-Some-clause-told c = λ all h k.
     let ts = names_view c.args.taken.now in
     let ts' = names_view c.take.new.taken in
     let a = association_view c.args.association.now in
-    let s = sight_view c.args.sight.now in
+    let s = c.args.sight.now in
     let n = c.in_ok-name-in-Some.name.now in
     let e = view c.in-Some.e.now in
     let actual : Name → Expr → Broken = λ n e. any_of (λ f. port_actual s f e) (ports_named all n) in
@@ -62,7 +61,7 @@ returns-in-None-clause-read c = λ all h k.
     let fs = map (λ (f : Formal). f.name) all in
     let ts = names_view c.args.taken.now in
     let a = association_view c.args.association.now in
-    let s = sight_view c.args.sight.now in
+    let s = c.args.sight.now in
     let taken = ap (λ fs. one_taken fs c.args.index c.args.is_behind_named ts a) (sym h) ∙ c.in_ok-take.ensures.given in
     one_read_is fs (fits s all) c.args.index c.args.is_behind_named ts a (names_view c.take.new.taken) taken (λ n e. ap (holds_if_any (fits s all n)) (sym c.in-None.ensures))
 
@@ -71,7 +70,7 @@ returns-in_ok-name-in-Some-clause-read c = λ all h k.
     let fs = map (λ (f : Formal). f.name) all in
     let ts = names_view c.args.taken.now in
     let a = association_view c.args.association.now in
-    let s = sight_view c.args.sight.now in
+    let s = c.args.sight.now in
     let e = view c.in-Some.e.now in
     let taken = ap (λ fs. one_taken fs c.args.index c.args.is_behind_named ts a) (sym h) ∙ c.in_ok-take.ensures.given in
     let formal = ap (λ fs. formal_at fs c.args.index a.formal) (sym h) ∙ c.in_ok-name-in-Some.ensures.given in

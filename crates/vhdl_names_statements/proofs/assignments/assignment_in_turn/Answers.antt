@@ -1,6 +1,5 @@
 use Rattle.std.proofs.Common.{map, ap}
 use Rattle.vhdl_tree.specs.View as tree
-use Rattle.vhdl_names_types.specs.Views.{sight_view}
 use Rattle.vhdl_names_rules.specs.problems.Broken.{Tells}
 use Rattle.vhdl_names_rules.specs.problems.Statements.{target}
 use Rattle.vhdl_names_rules.specs.problems.Concurrent.{assignment}
@@ -12,7 +11,7 @@ use Rattle.vhdl_names_statements.proofs.assignments.assignment_in_turn.Goals as 
 
 pub returns-in_err-target-clause-told : goal.returns-in_err-target-clause-told
 returns-in_err-target-clause-told c =
-    let s = sight_view c.args.sight.now in
+    let s = c.args.sight.now in
     let a = tree.assignment_view c.args.assignment.now in
     let h : Tells (assignment s a) c.in_err-target.field-0.0 =
     told_left (target s a.target) (told.conditional s a.target a.branches a.otherwise) c.in_err-target.field-0.0 c.in_err-target.ensures.told in
@@ -20,7 +19,7 @@ returns-in_err-target-clause-told c =
 
 pub returns-in_err-statement-clause-told : goal.returns-in_err-statement-clause-told
 returns-in_err-statement-clause-told c =
-    let s = sight_view c.args.sight.now in
+    let s = c.args.sight.now in
     let a = tree.assignment_view c.args.assignment.now in
     let h : Tells (assignment s a) c.in_err-statement.field-0.0 =
     told_right (target s a.target) (told.conditional s a.target a.branches a.otherwise) c.in_err-statement.field-0.0 (target_kept s a.target _ c.in_ok-target.ensures.given)

@@ -1,7 +1,6 @@
 use Rattle.std.proofs.Common.{arith, ◌<◌, length, map, ap, sym}
 use Rattle.std.specs.Prelude.{option_map}
 use Rattle.vhdl_tree.specs.View as tree
-use Rattle.vhdl_names_types.specs.Views.{sight_view}
 use Rattle.vhdl_names_rules.specs.problems.Broken.{any_of, of_any}
 use Rattle.vhdl_names_rules.specs.problems.Statements.{assigned}
 use Rattle.vhdl_names_rules.specs.problems.Concurrent.{branch}
@@ -12,7 +11,7 @@ use Rattle.vhdl_names_statements.proofs.assignments.body.Goals as goal
 
 pub returns-in-empty-Some-clause-told : goal.returns-in-empty-Some-clause-told
 returns-in-empty-Some-clause-told c =
-    let s = sight_view c.args.sight.now in
+    let s = c.args.sight.now in
     let n = tree.name_view c.args.target.now in
     let bs = any_of (branch s n) (map tree.branch_view c.args.list.now) in
     let o = of_any (assigned s n) (option_map tree.value_view c.args.value.now) in

@@ -1,6 +1,5 @@
 use Rattle.std.proofs.Common.{map, ap}
 use Rattle.vhdl_tree.specs.View as tree
-use Rattle.vhdl_names_types.specs.Views.{sight_view}
 use Rattle.vhdl_names_rules.specs.problems.Broken.{Tells}
 use Rattle.vhdl_names_rules.specs.problems.Choices.{choices}
 use Rattle.vhdl_names_rules.specs.problems.Statements.{assigned}
@@ -12,7 +11,7 @@ use Rattle.vhdl_names_statements.proofs.assignments.chosen.Goals as goal
 
 pub returns-in_err-statements-clause-told : goal.returns-in_err-statements-clause-told
 returns-in_err-statements-clause-told c =
-    let s = sight_view c.args.sight.now in
+    let s = c.args.sight.now in
     let n = tree.name_view c.args.target.now in
     let w = tree.waveform_view c.args.item.now in
     let k = c.args.selected in
@@ -22,7 +21,7 @@ returns-in_err-statements-clause-told c =
 
 pub returns-in_err-choices-clause-told : goal.returns-in_err-choices-clause-told
 returns-in_err-choices-clause-told c =
-    let s = sight_view c.args.sight.now in
+    let s = c.args.sight.now in
     let n = tree.name_view c.args.target.now in
     let w = tree.waveform_view c.args.item.now in
     let k = c.args.selected in

@@ -1,6 +1,5 @@
 use Rattle.std.proofs.Common.{sym}
 use Rattle.vhdl_tree.specs.View as tree
-use Rattle.vhdl_names_types.specs.Views.{sight_view}
 use Rattle.vhdl_names_rules.specs.problems.Broken.{Tells}
 use Rattle.vhdl_names_rules.specs.problems.Choices.{selected_by}
 use Rattle.vhdl_names_rules.specs.problems.Concurrent.{selected, waveforms}
@@ -11,14 +10,14 @@ use Rattle.vhdl_names_statements.proofs.assignments.selected_in_turn.Goals as go
 
 pub returns-in_err-by-clause-told : goal.returns-in_err-by-clause-told
 returns-in_err-by-clause-told c =
-    let s = sight_view c.args.sight.now in
+    let s = c.args.sight.now in
     let a = tree.selected_assignment_view c.args.assignment.now in
     let h : Tells (selected s a) c.in_err-by.field-0.0 = told_left (selected_by s a.selector) _ c.in_err-by.field-0.0 c.in_err-by.ensures.told in
     told_by _ c.in_err-by.field-0.0 _ c.from_residual.result c.from_residual.ensures.1 (λ e p. p) h
 
 pub returns-in_err-alternatives-clause-told : goal.returns-in_err-alternatives-clause-told
 returns-in_err-alternatives-clause-told c =
-    let s = sight_view c.args.sight.now in
+    let s = c.args.sight.now in
     let a = tree.selected_assignment_view c.args.assignment.now in
     let h : Tells (selected s a) c.in_err-alternatives.field-0.0 =
     told_same _ (selected s a) c.in_err-alternatives.field-0.0 (sym (selector_given s a.selector (λ k. waveforms s k a) _ c.in_ok-by.ensures.given)) c.in_err-alternatives.ensures.told in

@@ -4,7 +4,6 @@ use Rattle.vhdl_names_rules.specs.declared.fault.NameFault.TheVariants.{NoMemory
 use Rattle.vhdl_names_rules.specs.Rules.{each}
 use Rattle.vhdl_names_rules.specs.Gives.{Gives}
 use Rattle.vhdl_names_rules.specs.Choices as are
-use Rattle.vhdl_names_types.specs.Views.{sight_view}
 use Rattle.vhdl_names_types.proofs.Along.{gives_along}
 use Rattle.vhdl_names_units.specs.views.Sequential as views
 use Rattle.vhdl_names_rules.specs.problems.Broken.{Tells, nothing, any_of}
@@ -23,14 +22,14 @@ use Rattle.vhdl_names_statements.proofs.assignments.selected_parts.Goals as goal
 
 pub returns-in_err-target-clause-told : goal.returns-in_err-target-clause-told
 returns-in_err-target-clause-told c =
-    let s = sight_view c.args.sight.now in
+    let s = c.args.sight.now in
     let a = tree.selected_assignment_view c.args.assignment.now in
     let h : Tells (problems.waveforms s c.args.by a) c.in_err-target.field-0.0 = told_left (broken.target s a.target) _ c.in_err-target.field-0.0 c.in_err-target.ensures.told in
     told_by _ c.in_err-target.field-0.0 _ c.from_residual.result c.from_residual.ensures.1 (λ e p. p) h
 
 pub returns-in_err-all-clause-given : goal.returns-in_err-all-clause-given
 returns-in_err-all-clause-given c =
-    let s = sight_view c.args.sight.now in
+    let s = c.args.sight.now in
     let k = c.args.by in
     let a = tree.selected_assignment_view c.args.assignment.now in
     let b = any_of (problems.waveform s k a.target) a.waveforms in
@@ -48,7 +47,7 @@ returns-in_err-all-clause-given c =
 
 pub returns-in_err-all-clause-told : goal.returns-in_err-all-clause-told
 returns-in_err-all-clause-told c =
-    let s = sight_view c.args.sight.now in
+    let s = c.args.sight.now in
     let k = c.args.by in
     let a = tree.selected_assignment_view c.args.assignment.now in
     let b = any_of (problems.waveform s k a.target) a.waveforms in
@@ -71,7 +70,7 @@ returns-in_err-all-clause-told c =
 
 pub returns-clause-given : goal.returns-clause-given
 returns-clause-given c =
-    let s = sight_view c.args.sight.now in
+    let s = c.args.sight.now in
     let k = c.args.by in
     let a = tree.selected_assignment_view c.args.assignment.now in
     let b = any_of (problems.waveform s k a.target) a.waveforms in
@@ -89,7 +88,7 @@ returns-clause-given c =
 
 pub returns-clause-told : goal.returns-clause-told
 returns-clause-told c =
-    let s = sight_view c.args.sight.now in
+    let s = c.args.sight.now in
     let k = c.args.by in
     let a = tree.selected_assignment_view c.args.assignment.now in
     let b = any_of (problems.waveform s k a.target) a.waveforms in

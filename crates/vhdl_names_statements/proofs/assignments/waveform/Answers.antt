@@ -1,5 +1,4 @@
 use Rattle.vhdl_tree.specs.View as tree
-use Rattle.vhdl_names_types.specs.Views.{sight_view}
 use Rattle.vhdl_names_rules.specs.problems.Broken.{Tells}
 use Rattle.vhdl_names_rules.specs.problems.Expressions.{condition}
 use Rattle.vhdl_names_rules.specs.problems.Statements.{assigned}
@@ -11,7 +10,7 @@ use Rattle.vhdl_names_statements.proofs.assignments.waveform.Goals as goal
 
 pub returns-in_err-statements-clause-told : goal.returns-in_err-statements-clause-told
 returns-in_err-statements-clause-told c =
-    let s = sight_view c.args.sight.now in
+    let s = c.args.sight.now in
     let n = tree.name_view c.args.target.now in
     let b = tree.branch_view c.args.item.now in
     let h : Tells (branch s n b) c.in_err-statements.field-0.0 =
@@ -20,7 +19,7 @@ returns-in_err-statements-clause-told c =
 
 pub returns-in_err-condition-clause-told : goal.returns-in_err-condition-clause-told
 returns-in_err-condition-clause-told c =
-    let s = sight_view c.args.sight.now in
+    let s = c.args.sight.now in
     let n = tree.name_view c.args.target.now in
     let b = tree.branch_view c.args.item.now in
     let h : Tells (branch s n b) c.in_err-condition.field-0.0 =

@@ -1,7 +1,6 @@
 use Rattle.std.proofs.Common.{arith, ◌<◌, ◌∷◌, [], length, map, refl, ap, ◌∙◌}
 use Rattle.std.proofs.lemmas.List.{map-append}
 use Rattle.vhdl_tree.specs.View as tree
-use Rattle.vhdl_names_types.specs.Views.{sight_view}
 use Rattle.vhdl_names_types.proofs.Memory.{memory_gives, memory_told}
 use Rattle.vhdl_names_units.specs.views.Sequential as views
 use Rattle.vhdl_names_rules.specs.problems.Broken.{Tells, any_of}
@@ -17,7 +16,7 @@ use Rattle.vhdl_names_statements.proofs.assignments.waveforms.Goals as goal
 pub returns-in_err-next-clause-told : goal.returns-in_err-next-clause-told
 returns-in_err-next-clause-told c =
     let xs = c.args.list.now in
-    let b = broken.branch (sight_view c.args.sight.now) (tree.name_view c.args.target.now) in
+    let b = broken.branch c.args.sight.now (tree.name_view c.args.target.now) in
     let lt : c.loop-item.item-index < length c.args.list.now = omega arith in
     let h : Tells (any_of b (map tree.branch_view xs)) c.in_err-next.field-0.0 =
     next_told tree.branch_view xs c.loop-item.item-index c.item-item.result lt c.item-item.is b c.in_err-next.field-0.0 c.loop-item.invariant.1 c.in_err-next.ensures.told in
@@ -27,7 +26,7 @@ pub returns-in_err-next-clause-given : goal.returns-in_err-next-clause-given
 returns-in_err-next-clause-given c =
     let lt : c.loop-item.item-index < length c.args.list.now = omega arith in
     passed_on _ _ c.in_err-next.field-0.0 _ c.from_residual.result c.from_residual.ensures.1 (λ e p. p)
-    (λ n. none_more tree.branch_view c.args.list.now c.loop-item.item-index c.item-item.result lt c.item-item.is (steps.waveform (sight_view c.args.sight.now) (tree.name_view c.args.target.now)) (views.branches_view c.loop-item.all) _
+    (λ n. none_more tree.branch_view c.args.list.now c.loop-item.item-index c.item-item.result lt c.item-item.is (steps.waveform c.args.sight.now (tree.name_view c.args.target.now)) (views.branches_view c.loop-item.all) _
     c.loop-item.invariant.0 (c.in_err-next.ensures.given n))
 
 pub returns-in_err-push-clause-given : goal.returns-in_err-push-clause-given
@@ -41,7 +40,7 @@ loop-item-preserved c =
     let xs = c.args.list.now in
     let i = c.loop-item.item-index in
     let x = c.item-item.result in
-    let s = sight_view c.args.sight.now in
+    let s = c.args.sight.now in
     let lt : c.loop-item.item-index < length c.args.list.now = omega arith in (
       more_done tree.branch_view xs i x lt c.item-item.is (steps.waveform s (tree.name_view c.args.target.now)) (views.branches_view c.loop-item.all) _ (views.branch_view c.in_ok-next.next) _ c.loop-item.invariant.0
           c.in_ok-next.ensures.given
@@ -51,8 +50,8 @@ loop-item-preserved c =
 
 pub loop-item-init : goal.loop-item-init
 loop-item-init c =
-    (none_done tree.branch_view c.args.list.now (steps.waveform (sight_view c.args.sight.now) (tree.name_view c.args.target.now)) _ (ap (map views.branch_view) c.new-all.ensures.items), refl)
+    (none_done tree.branch_view c.args.list.now (steps.waveform c.args.sight.now (tree.name_view c.args.target.now)) _ (ap (map views.branch_view) c.new-all.ensures.items), refl)
 
 pub returns-clause-given : goal.returns-clause-given
 returns-clause-given c =
-    all_done tree.branch_view c.args.list.now (steps.waveform (sight_view c.args.sight.now) (tree.name_view c.args.target.now)) _ c.loop-item.item-index c.loop-item-test.false c.loop-item.invariant.0
+    all_done tree.branch_view c.args.list.now (steps.waveform c.args.sight.now (tree.name_view c.args.target.now)) _ c.loop-item.item-index c.loop-item-test.false c.loop-item.invariant.0

@@ -1,7 +1,6 @@
 use Rattle.std.proofs.Common.{◌≡◌, map, drop}
 use Rattle.vhdl_names_rules.specs.Rules.{each}
 use Rattle.vhdl_tree.specs.View as tree
-use Rattle.vhdl_names_types.specs.Views.{sight_view}
 use Rattle.vhdl_names_units.specs.views.Sequential as views
 use Rattle.vhdl_names_rules.specs.problems.Broken.{any_of}
 use Rattle.vhdl_names_rules.specs.problems.Concurrent as broken
@@ -12,7 +11,7 @@ use Rattle.vhdl_names_statements.proofs.assignments.waveforms.Given as goal
 -- what is left, on what is done, gives the whole, and what it breaks first, the whole breaks first
 abbrev pub invariant-loop-item : goal.invariant-loop-item
 invariant-loop-item l =
-    (each (steps.waveform (sight_view l.sight) (tree.name_view l.target)) (map tree.branch_view l.list)
-    ≡ in_turn (one_more (steps.waveform (sight_view l.sight) (tree.name_view l.target))) (views.branches_view l.all) (map tree.branch_view (drop l.item-index l.list)))
-    × (any_of (broken.branch (sight_view l.sight) (tree.name_view l.target)) (map tree.branch_view l.list)
-    ≡ any_of (broken.branch (sight_view l.sight) (tree.name_view l.target)) (map tree.branch_view (drop l.item-index l.list)))
+    (each (steps.waveform l.sight (tree.name_view l.target)) (map tree.branch_view l.list)
+    ≡ in_turn (one_more (steps.waveform l.sight (tree.name_view l.target))) (views.branches_view l.all) (map tree.branch_view (drop l.item-index l.list)))
+    × (any_of (broken.branch l.sight (tree.name_view l.target)) (map tree.branch_view l.list)
+    ≡ any_of (broken.branch l.sight (tree.name_view l.target)) (map tree.branch_view (drop l.item-index l.list)))

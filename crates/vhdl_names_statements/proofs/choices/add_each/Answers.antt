@@ -1,7 +1,6 @@
 use Rattle.std.proofs.Common.{arith, ◌<◌, length, map, refl, sym, ◌∙◌}
 use Rattle.std.proofs.lemmas.List.{at_drop_all}
 use Rattle.vhdl_tree.specs.View as tree
-use Rattle.vhdl_names_types.specs.Views.{sight_view}
 use Rattle.vhdl_names_rules.specs.problems.Broken.{Tells}
 use Rattle.vhdl_names_units.specs.Once.{names_view}
 use Rattle.vhdl_names_statements.specs.steps.Told as told
@@ -11,7 +10,7 @@ use Rattle.vhdl_names_statements.proofs.choices.add_each.Goals as goal
 
 pub returns-in_err-add_written-clause-told : goal.returns-in_err-add_written-clause-told
 returns-in_err-add_written-clause-told c =
-    let s = sight_view c.args.sight.now in
+    let s = c.args.sight.now in
     let xs = c.args.list.now in
     let i = c.loop-written.written-index in
     let lt : c.loop-written.written-index < length c.args.list.now = omega arith in
@@ -25,7 +24,7 @@ loop-written-init c = (refl, refl)
 
 pub loop-written-preserved : goal.loop-written-preserved
 loop-written-preserved c =
-    let s = sight_view c.args.sight.now in
+    let s = c.args.sight.now in
     let xs = c.args.list.now in
     let i = c.loop-written.written-index in
     let lt : c.loop-written.written-index < length c.args.list.now = omega arith in
@@ -39,9 +38,9 @@ loop-written-preserved c =
 pub returns-clause-added : goal.returns-clause-added
 returns-clause-added c =
     sym (c.loop-written.invariant.0
-    ∙ at_drop_all (λ l. told.with_list (sight_view c.args.sight.now) c.args.selected (names_view c.loop-written.keys) (map tree.choice_view l)) c.args.list.now c.loop-written.written-index c.loop-written-test.false)
+    ∙ at_drop_all (λ l. told.with_list c.args.sight.now c.args.selected (names_view c.loop-written.keys) (map tree.choice_view l)) c.args.list.now c.loop-written.written-index c.loop-written-test.false)
 
 pub returns-clause-kept : goal.returns-clause-kept
 returns-clause-kept c =
     c.loop-written.invariant.1
-    ∙ at_drop_all (λ l. told.each_once (sight_view c.args.sight.now) c.args.selected (names_view c.loop-written.keys) (map tree.choice_view l)) c.args.list.now c.loop-written.written-index c.loop-written-test.false
+    ∙ at_drop_all (λ l. told.each_once c.args.sight.now c.args.selected (names_view c.loop-written.keys) (map tree.choice_view l)) c.args.list.now c.loop-written.written-index c.loop-written-test.false

@@ -1,7 +1,6 @@
 use Rattle.std.proofs.Common.{sym}
 use Rattle.std.specs.Prelude.{IfErr}
 use Rattle.vhdl_tree.specs.View as tree
-use Rattle.vhdl_names_types.specs.Views.{sight_view}
 use Rattle.vhdl_names_units.specs.views.Answers.{choice_view}
 use Rattle.vhdl_names_rules.specs.declared.fault.NameProblem.TheVariants.{ChoiceTwice}
 use Rattle.vhdl_names_rules.specs.problems.Broken.{Tells, refused}
@@ -14,7 +13,7 @@ use Rattle.vhdl_names_statements.proofs.choices.add_written.Goals as goal
 
 pub returns-in_err-analysed-clause-told : goal.returns-in_err-analysed-clause-told
 returns-in_err-analysed-clause-told c =
-    let s = sight_view c.args.sight.now in
+    let s = c.args.sight.now in
     let w = tree.choice_view c.args.written.now in
     let h : Tells (told.once s c.args.selected (names_view c.args.keys.now) w) c.in_err-analysed.field-0.0 =
     once_refused s c.args.selected (names_view c.args.keys.now) w c.in_err-analysed.field-0.0 c.in_err-analysed.ensures.told in
@@ -22,17 +21,17 @@ returns-in_err-analysed-clause-told c =
 
 pub returns-clause-added : goal.returns-clause-added
 returns-clause-added c =
-    answer_added (sight_view c.args.sight.now) c.args.selected (names_view c.args.keys.now) (names_view c.add_choice.new.keys) (tree.choice_view c.args.written.now)
+    answer_added c.args.sight.now c.args.selected (names_view c.args.keys.now) (names_view c.add_choice.new.keys) (tree.choice_view c.args.written.now)
     (choice_view c.in_ok-analysed.analysed) c.in_ok-analysed.ensures.given c.add_choice.result c.add_choice.ensures.given
 
 pub returns-clause-kept : goal.returns-clause-kept
 returns-clause-kept c =
-    answer_kept (sight_view c.args.sight.now) c.args.selected (names_view c.args.keys.now) (names_view c.add_choice.new.keys) (tree.choice_view c.args.written.now)
+    answer_kept c.args.sight.now c.args.selected (names_view c.args.keys.now) (names_view c.add_choice.new.keys) (tree.choice_view c.args.written.now)
     (choice_view c.in_ok-analysed.analysed) c.in_ok-analysed.ensures.given c.add_choice.result c.add_choice.ensures.given
 
 pub returns-clause-told : goal.returns-clause-told
 returns-clause-told c =
     let twice : IfErr c.add_choice.result (Tells (refused ChoiceTwice (choice_place (tree.choice_view c.args.written.now)))) =
     rw (sym c.place.ensures) c.add_choice.ensures.told in
-    answer_told (sight_view c.args.sight.now) c.args.selected (names_view c.args.keys.now) (names_view c.add_choice.new.keys) (tree.choice_view c.args.written.now)
+    answer_told c.args.sight.now c.args.selected (names_view c.args.keys.now) (names_view c.add_choice.new.keys) (tree.choice_view c.args.written.now)
     (choice_view c.in_ok-analysed.analysed) c.in_ok-analysed.ensures.given c.add_choice.result c.add_choice.ensures.given twice

@@ -7,7 +7,6 @@ use Rattle.vhdl_tree.specs.declared.sequential.If.{out-If}
 use Rattle.vhdl_names_rules.specs.Rules.{◌>>◌, each, if_any}
 use Rattle.vhdl_names_rules.specs.Choices as are
 use Rattle.vhdl_names_rules.specs.Statements.{statement}
-use Rattle.vhdl_names_types.specs.Views.{sight_view}
 use Rattle.vhdl_names_types.proofs.Along.{gives_along}
 use Rattle.vhdl_names_types.proofs.Memory.{memory_gives, memory_told}
 use Rattle.vhdl_names_units.specs.views.Sequential.{statement_view, statements_view, branch_view, branches_view, alternative_view, alternatives_view}
@@ -34,19 +33,19 @@ turn-returns-clause-kept t c = left_loop _ _ _ _ _ c.in_ok-enter_loop.ensures.gi
 
 pub statement-returns-in-If-clause-given : goal.statement-returns-in-If-clause-given
 statement-returns-in-If-clause-given t c =
-    let s = sight_view c.args.sight.now in
+    let s = c.args.sight.now in
     let l = tree.option_ident_view c.args.item.now.label in
     gives_along statement_view _ _ _ (ap (λ x. statement s l (tree.statement_view x)) c.in-If.is ∙ if_gives s l c.in-If.conditional) c.if_statement.ensures.given
 
 pub statement-returns-in-For-clause-given : goal.statement-returns-in-For-clause-given
 statement-returns-in-For-clause-given t c =
-    let s = sight_view c.args.sight.now in
+    let s = c.args.sight.now in
     let l = tree.option_ident_view c.args.item.now.label in
     gives_along statement_view _ _ _ (ap (λ x. statement s l (tree.statement_view x)) c.in-For.is ∙ loop_gives s l c.in-For.repeated) c.for_loop.ensures.given
 
 pub statement-returns-in-Case-clause-given : goal.statement-returns-in-Case-clause-given
 statement-returns-in-Case-clause-given t c =
-    let s = sight_view c.args.sight.now in
+    let s = c.args.sight.now in
     let l = tree.option_ident_view c.args.item.now.label in
     gives_along statement_view _ _ _ (ap (λ x. statement s l (tree.statement_view x)) c.in-Case.is ∙ case_gives s l c.in-Case.case) c.case_statement.ensures.given
 
@@ -56,14 +55,14 @@ pub statements-returns-in_err-next-clause-told : goal.statements-returns-in_err-
 statements-returns-in_err-next-clause-told m c =
     let lt : c.loop-item.item-index < length c.args.list.now = omega arith in
     told_by _ c.in_err-next.field-0.0 _ c.from_residual.result c.from_residual.ensures.1 (λ e p. p)
-    (by.turn_told tree.sequential_view steps.labelled told.labelled (sight_view c.args.sight.now) _ c.loop-item.invariant.0 c.args.list.now c.loop-item.item-index c.item-item.result lt c.item-item.is
-    _ c.in_err-next.field-0.0 (by.statements_any (sight_view c.args.sight.now) (map tree.sequential_view c.args.list.now)) c.loop-item.invariant.2 c.in_err-next.ensures.told)
+    (by.turn_told tree.sequential_view steps.labelled told.labelled c.args.sight.now _ c.loop-item.invariant.0 c.args.list.now c.loop-item.item-index c.item-item.result lt c.item-item.is
+    _ c.in_err-next.field-0.0 (by.statements_any c.args.sight.now (map tree.sequential_view c.args.list.now)) c.loop-item.invariant.2 c.in_err-next.ensures.told)
 
 pub statements-returns-in_err-next-clause-given : goal.statements-returns-in_err-next-clause-given
 statements-returns-in_err-next-clause-given m c =
     let lt : c.loop-item.item-index < length c.args.list.now = omega arith in
     passed_on _ _ c.in_err-next.field-0.0 _ c.from_residual.result c.from_residual.ensures.1 (λ e p. p)
-    (λ n. by.turn_none tree.sequential_view steps.labelled told.labelled (sight_view c.args.sight.now) _ c.loop-item.invariant.0 c.args.list.now c.loop-item.item-index c.item-item.result lt c.item-item.is
+    (λ n. by.turn_none tree.sequential_view steps.labelled told.labelled c.args.sight.now _ c.loop-item.invariant.0 c.args.list.now c.loop-item.item-index c.item-item.result lt c.item-item.is
     (statements_view c.loop-item.all) _ c.loop-item.invariant.1 (c.in_err-next.ensures.given n))
 
 pub statements-returns-in_err-push-clause-given : goal.statements-returns-in_err-push-clause-given
@@ -82,7 +81,7 @@ pub branches-returns-in_err-next-clause-given : goal.branches-returns-in_err-nex
 branches-returns-in_err-next-clause-given m c =
     let lt : c.loop-item.item-index < length c.args.list.now = omega arith in
     passed_on _ _ c.in_err-next.field-0.0 _ c.from_residual.result c.from_residual.ensures.1 (λ e p. p)
-    (λ n. by.turn_none tree.conditional_view steps.guarded told.guarded (sight_view c.args.sight.now) _ c.loop-item.invariant.0 c.args.list.now c.loop-item.item-index c.item-item.result lt c.item-item.is
+    (λ n. by.turn_none tree.conditional_view steps.guarded told.guarded c.args.sight.now _ c.loop-item.invariant.0 c.args.list.now c.loop-item.item-index c.item-item.result lt c.item-item.is
     (branches_view c.loop-item.all) _ c.loop-item.invariant.1 (c.in_err-next.ensures.given n))
 
 pub branches-returns-in_err-push-clause-given : goal.branches-returns-in_err-push-clause-given
@@ -101,7 +100,7 @@ pub alternatives-returns-in_err-next-clause-given : goal.alternatives-returns-in
 alternatives-returns-in_err-next-clause-given m c =
     let lt : c.loop-item.item-index < length c.args.list.now = omega arith in
     passed_on _ _ c.in_err-next.field-0.0 _ c.from_residual.result c.from_residual.ensures.1 (λ e p. p)
-    (λ n. by.turn_none tree.alternative_view (λ o. cases.chosen o c.args.selected) (λ o. told.alternative o c.args.selected) (sight_view c.args.sight.now) _ c.loop-item.invariant.0 c.args.list.now c.loop-item.item-index c.item-item.result lt c.item-item.is
+    (λ n. by.turn_none tree.alternative_view (λ o. cases.chosen o c.args.selected) (λ o. told.alternative o c.args.selected) c.args.sight.now _ c.loop-item.invariant.0 c.args.list.now c.loop-item.item-index c.item-item.result lt c.item-item.is
     (alternatives_view c.loop-item.all) _ c.loop-item.invariant.1 (c.in_err-next.ensures.given n))
 
 pub alternatives-returns-in_err-push-clause-given : goal.alternatives-returns-in_err-push-clause-given
@@ -119,71 +118,71 @@ alternatives-returns-in_err-push-clause-kept m c = c.in_ok-next.ensures.kept ∙
 pub statements-loop-item-preserved : goal.statements-loop-item-preserved
 statements-loop-item-preserved m c =
     let lt : c.loop-item.item-index < length c.args.list.now = omega arith in
-    by.turn_done tree.sequential_view steps.labelled told.labelled (sight_view c.args.sight.now) _ c.loop-item.invariant.0 c.args.list.now c.loop-item.item-index c.item-item.result lt c.item-item.is
+    by.turn_done tree.sequential_view steps.labelled told.labelled c.args.sight.now _ c.loop-item.invariant.0 c.args.list.now c.loop-item.item-index c.item-item.result lt c.item-item.is
     _ (statements_view c.loop-item.all) _ (statement_view c.in_ok-next.next) _ c.loop-item.invariant.1 c.loop-item.invariant.2 c.in_ok-next.ensures.kept c.in_ok-next.ensures.given
-    (ap (map statement_view) c.in_ok-push.ensures.items ∙ map-append statement_view c.loop-item.all.items (c.in_ok-next.next ∷ [])) (by.labelled_kept (sight_view c.args.sight.now))
+    (ap (map statement_view) c.in_ok-push.ensures.items ∙ map-append statement_view c.loop-item.all.items (c.in_ok-next.next ∷ [])) (by.labelled_kept c.args.sight.now)
 
 pub branches-returns-in_err-next-clause-told : goal.branches-returns-in_err-next-clause-told
 branches-returns-in_err-next-clause-told m c =
     let lt : c.loop-item.item-index < length c.args.list.now = omega arith in
     told_by _ c.in_err-next.field-0.0 _ c.from_residual.result c.from_residual.ensures.1 (λ e p. p)
-    (by.turn_told tree.conditional_view steps.guarded told.guarded (sight_view c.args.sight.now) _ c.loop-item.invariant.0 c.args.list.now c.loop-item.item-index c.item-item.result lt c.item-item.is
-    _ c.in_err-next.field-0.0 (by.conditionals_any (sight_view c.args.sight.now) (map tree.conditional_view c.args.list.now)) c.loop-item.invariant.2 c.in_err-next.ensures.told)
+    (by.turn_told tree.conditional_view steps.guarded told.guarded c.args.sight.now _ c.loop-item.invariant.0 c.args.list.now c.loop-item.item-index c.item-item.result lt c.item-item.is
+    _ c.in_err-next.field-0.0 (by.conditionals_any c.args.sight.now (map tree.conditional_view c.args.list.now)) c.loop-item.invariant.2 c.in_err-next.ensures.told)
 
 pub branches-loop-item-preserved : goal.branches-loop-item-preserved
 branches-loop-item-preserved m c =
     let lt : c.loop-item.item-index < length c.args.list.now = omega arith in
-    by.turn_done tree.conditional_view steps.guarded told.guarded (sight_view c.args.sight.now) _ c.loop-item.invariant.0 c.args.list.now c.loop-item.item-index c.item-item.result lt c.item-item.is
+    by.turn_done tree.conditional_view steps.guarded told.guarded c.args.sight.now _ c.loop-item.invariant.0 c.args.list.now c.loop-item.item-index c.item-item.result lt c.item-item.is
     _ (branches_view c.loop-item.all) _ (branch_view c.in_ok-next.next) _ c.loop-item.invariant.1 c.loop-item.invariant.2 c.in_ok-next.ensures.kept c.in_ok-next.ensures.given
-    (ap (map branch_view) c.in_ok-push.ensures.items ∙ map-append branch_view c.loop-item.all.items (c.in_ok-next.next ∷ [])) (by.guarded_kept (sight_view c.args.sight.now))
+    (ap (map branch_view) c.in_ok-push.ensures.items ∙ map-append branch_view c.loop-item.all.items (c.in_ok-next.next ∷ [])) (by.guarded_kept c.args.sight.now)
 
 pub alternatives-returns-in_err-next-clause-told : goal.alternatives-returns-in_err-next-clause-told
 alternatives-returns-in_err-next-clause-told m c =
     let lt : c.loop-item.item-index < length c.args.list.now = omega arith in
     told_by _ c.in_err-next.field-0.0 _ c.from_residual.result c.from_residual.ensures.1 (λ e p. p)
-    (by.turn_told tree.alternative_view (λ o. cases.chosen o c.args.selected) (λ o. told.alternative o c.args.selected) (sight_view c.args.sight.now) _ c.loop-item.invariant.0 c.args.list.now c.loop-item.item-index c.item-item.result lt c.item-item.is
-    _ c.in_err-next.field-0.0 (by.alternatives_any (sight_view c.args.sight.now) c.args.selected (map tree.alternative_view c.args.list.now)) c.loop-item.invariant.2 c.in_err-next.ensures.told)
+    (by.turn_told tree.alternative_view (λ o. cases.chosen o c.args.selected) (λ o. told.alternative o c.args.selected) c.args.sight.now _ c.loop-item.invariant.0 c.args.list.now c.loop-item.item-index c.item-item.result lt c.item-item.is
+    _ c.in_err-next.field-0.0 (by.alternatives_any c.args.sight.now c.args.selected (map tree.alternative_view c.args.list.now)) c.loop-item.invariant.2 c.in_err-next.ensures.told)
 
 pub alternatives-loop-item-preserved : goal.alternatives-loop-item-preserved
 alternatives-loop-item-preserved m c =
     let lt : c.loop-item.item-index < length c.args.list.now = omega arith in
-    by.turn_done tree.alternative_view (λ o. cases.chosen o c.args.selected) (λ o. told.alternative o c.args.selected) (sight_view c.args.sight.now) _ c.loop-item.invariant.0 c.args.list.now c.loop-item.item-index c.item-item.result lt c.item-item.is
+    by.turn_done tree.alternative_view (λ o. cases.chosen o c.args.selected) (λ o. told.alternative o c.args.selected) c.args.sight.now _ c.loop-item.invariant.0 c.args.list.now c.loop-item.item-index c.item-item.result lt c.item-item.is
     _ (alternatives_view c.loop-item.all) _ (alternative_view c.in_ok-next.next) _ c.loop-item.invariant.1 c.loop-item.invariant.2 c.in_ok-next.ensures.kept c.in_ok-next.ensures.given
-    (ap (map alternative_view) c.in_ok-push.ensures.items ∙ map-append alternative_view c.loop-item.all.items (c.in_ok-next.next ∷ [])) (by.alternative_kept (sight_view c.args.sight.now) c.args.selected)
+    (ap (map alternative_view) c.in_ok-push.ensures.items ∙ map-append alternative_view c.loop-item.all.items (c.in_ok-next.next ∷ [])) (by.alternative_kept c.args.sight.now c.args.selected)
 
 pub statement-returns-in-SignalAssignment-clause-told : goal.statement-returns-in-SignalAssignment-clause-told
 statement-returns-in-SignalAssignment-clause-told m c =
-    let s = sight_view c.args.sight.now in
+    let s = c.args.sight.now in
     let l = tree.option_ident_view c.args.item.now.label in
     by.on_along _ _ _ (by.signal_assigned s l (tree.name_view c.in-SignalAssignment.target) (tree.value_view c.in-SignalAssignment.value) ∙ sym (ap (λ x. broken.statement s l (tree.statement_view x)) c.in-SignalAssignment.is)) c.assigned.ensures.told
 
 pub statement-returns-in-VariableAssignment-clause-told : goal.statement-returns-in-VariableAssignment-clause-told
 statement-returns-in-VariableAssignment-clause-told m c =
-    let s = sight_view c.args.sight.now in
+    let s = c.args.sight.now in
     let l = tree.option_ident_view c.args.item.now.label in
     by.on_along _ _ _ (by.variable_assigned s l (tree.name_view c.in-VariableAssignment.target) (tree.value_view c.in-VariableAssignment.value) ∙ sym (ap (λ x. broken.statement s l (tree.statement_view x)) c.in-VariableAssignment.is)) c.set.ensures.told
 
 pub statement-returns-in-If-clause-told : goal.statement-returns-in-If-clause-told
 statement-returns-in-If-clause-told m c =
-    let s = sight_view c.args.sight.now in
+    let s = c.args.sight.now in
     let l = tree.option_ident_view c.args.item.now.label in
     by.on_along _ _ _ (sym (ap (λ x. broken.statement s l (tree.statement_view x)) c.in-If.is)) c.if_statement.ensures.told
 
 pub statement-returns-in-Case-clause-told : goal.statement-returns-in-Case-clause-told
 statement-returns-in-Case-clause-told m c =
-    let s = sight_view c.args.sight.now in
+    let s = c.args.sight.now in
     let l = tree.option_ident_view c.args.item.now.label in
     by.on_along _ _ _ (sym (ap (λ x. broken.statement s l (tree.statement_view x)) c.in-Case.is)) c.case_statement.ensures.told
 
 pub statement-returns-in-For-clause-told : goal.statement-returns-in-For-clause-told
 statement-returns-in-For-clause-told m c =
-    let s = sight_view c.args.sight.now in
+    let s = c.args.sight.now in
     let l = tree.option_ident_view c.args.item.now.label in
     by.on_along _ _ _ (sym (ap (λ x. broken.statement s l (tree.statement_view x)) c.in-For.is)) c.for_loop.ensures.told
 
 pub if_statement-returns-in_err-branches-clause-told : goal.if_statement-returns-in_err-branches-clause-told
 if_statement-returns-in_err-branches-clause-told m c =
-    let s = sight_view c.args.sight.now in
+    let s = c.args.sight.now in
     let l = tree.option_ident_view c.args.label.now in
     told_by _ c.in_err-branches.field-0.0 _ c.from_residual.result c.from_residual.ensures.1 (λ e p. p)
     (by.if_branch s l c.args.conditional.now c.in_err-branches.field-0.0
@@ -192,7 +191,7 @@ if_statement-returns-in_err-branches-clause-told m c =
 
 pub if_statement-returns-in_err-otherwise-clause-told : goal.if_statement-returns-in_err-otherwise-clause-told
 if_statement-returns-in_err-otherwise-clause-told m c =
-    let s = sight_view c.args.sight.now in
+    let s = c.args.sight.now in
     let l = tree.option_ident_view c.args.label.now in
     let i = c.args.conditional.now in
     let gs : each (steps.guarded s) (tree.conditionals_view (out-If c.args.conditional.now).branches) ≡ Some (branches_view c.in_ok-branches.branches) =
@@ -205,7 +204,7 @@ if_statement-returns-in_err-otherwise-clause-told m c =
 
 pub if_statement-returns-in_err-branches-2-clause-told : goal.if_statement-returns-in_err-branches-2-clause-told
 if_statement-returns-in_err-branches-2-clause-told m c =
-    let s = sight_view c.args.sight.now in
+    let s = c.args.sight.now in
     let l = tree.option_ident_view c.args.label.now in
     let i = c.args.conditional.now in
     let gs : each (steps.guarded s) (tree.conditionals_view (out-If c.args.conditional.now).branches) ≡ Some (branches_view c.in_ok-branches.branches) =
@@ -217,49 +216,49 @@ if_statement-returns-in_err-branches-2-clause-told m c =
 
 pub case_statement-returns-in_err-selected-clause-told : goal.case_statement-returns-in_err-selected-clause-told
 case_statement-returns-in_err-selected-clause-told m c =
-    let s = sight_view c.args.sight.now in
+    let s = c.args.sight.now in
     let l = tree.option_ident_view c.args.label.now in
     told_by _ c.in_err-selected.field-0.0 _ c.from_residual.result c.from_residual.ensures.1 (λ e p. p)
     (by.case_selector s l c.args.case.now c.in_err-selected.field-0.0 c.in_err-selected.ensures.told)
 
 pub case_statement-returns-in_err-alternatives-clause-told : goal.case_statement-returns-in_err-alternatives-clause-told
 case_statement-returns-in_err-alternatives-clause-told m c =
-    let s = sight_view c.args.sight.now in
+    let s = c.args.sight.now in
     let l = tree.option_ident_view c.args.label.now in
     told_by _ c.in_err-alternatives.field-0.0 _ c.from_residual-in_err-alternatives.result c.from_residual-in_err-alternatives.ensures.1 (λ e p. p)
     (by.case_parts s l c.args.case.now c.in_err-alternatives.field-0.0 _ c.in_ok-selected.ensures.given c.in_err-alternatives.ensures.told)
 
 pub for_loop-returns-in_err-range-clause-told : goal.for_loop-returns-in_err-range-clause-told
 for_loop-returns-in_err-range-clause-told m c =
-    let s = sight_view c.args.sight.now in
+    let s = c.args.sight.now in
     let l = tree.option_ident_view c.args.label.now in
     told_by _ c.in_err-range.field-0.0 _ c.from_residual.result c.from_residual.ensures.1 (λ e p. p)
     (by.loop_range s l c.args.repeated.now c.in_err-range.field-0.0 c.in_err-range.ensures.told)
 
 pub for_loop-returns-in_err-turn-clause-told : goal.for_loop-returns-in_err-turn-clause-told
 for_loop-returns-in_err-turn-clause-told m c =
-    let s = sight_view c.args.sight.now in
+    let s = c.args.sight.now in
     let l = tree.option_ident_view c.args.label.now in
     told_by _ c.in_err-turn.field-0.0 _ c.from_residual-in_err-turn.result c.from_residual-in_err-turn.ensures.1 (λ e p. p)
     (by.loop_turn s l c.args.repeated.now c.in_err-turn.field-0.0 _ c.in_ok-range.ensures.given c.in_err-turn.ensures.told)
 
 pub for_loop-returns-in_err-range-2-clause-told : goal.for_loop-returns-in_err-range-2-clause-told
 for_loop-returns-in_err-range-2-clause-told m c =
-    let s = sight_view c.args.sight.now in
+    let s = c.args.sight.now in
     let l = tree.option_ident_view c.args.label.now in
     told_by _ c.in_err-range-2.field-0.0 _ c.from_residual-in_err-range-2.result c.from_residual-in_err-range-2.ensures.1 (λ e p. p)
     (by.loop_ends s l c.args.repeated.now c.in_err-range-2.field-0.0 _ c.in_ok-range.ensures.given _ c.in_ok-turn.ensures.given c.in_err-range-2.ensures.told)
 
 pub branch-returns-in_err-condition-clause-told : goal.branch-returns-in_err-condition-clause-told
 branch-returns-in_err-condition-clause-told m c =
-    let s = sight_view c.args.sight.now in
+    let s = c.args.sight.now in
     let x = tree.conditional_view c.args.item.now in
     told_by _ c.in_err-condition.field-0.0 _ c.from_residual.result c.from_residual.ensures.1 (λ e p. p)
     (told_left (condition s x.condition) (broken.statements s (tree'.statements_of x.statements)) c.in_err-condition.field-0.0 c.in_err-condition.ensures.told)
 
 pub branch-returns-in_err-statements-clause-told : goal.branch-returns-in_err-statements-clause-told
 branch-returns-in_err-statements-clause-told m c =
-    let s = sight_view c.args.sight.now in
+    let s = c.args.sight.now in
     let x = tree.conditional_view c.args.item.now in
     told_by _ c.in_err-statements.field-0.0 _ c.from_residual-in_err-statements.result c.from_residual-in_err-statements.ensures.1 (λ e p. p)
     (told_right (condition s x.condition) (broken.statements s (tree'.statements_of x.statements)) c.in_err-statements.field-0.0
@@ -269,7 +268,7 @@ branch-returns-in_err-statements-clause-told m c =
 
 pub alternative-returns-in_err-choices-clause-told : goal.alternative-returns-in_err-choices-clause-told
 alternative-returns-in_err-choices-clause-told m c =
-    let s = sight_view c.args.sight.now in
+    let s = c.args.sight.now in
     let x = tree.alternative_view c.args.item.now in
     told_by _ c.in_err-choices.field-0.0 _ c.from_residual.result c.from_residual.ensures.1 (λ e p. p)
     (told_left (choices s c.args.selected x.choices) (broken.statements s (tree'.statements_of x.statements)) c.in_err-choices.field-0.0
@@ -277,7 +276,7 @@ alternative-returns-in_err-choices-clause-told m c =
 
 pub alternative-returns-in_err-statements-clause-told : goal.alternative-returns-in_err-statements-clause-told
 alternative-returns-in_err-statements-clause-told m c =
-    let s = sight_view c.args.sight.now in
+    let s = c.args.sight.now in
     let x = tree.alternative_view c.args.item.now in
     told_by _ c.in_err-statements.field-0.0 _ c.from_residual-in_err-statements.result c.from_residual-in_err-statements.ensures.1 (λ e p. p)
     (told_right (choices s c.args.selected x.choices) (broken.statements s (tree'.statements_of x.statements)) c.in_err-statements.field-0.0
@@ -287,7 +286,7 @@ alternative-returns-in_err-statements-clause-told m c =
 
 pub otherwise-returns-in_err-statements-in-Some-clause-told : goal.otherwise-returns-in_err-statements-in-Some-clause-told
 otherwise-returns-in_err-statements-in-Some-clause-told m c =
-    let s = sight_view c.args.sight.now in
+    let s = c.args.sight.now in
     told_by _ c.in_err-statements-in-Some.field-0.0 _ c.from_residual.result c.from_residual.ensures.1 (λ e p. p)
     (told_same _ _ c.in_err-statements-in-Some.field-0.0
     (ap (λ xs. broken.statements s (tree'.statements_of (map tree.sequential_view xs))) c.deref.ensures.value
@@ -297,68 +296,68 @@ otherwise-returns-in_err-statements-in-Some-clause-told m c =
 
 pub case_parts-returns-in_err-all-clause-given : goal.case_parts-returns-in_err-all-clause-given
 case_parts-returns-in_err-all-clause-given m c =
-    let read = part.read (sight_view c.args.sight.now) c.args.selected (out-Case c.args.case.now).alternatives.items _ _ _ _ _ _ c.deref.ensures.value c.deref-2.ensures.value c.deref-3.ensures.value
+    let read = part.read c.args.sight.now c.args.selected (out-Case c.args.case.now).alternatives.items _ _ _ _ _ _ c.deref.ensures.value c.deref-2.ensures.value c.deref-3.ensures.value
     c.in_ok-lists.ensures c.alternatives-all.ensures.kept c.alternatives-all.ensures.given in
     passed_on _ _ c.in_err-all.field-0.0 _ c.from_residual-in_err-all.result c.from_residual-in_err-all.ensures.1 (λ e p. p)
-    (λ n. part.parts_uncovered (sight_view c.args.sight.now) c.args.selected (tree.option_ident_view c.args.label.now) c.args.case.now (sight_view c.alternatives-all.new.sight) (cases.all_lists c.deref-3.result.now) c.alternatives-all.result read (λ found g h. c.in_err-all.ensures.given found g h n))
+    (λ n. part.parts_uncovered c.args.sight.now c.args.selected (tree.option_ident_view c.args.label.now) c.args.case.now c.alternatives-all.new.sight (cases.all_lists c.deref-3.result.now) c.alternatives-all.result read (λ found g h. c.in_err-all.ensures.given found g h n))
 
 pub case_parts-returns-in_err-all-clause-told : goal.case_parts-returns-in_err-all-clause-told
 case_parts-returns-in_err-all-clause-told m c =
-    let read = part.read (sight_view c.args.sight.now) c.args.selected (out-Case c.args.case.now).alternatives.items _ _ _ _ _ _ c.deref.ensures.value c.deref-2.ensures.value c.deref-3.ensures.value
+    let read = part.read c.args.sight.now c.args.selected (out-Case c.args.case.now).alternatives.items _ _ _ _ _ _ c.deref.ensures.value c.deref-2.ensures.value c.deref-3.ensures.value
     c.in_ok-lists.ensures c.alternatives-all.ensures.kept c.alternatives-all.ensures.given in
     told_by _ c.in_err-all.field-0.0 _ c.from_residual-in_err-all.result c.from_residual-in_err-all.ensures.1 (λ e p. p)
-    (part.parts_cover (sight_view c.args.sight.now) c.args.selected (tree.alternatives_view (out-Case c.args.case.now).alternatives) (tree.option_ident_view c.args.label.now)
+    (part.parts_cover c.args.sight.now c.args.selected (tree.alternatives_view (out-Case c.args.case.now).alternatives) (tree.option_ident_view c.args.label.now)
     (tree.option_ident_view (out-Case c.args.case.now).end_label) (out-Case c.args.case.now).at c.in_err-all.field-0.0
-    (part.read_told (sight_view c.args.sight.now) c.args.selected (out-Case c.args.case.now).alternatives.items _ _ _ read (out-Case c.args.case.now).at _ c.in_err-all.field-0.0
+    (part.read_told c.args.sight.now c.args.selected (out-Case c.args.case.now).alternatives.items _ _ _ read (out-Case c.args.case.now).at _ c.in_err-all.field-0.0
     c.deref-2.ensures.value c.alternatives-all.ensures.kept c.alternatives-all.ensures.told c.in_err-all.ensures.told))
 
 pub case_parts-returns-in_err-all-2-clause-given : goal.case_parts-returns-in_err-all-2-clause-given
 case_parts-returns-in_err-all-2-clause-given m c =
-    let read = part.read (sight_view c.args.sight.now) c.args.selected (out-Case c.args.case.now).alternatives.items _ _ _ _ _ _ c.deref.ensures.value c.deref-2.ensures.value c.deref-3.ensures.value
+    let read = part.read c.args.sight.now c.args.selected (out-Case c.args.case.now).alternatives.items _ _ _ _ _ _ c.deref.ensures.value c.deref-2.ensures.value c.deref-3.ensures.value
     c.in_ok-lists.ensures c.alternatives-all.ensures.kept c.alternatives-all.ensures.given in
     passed_on _ _ c.in_err-all-2.field-0.0 _ c.from_residual-in_err-all-2.result c.from_residual-in_err-all-2.ensures.1 (λ e p. p)
-    (λ n. part.parts_covered (sight_view c.args.sight.now) c.args.selected (tree.option_ident_view c.args.label.now) c.args.case.now (sight_view c.alternatives-all.new.sight) (cases.all_lists c.deref-3.result.now) c.alternatives-all.result read (alternatives_view c.in_ok-all.all) c.in_ok-all.ensures.given
+    (λ n. part.parts_covered c.args.sight.now c.args.selected (tree.option_ident_view c.args.label.now) c.args.case.now c.alternatives-all.new.sight (cases.all_lists c.deref-3.result.now) c.alternatives-all.result read (alternatives_view c.in_ok-all.all) c.in_ok-all.ensures.given
     ∙ ap (λ o. o >> cases.but_last (alternatives_view c.in_ok-all.all)) (c.in_err-all-2.ensures.asked n))
 
 pub case_parts-returns-in_err-all-2-clause-told : goal.case_parts-returns-in_err-all-2-clause-told
 case_parts-returns-in_err-all-2-clause-told m c =
-    let read = part.read (sight_view c.args.sight.now) c.args.selected (out-Case c.args.case.now).alternatives.items _ _ _ _ _ _ c.deref.ensures.value c.deref-2.ensures.value c.deref-3.ensures.value
+    let read = part.read c.args.sight.now c.args.selected (out-Case c.args.case.now).alternatives.items _ _ _ _ _ _ c.deref.ensures.value c.deref-2.ensures.value c.deref-3.ensures.value
     c.in_ok-lists.ensures c.alternatives-all.ensures.kept c.alternatives-all.ensures.given in
     told_by _ c.in_err-all-2.field-0.0 _ c.from_residual-in_err-all-2.result c.from_residual-in_err-all-2.ensures.1 (λ e p. p)
-    (part.told_ends (sight_view c.args.sight.now) c.args.selected (tree.option_ident_view c.args.label.now) c.args.case.now (sight_view c.alternatives-all.new.sight) (cases.all_lists c.deref-3.result.now) c.alternatives-all.result read (alternatives_view c.in_ok-all.all) c.in_ok-all.ensures.given c.in_err-all-2.field-0.0 c.in_err-all-2.ensures.told)
+    (part.told_ends c.args.sight.now c.args.selected (tree.option_ident_view c.args.label.now) c.args.case.now c.alternatives-all.new.sight (cases.all_lists c.deref-3.result.now) c.alternatives-all.result read (alternatives_view c.in_ok-all.all) c.in_ok-all.ensures.given c.in_err-all-2.field-0.0 c.in_err-all-2.ensures.told)
 
 pub case_parts-returns-clause-given : goal.case_parts-returns-clause-given
 case_parts-returns-clause-given m c =
-    let read = part.read (sight_view c.args.sight.now) c.args.selected (out-Case c.args.case.now).alternatives.items _ _ _ _ _ _ c.deref.ensures.value c.deref-2.ensures.value c.deref-3.ensures.value
+    let read = part.read c.args.sight.now c.args.selected (out-Case c.args.case.now).alternatives.items _ _ _ _ _ _ c.deref.ensures.value c.deref-2.ensures.value c.deref-3.ensures.value
     c.in_ok-lists.ensures c.alternatives-all.ensures.kept c.alternatives-all.ensures.given in
     gives_along _ _ _ _
-    (part.parts_covered (sight_view c.args.sight.now) c.args.selected (tree.option_ident_view c.args.label.now) c.args.case.now (sight_view c.alternatives-all.new.sight) (cases.all_lists c.deref-3.result.now) c.alternatives-all.result read (alternatives_view c.in_ok-all.all) c.in_ok-all.ensures.given
+    (part.parts_covered c.args.sight.now c.args.selected (tree.option_ident_view c.args.label.now) c.args.case.now c.alternatives-all.new.sight (cases.all_lists c.deref-3.result.now) c.alternatives-all.result read (alternatives_view c.in_ok-all.all) c.in_ok-all.ensures.given
     ∙ ap (λ o. o >> cases.but_last (alternatives_view c.in_ok-all.all)) c.in_ok-all-2.ensures.asked ∙ ap (λ v. cases.but_last (alternatives_view v)) (sym c.in_ok-all-2.ensures.same))
     c.but_last.ensures.given
 
 pub case_parts-returns-clause-told : goal.case_parts-returns-clause-told
 case_parts-returns-clause-told m c =
-    let read = part.read (sight_view c.args.sight.now) c.args.selected (out-Case c.args.case.now).alternatives.items _ _ _ _ _ _ c.deref.ensures.value c.deref-2.ensures.value c.deref-3.ensures.value
+    let read = part.read c.args.sight.now c.args.selected (out-Case c.args.case.now).alternatives.items _ _ _ _ _ _ c.deref.ensures.value c.deref-2.ensures.value c.deref-3.ensures.value
     c.in_ok-lists.ensures c.alternatives-all.ensures.kept c.alternatives-all.ensures.given in
     told_on _ _ _
-    (λ f h. part.told_none (sight_view c.args.sight.now) c.args.selected (tree.option_ident_view c.args.label.now) c.args.case.now (sight_view c.alternatives-all.new.sight) (cases.all_lists c.deref-3.result.now) c.alternatives-all.result read (alternatives_view c.in_ok-all.all) c.in_ok-all.ensures.given f c.in_ok-all-2.ensures.asked
+    (λ f h. part.told_none c.args.sight.now c.args.selected (tree.option_ident_view c.args.label.now) c.args.case.now c.alternatives-all.new.sight (cases.all_lists c.deref-3.result.now) c.alternatives-all.result read (alternatives_view c.in_ok-all.all) c.in_ok-all.ensures.given f c.in_ok-all-2.ensures.asked
     (told_same _ _ f (ap (λ v. any_alternative (out-Case c.args.case.now).at (alternatives_view v)) c.in_ok-all-2.ensures.same) h))
     c.but_last.ensures.told
 
 pub statements-loop-item-init : goal.statements-loop-item-init
-statements-loop-item-init m c = (refl, none_done tree.sequential_view c.args.list.now (steps.labelled (sight_view c.args.sight.now)) _ (ap (map statement_view) c.new-all.ensures.items), refl)
+statements-loop-item-init m c = (refl, none_done tree.sequential_view c.args.list.now (steps.labelled c.args.sight.now) _ (ap (map statement_view) c.new-all.ensures.items), refl)
 
 pub statements-returns-clause-given : goal.statements-returns-clause-given
-statements-returns-clause-given m c = all_done tree.sequential_view c.args.list.now (steps.labelled (sight_view c.args.sight.now)) _ c.loop-item.item-index c.loop-item-test.false c.loop-item.invariant.1
+statements-returns-clause-given m c = all_done tree.sequential_view c.args.list.now (steps.labelled c.args.sight.now) _ c.loop-item.item-index c.loop-item-test.false c.loop-item.invariant.1
 
 pub branches-loop-item-init : goal.branches-loop-item-init
-branches-loop-item-init m c = (refl, none_done tree.conditional_view c.args.list.now (steps.guarded (sight_view c.args.sight.now)) _ (ap (map branch_view) c.new-all.ensures.items), refl)
+branches-loop-item-init m c = (refl, none_done tree.conditional_view c.args.list.now (steps.guarded c.args.sight.now) _ (ap (map branch_view) c.new-all.ensures.items), refl)
 
 pub branches-returns-clause-given : goal.branches-returns-clause-given
-branches-returns-clause-given m c = all_done tree.conditional_view c.args.list.now (steps.guarded (sight_view c.args.sight.now)) _ c.loop-item.item-index c.loop-item-test.false c.loop-item.invariant.1
+branches-returns-clause-given m c = all_done tree.conditional_view c.args.list.now (steps.guarded c.args.sight.now) _ c.loop-item.item-index c.loop-item-test.false c.loop-item.invariant.1
 
 pub alternatives-loop-item-init : goal.alternatives-loop-item-init
-alternatives-loop-item-init m c = (refl, none_done tree.alternative_view c.args.list.now (cases.chosen (sight_view c.args.sight.now) c.args.selected) _ (ap (map alternative_view) c.new-all.ensures.items), refl)
+alternatives-loop-item-init m c = (refl, none_done tree.alternative_view c.args.list.now (cases.chosen c.args.sight.now c.args.selected) _ (ap (map alternative_view) c.new-all.ensures.items), refl)
 
 pub alternatives-returns-clause-given : goal.alternatives-returns-clause-given
-alternatives-returns-clause-given m c = all_done tree.alternative_view c.args.list.now (cases.chosen (sight_view c.args.sight.now) c.args.selected) _ c.loop-item.item-index c.loop-item-test.false c.loop-item.invariant.1
+alternatives-returns-clause-given m c = all_done tree.alternative_view c.args.list.now (cases.chosen c.args.sight.now c.args.selected) _ c.loop-item.item-index c.loop-item-test.false c.loop-item.invariant.1

@@ -1,5 +1,4 @@
 use Rattle.vhdl_tree.specs.View as tree
-use Rattle.vhdl_names_types.specs.Views.{sight_view}
 use Rattle.vhdl_names_rules.specs.problems.Broken.{Tells}
 use Rattle.vhdl_names_rules.specs.problems.Statements as broken
 use Rattle.vhdl_names_statements.proofs.steps.Assigning.{assigned_target, assigned_value}
@@ -8,7 +7,7 @@ use Rattle.vhdl_names_statements.proofs.statements.assigned.Goals as goal
 
 pub returns-in_err-signal-clause-told : goal.returns-in_err-signal-clause-told
 returns-in_err-signal-clause-told c =
-    let s = sight_view c.args.sight.now in
+    let s = c.args.sight.now in
     let n = tree.name_view c.args.name.now in
     let v = tree.value_view c.args.value.now in
     let h : Tells (broken.assigned s n v) c.in_err-signal.field-0.0 = assigned_target s n v c.in_err-signal.field-0.0 c.in_err-signal.ensures.told in
@@ -16,7 +15,7 @@ returns-in_err-signal-clause-told c =
 
 pub returns-in_err-value-clause-told : goal.returns-in_err-value-clause-told
 returns-in_err-value-clause-told c =
-    let s = sight_view c.args.sight.now in
+    let s = c.args.sight.now in
     let n = tree.name_view c.args.name.now in
     let v = tree.value_view c.args.value.now in
     let h : Tells (broken.assigned s n v) c.in_err-value.field-0.0 = assigned_value s n v c.in_err-value.field-0.0 _ c.in_ok-signal.ensures.given c.in_err-value.ensures.told in
