@@ -1,9 +1,9 @@
 //! What a call gives.
 
-ghost use Rattle.rtl_sink.specs.Written.{IsIntact};
+ghost use Rattle.byte_streams.specs.Written.{IsIntact};
 
 use crate::text::Text;
-use rtl_sink::Sink;
+use byte_streams::Sink;
 use std::alloc::Global;
 
 /// The status of a call, what went to its two outputs, and what showed how far a run was.

@@ -6,7 +6,7 @@ use crate::failing::{wrong_by_endless, wrong_by_reads, wrong_by_shows, wrong_by_
 use crate::program::Program;
 use crate::row::Row;
 use crate::text::Text;
-use rtl_sink::{In, Reader};
+use byte_streams::{In, Reader};
 use std::alloc::Global;
 use std::rt::Files;
 

@@ -6,7 +6,7 @@ use crate::faulty::{Endless, FailingReader, FailingWriter, Failure};
 use crate::program::Program;
 use crate::row::Row;
 use crate::text::Text;
-use rtl_sink::{In, Out};
+use byte_streams::{In, Out};
 use std::alloc::Global;
 
 /// After how many writes an output fails, and how.

@@ -1,8 +1,8 @@
 //! The program, as rows call it.
 
-ghost use Rattle.rtl_sink.specs.Written.{IsIntact};
+ghost use Rattle.byte_streams.specs.Written.{IsIntact};
 
-use rtl_sink::{Reader, Sink};
+use byte_streams::{Reader, Sink};
 use std::alloc::Global;
 use std::rt::Files;
 

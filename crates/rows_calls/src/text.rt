@@ -1,9 +1,9 @@
 //! Texts that grow piece by piece.
 
 ghost use Rattle.std.specs.Prelude.{◌≡◌, Some};
-ghost use Rattle.rtl_sink.specs.Written.{IsIntact};
+ghost use Rattle.byte_streams.specs.Written.{IsIntact};
 
-use rtl_sink::Sink;
+use byte_streams::Sink;
 use std::alloc::Global;
 use std::fmt::{Debug, Display};
 use std::io;
@@ -62,7 +62,7 @@ impl Text {
 
     /// Adds a number in decimal digits.
     pub fn push_number(&mut self, number: usize) {
-        rtl_sink::push_number(self, number as u64);
+        byte_streams::push_number(self, number as u64);
     }
 
     /// Adds the name of a value.

@@ -4,9 +4,9 @@ ghost use Rattle.vhdl_lexer.specs.Cut.{AreWithin};
 
 use crate::source::{push_written, source_of};
 use rows_calls::Text;
-use rtl_report::{LexRule, Place, Report, Rule, Subject, SyntaxRule};
-use rtlsim_explain::{Lexed, explain_refusal, explain_source};
-use rtlsim_files::SourceFile;
+use fault_rules::{LexRule, Place, Report, Rule, Subject, SyntaxRule};
+use rtlsim_refusals::{Lexed, explain_refusal, explain_source};
+use vhdl_source_files::SourceFile;
 use std::alloc::Global;
 use vhdl_expected::{Expected, expected_at};
 use vhdl_lexer::{LexFault, Token, lex};

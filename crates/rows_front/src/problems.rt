@@ -3,7 +3,7 @@
 use crate::explained::explain_at;
 use crate::source::{push_source, push_written, source_of};
 use rows_calls::Text;
-use rtl_report::{ElabRule, NameRule, Rule, Subject};
+use fault_rules::{ElabRule, NameRule, Rule, Subject};
 use std::alloc::Global;
 use vhdl_expected::Expected;
 use vhdl_lexer::lex;

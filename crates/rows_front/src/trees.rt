@@ -4,7 +4,7 @@ ghost use Rattle.vhdl_lexer.specs.Cut.{AreWithin};
 
 use crate::fault::push_fault;
 use rows_calls::{Frame, Text};
-use rows_front_trees::push_file;
+use rows_tree_texts::push_file;
 use std::alloc::Global;
 use vhdl_lexer::{LexFault, Token, lex};
 use vhdl_parser::{SyntaxFault, parse};

@@ -6,7 +6,7 @@ ghost use Rattle.vhdl_values.specs.declared.scalar.Nine.TheVariants as nine;
 
 use crate::texts::push_count;
 use rtl_agenda::{Agenda, MapAgenda, NoMemory, Wheel};
-use rtl_sink::{Sink, push_line, push_text};
+use byte_streams::{Sink, push_line, push_text};
 use std::alloc::Global;
 use vhdl_values::Nine;
 

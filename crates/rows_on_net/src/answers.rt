@@ -1,7 +1,7 @@
 //! What comes of a simulation.
 
 ghost use Rattle.std.specs.Prelude.{◌≡◌};
-ghost use Rattle.rtl_sink.specs.Written.{IsIntact};
+ghost use Rattle.byte_streams.specs.Written.{IsIntact};
 ghost use Rattle.rtl_stim.specs.Ports.{HasOwnPorts, inputs_of};
 
 use crate::row::Row;
@@ -10,7 +10,7 @@ use rtl_eval::trees;
 use rtl_kernel::Pick;
 use rtl_net::Net;
 use rtl_run::{RunFault, Simulation, Summary};
-use rtl_sink::{Sink, Unwatched, push_text};
+use byte_streams::{Sink, Unwatched, push_text};
 use rtl_stim::{MapAgenda, StimFault, StimProblem, Stimulus};
 use std::alloc::Global;
 

@@ -1,6 +1,6 @@
 //! Runs of sources over bodies as trees and an agenda over a map, as the program makes them over codes and a wheel.
 
-ghost use Rattle.rtl_sink.specs.Written.{IsIntact};
+ghost use Rattle.byte_streams.specs.Written.{IsIntact};
 ghost use Rattle.rtl_stim.specs.Ports.{HasOwnPorts};
 
 use crate::answers::{push_end, simulate};
@@ -9,7 +9,7 @@ use rtl_check::stored;
 use rtl_kernel::Pick;
 use rtl_net::Net;
 use rtl_run::{MachineFault, RunFault, Summary, admit};
-use rtl_sink::{Sink, push_text};
+use byte_streams::{Sink, push_text};
 use rtl_stim::{StimFault, Stimulus};
 use std::alloc::Global;
 

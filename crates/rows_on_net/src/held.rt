@@ -1,9 +1,9 @@
 //! An output that fails, and holds what it takes against what must come.
 
 ghost use Rattle.std.specs.Prelude.{◌≡◌, None};
-ghost use Rattle.rtl_sink.specs.Written.{IsIntact};
+ghost use Rattle.byte_streams.specs.Written.{IsIntact};
 
-use rtl_sink::Sink;
+use byte_streams::Sink;
 
 /// Takes at most so many bytes a call, at so many calls, and then fails.
 #[derive(Drop)]

@@ -9,7 +9,7 @@ use crate::courses::{
 use crate::nets::Nets;
 use crate::pickers::{Asked, Order};
 use crate::stepping::tell_course;
-use rtl_sink::{Sink, push_line};
+use byte_streams::{Sink, push_line};
 use std::alloc::Global;
 
 const ROWS: &[(&str, &Course, Order)] = &[

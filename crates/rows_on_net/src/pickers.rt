@@ -2,7 +2,7 @@
 
 use crate::texts::push_count;
 use rtl_kernel::{Forward, Pick, Reverse};
-use rtl_sink::{Sink, push_text};
+use byte_streams::{Sink, push_text};
 
 /// Which of the processes that are to run is run next.
 #[derive(Clone, Copy)]

@@ -1,7 +1,7 @@
 //! What each process of a netlist drives, reads and is sensitive to, in words.
 
 use rtl_net::{Net, Process, SignalKind, Variable};
-use rtl_sink::{Sink, push_number, push_text};
+use byte_streams::{Sink, push_number, push_text};
 use rtlsim_listing::net_name;
 use std::alloc::Global;
 use vhdl_values::Nine;

@@ -1,6 +1,6 @@
 //! A row of a table.
 
-use rtl_sink::{Out, push_line};
+use byte_streams::{Out, push_line};
 use std::alloc::Global;
 
 /// A stimulus, how many delta cycles a moment may take, and what must come of it: the trace, and the line of the answer.

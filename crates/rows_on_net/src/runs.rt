@@ -13,7 +13,7 @@ use crate::texts::push_marked;
 use crate::ways::other_way;
 use rtl_kernel::Forward;
 use rtl_net::Net;
-use rtl_sink::{Out, Sink, push_line, push_text};
+use byte_streams::{Out, Sink, push_line, push_text};
 use std::alloc::Global;
 
 /// Tells the rows of a table. Behind `$` stand the netlist's name and how many delta cycles a moment may take.

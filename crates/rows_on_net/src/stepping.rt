@@ -14,7 +14,7 @@ use rtl_eval::{Exec, trees};
 use rtl_eval_code::codes;
 use rtl_kernel::Kernel;
 use rtl_net::Net;
-use rtl_sink::{Sink, push_line, push_text};
+use byte_streams::{Sink, push_line, push_text};
 use std::alloc::Global;
 use std::cell::Cell;
 

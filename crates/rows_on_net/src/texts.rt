@@ -1,6 +1,6 @@
 //! Texts with numbers, and lines behind marks.
 
-use rtl_sink::{Sink, push_line, push_number, push_text};
+use byte_streams::{Sink, push_line, push_number, push_text};
 
 /// Writes a text and a number behind it.
 pub fn push_count<S: Sink>(out: &mut S, text: &str, count: u64) {

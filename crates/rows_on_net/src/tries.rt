@@ -5,7 +5,7 @@ use crate::texts::{push_joined, push_truth};
 use rtl_check::{Report, Verdict, check, stored};
 use rtl_net::Net;
 use rtl_recheck::recheck;
-use rtl_sink::{Out, Sink, push_text};
+use byte_streams::{Out, Sink, push_text};
 use rtlsim_listing::{show_check, show_faults};
 use std::alloc::Global;
 

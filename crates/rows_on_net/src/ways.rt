@@ -7,7 +7,7 @@ use crate::held::Held;
 use crate::row::Row;
 use rtl_kernel::{Forward, Pick, Reverse};
 use rtl_net::Net;
-use rtl_sink::Out;
+use byte_streams::Out;
 use std::alloc::Global;
 
 /// A way of simulating a row in which something else comes of it than must: with the processes in the reverse order, to an output that

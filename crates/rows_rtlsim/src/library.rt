@@ -1,6 +1,6 @@
 //! The library's calls.
 
-ghost use Rattle.rtl_sink.specs.Written.{IsIntact};
+ghost use Rattle.byte_streams.specs.Written.{IsIntact};
 
 use crate::opened::Opened;
 use rows_calls::bytes_of;
@@ -10,7 +10,7 @@ use rtlsim::{
     run_event, run_levels, show_check, show_check_dot, show_net,
 };
 use std::alloc::Global;
-use vhdl_source::Vhdl;
+use vhdl_front::Vhdl;
 
 /// Makes a call, and gives the status, which stands for its fault if it has one.
 pub fn answer_by_library<S: Sink>(alloc: Global, call: &Call<'_>, input: &[u8], out: &mut S) -> u8

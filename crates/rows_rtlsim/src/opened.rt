@@ -3,7 +3,7 @@
 use rows_on_net::Nets;
 use rtl_net::Net;
 use std::alloc::Global;
-use vhdl_source::open;
+use vhdl_front::open;
 
 /// Netlists that are opened as the program opens them.
 pub struct Opened;

@@ -4,7 +4,7 @@ use rows_calls::{Frame, Teller, Text};
 use rows_on_net::push_processes;
 use std::alloc::Global;
 use vhdl_expand_rules::{ElabFault, ElabProblem};
-use vhdl_source::{SourceFault, open};
+use vhdl_front::{SourceFault, open};
 
 /// What each process of a netlist drives, reads and is sensitive to, and what its variables start with.
 #[derive(Clone, Copy)]

@@ -2,11 +2,11 @@
 
 use crate::library::{answer_by_library, answer_by_trees};
 use rows_calls::Program;
-use rtl_sink::{Reader, Sink};
+use byte_streams::{Reader, Sink};
 use rtlsim::{Named, Standard, parse_words, tool, tool_first_line, tool_with};
 use std::alloc::Global;
 use std::rt::Files;
-use vhdl_source::Vhdl;
+use vhdl_front::Vhdl;
 
 /// The program.
 pub struct Rtlsim;

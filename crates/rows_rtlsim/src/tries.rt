@@ -3,7 +3,7 @@
 use rows_calls::{Frame, Teller, Text};
 use rows_on_net::push_try;
 use std::alloc::Global;
-use vhdl_source::open;
+use vhdl_front::open;
 
 /// Tries with the design of a row's frame, by the row's words.
 #[derive(Clone, Copy)]

@@ -1,7 +1,7 @@
 //! Faults of a netlist.
 
 use rtl_net::Source;
-use rtl_report::CheckRule;
+use fault_rules::CheckRule;
 use std::fmt;
 use thiserror::Error;
 

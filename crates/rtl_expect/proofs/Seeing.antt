@@ -4,7 +4,7 @@ use Rattle.std.specs.Prelude.{◌≢◌, if◌then◌else◌, slice_get, option_
 use Rattle.std.proofs.lemmas.Bool.Decides.{nat_tests}
 use Rattle.std.proofs.lemmas.List.{length-append}
 use Rattle.std.proofs.lemmas.Option.{slice_get-map, slice_get-get_or}
-use Rattle.rtl_sink.specs.Stands.{Stand}
+use Rattle.byte_streams.specs.Stands.{Stand}
 use Rattle.rtl_expect.specs.declared.difference.Difference.{Difference as KeptDifference}
 use Rattle.rtl_expect.specs.declared.expectation.Expectation.{Expectation as KeptExpectation}
 use Rattle.rtl_expect.specs.declared.watching.Expectations.{Expectations}

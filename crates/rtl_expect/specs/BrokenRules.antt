@@ -1,6 +1,6 @@
 -- The rule that a problem breaks.
-use Rattle.rtl_report.specs.declared.expecting.ExpectRule.{ExpectRule}
-use Rattle.rtl_report.specs.declared.expecting.ExpectRule.TheVariants as rule
+use Rattle.fault_rules.specs.declared.expecting.ExpectRule.{ExpectRule}
+use Rattle.fault_rules.specs.declared.expecting.ExpectRule.TheVariants as rule
 use Rattle.rtl_expect.specs.declared.faults.ExpectProblem.{ExpectProblem}
 use Rattle.rtl_expect.specs.declared.faults.ExpectProblem.TheVariants as problem
 

@@ -1,7 +1,7 @@
 -- Whether what is expected holds of what stands. At a time the values stand to which the last moment before it or at it settled: the
 -- first values that end behind it. Where none stand any more, behind the stop, nothing that is expected holds.
 use Rattle.std.specs.Prelude.{ℕ, ◌==◌, ◌&&◌, nat_lt, Bool, true, List, [], ◌∷◌, map, Option, Some, None, slice_index, if◌then◌else◌}
-use Rattle.rtl_sink.specs.Stands.{Stand}
+use Rattle.byte_streams.specs.Stands.{Stand}
 use Rattle.rtl_expect.specs.declared.expected.Wanted.{Wanted}
 use Rattle.rtl_expect.specs.Expected.{Expectation}
 

@@ -3,7 +3,7 @@ use Rattle.std.specs.Prelude.{◌≡◌, ◌≢◌, ℕ, ◌≤◌, nat_lt, Bool
 use Rattle.std.proofs.Common.{refl, sym, ap}
 use Rattle.std.specs.Global.{Global}
 use Rattle.rtl_net.specs.Nets.{NetlistView}
-use Rattle.rtl_sink.specs.Stands.{Stand}
+use Rattle.byte_streams.specs.Stands.{Stand}
 use Rattle.rtl_expect.specs.declared.expectation.Expectation.{Expectation as KeptExpectation}
 use Rattle.rtl_expect.specs.declared.difference.Difference.{Difference as KeptDifference}
 use Rattle.rtl_expect.specs.declared.watching.Expectations.{Expectations}

@@ -4,7 +4,7 @@ ghost use Rattle.std.specs.Prelude.{◌≡◌};
 ghost use Rattle.rtl_expect.specs.BrokenRules.{rule_of};
 ghost use Rattle.rtl_expect.specs.declared.faults.ExpectFault.TheVariants.{NoMemory};
 
-use rtl_report::ExpectRule;
+use fault_rules::ExpectRule;
 use std::alloc::{AllocError, AllocFailed};
 use thiserror::Error;
 

@@ -2,7 +2,7 @@
 
 ghost use Rattle.std.specs.Prelude.{◌≡◌, ◌<◌, ◌≤◌, length, map, slice_get, slice_index};
 ghost use Rattle.vhdl_values.specs.Scalar.{letter_of, value_of_code};
-ghost use Rattle.rtl_sink.specs.Written.{Goes};
+ghost use Rattle.byte_streams.specs.Written.{Goes};
 ghost use Rattle.rtl_net.specs.Nets.{scope_view, signal_view};
 ghost use Rattle.rtl_net.specs.Elaborated.{AreScopes};
 ghost use Rattle.rtl_expect.specs.Names as names;
@@ -11,7 +11,7 @@ ghost use Rattle.rtl_expect.specs.Watching.{difference_view};
 
 use crate::difference::{Codes, Difference};
 use rtl_net::{Net, Scope, Signal, SignalKind};
-use rtl_sink::{Sink, push_number, push_text};
+use byte_streams::{Sink, push_number, push_text};
 use vhdl_values::Nine;
 
 /// Writes the line that tells a difference from what a netlist's signals were expected to be: `rtlsim: expect 1 Differs TIME NAME is VALUE

@@ -1,7 +1,7 @@
 //! Expectations that are compared while a netlist is simulated.
 
 ghost use Rattle.std.specs.Prelude.{◌≡◌, ◌+◌, ◌<◌, ◌≤◌, ◌∷◌, ◌++◌, List, drop, length, option_map, slice_get, vec_len, Some, IfSome};
-ghost use Rattle.rtl_sink.specs.Stands.{Stand};
+ghost use Rattle.byte_streams.specs.Stands.{Stand};
 ghost use Rattle.rtl_expect.specs.Expected as said;
 ghost use Rattle.rtl_expect.specs.Differences.{difference_in, first_difference, or_later};
 ghost use Rattle.rtl_expect.specs.Watching.{expected_by, difference_view, AreRead, HasSeen, IsToldOf, fresh_has_seen, next_is_before};
@@ -11,7 +11,7 @@ use crate::expectation::Expectation;
 use crate::faults::ExpectFault;
 use crate::reading::read_lines;
 use rtl_net::Net;
-use rtl_sink::Watch;
+use byte_streams::Watch;
 use std::alloc::Global;
 
 /// What is expected of the signals of a netlist, in order of time and of lines; how many of these have been compared, and the first

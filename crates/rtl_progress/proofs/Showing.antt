@@ -2,9 +2,9 @@
 use Rattle.std.proofs.Common.{◌≡◌, ℕ, ◌<◌, ◌≤◌, max, List, [], ◌∷◌, ◌++◌, true, false, refl, ap, sym, ◌∙◌, subst, append_assoc, append-nil, arith}
 use Rattle.std.specs.Prelude.{nat_lt}
 use Rattle.std.proofs.lemmas.Bool.Decides.{nat_tests}
-use Rattle.rtl_sink.specs.Written.{SinkState, Goes}
-use Rattle.rtl_sink.proofs.Writing.{Goes-nil, Goes-append}
-use Rattle.rtl_sink.specs.Stands.{Stand}
+use Rattle.byte_streams.specs.Written.{SinkState, Goes}
+use Rattle.byte_streams.proofs.Writing.{Goes-nil, Goes-append}
+use Rattle.byte_streams.specs.Stands.{Stand}
 use Rattle.rtl_progress.specs.Shown.{HasShown, hundredths, shown_after, shown_text, text_of_hundredths, text_of_more}
 
 noted_more : (stop shown : ℕ) (stands : List Stand) (x : Stand)

@@ -1,9 +1,9 @@
 -- What is shown of a simulation while it runs: how many hundredths of the time till its stop are simulated, each time that there are more.
 use Rattle.std.specs.Prelude.{◌≡◌, ℕ, ◌*◌, ◌/◌, min, max, ◌==◌, nat_lt, List, [], ◌∷◌, ◌++◌, codes, decimal, if◌then◌else◌}
 use Rattle.std.proofs.Common.{refl}
-use Rattle.rtl_sink.specs.Written.{SinkState, Goes}
-use Rattle.rtl_sink.proofs.Writing.{Goes-nil}
-use Rattle.rtl_sink.specs.Stands.{Stand}
+use Rattle.byte_streams.specs.Written.{SinkState, Goes}
+use Rattle.byte_streams.proofs.Writing.{Goes-nil}
+use Rattle.byte_streams.specs.Stands.{Stand}
 
 -- of the time till the stop: all where it is at 0
 abbrev pub hundredths : (stop until : ℕ) → ℕ

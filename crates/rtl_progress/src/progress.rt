@@ -2,10 +2,10 @@
 
 ghost use Rattle.std.specs.Prelude.{◌≡◌};
 ghost use Rattle.std.proofs.Common.{refl};
-ghost use Rattle.rtl_sink.specs.Written.{Goes};
+ghost use Rattle.byte_streams.specs.Written.{Goes};
 ghost use Rattle.rtl_progress.specs.Shown.{hundredths, text_of_hundredths, text_of_end, HasShown, nothing_shown};
 
-use rtl_sink::{Sink, Watch, push_number, push_text};
+use byte_streams::{Sink, Watch, push_number, push_text};
 
 /// Shows how many hundredths of the time till the stop are simulated, each time that there are more: a line that replaces the one before
 /// it. What the sink doesn't take is left out.

@@ -4,13 +4,13 @@ use Rattle.std.specs.Prelude.{slice_index}
 use Rattle.rtl_model.specs.simulation.Moments.{Begun}
 use Rattle.rtl_net.specs.Core.{core}
 use Rattle.rtl_stim.specs.Stimuli.{moments, inputs_at}
-use Rattle.rtl_sink.specs.Stands.{Stand}
+use Rattle.byte_streams.specs.Stands.{Stand}
 use Rattle.rtl_run.specs.declared.summary.RunFault.{RunFault}
 use Rattle.rtl_run.specs.simulations.Engines.{CourseView, IsStuck}
 use Rattle.rtl_run.specs.simulations.Answered.{Fails, StopsAt}
 use Rattle.rtl_run.specs.simulations.Watched.{StandsFrom, WasTold}
 use Rattle.rtl_run.proofs.Stands.{HasHeard}
-use Rattle.rtl_sink.specs.Written.{SinkState}
+use Rattle.byte_streams.specs.Written.{SinkState}
 
 module _ (r : CourseView) (m time : ℕ) (Tells : (before now : List ℕ) → Type 0) (fault : RunFault) (S : IsStuck r m time Tells fault) where
   pub told_stuck : (Told Now : List Stand → Type 0) (Stuck : List Stand → (before now : List ℕ) → (time : ℕ) → Type 0) → (H : HasHeard (StandsFrom r.net r.stimulus) Told m)

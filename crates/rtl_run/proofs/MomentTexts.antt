@@ -2,7 +2,7 @@
 use Rattle.std.proofs.Common.{◌≡◌, ℕ, suc, Bool, ◌<◌, List, [], ◌∷◌, ◌++◌, length, get_or, refl, sym, ap, subst, ◌∙◌, append-nil, append_assoc, arith}
 use Rattle.std.specs.Prelude.{if◌then◌else◌}
 use Rattle.rtl_net.specs.Nets.{NetlistView, SignalView}
-use Rattle.rtl_sink.specs.Written.{SinkState, Goes}
+use Rattle.byte_streams.specs.Written.{SinkState, Goes}
 use Rattle.rtl_vcd.specs.Header.{header_text}
 use Rattle.rtl_vcd.specs.Trace.{Moment, first_text, moment_text, moments_text, end_text, are_some, changes}
 use Rattle.rtl_stim.specs.Stimuli.{StimulusView, moments}

@@ -5,7 +5,7 @@ use Rattle.rtl_net.specs.Nets.{NetlistView}
 use Rattle.rtl_agenda.specs.Agenda.{Change}
 use Rattle.rtl_stim.specs.Moments.{GivesNext}
 use Rattle.rtl_stim.specs.Stimuli.{StimulusView, moments}
-use Rattle.rtl_sink.specs.Stands.{Stand}
+use Rattle.byte_streams.specs.Stands.{Stand}
 use Rattle.rtl_run.specs.simulations.Engines.{CourseView, ComesTo}
 use Rattle.rtl_run.specs.simulations.Watched.{until_of, StandsFrom, IsToldAll, IsToldFirst}
 

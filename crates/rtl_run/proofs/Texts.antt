@@ -5,8 +5,8 @@ use Rattle.rtl_model.specs.simulation.Cycle.{State}
 use Rattle.rtl_model.specs.simulation.Moments.{HasSettled}
 use Rattle.rtl_net.specs.Nets.{NetlistView, SignalView}
 use Rattle.rtl_net.specs.Core.{core}
-use Rattle.rtl_sink.specs.Written.{SinkState, TakesBeginning}
-use Rattle.rtl_sink.proofs.Writing.{TakesBeginning-append}
+use Rattle.byte_streams.specs.Written.{SinkState, TakesBeginning}
+use Rattle.byte_streams.proofs.Writing.{TakesBeginning-append}
 use Rattle.rtl_vcd.specs.Header.{header_text}
 use Rattle.rtl_vcd.specs.Trace.{Moment, first_text, moment_text, moments_text, trace_text, are_some, changes}
 use Rattle.rtl_stim.specs.Stimuli.{StimulusView, moments, inputs_at}

@@ -5,8 +5,8 @@ use Rattle.rtl_model.specs.simulation.Laws.{OneGreatestCount}
 use Rattle.rtl_net.specs.Nets.{NetlistView, flat}
 use Rattle.rtl_net.specs.Elaborated.{IsNet}
 use Rattle.rtl_net.specs.Core.{core}
-use Rattle.rtl_sink.specs.Stands.{Stand}
-use Rattle.rtl_sink.specs.Written.{SinkState, TakesAll}
+use Rattle.byte_streams.specs.Stands.{Stand}
+use Rattle.byte_streams.specs.Written.{SinkState, TakesAll}
 use Rattle.rtl_model.proofs.nets.Connected.{connected_is_elaborated}
 use Rattle.rtl_stim.specs.Stimuli.{StimulusView, moments, inputs_at}
 use Rattle.rtl_stim.proofs.Next.{each_begins_at_zero}

@@ -8,7 +8,7 @@ use Rattle.rtl_eval_code.specs.Codes.{CodeOf, process_of}
 use Rattle.rtl_kernel.specs.kernel.Kept.{RunBodies}
 use Rattle.rtl_net.specs.Core.{core}
 use Rattle.rtl_net.specs.Nets.{NetlistView, flat}
-use Rattle.rtl_sink.specs.Written.{SinkState, IsIntact}
+use Rattle.byte_streams.specs.Written.{SinkState, IsIntact}
 use Rattle.rtl_stim.specs.Ports.{HasOwnPorts, inputs_of}
 use Rattle.rtl_stim.specs.Stimuli.{StimulusView, inputs_at}
 use Rattle.rtl_run.specs.declared.admission.Admitted.{Admitted}

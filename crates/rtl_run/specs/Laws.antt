@@ -1,7 +1,7 @@
 -- Whatever the order of processes (IEEE 1076-2008, 14.7.5.3), a simulation answers alike and writes the same.
 use Rattle.std.specs.Prelude.{◌≡◌, ⊤, ℕ, List, Result, Ok, Err}
 use Rattle.rtl_net.specs.Nets.{NetlistView}
-use Rattle.rtl_sink.specs.Written.{SinkState, TakesAll}
+use Rattle.byte_streams.specs.Written.{SinkState, TakesAll}
 use Rattle.rtl_stim.specs.Stimuli.{StimulusView}
 use Rattle.rtl_run.specs.declared.summary.Summary.{Summary}
 use Rattle.rtl_run.specs.declared.summary.RunFault.{RunFault}

@@ -2,7 +2,7 @@
 
 ghost use Rattle.std.specs.Prelude.{IfErr, IfOk};
 ghost use Rattle.rtl_stim.specs.Ports.{HasOwnPorts};
-ghost use Rattle.rtl_sink.specs.Written.{IsIntact};
+ghost use Rattle.byte_streams.specs.Written.{IsIntact};
 ghost use Rattle.rtl_run.specs.Answered.{Admits};
 ghost use Rattle.rtl_run.specs.Watched.{IsToldRun, WasToldRun};
 ghost use Rattle.rtl_run.specs.levels.Answered.{RunsLevels};
@@ -12,7 +12,7 @@ use crate::level_summary::LevelSummary;
 use crate::prepared::{Prepared, prepare};
 use crate::stepping::Stepping;
 use rtl_net::Net;
-use rtl_sink::{Sink, Watch};
+use byte_streams::{Sink, Watch};
 use std::alloc::Global;
 
 /// Simulates a netlist under the stimulus that a text says, as the synchronous machine that it is:

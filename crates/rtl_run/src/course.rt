@@ -2,7 +2,7 @@
 
 ghost use Rattle.std.specs.Prelude.{◌≡◌, ℕ, pred, ◌<◌, [], length, None, MatchResult, OnOk};
 ghost use Rattle.rtl_net_groups.specs.Touching.{KeepsLeft};
-ghost use Rattle.rtl_sink.specs.Written.{SinkState, IsIntact};
+ghost use Rattle.byte_streams.specs.Written.{SinkState, IsIntact};
 ghost use Rattle.rtl_run.specs.simulations.Engines.{course_of};
 ghost use Rattle.rtl_run.specs.simulations.Ended.{EndsAll, EndsBefore};
 ghost use Rattle.rtl_run.specs.simulations.Running.{HasCome, IsNextMoment, GoesOn};
@@ -11,7 +11,7 @@ use crate::engine::Engine;
 use crate::progress::Progress;
 use crate::summary::RunFault;
 use rtl_net::Net;
-use rtl_sink::{Sink, Watch};
+use byte_streams::{Sink, Watch};
 use rtl_stim::{Agenda, Stimulus};
 use rtl_vcd::{Blocks, VcdFault, end, first, header};
 use std::alloc::Global;

@@ -2,12 +2,12 @@
 
 ghost use Rattle.std.specs.Prelude.{◌≡◌, ℕ, suc, List, length, OnOk, MatchResult};
 ghost use Rattle.rtl_net_groups.specs.Touching.{Chunks, KeepsLeft};
-ghost use Rattle.rtl_sink.specs.Stands.{Stand};
+ghost use Rattle.byte_streams.specs.Stands.{Stand};
 ghost use Rattle.rtl_run.specs.simulations.Engines.{CourseView, Follows, IsStuck, Shows};
 
 use crate::summary::RunFault;
 use rtl_net_groups::Touched;
-use rtl_sink::Watch;
+use byte_streams::Watch;
 use vhdl_values::Nine;
 
 /// Computes what the moments of a simulation settle to, one after another.

@@ -4,7 +4,7 @@ ghost use Rattle.std.specs.Prelude.{◌≡◌, map, length, IfOk};
 ghost use Rattle.rtl_stim.specs.Ports.{HasOwnPorts, inputs_of};
 ghost use Rattle.rtl_stim.specs.Stimuli.{inputs_at};
 ghost use Rattle.rtl_net.specs.Core.{core};
-ghost use Rattle.rtl_sink.specs.Written.{IsIntact};
+ghost use Rattle.byte_streams.specs.Written.{IsIntact};
 ghost use Rattle.rtl_run.specs.Synchronous.{SaysYes, IsRaceless};
 ghost use Rattle.rtl_run.specs.Evaluated.{Evaluates, IsFirstOf};
 
@@ -18,7 +18,7 @@ use crate::ports::push_ports;
 use rtl_eval_code::codes;
 use rtl_kernel::Forward;
 use rtl_net::Net;
-use rtl_sink::{Sink, Unwatched, finish};
+use byte_streams::{Sink, Unwatched, finish};
 use std::alloc::{AllocError, Global};
 
 /// Writes, for each out port of the top in order of declaration, the line `NAME=VALUE` with its

@@ -6,7 +6,7 @@ ghost use Rattle.rtl_kernel.specs.kernel.Kept.{RunBodies};
 ghost use Rattle.rtl_net.specs.Core.{core};
 ghost use Rattle.rtl_net.specs.Nets.{flat};
 ghost use Rattle.rtl_net_groups.specs.Touching.{Touches};
-ghost use Rattle.rtl_sink.specs.Stands.{Stand};
+ghost use Rattle.byte_streams.specs.Stands.{Stand};
 ghost use Rattle.rtl_stim.specs.Ports.{HasOwnPorts, inputs_of};
 ghost use Rattle.rtl_run.specs.declared.summary.RunFault.TheVariants.{NoSettling};
 ghost use Rattle.rtl_run.specs.simulations.Engines.{KernelBegins, KernelSettled, course_of};
@@ -17,7 +17,7 @@ use crate::summary::RunFault;
 use rtl_eval::Exec;
 use rtl_kernel::{Kernel, Pick};
 use rtl_net_groups::Touched;
-use rtl_sink::Watch;
+use byte_streams::Watch;
 use std::alloc::{AllocError, Global};
 use vhdl_values::Nine;
 

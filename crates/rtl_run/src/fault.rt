@@ -7,7 +7,7 @@ ghost use Rattle.rtl_run.specs.Faults.{of_run, of_stim};
 
 use crate::summary::RunFault;
 use rtl_check::CheckFault;
-use rtl_sink::WriteFailed;
+use byte_streams::WriteFailed;
 use rtl_stim::StimFault;
 use std::alloc::AllocError;
 

@@ -7,7 +7,7 @@ use crate::summary::RunFault;
 use rtl_eval::Exec;
 use rtl_levels::Machine;
 use rtl_net_groups::Touched;
-use rtl_sink::Watch;
+use byte_streams::Watch;
 use vhdl_values::Nine;
 
 /// The synchronous machine of an accepted netlist, which is at the first moment from the start on.

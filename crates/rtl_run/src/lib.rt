@@ -23,7 +23,7 @@
 //!
 //! These calls ask that the ports of the netlist's top have names of their own, and that the
 //! elements of its in ports are the netlist's inputs, in their order (`HasOwnPorts` of rtl_stim). A
-//! netlist that a front gives has that (`Front::open` of vhdl_source_rules), and one that
+//! netlist that a front gives has that (`Front::open` of vhdl_front_rules), and one that
 //! `vhdl_elab::elaborate` gives of units whose ports have names of their own. Whoever makes a `Net`
 //! of parts has to show it: `Net::new` doesn't ask it, and no call tests it.
 #![tactic(auto)]

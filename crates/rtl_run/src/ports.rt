@@ -3,13 +3,13 @@
 ghost use Rattle.std.specs.Prelude.{◌≡◌, ◌≤◌, length, slice_index};
 ghost use Rattle.vhdl_values.specs.Scalar.{letter_of, value_of_code};
 ghost use Rattle.rtl_net.specs.Nets.{signal_view};
-ghost use Rattle.rtl_sink.specs.Written.{Goes};
+ghost use Rattle.byte_streams.specs.Written.{Goes};
 ghost use Rattle.rtl_run.specs.Evaluated as spec;
 ghost use Rattle.rtl_run.specs.Evaluated.{port_lines, port_text, port_line, letters};
 
 use rtl_body_facts::contains_rising;
 use rtl_net::{Net, Signal};
-use rtl_sink::{Sink, push_text};
+use byte_streams::{Sink, push_text};
 use vhdl_values::Nine;
 
 /// Writes the line of each out port of the top, in order of declaration, where the nets have these

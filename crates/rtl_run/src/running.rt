@@ -2,7 +2,7 @@
 
 ghost use Rattle.std.specs.Prelude.{IfErr, IfOk};
 ghost use Rattle.rtl_stim.specs.Ports.{HasOwnPorts};
-ghost use Rattle.rtl_sink.specs.Written.{IsIntact};
+ghost use Rattle.byte_streams.specs.Written.{IsIntact};
 ghost use Rattle.rtl_run.specs.Beginnings.{IsReady};
 ghost use Rattle.rtl_run.specs.Traced.{Traces};
 ghost use Rattle.rtl_run.specs.Answered.{Admits, RunsNet};
@@ -17,7 +17,7 @@ use rtl_eval::Exec;
 use rtl_kernel::Pick;
 use rtl_model::simulation_laws;
 use rtl_net::Net;
-use rtl_sink::{Sink, Watch};
+use byte_streams::{Sink, Watch};
 use rtl_stim::Agenda;
 use std::alloc::Global;
 

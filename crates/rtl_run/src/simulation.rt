@@ -3,7 +3,7 @@
 ghost use Rattle.std.specs.Prelude.{◌≡◌, [], None, IfErr, IfOk};
 ghost use Rattle.rtl_kernel.specs.kernel.Kept.{RunBodies};
 ghost use Rattle.rtl_net.specs.Nets.{flat};
-ghost use Rattle.rtl_sink.specs.Written.{IsIntact};
+ghost use Rattle.byte_streams.specs.Written.{IsIntact};
 ghost use Rattle.rtl_stim.specs.Ports.{HasOwnPorts, inputs_of};
 ghost use Rattle.rtl_run.specs.simulations.Answered.{Answers};
 ghost use Rattle.rtl_run.specs.simulations.Watched.{IsToldAll, WasTold};
@@ -14,7 +14,7 @@ use crate::summary::{RunFault, Summary};
 use rtl_eval::Exec;
 use rtl_kernel::Pick;
 use rtl_net::Net;
-use rtl_sink::{Sink, Watch};
+use byte_streams::{Sink, Watch};
 use rtl_stim::{Agenda, Stimulus};
 use std::alloc::Global;
 

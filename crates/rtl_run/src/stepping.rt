@@ -15,7 +15,7 @@ use crate::level_summary::LevelSummary;
 use rtl_eval::Exec;
 use rtl_levels::Machine;
 use rtl_net::Net;
-use rtl_sink::{Sink, Watch};
+use byte_streams::{Sink, Watch};
 use rtl_stim::{Agenda, Stimulus};
 use std::alloc::Global;
 

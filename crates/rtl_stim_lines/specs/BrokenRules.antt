@@ -1,6 +1,6 @@
 -- The rule that a problem breaks.
-use Rattle.rtl_report.specs.declared.stimuli.StimRule.{StimRule}
-use Rattle.rtl_report.specs.declared.stimuli.StimRule.TheVariants as rule
+use Rattle.fault_rules.specs.declared.stimuli.StimRule.{StimRule}
+use Rattle.fault_rules.specs.declared.stimuli.StimRule.TheVariants as rule
 use Rattle.rtl_stim_lines.specs.declared.faults.StimProblem.{StimProblem}
 use Rattle.rtl_stim_lines.specs.declared.faults.StimProblem.TheVariants as problem
 

@@ -4,7 +4,7 @@ ghost use Rattle.std.specs.Prelude.{◌≡◌};
 ghost use Rattle.rtl_stim_lines.specs.BrokenRules.{rule_of};
 ghost use Rattle.rtl_stim_lines.specs.declared.faults.StimFault.TheVariants.{NoMemory};
 
-use rtl_report::StimRule;
+use fault_rules::StimRule;
 use std::alloc::{AllocError, AllocFailed};
 use thiserror::Error;
 

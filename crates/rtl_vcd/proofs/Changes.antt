@@ -3,8 +3,8 @@ use Rattle.std.proofs.Common.{◌≡◌, ℕ, All, Bool, true, false, not, ◌||
 use Rattle.std.specs.Prelude.{◌==◌, if◌then◌else◌}
 use Rattle.std.specs.Str.{bytes_eq}
 use Rattle.std.proofs.lemmas.Bool.{false≢true, eqb-true, eqb-false}
-use Rattle.rtl_sink.specs.Written.{SinkState, Goes}
-use Rattle.rtl_sink.proofs.Writing.{Goes-append}
+use Rattle.byte_streams.specs.Written.{SinkState, Goes}
+use Rattle.byte_streams.proofs.Writing.{Goes-append}
 use Rattle.rtl_net.specs.Nets.{SignalView}
 use Rattle.rtl_vcd.specs.Trace.{printed, change, are_some, time_line}
 use Rattle.rtl_vcd.specs.Blocks.{changes_from, continued}

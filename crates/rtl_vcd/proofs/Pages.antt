@@ -4,8 +4,8 @@ use Rattle.std.specs.Prelude.{codes}
 use Rattle.std.proofs.lemmas.Slice.{take-put_mid}
 use Rattle.std.proofs.lemmas.List.{take_all, take-append-le, take-set, take_more_set, length-set}
 use borrow.Rule.Slice.PartMut.{put_mid}
-use Rattle.rtl_sink.specs.Written.{SinkState, Goes}
-use Rattle.rtl_sink.proofs.Writing.{Goes-nil, Goes-append}
+use Rattle.byte_streams.specs.Written.{SinkState, Goes}
+use Rattle.byte_streams.proofs.Writing.{Goes-nil, Goes-append}
 use Rattle.rtl_vcd.specs.Pages.{Passes}
 use Rattle.rtl_vcd.proofs.Runs.{behind_page}
 

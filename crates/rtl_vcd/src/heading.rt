@@ -1,7 +1,7 @@
 //! The header of a trace.
 
 ghost use Rattle.std.specs.Prelude.{◌≡◌, ◌+◌, ◌<◌, ◌≤◌, ◌++◌, length, map, codes, OnOk, OnErr};
-ghost use Rattle.rtl_sink.specs.Written.{IsIntact, HasFailed, Goes};
+ghost use Rattle.byte_streams.specs.Written.{IsIntact, HasFailed, Goes};
 ghost use Rattle.rtl_net.specs.Nets.{scope_view, signal_view};
 ghost use Rattle.rtl_net.specs.Elaborated.{AreScopes};
 ghost use Rattle.rtl_vcd.specs.Values as values;
@@ -12,7 +12,7 @@ use crate::fault::VcdFault;
 use crate::line::{Line, binary_digits, push_code};
 use crate::trace::written;
 use rtl_net::{Net, Scope, Signal, SignalKind};
-use rtl_sink::{Sink, push_number, push_text};
+use byte_streams::{Sink, push_number, push_text};
 
 /// Writes the header: the unit of time, and the design's scopes with their names. Takes no memory.
 ///

@@ -24,5 +24,5 @@ pub use fault::VcdFault;
 pub use heading::header;
 pub use laws::{codes_differ, print_as_said};
 pub use moment::Blocks;
-pub use rtl_sink::{Out, Sink, WriteFailed};
+pub use byte_streams::{Out, Sink, WriteFailed};
 pub use trace::{end, first};

@@ -1,7 +1,7 @@
 //! The changes at a time after 0.
 
 ghost use Rattle.std.specs.Prelude.{◌≡◌, ◌+◌, ◌<◌, ◌≤◌, ◌||◌, [], if◌then◌else◌, All, length, map, OnOk, OnErr, IfOk, IfSome};
-ghost use Rattle.rtl_sink.specs.Written.{IsIntact, HasFailed, Goes};
+ghost use Rattle.byte_streams.specs.Written.{IsIntact, HasFailed, Goes};
 ghost use Rattle.rtl_net.specs.Nets.{signal_view};
 ghost use Rattle.rtl_net_groups.specs.Touching.{KeepsLeft};
 ghost use Rattle.rtl_vcd.specs.Trace.{changes, time_line, are_some, moment_text};
@@ -18,7 +18,7 @@ use crate::ready::{Run, runs_of};
 use crate::trace::{push_time, written};
 use rtl_net::{Net, Signal};
 use rtl_net_groups::{Groups, PLACES, Touched};
-use rtl_sink::{Sink, push_text};
+use byte_streams::{Sink, push_text};
 use std::alloc::{AllocError, Global};
 use std::marker::Model;
 

@@ -1,7 +1,7 @@
 //! The changes of names, by way of a page.
 
 ghost use Rattle.std.specs.Prelude.{◌≡◌, ◌+◌, ◌<◌, ◌≤◌, ◌++◌, ◌||◌, [], if◌then◌else◌, All, length, map, take};
-ghost use Rattle.rtl_sink.specs.Written.{Goes};
+ghost use Rattle.byte_streams.specs.Written.{Goes};
 ghost use Rattle.rtl_net.specs.Nets.{signal_view};
 ghost use Rattle.rtl_vcd.specs.Trace.{change, time_line, are_some};
 ghost use Rattle.rtl_vcd.specs.Blocks.{changes_from, continued};
@@ -14,7 +14,7 @@ use crate::page::{PAGE, Page};
 use crate::ready::Run;
 use crate::trace::push_time;
 use rtl_net::Signal;
-use rtl_sink::{Sink, push_text};
+use byte_streams::{Sink, push_text};
 
 /// A time, and the values of the nets before it and at it.
 #[derive(Clone, Copy)]

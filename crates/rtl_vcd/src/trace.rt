@@ -1,7 +1,7 @@
 //! The parts of a trace behind its header.
 
 ghost use Rattle.std.specs.Prelude.{◌≡◌, ◌++◌, if◌then◌else◌, All, length, map, OnOk, OnErr, IfOk};
-ghost use Rattle.rtl_sink.specs.Written.{IsIntact, HasFailed, Goes};
+ghost use Rattle.byte_streams.specs.Written.{IsIntact, HasFailed, Goes};
 ghost use Rattle.rtl_net.specs.Nets.{signal_view};
 ghost use Rattle.rtl_vcd.specs.Values.{numbered};
 ghost use Rattle.rtl_vcd.specs.Trace.{printed, changes, time_line, first_text, stamped, are_some, moment_text, end_text};
@@ -10,7 +10,7 @@ ghost use Rattle.rtl_vcd.specs.Shown.{IsShown};
 use crate::change::change_line;
 use crate::fault::VcdFault;
 use rtl_net::{Net, Signal};
-use rtl_sink::{Sink, finish, push_number, push_text};
+use byte_streams::{Sink, finish, push_number, push_text};
 
 /// Writes what every name prints at 0, where the nets have these values, one for each net. Takes no memory.
 ///

@@ -1,7 +1,7 @@
 -- A new buffer before a writer.
 use Rattle.std.proofs.Common.{◌≡◌, ℕ, Bool, false, List, [], Option, Some, None, append-nil, ap, refl, ◌∙◌}
 use Rattle.std.specs.Io.KnownBytes.{append_known}
-use Rattle.rtl_sink.specs.Written.{SinkState}
+use Rattle.byte_streams.specs.Written.{SinkState}
 use Rattle.rtlsim.specs.Streams.{fresh}
 
 -- no bytes behind the known ones

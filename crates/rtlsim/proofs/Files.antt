@@ -1,6 +1,6 @@
 -- Files that aren't read.
 use Rattle.std.proofs.Common.{◌≡◌, ◌⊎◌, ℕ, List, Option, Err, inl, inr, sym, subst, ◌∙◌}
-use Rattle.rtl_sink.specs.Read.{ReaderState}
+use Rattle.byte_streams.specs.Read.{ReaderState}
 use Rattle.rtlsim.specs.Inputs.{GivesFile, GivesWhole, IsEndless, IsTooLong}
 use Rattle.rtlsim.specs.declared.inputs.InputFault.{InputFault}
 use Rattle.rtlsim.specs.declared.inputs.InputFault.TheVariants.{Failed}

@@ -2,13 +2,13 @@
 use Rattle.std.proofs.Common.{◌≡◌, ℕ, ◌<◌, ◌≤◌, ◌-◌, List, [], ◌∷◌, ◌++◌, Bor, Result, Ok, Err, append-nil, length, map, take, drop, slice_index_or, inl, inr, refl, ap, sym, subst, arith}
 use Rattle.std.proofs.Math.Seq.{take-length}
 use Rattle.std.proofs.lemmas.List.{append_assoc, map-append}
-use Rattle.rtl_sink.specs.Read.{ReaderState}
+use Rattle.byte_streams.specs.Read.{ReaderState}
 use Rattle.rtlsim.specs.Inputs.{Reading}
 use Rattle.rtlsim.specs.Reads.{GivesAll, GivesOne}
 use Rattle.rtlsim.specs.Texts.{read_view}
 use Rattle.rtlsim.specs.Unread.{Unread}
 use Rattle.rtlsim.specs.declared.texts.ReadFile.{ReadFile}
-use Rattle.rtlsim_files.specs.Files.{FileView}
+use Rattle.vhdl_source_files.specs.Files.{FileView}
 
 abbrev pub name_of : Bor (List ℕ) → List ℕ
 name_of name = name.now

@@ -1,6 +1,6 @@
 -- Words that are refused, and inputs that aren't read.
 use Rattle.std.proofs.Common.{◌≡◌, ℕ, Bool, false, List, Option, Some, None, Result, Err, inl, inr, refl}
-use Rattle.rtl_sink.specs.Written.{Goes}
+use Rattle.byte_streams.specs.Written.{Goes}
 use Rattle.rtlsim_commands.specs.Served.{Outputs, ended}
 use Rattle.rtlsim.specs.Sinks.{Sinks, IsSilent}
 use Rattle.rtlsim.specs.Tools.{ReadsInputs, RefusesWords}
@@ -8,8 +8,8 @@ use Rattle.rtlsim.specs.Unread.{Unread, fault_status, fault_text, input_text, un
 use Rattle.rtlsim.specs.declared.inputs.InputFault.{InputFault}
 use Rattle.rtlsim.specs.declared.inputs.InputFault.TheVariants.{Failed, NoMemory}
 use Rattle.rtlsim.specs.declared.problem.InputProblem.{InputProblem}
-use Rattle.rtlsim_faults.specs.Lines.{input_line}
-use Rattle.rtlsim_faults.specs.declared.status.Status.{Status}
+use Rattle.rtlsim_command_faults.specs.Lines.{input_line}
+use Rattle.rtlsim_command_faults.specs.declared.status.Status.{Status}
 
 -- a reason for a reason
 pub refuses_for : {A B : Type 0} {outcome : Status} {o : Outputs} → (A → B) → RefusesWords A outcome o → RefusesWords B outcome o

@@ -2,8 +2,8 @@
 use Rattle.std.proofs.Common.{◌≡◌, ℕ, Bool, true, false, List, [], ◌∷◌, Option, length, map, refl, sym, subst, ◌∙◌, arith}
 use Rattle.std.proofs.lemmas.Bool.Decides.{nat_tests}
 use Rattle.std.specs.Prelude.{◌==◌}
-use Rattle.rtlsim_faults.specs.declared.status.Status.{Status}
-use Rattle.rtl_sink.specs.Read.{ReaderState}
+use Rattle.rtlsim_command_faults.specs.declared.status.Status.{Status}
+use Rattle.byte_streams.specs.Read.{ReaderState}
 use Rattle.rtlsim.specs.Inputs.{Reading}
 use Rattle.rtlsim.specs.Sinks.{Sinks}
 use Rattle.rtlsim.specs.Tools.{ServesCall, ServesFirstLine, ServesWords}

@@ -3,20 +3,20 @@ use Rattle.std.proofs.Common.{◌≡◌, ℕ, Bool, true, false, List, Option, R
 use Rattle.rtl_net.specs.Nets.{NetlistView}
 use Rattle.rtl_progress.specs.Shown.{HasShown, shown_after, shown_text, text_of_end, whole_text}
 use Rattle.rtl_progress.specs.Stops.{stop_of}
-use Rattle.rtl_sink.proofs.Writing.{Goes-append}
-use Rattle.rtl_sink.specs.Written.{SinkState, Goes}
-use Rattle.rtl_sink.specs.Stands.{Stand}
+use Rattle.byte_streams.proofs.Writing.{Goes-append}
+use Rattle.byte_streams.specs.Written.{SinkState, Goes}
+use Rattle.byte_streams.specs.Stands.{Stand}
 use Rattle.rtlsim.specs.Served.{ServesBy, ServesEvents, ServesLevels, ServesMachine}
 use Rattle.rtlsim.specs.Sinks.{Sinks, ShowsIf}
 use Rattle.rtlsim_commands.specs.Served.{Outputs, Serves}
 use Rattle.rtlsim_commands.specs.Told.{Done}
 use Rattle.rtlsim_commands.specs.Watched.{IfWhole, OfEvents, OfMachine, Watched}
-use Rattle.rtlsim_faults.specs.declared.faults.Fault.{Fault}
-use Rattle.rtlsim_faults.specs.declared.faults.Fault.TheVariants.{Differs}
-use Rattle.rtlsim_faults.specs.declared.status.Status.{Status}
-use Rattle.rtlsim_faults.specs.declared.telling.Telling.{Telling}
-use Rattle.rtlsim_words.specs.declared.call.Request.{Request}
-use Rattle.rtlsim_words.specs.declared.call.Request.TheVariants.{Eval, Net, Check, Dot, Json, Run, Levels}
+use Rattle.rtlsim_command_faults.specs.declared.faults.Fault.{Fault}
+use Rattle.rtlsim_command_faults.specs.declared.faults.Fault.TheVariants.{Differs}
+use Rattle.rtlsim_command_faults.specs.declared.status.Status.{Status}
+use Rattle.rtlsim_command_faults.specs.declared.telling.Telling.{Telling}
+use Rattle.rtlsim_command_line.specs.declared.call.Request.{Request}
+use Rattle.rtlsim_command_line.specs.declared.call.Request.TheVariants.{Eval, Net, Check, Dot, Json, Run, Levels}
 
 -- of an answer with the whole trace, or of another
 whole_more : {A P Q : Type 0} → (P → Q) → (answer : Result A Fault) → IfWhole answer P → IfWhole answer Q

@@ -1,6 +1,6 @@
 -- What is known of the files that a read gives: the bytes of one, or why it isn't read.
 use Rattle.std.specs.Prelude.{◌≡◌, ◌≢◌, ℕ, ◌<◌, ◌≤◌, ⊤, List, Option, Some, Result, Ok, Err, IfSome, true, false, length, codes}
-use Rattle.rtl_sink.specs.Read.{ReaderState}
+use Rattle.byte_streams.specs.Read.{ReaderState}
 use Rattle.rtlsim.specs.declared.problem.InputProblem.{InputProblem}
 use Rattle.rtlsim.specs.declared.problem.InputProblem.TheVariants.{Missing, ReadFailed, TooLong, Endless}
 

@@ -1,10 +1,10 @@
 -- Reads one after another, and what they give together.
 use Rattle.std.specs.Prelude.{◌≡◌, ◌⊎◌, ℕ, List, [], ◌∷◌, Option, Some, None, Result, Ok, Err, codes}
-use Rattle.rtl_sink.specs.Read.{ReaderState}
+use Rattle.byte_streams.specs.Read.{ReaderState}
 use Rattle.rtlsim.specs.Halves.{halves_of}
 use Rattle.rtlsim.specs.Inputs.{Reading}
 use Rattle.rtlsim.specs.Unread.{Unread}
-use Rattle.rtlsim_files.specs.Files.{FileView}
+use Rattle.vhdl_source_files.specs.Files.{FileView}
 
 -- what may be given between two states of the standard input, or the first input that isn't read
 abbrev pub Given : Type 0 → Type 1

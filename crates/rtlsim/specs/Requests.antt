@@ -2,8 +2,8 @@
 use Rattle.std.specs.Prelude.{ℕ, List, [], ◌∷◌, ◌++◌, Option, codes}
 use Rattle.rtlsim.specs.Inputs.{Reading}
 use Rattle.rtlsim.specs.Reads.{Given, GivesAll, GivesMain, GivesMaybe, Made, Then}
-use Rattle.rtlsim_files.specs.Files.{FileView}
-use Rattle.rtlsim_words.specs.Words.{CallView}
+use Rattle.vhdl_source_files.specs.Files.{FileView}
+use Rattle.rtlsim_command_line.specs.Words.{CallView}
 
 -- what stands for the name of a stimulus where there is none
 abbrev pub set_form : List ℕ

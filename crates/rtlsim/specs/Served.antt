@@ -1,7 +1,7 @@
 -- What commands do with what was read.
 use Rattle.std.specs.Prelude.{◌≡◌, ℕ, Bool, true, false, List, Option, map, option_map, unwrap_or}
 use Rattle.rtlsim.specs.Requests.{TextsView, set_form}
-use Rattle.rtl_sink.specs.Stands.{Stand}
+use Rattle.byte_streams.specs.Stands.{Stand}
 use Rattle.rtlsim.specs.Sinks.{Sinks, IsSilent, ShowsIf, outputs}
 use Rattle.rtlsim_commands.specs.Expected.{Comparing}
 use Rattle.rtlsim_commands.specs.Listed.{ListsNet, ChecksNetTold, DrawsNetTold}
@@ -12,12 +12,12 @@ use Rattle.rtlsim_commands.specs.Sights as by
 use Rattle.rtlsim_commands.specs.Simulated.{RunsEvents}
 use Rattle.rtlsim_commands.specs.Told.{quiet, verdict, summary, events, levels}
 use Rattle.rtlsim_commands.specs.Watched.{OfEvents, OfMachine, Watched}
-use Rattle.rtlsim_faults.specs.declared.status.Status.{Status}
-use Rattle.rtlsim_faults.specs.declared.telling.Telling.{Telling}
-use Rattle.rtlsim_files.specs.Files.{file_view, joined}
-use Rattle.rtlsim_words.specs.Words.{CallView}
-use Rattle.rtlsim_words.specs.declared.call.Request.{Request}
-use Rattle.rtlsim_words.specs.declared.call.Request.TheVariants.{Eval, Net, Check, Dot, Json, Run, Levels}
+use Rattle.rtlsim_command_faults.specs.declared.status.Status.{Status}
+use Rattle.rtlsim_command_faults.specs.declared.telling.Telling.{Telling}
+use Rattle.vhdl_source_files.specs.Files.{file_view, joined}
+use Rattle.rtlsim_command_line.specs.Words.{CallView}
+use Rattle.rtlsim_command_line.specs.declared.call.Request.{Request}
+use Rattle.rtlsim_command_line.specs.declared.call.Request.TheVariants.{Eval, Net, Check, Dot, Json, Run, Levels}
 
 -- the commands tell of these files, this stimulus, and explain faults where that is asked for
 pub record IsToldOf (call : CallView) (texts : TextsView) (telling : Telling) : Type 0 where

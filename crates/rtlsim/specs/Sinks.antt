@@ -2,8 +2,8 @@
 use Rattle.std.specs.Prelude.{◌≡◌, ℕ, Bool, true, false, ⊤, List}
 use Rattle.rtl_progress.specs.Shown.{whole_text}
 use Rattle.rtl_progress.specs.Stops.{stop_of}
-use Rattle.rtl_sink.specs.Written.{SinkState, Goes}
-use Rattle.rtl_sink.specs.Stands.{Stand}
+use Rattle.byte_streams.specs.Written.{SinkState, Goes}
+use Rattle.byte_streams.specs.Stands.{Stand}
 use Rattle.rtlsim_commands.specs.Served.{Outputs}
 
 -- each before the call and after it

@@ -1,12 +1,12 @@
 -- What the program leaves in its writers, and the status that it ends with.
 use Rattle.std.specs.Prelude.{◌≡◌, ◌⊎◌, ⊤, ℕ, List, Option, Some, None, Bool, true, false, not}
 use Rattle.std.specs.Io.KnownBytes.{Keeps, append_known}
-use Rattle.rtlsim_faults.specs.Lines.{memory_line, output_line}
+use Rattle.rtlsim_command_faults.specs.Lines.{memory_line, output_line}
 use Rattle.rtlsim_commands.specs.Served.{ended_by}
-use Rattle.rtlsim_faults.specs.declared.status.Status.{Status}
-use Rattle.rtlsim_faults.specs.declared.status.Status.TheVariants as status
-use Rattle.rtl_sink.specs.Read.{ReaderState}
-use Rattle.rtl_sink.specs.Written.{SinkState, Goes}
+use Rattle.rtlsim_command_faults.specs.declared.status.Status.{Status}
+use Rattle.rtlsim_command_faults.specs.declared.status.Status.TheVariants as status
+use Rattle.byte_streams.specs.Read.{ReaderState}
+use Rattle.byte_streams.specs.Written.{SinkState, Goes}
 use Rattle.rtlsim.specs.Inputs.{Reading}
 use Rattle.rtlsim.specs.Sinks.{Sinks}
 use Rattle.rtlsim.specs.Tools.{RefusesWords, ServesWords, Silently}

@@ -6,7 +6,7 @@ use Rattle.rtlsim.specs.declared.texts.Main.{Main}
 use Rattle.rtlsim.specs.declared.texts.Main.TheVariants.{Alone, Apart, Together}
 use Rattle.rtlsim.specs.declared.texts.ReadFile.{ReadFile}
 use Rattle.rtlsim.specs.declared.texts.Texts.{Texts}
-use Rattle.rtlsim_files.specs.Files.{FileView}
+use Rattle.vhdl_source_files.specs.Files.{FileView}
 
 -- the text of the source, and that of the stimulus
 abbrev pub texts_of : Main → List ℕ × List ℕ

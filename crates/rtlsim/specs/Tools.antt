@@ -1,14 +1,14 @@
 -- What the program does for its words.
 use Rattle.std.specs.List.{after_first, slice_split}
 use Rattle.std.specs.Prelude.{◌≡◌, ◌==◌, ◌⊎◌, not, filter, length, [], ◌∷◌, Result, Ok, Err, ℕ, List, IsUtf8}
-use Rattle.rtlsim_faults.specs.Lines.{memory_line, input_line}
+use Rattle.rtlsim_command_faults.specs.Lines.{memory_line, input_line}
 use Rattle.rtlsim_commands.specs.Served.{Outputs, ended}
-use Rattle.rtlsim_faults.specs.declared.status.Status.{Status}
-use Rattle.rtlsim_faults.specs.declared.status.Status.TheVariants as status
-use Rattle.rtl_sink.specs.Read.{ReaderState}
-use Rattle.rtl_sink.specs.Written.{Goes}
-use Rattle.rtlsim_words.specs.Words.{CallView, Says, SayNothing, call_view}
-use Rattle.rtlsim_words.specs.declared.call.Call.{Call}
+use Rattle.rtlsim_command_faults.specs.declared.status.Status.{Status}
+use Rattle.rtlsim_command_faults.specs.declared.status.Status.TheVariants as status
+use Rattle.byte_streams.specs.Read.{ReaderState}
+use Rattle.byte_streams.specs.Written.{Goes}
+use Rattle.rtlsim_command_line.specs.Words.{CallView, Says, SayNothing, call_view}
+use Rattle.rtlsim_command_line.specs.declared.call.Call.{Call}
 use Rattle.rtlsim.specs.Inputs.{Reading, GivesWhole, held}
 use Rattle.rtlsim.specs.Requests.{GivesTexts}
 use Rattle.rtlsim.specs.Served.{ServesTexts}

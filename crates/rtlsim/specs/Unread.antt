@@ -1,8 +1,8 @@
 -- Why an input isn't read, and what is told of it.
 use Rattle.std.specs.Prelude.{ℕ, Bool, if◌then◌else◌, List, [], ◌++◌, Option, Some, None, codes}
-use Rattle.rtlsim_faults.specs.Lines.{memory_line, input_line}
-use Rattle.rtlsim_faults.specs.declared.status.Status.{Status}
-use Rattle.rtlsim_faults.specs.declared.status.Status.TheVariants as status
+use Rattle.rtlsim_command_faults.specs.Lines.{memory_line, input_line}
+use Rattle.rtlsim_command_faults.specs.declared.status.Status.{Status}
+use Rattle.rtlsim_command_faults.specs.declared.status.Status.TheVariants as status
 use Rattle.rtlsim.specs.declared.inputs.InputFault.{InputFault}
 use Rattle.rtlsim.specs.declared.inputs.InputFault.TheVariants as input
 use Rattle.rtlsim.specs.declared.problem.InputProblem.{InputProblem}

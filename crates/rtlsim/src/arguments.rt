@@ -1,8 +1,8 @@
 //! The words that the system passes.
 
 ghost use Rattle.std.specs.Prelude.{◌≡◌, false, IfOk, List, Option, map, string_bytes, ℕ};
-ghost use Rattle.rtl_sink.specs.Read.{ReaderState};
-ghost use Rattle.rtl_sink.specs.Written.{IsIntact};
+ghost use Rattle.byte_streams.specs.Read.{ReaderState};
+ghost use Rattle.byte_streams.specs.Written.{IsIntact};
 ghost use Rattle.rtlsim.specs.Inputs.{GivesNamed};
 ghost use Rattle.rtlsim.specs.Streams.{ServesArguments};
 ghost use Rattle.rtlsim.specs.Tools.{ServesWords};
@@ -11,9 +11,9 @@ use crate::first_line::tool_first_line;
 use crate::inputs::Named;
 use crate::refusals::{not_text, refuse_words};
 use crate::tools::tool_with;
-use rtl_sink::{In, Sink};
+use byte_streams::{In, Sink};
 use rtlsim_commands::{Front, Status};
-use rtlsim_words::Refused;
+use rtlsim_command_line::Refused;
 use std::alloc::{AllocError, Global};
 use std::env;
 use std::io::{ErrorKind, Read};

@@ -2,8 +2,8 @@
 
 ghost use Rattle.std.specs.Prelude.{◌≡◌, ◌<◌, ◌==◌, not, filter, IfOk, IfErr, IfSome, IsUtf8, length, map, position};
 ghost use Rattle.std.specs.List.{before_first, after_first, slice_split};
-ghost use Rattle.rtl_sink.specs.Written.{IsIntact};
-ghost use Rattle.rtlsim_words.specs.Words.{IsOfWords};
+ghost use Rattle.byte_streams.specs.Written.{IsIntact};
+ghost use Rattle.rtlsim_command_line.specs.Words.{IsOfWords};
 ghost use Rattle.rtlsim.specs.Inputs.{GivesNamed, GivesStandardAlone};
 ghost use Rattle.rtl_stim_lines.specs.Lines as lines;
 ghost use Rattle.rtl_stim_lines.specs.Lines.{ends_line};
@@ -14,9 +14,9 @@ use crate::inputs::{Inputs, Named, Standard, read_input};
 use crate::refusals::{not_text, refuse_input, refuse_words};
 use crate::tools::tool_with;
 use crate::unread::ReadFault;
-use rtl_sink::{Reader, Sink};
+use byte_streams::{Reader, Sink};
 use rtlsim_commands::{Front, Status};
-use rtlsim_words::Refused;
+use rtlsim_command_line::Refused;
 use std::alloc::{AllocError, Global};
 use std::rt::Files;
 

@@ -1,13 +1,13 @@
 //! The files that the words of the command line name.
 
 ghost use Rattle.std.specs.Prelude.{◌≡◌, ◌≤◌, ◌⊎◌, ℕ, List, Ok, Err, IfOk, IfErr, length};
-ghost use Rattle.rtl_sink.specs.Read.{ReaderState};
+ghost use Rattle.byte_streams.specs.Read.{ReaderState};
 ghost use Rattle.rtlsim.specs.Inputs.{Answer, GivesWhole, GivesFile, GivesNamed, GivesStandardAlone, greatest_input};
 ghost use Rattle.rtlsim.specs.declared.problem.InputProblem.{InputProblem};
 ghost use Rattle.rtlsim.specs.declared.inputs.InputFault.TheVariants.{Failed, NoMemory};
 
 use crate::problem::InputProblem;
-use rtl_sink::{In, Reader};
+use byte_streams::{In, Reader};
 use std::alloc::{AllocError, Global};
 use std::fs;
 use std::io::ErrorKind;

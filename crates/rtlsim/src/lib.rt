@@ -31,6 +31,6 @@ pub use rtlsim_commands::{
     NameProblem, Net, Pick, Reverse, Sink, SourceFile, Status, StimFault, Summary, Telling, eval,
     run, run_event, run_levels, show_check, show_check_dot, show_net,
 };
-pub use rtlsim_words::{Call, Order, Refused, Request, parse_words};
+pub use rtlsim_command_line::{Call, Order, Refused, Request, parse_words};
 pub use streams::{Ended, exit_code, program};
 pub use tools::{perform, tool, tool_with};

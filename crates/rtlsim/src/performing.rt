@@ -1,15 +1,15 @@
 //! What is done for a call once its files are read.
 
 ghost use Rattle.std.specs.Prelude.{◌≡◌, ◌⊎◌, false, map, option_map, unwrap_or};
-ghost use Rattle.rtl_sink.specs.Written.{IsIntact};
+ghost use Rattle.byte_streams.specs.Written.{IsIntact};
 ghost use Rattle.rtlsim.specs.Requests as requests;
 ghost use Rattle.rtlsim.specs.Served.{ServesBy, ServesTexts};
 ghost use Rattle.rtlsim.specs.Sinks.{Sinks, ShowsIf, outputs};
 ghost use Rattle.rtlsim.specs.Texts.{texts_view};
 ghost use Rattle.rtlsim.specs.Tools.{Silently, TellsInput};
-ghost use Rattle.rtlsim_words.specs.Words.{call_view};
-ghost use Rattle.rtlsim_faults.specs.Lines.{memory_line};
-ghost use Rattle.rtlsim_faults.specs.declared.status.Status.TheVariants as status;
+ghost use Rattle.rtlsim_command_line.specs.Words.{call_view};
+ghost use Rattle.rtlsim_command_faults.specs.Lines.{memory_line};
+ghost use Rattle.rtlsim_command_faults.specs.declared.status.Status.TheVariants as status;
 
 use crate::job::Job;
 use crate::prepared::prepare;
@@ -18,9 +18,9 @@ use crate::simulating::{serve_job, simulate, simulate_levels};
 use crate::texts::Texts;
 use crate::unread::ReadFault;
 use rtl_progress::{Progress, stop_of};
-use rtl_sink::{Sink, Unwatched, Watch};
+use byte_streams::{Sink, Unwatched, Watch};
 use rtlsim_commands::{CheckNet, DrawNet, EvalNet, Front, ListNet, Status, Telling, describe};
-use rtlsim_words::{Call, Request};
+use rtlsim_command_line::{Call, Request};
 use std::alloc::Global;
 
 /// Does what is asked for with what was read, or tells that memory was refused before.

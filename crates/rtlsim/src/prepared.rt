@@ -2,11 +2,11 @@
 
 ghost use Rattle.std.specs.Prelude.{◌≡◌, IfOk, map};
 ghost use Rattle.rtlsim.specs.Texts.{source_by, texts_view};
-ghost use Rattle.rtlsim_files.specs.Files as joining;
-ghost use Rattle.rtlsim_files.specs.Files.{file_view};
+ghost use Rattle.vhdl_source_files.specs.Files as joining;
+ghost use Rattle.vhdl_source_files.specs.Files.{file_view};
 
 use crate::texts::Texts;
-use rtlsim_files::{SourceFile, joined};
+use vhdl_source_files::{SourceFile, joined};
 use std::alloc::{AllocError, Global};
 
 /// The files of a source, and the words that set inputs as bytes.
@@ -31,7 +31,7 @@ impl Drop for Prepared<'_> {
 impl Prepared<'_> {
     ghost use Rattle.std.specs.Prelude.{◌≡◌, map};
     ghost use Rattle.rtlsim.specs.Texts.{source_by};
-    ghost use Rattle.rtlsim_files.specs.Files.{file_view};
+    ghost use Rattle.vhdl_source_files.specs.Files.{file_view};
 
     /// The text of the source.
     pub(crate) fn source(&self) -> &[u8]

@@ -2,16 +2,16 @@
 
 ghost use Rattle.std.specs.Prelude.{◌≡◌};
 ghost use Rattle.rtlsim_commands.specs.Served.{ended};
-ghost use Rattle.rtl_sink.specs.Written.{Goes};
-ghost use Rattle.rtlsim_words.specs.Words.{IsOfWords};
+ghost use Rattle.byte_streams.specs.Written.{Goes};
+ghost use Rattle.rtlsim_command_line.specs.Words.{IsOfWords};
 ghost use Rattle.rtlsim.specs.Tools.{RefusesWords};
 ghost use Rattle.rtlsim.specs.Unread as unread;
 
 use crate::problem::InputProblem;
 use crate::unread::ReadFault;
-use rtl_sink::{Sink, push_text};
+use byte_streams::{Sink, push_text};
 use rtlsim_commands::{Status, ended_by_writes, push_memory};
-use rtlsim_words::Refused;
+use rtlsim_command_line::Refused;
 use std::alloc::Global;
 
 /// Tells why the words are refused, and answers the status.

@@ -1,18 +1,18 @@
 //! Runs that are asked for.
 
 ghost use Rattle.std.specs.Prelude.{option_map};
-ghost use Rattle.rtl_sink.specs.Written.{IsIntact};
+ghost use Rattle.byte_streams.specs.Written.{IsIntact};
 ghost use Rattle.rtlsim_commands.specs.Served.{Serves};
 ghost use Rattle.rtlsim_commands.specs.Sights.{Seeing, events_of};
 ghost use Rattle.rtlsim.specs.Served.{ServesLevels, ServesRun};
 
 use crate::job::Job;
-use rtl_sink::{Sink, Watch};
+use byte_streams::{Sink, Watch};
 use rtlsim_commands::{
     Command, Compared, Forward, Front, Pick, Reverse, RunEvents, RunLevels, RunMachine, Status,
     serve,
 };
-use rtlsim_words::Order;
+use rtlsim_command_line::Order;
 use std::alloc::Global;
 
 /// Runs a source while this watch looks on, by events alone where `is_event` says so, with its processes in this order.

@@ -2,15 +2,15 @@
 
 ghost use Rattle.std.specs.Prelude.{◌≡◌, Option, List, ℕ};
 ghost use Rattle.std.specs.Process.{exit_status};
-ghost use Rattle.rtl_sink.specs.Written.{IsIntact};
+ghost use Rattle.byte_streams.specs.Written.{IsIntact};
 ghost use Rattle.rtlsim.specs.Inputs.{GivesNamed};
 ghost use Rattle.rtlsim.specs.Streams.{Ends, GoesOut, GoesToWriters, RunsArguments, ServesArguments, TellsLoss, TellsMemory};
 ghost use Rattle.rtlsim_commands.specs.Served as served;
-ghost use Rattle.rtlsim_faults.specs.Status.{code_of};
-ghost use Rattle.rtlsim_faults.specs.declared.status.Status.{Status};
+ghost use Rattle.rtlsim_command_faults.specs.Status.{code_of};
+ghost use Rattle.rtlsim_command_faults.specs.declared.status.Status.{Status};
 
 use crate::arguments::serve_arguments;
-use rtl_sink::{Out, Sink, push_text};
+use byte_streams::{Out, Sink, push_text};
 use rtlsim_commands::{Front, Status, push_memory};
 use std::io::{BufWriter, Read, Write};
 use std::process::ExitCode;

@@ -5,13 +5,13 @@ ghost use Rattle.rtlsim.specs.Requests.{GivesTexts};
 ghost use Rattle.rtlsim.specs.Reads.{GivesAll, GivesBoth, GivesMain, GivesMaybe, GivesOne};
 ghost use Rattle.rtlsim.specs.Texts.{read_view, texts_of, texts_view};
 ghost use Rattle.rtlsim.specs.Unread.{Unread, unread_of};
-ghost use Rattle.rtlsim_words.specs.Words.{call_view};
+ghost use Rattle.rtlsim_command_line.specs.Words.{call_view};
 
 use crate::halves::halves_at_line;
 use crate::inputs::Inputs;
 use crate::unread::ReadFault;
-use rtlsim_files::SourceFile;
-use rtlsim_words::Call;
+use vhdl_source_files::SourceFile;
+use rtlsim_command_line::Call;
 use std::alloc::Global;
 
 /// What was read for a call.
@@ -107,7 +107,7 @@ impl Main {
 impl ReadFile<'_> {
     ghost use Rattle.std.specs.Prelude.{◌≡◌};
     ghost use Rattle.rtlsim.specs.Texts.{read_view};
-    ghost use Rattle.rtlsim_files.specs.Files.{file_view};
+    ghost use Rattle.vhdl_source_files.specs.Files.{file_view};
 
     /// Its name and bytes.
     pub(crate) fn file(&self) -> SourceFile<'_>

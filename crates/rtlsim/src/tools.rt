@@ -1,21 +1,21 @@
 //! The program, over any inputs and sinks.
 
 ghost use Rattle.std.specs.Prelude.{◌≡◌, map};
-ghost use Rattle.rtlsim_faults.specs.Status.{code_of};
-ghost use Rattle.rtlsim_faults.specs.declared.status.Status.{Status};
-ghost use Rattle.rtl_sink.specs.Written.{IsIntact};
+ghost use Rattle.rtlsim_command_faults.specs.Status.{code_of};
+ghost use Rattle.rtlsim_command_faults.specs.declared.status.Status.{Status};
+ghost use Rattle.byte_streams.specs.Written.{IsIntact};
 ghost use Rattle.rtlsim.specs.Inputs.{GivesStandardAlone};
 ghost use Rattle.rtlsim.specs.Tools.{Performs, ServesCall, ServesWords};
-ghost use Rattle.rtlsim_words.specs.Words.{call_view};
+ghost use Rattle.rtlsim_command_line.specs.Words.{call_view};
 
 use crate::first_line::serve_reader_line;
 use crate::inputs::{Inputs, Standard};
 use crate::performing::perform_texts;
 use crate::refusals::{refuse_input, refuse_words};
 use crate::texts::read_texts;
-use rtl_sink::{Reader, Sink};
+use byte_streams::{Reader, Sink};
 use rtlsim_commands::{Front, Status};
-use rtlsim_words::{Call, parse_words};
+use rtlsim_command_line::{Call, parse_words};
 use std::alloc::Global;
 
 /// The program where each file is `@`: does what the words ask for, or without words what those of the

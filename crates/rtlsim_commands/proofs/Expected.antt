@@ -6,16 +6,16 @@ use Rattle.rtlsim_commands.specs.Sights.{Sight, Seen, Seeing}
 use Rattle.rtlsim_commands.specs.Watched.{IfWhole}
 use Rattle.rtlsim_commands.proofs.Sights.{seeing_of}
 use Rattle.rtlsim_commands.proofs.Watched.{watched_failed}
-use Rattle.rtlsim_faults.specs.declared.faults.Fault.{Fault}
-use Rattle.rtlsim_faults.specs.declared.faults.Fault.TheVariants.{Lex, Syntax, Name, Elab, Rejected, Stim, Expect, Differs, NoSettling, Memory, Output}
+use Rattle.rtlsim_command_faults.specs.declared.faults.Fault.{Fault}
+use Rattle.rtlsim_command_faults.specs.declared.faults.Fault.TheVariants.{Lex, Syntax, Name, Elab, Rejected, Stim, Expect, Differs, NoSettling, Memory, Output}
 use Rattle.rtl_expect.specs.Differences.{first_difference}
 use Rattle.rtl_expect.specs.Expected.{Expectation}
 use Rattle.rtl_expect.specs.Lines.{expectations_of}
 use Rattle.rtl_expect.specs.Watching.{difference_view}
 use Rattle.rtl_expect.specs.declared.difference.Difference.{Difference}
 use Rattle.rtl_net.specs.Nets.{NetlistView}
-use Rattle.rtl_sink.specs.Written.{SinkState}
-use Rattle.rtl_sink.specs.Stands.{Stand}
+use Rattle.byte_streams.specs.Written.{SinkState}
+use Rattle.byte_streams.specs.Stands.{Stand}
 
 module _ {A : Type 0} (Runs : NetlistView → Result A Fault → (old new : SinkState) → Type 0) (Sees : (List Stand → Type 0) → NetlistView → Type 0) (net : NetlistView)
     (expected : List ℕ) (old : SinkState) where

@@ -4,15 +4,15 @@ use Rattle.std.specs.Prelude.{IfErr, IsErrAnd}
 use Rattle.rtl_check.specs.Verdicts.{IsVerdict, ListsLoopsOnce}
 use Rattle.rtl_net.specs.Core.{core}
 use Rattle.rtl_check.specs.declared.checking.Verdict.{Verdict}
-use Rattle.rtlsim_faults.specs.Faults.{of_listing}
+use Rattle.rtlsim_command_faults.specs.Faults.{of_listing}
 use Rattle.rtlsim_commands.specs.Listed.{Writes, ListsNet, AnswersVerdict}
-use Rattle.rtlsim_faults.specs.declared.faults.Fault.{Fault}
-use Rattle.rtlsim_faults.specs.declared.faults.Fault.TheVariants.{Lex, Syntax, Name, Elab, Rejected, Stim, Expect, Differs, NoSettling, Memory, Output}
+use Rattle.rtlsim_command_faults.specs.declared.faults.Fault.{Fault}
+use Rattle.rtlsim_command_faults.specs.declared.faults.Fault.TheVariants.{Lex, Syntax, Name, Elab, Rejected, Stim, Expect, Differs, NoSettling, Memory, Output}
 use Rattle.rtlsim_listing.specs.Printing.{IsListed}
 use Rattle.rtlsim_listing.specs.declared.fault.ListingFault.{ListingFault}
 use Rattle.rtlsim_listing.specs.declared.fault.ListingFault.TheVariants as listing
 use Rattle.rtl_net.specs.Nets.{NetlistView}
-use Rattle.rtl_sink.specs.Written.{SinkState}
+use Rattle.byte_streams.specs.Written.{SinkState}
 
 -- a listing that fails
 writes_listing : (A : Type 0) (text : List ℕ) (fault : ListingFault) (old new : SinkState) → IsListed {T = Unit {0}} (Err fault) old new text → Writes {A = A} text (Err (of_listing fault)) old new

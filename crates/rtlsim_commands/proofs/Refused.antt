@@ -2,15 +2,15 @@
 use Rattle.std.proofs.Common.{◌≡◌, ℕ, List, Result, Ok, Err, inr, refl, ap}
 use Rattle.std.specs.Prelude.{IfErr, IsErrAnd}
 use Rattle.rtl_net.specs.Nets.{NetlistView}
-use Rattle.rtl_sink.specs.Written.{SinkState}
-use Rattle.rtlsim_faults.specs.Faults.{of_source}
-use Rattle.rtlsim_faults.specs.Places.{IsTold}
-use Rattle.rtlsim_faults.specs.declared.faults.Fault.{Fault}
-use Rattle.rtlsim_faults.proofs.Refused.{source_told}
+use Rattle.byte_streams.specs.Written.{SinkState}
+use Rattle.rtlsim_command_faults.specs.Faults.{of_source}
+use Rattle.rtlsim_command_faults.specs.Places.{IsTold}
+use Rattle.rtlsim_command_faults.specs.declared.faults.Fault.{Fault}
+use Rattle.rtlsim_command_faults.proofs.Refused.{source_told}
 use Rattle.rtlsim_commands.specs.Opened.{Opens}
-use Rattle.vhdl_source_rules.specs.Faults.{LiesIn}
-use Rattle.vhdl_source_rules.specs.Refusals.{Refuses}
-use Rattle.vhdl_source_rules.specs.declared.fault.SourceFault.{SourceFault}
+use Rattle.vhdl_front_rules.specs.Faults.{LiesIn}
+use Rattle.vhdl_front_rules.specs.Refusals.{Refuses}
+use Rattle.vhdl_front_rules.specs.declared.fault.SourceFault.{SourceFault}
 
 pub opens_refused : {A : Type 0} (Does : NetlistView → Result A Fault → SinkState → SinkState → Type 0) (file top : List ℕ) (answer : Result A Fault) (fault : SourceFault) (old : SinkState)
     → IsErrAnd answer (λ f. f ≡ of_source fault) → Refuses file top fault → Opens Does file top answer old old

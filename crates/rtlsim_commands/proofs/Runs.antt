@@ -14,14 +14,14 @@ use Rattle.rtl_run.specs.simulations.Watched.{WasTold}
 use Rattle.rtl_run.specs.declared.summary.RunFault.{RunFault}
 use Rattle.rtl_run.specs.declared.summary.RunFault.TheVariants as run
 use Rattle.rtl_run.specs.declared.summary.Summary.{Summary}
-use Rattle.rtl_sink.specs.Written.{SinkState}
+use Rattle.byte_streams.specs.Written.{SinkState}
 use Rattle.rtl_stim.specs.Stimuli.{StimulusView, IsRead}
 use Rattle.rtl_stim_lines.specs.declared.faults.StimFault.{StimFault}
 use Rattle.rtl_stim_lines.specs.declared.faults.StimFault.TheVariants as stim
-use Rattle.rtl_sink.specs.Stands.{Stand}
-use Rattle.rtlsim_faults.specs.Faults.{of_machine, of_run, of_stim}
-use Rattle.rtlsim_faults.specs.declared.faults.Fault.{Fault}
-use Rattle.rtlsim_faults.specs.declared.faults.Fault.TheVariants.{Lex, Syntax, Name, Elab, Rejected, Stim, Expect, Differs, NoSettling, Memory, Output}
+use Rattle.byte_streams.specs.Stands.{Stand}
+use Rattle.rtlsim_command_faults.specs.Faults.{of_machine, of_run, of_stim}
+use Rattle.rtlsim_command_faults.specs.declared.faults.Fault.{Fault}
+use Rattle.rtlsim_command_faults.specs.declared.faults.Fault.TheVariants.{Lex, Syntax, Name, Elab, Rejected, Stim, Expect, Differs, NoSettling, Memory, Output}
 use Rattle.rtlsim_commands.specs.Sights.{events, IsOfNet}
 use Rattle.rtlsim_commands.specs.Simulated.{HasNoneStored, RefusesStored, Simulates, RunsEvents, most_deltas}
 use Rattle.rtlsim_commands.specs.Watched.{IfWhole}

@@ -3,10 +3,10 @@ use Rattle.std.proofs.Common.{◌≡◌, ℕ, List, Option, Some, None, Result, 
 use Rattle.std.specs.Prelude.{IfErr, IsErrAnd}
 use Rattle.rtl_expect.specs.declared.difference.Difference.{Difference}
 use Rattle.rtl_net.specs.Nets.{NetlistView}
-use Rattle.rtl_sink.specs.Written.{SinkState}
-use Rattle.rtl_sink.specs.Stands.{Stand}
-use Rattle.rtlsim_faults.specs.declared.faults.Fault.{Fault}
-use Rattle.rtlsim_faults.specs.declared.faults.Fault.TheVariants.{Lex, Syntax, Name, Elab, Rejected, Stim, Expect, Differs, NoSettling, Memory, Output}
+use Rattle.byte_streams.specs.Written.{SinkState}
+use Rattle.byte_streams.specs.Stands.{Stand}
+use Rattle.rtlsim_command_faults.specs.declared.faults.Fault.{Fault}
+use Rattle.rtlsim_command_faults.specs.declared.faults.Fault.TheVariants.{Lex, Syntax, Name, Elab, Rejected, Stim, Expect, Differs, NoSettling, Memory, Output}
 use Rattle.rtlsim_commands.specs.Expected.{unless_differs}
 use Rattle.rtlsim_commands.specs.Sights.{Sight, nothing, machine, events, Seen, Seeing, OfUnsettled, StuckIn, IsOfNet}
 use Rattle.rtlsim_commands.specs.Watched.{IfWhole}

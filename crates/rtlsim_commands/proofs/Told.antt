@@ -1,13 +1,13 @@
 -- What is told of an answer.
 use Rattle.std.proofs.Common.{◌≡◌, ℕ, List, [], length, Option, Result, Ok, Err, ◌⊎◌, inl, inr, refl, sym, subst, ◌∙◌, true≢false}
-use Rattle.rtlsim_faults.specs.Faults.{of_source}
-use Rattle.rtlsim_faults.specs.Places.{IsTold}
-use Rattle.rtlsim_faults.specs.Told.{TellsFault}
-use Rattle.rtlsim_faults.specs.declared.telling.Telling.{Telling}
-use Rattle.rtlsim_faults.specs.declared.faults.Fault.{Fault}
-use Rattle.rtlsim_faults.specs.declared.faults.Fault.TheVariants.{Lex, Syntax, Name, Elab, Rejected, Stim, Expect, Differs, NoSettling, Memory, Output}
-use Rattle.rtlsim_faults.specs.declared.status.Status.{Status}
-use Rattle.rtlsim_faults.proofs.Refused.{nameless, source_told}
+use Rattle.rtlsim_command_faults.specs.Faults.{of_source}
+use Rattle.rtlsim_command_faults.specs.Places.{IsTold}
+use Rattle.rtlsim_command_faults.specs.Told.{TellsFault}
+use Rattle.rtlsim_command_faults.specs.declared.telling.Telling.{Telling}
+use Rattle.rtlsim_command_faults.specs.declared.faults.Fault.{Fault}
+use Rattle.rtlsim_command_faults.specs.declared.faults.Fault.TheVariants.{Lex, Syntax, Name, Elab, Rejected, Stim, Expect, Differs, NoSettling, Memory, Output}
+use Rattle.rtlsim_command_faults.specs.declared.status.Status.{Status}
+use Rattle.rtlsim_command_faults.proofs.Refused.{nameless, source_told}
 use Rattle.rtlsim_commands.specs.Refused.{RefusesSource}
 use Rattle.rtlsim_commands.specs.Served.{Outputs, ServesOr, Unrefused, ended}
 use Rattle.rtlsim_commands.specs.Answered.{TellsText}
@@ -15,12 +15,12 @@ use Rattle.rtlsim_commands.specs.Told.{Done, TellsNets, TellsOthers, TellsBehind
 use Rattle.rtlsim_commands.specs.Remarked.{TellsRemarks}
 use Rattle.rtlsim_commands.specs.Unsettled.{TellsChanging}
 use Rattle.rtl_net.specs.Nets.{NetlistView}
-use Rattle.rtl_sink.specs.Written.{SinkState}
-use Rattle.vhdl_source_rules.specs.Designs.{IsNetOf}
-use Rattle.vhdl_source_rules.specs.Faults.{LiesIn}
-use Rattle.vhdl_source_rules.specs.Refusals.{Refuses}
-use Rattle.vhdl_source_rules.specs.declared.fault.SourceFault.{SourceFault}
-use Rattle.vhdl_source_rules.specs.declared.fault.SourceFault.TheVariants as front
+use Rattle.byte_streams.specs.Written.{SinkState}
+use Rattle.vhdl_front_rules.specs.Designs.{IsNetOf}
+use Rattle.vhdl_front_rules.specs.Faults.{LiesIn}
+use Rattle.vhdl_front_rules.specs.Refusals.{Refuses}
+use Rattle.vhdl_front_rules.specs.declared.fault.SourceFault.{SourceFault}
+use Rattle.vhdl_front_rules.specs.declared.fault.SourceFault.TheVariants as front
 
 -- what is told behind the fault of a source that has a netlist
 behind_nets : (events : Option (List ℕ)) (telling : Telling) (source top : List ℕ) (fault : Fault) (said : Status) (old new : SinkState)

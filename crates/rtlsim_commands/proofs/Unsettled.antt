@@ -4,14 +4,14 @@ use Rattle.std.specs.Prelude.{if◌then◌else◌, take, IfErr}
 use Rattle.rtl_net.specs.Names.{net_name}
 use Rattle.rtl_net.specs.Nets.{NetlistView}
 use Rattle.rtl_run.specs.simulations.Simulated.{changing}
-use Rattle.rtl_sink.specs.Written.{SinkState, Goes}
-use Rattle.rtl_sink.specs.Stands.{Stand}
+use Rattle.byte_streams.specs.Written.{SinkState, Goes}
+use Rattle.byte_streams.specs.Stands.{Stand}
 use Rattle.rtlsim_findings.specs.Ranges.{follows, range_text}
-use Rattle.rtlsim_faults.specs.Changing.{names_from, changing_line}
-use Rattle.rtlsim_faults.specs.Lines.{memory_line}
-use Rattle.rtlsim_faults.specs.Places.{IsTold}
-use Rattle.rtlsim_faults.specs.declared.faults.Fault.{Fault}
-use Rattle.rtlsim_faults.specs.declared.faults.Fault.TheVariants.{Lex, Syntax, Name, Elab, Rejected, Stim, Expect, Differs, NoSettling, Memory, Output}
+use Rattle.rtlsim_command_faults.specs.Changing.{names_from, changing_line}
+use Rattle.rtlsim_command_faults.specs.Lines.{memory_line}
+use Rattle.rtlsim_command_faults.specs.Places.{IsTold}
+use Rattle.rtlsim_command_faults.specs.declared.faults.Fault.{Fault}
+use Rattle.rtlsim_command_faults.specs.declared.faults.Fault.TheVariants.{Lex, Syntax, Name, Elab, Rejected, Stim, Expect, Differs, NoSettling, Memory, Output}
 use Rattle.rtlsim_commands.specs.Sights.{Sight, nothing, machine, events, IsOfNet, events_of}
 use Rattle.rtlsim_commands.proofs.Sights.{of_unsettled_so}
 use Rattle.rtlsim_commands.specs.Unsettled.{Names, NamesIf, TellsStuck, TellsChanging}

@@ -2,16 +2,16 @@
 use Rattle.std.proofs.Common.{◌≡◌, ℕ, List, Result, Ok, Err, sym, subst}
 use Rattle.std.specs.Prelude.{IsErrAnd}
 use Rattle.rtlsim_commands.specs.Watched.{OfMachine, OfEvents, IfWhole, Watched}
-use Rattle.rtlsim_faults.specs.Faults.{of_machine, of_run}
-use Rattle.rtlsim_faults.specs.declared.faults.Fault.{Fault}
-use Rattle.rtlsim_faults.specs.declared.faults.Fault.TheVariants.{Lex, Syntax, Name, Elab, Rejected, Stim, Expect, Differs, NoSettling, Memory, Output}
+use Rattle.rtlsim_command_faults.specs.Faults.{of_machine, of_run}
+use Rattle.rtlsim_command_faults.specs.declared.faults.Fault.{Fault}
+use Rattle.rtlsim_command_faults.specs.declared.faults.Fault.TheVariants.{Lex, Syntax, Name, Elab, Rejected, Stim, Expect, Differs, NoSettling, Memory, Output}
 use Rattle.rtl_run.specs.declared.fault.MachineFault.{MachineFault}
 use Rattle.rtl_run.specs.declared.fault.MachineFault.TheVariants as machine
 use Rattle.rtl_net.specs.Nets.{NetlistView}
 use Rattle.rtl_run.specs.declared.summary.RunFault.{RunFault}
 use Rattle.rtl_run.specs.declared.summary.RunFault.TheVariants as run
-use Rattle.rtl_sink.specs.Written.{SinkState}
-use Rattle.rtl_sink.specs.Stands.{Stand}
+use Rattle.byte_streams.specs.Written.{SinkState}
+use Rattle.byte_streams.specs.Stands.{Stand}
 
 -- what is so of the stands is so of what follows from it
 pub of_machine_so : (text : List ℕ) (net : NetlistView) (P Q : List Stand → Type 0) → ((stands : List Stand) → P stands → Q stands) → OfMachine text P net → OfMachine text Q net

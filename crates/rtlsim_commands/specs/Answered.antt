@@ -1,8 +1,8 @@
 -- What is told of a command's answer, and the status.
 use Rattle.std.specs.Prelude.{◌≡◌, ℕ, Bool, true, false, List, [], ◌∷◌}
-use Rattle.rtl_sink.specs.Written.{SinkState, Goes}
-use Rattle.rtlsim_faults.specs.declared.status.Status.{Status}
-use Rattle.rtlsim_faults.specs.declared.status.Status.TheVariants as status
+use Rattle.byte_streams.specs.Written.{SinkState, Goes}
+use Rattle.rtlsim_command_faults.specs.declared.status.Status.{Status}
+use Rattle.rtlsim_command_faults.specs.declared.status.Status.TheVariants as status
 
 -- the text is told, and where there is none, nothing is done
 abbrev pub TellsText : (text : List ℕ) → (old new : SinkState) → Type 0

@@ -1,7 +1,7 @@
 -- What a run answers that is compared with what is expected of it.
 use Rattle.std.specs.Prelude.{◌≡◌, ◌⊎◌, ℕ, List, Option, Some, None, Result, Ok, Err}
-use Rattle.rtlsim_faults.specs.declared.faults.Fault.{Fault}
-use Rattle.rtlsim_faults.specs.declared.faults.Fault.TheVariants.{Expect, Differs, Memory}
+use Rattle.rtlsim_command_faults.specs.declared.faults.Fault.{Fault}
+use Rattle.rtlsim_command_faults.specs.declared.faults.Fault.TheVariants.{Expect, Differs, Memory}
 use Rattle.rtlsim_commands.specs.Sights.{Sight, Seen}
 use Rattle.rtl_expect.specs.Differences.{Difference, first_difference}
 use Rattle.rtl_expect.specs.Expected.{Expectation}
@@ -10,8 +10,8 @@ use Rattle.rtl_expect.specs.Watching.{difference_view}
 use Rattle.rtl_expect.specs.declared.difference.Difference.{Difference as KeptDifference}
 use Rattle.rtl_expect.specs.declared.faults.ExpectFault.TheVariants.{NoMemory}
 use Rattle.rtl_net.specs.Nets.{NetlistView}
-use Rattle.rtl_sink.specs.Written.{SinkState}
-use Rattle.rtl_sink.specs.Stands.{Stand}
+use Rattle.byte_streams.specs.Written.{SinkState}
+use Rattle.byte_streams.specs.Stands.{Stand}
 
 -- each line of the text is good, and of what the lines expect this holds
 pub record Expects (net : NetlistView) (text : List ℕ) (Holds : List Expectation → Type 0) : Type 0 where

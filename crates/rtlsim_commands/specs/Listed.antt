@@ -3,17 +3,17 @@ use Rattle.std.specs.Prelude.{◌≡◌, ◌⊎◌, ℕ, Bool, if◌then◌else�
 use Rattle.rtl_check.specs.Verdicts.{IsVerdict, ListsLoopsOnce, is_yes}
 use Rattle.rtl_net.specs.Core.{core}
 use Rattle.rtl_check.specs.declared.checking.Verdict.{Verdict}
-use Rattle.rtlsim_faults.specs.Explanations.{files_of, with_explanation}
-use Rattle.rtlsim_faults.specs.declared.faults.Fault.{Fault}
-use Rattle.rtlsim_faults.specs.declared.faults.Fault.TheVariants.{Memory, Output}
-use Rattle.rtlsim_faults.specs.declared.telling.Telling.{Telling}
-use Rattle.rtlsim_verdict.specs.Json.{json_text}
+use Rattle.rtlsim_command_faults.specs.Explanations.{files_of, with_explanation}
+use Rattle.rtlsim_command_faults.specs.declared.faults.Fault.{Fault}
+use Rattle.rtlsim_command_faults.specs.declared.faults.Fault.TheVariants.{Memory, Output}
+use Rattle.rtlsim_command_faults.specs.declared.telling.Telling.{Telling}
+use Rattle.rtlsim_findings_text.specs.Json.{json_text}
 use Rattle.rtlsim_listing.specs.CheckText.{check_text}
 use Rattle.rtlsim_listing.specs.DotText.{dot_text}
-use Rattle.rtlsim_verdict.specs.RemarkText.{remarks_text}
+use Rattle.rtlsim_findings_text.specs.RemarkText.{remarks_text}
 use Rattle.rtlsim_listing.specs.NetText.{net_text}
 use Rattle.rtl_net.specs.Nets.{NetlistView}
-use Rattle.rtl_sink.specs.Written.{SinkState, IsIntact, HasFailed, TakesAll, TakesBeginning}
+use Rattle.byte_streams.specs.Written.{SinkState, IsIntact, HasFailed, TakesAll, TakesBeginning}
 
 -- The text went out; or a beginning of it, since the sink has failed, or since memory was refused.
 abbrev pub Writes : {A : Type 0} → (text : List ℕ) → Result A Fault → (old new : SinkState) → Type 0

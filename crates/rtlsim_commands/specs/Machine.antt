@@ -1,8 +1,8 @@
 -- What `run`, `run --levels` and `eval` do on a netlist: the calls of rtl_run, with their faults as those of a
 -- command.
 use Rattle.std.specs.Prelude.{◌≡◌, ℕ, List, Result, Ok, Err}
-use Rattle.rtlsim_faults.specs.Faults.{of_machine}
-use Rattle.rtlsim_faults.specs.declared.faults.Fault.{Fault}
+use Rattle.rtlsim_command_faults.specs.Faults.{of_machine}
+use Rattle.rtlsim_command_faults.specs.declared.faults.Fault.{Fault}
 use Rattle.rtl_run.specs.levels.Answered.{RunsLevels}
 use Rattle.rtl_run.specs.declared.level_summary.LevelSummary.{LevelSummary}
 use Rattle.rtl_run.specs.Answered.{RunsNet}
@@ -10,7 +10,7 @@ use Rattle.rtl_run.specs.Evaluated.{Evaluates}
 use Rattle.rtl_run.specs.declared.fault.MachineFault.{MachineFault}
 use Rattle.rtl_net.specs.Nets.{NetlistView}
 use Rattle.rtl_run.specs.declared.summary.Summary.{Summary}
-use Rattle.rtl_sink.specs.Written.{SinkState}
+use Rattle.byte_streams.specs.Written.{SinkState}
 
 abbrev pub as_answer : {A : Type 0} → Result A MachineFault → Result A Fault
 as_answer (Ok x) = Ok x

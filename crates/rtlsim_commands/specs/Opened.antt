@@ -1,12 +1,12 @@
 -- What a command answers that opens a source and then does its work on the netlist.
 use Rattle.std.specs.Prelude.{◌≡◌, ◌⊎◌, ℕ, List, Result, Err}
-use Rattle.rtlsim_faults.specs.Faults.{of_source}
-use Rattle.rtlsim_faults.specs.declared.faults.Fault.{Fault}
+use Rattle.rtlsim_command_faults.specs.Faults.{of_source}
+use Rattle.rtlsim_command_faults.specs.declared.faults.Fault.{Fault}
 use Rattle.rtl_net.specs.Nets.{NetlistView}
-use Rattle.rtl_sink.specs.Written.{SinkState}
-use Rattle.vhdl_source_rules.specs.Designs.{IsNetOf}
-use Rattle.vhdl_source_rules.specs.Refusals.{Refuses}
-use Rattle.vhdl_source_rules.specs.declared.fault.SourceFault.{SourceFault}
+use Rattle.byte_streams.specs.Written.{SinkState}
+use Rattle.vhdl_front_rules.specs.Designs.{IsNetOf}
+use Rattle.vhdl_front_rules.specs.Refusals.{Refuses}
+use Rattle.vhdl_front_rules.specs.declared.fault.SourceFault.{SourceFault}
 
 -- The source has this netlist, and the command does its work on it; or the source is refused, and this is so of what is written.
 abbrev pub OpensOr : {A : Type 0} → (Refused : SourceFault → (old new : SinkState) → Type 0) → (Does : NetlistView → Result A Fault → SinkState → SinkState → Type 0)

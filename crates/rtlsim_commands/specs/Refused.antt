@@ -1,12 +1,12 @@
 -- A step of the code: what is told of a source that is refused.
 use Rattle.std.specs.Prelude.{List, ℕ}
 use Rattle.rtl_net.specs.Nets.{NetlistView}
-use Rattle.rtl_sink.specs.Written.{SinkState}
+use Rattle.byte_streams.specs.Written.{SinkState}
 use Rattle.rtlsim_commands.specs.Told.{TellsOthers, asks_others}
-use Rattle.rtlsim_faults.specs.Told.{TellsFault}
-use Rattle.rtlsim_faults.specs.declared.faults.Fault.{Fault}
-use Rattle.rtlsim_faults.specs.declared.status.Status.{Status}
-use Rattle.rtlsim_faults.specs.declared.telling.Telling.{Telling}
+use Rattle.rtlsim_command_faults.specs.Told.{TellsFault}
+use Rattle.rtlsim_command_faults.specs.declared.faults.Fault.{Fault}
+use Rattle.rtlsim_command_faults.specs.declared.status.Status.{Status}
+use Rattle.rtlsim_command_faults.specs.declared.telling.Telling.{Telling}
 
 -- its fault, with this status, and then the others
 pub record RefusesSource (telling : Telling) (source top : List ℕ) (fault : Fault) (old new : SinkState) (said : Status) : Type 0 where

@@ -2,18 +2,18 @@
 use Rattle.std.specs.Prelude.{◌≡◌, ◌||◌, ℕ, Bool, true, false, List, length, Result, IfErr}
 use Rattle.rtlsim_commands.specs.Listed.{ChecksNetJson}
 use Rattle.rtlsim_commands.specs.Opened.{OpensOr, Writeless}
-use Rattle.rtlsim_faults.specs.Explanations.{files_of}
-use Rattle.rtlsim_faults.specs.Places.{IsTold}
+use Rattle.rtlsim_command_faults.specs.Explanations.{files_of}
+use Rattle.rtlsim_command_faults.specs.Places.{IsTold}
 use Rattle.rtlsim_commands.specs.Told.{Done, Tells, verdict}
-use Rattle.rtlsim_faults.specs.Refusal.{Describes}
-use Rattle.rtlsim_faults.specs.declared.faults.Fault.{Fault}
-use Rattle.rtlsim_faults.specs.declared.status.Status.{Status}
-use Rattle.rtlsim_faults.specs.declared.status.Status.TheVariants as status
-use Rattle.rtlsim_faults.specs.declared.telling.Telling.{Telling}
+use Rattle.rtlsim_command_faults.specs.Refusal.{Describes}
+use Rattle.rtlsim_command_faults.specs.declared.faults.Fault.{Fault}
+use Rattle.rtlsim_command_faults.specs.declared.status.Status.{Status}
+use Rattle.rtlsim_command_faults.specs.declared.status.Status.TheVariants as status
+use Rattle.rtlsim_command_faults.specs.declared.telling.Telling.{Telling}
 use Rattle.rtl_net.specs.Nets.{NetlistView}
-use Rattle.rtl_sink.specs.Written.{SinkState}
-use Rattle.vhdl_source_rules.specs.Designs.{IsNetOf}
-use Rattle.vhdl_source_rules.specs.declared.fault.SourceFault.{SourceFault}
+use Rattle.byte_streams.specs.Written.{SinkState}
+use Rattle.vhdl_front_rules.specs.Designs.{IsNetOf}
+use Rattle.vhdl_front_rules.specs.declared.fault.SourceFault.{SourceFault}
 
 -- both outputs before a call and after it
 pub record Outputs : Type 0 where

@@ -2,13 +2,13 @@
 use Rattle.std.specs.Prelude.{⊤, ℕ, List, Option, Some, None, Result, Ok}
 use Rattle.rtl_net.specs.Nets.{NetlistView}
 use Rattle.rtl_run.specs.simulations.Watched.{IsToldUnsettled}
-use Rattle.rtl_sink.specs.Written.{SinkState}
+use Rattle.byte_streams.specs.Written.{SinkState}
 use Rattle.rtl_stim.specs.Stimuli.{StimulusView, IsRead}
-use Rattle.rtl_sink.specs.Stands.{Stand}
+use Rattle.byte_streams.specs.Stands.{Stand}
 use Rattle.rtlsim_commands.specs.Simulated.{most_deltas}
 use Rattle.rtlsim_commands.specs.Watched.{OfEvents, OfMachine, Watched}
-use Rattle.rtlsim_faults.specs.declared.faults.Fault.{Fault}
-use Rattle.rtlsim_faults.specs.declared.faults.Fault.TheVariants.{Lex, Syntax, Name, Elab, NoSettling}
+use Rattle.rtlsim_command_faults.specs.declared.faults.Fault.{Fault}
+use Rattle.rtlsim_command_faults.specs.declared.faults.Fault.TheVariants.{Lex, Syntax, Name, Elab, NoSettling}
 
 -- nothing; or a run under the stimulus of this text: as a synchronous machine, or by events
 pub data Sight : Type 0 where

@@ -3,8 +3,8 @@
 use Rattle.std.specs.Prelude.{⊤, ◌≡◌, ◌≢◌, ◌⊎◌, ℕ, List, [], map, Result, Ok, Err}
 use Rattle.rtl_net.specs.Core.{core}
 use Rattle.rtl_check.specs.Views.{fault_view}
-use Rattle.rtlsim_faults.specs.declared.faults.Fault.{Fault}
-use Rattle.rtlsim_faults.specs.declared.faults.Fault.TheVariants.{Rejected, Stim, NoSettling, Memory, Output}
+use Rattle.rtlsim_command_faults.specs.declared.faults.Fault.{Fault}
+use Rattle.rtlsim_command_faults.specs.declared.faults.Fault.TheVariants.{Rejected, Stim, NoSettling, Memory, Output}
 use Rattle.rtl_model.specs.simulation.Faults.{AreStored}
 use Rattle.rtl_stim.specs.Ports.{inputs_of}
 use Rattle.rtl_stim.specs.Stimuli.{StimulusView, IsRead}
@@ -13,7 +13,7 @@ use Rattle.rtl_run.specs.simulations.Answered.{Answers}
 use Rattle.rtl_run.specs.declared.summary.RunFault.{RunFault}
 use Rattle.rtl_run.specs.declared.summary.RunFault.TheVariants as run
 use Rattle.rtl_run.specs.declared.summary.Summary.{Summary}
-use Rattle.rtl_sink.specs.Written.{SinkState}
+use Rattle.byte_streams.specs.Written.{SinkState}
 use Rattle.rtl_stim_lines.specs.Reading.{schedule_of}
 use Rattle.rtl_stim_lines.specs.declared.faults.StimFault.TheVariants as stim
 

@@ -1,21 +1,21 @@
 -- What is told of a command's answer on the standard error, and the status that the program ends with.
 use Rattle.std.specs.Prelude.{◌≡◌, ◌⊎◌, ◌&&◌, not, ℕ, Bool, true, false, List, [], Option, Some, None, Result, Ok, Err}
-use Rattle.rtlsim_faults.specs.Faults.{has_names}
-use Rattle.rtlsim_faults.specs.Told.{TellsFault, summary_line, levels_line}
-use Rattle.rtlsim_faults.specs.declared.faults.Fault.{Fault}
-use Rattle.rtlsim_faults.specs.declared.faults.Fault.TheVariants.{NoSettling}
-use Rattle.rtlsim_faults.specs.declared.status.Status.{Status}
-use Rattle.rtlsim_faults.specs.declared.status.Status.TheVariants as status
-use Rattle.rtlsim_faults.specs.declared.telling.Telling.{Telling}
-use Rattle.rtlsim_faults.specs.Behind.{TellsFurther, has_others}
+use Rattle.rtlsim_command_faults.specs.Faults.{has_names}
+use Rattle.rtlsim_command_faults.specs.Told.{TellsFault, summary_line, levels_line}
+use Rattle.rtlsim_command_faults.specs.declared.faults.Fault.{Fault}
+use Rattle.rtlsim_command_faults.specs.declared.faults.Fault.TheVariants.{NoSettling}
+use Rattle.rtlsim_command_faults.specs.declared.status.Status.{Status}
+use Rattle.rtlsim_command_faults.specs.declared.status.Status.TheVariants as status
+use Rattle.rtlsim_command_faults.specs.declared.telling.Telling.{Telling}
+use Rattle.rtlsim_command_faults.specs.Behind.{TellsFurther, has_others}
 use Rattle.rtlsim_commands.specs.Answered.{TellsText, verdict_status}
 use Rattle.rtlsim_commands.specs.Remarked.{TellsRemarks}
 use Rattle.rtlsim_commands.specs.Unsettled.{TellsChanging}
 use Rattle.rtl_run.specs.declared.level_summary.LevelSummary.{LevelSummary}
 use Rattle.rtl_net.specs.Nets.{NetlistView}
 use Rattle.rtl_run.specs.declared.summary.Summary.{Summary}
-use Rattle.rtl_sink.specs.Written.{SinkState}
-use Rattle.vhdl_source_rules.specs.Designs.{IsNetOf}
+use Rattle.byte_streams.specs.Written.{SinkState}
+use Rattle.vhdl_front_rules.specs.Designs.{IsNetOf}
 
 -- a fault whose lines have names is one of the source's netlist
 abbrev pub HasNet : (source top : List ℕ) → Fault → NetlistView → Type 0

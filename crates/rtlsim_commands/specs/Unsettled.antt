@@ -2,15 +2,15 @@
 use Rattle.std.specs.Prelude.{◌≡◌, ◌⊎◌, ℕ, Bool, true, List, Option, Some, None}
 use Rattle.rtl_net.specs.Nets.{NetlistView}
 use Rattle.rtl_run.specs.simulations.Simulated.{changing}
-use Rattle.rtl_sink.specs.Written.{SinkState, Goes}
+use Rattle.byte_streams.specs.Written.{SinkState, Goes}
 use Rattle.rtlsim_commands.specs.Sights.{OfUnsettled}
-use Rattle.rtlsim_faults.specs.Told.{TellsFault}
-use Rattle.rtlsim_faults.specs.declared.status.Status.{Status}
-use Rattle.rtlsim_faults.specs.declared.telling.Telling.{Telling}
-use Rattle.rtlsim_faults.specs.Changing.{changing_line}
-use Rattle.rtlsim_faults.specs.Lines.{memory_line}
-use Rattle.rtlsim_faults.specs.declared.faults.Fault.{Fault}
-use Rattle.rtlsim_faults.specs.declared.faults.Fault.TheVariants.{NoSettling}
+use Rattle.rtlsim_command_faults.specs.Told.{TellsFault}
+use Rattle.rtlsim_command_faults.specs.declared.status.Status.{Status}
+use Rattle.rtlsim_command_faults.specs.declared.telling.Telling.{Telling}
+use Rattle.rtlsim_command_faults.specs.Changing.{changing_line}
+use Rattle.rtlsim_command_faults.specs.Lines.{memory_line}
+use Rattle.rtlsim_command_faults.specs.declared.faults.Fault.{Fault}
+use Rattle.rtlsim_command_faults.specs.declared.faults.Fault.TheVariants.{NoSettling}
 
 -- the nets of these numbers are named, or memory for their names is refused
 abbrev pub Names : NetlistView → (numbers : List ℕ) → (old new : SinkState) → Type 0

@@ -1,14 +1,14 @@
 -- What is seen of a simulation while a command runs: what stands at each moment of the trace, and until when.
 use Rattle.std.specs.Prelude.{⊤, ℕ, List, Result, Ok, Err}
-use Rattle.rtlsim_faults.specs.declared.faults.Fault.{Fault}
-use Rattle.rtlsim_faults.specs.declared.faults.Fault.TheVariants.{Differs}
+use Rattle.rtlsim_command_faults.specs.declared.faults.Fault.{Fault}
+use Rattle.rtlsim_command_faults.specs.declared.faults.Fault.TheVariants.{Differs}
 use Rattle.rtl_run.specs.Answered.{Admits}
 use Rattle.rtl_run.specs.Watched.{IsToldRun}
 use Rattle.rtl_net.specs.Nets.{NetlistView}
 use Rattle.rtl_run.specs.simulations.Watched.{IsToldAll}
-use Rattle.rtl_sink.specs.Written.{SinkState}
+use Rattle.byte_streams.specs.Written.{SinkState}
 use Rattle.rtl_stim.specs.Stimuli.{StimulusView, IsRead}
-use Rattle.rtl_sink.specs.Stands.{Stand}
+use Rattle.byte_streams.specs.Stands.{Stand}
 
 -- This holds of the synchronous machine's valuations under the stimulus that the text says, in order of moments.
 abbrev pub OfMachine : (text : List ℕ) → (Holds : List Stand → Type 0) → NetlistView → Type 0

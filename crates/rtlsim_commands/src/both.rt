@@ -5,7 +5,7 @@ ghost use Rattle.std.proofs.Common.{refl};
 ghost use Rattle.rtl_expect.specs.Watching.{IsToldOf, fresh_has_seen};
 
 use rtl_expect::Expectations;
-use rtl_sink::Watch;
+use byte_streams::Watch;
 
 /// Compares with what is expected, and lets another watch look on.
 #[derive(Drop)]

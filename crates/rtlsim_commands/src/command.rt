@@ -2,20 +2,20 @@
 
 ghost use Rattle.std.specs.Prelude.{◌≡◌, [], ℕ, List, Result, Err, IfErr};
 ghost use Rattle.rtl_net.specs.Nets.{NetlistView};
-ghost use Rattle.rtl_sink.specs.Written.{SinkState, IsIntact};
+ghost use Rattle.byte_streams.specs.Written.{SinkState, IsIntact};
 ghost use Rattle.rtl_stim.specs.Ports.{HasOwnPorts};
-ghost use Rattle.rtlsim_faults.specs.Told.{summary_line, levels_line};
-ghost use Rattle.rtlsim_faults.specs.declared.faults.Fault.{Fault};
-ghost use Rattle.rtlsim_faults.specs.declared.status.Status.{Status};
-ghost use Rattle.rtlsim_faults.specs.declared.status.Status.TheVariants as statuses;
+ghost use Rattle.rtlsim_command_faults.specs.Told.{summary_line, levels_line};
+ghost use Rattle.rtlsim_command_faults.specs.declared.faults.Fault.{Fault};
+ghost use Rattle.rtlsim_command_faults.specs.declared.status.Status.{Status};
+ghost use Rattle.rtlsim_command_faults.specs.declared.status.Status.TheVariants as statuses;
 ghost use Rattle.rtlsim_commands.specs.Answered.{TellsText, verdict_status};
 ghost use Rattle.rtlsim_commands.specs.Expected.{IsOfRun};
 ghost use Rattle.rtlsim_commands.specs.Sights.{Sight, Seeing, IsOfNet};
 
 use rtl_net::Net;
 use rtl_run::{LevelSummary, Summary};
-use rtl_sink::{Sink, Watch};
-use rtlsim_faults::{Fault, Status, tell_levels, tell_summary};
+use byte_streams::{Sink, Watch};
+use rtlsim_command_faults::{Fault, Status, tell_levels, tell_summary};
 use std::alloc::Global;
 
 /// What a command answers where it is done.

@@ -8,8 +8,8 @@ use crate::both::Both;
 use crate::command::{Command, Run};
 use rtl_expect::{Difference, Expectations};
 use rtl_net::Net;
-use rtl_sink::{Sink, Watch};
-use rtlsim_faults::Fault;
+use byte_streams::{Sink, Watch};
+use rtlsim_command_faults::Fault;
 use std::alloc::Global;
 
 /// A run that is compared with what the lines of `expected` say, if these are given. It takes memory for each of them.

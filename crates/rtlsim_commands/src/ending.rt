@@ -1,21 +1,21 @@
 //! What is told of an answer, and the status that a command ends with.
 
 ghost use Rattle.std.specs.Prelude.{◌≡◌};
-ghost use Rattle.rtl_sink.specs.Written.{IsIntact};
-ghost use Rattle.rtlsim_faults.specs.Faults.{of_source};
-ghost use Rattle.rtlsim_faults.specs.Behind as behind;
+ghost use Rattle.byte_streams.specs.Written.{IsIntact};
+ghost use Rattle.rtlsim_command_faults.specs.Faults.{of_source};
+ghost use Rattle.rtlsim_command_faults.specs.Behind as behind;
 ghost use Rattle.rtlsim_commands.specs.Refused.{RefusesSource};
 ghost use Rattle.rtlsim_commands.specs.Served.{ended};
 ghost use Rattle.rtlsim_commands.specs.Told as told;
 ghost use Rattle.rtlsim_commands.specs.Unsettled.{NamesIf, TellsRun};
 
 use rtl_net::Net;
-use rtl_sink::Sink;
-use rtlsim_faults::{
+use byte_streams::Sink;
+use rtlsim_command_faults::{
     Fault, Status, Telling, push_further_faults, tell_changing, tell_fault, tell_source_fault,
 };
 use std::alloc::Global;
-use vhdl_source_rules::{Front, SourceFault};
+use vhdl_front_rules::{Front, SourceFault};
 
 /// Tells why a source is refused, and its other faults too where that is told whole and explanations are asked for, and answers the status.
 pub(crate) fn refuse_source<F: Front, O: Sink, E: Sink>(

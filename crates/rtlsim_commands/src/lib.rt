@@ -33,14 +33,14 @@ pub use rtl_check::CheckFault;
 pub use rtl_kernel::{Forward, Pick, Reverse};
 pub use rtl_net::Net;
 pub use rtl_run::{LevelSummary, Summary};
-pub use rtl_sink::{Sink, Unwatched, Watch};
+pub use byte_streams::{Sink, Unwatched, Watch};
 pub use rtl_stim::StimFault;
-pub use rtlsim_faults::{
+pub use rtlsim_command_faults::{
     Fault, Status, Telling, push_memory, tell_fault, tell_levels, tell_source_fault, tell_summary,
 };
-pub use rtlsim_files::SourceFile;
+pub use vhdl_source_files::SourceFile;
 pub use running::{MAX_DELTAS, RunEvents, RunLevels, RunMachine};
 pub use serving::{describe, serve};
 pub use vhdl_expand_rules::{ElabFault, ElabProblem};
 pub use vhdl_names_rules::{NameFault, NameProblem};
-pub use vhdl_source_rules::{Front, SourceFault};
+pub use vhdl_front_rules::{Front, SourceFault};

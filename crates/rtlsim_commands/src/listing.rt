@@ -2,21 +2,21 @@
 
 ghost use Rattle.std.specs.Prelude.{◌≡◌, [], if◌then◌else◌};
 ghost use Rattle.rtl_check.specs.Verdicts as verdicts;
-ghost use Rattle.rtl_sink.specs.Written.{IsIntact};
+ghost use Rattle.byte_streams.specs.Written.{IsIntact};
 ghost use Rattle.rtlsim_commands.specs.Listed.{ListsNet, ChecksNet, ChecksNetJson, ChecksNetTold, DrawsNet, DrawsNetTold, with_remarks};
-ghost use Rattle.rtlsim_faults.specs.Explanations.{files_of, verdict_explained, with_explanation};
+ghost use Rattle.rtlsim_command_faults.specs.Explanations.{files_of, verdict_explained, with_explanation};
 ghost use Rattle.rtlsim_listing.specs.CheckText.{check_text};
 ghost use Rattle.rtlsim_listing.specs.DotText.{dot_text};
 ghost use Rattle.rtlsim_listing.specs.Printing.{IsListed};
-ghost use Rattle.rtlsim_verdict.specs.RemarkText.{remarks_text};
+ghost use Rattle.rtlsim_findings_text.specs.RemarkText.{remarks_text};
 
 use rtl_check::{Verdict, check};
 use rtl_net::Net;
-use rtl_sink::{Sink, finish};
-use rtlsim_faults::{Fault, Telling};
+use byte_streams::{Sink, finish};
+use rtlsim_command_faults::{Fault, Telling};
 use rtlsim_listing;
 use rtlsim_listing::ListingFault;
-use rtlsim_verdict::{explain_rejection, show_check_json, show_remarks};
+use rtlsim_findings_text::{explain_rejection, show_check_json, show_remarks};
 use std::alloc::Global;
 
 /// Writes the lines of a netlist. It takes memory for one name at a time.

@@ -5,7 +5,7 @@ ghost use Rattle.std.proofs.Common.{refl};
 ghost use Rattle.rtl_run.specs.simulations.Simulated as spec;
 
 use arrayvec::ArrayVec;
-use rtl_sink::Watch;
+use byte_streams::Watch;
 
 /// The numbers of nets that still change, in order: the first 17, which is one more than are named.
 pub(crate) type Numbers = ArrayVec<usize, 17>;

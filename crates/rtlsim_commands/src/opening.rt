@@ -1,8 +1,8 @@
 //! Commands on a source, without what is told of them.
 
 ghost use Rattle.std.specs.Prelude.{IfErr, length, map};
-ghost use Rattle.rtl_sink.specs.Written.{IsIntact};
-ghost use Rattle.rtlsim_faults.specs.Places.{IsTold};
+ghost use Rattle.byte_streams.specs.Written.{IsIntact};
+ghost use Rattle.rtlsim_command_faults.specs.Places.{IsTold};
 ghost use Rattle.rtlsim_commands.specs.Listed.{ListsNet, ChecksNet, DrawsNet};
 ghost use Rattle.rtlsim_commands.specs.Machine.{RunsMachine, RunsMachineByLevels, EvaluatesMachine};
 ghost use Rattle.rtlsim_commands.specs.Simulated.{RunsEvents};
@@ -14,10 +14,10 @@ use crate::printing::{EvalNet, ListNet};
 use crate::running::{RunEvents, RunLevels, RunMachine};
 use rtl_kernel::Pick;
 use rtl_run::{LevelSummary, Summary};
-use rtl_sink::{Sink, Unwatched};
-use rtlsim_faults::Fault;
+use byte_streams::{Sink, Unwatched};
+use rtlsim_command_faults::Fault;
 use std::alloc::Global;
-use vhdl_source_rules::Front;
+use vhdl_front_rules::Front;
 
 /// Opens a source, and does a command on its netlist: `source` has the bytes of the file, `top` the name of an entity in it, in letters of
 /// either case. It takes memory for the source's netlist, and what the command takes.

@@ -9,8 +9,8 @@ use crate::command::Command;
 use crate::listing::{check_net_dot_told, check_net_json, check_net_told, list_net};
 use rtl_net::Net;
 use rtl_run;
-use rtl_sink::{Sink, Watch};
-use rtlsim_faults::{Fault, Telling};
+use byte_streams::{Sink, Watch};
+use rtlsim_command_faults::{Fault, Telling};
 use std::alloc::Global;
 
 /// `net`: the lines of a netlist.

@@ -3,9 +3,9 @@
 ghost use Rattle.rtlsim_commands.specs.Remarked.{TellsRemarks};
 
 use rtl_net::Net;
-use rtl_sink::{Sink, push_text};
-use rtlsim_faults::{Telling, push_memory};
-use rtlsim_verdict::stimulus_remarks_text;
+use byte_streams::{Sink, push_text};
+use rtlsim_command_faults::{Telling, push_memory};
+use rtlsim_findings_text::stimulus_remarks_text;
 use std::alloc::Global;
 
 /// Tells the remarks on the stimulus, if there is one and explanations are asked for, or that memory for them is refused.

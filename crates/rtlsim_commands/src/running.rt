@@ -12,9 +12,9 @@ use rtl_kernel::Pick;
 use rtl_net::Net;
 use rtl_run;
 use rtl_run::{LevelSummary, SLOTS, Simulation, Summary};
-use rtl_sink::{Sink, Watch};
+use byte_streams::{Sink, Watch};
 use rtl_stim::{Stimulus, Wheel};
-use rtlsim_faults::Fault;
+use rtlsim_command_faults::Fault;
 use std::alloc::Global;
 
 /// The most delta cycles that a moment may take.

@@ -2,7 +2,7 @@
 
 ghost use Rattle.std.specs.Prelude.{◌≡◌, IfErr, take};
 ghost use Rattle.rtl_run.specs.simulations.Simulated as spec;
-ghost use Rattle.rtl_sink.specs.Written.{IsIntact};
+ghost use Rattle.byte_streams.specs.Written.{IsIntact};
 ghost use Rattle.rtl_stim.specs.Ports.{HasOwnPorts};
 ghost use Rattle.rtlsim_commands.specs.Sights.{Seeing, IsOfNet, events_of};
 ghost use Rattle.rtlsim_commands.specs.Served.{Serves, ServesNet, ServesObject};
@@ -13,10 +13,10 @@ use crate::noting::{Noting, Numbers};
 use crate::printing::DescribeNet;
 use crate::remarking::tell_remarks;
 use rtl_net::Net;
-use rtl_sink::{Sink, Unwatched, Watch};
-use rtlsim_faults::{Fault, Status, Telling, describe_refusal};
+use byte_streams::{Sink, Unwatched, Watch};
+use rtlsim_command_faults::{Fault, Status, Telling, describe_refusal};
 use std::alloc::Global;
-use vhdl_source_rules::Front;
+use vhdl_front_rules::Front;
 
 /// Serves a command, while this watch looks on: opens the source, does the command on its netlist, writes what is told of its answer or the
 /// lines of a fault to `err`, and answers the status. Behind the explanation of a moment that doesn't settle stand the nets that still change.

@@ -1,7 +1,7 @@
 -- A sentence of the same rule, with the same names.
 use Rattle.std.proofs.Common.{◌≡◌, ℕ, List, ap, ◌∙◌}
-use Rattle.rtl_report.specs.Rules.{words_of}
-use Rattle.rtl_report.specs.declared.report.Report.{Report}
+use Rattle.fault_rules.specs.Rules.{words_of}
+use Rattle.fault_rules.specs.declared.report.Report.{Report}
 use Rattle.rtlsim_findings.specs.Sayings.{sentence}
 
 pub same_sentence : (told report : Report) (a culprits b nets : List ℕ) → told ≡ report → a ≡ culprits → b ≡ nets

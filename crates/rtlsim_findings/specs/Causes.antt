@@ -5,13 +5,13 @@ use Rattle.std.specs.Prelude.{ℕ, ◌==◌, ◌&&◌, Bool, true, false, slice_
 use Rattle.rtl_model.specs.simulation.Accepted.{Fault}
 use Rattle.rtl_net.specs.Nets.{NetlistView}
 use Rattle.rtl_net.specs.declared.process.Process.{Process}
-use Rattle.rtl_reasons.specs.Notes.{number_of}
-use Rattle.rtl_reasons.specs.declared.reason.Reason.{Reason}
-use Rattle.rtl_report.specs.Rules.{words_of}
-use Rattle.rtl_report.specs.declared.report.Place.{Place}
-use Rattle.rtl_report.specs.declared.report.Place.TheVariants as place
-use Rattle.rtl_report.specs.declared.report.Subject.{Subject}
-use Rattle.rtl_report.specs.declared.report.Subject.TheVariants.{Sources}
+use Rattle.rtl_mixed_reasons.specs.Notes.{number_of}
+use Rattle.rtl_mixed_reasons.specs.declared.reason.Reason.{Reason}
+use Rattle.fault_rules.specs.Rules.{words_of}
+use Rattle.fault_rules.specs.declared.report.Place.{Place}
+use Rattle.fault_rules.specs.declared.report.Place.TheVariants as place
+use Rattle.fault_rules.specs.declared.report.Subject.{Subject}
+use Rattle.fault_rules.specs.declared.report.Subject.TheVariants.{Sources}
 use Rattle.rtlsim_findings.specs.Mixed.{why}
 use Rattle.rtlsim_findings.specs.Omitted.{left_out, are_same}
 use Rattle.rtlsim_findings.specs.declared.cause.Cause.{Cause}

@@ -3,9 +3,9 @@ use Rattle.std.specs.Prelude.{ℕ, List, [], ◌++◌, Option, Some, None}
 use Rattle.rtl_model.specs.simulation.Accepted.{Fault, MixedProcess}
 use Rattle.rtl_net.specs.Names.{process_name}
 use Rattle.rtl_net.specs.Nets.{NetlistView}
-use Rattle.rtl_reasons.specs.Notes.{note_of}
-use Rattle.rtl_reasons.specs.Reasons.{reason_of}
-use Rattle.rtl_reasons.specs.declared.reason.Reason.{Reason}
+use Rattle.rtl_mixed_reasons.specs.Notes.{note_of}
+use Rattle.rtl_mixed_reasons.specs.Reasons.{reason_of}
+use Rattle.rtl_mixed_reasons.specs.declared.reason.Reason.{Reason}
 use Rattle.rtlsim_findings.specs.Circles.{name_of_net}
 
 abbrev pub why : NetlistView → Fault → Option Reason

@@ -5,12 +5,12 @@ use Rattle.rtl_net.specs.Nets.{NetlistView}
 use Rattle.rtl_remarks.specs.declared.remark.Remark.{Remark}
 use Rattle.rtl_remarks.specs.declared.remark.RemarkKind.{RemarkKind}
 use Rattle.rtl_remarks.specs.declared.remark.RemarkKind.TheVariants as k
-use Rattle.rtl_report.specs.Rules.{words_of}
-use Rattle.rtl_report.specs.declared.remarking.RemarkRule.{RemarkRule}
-use Rattle.rtl_report.specs.declared.remarking.RemarkRule.TheVariants as rule
-use Rattle.rtl_report.specs.declared.report.Report.{Report}
-use Rattle.rtl_report.specs.declared.report.Rule.TheVariants.{Remark as Remark'}
-use Rattle.rtl_report.specs.declared.report.Subject.TheVariants.{Net}
+use Rattle.fault_rules.specs.Rules.{words_of}
+use Rattle.fault_rules.specs.declared.remarking.RemarkRule.{RemarkRule}
+use Rattle.fault_rules.specs.declared.remarking.RemarkRule.TheVariants as rule
+use Rattle.fault_rules.specs.declared.report.Report.{Report}
+use Rattle.fault_rules.specs.declared.report.Rule.TheVariants.{Remark as Remark'}
+use Rattle.fault_rules.specs.declared.report.Subject.TheVariants.{Net}
 use Rattle.rtlsim_findings.specs.Causes.{is_same_number}
 use Rattle.rtlsim_findings.specs.Mixed.{name_of_process}
 use Rattle.rtlsim_findings.specs.Ranges.{follows, range_text}

@@ -6,11 +6,11 @@ use Rattle.rtl_latches.specs.declared.omission.Omission.{Omission}
 use Rattle.rtl_model.specs.simulation.Accepted.{Fault, Latch}
 use Rattle.rtl_net.specs.Names.{net_name, process_name}
 use Rattle.rtl_net.specs.Nets.{NetlistView}
-use Rattle.rtl_reasons.specs.declared.reason.Reason.{Reason}
-use Rattle.rtl_report.specs.Rules.{Text, words_of}
-use Rattle.rtl_report.specs.declared.report.Subject.{Subject}
-use Rattle.rtl_report.specs.declared.report.Subject.TheVariants.{Sources, ProcessNet, Element, Net, Process as Process', Circle}
-use Rattle.rtl_report.specs.declared.words.Words.{Words}
+use Rattle.rtl_mixed_reasons.specs.declared.reason.Reason.{Reason}
+use Rattle.fault_rules.specs.Rules.{Text, words_of}
+use Rattle.fault_rules.specs.declared.report.Subject.{Subject}
+use Rattle.fault_rules.specs.declared.report.Subject.TheVariants.{Sources, ProcessNet, Element, Net, Process as Process', Circle}
+use Rattle.fault_rules.specs.declared.words.Words.{Words}
 use Rattle.rtlsim_findings.specs.Causes.{is_of, second_process}
 use Rattle.rtlsim_findings.specs.Circles.{loop_text}
 use Rattle.rtlsim_findings.specs.Findings.{FindingView}

@@ -10,8 +10,8 @@ use crate::omitted::Omissions;
 use rtl_check::CheckFault;
 use rtl_latches::Omission;
 use rtl_net::{Net, NoMemory};
-use rtl_reasons::Reason;
-use rtl_report::{Place, Subject};
+use rtl_mixed_reasons::Reason;
+use fault_rules::{Place, Subject};
 use rtlsim_listing::report_of;
 use std::alloc::Global;
 

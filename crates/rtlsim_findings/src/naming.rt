@@ -15,7 +15,7 @@ use crate::rounds::loop_text;
 use indexmap::IndexSet;
 use rtl_check::CheckFault;
 use rtl_net::{Net, NoMemory};
-use rtl_report::Subject;
+use fault_rules::Subject;
 use rtlsim_listing::{circle_of, element_of, net_name, process_name, report_of, source_name};
 use std::alloc::Global;
 

@@ -11,7 +11,7 @@ use crate::ranges::follows;
 use crate::saying::sentence;
 use rtl_net::{Net, NoMemory};
 use rtl_remarks::{Remark, RemarkKind};
-use rtl_report::{RemarkRule, Report, Rule, Subject};
+use fault_rules::{RemarkRule, Report, Rule, Subject};
 use rtlsim_listing::{net_name, place_of};
 use std::alloc::Global;
 

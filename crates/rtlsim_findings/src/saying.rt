@@ -3,7 +3,7 @@
 ghost use Rattle.std.specs.Prelude.{◌≡◌, if◌then◌else◌, [], ◌∷◌, ◌++◌, codes, flat_map, map, IfOk, OnOk};
 ghost use Rattle.rtl_check.specs.Views.{fault_view};
 ghost use Rattle.rtl_net.specs.Names.{process_name};
-ghost use Rattle.rtl_report.specs.Rules.{words_of};
+ghost use Rattle.fault_rules.specs.Rules.{words_of};
 ghost use Rattle.rtlsim_findings.specs.Findings.{finding_view};
 ghost use Rattle.rtlsim_findings.specs.Sayings as spec;
 ghost use Rattle.rtlsim_findings.specs.steps.Pairs as steps;
@@ -16,7 +16,7 @@ use crate::omitted::said;
 use indexmap::IndexSet;
 use rtl_check::CheckFault;
 use rtl_net::{Net, NoMemory};
-use rtl_report::{Rule, Subject};
+use fault_rules::{Rule, Subject};
 use rtlsim_listing::{circle_of, process_name, report_of};
 use std::alloc::Global;
 

@@ -6,7 +6,7 @@ use Rattle.rtl_check.proofs.Rows.{nets_of_wakes}
 use Rattle.rtl_net.specs.declared.process.Process.{Process}
 use Rattle.rtl_net.specs.Elaborated.{IsNet}
 use Rattle.rtl_net.specs.Nets.{NetlistView}
-use Rattle.rtl_sink.specs.Written.{SinkState, Goes}
+use Rattle.byte_streams.specs.Written.{SinkState, Goes}
 use Rattle.rtlsim_listing.specs.DotText.{is_index, without_index, arrow_by, arrow_before}
 
 -- a process that is found, and what it is sensitive to

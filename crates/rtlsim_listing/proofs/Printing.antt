@@ -6,8 +6,8 @@ use Rattle.std.proofs.lemmas.Grind.{flat_map-append}
 use Rattle.std.proofs.lemmas.List.{take_more, take-append-drop}
 use Rattle.std.specs.Result.{IsErrAnd}
 use Rattle.std.proofs.lemmas.Result.{err_from_is_err_and}
-use Rattle.rtl_sink.specs.Written.{SinkState, Goes, IsIntact, TakesBeginning}
-use Rattle.rtl_sink.proofs.Writing.{Goes-append, Goes-nil, TakesBeginning-append}
+use Rattle.byte_streams.specs.Written.{SinkState, Goes, IsIntact, TakesBeginning}
+use Rattle.byte_streams.proofs.Writing.{Goes-append, Goes-nil, TakesBeginning-append}
 use Rattle.rtlsim_listing.specs.NetText.{lines}
 use Rattle.rtlsim_listing.specs.Printing.{GoesInPart, Prints}
 

@@ -13,10 +13,10 @@ use Rattle.rtl_check.specs.declared.reporting.Report.{Report}
 use Rattle.rtl_check.specs.declared.checking.Verdict.{Verdict}
 use Rattle.rtl_check.specs.declared.checking.Verdict.TheVariants.{Yes, No}
 use Rattle.rtl_check.specs.Views.{fault_view}
-use Rattle.rtl_report.specs.Rules.{Text, words_of}
-use Rattle.rtl_report.specs.declared.report.Subject.{Subject}
-use Rattle.rtl_report.specs.declared.report.Subject.TheVariants.{Sources, ProcessNet, Element, Process as Process', Circle}
-use Rattle.rtl_report.specs.declared.words.Words.{Words}
+use Rattle.fault_rules.specs.Rules.{Text, words_of}
+use Rattle.fault_rules.specs.declared.report.Subject.{Subject}
+use Rattle.fault_rules.specs.declared.report.Subject.TheVariants.{Sources, ProcessNet, Element, Process as Process', Circle}
+use Rattle.fault_rules.specs.declared.words.Words.{Words}
 use Rattle.rtlsim_listing.specs.NetText.{lines}
 use Rattle.rtlsim_listing.specs.Reports.{report_of, circle_of}
 

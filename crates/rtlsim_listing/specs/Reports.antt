@@ -2,14 +2,14 @@
 use Rattle.std.specs.Prelude.{ℕ, List, [], ◌∷◌, Option, Some, None}
 use Rattle.rtl_model.specs.simulation.Accepted as f
 use Rattle.rtl_model.specs.simulation.Netlist.{Source, Driver, Idle}
-use Rattle.rtl_report.specs.declared.checking.CheckRule.{CheckRule}
-use Rattle.rtl_report.specs.declared.checking.CheckRule.TheVariants as rule
-use Rattle.rtl_report.specs.declared.report.Place.{Place}
-use Rattle.rtl_report.specs.declared.report.Place.TheVariants as place
-use Rattle.rtl_report.specs.declared.report.Report.{Report}
-use Rattle.rtl_report.specs.declared.report.Rule.TheVariants.{Check}
-use Rattle.rtl_report.specs.declared.report.Subject.{Subject}
-use Rattle.rtl_report.specs.declared.report.Subject.TheVariants as subject
+use Rattle.fault_rules.specs.declared.checking.CheckRule.{CheckRule}
+use Rattle.fault_rules.specs.declared.checking.CheckRule.TheVariants as rule
+use Rattle.fault_rules.specs.declared.report.Place.{Place}
+use Rattle.fault_rules.specs.declared.report.Place.TheVariants as place
+use Rattle.fault_rules.specs.declared.report.Report.{Report}
+use Rattle.fault_rules.specs.declared.report.Rule.TheVariants.{Check}
+use Rattle.fault_rules.specs.declared.report.Subject.{Subject}
+use Rattle.fault_rules.specs.declared.report.Subject.TheVariants as subject
 
 -- the process of a driver; an idle port has none
 abbrev pub process_of : Source → Option ℕ

@@ -1,6 +1,6 @@
 //! The lines of a verdict.
 
-ghost use Rattle.rtl_sink.specs.Written.{IsIntact};
+ghost use Rattle.byte_streams.specs.Written.{IsIntact};
 ghost use Rattle.rtlsim_listing.specs.CheckText.{check_text, rejection_text};
 ghost use Rattle.rtlsim_listing.specs.DotText.{dot_text};
 ghost use Rattle.rtlsim_listing.specs.Printing.{Prints, IsListed};
@@ -11,7 +11,7 @@ use crate::levels::push_report;
 use crate::rejection::push_rejection;
 use rtl_check::{CheckFault, Verdict};
 use rtl_net::{Net, NoMemory};
-use rtl_sink::{Sink, finish};
+use byte_streams::{Sink, finish};
 use std::alloc::Global;
 
 /// Writes the checker's verdict on a netlist: `yes` with the greatest level, the bound and the level of each combinational process,

@@ -4,7 +4,7 @@ ghost use Rattle.std.specs.Prelude.{◌≡◌};
 ghost use Rattle.rtlsim_listing.specs.declared.fault.ListingFault.TheVariants.{Memory, Write};
 
 use rtl_net::NoMemory;
-use rtl_sink::WriteFailed;
+use byte_streams::WriteFailed;
 
 /// Why lines were not written whole.
 #[derive(Clone, Copy)]

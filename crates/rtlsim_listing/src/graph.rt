@@ -1,7 +1,7 @@
 //! The levels of an accepted netlist as a graph in Graphviz's language.
 
 ghost use Rattle.std.specs.Prelude.{◌<◌, length};
-ghost use Rattle.rtl_sink.specs.Written.{Goes};
+ghost use Rattle.byte_streams.specs.Written.{Goes};
 ghost use Rattle.rtlsim_listing.specs.NetText.{lines};
 ghost use Rattle.rtlsim_listing.specs.DotText as spec;
 ghost use Rattle.rtlsim_listing.specs.Printing.{Prints};
@@ -11,7 +11,7 @@ use crate::levels::greatest_level;
 use crate::names::process_name;
 use rtl_check::Report;
 use rtl_net::{Net, NoMemory};
-use rtl_sink::{Sink, push_number, push_text};
+use byte_streams::{Sink, push_number, push_text};
 use std::alloc::Global;
 
 /// The whole graph.

@@ -1,7 +1,7 @@
 //! The checker's yes: the bound, and the levels of combinational processes.
 
 ghost use Rattle.std.specs.Prelude.{◌≡◌, ◌<◌, length, slice_index_or, None, IfOk};
-ghost use Rattle.rtl_sink.specs.Written.{Goes};
+ghost use Rattle.byte_streams.specs.Written.{Goes};
 ghost use Rattle.rtlsim_listing.specs.NetText.{lines};
 ghost use Rattle.rtlsim_listing.specs.CheckText as spec;
 ghost use Rattle.rtlsim_listing.specs.Printing.{Prints};
@@ -9,7 +9,7 @@ ghost use Rattle.rtlsim_listing.specs.Printing.{Prints};
 use crate::names::process_name;
 use rtl_check::Report;
 use rtl_net::{Net, NoMemory};
-use rtl_sink::{Sink, push_number, push_text};
+use byte_streams::{Sink, push_number, push_text};
 use std::alloc::Global;
 
 /// The whole report.

@@ -1,7 +1,7 @@
 //! The lines of a netlist.
 
 ghost use Rattle.std.specs.Prelude.{◌<◌, length};
-ghost use Rattle.rtl_sink.specs.Written.{IsIntact, Goes};
+ghost use Rattle.byte_streams.specs.Written.{IsIntact, Goes};
 ghost use Rattle.rtlsim_listing.specs.NetText.{lines, net_line, process_line, counts_text, net_text};
 ghost use Rattle.rtlsim_listing.specs.Printing.{Prints, IsListed};
 
@@ -9,7 +9,7 @@ use crate::fault::ListingFault;
 use crate::sources::{push_sources, push_start};
 use rtl_body_facts::contains_rising;
 use rtl_net::{Net, NoMemory};
-use rtl_sink::{Sink, finish, push_number, push_text};
+use byte_streams::{Sink, finish, push_number, push_text};
 
 /// Writes how many nets and processes there are, then for each net its number, name, start and sources, and for each process
 /// its number and name. It takes the memory of one name at a time.

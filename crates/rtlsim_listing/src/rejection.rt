@@ -1,7 +1,7 @@
 //! The checker's no, with a line for each fault.
 
 ghost use Rattle.std.specs.Prelude.{◌≡◌, ◌++◌, [], flat_map, IfOk, OnOk};
-ghost use Rattle.rtl_report.specs.declared.report.Subject.{Subject};
+ghost use Rattle.fault_rules.specs.declared.report.Subject.{Subject};
 ghost use Rattle.rtlsim_listing.specs.CheckText as spec;
 ghost use Rattle.rtlsim_listing.specs.Printing.{Prints};
 
@@ -11,8 +11,8 @@ use crate::texts::push_title;
 use crate::variables::element_of;
 use rtl_check::CheckFault;
 use rtl_net::{Net, NoMemory};
-use rtl_report::Subject;
-use rtl_sink::{Sink, push_text};
+use fault_rules::Subject;
+use byte_streams::{Sink, push_text};
 use std::alloc::Global;
 
 /// `no`, and the lines of all faults.

@@ -7,7 +7,7 @@ ghost use Rattle.rtlsim_listing.specs.Reports as spec;
 
 use rtl_check::CheckFault;
 use rtl_net::Source;
-use rtl_report::{CheckRule, Place, Report, Rule, Subject};
+use fault_rules::{CheckRule, Place, Report, Rule, Subject};
 
 /// What a fault tells.
 pub fn report_of(fault: &CheckFault) -> Report

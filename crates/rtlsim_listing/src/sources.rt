@@ -1,12 +1,12 @@
 //! What a net starts with, and its sources.
 
 ghost use Rattle.std.specs.Prelude.{map};
-ghost use Rattle.rtl_sink.specs.Written.{Goes};
+ghost use Rattle.byte_streams.specs.Written.{Goes};
 ghost use Rattle.rtl_net.specs.Nets.{source_view, type_of};
 ghost use Rattle.rtlsim_listing.specs.NetText.{start_text, source_text, driven_text, sources_text};
 
 use rtl_net::{NetKind, Source};
-use rtl_sink::{Sink, push_number, push_text};
+use byte_streams::{Sink, push_number, push_text};
 use vhdl_values::Nine;
 
 /// The character of one of the nine values, or the position of a literal.

@@ -1,12 +1,12 @@
 //! Parts of texts that are made before they are written.
 
 ghost use Rattle.std.specs.Prelude.{◌≡◌, ◌++◌, decimal, OnOk};
-ghost use Rattle.rtl_report.specs.Rules.{words_of};
+ghost use Rattle.fault_rules.specs.Rules.{words_of};
 ghost use Rattle.rtlsim_listing.specs.CheckText.{title_text};
 
 use itoa::Buffer;
 use rtl_net::NoMemory;
-use rtl_report::Rule;
+use fault_rules::Rule;
 
 /// Appends a number in decimal digits.
 pub fn push_decimal(number: usize, text: &mut Vec<u8>) -> Result<(), NoMemory>

@@ -3,7 +3,7 @@
 
 use rtlsim::exit_code;
 use std::process::ExitCode;
-use vhdl_source::Vhdl;
+use vhdl_front::Vhdl;
 
 fn main(rt: HostRuntime) -> ExitCode {
     exit_code::<Vhdl, _, _, _, _, _>(&rt, rt.reader(), rt.stdout(), rt.stderr(), rt.stderr())

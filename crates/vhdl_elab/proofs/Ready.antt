@@ -4,7 +4,7 @@ use Rattle.vhdl_expand_rules.specs.Tree.{Object, Instance, instance, Parts, no_p
 use Rattle.vhdl_expand_rules.specs.Expansion.{Design}
 use Rattle.vhdl_expand_rules.specs.laws.Trees.{DesignIsSound, InstanceIsSound, PartsAreSound}
 use Rattle.vhdl_elab_rules.specs.Prefixes.{InstanceIsDotted, PartsAreDotted}
-use Rattle.vhdl_expand_drivers.proofs.Rising.{rising}
+use Rattle.vhdl_expand_processes.proofs.Rising.{rising}
 use Rattle.vhdl_elab.specs.Ready.{InstanceIsReady, PartsAreReady}
 
 mutual

@@ -17,7 +17,7 @@ use Rattle.vhdl_elab_rules.specs.Limits.{Counts, statements_count}
 use Rattle.vhdl_expand_tree.specs.Costs.{a_process, plus, variables_costs, process_costs, spent, charged}
 use Rattle.vhdl_expand_tree.proofs.Alike.{Alike, wrong, same_told, tells_first, tells_next, tells_again}
 use Rattle.vhdl_expand_tree.proofs.Charging.{left_with, spent-plus, spent_told}
-use Rattle.vhdl_expand_drivers.specs.Driven.{drives_of}
+use Rattle.vhdl_expand_processes.specs.Driven.{drives_of}
 use Rattle.vhdl_expand.proofs.Spending.{spent_here, spent_there}
 use Rattle.vhdl_expand.specs.Unrolled.{paid, statements_costs}
 use Rattle.vhdl_expand.specs.Processes.{turns_paid, process_steps}

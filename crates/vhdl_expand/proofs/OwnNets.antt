@@ -13,7 +13,7 @@ use Rattle.vhdl_expand_tree.specs.Costs.{nets, spent}
 use Rattle.vhdl_expand_tree.specs.Views.{object_view}
 use Rattle.vhdl_expand_tree.proofs.Alike.{tells_same, tells_first}
 use Rattle.vhdl_expand_tree.proofs.Charging.{spent-plus, spent-none}
-use Rattle.vhdl_expand_drivers.proofs.Walks.{next-left, none_left}
+use Rattle.vhdl_expand_processes.proofs.Walks.{next-left, none_left}
 use Rattle.vhdl_expand_rules.specs.Tree as t
 use Rattle.vhdl_expand.proofs.Among.{Among}
 use Rattle.vhdl_expand.proofs.Spending.{spent_here, spent_stops, told_where}

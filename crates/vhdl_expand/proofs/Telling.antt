@@ -19,7 +19,7 @@ use Rattle.vhdl_expand_rules.specs.Kinds.{Bounds, ObjectKind, one, vector, enume
 use Rattle.vhdl_expand_rules.specs.Site.{Site, elements_count, part_elements, signal_elements, place_elements}
 use Rattle.vhdl_expand_rules.specs.Prefixes.{prefix, targets, names, names_elements, prefixes_elements}
 use Rattle.vhdl_expand_rules.specs.Expansion.{sensitivity}
-use Rattle.vhdl_expand_drivers.specs.Driven.{drives_of}
+use Rattle.vhdl_expand_processes.specs.Driven.{drives_of}
 use Rattle.vhdl_expand_rules.proofs.Steps.{given}
 use Rattle.vhdl_expand_rules.proofs.Tells.{Tells}
 use Rattle.vhdl_expand_tree.proofs.Alike.{wrong, same_told, tells}

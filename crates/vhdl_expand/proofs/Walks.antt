@@ -4,7 +4,7 @@ use Rattle.std.specs.Prelude.{flat_map}
 use Rattle.vhdl_expand_rules.specs.Elab.{Elab, ◌>>=◌, Told}
 use Rattle.vhdl_expand.specs.Stepwise.{stepwise}
 use Rattle.vhdl_expand_rules.proofs.Chains.{err_first}
-use Rattle.vhdl_expand_drivers.proofs.Walks.{next-left, none_left}
+use Rattle.vhdl_expand_processes.proofs.Walks.{next-left, none_left}
 
 module _ {S X : Type 0} (step : S → X → Elab S) where
   pub walk_behind : (s : S) (xs ys : List X) → stepwise step s (xs ++ ys) ≡ stepwise step s xs >>= λ t. stepwise step t ys

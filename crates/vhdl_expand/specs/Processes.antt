@@ -11,7 +11,7 @@ use Rattle.vhdl_expand_rules.specs.Statements.{statements}
 use Rattle.vhdl_expand_rules.specs.Expansion.{Spot, sensitivity, with_variables}
 use Rattle.vhdl_elab_rules.specs.Limits.{Counts}
 use Rattle.vhdl_expand_tree.specs.Costs.{a_process, variables_costs, spent}
-use Rattle.vhdl_expand_drivers.specs.Driven.{drives_of}
+use Rattle.vhdl_expand_processes.specs.Driven.{drives_of}
 use Rattle.vhdl_expand.specs.Unrolled.{statements_costs}
 
 -- the object of this name among those of a declaration

@@ -17,7 +17,7 @@ use crate::costs::charge_body;
 use crate::variables::{body, charge_variables, variables};
 use std::alloc::{AllocError, Global};
 use vhdl_expand_bodies::Site;
-use vhdl_expand_drivers::{drives, listed, read_elements};
+use vhdl_expand_processes::{drives, listed, read_elements};
 use vhdl_expand_rules::{ElabFault, Integers};
 use vhdl_expand_tree::{Budget, Process, Sensitivity};
 use vhdl_names_units as analysed;

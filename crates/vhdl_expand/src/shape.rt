@@ -14,7 +14,7 @@ ghost use Rattle.vhdl_expand.specs.Objects.{named_object, shape_of, shaped};
 use smallvec::SmallVec;
 use std::alloc::{AllocError, Global};
 use vhdl_expand_bodies::Site;
-use vhdl_expand_drivers::{kind, starts};
+use vhdl_expand_processes::{kind, starts};
 use vhdl_expand_rules::{ElabFault, ObjectKind};
 use vhdl_expand_tree::{Object, Role};
 use vhdl_names_units::Objects;

@@ -6,12 +6,12 @@ ghost use Rattle.vhdl_expand_rules.specs.Declarations as definition;
 ghost use Rattle.vhdl_expand_rules.specs.views.Integers.{Computes, Makes};
 ghost use Rattle.vhdl_expand_bodies.specs.Sites.{constant_view, site_view};
 ghost use Rattle.vhdl_names_rules.specs.views.Integers.{static_view};
-ghost use Rattle.vhdl_expand_drivers.specs.Starting.{encoded_as};
+ghost use Rattle.vhdl_expand_processes.specs.Starting.{encoded_as};
 ghost use Rattle.vhdl_names_units.specs.views.Answers.{fixed_view, form_view};
 ghost use Rattle.vhdl_expand.specs.Constants.{constant_of};
 
 use vhdl_expand_bodies::{Constant, Site};
-use vhdl_expand_drivers::kind;
+use vhdl_expand_processes::kind;
 use vhdl_expand_rules::{ElabFault, ElabProblem};
 use vhdl_names_rules::Static;
 use vhdl_names_units::{Fixed, Form};

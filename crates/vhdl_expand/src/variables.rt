@@ -24,7 +24,7 @@ ghost use Rattle.vhdl_expand.specs.Variables.{variable_kind, HasWidth};
 use rtl_net::Statement;
 use std::alloc::{AllocError, Global};
 use vhdl_expand_bodies::{Layout, Site};
-use vhdl_expand_drivers::{kind, starts};
+use vhdl_expand_processes::{kind, starts};
 use vhdl_expand_rules::{ElabFault, Integers};
 use vhdl_expand_tree::{Budget, Variable};
 use vhdl_names_units as analysed;

@@ -4,7 +4,7 @@ ghost use Rattle.std.specs.Prelude.{◌≡◌};
 ghost use Rattle.vhdl_expand_rules.specs.BrokenRules.{rule_of};
 ghost use Rattle.vhdl_expand_rules.specs.declared.fault.ElabFault.TheVariants.{NoMemory};
 
-use rtl_report::ElabRule;
+use fault_rules::ElabRule;
 use std::alloc::{AllocError, AllocFailed};
 use thiserror::Error;
 

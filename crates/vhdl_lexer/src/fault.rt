@@ -4,7 +4,7 @@ ghost use Rattle.std.specs.Prelude.{◌≡◌, Option};
 ghost use Rattle.vhdl_lexer.specs.Fault.{fault_number, fault_byte};
 ghost use Rattle.vhdl_lexer.specs.declared.fault.LexFault.TheVariants.{NoMemory};
 
-use rtl_report::LexRule;
+use fault_rules::LexRule;
 use std::alloc::AllocFailed;
 use thiserror::Error;
 

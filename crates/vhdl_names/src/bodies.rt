@@ -17,7 +17,7 @@ ghost use Rattle.vhdl_names_rules.specs.Files.{labelled};
 ghost use Rattle.vhdl_names_rules.specs.Interfaces.{EntityView};
 ghost use Rattle.vhdl_tree.specs.Tree as t;
 ghost use Rattle.vhdl_tree.specs.View as view;
-ghost use Rattle.vhdl_names_types.specs.Views.{region_view};
+ghost use Rattle.vhdl_names_sight.specs.Views.{region_view};
 ghost use Rattle.vhdl_names_units.specs.views.Declarations.{declarations_view};
 ghost use Rattle.vhdl_names_units.specs.views.Units.{architecture_view};
 
@@ -29,7 +29,7 @@ use vhdl_names_components::{EntityInterface, architecture_sight, declarations};
 use vhdl_names_declarations::{declare_label, ends};
 use vhdl_names_instances::InstanceEntities;
 use vhdl_names_rules::NameFault;
-use vhdl_names_types::{Region, Sight, names_are_apart};
+use vhdl_names_sight::{Region, Sight, names_are_apart};
 use vhdl_names_units::{Architecture, Declaration, copied};
 use vhdl_tree as syntax;
 

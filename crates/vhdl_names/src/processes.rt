@@ -21,7 +21,7 @@ use vhdl_names_declarations::objects::variables;
 use vhdl_names_expressions::signal;
 use vhdl_names_rules::{NameFault, NameProblem, SignalPart};
 use vhdl_names_statements::analysed;
-use vhdl_names_types::Sight;
+use vhdl_names_sight::Sight;
 use vhdl_names_units::{Process, Sensitivity, Statement, copied_label, earlier_in, label_ends};
 use vhdl_tree as syntax;
 use vhdl_tree::Identifier;

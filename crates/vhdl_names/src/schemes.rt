@@ -11,7 +11,7 @@ ghost use Rattle.vhdl_names_units.specs.views.Concurrent.{generated};
 
 use vhdl_names_expressions::{static_condition, static_range};
 use vhdl_names_rules::NameFault;
-use vhdl_names_types::Sight;
+use vhdl_names_sight::Sight;
 use vhdl_names_units::Scheme;
 use vhdl_tree as syntax;
 

@@ -23,7 +23,7 @@ use vhdl_names_declarations::labels_are_distinct;
 use vhdl_names_instances::{InstanceEntities, instance_in_turn};
 use vhdl_names_rules::NameFault;
 use vhdl_names_statements::{assignment, selected};
-use vhdl_names_types::{Declared, Meaning, Sight};
+use vhdl_names_sight::{Declared, Meaning, Sight};
 use vhdl_names_units::{Concurrent, copied, earlier_in, ends};
 use vhdl_tree as syntax;
 use vhdl_tree::Identifier;

@@ -12,7 +12,7 @@ use std::alloc::Global;
 use vhdl_names_components::{Entities, EntityInterface};
 use vhdl_names_instances::{Formals, InstanceEntities, Names, add_name, formals_of};
 use vhdl_names_rules::NameFault;
-use vhdl_names_types::names_are_apart;
+use vhdl_names_sight::names_are_apart;
 
 /// What the architectures of a file are read among: the names of its entities, the entities that are
 /// given, and these as instances see them.

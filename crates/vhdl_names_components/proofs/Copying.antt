@@ -6,8 +6,8 @@ use Rattle.std.specs.Map.{keys_of}
 use Rattle.std.proofs.lemmas.List.{length-map, drop_all}
 use Rattle.vhdl_names_rules.specs.Rules.{◌>>=◌, met}
 use Rattle.vhdl_names_rules.specs.Visibility.{Declared, declare}
-use Rattle.vhdl_names_types.specs.declared.meaning.Meaning.{Meaning}
-use Rattle.vhdl_names_types.specs.Views.{meaning_view, entry_view}
+use Rattle.vhdl_names_sight.specs.declared.meaning.Meaning.{Meaning}
+use Rattle.vhdl_names_sight.specs.Views.{meaning_view, entry_view}
 use Rattle.vhdl_names_declarations.specs.Entered.{more}
 use Rattle.vhdl_names_declarations.proofs.Regions.{more_split, more_none, names_apart}
 

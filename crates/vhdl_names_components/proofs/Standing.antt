@@ -5,9 +5,9 @@ use Rattle.vhdl_names_declarations.proofs.Regions.{names-append, refused, grown}
 use Rattle.std.specs.Prelude.{bytes_eq, is_some, map}
 use Rattle.std.specs.List.{IsDistinct}
 use Rattle.std.specs.Map.{keys_of, lookup}
-use Rattle.vhdl_names_types.specs.declared.meaning.Meaning.{Meaning as CodeMeaning}
-use Rattle.vhdl_names_types.specs.declared.meaning.Meaning.TheVariants.{Unfinished}
-use Rattle.vhdl_names_types.specs.Views.{entry_view}
+use Rattle.vhdl_names_sight.specs.declared.meaning.Meaning.{Meaning as CodeMeaning}
+use Rattle.vhdl_names_sight.specs.declared.meaning.Meaning.TheVariants.{Unfinished}
+use Rattle.vhdl_names_sight.specs.Views.{entry_view}
 use Rattle.vhdl_tree.specs.Tree as t
 use Rattle.vhdl_names_rules.specs.units.Units as u
 use Rattle.vhdl_names_rules.specs.Rules.{◌>>=◌, met}

@@ -9,7 +9,7 @@ use Rattle.vhdl_tree.specs.Tree.{ContextItem, Entity}
 use Rattle.vhdl_names_rules.specs.Packages.{Context, context, sight_of}
 use Rattle.vhdl_names_rules.specs.Visibility.{Name, Declared, Sight, ends, is_among}
 use Rattle.vhdl_names_rules.specs.Interfaces.{Interface, EntityView, interface}
-use Rattle.vhdl_names_types.specs.Views.{region_view}
+use Rattle.vhdl_names_sight.specs.Views.{region_view}
 use Rattle.vhdl_names_units.specs.declared.declaration.Generics.{Generics}
 use Rattle.vhdl_names_units.specs.declared.declaration.Ports.{Ports}
 use Rattle.vhdl_names_units.specs.views.Declarations.{all_generics_view, all_ports_view}

@@ -10,7 +10,7 @@ ghost use Rattle.vhdl_names_rules.specs.Files as rules;
 ghost use Rattle.vhdl_names_rules.specs.Gives.{Gives};
 ghost use Rattle.vhdl_names_rules.specs.Visibility.{with_declared};
 ghost use Rattle.vhdl_tree.specs.View as tree;
-ghost use Rattle.vhdl_names_types.specs.Views.{region_view};
+ghost use Rattle.vhdl_names_sight.specs.Views.{region_view};
 ghost use Rattle.vhdl_names_units.specs.views.Declarations.{declarations_view};
 ghost use Rattle.vhdl_names_rules.specs.problems.Broken.{Tells};
 ghost use Rattle.vhdl_names_rules.specs.problems.Declarations as declarations_broken;
@@ -24,7 +24,7 @@ use vhdl_names_declarations::constants::constants;
 use vhdl_names_declarations::enumeration::enumeration;
 use vhdl_names_declarations::objects::signals;
 use vhdl_names_rules::NameFault;
-use vhdl_names_types::{Sight, names_are_apart};
+use vhdl_names_sight::{Sight, names_are_apart};
 use vhdl_names_units::Declaration;
 use vhdl_tree as syntax;
 

@@ -11,7 +11,7 @@ ghost use Rattle.vhdl_names_rules.specs.SameText.{same_generics, same_ports};
 ghost use Rattle.vhdl_names_rules.specs.declared.fault.NameFault.TheVariants.{At};
 ghost use Rattle.vhdl_names_rules.specs.declared.fault.NameProblem.TheVariants.{Twice, WrongKind};
 ghost use Rattle.vhdl_tree.specs.View.{component_view, ident_view, option_generics_view, option_ports_view};
-ghost use Rattle.vhdl_names_types.specs.Views.{region_view};
+ghost use Rattle.vhdl_names_sight.specs.Views.{region_view};
 ghost use Rattle.vhdl_names_rules.specs.problems.Broken.{Tells, unless};
 ghost use Rattle.vhdl_names_rules.specs.problems.Interfaces as broken;
 ghost use Rattle.vhdl_names_rules.specs.problems.Declarations.{standing_twice};
@@ -22,7 +22,7 @@ use crate::interfaces::has_interface;
 use std::mem;
 use vhdl_names_declarations::{declare, ends};
 use vhdl_names_rules::{NameFault, NameProblem};
-use vhdl_names_types::{Meaning, Region, Sight, names_are_apart};
+use vhdl_names_sight::{Meaning, Region, Sight, names_are_apart};
 use vhdl_tree::{Component, Entity, Identifier};
 
 /// A name that stands in a region is Twice in it if it is declared once more.

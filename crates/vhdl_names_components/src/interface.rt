@@ -22,7 +22,7 @@ use vhdl_names_declarations::generics::generics;
 use vhdl_names_declarations::ports::ports;
 use vhdl_names_declarations::{Context, context_after, ends, sight_of};
 use vhdl_names_rules::NameFault;
-use vhdl_names_types::{Region, Sight};
+use vhdl_names_sight::{Region, Sight};
 use vhdl_names_units::{Generics, Ports};
 use vhdl_tree::{ContextItem, Entity, Generic, Identifier, Port};
 

@@ -6,7 +6,7 @@ ghost use Rattle.vhdl_names_rules.specs.Visibility.{declare};
 ghost use Rattle.vhdl_names_components.specs.Views.{entity_view, sight_behind};
 ghost use Rattle.vhdl_names_rules.specs.Gives.{Gives};
 ghost use Rattle.vhdl_tree.specs.View as view;
-ghost use Rattle.vhdl_names_types.specs.Views.{meaning_view, region_view};
+ghost use Rattle.vhdl_names_sight.specs.Views.{meaning_view, region_view};
 ghost use Rattle.vhdl_names_rules.specs.problems.Broken.{Tells, nothing};
 ghost use Rattle.vhdl_names_rules.specs.problems.Declarations as broken;
 
@@ -15,7 +15,7 @@ use indexmap::IndexMap;
 use std::alloc::{AllocError, Global};
 use vhdl_names_declarations::{context_after, copied_values, declare_name, sight_of};
 use vhdl_names_rules::NameFault;
-use vhdl_names_types::{Meaning, Region, Sight, names_are_apart};
+use vhdl_names_sight::{Meaning, Region, Sight, names_are_apart};
 use vhdl_tree::ContextItem;
 
 /// A copy of what a name is declared to be. It takes the memory of a constant's literal.

@@ -5,8 +5,8 @@ use Rattle.std.specs.Map.{values_of}
 use Rattle.std.proofs.lemmas.List.Sums.{count_by-le-length, sum_by-cons}
 use Rattle.vhdl_names_rules.specs.Visibility as visibility
 use Rattle.vhdl_names_rules.specs.Visibility.{Meaning, Declared, count_of}
-use Rattle.vhdl_names_types.specs.declared.meaning.Meaning.{Meaning as CodeMeaning}
-use Rattle.vhdl_names_types.specs.Views.{meaning_view, entry_view}
+use Rattle.vhdl_names_sight.specs.declared.meaning.Meaning.{Meaning as CodeMeaning}
+use Rattle.vhdl_names_sight.specs.Views.{meaning_view, entry_view}
 use Rattle.vhdl_names_declarations.specs.declared.counts.Counts.{Counts}
 use Rattle.vhdl_names_declarations.specs.Counts.{AreCounts, AreSmall, counted}
 

@@ -27,8 +27,8 @@ use Rattle.vhdl_names_rules.specs.Interfaces.{declared_names}
 use Rattle.vhdl_names_rules.specs.Declarations.{generic, enumeration, literals, for_each}
 use Rattle.vhdl_names_declarations.specs.Entered.{more, entering}
 use Rattle.vhdl_names_declarations.specs.Typed.{typed_generic}
-use Rattle.vhdl_names_types.specs.declared.meaning.Meaning.{Meaning as CodeMeaning}
-use Rattle.vhdl_names_types.specs.Views.{entry_view}
+use Rattle.vhdl_names_sight.specs.declared.meaning.Meaning.{Meaning as CodeMeaning}
+use Rattle.vhdl_names_sight.specs.Views.{entry_view}
 use Rattle.vhdl_names_declarations.proofs.Regions.{more_split, more_none, names_apart}
 use Rattle.vhdl_names_declarations.proofs.Turns.{declares_all, enters}
 

@@ -21,8 +21,8 @@ use Rattle.vhdl_names_rules.specs.problems.Broken.{Tells}
 use Rattle.vhdl_names_rules.specs.problems.Labels.{label_if_any, label_of, labels_of}
 use Rattle.vhdl_names_rules.specs.problems.Declarations.{standing_twice}
 use Rattle.vhdl_names_rules.proofs.Telling.{told_same}
-use Rattle.vhdl_names_types.specs.declared.meaning.Meaning.{Meaning as CodeMeaning}
-use Rattle.vhdl_names_types.specs.Views.{entry_view}
+use Rattle.vhdl_names_sight.specs.declared.meaning.Meaning.{Meaning as CodeMeaning}
+use Rattle.vhdl_names_sight.specs.Views.{entry_view}
 use Rattle.vhdl_names_declarations.specs.Entered.{more}
 use Rattle.vhdl_names_declarations.proofs.Breaking.{twice_more, standing_behind, from_one}
 use Rattle.vhdl_names_declarations.proofs.Regions.{more_split, more_none, names_apart, names-all}

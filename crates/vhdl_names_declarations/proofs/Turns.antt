@@ -6,8 +6,8 @@ use Rattle.vhdl_names_rules.specs.Visibility as visibility
 use Rattle.vhdl_names_rules.specs.Visibility.{Name, Meaning, Declared, Sight, Declares, are_distinct, all_declared, numbered, count_of}
 use Rattle.vhdl_names_rules.specs.Interfaces.{declared_names}
 use Rattle.std.proofs.lemmas.List.{length-map, length-append}
-use Rattle.vhdl_names_types.specs.declared.meaning.Meaning.{Meaning as CodeMeaning}
-use Rattle.vhdl_names_types.specs.Views.{entry_view}
+use Rattle.vhdl_names_sight.specs.declared.meaning.Meaning.{Meaning as CodeMeaning}
+use Rattle.vhdl_names_sight.specs.Views.{entry_view}
 use Rattle.vhdl_names_declarations.specs.Entered.{more}
 use Rattle.vhdl_names_declarations.proofs.Counting.{count_below}
 use Rattle.vhdl_names_declarations.specs.Settled.{settled}

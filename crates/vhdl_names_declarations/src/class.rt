@@ -2,11 +2,11 @@
 
 ghost use Rattle.std.specs.Prelude.{◌≡◌, IfOk, option_map};
 ghost use Rattle.vhdl_names_declarations.specs.Settled.{class_view};
-ghost use Rattle.vhdl_names_types.specs.Views.{meaning_view};
+ghost use Rattle.vhdl_names_sight.specs.Views.{meaning_view};
 
 use std::alloc::{AllocError, Global};
 use vhdl_names_rules::{ElementKind, ObjectType};
-use vhdl_names_types::Meaning;
+use vhdl_names_sight::Meaning;
 use vhdl_tree::Mode;
 use vhdl_values::Nine;
 

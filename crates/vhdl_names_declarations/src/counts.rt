@@ -4,9 +4,9 @@ ghost use Rattle.std.specs.Prelude.{◌≡◌, ◌≤◌, ◌<◌, ◌+◌, ◌^
 ghost use Rattle.indexmap.specs.IndexMap.{index_map_len};
 ghost use Rattle.vhdl_names_declarations.specs.Counts.{AreCounts, AreSmall, counted};
 ghost use Rattle.vhdl_names_rules.specs.Visibility as visibility;
-ghost use Rattle.vhdl_names_types.specs.Views.{meaning_view, region_view};
+ghost use Rattle.vhdl_names_sight.specs.Views.{meaning_view, region_view};
 
-use vhdl_names_types::{Meaning, Region};
+use vhdl_names_sight::{Meaning, Region};
 
 /// How many declarations of each class there are.
 #[derive(Clone, Copy)]

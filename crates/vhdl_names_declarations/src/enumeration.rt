@@ -6,14 +6,14 @@ ghost use Rattle.vhdl_names_rules.specs.Declarations as rules;
 ghost use Rattle.vhdl_names_rules.specs.Gives.{Gives};
 ghost use Rattle.vhdl_names_rules.specs.Visibility.{count_of, names_of, is_enumeration_type};
 ghost use Rattle.vhdl_tree.specs.View.{ident_view, enumeration_view};
-ghost use Rattle.vhdl_names_types.specs.Views.{region_view};
+ghost use Rattle.vhdl_names_sight.specs.Views.{region_view};
 ghost use Rattle.vhdl_names_rules.specs.problems.Broken.{Tells};
 ghost use Rattle.vhdl_names_rules.specs.problems.Declarations as broken;
 
 use crate::region::declare;
 use std::alloc::Global;
 use vhdl_names_rules::{NameFault, NameProblem};
-use vhdl_names_types::{Meaning, Region, Sight, names_are_apart};
+use vhdl_names_sight::{Meaning, Region, Sight, names_are_apart};
 use vhdl_tree::{Enumeration, Identifier};
 
 /// The literals of an enumeration, by position.

@@ -11,7 +11,7 @@ ghost use Rattle.vhdl_names_rules.specs.Subtypes.{as_integer_type};
 ghost use Rattle.vhdl_names_rules.specs.Visibility.{count_of, is_generic, with_declared};
 ghost use Rattle.vhdl_names_rules.specs.views.Integers.{static_view};
 ghost use Rattle.vhdl_tree.specs.View.{option_expr_view, generic_view};
-ghost use Rattle.vhdl_names_types.specs.Views.{meaning_view};
+ghost use Rattle.vhdl_names_sight.specs.Views.{meaning_view};
 ghost use Rattle.vhdl_names_units.specs.views.Declarations.{generics_view, all_generics_view};
 ghost use Rattle.vhdl_names_rules.specs.problems.Broken.{Tells, refused, of_any};
 ghost use Rattle.vhdl_names_rules.specs.problems.Declarations as broken;
@@ -24,7 +24,7 @@ use crate::names::copied_names;
 use crate::region::{hide, settle};
 use vhdl_names_expressions::static_integer;
 use vhdl_names_rules::{IntegerType, NameFault, NameProblem, Static};
-use vhdl_names_types::{Meaning, Sight, meaning_of, names_are_apart};
+use vhdl_names_sight::{Meaning, Sight, meaning_of, names_are_apart};
 use vhdl_names_units::Generics;
 use vhdl_tree::{Expr, Generic};
 

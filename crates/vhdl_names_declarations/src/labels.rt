@@ -12,7 +12,7 @@ ghost use Rattle.vhdl_names_rules.specs.Statements.{label_names};
 ghost use Rattle.vhdl_names_rules.specs.Visibility.{are_distinct};
 ghost use Rattle.vhdl_tree.specs.Tree.{concurrents_of};
 ghost use Rattle.vhdl_tree.specs.View.{ident_view, option_ident_view, concurrent_view};
-ghost use Rattle.vhdl_names_types.specs.Views.{region_view};
+ghost use Rattle.vhdl_names_sight.specs.Views.{region_view};
 ghost use Rattle.vhdl_names_rules.specs.declared.fault.NameFault.TheVariants.{NoMemory};
 ghost use Rattle.vhdl_names_rules.specs.problems.Broken.{Tells};
 ghost use Rattle.vhdl_names_rules.specs.problems.Declarations.{standing_twice};
@@ -23,7 +23,7 @@ use crate::region::declare;
 use indexmap::IndexMap;
 use std::alloc::Global;
 use vhdl_names_rules::NameFault;
-use vhdl_names_types::{Meaning, Region, names_are_apart};
+use vhdl_names_sight::{Meaning, Region, names_are_apart};
 use vhdl_tree::{Concurrent, Identifier};
 
 /// A label, if there is one.

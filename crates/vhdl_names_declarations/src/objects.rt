@@ -23,7 +23,7 @@ use crate::region::{hide, settle};
 use std::alloc::{AllocError, Global};
 use vhdl_names_expressions::{fixed_value, subtype};
 use vhdl_names_rules::{NameFault, ObjectType};
-use vhdl_names_types::{Sight, names_are_apart};
+use vhdl_names_sight::{Sight, names_are_apart};
 use vhdl_names_units::{Declaration, Fixed, Objects, Subtype};
 use vhdl_tree::{Identifier, Signals, Subtype as TreeSubtype, Value, Variables};
 

@@ -6,7 +6,7 @@ ghost use Rattle.vhdl_names_declarations.specs.Entered.{more};
 ghost use Rattle.vhdl_names_declarations.specs.Rows.{builtin_view, row_view};
 ghost use Rattle.vhdl_names_rules.specs.Gives.{Gives};
 ghost use Rattle.vhdl_names_rules.specs.Packages as rules;
-ghost use Rattle.vhdl_names_types.specs.Views.{meaning_view, region_view};
+ghost use Rattle.vhdl_names_sight.specs.Views.{meaning_view, region_view};
 ghost use Rattle.vhdl_names_rules.specs.problems.Broken.{Tells, refused, nothing};
 ghost use Rattle.vhdl_names_rules.specs.declared.fault.NameProblem.TheVariants.{Twice};
 
@@ -15,7 +15,7 @@ use crate::region::declare_name;
 use indexmap::IndexMap;
 use std::alloc::Global;
 use vhdl_names_rules::{ElementKind, Function, IntegerType, NameFault};
-use vhdl_names_types::{Meaning, Region, Sight, names_are_apart};
+use vhdl_names_sight::{Meaning, Region, Sight, names_are_apart};
 use vhdl_values::{Counted, Edge};
 
 /// What a package declares.

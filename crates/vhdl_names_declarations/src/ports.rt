@@ -20,7 +20,7 @@ use crate::objects::{fixed_if_any, objects};
 use crate::region::{hide, settle};
 use vhdl_names_expressions::subtype;
 use vhdl_names_rules::{ElementKind, NameFault, NameProblem, ObjectType};
-use vhdl_names_types::{Sight, names_are_apart};
+use vhdl_names_sight::{Sight, names_are_apart};
 use vhdl_names_units::{Fixed, Ports, Subtype};
 use vhdl_tree::{Mode, Port};
 

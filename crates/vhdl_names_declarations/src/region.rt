@@ -8,7 +8,7 @@ ghost use Rattle.vhdl_names_rules.specs.Gives.{Gives};
 ghost use Rattle.vhdl_names_rules.specs.Visibility as visibility;
 ghost use Rattle.vhdl_names_rules.specs.Visibility.{all_declared, names_of};
 ghost use Rattle.vhdl_tree.specs.View.{ident_view};
-ghost use Rattle.vhdl_names_types.specs.Views.{meaning_view, region_view};
+ghost use Rattle.vhdl_names_sight.specs.Views.{meaning_view, region_view};
 ghost use Rattle.vhdl_names_rules.specs.declared.fault.NameFault.TheVariants.{NoMemory};
 ghost use Rattle.vhdl_names_rules.specs.problems.Broken.{Tells};
 ghost use Rattle.vhdl_names_rules.specs.problems.Declarations.{standing_twice};
@@ -16,7 +16,7 @@ ghost use Rattle.vhdl_names_rules.specs.problems.Declarations.{standing_twice};
 use crate::class::ObjectClass;
 use std::alloc::{AllocError, Global};
 use vhdl_names_rules::{NameFault, NameProblem};
-use vhdl_names_types::{Meaning, Region, names_are_apart};
+use vhdl_names_sight::{Meaning, Region, names_are_apart};
 use vhdl_tree::Identifier;
 
 /// One more declaration of a name at byte `at`, which is refused as Twice where the region has the

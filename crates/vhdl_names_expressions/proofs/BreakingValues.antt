@@ -35,9 +35,9 @@ use Rattle.vhdl_names_rules.specs.problems.Statements.{named}
 use Rattle.vhdl_names_rules.specs.problems.Subtypes.{fixed, fixed_value, literal, value_of, subtype, mark_problem, is_marked, is_character}
 use Rattle.vhdl_names_rules.proofs.Telling.{told_same, told_left, told_right, told_given, told_on, at_is_told}
 use Rattle.vhdl_names_rules.proofs.kept.Expressions.{meaning_kept, typed_suffix_kept}
-use Rattle.vhdl_names_types.specs.declared.meaning.Meaning.{Meaning as DeclaredMeaning}
-use Rattle.vhdl_names_types.specs.declared.meaning.Meaning.TheVariants as d
-use Rattle.vhdl_names_types.specs.Views.{meaning_view}
+use Rattle.vhdl_names_sight.specs.declared.meaning.Meaning.{Meaning as DeclaredMeaning}
+use Rattle.vhdl_names_sight.specs.declared.meaning.Meaning.TheVariants as d
+use Rattle.vhdl_names_sight.specs.Views.{meaning_view}
 use Rattle.vhdl_names_expressions.specs.Chosen.{as_name, as_character, is_literal, character_values}
 use Rattle.vhdl_names_expressions.specs.Fixing.{suffixed_value, filled_with}
 use Rattle.vhdl_names_expressions.proofs.Breaking.{told_fault, in_turn}

@@ -7,9 +7,9 @@ use Rattle.vhdl_names_rules.specs.Visibility.{Sight, Meaning, meaning}
 use Rattle.vhdl_names_rules.specs.Expressions.{static_range}
 use Rattle.vhdl_names_rules.specs.Subtypes.{subtype, marked}
 use Rattle.vhdl_names_rules.specs.declared.kind.ElementKind.{ElementKind}
-use Rattle.vhdl_names_types.specs.declared.meaning.Meaning.{Meaning as DeclaredMeaning}
-use Rattle.vhdl_names_types.specs.declared.meaning.Meaning.TheVariants as d
-use Rattle.vhdl_names_types.specs.Views.{meaning_view}
+use Rattle.vhdl_names_sight.specs.declared.meaning.Meaning.{Meaning as DeclaredMeaning}
+use Rattle.vhdl_names_sight.specs.declared.meaning.Meaning.TheVariants as d
+use Rattle.vhdl_names_sight.specs.Views.{meaning_view}
 use Rattle.vhdl_names_expressions.specs.Marking.{with_range}
 
 alone : (p : Option Meaning) → (Some None >>= λ r. (p >>= λ m. marked m r)) ≡ (p >>= λ m. marked m None)

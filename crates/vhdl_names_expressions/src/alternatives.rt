@@ -10,14 +10,14 @@ ghost use Rattle.vhdl_names_rules.specs.Rules.{each};
 ghost use Rattle.vhdl_names_rules.specs.declared.kind.ObjectType.TheVariants.{Elements, Enumeration};
 ghost use Rattle.vhdl_tree.specs.Tree as t;
 ghost use Rattle.vhdl_tree.specs.View.{view, ident_view, suffix_view, option_ident_view, choice_view as tree_choice_view};
-ghost use Rattle.vhdl_names_types.specs.Views.{meaning_view};
+ghost use Rattle.vhdl_names_sight.specs.Views.{meaning_view};
 ghost use Rattle.vhdl_names_expressions.specs.Chosen.{is_bare};
 ghost use Rattle.vhdl_names_units.specs.views.Answers.{choice_view, choices_view};
 
 use crate::literals::{literal_values, name_of, no_literal};
 use std::alloc::Global;
 use vhdl_names_rules::{ElementKind, NameFault, NameProblem, ObjectType};
-use vhdl_names_types::{Meaning, Sight, meaning_of};
+use vhdl_names_sight::{Meaning, Sight, meaning_of};
 use vhdl_names_units::Choice;
 use vhdl_tree::{Choice as TreeChoice, Expr, Name, Suffix};
 

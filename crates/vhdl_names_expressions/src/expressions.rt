@@ -15,10 +15,10 @@ ghost use Rattle.vhdl_tree.specs.View.{view, suffix_view, ident_view, range_view
 ghost use Rattle.vhdl_names_expressions.specs.Chosen.{is_name, arguments_of, started, links_of};
 ghost use Rattle.vhdl_names_expressions.specs.Steps.{is_parens, enclosed_if, linked, all_linked};
 ghost use Rattle.vhdl_names_expressions.specs.Breaking.{link_breaks, all_break, started_breaks};
-ghost use Rattle.vhdl_names_types.specs.Views.{meaning_view, typed_view, typed_suffix_view};
+ghost use Rattle.vhdl_names_sight.specs.Views.{meaning_view, typed_view, typed_suffix_view};
 
 use vhdl_names_rules::{NameFault, NameProblem, Static, StaticRange};
-use vhdl_names_types::{
+use vhdl_names_sight::{
     Meaning, Sight, Typed, TypedSuffix, attributed, bit_string_literal, character_literal, denoted,
     enclosed, integer_literal, inverse, meaning_of, operated, signed, string_literal,
 };

@@ -7,12 +7,12 @@ ghost use Rattle.vhdl_names_rules.specs.problems.Statements as broken;
 ghost use Rattle.vhdl_names_rules.specs.Gives.{Gives};
 ghost use Rattle.vhdl_names_rules.specs.Statements as rules;
 ghost use Rattle.vhdl_tree.specs.View.{name_view};
-ghost use Rattle.vhdl_names_types.specs.Views.{meaning_view, typed_suffix_view};
+ghost use Rattle.vhdl_names_sight.specs.Views.{meaning_view, typed_suffix_view};
 ghost use Rattle.vhdl_names_units.specs.views.Answers.{signal_name_view, variable_name_view};
 
 use crate::expressions::typed_suffix;
 use vhdl_names_rules::{NameFault, NameProblem, ObjectType, Signal, SignalPart};
-use vhdl_names_types::{Meaning, Sight, TypedSuffix, meaning_of, part_of};
+use vhdl_names_sight::{Meaning, Sight, TypedSuffix, meaning_of, part_of};
 use vhdl_names_units::{SignalName, VariableName};
 use vhdl_tree::{Mode, Name};
 

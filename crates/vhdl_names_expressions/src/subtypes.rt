@@ -8,13 +8,13 @@ ghost use Rattle.vhdl_names_rules.specs.Gives.{Gives};
 ghost use Rattle.vhdl_names_rules.specs.Expressions as expressions;
 ghost use Rattle.vhdl_names_rules.specs.Subtypes as rules;
 ghost use Rattle.vhdl_tree.specs.View as trees;
-ghost use Rattle.vhdl_names_types.specs.Views.{meaning_view};
+ghost use Rattle.vhdl_names_sight.specs.Views.{meaning_view};
 ghost use Rattle.vhdl_names_expressions.specs.Marking.{with_range};
 ghost use Rattle.vhdl_names_units.specs.views.Answers.{subtype_view};
 
 use crate::expressions::static_range;
 use vhdl_names_rules::{ElementKind, NameFault, NameProblem, ObjectType};
-use vhdl_names_types::{Meaning, Sight, meaning_of};
+use vhdl_names_sight::{Meaning, Sight, meaning_of};
 use vhdl_names_units::{Form, Subtype};
 use vhdl_tree::{Range, Subtype as TreeSubtype};
 

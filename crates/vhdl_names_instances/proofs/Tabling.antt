@@ -4,8 +4,8 @@ use Rattle.std.specs.Prelude.{option_map, slice_get}
 use Rattle.std.proofs.lemmas.Option.{slice_get-map}
 use Rattle.vhdl_names_rules.specs.Rules.{◌>>=◌}
 use Rattle.vhdl_names_rules.specs.Visibility.{Declared}
-use Rattle.vhdl_names_types.specs.declared.meaning.Meaning.{Meaning}
-use Rattle.vhdl_names_types.specs.Views.{entry_view}
+use Rattle.vhdl_names_sight.specs.declared.meaning.Meaning.{Meaning}
+use Rattle.vhdl_names_sight.specs.Views.{entry_view}
 use Rattle.vhdl_names_units.specs.Lists.{in_turn}
 use Rattle.vhdl_names_instances.specs.Table.{Seen}
 use Rattle.vhdl_names_instances.specs.steps.Tables.{with_declared, with_declared_at}

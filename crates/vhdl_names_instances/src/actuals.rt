@@ -17,12 +17,12 @@ ghost use Rattle.vhdl_names_rules.specs.Visibility as visibility;
 ghost use Rattle.vhdl_names_rules.specs.views.Integers.{static_view};
 ghost use Rattle.vhdl_names_rules.specs.views.Vectors.{place_view};
 ghost use Rattle.vhdl_tree.specs.View.{view, name_view, option_ident_view, suffix_view};
-ghost use Rattle.vhdl_names_types.specs.Views.{meaning_view};
+ghost use Rattle.vhdl_names_sight.specs.Views.{meaning_view};
 ghost use Rattle.vhdl_names_units.specs.views.Answers.{signal_name_view};
 
 use vhdl_names_expressions::{signal, start, static_integer, typed_suffix};
 use vhdl_names_rules::{ElementKind, NameFault, NameProblem, ObjectType, SignalPart, Static};
-use vhdl_names_types::{Meaning, Sight};
+use vhdl_names_sight::{Meaning, Sight};
 use vhdl_names_units::{Actuals, SignalName};
 use vhdl_tree::{Expr, Mode, Name, Suffix};
 

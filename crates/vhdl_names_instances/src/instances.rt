@@ -17,14 +17,14 @@ ghost use Rattle.vhdl_names_rules.specs.declared.fault.NameFault.TheVariants.{No
 ghost use Rattle.vhdl_names_rules.specs.declared.fault.NameProblem.TheVariants.{WrongKind};
 ghost use Rattle.vhdl_tree.specs.Tree.{Ident};
 ghost use Rattle.vhdl_tree.specs.View as tree;
-ghost use Rattle.vhdl_names_types.specs.Views.{meaning_view};
+ghost use Rattle.vhdl_names_sight.specs.Views.{meaning_view};
 ghost use Rattle.vhdl_names_units.specs.views.Concurrent.{instance_view};
 
 use crate::actuals::{PortType, generic_actuals, port_actuals};
 use crate::associations::{Names, associated};
 use crate::maps::maps;
 use vhdl_names_rules::{NameFault, NameProblem};
-use vhdl_names_types::{Meaning, Sight, meaning_of};
+use vhdl_names_sight::{Meaning, Sight, meaning_of};
 use vhdl_names_units::{Instance, copied, is_text};
 use vhdl_tree as syntax;
 use vhdl_tree::{Association, Identifier, Instantiated};

@@ -20,7 +20,7 @@ use crate::associations::{Names, expression_of, formal_at, is_named, take};
 use crate::instances::{Formals, listed};
 use indexmap::IndexSet;
 use vhdl_names_rules::NameFault;
-use vhdl_names_types::Sight;
+use vhdl_names_sight::Sight;
 use vhdl_names_units::is_text;
 use vhdl_tree as syntax;
 use vhdl_tree::{Association, Expr};

@@ -6,7 +6,7 @@ ghost use Rattle.vhdl_names_instances.specs.Table.{seen_view};
 ghost use Rattle.vhdl_names_instances.specs.steps.Tables as steps;
 ghost use Rattle.vhdl_names_rules.specs.Gives.{Gives};
 ghost use Rattle.vhdl_names_rules.specs.Visibility as visibility;
-ghost use Rattle.vhdl_names_types.specs.Views.{meaning_view, region_view};
+ghost use Rattle.vhdl_names_sight.specs.Views.{meaning_view, region_view};
 
 use crate::actuals::PortType;
 use crate::associations::add_name;
@@ -14,7 +14,7 @@ use crate::instances::Formals;
 use indexmap::IndexSet;
 use std::alloc::{AllocError, Global};
 use vhdl_names_rules::NameFault;
-use vhdl_names_types::{Meaning, Region};
+use vhdl_names_sight::{Meaning, Region};
 use vhdl_tree::Identifier;
 
 fn is_generic(meaning: &Meaning) -> bool

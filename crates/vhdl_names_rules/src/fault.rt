@@ -4,7 +4,7 @@ ghost use Rattle.std.specs.Prelude.{◌≡◌};
 ghost use Rattle.vhdl_names_rules.specs.BrokenRules.{rule_of};
 ghost use Rattle.vhdl_names_rules.specs.declared.fault.NameFault.TheVariants.{NoMemory};
 
-use rtl_report::NameRule;
+use fault_rules::NameRule;
 use std::alloc::{AllocError, AllocFailed};
 use thiserror::Error;
 

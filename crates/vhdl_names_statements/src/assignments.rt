@@ -20,7 +20,7 @@ use crate::statements::assigned;
 use std::alloc::{AllocError, Global};
 use vhdl_names_expressions::{choices, condition, selector, target};
 use vhdl_names_rules::{NameFault, ObjectType};
-use vhdl_names_types::Sight;
+use vhdl_names_sight::Sight;
 use vhdl_names_units::{Alternative, Branch, Process, Sensitivity, Statement, copied_label};
 use vhdl_tree as syntax;
 use vhdl_tree::Identifier;

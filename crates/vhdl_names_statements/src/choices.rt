@@ -22,7 +22,7 @@ use indexmap::IndexSet;
 use std::alloc::{AllocError, Global};
 use vhdl_names_expressions::{choice, start};
 use vhdl_names_rules::{NameFault, NameProblem, ObjectType};
-use vhdl_names_types::Sight;
+use vhdl_names_sight::Sight;
 use vhdl_names_units::{Alternative, Choice, Statement, earlier_in};
 use vhdl_tree as syntax;
 

@@ -21,7 +21,7 @@ use crate::choices::{but_last, choice_lists, covered};
 use crate::held::ended;
 use vhdl_names_expressions::{choices, condition, given, selector, static_range, target, variable};
 use vhdl_names_rules::{NameFault, ObjectType};
-use vhdl_names_types::{Declared, Meaning, Sight};
+use vhdl_names_sight::{Declared, Meaning, Sight};
 use vhdl_names_units::{Alternative, Branch, Statement};
 use vhdl_tree as syntax;
 use vhdl_tree::Identifier;

@@ -3,7 +3,7 @@
 ghost use Rattle.std.specs.Prelude.{◌≡◌, Option};
 ghost use Rattle.vhdl_parser.specs.Fault.{fault_number, fault_byte};
 
-use rtl_report::SyntaxRule;
+use fault_rules::SyntaxRule;
 use thiserror::Error;
 
 /// Why tokens are no file. `at` is a byte of the source, counted from 0, and never above the

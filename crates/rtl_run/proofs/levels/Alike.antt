@@ -5,7 +5,7 @@ use Rattle.rtl_net.specs.Nets.{NetlistView}
 use Rattle.rtl_net.specs.Elaborated.{IsNet}
 use Rattle.rtl_net.specs.Laws.{EachNetMeetsTheLaws}
 use Rattle.rtl_net.specs.Core.{core}
-use Rattle.rtl_sink.specs.Written.{SinkState, TakesAll}
+use Rattle.byte_streams.specs.Written.{SinkState, TakesAll}
 use Rattle.rtl_stim_lines.specs.Reading.{Schedule, schedule_of}
 use Rattle.rtl_stim.specs.Ports.{inputs_of}
 use Rattle.rtl_stim.specs.Stimuli.{StimulusView, moments, inputs_at}

@@ -3,7 +3,7 @@
 -- (`IsTrace`).
 use Rattle.std.specs.Prelude.{◌≡◌, ℕ, ◌⊎◌, List, Result, Ok, Err}
 use Rattle.rtl_net.specs.Nets.{NetlistView}
-use Rattle.rtl_sink.specs.Written.{SinkState}
+use Rattle.byte_streams.specs.Written.{SinkState}
 use Rattle.rtl_stim.specs.Stimuli.{StimulusView}
 use Rattle.rtl_run.specs.declared.fault.MachineFault.{MachineFault}
 use Rattle.rtl_run.specs.Traced.{TracesMoments, Leaves}

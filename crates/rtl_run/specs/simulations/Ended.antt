@@ -1,7 +1,7 @@
 -- What a course ends in, for the sink and for the watch.
 use Rattle.std.specs.Prelude.{ℕ, List}
-use Rattle.rtl_sink.specs.Stands.{Stand}
-use Rattle.rtl_sink.specs.Written.{SinkState}
+use Rattle.byte_streams.specs.Stands.{Stand}
+use Rattle.byte_streams.specs.Written.{SinkState}
 use Rattle.rtl_run.specs.declared.summary.RunFault.{RunFault}
 use Rattle.rtl_run.specs.simulations.Answered.{Fails, WritesAll}
 use Rattle.rtl_run.specs.simulations.Engines.{CourseView}

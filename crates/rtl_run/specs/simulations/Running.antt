@@ -1,7 +1,7 @@
 -- How far a simulation has come.
 use Rattle.std.specs.Prelude.{◌≡◌, ℕ, suc, ◌<◌, if◌then◌else◌, List, [], ◌∷◌, length, slice_index, Result, Ok, Err}
 use Rattle.rtl_net.specs.Nets.{NetlistView, SignalView}
-use Rattle.rtl_sink.specs.Written.{SinkState, IsIntact, HasFailed, Goes}
+use Rattle.byte_streams.specs.Written.{SinkState, IsIntact, HasFailed, Goes}
 use Rattle.rtl_vcd.specs.Trace.{Moment, are_some, changes}
 use Rattle.rtl_stim.specs.Stimuli.{StimulusView, moments}
 use Rattle.rtl_run.specs.declared.progress.Progress.{Progress}

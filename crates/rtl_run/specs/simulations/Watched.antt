@@ -4,7 +4,7 @@ use Rattle.rtl_model.specs.simulation.Cycle.{State}
 use Rattle.rtl_model.specs.simulation.Moments.{HasSettled}
 use Rattle.rtl_net.specs.Nets.{NetlistView}
 use Rattle.rtl_stim.specs.Stimuli.{StimulusView, moments, inputs_at}
-use Rattle.rtl_sink.specs.Stands.{Stand}
+use Rattle.byte_streams.specs.Stands.{Stand}
 use Rattle.rtl_net.specs.Core.{core}
 use Rattle.rtl_run.specs.simulations.Simulated.{NeverSettles}
 use Rattle.rtl_run.specs.declared.summary.RunFault.{RunFault}

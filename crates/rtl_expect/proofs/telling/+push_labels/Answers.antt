@@ -1,7 +1,7 @@
 use Rattle.std.proofs.Common.{◌≡◌, ◌<◌, List, ℕ, length, map, Some, sym, ap, subst, ◌∙◌, arith}
 use Rattle.std.proofs.lemmas.List.{length-map}
-use Rattle.rtl_sink.specs.Written.{Goes}
-use Rattle.rtl_sink.proofs.Writing.{Goes-append, Goes-nil}
+use Rattle.byte_streams.specs.Written.{Goes}
+use Rattle.byte_streams.proofs.Writing.{Goes-append, Goes-nil}
 use Rattle.rtl_net.specs.declared.signal.Scope.{Scope}
 use Rattle.rtl_net.specs.Nets.{scope_view, parent_of, label_at}
 use Rattle.rtl_net.proofs.Naming.{parent-at, label-at, parent-before}

@@ -1,4 +1,4 @@
-use Rattle.rtl_sink.proofs.Writing.{Goes-append}
+use Rattle.byte_streams.proofs.Writing.{Goes-append}
 use Rattle.rtl_expect.proofs.telling.push_differing.Goals as goal
 
 pub returns-in-Some : goal.returns-in-Some

@@ -2,8 +2,8 @@ use Rattle.std.proofs.Common.{◌≡◌, ◌<◌, List, length, Option, Some, sy
 use Rattle.std.specs.Prelude.{slice_get}
 use Rattle.std.proofs.lemmas.Bool.Decides.{nat_tests}
 use Rattle.std.proofs.lemmas.List.{length-map}
-use Rattle.rtl_sink.specs.Written.{Goes}
-use Rattle.rtl_sink.proofs.Writing.{Goes-append}
+use Rattle.byte_streams.specs.Written.{Goes}
+use Rattle.byte_streams.proofs.Writing.{Goes-append}
 use Rattle.rtl_net.specs.Nets.{ScopeView, SignalView, scope_view, signal_view}
 use Rattle.rtl_expect.specs.Names.{full_name}
 use Rattle.rtl_expect.specs.Telling.{of_signal_found}

@@ -1,5 +1,5 @@
 use Rattle.std.proofs.Common.{ℕ, List, Result, inl, refl, subst}
-use Rattle.rtl_sink.specs.Written.{Goes}
+use Rattle.byte_streams.specs.Written.{Goes}
 use Rattle.rtl_run.specs.declared.fault.MachineFault.{MachineFault}
 use Rattle.rtl_run.specs.declared.fault.MachineFault.TheVariants.{Output}
 use Rattle.rtl_run.specs.Evaluated.{port_lines, AreFirstLines, Prints}

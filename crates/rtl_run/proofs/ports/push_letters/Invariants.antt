@@ -1,5 +1,5 @@
 use Rattle.std.proofs.Common.{take}
-use Rattle.rtl_sink.specs.Written.{Goes}
+use Rattle.byte_streams.specs.Written.{Goes}
 use Rattle.rtl_run.specs.Evaluated.{letters}
 use Rattle.rtl_run.proofs.ports.push_letters.Given as goal
 

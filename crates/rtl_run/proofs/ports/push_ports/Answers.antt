@@ -1,7 +1,7 @@
 use Rattle.std.proofs.Common.{[], sym, subst}
 use Rattle.rtl_net.specs.Nets.{SignalView, signal_view}
-use Rattle.rtl_sink.specs.Written.{Goes}
-use Rattle.rtl_sink.proofs.Writing.{Goes-next}
+use Rattle.byte_streams.specs.Written.{Goes}
+use Rattle.byte_streams.proofs.Writing.{Goes-next}
 use Rattle.rtl_stim.proofs.PortLemmas.{has_nets, view_there, place_there}
 use Rattle.rtl_run.specs.Evaluated.{port_text}
 use Rattle.rtl_run.proofs.ports.push_ports.Goals as goal

@@ -1,5 +1,5 @@
 use Rattle.std.specs.Prelude.{flat_map, take}
-use Rattle.rtl_sink.specs.Written.{Goes}
+use Rattle.byte_streams.specs.Written.{Goes}
 use Rattle.rtl_run.specs.Evaluated.{port_text}
 use Rattle.rtl_run.proofs.ports.push_ports.Given as goal
 

@@ -1,4 +1,4 @@
-use Rattle.rtl_sink.proofs.Writing.{Goes-append}
+use Rattle.byte_streams.proofs.Writing.{Goes-append}
 use Rattle.rtl_vcd.proofs.heading.push_bounds.Goals as goal
 
 pub returns-in-Vector : goal.returns-in-Vector

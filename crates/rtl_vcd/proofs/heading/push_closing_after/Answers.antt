@@ -1,6 +1,6 @@
 use Rattle.std.proofs.Common.{◌≡◌, ◌+◌, ◌-◌, suc, length, map, arith, subst}
 use Rattle.std.proofs.lemmas.List.{length-map}
-use Rattle.rtl_sink.specs.Written.{Goes}
+use Rattle.byte_streams.specs.Written.{Goes}
 use Rattle.rtl_net.specs.Nets.{scope_view}
 use Rattle.rtl_vcd.specs.Header as spec
 use Rattle.rtl_vcd.proofs.heading.push_closing_after.Goals as goal

@@ -1,7 +1,7 @@
 use Rattle.std.proofs.Common.{◌≡◌, ◌+◌, ◌++◌, suc, map, arith, subst, sym, ap, ◌∙◌}
 use Rattle.std.specs.Prelude.{codes}
-use Rattle.rtl_sink.specs.Written.{Goes}
-use Rattle.rtl_sink.proofs.Writing.{Goes-append}
+use Rattle.byte_streams.specs.Written.{Goes}
+use Rattle.byte_streams.proofs.Writing.{Goes-append}
 use Rattle.rtl_net.specs.declared.signal.Scope.{Scope}
 use Rattle.rtl_net.specs.Nets.{scope_view, signal_view}
 use Rattle.rtl_vcd.specs.Header as spec

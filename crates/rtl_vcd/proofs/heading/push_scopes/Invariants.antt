@@ -1,5 +1,5 @@
 use Rattle.std.specs.Prelude.{map}
-use Rattle.rtl_sink.specs.Written.{Goes}
+use Rattle.byte_streams.specs.Written.{Goes}
 use Rattle.rtl_net.specs.Nets.{scope_view, signal_view}
 use Rattle.rtl_vcd.specs.Header.{scopes_text}
 use Rattle.rtl_vcd.specs.Shown.{StartsScope}

@@ -1,4 +1,4 @@
-use Rattle.rtl_sink.proofs.Writing.{Goes-append}
+use Rattle.byte_streams.proofs.Writing.{Goes-append}
 use Rattle.rtl_vcd.proofs.Scopes.{upscopes_more}
 use Rattle.rtl_vcd.proofs.heading.push_upscopes.Goals as goal
 

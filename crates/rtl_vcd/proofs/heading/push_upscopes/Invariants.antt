@@ -1,4 +1,4 @@
-use Rattle.rtl_sink.specs.Written.{Goes}
+use Rattle.byte_streams.specs.Written.{Goes}
 use Rattle.rtl_vcd.specs.Header.{upscopes}
 use Rattle.rtl_vcd.proofs.heading.push_upscopes.Given as goal
 

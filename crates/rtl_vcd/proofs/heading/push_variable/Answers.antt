@@ -1,7 +1,7 @@
 use Rattle.std.proofs.Common.{◌≡◌, ◌++◌, [], length, ◌∙◌, subst, ap}
 use Rattle.std.specs.Prelude.{decimal}
-use Rattle.rtl_sink.specs.Written.{Goes}
-use Rattle.rtl_sink.proofs.Writing.{Goes-append}
+use Rattle.byte_streams.specs.Written.{Goes}
+use Rattle.byte_streams.proofs.Writing.{Goes-append}
 use Rattle.rtl_vcd.specs.Values as values
 use Rattle.rtl_vcd.proofs.heading.push_variable.Goals as goal
 

@@ -1,5 +1,5 @@
 use Rattle.std.proofs.Common.{◌≡◌, ◌++◌, map, take, arith, ap, ◌∙◌}
-use Rattle.rtl_sink.proofs.Writing.{Goes-append, Goes-nil}
+use Rattle.byte_streams.proofs.Writing.{Goes-append, Goes-nil}
 use Rattle.rtl_net.specs.Nets.{signal_view}
 use Rattle.rtl_vcd.specs.Values.{numbered}
 use Rattle.rtl_vcd.specs.Header.{variable_line_in}

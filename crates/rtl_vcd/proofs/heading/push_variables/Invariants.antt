@@ -1,5 +1,5 @@
 use Rattle.std.specs.Prelude.{◌-◌, ◌<◌, ◌≤◌, ℕ, map, take, length, slice_index_or}
-use Rattle.rtl_sink.specs.Written.{Goes}
+use Rattle.byte_streams.specs.Written.{Goes}
 use Rattle.rtl_net.specs.declared.signal.Signal.{Signal}
 use Rattle.rtl_net.specs.Nets.{signal_view}
 use Rattle.rtl_vcd.specs.Values.{numbered}

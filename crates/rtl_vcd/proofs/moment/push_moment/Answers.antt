@@ -1,7 +1,7 @@
 use Rattle.std.proofs.Common.{◌≡◌, ◌%◌, ◌<◌, ◌||◌, Bool, not, true, false, IfSome, is_some, [], length, take, drop, get_or, refl, arith, sym, ap, subst, ◌∙◌}
 use Rattle.std.proofs.lemmas.Nat.{mod_below}
 use Rattle.std.proofs.lemmas.List.{get_or_default, get_or-replicate, length-replicate}
-use Rattle.rtl_sink.specs.Written.{Goes}
+use Rattle.byte_streams.specs.Written.{Goes}
 use Rattle.rtl_vcd.specs.Pages.{Passes}
 use Rattle.rtl_vcd.proofs.Pages.{Passes-nil, Passes-append, Passes-whole}
 use Rattle.rtl_vcd.specs.declared.blocks.Block.{Block}

@@ -1,4 +1,4 @@
-use Rattle.rtl_sink.proofs.Writing.{Goes-nil}
+use Rattle.byte_streams.proofs.Writing.{Goes-nil}
 use Rattle.rtl_vcd.proofs.named.put_time.Goals as goal
 
 pub returns-then-is_printed : goal.returns-then-is_printed

@@ -1,5 +1,5 @@
 use Rattle.std.proofs.Common.{[], subst, sym}
-use Rattle.rtl_sink.specs.Written.{Goes}
+use Rattle.byte_streams.specs.Written.{Goes}
 use Rattle.rtl_vcd.specs.Pages.{Passes}
 use Rattle.rtl_vcd.proofs.Pages.{Passes-held, Passes-all}
 use Rattle.rtl_vcd.proofs.named.turn.Goals as goal

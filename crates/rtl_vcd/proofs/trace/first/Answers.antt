@@ -1,4 +1,4 @@
-use Rattle.rtl_sink.proofs.Writing.{Goes-append}
+use Rattle.byte_streams.proofs.Writing.{Goes-append}
 use Rattle.rtl_vcd.proofs.trace.first.Goals as goal
 
 pub returns-clause-text : goal.returns-clause-text

@@ -1,6 +1,6 @@
 use Rattle.std.proofs.Common.{length, ◌∙◌, subst, sym}
-use Rattle.rtl_sink.specs.Written.{Goes}
-use Rattle.rtl_sink.proofs.Writing.{Goes-append}
+use Rattle.byte_streams.specs.Written.{Goes}
+use Rattle.byte_streams.proofs.Writing.{Goes-append}
 use Rattle.rtl_net.specs.Nets.{SignalView}
 use Rattle.rtl_vcd.specs.Trace.{printed}
 use Rattle.rtl_vcd.proofs.Names.{numbered_more, shown_at}

@@ -1,4 +1,4 @@
-use Rattle.rtl_sink.proofs.Writing.{Goes-append}
+use Rattle.byte_streams.proofs.Writing.{Goes-append}
 use Rattle.rtl_vcd.proofs.trace.push_time.Goals as goal
 
 pub returns : goal.returns

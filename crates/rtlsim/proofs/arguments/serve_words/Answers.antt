@@ -1,7 +1,7 @@
 use Rattle.std.proofs.Common.{ℕ, List, Bor, false, inr, map, string_bytes, refl, subst}
 use Rattle.rtlsim.specs.Sinks.{Sinks, outputs}
-use Rattle.rtl_sink.specs.Read.{ReaderState}
-use Rattle.rtlsim_words.specs.Words.{IsOfWords, SayNothing}
+use Rattle.byte_streams.specs.Read.{ReaderState}
+use Rattle.rtlsim_command_line.specs.Words.{IsOfWords, SayNothing}
 use Rattle.rtlsim.specs.Inputs.{Reading, GivesNamed}
 use Rattle.rtlsim.specs.Tools.{ServesCall, ServesFirstLine}
 use Rattle.rtlsim.proofs.Refusing.{refuses_for}

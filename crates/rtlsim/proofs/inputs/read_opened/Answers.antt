@@ -1,4 +1,4 @@
-use Rattle.rtl_sink.specs.Read.{ReaderState}
+use Rattle.byte_streams.specs.Read.{ReaderState}
 use Rattle.rtlsim.proofs.Files.{file_fails}
 use Rattle.rtlsim.proofs.inputs.read_opened.Goals as goal
 

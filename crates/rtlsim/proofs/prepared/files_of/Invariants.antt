@@ -1,6 +1,6 @@
 use Rattle.std.proofs.Common.{◌≡◌, map, take}
 use Rattle.rtlsim.specs.Texts.{read_view}
-use Rattle.rtlsim_files.specs.Files.{file_view}
+use Rattle.vhdl_source_files.specs.Files.{file_view}
 use Rattle.rtlsim.proofs.prepared.files_of.Given as goal
 
 -- the files so far

@@ -1,4 +1,4 @@
-use Rattle.rtl_sink.proofs.Writing.{Goes-append}
+use Rattle.byte_streams.proofs.Writing.{Goes-append}
 use Rattle.rtlsim.proofs.refusals.push_unread.Goals as goal
 
 pub returns-then-explains : goal.returns-then-explains

@@ -1,7 +1,7 @@
 use Rattle.std.proofs.Common.{◌≡◌, inr, refl, subst}
 use Rattle.std.specs.Io.KnownBytes.{append_known}
-use Rattle.rtlsim_faults.specs.declared.status.Status.{Status}
-use Rattle.rtl_sink.specs.Written.{SinkState}
+use Rattle.rtlsim_command_faults.specs.declared.status.Status.{Status}
+use Rattle.byte_streams.specs.Written.{SinkState}
 use Rattle.rtlsim.specs.Inputs.{GivesNamed}
 use Rattle.rtlsim.specs.Sinks.{Sinks}
 use Rattle.rtlsim.specs.Streams.{GoesToWriters, ServesArguments, fresh}

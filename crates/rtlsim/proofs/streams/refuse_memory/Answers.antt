@@ -1,6 +1,6 @@
 use Rattle.std.proofs.Common.{ℕ, List, Option, Bool, sym, subst}
-use Rattle.rtl_sink.specs.Written.{SinkState, Goes}
-use Rattle.rtlsim_faults.specs.Lines.{memory_line}
+use Rattle.byte_streams.specs.Written.{SinkState, Goes}
+use Rattle.rtlsim_command_faults.specs.Lines.{memory_line}
 use Rattle.rtlsim.proofs.streams.refuse_memory.Goals as goal
 
 pub returns-clause-told : goal.returns-clause-told

@@ -2,7 +2,7 @@ use Rattle.std.proofs.Common.{rules, ◌≡◌, List, [], Ok, Err, Some, map, sy
 use Rattle.rtlsim.specs.Reads.{GivesAll}
 use Rattle.rtlsim.specs.Texts.{read_view}
 use Rattle.rtlsim.specs.Unread.{Unread, unread_of}
-use Rattle.rtlsim_files.specs.Files.{FileView}
+use Rattle.vhdl_source_files.specs.Files.{FileView}
 use Rattle.rtlsim.proofs.Reading.{after_all, all_read, behind, first_fails, first_read, more_read, name_of, none_before, one_more}
 use Rattle.rtlsim.proofs.texts.read_files.Goals as goal
 

@@ -1,9 +1,9 @@
 use Rattle.std.proofs.Common.{List, map, length, Result}
-use Rattle.rtl_sink.specs.Read.{ReaderState}
+use Rattle.byte_streams.specs.Read.{ReaderState}
 use Rattle.rtlsim.specs.Reads.{GivesAll}
 use Rattle.rtlsim.specs.Texts.{read_view}
 use Rattle.rtlsim.specs.Unread.{Unread}
-use Rattle.rtlsim_files.specs.Files.{FileView}
+use Rattle.vhdl_source_files.specs.Files.{FileView}
 use Rattle.rtlsim.proofs.Reading.{after_all}
 use Rattle.rtlsim.proofs.texts.read_files.Given as goal
 

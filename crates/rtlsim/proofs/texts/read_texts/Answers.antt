@@ -5,7 +5,7 @@ use Rattle.rtlsim.specs.Requests.{GivesTexts}
 use Rattle.rtlsim.specs.Texts.{read_view, texts_of}
 use Rattle.rtlsim.specs.Unread.{Unread, unread_of}
 use Rattle.rtlsim.proofs.Reading.{name_of}
-use Rattle.rtlsim_words.specs.Words.{call_view}
+use Rattle.rtlsim_command_line.specs.Words.{call_view}
 use Rattle.rtlsim.proofs.texts.read_texts.Goals as goal
 
 pub returns-clause-given : goal.returns-clause-given

@@ -2,7 +2,7 @@ use Rattle.std.proofs.Common.{inl, inr, refl}
 use Rattle.rtlsim.specs.Requests.{GivesTexts}
 use Rattle.rtlsim.specs.Tools.{Performs}
 use Rattle.rtlsim.proofs.Refusing.{tells_unread}
-use Rattle.rtlsim_words.specs.Words.{call_view}
+use Rattle.rtlsim_command_line.specs.Words.{call_view}
 use Rattle.rtlsim.proofs.tools.perform.Goals as goal
 
 pub returns-in-Ok : goal.returns-in-Ok

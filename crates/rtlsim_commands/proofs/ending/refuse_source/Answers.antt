@@ -1,5 +1,5 @@
 use Rattle.rtlsim_commands.specs.Told.{TellsOthers, asks_others}
-use Rattle.rtlsim_faults.specs.declared.faults.Fault.{Fault}
+use Rattle.rtlsim_command_faults.specs.declared.faults.Fault.{Fault}
 use Rattle.std.proofs.Common.{subst}
 use Rattle.rtlsim_commands.proofs.ending.refuse_source.Goals as goal
 

@@ -1,5 +1,5 @@
 use Rattle.std.proofs.Common.{sym}
-use Rattle.rtlsim_faults.specs.Explanations.{with_explanation}
+use Rattle.rtlsim_command_faults.specs.Explanations.{with_explanation}
 use Rattle.rtlsim_listing.specs.DotText.{dot_text}
 use Rattle.rtlsim_commands.proofs.Listed.{checks_failed, unchecked}
 use Rattle.rtlsim_commands.proofs.listing.check_net_dot_told.Goals as goal

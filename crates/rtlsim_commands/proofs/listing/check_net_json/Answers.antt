@@ -1,6 +1,6 @@
 use Rattle.std.proofs.Common.{sym}
-use Rattle.rtlsim_faults.specs.Explanations.{files_of}
-use Rattle.rtlsim_verdict.specs.Json.{json_text}
+use Rattle.rtlsim_command_faults.specs.Explanations.{files_of}
+use Rattle.rtlsim_findings_text.specs.Json.{json_text}
 use Rattle.rtlsim_commands.proofs.Listed.{checks_failed, unchecked}
 use Rattle.rtlsim_commands.proofs.listing.check_net_json.Goals as goal
 

@@ -1,9 +1,9 @@
 use Rattle.std.proofs.Common.{length}
-use Rattle.rtlsim_faults.specs.Explanations.{files_of}
-use Rattle.rtlsim_faults.specs.Refusal.{Describes}
+use Rattle.rtlsim_command_faults.specs.Explanations.{files_of}
+use Rattle.rtlsim_command_faults.specs.Refusal.{Describes}
 use Rattle.rtlsim_commands.proofs.Told.{serves_refused, serves_so, told_so}
-use Rattle.vhdl_source_rules.specs.Faults.{LiesIn}
-use Rattle.vhdl_source_rules.specs.Refusals.{Refuses}
+use Rattle.vhdl_front_rules.specs.Faults.{LiesIn}
+use Rattle.vhdl_front_rules.specs.Refusals.{Refuses}
 use Rattle.rtlsim_commands.proofs.serving.describe.Goals as goal
 
 pub returns-in-Ok : goal.returns-in-Ok

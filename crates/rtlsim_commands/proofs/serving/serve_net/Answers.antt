@@ -1,6 +1,6 @@
 use Rattle.std.proofs.Common.{◌∙◌, ap}
 use Rattle.std.specs.Prelude.{length}
-use Rattle.rtlsim_faults.specs.declared.status.Status.{Status}
+use Rattle.rtlsim_command_faults.specs.declared.status.Status.{Status}
 use Rattle.rtlsim_commands.specs.Served.{Unrefused, ended}
 use Rattle.rtlsim_commands.proofs.Told.{serves_done, serves_told}
 use Rattle.rtlsim_commands.proofs.Unsettled.{fault_told, tells_changing}

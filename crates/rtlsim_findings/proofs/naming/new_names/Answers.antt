@@ -1,7 +1,7 @@
 use Rattle.std.proofs.Common.{Bor, List, map, ap, ◌∙◌}
 use Rattle.rtl_check.specs.Views.{fault_view}
 use Rattle.rtl_check.specs.declared.fault.CheckFault.{CheckFault}
-use Rattle.rtl_report.specs.declared.report.Report.{Report}
+use Rattle.fault_rules.specs.declared.report.Report.{Report}
 use Rattle.rtlsim_findings.specs.Sayings.{name, name_of}
 use Rattle.rtlsim_findings.proofs.Lists.{first_is}
 use Rattle.rtlsim_findings.proofs.News.{one-name}

@@ -1,5 +1,5 @@
 use Rattle.std.proofs.Common.{◌≡◌}
-use Rattle.rtl_sink.specs.Written.{Goes}
+use Rattle.byte_streams.specs.Written.{Goes}
 use Rattle.rtlsim_listing.specs.DotText.{arrow_before, next_arrow}
 use Rattle.rtlsim_listing.specs.NetText.{lines}
 use Rattle.rtlsim_listing.proofs.arrows.push_arrows_by.Given as goal

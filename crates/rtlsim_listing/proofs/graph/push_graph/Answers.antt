@@ -1,6 +1,6 @@
 use Rattle.std.proofs.Common.{◌++◌, codes, length, subst, ap, ◌∙◌}
-use Rattle.rtl_sink.specs.Written.{Goes}
-use Rattle.rtl_sink.proofs.Writing.{Goes-append}
+use Rattle.byte_streams.specs.Written.{Goes}
+use Rattle.byte_streams.proofs.Writing.{Goes-append}
 use Rattle.rtlsim_listing.specs.CheckText.{greatest_level}
 use Rattle.rtlsim_listing.specs.DotText.{columns_text, process_lines, graph_text}
 use Rattle.rtlsim_listing.specs.NetText.{lines}

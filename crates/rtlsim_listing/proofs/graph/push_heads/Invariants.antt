@@ -1,4 +1,4 @@
-use Rattle.rtl_sink.specs.Written.{Goes}
+use Rattle.byte_streams.specs.Written.{Goes}
 use Rattle.rtlsim_listing.specs.DotText.{column_text}
 use Rattle.rtlsim_listing.specs.NetText.{lines}
 use Rattle.rtlsim_listing.proofs.graph.push_heads.Given as goal

@@ -1,6 +1,6 @@
 use Rattle.std.proofs.Common.{subst, ◌∙◌}
-use Rattle.rtl_sink.specs.Written.{Goes}
-use Rattle.rtl_sink.proofs.Writing.{Goes-append}
+use Rattle.byte_streams.specs.Written.{Goes}
+use Rattle.byte_streams.proofs.Writing.{Goes-append}
 use Rattle.rtlsim_listing.specs.DotText.{register_text}
 use Rattle.rtlsim_listing.proofs.Printing.{none, refused}
 use Rattle.rtlsim_listing.proofs.graph.push_register.Goals as goal

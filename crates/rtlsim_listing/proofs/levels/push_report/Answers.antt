@@ -1,5 +1,5 @@
 use Rattle.std.proofs.Common.{subst, ap, ◌∙◌, length}
-use Rattle.rtl_sink.specs.Written.{Goes}
+use Rattle.byte_streams.specs.Written.{Goes}
 use Rattle.rtlsim_listing.specs.NetText.{lines}
 use Rattle.rtlsim_listing.specs.CheckText as spec
 use Rattle.rtlsim_listing.specs.Printing.{Prints}

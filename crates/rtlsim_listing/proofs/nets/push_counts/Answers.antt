@@ -1,4 +1,4 @@
-use Rattle.rtl_sink.proofs.Writing.{Goes-append}
+use Rattle.byte_streams.proofs.Writing.{Goes-append}
 use Rattle.rtlsim_listing.proofs.nets.push_counts.Goals as goal
 
 pub returns : goal.returns

@@ -2,8 +2,8 @@ use Rattle.std.proofs.Common.{◌≡◌, subst, ◌∙◌, sym, ap, slice_index,
 use Rattle.std.proofs.lemmas.Option.{get_or_from_slice_get}
 use Rattle.rtl_model.specs.bodies.Types.{nine_valued}
 use Rattle.rtl_model.specs.nets.FlatNetlist.{flat_sources}
-use Rattle.rtl_sink.specs.Written.{Goes}
-use Rattle.rtl_sink.proofs.Writing.{Goes-append}
+use Rattle.byte_streams.specs.Written.{Goes}
+use Rattle.byte_streams.proofs.Writing.{Goes-append}
 use Rattle.rtl_net.specs.Nets.{flat, type_of}
 use Rattle.rtl_body_facts.specs.Reading.{is_in}
 use Rattle.rtlsim_listing.specs.NetText.{net_line, start_text, sources_text}

@@ -1,6 +1,6 @@
 use Rattle.std.proofs.Common.{length, rules, ◌++◌}
-use Rattle.rtl_sink.specs.Written.{Goes}
-use Rattle.rtl_sink.proofs.Writing.{Goes-append}
+use Rattle.byte_streams.specs.Written.{Goes}
+use Rattle.byte_streams.proofs.Writing.{Goes-append}
 use Rattle.rtlsim_listing.specs.NetText.{lines, net_line, process_line, counts_text, net_text}
 use Rattle.rtlsim_listing.proofs.Printing.{refused, behind, longer, then}
 use Rattle.rtlsim_listing.proofs.nets.push_net_text.Goals as goal

@@ -1,4 +1,4 @@
-use Rattle.rtl_sink.specs.Written.{Goes}
+use Rattle.byte_streams.specs.Written.{Goes}
 use Rattle.rtlsim_listing.specs.NetText.{lines, net_line}
 use Rattle.rtlsim_listing.proofs.nets.push_nets.Given as goal
 

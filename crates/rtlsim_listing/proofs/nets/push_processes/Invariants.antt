@@ -1,4 +1,4 @@
-use Rattle.rtl_sink.specs.Written.{Goes}
+use Rattle.byte_streams.specs.Written.{Goes}
 use Rattle.rtlsim_listing.specs.NetText.{lines, process_line}
 use Rattle.rtlsim_listing.proofs.nets.push_processes.Given as goal
 

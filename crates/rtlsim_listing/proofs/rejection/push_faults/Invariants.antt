@@ -1,5 +1,5 @@
 use Rattle.std.specs.Prelude.{flat_map, take}
-use Rattle.rtl_sink.specs.Written.{Goes}
+use Rattle.byte_streams.specs.Written.{Goes}
 use Rattle.rtlsim_listing.specs.CheckText.{fault_line}
 use Rattle.rtlsim_listing.proofs.rejection.push_faults.Given as goal
 

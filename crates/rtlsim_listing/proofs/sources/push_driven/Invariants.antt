@@ -1,5 +1,5 @@
 use Rattle.std.specs.Prelude.{◌++◌, codes, flat_map, take}
-use Rattle.rtl_sink.specs.Written.{Goes}
+use Rattle.byte_streams.specs.Written.{Goes}
 use Rattle.rtl_net.specs.Nets.{source_view}
 use Rattle.rtl_net.specs.declared.net.Source.{Source}
 use Rattle.rtlsim_listing.specs.NetText.{source_text}

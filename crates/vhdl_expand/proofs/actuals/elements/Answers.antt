@@ -1,6 +1,6 @@
 use Rattle.std.proofs.Common.{[]}
 use Rattle.vhdl_expand.proofs.actuals.elements.Goals as goal
-use Rattle.vhdl_expand_drivers.proofs.Walks.{more_run}
+use Rattle.vhdl_expand_processes.proofs.Walks.{more_run}
 
 pub loop-k-preserved : goal.loop-k-preserved
 loop-k-preserved c =

@@ -12,7 +12,7 @@ use Rattle.vhdl_expand_rules.specs.Expansion.{with_variables}
 use Rattle.vhdl_expand_rules.specs.Site.{elements_count}
 use Rattle.vhdl_expand_rules.specs.Statements.{statements}
 use Rattle.vhdl_expand_bodies.specs.Sites.{site_view}
-use Rattle.vhdl_expand_drivers.specs.Driven.{drives_of}
+use Rattle.vhdl_expand_processes.specs.Driven.{drives_of}
 use Rattle.vhdl_expand_tree.specs.declared.tree.Variable.{Variable}
 use Rattle.vhdl_expand_tree.specs.Costs.{spent, variables_costs}
 use Rattle.vhdl_expand_tree.specs.Views.{budget_view, variable_view}

@@ -9,7 +9,7 @@ use Rattle.vhdl_names_rules.specs.problems.Labels.{labels_of}
 use Rattle.vhdl_names_rules.proofs.Telling.{told_left, told_right, told_same}
 use Rattle.vhdl_names_rules.proofs.kept.Keeping.{among_kept}
 use Rattle.vhdl_names_rules.proofs.kept.Concurrent.{concurrents_kept}
-use Rattle.vhdl_names_types.specs.Views.{region_view}
+use Rattle.vhdl_names_sight.specs.Views.{region_view}
 use Rattle.vhdl_names.specs.steps.Concurrents.{body_view}
 use Rattle.vhdl_names.specs.steps.Architectures.{with_region}
 use Rattle.vhdl_names.proofs.Finding.{or_memory, gives_finds, given_ok, found_ok, passed_err}

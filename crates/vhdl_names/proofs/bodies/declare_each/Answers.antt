@@ -2,7 +2,7 @@ use Rattle.std.proofs.Common.{arith, length, drop, ◌<◌, ◌+◌, ap, sym, su
 use Rattle.vhdl_tree.specs.View.{concurrent_view}
 use Rattle.vhdl_names_rules.specs.Files.{labelled}
 use Rattle.vhdl_names_rules.specs.problems.Labels.{label_of}
-use Rattle.vhdl_names_types.specs.Views.{region_view}
+use Rattle.vhdl_names_sight.specs.Views.{region_view}
 use Rattle.vhdl_names_declarations.specs.Entered.{more}
 use Rattle.vhdl_names_declarations.proofs.Regions.{names_apart}
 use Rattle.vhdl_names.proofs.Finding.{gives_along}

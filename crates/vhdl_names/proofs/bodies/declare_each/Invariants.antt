@@ -1,5 +1,5 @@
 use Rattle.std.proofs.Common.{drop}
-use Rattle.vhdl_names_types.specs.Views.{region_view}
+use Rattle.vhdl_names_sight.specs.Views.{region_view}
 use Rattle.vhdl_names.proofs.Labels.{Labelled, labels_in}
 use Rattle.vhdl_names.proofs.bodies.declare_each.Given as goal
 

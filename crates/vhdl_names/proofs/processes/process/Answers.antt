@@ -1,5 +1,5 @@
 use Rattle.vhdl_tree.specs.View as tree
-use Rattle.vhdl_names_types.proofs.Along.{gives_along}
+use Rattle.vhdl_names_sight.proofs.Along.{gives_along}
 use Rattle.vhdl_names_units.specs.views.Concurrent.{process_view}
 use Rattle.vhdl_names.proofs.Running.{process_by}
 use Rattle.vhdl_names.proofs.processes.process.Goals as goal

@@ -5,7 +5,7 @@ use Rattle.vhdl_names_rules.specs.Declarations.{in_order}
 use Rattle.vhdl_names_rules.specs.Files.{declaration}
 use Rattle.vhdl_names_rules.specs.Visibility.{with_declared}
 use Rattle.vhdl_tree.specs.View as tree
-use Rattle.vhdl_names_types.specs.Views.{entry_view}
+use Rattle.vhdl_names_sight.specs.Views.{entry_view}
 use Rattle.vhdl_names_units.specs.views.Declarations.{declaration_view, declarations_view}
 use Rattle.vhdl_names_components.specs.Views.{entities_view}
 use Rattle.vhdl_names_components.specs.Components.{analysed_view}

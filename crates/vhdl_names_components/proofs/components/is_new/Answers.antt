@@ -3,7 +3,7 @@ use Rattle.std.specs.Prelude.{bytes_eq, is_some}
 use Rattle.std.specs.Map.{lookup}
 use Rattle.vhdl_tree.specs.View.{ident_view}
 use Rattle.vhdl_names_rules.specs.Interfaces.{declared_names}
-use Rattle.vhdl_names_types.specs.Views.{region_view}
+use Rattle.vhdl_names_sight.specs.Views.{region_view}
 use Rattle.vhdl_names_rules.specs.problems.Broken.{Tells}
 use Rattle.vhdl_names_rules.specs.problems.Declarations.{standing_twice}
 use Rattle.vhdl_names_declarations.proofs.Breaking.{twice_here}

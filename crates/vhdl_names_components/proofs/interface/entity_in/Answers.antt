@@ -7,7 +7,7 @@ use Rattle.vhdl_names_rules.specs.problems.Interfaces as broken
 use Rattle.vhdl_names_rules.proofs.Telling.{told_left, told_right}
 use Rattle.vhdl_names_rules.proofs.kept.Interfaces.{interface_kept}
 use Rattle.vhdl_tree.specs.View as view
-use Rattle.vhdl_names_types.specs.Views.{region_view}
+use Rattle.vhdl_names_sight.specs.Views.{region_view}
 use Rattle.vhdl_names_declarations.specs.Contexts.{context_view}
 use Rattle.vhdl_names_declarations.proofs.Breaking as tells
 use Rattle.vhdl_names_components.specs.Views.{interface_in, entity_view, entity_of, behind_interface}

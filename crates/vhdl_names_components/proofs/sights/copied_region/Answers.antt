@@ -4,7 +4,7 @@ use Rattle.std.specs.Map.Iter.{deref_pair}
 use Rattle.vhdl_names_rules.specs.declared.fault.NameFault.TheVariants.{NoMemory}
 use Rattle.vhdl_names_rules.specs.Rules.{◌>>=◌}
 use Rattle.vhdl_names_rules.specs.Visibility.{declare}
-use Rattle.vhdl_names_types.specs.Views.{meaning_view, region_view, entry_view}
+use Rattle.vhdl_names_sight.specs.Views.{meaning_view, region_view, entry_view}
 use Rattle.vhdl_names_declarations.specs.Entered.{more}
 use Rattle.vhdl_names_rules.specs.problems.Broken.{nothing}
 use Rattle.vhdl_names_declarations.proofs.Breaking.{told_never}

@@ -7,7 +7,7 @@ use Rattle.vhdl_names_rules.specs.Visibility as visibility
 use Rattle.vhdl_names_rules.specs.Visibility.{names_of, all_declared, with_declared, count_of}
 use Rattle.vhdl_tree.specs.View as tree
 use Rattle.vhdl_tree.specs.View.{ident_view}
-use Rattle.vhdl_names_types.specs.Views.{region_view, entry_view}
+use Rattle.vhdl_names_sight.specs.Views.{region_view, entry_view}
 use Rattle.vhdl_names_declarations.specs.Constants as k
 use Rattle.vhdl_names_declarations.specs.Constants.{TypedConstant}
 use Rattle.vhdl_names_declarations.specs.Entered.{more, entering}

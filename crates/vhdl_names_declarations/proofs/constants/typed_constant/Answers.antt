@@ -2,7 +2,7 @@ use Rattle.std.proofs.Common.{sym, subst, ◌∙◌}
 use Rattle.vhdl_tree.specs.View as tree
 use Rattle.vhdl_names_rules.specs.Visibility.{Meaning, meaning}
 use Rattle.vhdl_names_rules.specs.Subtypes.{as_integer_type}
-use Rattle.vhdl_names_types.specs.Views.{meaning_view}
+use Rattle.vhdl_names_sight.specs.Views.{meaning_view}
 use Rattle.vhdl_names_rules.specs.problems.Broken.{Tells, where_given}
 use Rattle.vhdl_names_rules.specs.problems.Declarations as broken
 use Rattle.vhdl_names_rules.specs.problems.Expressions as expressions_broken

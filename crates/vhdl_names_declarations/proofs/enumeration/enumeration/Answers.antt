@@ -7,7 +7,7 @@ use Rattle.vhdl_names_rules.specs.Declarations as d
 use Rattle.vhdl_names_rules.specs.Visibility as visibility
 use Rattle.vhdl_names_rules.specs.Visibility.{names_of, declare}
 use Rattle.vhdl_tree.specs.View.{ident_view, enumeration_view}
-use Rattle.vhdl_names_types.specs.Views.{region_view}
+use Rattle.vhdl_names_sight.specs.Views.{region_view}
 use Rattle.vhdl_names_declarations.specs.Entered.{more, entering}
 use Rattle.vhdl_names_declarations.proofs.Declaring.{too_many, too_many_told, few_enough, enumeration_is, in_region}
 use Rattle.vhdl_names_declarations.proofs.Breaking.{passed_on}

@@ -8,7 +8,7 @@ use Rattle.vhdl_names_rules.specs.problems.Declarations.{standing_twice}
 use Rattle.vhdl_names_rules.proofs.Telling.{told_same}
 use Rattle.vhdl_names_declarations.proofs.Breaking.{name_told, name_behind}
 use Rattle.vhdl_tree.specs.View.{ident_view}
-use Rattle.vhdl_names_types.specs.Views.{region_view}
+use Rattle.vhdl_names_sight.specs.Views.{region_view}
 use Rattle.vhdl_names_declarations.specs.Entered.{more}
 use Rattle.vhdl_names_declarations.proofs.Declaring.{next_literal, no_literals}
 use Rattle.vhdl_names_declarations.proofs.Breaking.{passed_on}

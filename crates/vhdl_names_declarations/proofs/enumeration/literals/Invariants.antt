@@ -2,7 +2,7 @@ use Rattle.std.proofs.Common.{◌≡◌, map, drop, length}
 use Rattle.vhdl_names_rules.specs.Declarations.{literals}
 use Rattle.vhdl_names_rules.specs.Visibility.{names_of}
 use Rattle.vhdl_tree.specs.View.{ident_view}
-use Rattle.vhdl_names_types.specs.Views.{region_view}
+use Rattle.vhdl_names_sight.specs.Views.{region_view}
 use Rattle.vhdl_names_rules.specs.problems.Declarations.{standing_twice}
 use Rattle.vhdl_names_declarations.specs.Entered.{more}
 use Rattle.vhdl_names_declarations.proofs.enumeration.literals.Given as goal

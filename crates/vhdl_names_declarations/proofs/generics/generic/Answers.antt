@@ -9,7 +9,7 @@ use Rattle.vhdl_names_rules.specs.views.Integers.{static_view}
 use Rattle.vhdl_names_rules.specs.Visibility as visibility
 use Rattle.vhdl_names_rules.specs.Visibility.{names_of, all_declared, with_declared}
 use Rattle.vhdl_tree.specs.View.{ident_view, generic_view}
-use Rattle.vhdl_names_types.specs.Views.{region_view, entry_view}
+use Rattle.vhdl_names_sight.specs.Views.{region_view, entry_view}
 use Rattle.vhdl_names_declarations.specs.Entered.{more, entering}
 use Rattle.vhdl_names_declarations.specs.Typed.{typed_generic}
 use Rattle.vhdl_names_declarations.proofs.Declaring.{generic_is, generics_of}

@@ -6,7 +6,7 @@ use Rattle.vhdl_names_rules.proofs.kept.Expressions.{meaning_kept}
 use Rattle.vhdl_names_rules.specs.Subtypes.{as_integer_type}
 use Rattle.vhdl_names_rules.specs.Visibility.{meaning}
 use Rattle.vhdl_tree.specs.View.{generic_view}
-use Rattle.vhdl_names_types.specs.Views.{meaning_view}
+use Rattle.vhdl_names_sight.specs.Views.{meaning_view}
 use Rattle.vhdl_names_declarations.proofs.Breaking.{passed_on}
 use Rattle.vhdl_names_declarations.proofs.generics.generic_type.Goals as goal
 

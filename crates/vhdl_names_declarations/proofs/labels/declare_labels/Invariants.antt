@@ -3,7 +3,7 @@ use Rattle.vhdl_names_rules.specs.Concurrent.{concurrent_labels}
 use Rattle.vhdl_names_rules.specs.Files.{labelled}
 use Rattle.vhdl_tree.specs.Tree.{concurrents_of}
 use Rattle.vhdl_tree.specs.View.{concurrent_view}
-use Rattle.vhdl_names_types.specs.Views.{region_view}
+use Rattle.vhdl_names_sight.specs.Views.{region_view}
 use Rattle.vhdl_names_rules.specs.problems.Declarations.{standing_twice}
 use Rattle.vhdl_names_rules.specs.problems.Labels.{labels_of}
 use Rattle.vhdl_names_declarations.specs.Entered.{more}

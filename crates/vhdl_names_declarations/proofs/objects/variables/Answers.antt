@@ -4,7 +4,7 @@ use Rattle.vhdl_names_rules.specs.declared.fault.NameFault.TheVariants.{NoMemory
 use Rattle.vhdl_names_rules.specs.Declarations.{in_order, variables}
 use Rattle.vhdl_names_rules.specs.Visibility.{with_variables}
 use Rattle.vhdl_tree.specs.View.{variables_view}
-use Rattle.vhdl_names_types.specs.Views.{entry_view}
+use Rattle.vhdl_names_sight.specs.Views.{entry_view}
 use Rattle.vhdl_names_units.specs.views.Declarations.{object_view, objects_view}
 use Rattle.vhdl_names_declarations.specs.Entered.{entering_variables}
 use Rattle.vhdl_names_rules.specs.problems.Broken.{Tells}

@@ -1,5 +1,5 @@
 use Rattle.std.proofs.Common.{◌≡◌, map, drop}
-use Rattle.vhdl_names_types.specs.Views.{region_view}
+use Rattle.vhdl_names_sight.specs.Views.{region_view}
 use Rattle.vhdl_names_declarations.specs.Entered.{more}
 use Rattle.vhdl_names_declarations.specs.Rows.{row_view}
 use Rattle.vhdl_names_declarations.proofs.packages.add_rows.Given as goal

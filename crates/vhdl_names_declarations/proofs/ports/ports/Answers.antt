@@ -4,8 +4,8 @@ use Rattle.vhdl_names_rules.specs.declared.fault.NameFault.TheVariants.{NoMemory
 use Rattle.vhdl_names_rules.specs.Declarations.{in_order, port}
 use Rattle.vhdl_names_rules.specs.Visibility.{with_declared}
 use Rattle.vhdl_tree.specs.View.{port_view}
-use Rattle.vhdl_names_types.specs.declared.sight.Sight.{Sight}
-use Rattle.vhdl_names_types.specs.Views.{entry_view}
+use Rattle.vhdl_names_sight.specs.declared.sight.Sight.{Sight}
+use Rattle.vhdl_names_sight.specs.Views.{entry_view}
 use Rattle.vhdl_names_units.specs.views.Declarations.{ports_view, all_ports_view}
 use Rattle.vhdl_names_declarations.specs.Entered.{entering}
 use Rattle.vhdl_names_rules.specs.problems.Broken.{Tells}

@@ -2,7 +2,7 @@ use Rattle.std.proofs.Common.{◌≡◌, false, [], ◌∷◌, None, sym, ap, su
 use Rattle.std.specs.Prelude.{bytes_eq, is_some}
 use Rattle.std.specs.Map.{lookup}
 use Rattle.indexmap.proofs.CallerLemmas.{insert_entry-new}
-use Rattle.vhdl_names_types.specs.Views.{meaning_view, region_view}
+use Rattle.vhdl_names_sight.specs.Views.{meaning_view, region_view}
 use Rattle.vhdl_names_rules.specs.Interfaces.{declared_names}
 use Rattle.vhdl_names_rules.specs.problems.Broken.{Tells}
 use Rattle.vhdl_names_rules.specs.problems.Declarations.{standing_twice}

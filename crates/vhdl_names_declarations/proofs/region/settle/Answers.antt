@@ -1,7 +1,7 @@
 use Rattle.std.proofs.Common.{arith, ◌≡◌, ◌+◌, ◌-◌, ◌<◌, length, ap, ◌∙◌, sym, refl}
 use Rattle.indexmap.proofs.CallerLemmas.{index_map_len-with_value_at}
 use Rattle.indexmap.specs.IndexMap.{with_value_at}
-use Rattle.vhdl_names_types.specs.Views.{region_view}
+use Rattle.vhdl_names_sight.specs.Views.{region_view}
 use Rattle.vhdl_names_declarations.specs.Settled.{class_view, settled}
 use Rattle.vhdl_names_declarations.proofs.Regions.{settled_more, settled_end}
 use Rattle.vhdl_names_declarations.proofs.region.settle.Goals as goal

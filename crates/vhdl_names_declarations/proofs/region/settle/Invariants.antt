@@ -1,6 +1,6 @@
 use Rattle.std.proofs.Common.{◌≡◌, ◌+◌, ◌-◌}
 use Rattle.indexmap.specs.IndexMap.{index_map_len}
-use Rattle.vhdl_names_types.specs.Views.{region_view}
+use Rattle.vhdl_names_sight.specs.Views.{region_view}
 use Rattle.vhdl_names_declarations.specs.Settled.{class_view, settled}
 use Rattle.vhdl_names_declarations.proofs.region.settle.Given as goal
 

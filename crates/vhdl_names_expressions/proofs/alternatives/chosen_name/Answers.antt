@@ -4,7 +4,7 @@ use Rattle.vhdl_tree.specs.View.{ident_view, suffix_view, option_ident_view}
 use Rattle.vhdl_names_rules.specs.declared.fault.NameFault.TheVariants.{At}
 use Rattle.vhdl_names_rules.specs.declared.fault.NameProblem.TheVariants.{LeftOut}
 use Rattle.vhdl_names_units.specs.views.Answers.{choice_view}
-use Rattle.vhdl_names_types.specs.Views.{meaning_view}
+use Rattle.vhdl_names_sight.specs.Views.{meaning_view}
 use Rattle.vhdl_names_rules.specs.problems.Broken.{Tells}
 use Rattle.vhdl_names_rules.specs.problems.Choices as broken
 use Rattle.vhdl_names_expressions.proofs.Breaking.{told_fault}

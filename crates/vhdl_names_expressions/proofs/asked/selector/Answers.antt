@@ -3,7 +3,7 @@ use Rattle.vhdl_names_rules.specs.declared.fault.NameProblem.TheVariants.{TypeMi
 use Rattle.vhdl_names_rules.specs.Expressions as are
 use Rattle.vhdl_names_rules.specs.Choices.{selector as wanted}
 use Rattle.vhdl_names_units.specs.views.Answers.{selector_view}
-use Rattle.vhdl_names_types.specs.Views.{typed_view}
+use Rattle.vhdl_names_sight.specs.Views.{typed_view}
 use Rattle.vhdl_names_rules.specs.problems.Broken.{Tells, lacking, where_given}
 use Rattle.vhdl_names_rules.specs.problems.Places.{start}
 use Rattle.vhdl_names_rules.specs.problems.Expressions.{typed}

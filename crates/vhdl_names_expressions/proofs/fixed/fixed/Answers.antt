@@ -1,6 +1,6 @@
 use Rattle.std.proofs.Common.{option_map, option_copied, ap, sym, ◌∙◌}
 use Rattle.vhdl_tree.specs.View.{view, name_view}
-use Rattle.vhdl_names_types.proofs.Along.{gives_along}
+use Rattle.vhdl_names_sight.proofs.Along.{gives_along}
 use Rattle.vhdl_names_expressions.proofs.Fixing.{fixed_by, fixed_is}
 use Rattle.vhdl_names_units.specs.views.Answers.{fixed_view}
 use Rattle.vhdl_names_expressions.proofs.Breaking.{told_as}

@@ -4,7 +4,7 @@ use Rattle.vhdl_tree.specs.View.{ident_view, suffix_view, option_ident_view}
 use Rattle.vhdl_names_rules.specs.declared.fault.NameFault.TheVariants.{At}
 use Rattle.vhdl_names_rules.specs.declared.fault.NameProblem.TheVariants.{LeftOut}
 use Rattle.vhdl_names_units.specs.views.Answers.{fixed_view}
-use Rattle.vhdl_names_types.specs.Views.{meaning_view, typed_suffix_view}
+use Rattle.vhdl_names_sight.specs.Views.{meaning_view, typed_suffix_view}
 use Rattle.vhdl_names_rules.specs.problems.Broken.{Tells, refused, lacking}
 use Rattle.vhdl_names_rules.specs.problems.Subtypes as broken
 use Rattle.vhdl_names_rules.specs.problems.Subtypes.{suffixed_problem, value_of}

@@ -4,7 +4,7 @@ use Rattle.vhdl_names_rules.specs.declared.fault.NameFault.TheVariants.{At}
 use Rattle.vhdl_names_rules.specs.declared.fault.NameProblem.TheVariants.{LeftOut}
 use Rattle.vhdl_names_rules.specs.Statements.{as_variable}
 use Rattle.vhdl_names_units.specs.views.Answers.{variable_name_view}
-use Rattle.vhdl_names_types.specs.Views.{meaning_view, typed_suffix_view}
+use Rattle.vhdl_names_sight.specs.Views.{meaning_view, typed_suffix_view}
 use Rattle.vhdl_names_rules.specs.problems.Broken.{Tells, refused, lacking}
 use Rattle.vhdl_names_rules.specs.problems.Statements.{variable_problem}
 use Rattle.vhdl_names_rules.specs.problems.Statements as broken

@@ -1,6 +1,6 @@
 use Rattle.std.proofs.Common.{Some, ap}
 use Rattle.vhdl_tree.specs.View.{range_view}
-use Rattle.vhdl_names_types.specs.Views.{meaning_view}
+use Rattle.vhdl_names_sight.specs.Views.{meaning_view}
 use Rattle.vhdl_names_rules.specs.problems.Broken.{Tells, ◌▸◌, unless}
 use Rattle.vhdl_names_rules.specs.problems.Expressions.{static_range}
 use Rattle.vhdl_names_rules.specs.problems.Subtypes.{mark_problem, is_marked}

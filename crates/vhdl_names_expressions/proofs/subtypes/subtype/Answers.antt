@@ -1,6 +1,6 @@
 use Rattle.std.proofs.Common.{option_map, ap}
 use Rattle.vhdl_tree.specs.View.{subtype_view, range_view}
-use Rattle.vhdl_names_types.specs.Views.{meaning_view}
+use Rattle.vhdl_names_sight.specs.Views.{meaning_view}
 use Rattle.vhdl_names_rules.specs.problems.Broken.{Tells}
 use Rattle.vhdl_names_rules.specs.problems.Subtypes as broken
 use Rattle.vhdl_names_expressions.proofs.BreakingValues.{subtype_meaning, subtype_alone, subtype_ranged}

@@ -12,8 +12,8 @@ use Rattle.vhdl_names_instances.specs.Breaking as breaking
 use Rattle.vhdl_names_instances.proofs.Told.{told_along, passed_told}
 use Rattle.vhdl_names_instances.proofs.Instanced.{entity_of_told}
 use Rattle.vhdl_tree.specs.View as tree
-use Rattle.vhdl_names_types.specs.Views.{meaning_view}
-use Rattle.vhdl_names_types.proofs.Along.{gives_along}
+use Rattle.vhdl_names_sight.specs.Views.{meaning_view}
+use Rattle.vhdl_names_sight.proofs.Along.{gives_along}
 use Rattle.vhdl_names_units.specs.Once.{names_view}
 use Rattle.vhdl_names_instances.specs.Table.{seens_view}
 use Rattle.vhdl_names_instances.specs.steps.Instances as steps

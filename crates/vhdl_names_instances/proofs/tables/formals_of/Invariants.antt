@@ -1,6 +1,6 @@
 use Rattle.std.proofs.Common.{◌≡◌, drop}
 use Rattle.std.specs.Prelude.{option_map}
-use Rattle.vhdl_names_types.specs.Views.{region_view}
+use Rattle.vhdl_names_sight.specs.Views.{region_view}
 use Rattle.vhdl_names_units.specs.Lists.{in_turn}
 use Rattle.vhdl_names_instances.specs.Table.{seen_view}
 use Rattle.vhdl_names_instances.specs.steps.Tables as steps

@@ -1,6 +1,6 @@
 use Rattle.vhdl_tree.specs.View as tree
 use Rattle.vhdl_names_units.specs.views.Concurrent.{one_process}
-use Rattle.vhdl_names_types.proofs.Along.{gives_along}
+use Rattle.vhdl_names_sight.proofs.Along.{gives_along}
 use Rattle.vhdl_names_statements.proofs.steps.Concurrent.{selected_gives}
 use Rattle.vhdl_names_statements.proofs.assignments.selected.Goals as goal
 

@@ -4,7 +4,7 @@ use Rattle.vhdl_names_rules.specs.declared.fault.NameFault.TheVariants.{NoMemory
 use Rattle.vhdl_names_rules.specs.Rules.{each}
 use Rattle.vhdl_names_rules.specs.Gives.{Gives}
 use Rattle.vhdl_names_rules.specs.Choices as are
-use Rattle.vhdl_names_types.proofs.Along.{gives_along}
+use Rattle.vhdl_names_sight.proofs.Along.{gives_along}
 use Rattle.vhdl_names_units.specs.views.Sequential as views
 use Rattle.vhdl_names_rules.specs.problems.Broken.{Tells, nothing, any_of}
 use Rattle.vhdl_names_rules.specs.problems.Covered.{covered}

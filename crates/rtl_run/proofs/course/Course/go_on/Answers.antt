@@ -3,7 +3,7 @@ use Rattle.std.specs.Prelude.{slice_index}
 use Rattle.rtl_net.specs.Nets.{NetlistView}
 use Rattle.rtl_net_groups.specs.Touching.{Chunks, IsLeft}
 use Rattle.rtl_vcd.specs.Trace.{moment_text}
-use Rattle.rtl_sink.specs.Written.{Goes}
+use Rattle.byte_streams.specs.Written.{Goes}
 use Rattle.rtl_run.specs.simulations.Engines.{course_of}
 use Rattle.rtl_run.specs.simulations.Running.{GoesOn}
 use Rattle.rtl_run.proofs.Results.{err_with}

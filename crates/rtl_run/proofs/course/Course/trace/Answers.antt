@@ -5,7 +5,7 @@ use Rattle.rtl_stim_lines.specs.Filling.{Waits}
 use Rattle.rtl_stim.specs.Moments.{GivesNext}
 use Rattle.rtl_stim.specs.Stimuli.{moments}
 use Rattle.rtl_stim.proofs.Next.{each_begins_at_zero}
-use Rattle.rtl_sink.specs.Written.{Goes}
+use Rattle.byte_streams.specs.Written.{Goes}
 use Rattle.rtl_vcd.specs.Trace.{end_text}
 use Rattle.rtl_run.specs.declared.summary.RunFault.TheVariants.{Memory, Output}
 use Rattle.rtl_run.specs.simulations.Answered.{LeavesBeginning}

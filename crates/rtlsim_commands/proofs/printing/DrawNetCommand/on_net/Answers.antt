@@ -1,6 +1,6 @@
 use Rattle.rtlsim_commands.proofs.Listed.{checks_fault}
 use Rattle.rtlsim_commands.proofs.printing.DrawNetCommand.on_net.Goals as goal
-use Rattle.rtlsim_faults.specs.Explanations.{with_explanation}
+use Rattle.rtlsim_command_faults.specs.Explanations.{with_explanation}
 use Rattle.rtlsim_listing.specs.DotText.{dot_text}
 
 pub returns-clause-faults : goal.returns-clause-faults

@@ -1,5 +1,5 @@
 use Rattle.std.proofs.Common.{Ok, Err, refl, ap}
-use Rattle.rtlsim_faults.specs.declared.faults.Fault.{Fault}
+use Rattle.rtlsim_command_faults.specs.declared.faults.Fault.{Fault}
 use Rattle.rtlsim_commands.specs.Sights.{nothing, IsOfNet}
 use Rattle.rtlsim_commands.proofs.Runs.{as_machine}
 use Rattle.rtlsim_commands.proofs.printing.EvalNetCommand.on_net.Goals as goal

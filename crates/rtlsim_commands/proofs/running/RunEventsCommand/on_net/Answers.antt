@@ -1,7 +1,7 @@
 use Rattle.std.proofs.Common.{map, ap, inr, refl, ◌∙◌}
 use Rattle.rtl_run.specs.declared.summary.Summary.{Summary}
 use Rattle.rtl_run.proofs.Codes.{run_of, codes_run}
-use Rattle.rtlsim_faults.specs.declared.faults.Fault.TheVariants.{Memory}
+use Rattle.rtlsim_command_faults.specs.declared.faults.Fault.TheVariants.{Memory}
 use Rattle.rtlsim_commands.specs.Simulated.{RunsEvents}
 use Rattle.rtlsim_commands.proofs.Runs.{began, failed_run, refused, refused_fault, refused_part, run_fault, unread, unread_fault, unread_part}
 use Rattle.rtlsim_commands.proofs.Sights.{fault_by}

@@ -1,6 +1,6 @@
 use Rattle.std.proofs.Common.{Ok, Err, refl, ap}
 use Rattle.rtl_run.specs.declared.summary.Summary.{Summary}
-use Rattle.rtlsim_faults.specs.declared.faults.Fault.{Fault}
+use Rattle.rtlsim_command_faults.specs.declared.faults.Fault.{Fault}
 use Rattle.rtlsim_commands.specs.Sights.{machine, IsOfNet}
 use Rattle.rtlsim_commands.proofs.Runs.{as_machine}
 use Rattle.rtlsim_commands.proofs.Watched.{machine_part}

@@ -1,6 +1,6 @@
 use Rattle.std.proofs.Common.{arith, ◌+◌, ◌^◌, ◌<◌, length, take, sym, subst}
 use Rattle.std.proofs.lemmas.List.{length-map}
-use Rattle.vhdl_names_types.specs.Views.{region_view, entry_view}
+use Rattle.vhdl_names_sight.specs.Views.{region_view, entry_view}
 use Rattle.vhdl_names_declarations.specs.Counts.{AreCounts}
 use Rattle.vhdl_names_declarations.proofs.Counting.{counted_more, small_counts}
 use Rattle.vhdl_names_declarations.proofs.counts.Counts.of.Goals as goal

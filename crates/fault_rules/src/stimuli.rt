@@ -1,0 +1,47 @@
+//! The rules on stimuli.
+
+ghost use Rattle.fault_rules.specs.Rules.{AreWords, stimuli_words};
+
+use crate::words::{Words, rule};
+
+/// The rules on stimuli.
+#[derive(Clone, Copy)]
+pub enum StimRule {
+    BadLine,
+    NotAnInput,
+    BadValue,
+    SetTwice,
+    ClockAndSet,
+    NoStop,
+    TimeTooLarge,
+    Race,
+}
+
+/// What is said of each, in their order.
+static STIMULI: [Words<&str>; 8] = [
+    rule! { stim 1 BadLine: "the line isn't understood"
+        => "write at TIME NAME VALUE, clock NAME FIRST HALF or, once, stop TIME, all in small letters; # begins a line of comment" },
+    rule! { stim 2 NotAnInput: "the name is no in port of the top"
+        => "see the spelling of the port; only in ports of the top are set" },
+    rule! { stim 3 BadValue: "the value doesn't fit the input"
+        => "write for each element one of U X 0 1 Z W L H -, the leftmost first; a clock has one element" },
+    rule! { stim 4 SetTwice: "the input is set a second time at this time, or has a second clock"
+        => "drop one of the two" },
+    rule! { stim 5 ClockAndSet: "the input is a clock, and is set too"
+        => "drop the clock, or what sets the input" },
+    rule! { stim 6 NoStop: "no line says when the run stops"
+        => "add a line as stop 1000, with the last time in ns" },
+    rule! { stim 7 TimeTooLarge: "the time is above 1000000000000000 ns"
+        => "write a time in whole nanoseconds up to that" },
+    rule! { stim 8 Race: "at " TIME " ns the input " INPUT " changes at an edge of the clock " CLOCK
+        => "let the input change at another time than the clock's edge, as real data does: at that edge the order would count" },
+];
+
+impl StimRule {
+    /// What is said of it.
+    pub fn words(self) -> &'static Words<&'static str>
+        ensures { AreWords (stimuli_words self) result.now }
+    {
+        &STIMULI[self as usize]
+    }
+}

@@ -1,0 +1,192 @@
+//! Ifs of a body, and the edges among their conditions.
+
+ghost use Rattle.std.specs.Prelude.{◌≡◌, ◌&&◌, IfOk};
+ghost use Rattle.std.specs.List.{list_any};
+ghost use Rattle.rtl_mixed_reasons.specs.Edges as edges;
+ghost use Rattle.rtl_mixed_reasons.specs.Reasons as spec;
+
+use crate::edges::{EdgeTest, edge_of, is_gated};
+use crate::nets::{first_common, nets_in};
+use crate::reason::{Reason, ReasonKind};
+use rtl_net::{Branch, Process, Statement};
+use std::alloc::{AllocError, Global};
+use vhdl_values::Edge;
+
+/// An if of a body with an edge among its conditions.
+#[derive(Clone, Copy)]
+pub(crate) struct EdgeIf {
+    /// Its number among the statements.
+    pub(crate) number: usize,
+    /// The byte at which it starts.
+    pub(crate) at: u32,
+    /// How many conditions stand before the edge.
+    pub(crate) before: usize,
+    pub(crate) edge: EdgeTest,
+}
+
+/// The first edge among the conditions of an if.
+fn edge_in(number: usize, at: u32, branches: &[Branch]) -> Option<EdgeIf>
+    ensures { result ≡ spec.edge_in number at 0 (spec.tests_of branches.now) }
+{
+    for before in 0..branches.len() {
+        if let Some(edge) = edge_of(&branches[before].test) {
+            return Some(EdgeIf {
+                number,
+                at,
+                before,
+                edge,
+            });
+        }
+    }
+    None
+}
+
+/// The statement of this number, if it is an if with an edge.
+fn edge_if(number: usize, statement: &Statement) -> Option<EdgeIf>
+    ensures { result ≡ spec.edge_if number statement.now }
+{
+    match statement {
+        Statement::If { at, branches, .. } => edge_in(number, *at, branches),
+        _ => None,
+    }
+}
+
+/// The first if with an edge.
+pub(crate) fn first_edge(statements: &[Statement]) -> Option<EdgeIf>
+    ensures { result ≡ spec.first_edge 0 statements.now }
+{
+    for number in 0..statements.len() {
+        if let Some(found) = edge_if(number, &statements[number]) {
+            return Some(found);
+        }
+    }
+    None
+}
+
+/// Whether both are the same edge of one net.
+fn is_same_edge(left: EdgeTest, right: EdgeTest) -> bool
+    ensures { result ≡ spec.same_edge left right }
+{
+    left.clock == right.clock && is_same_kind(left.edge, right.edge)
+}
+
+/// Whether both are the same edge.
+fn is_same_kind(left: Edge, right: Edge) -> bool
+    ensures { result ≡ spec.same_kind left right }
+{
+    match (left, right) {
+        (Edge::Rising, Edge::Rising) => true,
+        (Edge::Falling, Edge::Falling) => true,
+        (Edge::To1, Edge::To1) => true,
+        (Edge::To0, Edge::To0) => true,
+        _ => false,
+    }
+}
+
+/// The first net that a process assigns in both of two statements.
+fn common_net(
+    alloc: Global,
+    process: &Process,
+    first: &Statement,
+    second: &Statement,
+) -> Result<Option<usize>, AllocError>
+    ensures { IfOk result (λ net. net ≡ spec.first_net process.now
+        (λ n. spec.assigns_in process.now first.now n && spec.assigns_in process.now second.now n)) }
+{
+    let these = nets_in(alloc, process, first)?;
+    let those = nets_in(alloc, process, second)?;
+    Ok(first_common(process, &these, &those))
+}
+
+/// What is told of another edge, and of a net that both ifs assign.
+fn other_edge(at: u32, net: Option<usize>) -> Reason
+    ensures { result ≡ spec.other_edge at net }
+{
+    match net {
+        Some(net) => Reason::naming(ReasonKind::OtherEdgeToo, at, net),
+        None => Reason::plain(ReasonKind::OtherEdge, at),
+    }
+}
+
+/// What is told of a statement behind the if with the edge, if it is one too.
+fn second_if(
+    alloc: Global,
+    process: &Process,
+    first: &Statement,
+    found: EdgeIf,
+    statement: &Statement,
+) -> Result<Option<Reason>, AllocError>
+    ensures { IfOk result (λ reason. reason ≡ spec.second_if process.now first.now found statement.now) }
+{
+    let Some(second) = edge_if(0, statement) else {
+        return Ok(None);
+    };
+    let at = second.at;
+    if !is_same_edge(found.edge, second.edge) {
+        let net = common_net(alloc, process, first, statement)?;
+        return Ok(Some(other_edge(at, net)));
+    }
+    if found.at == at {
+        return Ok(Some(Reason::plain(ReasonKind::EdgeInLoop, at)));
+    }
+    Ok(Some(Reason::plain(ReasonKind::SecondEdge, at)))
+}
+
+/// What is told of the first such statement.
+pub(crate) fn second_edge(
+    alloc: Global,
+    process: &Process,
+    first: &Statement,
+    found: EdgeIf,
+    statements: &[Statement],
+) -> Result<Option<Reason>, AllocError>
+    ensures { IfOk result (λ reason. reason
+        ≡ spec.first_in (spec.second_if process.now first.now found) statements.now) }
+{
+    for statement in statements {
+        let reason = second_if(alloc, process, first, found, statement)?;
+        if reason.is_some() {
+            return Ok(reason);
+        }
+    }
+    Ok(None)
+}
+
+/// Whether a condition has an edge and more.
+fn has_gated(branches: &[Branch]) -> bool
+    ensures { result ≡ list_any edges.is_gated (spec.tests_of branches.now) }
+{
+    for branch in branches {
+        if is_gated(&branch.test) {
+            return true;
+        }
+    }
+    false
+}
+
+/// What is told of an if with such a condition.
+fn gated_if(statement: &Statement) -> Option<Reason>
+    ensures { result ≡ spec.gated_edge statement.now }
+{
+    match statement {
+        Statement::If { at, branches, .. } => {
+            if has_gated(branches) {
+                return Some(Reason::plain(ReasonKind::GatedEdge, *at));
+            }
+            None
+        }
+        _ => None,
+    }
+}
+
+/// What is told of the first such if.
+pub(crate) fn gated_edge(statements: &[Statement]) -> Option<Reason>
+    ensures { result ≡ spec.first_in spec.gated_edge statements.now }
+{
+    for statement in statements {
+        if let Some(reason) = gated_if(statement) {
+            return Some(reason);
+        }
+    }
+    None
+}

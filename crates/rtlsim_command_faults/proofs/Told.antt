@@ -1,0 +1,185 @@
+-- What is told of a fault.
+use Rattle.std.proofs.Common.{◌≡◌, ℕ, Bool, true, false, List, [], ◌++◌, Option, Some, None, inl, inr, length, Result, Ok, Err, refl, ap, sym, ◌∙◌, subst, append-nil, true≢false}
+use Rattle.std.specs.Prelude.{IfErr, IsErrAnd, if◌then◌else◌}
+use Rattle.rtl_net.specs.Nets.{NetlistView}
+use Rattle.fault_rules.specs.declared.report.Report.{Report}
+use Rattle.byte_streams.proofs.Writing.{Goes-append}
+use Rattle.rtl_stim_lines.specs.declared.faults.StimFault.{StimFault}
+use Rattle.rtl_stim_lines.specs.declared.faults.StimFault.TheVariants as stim
+use Rattle.rtlsim_refusals.specs.Stimuli.{is_race}
+use Rattle.rtlsim_command_faults.specs.Explanations.{IsRead, Source, explanation, files_of, is_read, source_report, source_said, told, unread}
+use Rattle.rtlsim_command_faults.specs.Faults.{has_names, is_of_names, status_of, takes_memory}
+use Rattle.rtlsim_command_faults.specs.Lines.{fault_lines, memory_line, stim_line, told_line}
+use Rattle.rtlsim_command_faults.specs.Reports.{stim_report}
+use Rattle.rtlsim_command_faults.specs.Told.{Explains, ExplainsRead, TellsFault}
+use Rattle.rtlsim_command_faults.specs.declared.faults.Fault.{Fault}
+use Rattle.rtlsim_command_faults.specs.declared.faults.Fault.TheVariants as f
+use Rattle.rtlsim_command_faults.specs.declared.status.Status.{Status}
+use Rattle.rtlsim_command_faults.specs.declared.status.Status.TheVariants as status
+use Rattle.rtlsim_command_faults.specs.declared.telling.Telling.{Telling}
+use Rattle.std.proofs.Math.Seq.{take-length}
+use Rattle.vhdl_source_files.specs.Files.{FileView}
+use Rattle.rtlsim_listing.specs.Printing.{IsListed}
+use Rattle.rtlsim_listing.specs.declared.fault.ListingFault.{ListingFault}
+use Rattle.rtlsim_listing.specs.declared.fault.ListingFault.TheVariants as listing
+use Rattle.vhdl_expand_rules.specs.declared.fault.ElabFault.{ElabFault}
+use Rattle.vhdl_lexer.specs.declared.fault.LexFault.{LexFault}
+use Rattle.vhdl_names_rules.specs.declared.fault.NameFault.{NameFault}
+use Rattle.vhdl_parser.specs.declared.fault.SyntaxFault.{SyntaxFault}
+use Rattle.byte_streams.specs.Written.{SinkState, IsIntact, HasFailed, TakesAll, TakesBeginning, Goes}
+
+-- the whole text, to a sink that was intact
+pub goes_whole : (old new : SinkState) (text : List ℕ) → IsIntact old → TakesAll old new text → Goes old new text
+goes_whole old new text intact all = record {
+  whole = λ ok. (intact, all);
+  beginning = λ ok. (length text, rw (take-length text) all);
+  nothing = λ failed. absurd (true≢false (sym failed ∙ intact));
+}
+
+-- a text that is the same
+pub goes_along : (old new : SinkState) (x y : List ℕ) → x ≡ y → Goes old new x → Goes old new y
+goes_along old new x y e h = subst (λ (t : List ℕ). Goes old new t) e h
+
+-- a listing that a sink ended
+pub listed_failed : (result : Result (Unit {0}) ListingFault) (old new : SinkState) (text : List ℕ) → IsErrAnd result (λ f. f ≡ listing.Write) → HasFailed new → TakesBeginning old new text
+    → IsListed result old new text
+listed_failed (Ok x) old new text h failed part = absurd h
+listed_failed (Err f) old new text h failed part = rw h (failed, part)
+
+-- ---- faults whose source isn't read, and those whose source is
+
+pub not_read : (fault : Fault) → is_of_names fault ≡ true → is_read fault ≡ false
+not_read (f.Lex x) names = refl
+not_read (f.Syntax x) names = cc
+not_read (f.Name x) names = cc
+not_read (f.Elab x) names = cc
+not_read (f.Rejected x) names = refl
+not_read (f.Stim x) names = refl
+not_read (f.Expect x) names = refl
+not_read (f.Differs x) names = refl
+not_read (f.NoSettling x) names = refl
+not_read f.Memory names = refl
+not_read f.Output names = refl
+
+pub explains_plain : (telling : Telling) (fault : Fault) (whole : Bool) (old new : SinkState) → is_read fault ≡ false → whole ≡ true
+    → ((net : NetlistView) → Goes old new (explanation telling unread net fault)) → Explains telling fault whole old new
+explains_plain telling fault true old new plain all goes = (unread, (λ read. absurd (true≢false (sym read ∙ plain))), goes)
+explains_plain telling fault false old new plain all goes = absurd (true≢false (sym all))
+
+pub explains_read : (telling : Telling) (fault : Fault) (report : Option Report) (whole : Bool) (old new : SinkState) → is_read fault ≡ true
+    → report ≡ source_report fault → ((read : Source) (net : NetlistView) → source_said (files_of telling) read report ≡ explanation telling read net fault)
+    → ExplainsRead (files_of telling) report whole old new → Explains telling fault whole old new
+explains_read telling fault report true old new reads is same h =
+    (h.0, (λ _. subst (λ (r : Option Report). IsRead (files_of telling) r h.0) is h.1), λ net. goes_along old new _ _ (same h.0 net) h.2)
+explains_read telling fault report false old new reads is same h = (reads, h)
+
+-- of a fault that is none of these nothing is said
+pub explains_none : (telling : Telling) (fault : Fault) (old new : SinkState) → is_of_names fault ≡ false → ((x : LexFault) → fault ≡ f.Lex x → ⊥)
+    → ((x : SyntaxFault) → fault ≡ f.Syntax x → ⊥) → ((x : NameFault) → fault ≡ f.Name x → ⊥) → ((x : ElabFault) → fault ≡ f.Elab x → ⊥)
+    → ((time : ℕ) → fault ≡ f.NoSettling time → ⊥) → Goes old new [] → Explains telling fault true old new
+explains_none telling (f.Lex x) old new names lex syntax name elab time goes = absurd (lex x refl)
+explains_none telling (f.Syntax x) old new names lex syntax name elab time goes = absurd (syntax x refl)
+explains_none telling (f.Name x) old new names lex syntax name elab time goes = absurd (name x refl)
+explains_none telling (f.Elab x) old new names lex syntax name elab time goes = absurd (elab x refl)
+explains_none telling (f.NoSettling t) old new names lex syntax name elab time goes = absurd (time t refl)
+explains_none telling (f.Rejected x) old new names lex syntax name elab time goes = absurd (true≢false names)
+explains_none telling (f.Stim x) old new names lex syntax name elab time goes = absurd (true≢false names)
+explains_none telling (f.Differs x) old new names lex syntax name elab time goes = absurd (true≢false names)
+explains_none telling (f.Expect x) old new names lex syntax name elab time goes = explains_plain telling (f.Expect x) true old new refl refl (λ net. goes)
+explains_none telling f.Memory old new names lex syntax name elab time goes = explains_plain telling f.Memory true old new refl refl (λ net. goes)
+explains_none telling f.Output old new names lex syntax name elab time goes = explains_plain telling f.Output true old new refl refl (λ net. goes)
+
+-- ---- a race takes memory for its names
+
+abbrev pub tells_race : Option Report → Bool
+tells_race None = false
+tells_race (Some report) = is_race report
+
+pub named_by : (fault : StimFault) → tells_race (stim_report fault) ≡ true → takes_memory (f.Stim fault) ≡ true
+named_by (stim.InLine problem line) race = absurd (true≢false (sym race))
+named_by stim.NoStop race = absurd (true≢false (sym race))
+named_by (stim.Race time input clock) race = refl
+named_by stim.NoMemory race = absurd (true≢false (sym race))
+
+pub named_along : {T : Type 0} (r : Result T ListingFault) (P Q : Type 0) → (P → Q) → IfErr r (λ e. e ≡ listing.Memory → P) → IfErr r (λ e. e ≡ listing.Memory → Q)
+named_along (Ok x) P Q so h = tt
+named_along (Err e) P Q so h = λ is. so (h is)
+
+-- a fault of a stimulus without names
+pub nameless_stim : (files : List FileView) (net : NetlistView) (fault : StimFault) → has_names (f.Stim fault) ≡ false
+    → told_line files (stim_report fault) ≡ stim_line files net fault
+nameless_stim files net (stim.InLine problem line) quiet = refl
+nameless_stim files net stim.NoStop quiet = refl
+nameless_stim files net (stim.Race time input clock) named = absurd (true≢false named)
+nameless_stim files net stim.NoMemory quiet = refl
+
+-- ---- what is told of a fault
+
+module _ (telling : Telling) (net : NetlistView) (fault : Fault) (old between new : SinkState) where
+  below : (read : Source) → (b : Bool) → telling.explains ≡ b
+      → fault_lines (files_of telling) net fault ++ (if b then explanation telling read net fault else []) ≡ told telling read net fault
+  below read b is = ap (λ (b : Bool). fault_lines (files_of telling) net fault ++ (if b then explanation telling read net fault else [])) (sym is)
+
+  -- no explanation is asked for
+  pub told_alone : telling.explains ≡ false → Goes old new (fault_lines (files_of telling) net fault) → (outcome : Status) → outcome ≡ status_of fault
+      → TellsFault telling net fault old new outcome
+  told_alone quiet lines outcome is = inl (
+    record {
+      read = unread;
+      is = λ asked read. absurd (true≢false (sym asked ∙ quiet));
+      goes = goes_along old new _ _ (sym (append-nil (fault_lines (files_of telling) net fault)) ∙ below unread false quiet) lines;
+    },
+    is,
+  )
+
+  -- it stands below the lines
+  pub told_below : telling.explains ≡ true → Goes old between (fault_lines (files_of telling) net fault) → (whole : Bool) → whole ≡ true
+      → Explains telling fault whole between new → (outcome : Status) → outcome ≡ status_of fault → TellsFault telling net fault old new outcome
+  told_below asked lines true all explains outcome is = inl (
+    record {
+      read = explains.0;
+      is = λ _ reads. explains.1 reads;
+      goes = goes_along old new _ _ (below explains.0 true asked) (Goes-append old between new _ _ lines (explains.2 net));
+    },
+    is,
+  )
+  told_below asked lines false all explains outcome is = absurd (true≢false (sym all))
+
+  -- memory to read the source is refused
+  pub told_unread : telling.explains ≡ true → (lines_end : SinkState) → Goes old lines_end (fault_lines (files_of telling) net fault) → (whole : Bool) → whole ≡ false
+      → Explains telling fault whole lines_end between → Goes between new memory_line → (outcome : Status) → outcome ≡ status.Memory
+      → TellsFault telling net fault old new outcome
+  told_unread asked lines_end lines true none explains memory outcome is = absurd (true≢false none)
+  told_unread asked lines_end lines false none explains memory outcome is = inr (
+    inr (record {
+      asked = asked;
+      source = explains.0;
+      goes = Goes-append old lines_end new _ _ lines (subst (λ (s : SinkState). Goes s new memory_line) explains.1 memory);
+    }),
+    is,
+  )
+
+-- ---- faults that may have names
+
+-- a sink that failed on the way took a beginning
+pub goes_failed : (old new : SinkState) (text : List ℕ) → IsIntact old → HasFailed new → TakesBeginning old new text → Goes old new text
+goes_failed old new text intact failed part = record {
+  whole = λ ok. absurd (true≢false (sym failed ∙ ok));
+  beginning = λ _. part;
+  nothing = λ fails. absurd (true≢false (sym fails ∙ intact));
+}
+
+module _ (telling : Telling) (net : NetlistView) (fault : Fault) (old between new : SinkState) (outcome : Status) where
+  pub named_whole : is_of_names fault ≡ true → Goes old new (told telling unread net fault) → outcome ≡ status_of fault → TellsFault telling net fault old new outcome
+  named_whole names goes is = inl (
+    record {
+      read = unread;
+      is = λ asked read. absurd (true≢false (sym read ∙ not_read fault names));
+      goes = goes;
+    },
+    is,
+  )
+
+  pub named_part : takes_memory fault ≡ true → TakesBeginning old between (told telling unread net fault) → Goes between new memory_line → outcome ≡ status.Memory
+      → TellsFault telling net fault old new outcome
+  named_part named part memory is = inr (inl (record { named = named; between = between; part = part; memory = memory }), is)

@@ -1,0 +1,94 @@
+-- What is told below the lines of a fault: an explanation, where one is asked for.
+use Rattle.std.specs.Prelude.{◌≡◌, ℕ, Bool, true, false, if◌then◌else◌, List, [], ◌++◌, Option, Some, None, map, option_map}
+use Rattle.rtl_check.specs.declared.checking.Verdict.{Verdict}
+use Rattle.rtl_check.specs.declared.checking.Verdict.TheVariants as verdict
+use Rattle.rtl_net.specs.Nets.{NetlistView}
+use Rattle.fault_rules.specs.declared.report.Report.{Report}
+use Rattle.rtlsim_command_faults.specs.Expecting.{IsExpectedBy}
+use Rattle.rtlsim_command_faults.specs.Lines.{fault_lines}
+use Rattle.rtlsim_command_faults.specs.Reports.{lex_report, syntax_report, name_report, elab_report, stim_report}
+use Rattle.rtlsim_command_faults.specs.declared.faults.Fault.{Fault}
+use Rattle.rtlsim_command_faults.specs.declared.faults.Fault.TheVariants.{Lex, Syntax, Name, Elab, Rejected, Stim, Expect, Differs, NoSettling, Memory, Output}
+use Rattle.rtlsim_command_faults.specs.declared.telling.Telling.{Telling}
+use Rattle.rtlsim_refusals.specs.Explained.{refusal_explained, source_explained}
+use Rattle.rtlsim_refusals.specs.Stimuli.{stim_explained, settle_explained}
+use Rattle.vhdl_slips.specs.Words.{Read}
+use Rattle.rtlsim_findings_text.specs.Explained.{rejection_explained}
+use Rattle.vhdl_source_files.specs.Files.{FileView, file_view, joined, source_name}
+use Rattle.vhdl_expected.specs.Told.{Expected, nothing}
+use Rattle.vhdl_lexer.specs.Cut.{Cuts}
+
+abbrev pub files_of : Telling → List FileView
+files_of telling = map file_view telling.files.now
+
+-- ---- a fault of the source
+
+-- a source with its tokens, and what was expected at the one that the parser refuses
+pub record Source : Type 0 where
+  pub read : Read
+  pub expected : Expected
+
+-- the source of these files, which has this report
+abbrev pub IsRead : List FileView → Option Report → Source → Type 0
+IsRead files report source =
+    (source.read.text ≡ joined files) × Cuts None 0 source.read.text source.read.tokens × IsExpectedBy source.read report source.expected
+
+-- a source that isn't read
+abbrev pub unread : Source
+unread = record { read = record { text = []; tokens = [] }; expected = nothing }
+
+-- what is said of a report, if there is one
+abbrev pub reported : (said : Report → List ℕ) → Option Report → List ℕ
+reported said None = []
+reported said (Some report) = said report
+
+abbrev pub refusal_said : List FileView → Option Report → List ℕ
+refusal_said files report = reported (refusal_explained files) report
+
+abbrev pub source_said : List FileView → Source → Option Report → List ℕ
+source_said files source report = reported (source_explained files source.read source.expected) report
+
+-- ---- each fault
+
+-- `read`: the source, of a fault of grammar, of names or of elaboration
+abbrev pub explanation : Telling → (read : Source) → NetlistView → Fault → List ℕ
+explanation telling read net (Lex fault) = refusal_said (files_of telling) (lex_report fault)
+explanation telling read net (Syntax fault) = source_said (files_of telling) read (syntax_report fault)
+explanation telling read net (Name fault) = source_said (files_of telling) read (name_report fault)
+explanation telling read net (Elab fault) = source_said (files_of telling) read (elab_report fault)
+explanation telling read net (Rejected faults) = rejection_explained (files_of telling) net faults.items
+explanation telling read net (Stim fault) =
+    reported (stim_explained telling.stimulus.now (option_map (λ text. text.now) telling.stimulus_text) net) (stim_report fault)
+explanation telling read net (NoSettling time) = settle_explained (source_name (files_of telling)) time
+explanation telling read net (Expect fault) = []
+explanation telling read net (Differs difference) = []
+explanation telling read net Memory = []
+explanation telling read net Output = []
+
+-- the source is read for its explanation
+abbrev pub is_read : Fault → Bool
+is_read (Syntax fault) = true
+is_read (Name fault) = true
+is_read (Elab fault) = true
+is_read _ = false
+
+-- what such a fault reports
+abbrev pub source_report : Fault → Option Report
+source_report (Syntax fault) = syntax_report fault
+source_report (Name fault) = name_report fault
+source_report (Elab fault) = elab_report fault
+source_report _ = None
+
+-- what is told of a fault: its lines, and below them its explanation where that is asked for
+abbrev pub told : Telling → (read : Source) → NetlistView → Fault → List ℕ
+told telling read net fault = fault_lines (files_of telling) net fault ++ (if telling.explains then explanation telling read net fault else [])
+
+-- ---- verdicts
+
+abbrev pub verdict_explained : Telling → NetlistView → Verdict → List ℕ
+verdict_explained telling net (verdict.Yes report) = []
+verdict_explained telling net (verdict.No faults) = rejection_explained (files_of telling) net faults.items
+
+-- a verdict's text, and below it the explanation of its faults where that is asked for
+abbrev pub with_explanation : (text_of : NetlistView → Verdict → List ℕ) → Telling → NetlistView → Verdict → List ℕ
+with_explanation text_of telling net v = text_of net v ++ (if telling.explains then verdict_explained telling net v else [])

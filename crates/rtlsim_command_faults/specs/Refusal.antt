@@ -1,0 +1,53 @@
+-- What is told of the faults of a source that is refused, as an object.
+use Rattle.std.specs.Prelude.{◌≡◌, ◌≢◌, ℕ, List, ◌∷◌, Option, Some, None}
+use Rattle.fault_rules.specs.declared.report.Report.{Report}
+use Rattle.byte_streams.specs.Written.{SinkState, Goes}
+use Rattle.rtlsim_refusals.specs.Explained.{Told, told_of_refusal}
+use Rattle.vhdl_slips.specs.Words.{with_tokens}
+use Rattle.rtlsim_command_faults.specs.Faults.{of_source}
+use Rattle.rtlsim_command_faults.specs.Behind.{Behind}
+use Rattle.rtlsim_command_faults.specs.Expecting.{IsExpectedBy}
+use Rattle.rtlsim_command_faults.specs.Further.{Found, told_by, told_of}
+use Rattle.rtlsim_command_faults.specs.Reports.{lex_report, syntax_report, name_report, elab_report}
+use Rattle.rtlsim_command_faults.specs.declared.faults.Fault.{Fault}
+use Rattle.rtlsim_command_faults.specs.declared.faults.Fault.TheVariants.{Lex, Syntax, Name, Elab}
+use Rattle.rtlsim_command_faults.specs.declared.search.End.TheVariants as end
+use Rattle.vhdl_source_files.specs.Files.{FileView}
+use Rattle.rtlsim_findings_text.specs.Refusals.{refused_text}
+use Rattle.vhdl_expected.specs.Told.{Expected}
+use Rattle.vhdl_lexer.specs.Cut.{Cuts}
+use Rattle.vhdl_lexer.specs.declared.token.Token.{Token}
+use Rattle.vhdl_front_rules.specs.declared.fault.SourceFault.{SourceFault}
+use Rattle.vhdl_front_rules.specs.declared.fault.SourceFault.TheVariants as refused
+
+-- this is told of a report on a source that has tokens
+abbrev pub TellsRead : List FileView → (source : List ℕ) → Option Report → Option Told → Type 0
+TellsRead files source report told =
+    (tokens : List Token) × (expected : Expected) × Cuts None 0 source tokens × IsExpectedBy (with_tokens source tokens) report expected
+    × (told ≡ told_of files (with_tokens source tokens) expected report)
+
+-- this is told of the first fault; nothing of another one than a source's
+abbrev pub TellsFirst : List FileView → (source : List ℕ) → Fault → Option Told → Type 0
+TellsFirst files source (Lex fault) told = told ≡ told_by (told_of_refusal files) (lex_report fault)
+TellsFirst files source (Syntax fault) told = TellsRead files source (syntax_report fault) told
+TellsFirst files source (Name fault) told = TellsRead files source (name_report fault) told
+TellsFirst files source (Elab fault) told = TellsRead files source (elab_report fault) told
+TellsFirst files source fault told = told ≡ None
+
+-- this is told of the first fault and of those behind it, for which memory sufficed
+pub record AreTold (files : List FileView) (source top : List ℕ) (fault : Fault) (told : List Told) : Type 0 where
+  pub first : Told
+  pub is : TellsFirst files source fault (Some first)
+  pub found : Found
+  pub behind : Behind files source top fault found
+  pub whole : found.end ≢ end.NoMemory
+  pub are : told ≡ first ∷ found.told
+
+-- the object of all of them
+abbrev pub IsObject : List FileView → (source top : List ℕ) → Fault → (text : List ℕ) → Type 0
+IsObject files source top fault text = (told : List Told) × AreTold files source top fault told × (text ≡ refused_text told)
+
+-- it is written; of want of memory nothing is
+abbrev pub Describes : List FileView → (source top : List ℕ) → SourceFault → (old new : SinkState) → Type 0
+Describes files source top refused.NoMemory old new = new ≡ old
+Describes files source top fault old new = (text : List ℕ) × IsObject files source top (of_source fault) text × Goes old new text

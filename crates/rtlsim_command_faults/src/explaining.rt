@@ -1,0 +1,173 @@
+//! What stands below the lines of a fault.
+
+ghost use Rattle.std.specs.Prelude.{◌≡◌, [], if◌then◌else◌, false, true, IfErr, map};
+ghost use Rattle.byte_streams.specs.Written.{Goes, IsIntact};
+ghost use Rattle.vhdl_slips.specs.Words.{read_of};
+ghost use Rattle.rtlsim_command_faults.specs.Explanations as spec;
+ghost use Rattle.rtlsim_command_faults.specs.Faults.{is_of_names, takes_memory};
+ghost use Rattle.rtlsim_command_faults.specs.Told.{Explains, ExplainsRead};
+ghost use Rattle.vhdl_source_files.specs.Files.{file_view};
+ghost use Rattle.rtlsim_listing.specs.Printing.{IsListed};
+ghost use Rattle.vhdl_expected.specs.Told.{expected_of};
+ghost use Rattle.rtlsim_listing.specs.declared.fault.ListingFault.TheVariants.{Memory};
+
+use crate::expecting::expected_by;
+use crate::faults::Fault;
+use crate::reports::{elab_report, lex_report, name_report, stim_report, syntax_report};
+use crate::telling::Telling;
+use rtl_net::Net;
+use fault_rules::Report;
+use byte_streams::{Sink, finish, push_text};
+use rtl_stim::StimFault;
+use rtlsim_refusals::{Lexed, explain_refusal, explain_source, explain_stim, explain_unsettled};
+use vhdl_source_files::{SourceFile, joined, source_name};
+use rtlsim_listing::ListingFault;
+use rtlsim_findings_text::explain_rejection;
+use std::alloc::Global;
+use vhdl_expected::Expected;
+use vhdl_lexer::lex;
+
+/// Explains a fault of the checker or of a stimulus, where that is asked for.
+pub(crate) fn explain_fault<S: Sink>(
+    alloc: Global,
+    telling: &Telling<'_>,
+    net: &Net,
+    fault: &Fault,
+    sink: &mut S,
+) -> Result<(), ListingFault>
+    requires intact { IsIntact (S.state sink.old) }
+    requires names { is_of_names fault.now ≡ true }
+    ensures listed { IsListed result (S.state sink.old) (S.state sink.new)
+        (if telling.now.explains then spec.explanation telling.now spec.unread net.now fault.now else []) }
+    ensures named { IfErr result (λ e. e ≡ Memory → takes_memory fault.now ≡ true) }
+{
+    if telling.explains {
+        push_explanation(alloc, telling, net, fault, sink)
+    } else {
+        Ok(finish(sink)?)
+    }
+}
+
+/// Writes the explanation of a fault of the checker or of a stimulus.
+fn push_explanation<S: Sink>(
+    alloc: Global,
+    telling: &Telling<'_>,
+    net: &Net,
+    fault: &Fault,
+    sink: &mut S,
+) -> Result<(), ListingFault>
+    requires intact { IsIntact (S.state sink.old) }
+    requires names { is_of_names fault.now ≡ true }
+    ensures listed { IsListed result (S.state sink.old) (S.state sink.new)
+        (spec.explanation telling.now spec.unread net.now fault.now) }
+    ensures named { IfErr result (λ e. e ≡ Memory → takes_memory fault.now ≡ true) }
+{
+    match fault {
+        Fault::Rejected(faults) => explain_rejection(alloc, telling.files, net, faults, sink),
+        Fault::Stim(stim) => explain_stimulus(alloc, telling, net, *stim, sink),
+        _ => Ok(finish(sink)?),
+    }
+}
+
+/// Explains a fault of a stimulus.
+fn explain_stimulus<S: Sink>(
+    alloc: Global,
+    telling: &Telling<'_>,
+    net: &Net,
+    fault: StimFault,
+    sink: &mut S,
+) -> Result<(), ListingFault>
+    requires intact { IsIntact (S.state sink.old) }
+    ensures listed { IsListed result (S.state sink.old) (S.state sink.new)
+        (spec.explanation telling.now spec.unread net.now (Fault.Stim fault)) }
+    ensures named { IfErr result (λ e. e ≡ Memory → takes_memory (Fault.Stim fault) ≡ true) }
+{
+    let Some(report) = stim_report(fault) else {
+        return Ok(finish(sink)?);
+    };
+    let text = telling.stimulus_text;
+    explain_stim(alloc, telling.stimulus, text, net, report, sink)
+}
+
+/// Explains any other fault. One of grammar, of names or of elaboration takes the memory of the source and of its tokens. Answers whether
+/// memory sufficed; where it is refused, nothing is written.
+pub(crate) fn explain_nameless<S: Sink>(
+    alloc: Global,
+    telling: &Telling<'_>,
+    fault: &Fault,
+    sink: &mut S,
+) -> bool
+    requires { is_of_names fault.now ≡ false }
+    ensures { Explains telling.now fault.now result (S.state sink.old) (S.state sink.new) }
+{
+    let files = telling.files;
+    match fault {
+        Fault::Lex(told) => explain_tokens(files, lex_report(*told), sink),
+        Fault::Syntax(told) => explain_read(alloc, files, syntax_report(*told), sink),
+        Fault::Name(told) => explain_read(alloc, files, name_report(*told), sink),
+        Fault::Elab(told) => explain_read(alloc, files, elab_report(*told), sink),
+        Fault::NoSettling { time } => {
+            explain_unsettled(source_name(files), *time, sink);
+            true
+        }
+        _ => {
+            push_text(sink, b"");
+            true
+        }
+    }
+}
+
+/// Explains why a source has no tokens.
+fn explain_tokens<S: Sink>(files: &[SourceFile<'_>], report: Option<Report>, sink: &mut S) -> bool
+    ensures told { Goes (S.state sink.old) (S.state sink.new) (spec.refusal_said (map file_view files.now) report) }
+    ensures whole { result ≡ true }
+{
+    match report {
+        Some(report) => explain_refusal(files, report, sink),
+        None => push_text(sink, b""),
+    }
+    true
+}
+
+/// Reads the source once more, and explains which of its rules is broken.
+fn explain_read<S: Sink>(
+    alloc: Global,
+    files: &[SourceFile<'_>],
+    report: Option<Report>,
+    sink: &mut S,
+) -> bool
+    ensures { ExplainsRead (map file_view files.now) report result (S.state sink.old) (S.state sink.new) }
+{
+    let Ok(source) = joined(alloc, files) else {
+        return false;
+    };
+    let Ok(tokens) = lex(alloc, &source) else {
+        return false;
+    };
+    let Ok(expected) = expected_by(alloc, &source, &tokens, report) else {
+        return false;
+    };
+    let source = Lexed {
+        text: &source,
+        tokens: &tokens,
+    };
+    explain_report(files, source, expected, report, sink);
+    true
+}
+
+/// Explains which rule of a source is broken, by its text and tokens. Of want of memory nothing is said.
+fn explain_report<S: Sink>(
+    files: &[SourceFile<'_>],
+    source: Lexed<'_>,
+    expected: Expected,
+    report: Option<Report>,
+    sink: &mut S,
+)
+    ensures { Goes (S.state sink.old) (S.state sink.new) (spec.source_said (map file_view files.now)
+        (record { read = read_of source.entry; expected = expected_of expected }) report) }
+{
+    match report {
+        Some(report) => explain_source(files, source, expected, report, sink),
+        None => push_text(sink, b""),
+    }
+}

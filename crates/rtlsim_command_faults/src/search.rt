@@ -1,0 +1,187 @@
+//! The faults of a source behind its first, found.
+
+ghost use Rattle.std.specs.Prelude.{◌≡◌, ◌++◌, ◌==◌, if◌then◌else◌, IfOk, is_ok, map, option_map, option_to_list};
+ghost use Rattle.rtlsim_refusals.specs.Explained.{told_view};
+ghost use Rattle.vhdl_slips.specs.Words.{read_of};
+ghost use Rattle.rtlsim_command_faults.specs.Behind.{Behind};
+ghost use Rattle.rtlsim_command_faults.specs.Further as spec;
+ghost use Rattle.rtlsim_command_faults.specs.Next.{Adds, asked_of};
+ghost use Rattle.vhdl_source_files.specs.Files.{file_view};
+ghost use Rattle.vhdl_expected.specs.Told.{expected_of};
+ghost use Rattle.vhdl_lexer.specs.Cut.{Cuts};
+
+use crate::faults::Fault;
+use crate::next::{Next, next_fault};
+use crate::reports::name_report;
+use crate::syntax::find_grammar;
+use fault_rules::Report;
+use rtlsim_refusals::{Lexed, Told, told_source};
+use vhdl_source_files::SourceFile;
+use std::alloc::{AllocError, Global};
+use vhdl_expected::Expected;
+use vhdl_lexer::{Token, lex};
+use vhdl_names_further::is_known;
+use vhdl_names_rules::NameFault;
+use vhdl_front_rules::Front;
+
+/// The most faults that are told of a source, its first among them.
+pub(crate) const MOST_TOLD: u32 = 20;
+
+/// How many times a source is read once more at most.
+const MOST_STEPS: u32 = 100;
+
+/// How a search for faults ends.
+#[derive(Clone, Copy)]
+pub(crate) enum End {
+    /// There are no more.
+    Whole,
+    /// There are more than are told, or no more are looked for.
+    More,
+    /// Memory was refused.
+    NoMemory,
+}
+
+/// What faults are looked for in.
+#[derive(Clone, Copy)]
+pub(crate) struct Search<'s, 'f> {
+    pub files: &'s [SourceFile<'f>],
+    pub source: &'s [u8],
+    pub tokens: &'s [Token],
+    pub top: &'s [u8],
+}
+
+/// Finds the faults of a source behind its first, and appends what is told of them: behind one of grammar, or of names and types, the further ones.
+pub(crate) fn find_further<'f, F: Front>(
+    alloc: Global,
+    files: &[SourceFile<'f>],
+    source: &[u8],
+    top: &[u8],
+    first: &Fault,
+    told: &mut Vec<Told<'f>>,
+) -> End
+    ensures { Adds (Behind (map file_view files.now) source.now top.now first.now)
+        (map told_view told.old.items) (map told_view told.new.items) result }
+{
+    match first {
+        Fault::Syntax(first) => find_grammar(alloc, files, source, *first, told),
+        Fault::Name(first) => find_names::<F>(alloc, files, source, top, *first, told),
+        _ => End::Whole,
+    }
+}
+
+/// Finds the faults of names and types of a source behind its first.
+fn find_names<'f, F: Front>(
+    alloc: Global,
+    files: &[SourceFile<'f>],
+    source: &[u8],
+    top: &[u8],
+    first: NameFault,
+    told: &mut Vec<Told<'f>>,
+) -> End
+    ensures { Adds (spec.NamesBehind (map file_view files.now) source.now top.now first)
+        (map told_view told.old.items) (map told_view told.new.items) result }
+{
+    let Ok(tokens) = lex(alloc, source) else {
+        return End::NoMemory;
+    };
+    let Ok(left) = Vec::from_slice(alloc, source) else {
+        return End::NoMemory;
+    };
+    let search = Search {
+        files,
+        source,
+        tokens: &tokens,
+        top,
+    };
+    find_behind::<F>(alloc, &search, left, first, MOST_STEPS, MOST_TOLD - 1, told)
+}
+
+/// Finds the faults behind one of what is left of the source, in so many readings and so many of them at most.
+fn find_behind<'f, F: Front>(
+    alloc: Global,
+    search: &Search<'_, 'f>,
+    left: Vec<u8>,
+    fault: NameFault,
+    steps: u32,
+    more: u32,
+    told: &mut Vec<Told<'f>>,
+) -> End
+    requires { Cuts None 0 search.now.source.now search.now.tokens.now }
+    ensures { Adds (spec.Further (asked_of search.now) steps more left.items fault)
+        (map told_view told.old.items) (map told_view told.new.items) result }
+{
+    if is_none(steps) {
+        return End::More;
+    }
+    match next_fault::<F>(alloc, search.source, search.tokens, search.top, left, fault) {
+        Next::Found { left, fault } => {
+            if is_known(search.source, search.tokens, &left, fault) {
+                return find_behind::<F>(alloc, search, left, fault, steps - 1, more, told);
+            }
+            if is_none(more) {
+                return End::More;
+            }
+            let lexed = Lexed {
+                text: search.source,
+                tokens: search.tokens,
+            };
+            match push_report(
+                alloc,
+                search.files,
+                lexed,
+                Expected::Nothing,
+                name_report(fault),
+                told,
+            ) {
+                Ok(()) => {
+                    find_behind::<F>(alloc, search, left, fault, steps - 1, more - 1, told)
+                }
+                Err(_refused) => End::NoMemory,
+            }
+        }
+        Next::Nothing => End::Whole,
+        Next::NoMemory => End::NoMemory,
+    }
+}
+
+pub(crate) fn is_none(count: u32) -> bool
+    ensures { result ≡ (count == 0) }
+{
+    count == 0
+}
+
+/// Appends what is told of a report on a source that has these tokens.
+pub(crate) fn push_report<'f>(
+    alloc: Global,
+    files: &[SourceFile<'f>],
+    source: Lexed<'_>,
+    expected: Expected,
+    report: Option<Report>,
+    told: &mut Vec<Told<'f>>,
+) -> Result<(), AllocError>
+    ensures { map told_view told.new.items
+        ≡ (if is_ok result then map told_view told.old.items
+        ++ option_to_list (spec.told_of (map file_view files.now) (read_of source.entry) (expected_of expected) report) else map told_view told.old.items) }
+{
+    match told_of(alloc, files, source, expected, report)? {
+        Some(one) => Ok(told.push(one)?),
+        None => Ok(()),
+    }
+}
+
+/// What is told of a report on a source that has these tokens, if there is one.
+pub(crate) fn told_of<'f>(
+    alloc: Global,
+    files: &[SourceFile<'f>],
+    source: Lexed<'_>,
+    expected: Expected,
+    report: Option<Report>,
+) -> Result<Option<Told<'f>>, AllocError>
+    ensures { IfOk result (λ told. option_map told_view told
+        ≡ spec.told_of (map file_view files.now) (read_of source.entry) (expected_of expected) report) }
+{
+    match report {
+        Some(report) => told_source(alloc, files, source, expected, report),
+        None => Ok(None),
+    }
+}

@@ -1,0 +1,16 @@
+//! What faults are told with.
+
+use vhdl_source_files::SourceFile;
+
+/// The texts that a command was given, by which its faults are told, and how.
+#[derive(Clone, Copy)]
+pub struct Telling<'a> {
+    /// The files whose texts, joined, are the source.
+    pub files: &'a [SourceFile<'a>],
+    /// The name of the stimulus, or of what stands in its place.
+    pub stimulus: &'a [u8],
+    /// Its text, if it has one.
+    pub stimulus_text: Option<&'a [u8]>,
+    /// Whether an explanation stands below the line of a fault.
+    pub explains: bool,
+}

@@ -1,0 +1,81 @@
+//! Calls, and why words are refused.
+
+ghost use Rattle.std.specs.Prelude.{◌≡◌};
+ghost use Rattle.rtlsim_command_line.specs.declared.call.Refused.TheVariants.{NoMemory};
+
+use std::alloc::{AllocError, AllocFailed};
+
+/// In which order the resumed processes of a simulation cycle run.
+#[derive(Clone, Copy)]
+pub enum Order {
+    /// By their numbers.
+    Forward,
+    /// By their numbers, backwards.
+    Reverse,
+}
+
+/// What is asked for.
+#[derive(Clone, Copy)]
+pub enum Request {
+    /// Prints the outputs of a design under the inputs that are set.
+    Eval,
+    /// Prints the nets of a design and what drives each.
+    Net,
+    /// Says whether a design is sure to settle.
+    Check,
+    /// Draws the levels of a design that is sure to settle, or tells its faults.
+    Dot,
+    /// Says as an object of JSON whether a design is sure to settle.
+    Json,
+    /// Prints the trace of a design under a stimulus; with `is_event` by events alone, without the checker.
+    Run { is_event: bool, order: Order },
+    /// Prints the trace of a design under a stimulus, processes run in order of level.
+    Levels,
+}
+
+/// What words say. The name of a file may be `@`, the standard input.
+#[derive(Drop)]
+pub struct Call<'a> {
+    pub request: Request,
+    /// The name of the source.
+    pub file: &'a str,
+    /// The name of the top.
+    pub top: &'a str,
+    /// The words that set inputs; none beside any request but `Eval`.
+    pub sets: Vec<&'a str>,
+    /// The name of the stimulus of a run; `None` beside any other request.
+    pub stimulus: Option<&'a str>,
+    /// The names of files whose texts stand before the source's, in order.
+    pub with: Vec<&'a str>,
+    /// Whether faults are explained.
+    pub explains: bool,
+    /// The name of the file of what is expected of a run; `None` where nothing is, and beside any other request.
+    pub expected: Option<&'a str>,
+    /// Whether a run shows how far it is; `false` beside any other request.
+    pub shows_progress: bool,
+}
+
+/// Why the words are refused.
+#[derive(Drop)]
+pub enum Refused {
+    /// They are no command; the text says why, or is the help that was asked for.
+    Words(String),
+    /// Memory was refused.
+    NoMemory,
+}
+
+impl From<AllocError> for Refused {
+    ghost from_gives = { λ _ refused. refused ≡ NoMemory };
+
+    fn from(_refused: AllocError) -> Refused {
+        Refused::NoMemory
+    }
+}
+
+impl<T: Drop> From<AllocFailed<T>> for Refused {
+    ghost from_gives = { λ _ refused. refused ≡ NoMemory };
+
+    fn from(_refused: AllocFailed<T>) -> Refused {
+        Refused::NoMemory
+    }
+}

@@ -1,0 +1,185 @@
+//! The call that words say.
+
+ghost use Rattle.std.specs.Prelude.{◌≡◌, ◌≤◌, IfOk, IfErr, IsErr, codes, length, map, option_map};
+ghost use Rattle.rtlsim_command_line.specs.Words as words;
+ghost use Rattle.rtlsim_command_line.specs.Words.{Says, SayNothing, IsOfWords, call_view, parsed_view, row_of, said_by, text_of, use_view};
+ghost use Rattle.clap.specs.Values.{kind_of};
+ghost use Rattle.clap.specs.declared.error.kind.ErrorKind.TheVariants.{OutOfMemory};
+
+use crate::call::{Call, Order, Refused, Request};
+use crate::commands::command;
+use crate::parsed::{Parsed, read_words};
+use crate::parts::{Part, table};
+use clap::Error;
+use clap::error::ErrorKind;
+use std::alloc::{AllocError, Global};
+
+/// What is told of words that clap has nothing against.
+static READ_TWICE: &str =
+    "error: the standard input, @, is named twice: where a file of --with or --expect is @, no other FILE or STIM may be
+
+For more information, try '--help'.
+";
+
+/// Reads the words after the program's name. It takes memory in proportion to their number.
+///
+/// # Errors
+///
+/// - `Words` where they say no call, as where they ask for help.
+/// - `NoMemory` where memory was refused.
+#[tactic(auto, unfolding(crate::specs::Words::Says, crate::specs::Words::SayNothing))]
+pub fn parse_words<'a>(alloc: Global, words: &'a [&'a str]) -> Result<Call<'a>, Refused>
+    ensures said { IfOk result (λ call. Says (map (λ word. word.now) words.now) call) }
+    ensures refused { IfErr result (λ refused. IsOfWords refused → SayNothing (map (λ word. word.now) words.now)) }
+{
+    match call_of(alloc, table(), words)? {
+        Some(call) => Ok(call),
+        None => Err(Refused::Words(refusal_text(alloc, words)?)),
+    }
+}
+
+/// The call that the words say.
+fn call_of<'a>(
+    alloc: Global,
+    parts: &[Part<&str>],
+    words: &[&'a str],
+) -> Result<Option<Call<'a>>, AllocError>
+    ensures { IfOk result (λ call.
+        option_map call_view call ≡ said_by (map row_of parts.now) (map text_of words.now)) }
+{
+    let [command, others @ ..] = words else {
+        return Ok(None);
+    };
+    let Some(given) = read_words(alloc, parts, others)? else {
+        return Ok(None);
+    };
+    if !given.fits(parts, command) {
+        return Ok(None);
+    }
+    call_with(alloc, command, &given)
+}
+
+/// The call of a command, with what is given behind it.
+fn call_with<'a>(
+    alloc: Global,
+    command: &str,
+    given: &Parsed<'a>,
+) -> Result<Option<Call<'a>>, AllocError>
+    ensures { IfOk result (λ call. option_map call_view call ≡ words.call_with command.now (parsed_view given.now)) }
+{
+    let [file, top, rest @ ..] = given.operands.as_slice() else {
+        return Ok(None);
+    };
+    let Some(request) = request_of(command, given) else {
+        return Ok(None);
+    };
+    let Some((sets, stimulus)) = parted(request, rest) else {
+        return Ok(None);
+    };
+    let (with, expected) = (given.values(alloc, "with")?, given.value("expect"));
+    if !is_read_once(&with, expected, &given.operands) {
+        return Ok(None);
+    }
+    Ok(Some(Call {
+        request,
+        file,
+        top,
+        sets: sets.to_vec(alloc)?,
+        stimulus,
+        with,
+        explains: given.has("explain"),
+        expected,
+        shows_progress: given.has("progress"),
+    }))
+}
+
+/// The request of a command with these options.
+fn request_of(command: &str, given: &Parsed<'_>) -> Option<Request>
+    ensures { result ≡ words.request_of command.now (map use_view given.now.uses.items) }
+{
+    match command {
+        "eval" => Some(Request::Eval),
+        "net" => Some(Request::Net),
+        "check" if given.has("dot") => Some(Request::Dot),
+        "check" if given.has("json") => Some(Request::Json),
+        "check" => Some(Request::Check),
+        "run" if given.has("levels") => Some(Request::Levels),
+        "run" => Some(Request::Run {
+            is_event: given.has("event"),
+            order: order_of(given)?,
+        }),
+        _ => None,
+    }
+}
+
+/// The order of a run, which may be given.
+fn order_of(given: &Parsed<'_>) -> Option<Order>
+    ensures { result ≡ words.order_of (words.value (map use_view given.now.uses.items) (codes "order")) }
+{
+    match given.value("order") {
+        None | Some("forward") => Some(Order::Forward),
+        Some("reverse") => Some(Order::Reverse),
+        Some(_) => None,
+    }
+}
+
+/// The words that set inputs, and the stimulus, of those behind FILE and TOP.
+fn parted<'r, 'a>(request: Request, rest: &'r [&'a str]) -> Option<(&'r [&'a str], Option<&'a str>)>
+    ensures { option_map words.parted_view result ≡ words.parted request (map text_of rest.now) }
+{
+    match (request, rest) {
+        (Request::Eval, _) => Some((rest, None)),
+        (Request::Run { .. } | Request::Levels, [stimulus]) => Some((&[], Some(*stimulus))),
+        (Request::Net | Request::Check | Request::Dot | Request::Json, []) => Some((&[], None)),
+        _ => None,
+    }
+}
+
+/// Whether the standard input is read once at most: by one of the files beside the source and the stimulus, or by
+/// operands.
+fn is_read_once(with: &[&str], expected: Option<&str>, operands: &[&str]) -> bool
+    ensures { result
+        ≡ words.is_read_once (map text_of with.now) (option_map text_of expected.entry) (map text_of operands.now) }
+{
+    let named = standard_count(with);
+    let count = if expected == Some("@") {
+        1 + named
+    } else {
+        named
+    };
+    count == 0 || count == 1 && standard_count(operands) == 0
+}
+
+/// How many of these names are the standard input's.
+fn standard_count(names: &[&str]) -> usize
+    ensures count { result ≡ words.standard_count (map text_of names.now) }
+    ensures within { result ≤ length names.now }
+{
+    let mut count = 0;
+    let mut left = names;
+    while let [name, others @ ..] = left {
+        if *name == "@" {
+            count += 1;
+        }
+        left = others;
+    }
+    count
+}
+
+/// What clap tells of words that say no request: a mistake, or the help that is asked for.
+fn refusal_text<'a>(alloc: Global, words: &'a [&'a str]) -> Result<String, AllocError> {
+    match command(alloc)?.try_get_matches_from(words) {
+        Ok(_) => String::from_str(alloc, READ_TWICE),
+        Err(error) => error_text(alloc, &error),
+    }
+}
+
+/// The text of an error of clap's, which is want of memory where clap had none.
+fn error_text(alloc: Global, error: &Error) -> Result<String, AllocError>
+    ensures { kind_of error.now ≡ OutOfMemory → IsErr result }
+{
+    if error.kind() == ErrorKind::OutOfMemory {
+        return Err(AllocError);
+    }
+    error.to_string(alloc)
+}

@@ -1,5 +1,0 @@
-use Rattle.rtl_sink.proofs.Writing.{Goes-append}
-use Rattle.rtlsim_explain.proofs.stimulus.explain_unsettled.Goals as goal
-
-pub returns : goal.returns
-returns g c = Goes-append _ _ _ _ _ (Goes-append _ _ _ _ _ c.push_head.ensures c.push_time.ensures) c.push_rest.ensures

@@ -1,6 +1,0 @@
-use Rattle.rtl_sink.proofs.Writing.{Goes-append}
-use Rattle.rtlsim_explain.proofs.stimulus.push_head.Goals as goal
-
-pub returns : goal.returns
-returns g c =
-    Goes-append _ _ _ _ _ (Goes-append _ _ _ _ _ (Goes-append _ _ _ _ _ c.push_text.ensures c.push_line_number.ensures) c.push_text-2.ensures) c.push_title.ensures

@@ -1,5 +1,0 @@
-use Rattle.rtl_sink.proofs.Writing.{Goes-append}
-use Rattle.rtlsim_explain.proofs.stimulus.push_line_number.Goals as goal
-
-pub returns-in-Some : goal.returns-in-Some
-returns-in-Some g c = rw c.in-Some.is (Goes-append _ _ _ _ _ c.push_text.ensures c.push_number.ensures)

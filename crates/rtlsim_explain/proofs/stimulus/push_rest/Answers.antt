@@ -1,7 +1,0 @@
-use Rattle.rtl_sink.proofs.Writing.{Goes-append}
-use Rattle.rtlsim_explain.proofs.stimulus.push_rest.Goals as goal
-
-pub returns : goal.returns
-returns g c =
-    let help = rw (c.as_bytes.ensures.value, c.words.ensures.help) at c.push_help.ensures in
-    Goes-append _ _ _ _ _ (Goes-append _ _ _ _ _ c.push_text.ensures c.push_shown.ensures) help

@@ -1,4 +1,0 @@
-use Rattle.rtlsim_faults.proofs.changing.+push_names.Given as goal
-
-abbrev pub decreases-push_names : goal.decreases-push_names
-decreases-push_names l = l.room

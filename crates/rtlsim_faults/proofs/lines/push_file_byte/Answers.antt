@@ -1,5 +1,0 @@
-use Rattle.rtl_sink.proofs.Writing.{Goes-append}
-use Rattle.rtlsim_faults.proofs.lines.push_file_byte.Goals as goal
-
-pub returns : goal.returns
-returns g c = Goes-append _ _ _ _ _ (Goes-append _ _ _ _ _ c.push_counted.ensures c.push_text.ensures) c.push_text-2.ensures

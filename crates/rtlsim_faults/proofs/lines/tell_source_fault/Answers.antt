@@ -1,4 +1,0 @@
-use Rattle.rtlsim_faults.proofs.lines.tell_source_fault.Goals as goal
-
-pub returns : goal.returns
-returns g c net = rw c.from-fault.ensures at (c.tell_nameless.ensures net)

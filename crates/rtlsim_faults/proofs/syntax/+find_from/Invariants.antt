@@ -1,4 +1,0 @@
-use Rattle.rtlsim_faults.proofs.syntax.+find_from.Given as goal
-
-abbrev pub decreases-find_from : goal.decreases-find_from
-decreases-find_from l = l.more

@@ -1,5 +1,0 @@
-use Rattle.rtlsim_files.proofs.Placed as placed
-use Rattle.rtlsim_files.proofs.laws.each_byte_is_placed_in_its_file.Goals as goal
-
-pub returns : goal.returns
-returns c = placed.each

@@ -1,5 +1,0 @@
-use Rattle.rtlsim_files.proofs.Told as told
-use Rattle.rtlsim_files.proofs.laws.each_byte_is_told_by_its_file.Goals as goal
-
-pub returns : goal.returns
-returns c = told.each

@@ -1,0 +1,16 @@
+use Rattle.std.proofs.Common.{[], ◌++◌, codes, ap, ◌∙◌}
+use Rattle.rtlsim_findings.proofs.Lists.{map_same, one_more}
+use Rattle.rtlsim_findings_text.specs.Json.{places_text}
+use Rattle.rtlsim_findings_text.specs.Refusals.{fault_text}
+use Rattle.rtlsim_findings_text.specs.Values.{string_text}
+use Rattle.rtlsim_findings_text.proofs.Texts.{all_five, part}
+use Rattle.rtlsim_findings_text.proofs.refused.fault_text.Goals as goal
+
+pub returns : goal.returns
+unfolding fault_text
+returns c =
+    let message = part _ _ _ _ c.in_ok-push_member.ensures (ap (λ t. codes ",\"message\":" ++ string_text t) c.deref.ensures.value) in
+    let place = one_more _ [] _ _ (rw c.new-places.ensures.items at c.in_ok-push.ensures.items) (λ t. t.items) c.in_ok-place_text.ensures in
+    let places = part _ _ _ _ c.in_ok-push_places.ensures (ap places_text (map_same _ _ c.deref-2.ensures.value (λ t. t.items) ∙ place)) in
+    all_five _ _ _ _ _ _ _ (codes ",\"message\":") _ (codes ",\"help\":") _ _ _ c.new-text.ensures.items c.in_ok-push_title.ensures message c.in_ok-push_member-2.ensures
+    c.in_ok-extend_from_slice.ensures.items places

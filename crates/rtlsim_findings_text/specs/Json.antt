@@ -1,0 +1,119 @@
+-- The checker's verdict on a netlist, and the remarks on it, as an object of JSON on one line. A finding is an object of its own.
+use Rattle.std.specs.Prelude.{ℕ, Bool, true, false, if◌then◌else◌, List, [], ◌∷◌, ◌++◌, map, Option, Some, None, codes, decimal}
+use Rattle.rtl_check.specs.declared.checking.Verdict.{Verdict}
+use Rattle.rtl_check.specs.declared.checking.Verdict.TheVariants.{Yes, No}
+use Rattle.rtl_net.specs.Names.{process_name}
+use Rattle.rtl_net.specs.Nets.{NetlistView}
+use Rattle.rtl_remarks.specs.Remarks.{remarks_of}
+use Rattle.fault_rules.specs.Rules.{Text, words_of}
+use Rattle.fault_rules.specs.declared.report.Subject.{Subject}
+use Rattle.fault_rules.specs.declared.report.Subject.TheVariants.{Sources, ProcessNet, Element}
+use Rattle.fault_rules.specs.declared.words.Words.{Words}
+use Rattle.rtlsim_refusals.specs.Places.{position_behind}
+use Rattle.rtlsim_refusals.specs.declared.place.Position.{Position}
+use Rattle.vhdl_source_files.specs.Files.{FileView, Spot, before, spot_in}
+use Rattle.rtlsim_findings.specs.Causes.{at_process}
+use Rattle.rtlsim_findings.specs.Findings.{FindingView, findings}
+use Rattle.rtlsim_findings.specs.Remarked as remarked
+use Rattle.rtlsim_findings.specs.Sayings.{message, note_at, note_text, processes, all_ranges_of}
+use Rattle.rtlsim_listing.specs.CheckText.{greatest_level}
+use Rattle.rtlsim_listing.specs.Reports.{report_of}
+use Rattle.rtlsim_findings_text.specs.Explained.{words_for, any_stored}
+use Rattle.rtlsim_findings_text.specs.Values.{array_text, items_text, string_text}
+
+-- ---- places
+
+abbrev pub position_text : Position → List ℕ
+position_text p = codes ",\"line\":" ++ decimal p.line ++ codes ",\"column\":" ++ decimal p.column
+
+-- a byte of a file, as editors count lines and columns, and the note that stands there
+unfoldable pub spot_text : Spot → (note : List ℕ) → List ℕ
+spot_text spot note =
+    codes "{\"file\":" ++ string_text spot.file.name ++ position_text (position_behind (before spot)) ++ codes ",\"note\":" ++ note ++ codes "}"
+
+abbrev pub placed : List FileView → (at : Option ℕ) → (note : List ℕ) → List (List ℕ)
+placed files None note = []
+placed files (Some at) note = spot_text (spot_in files at) note ∷ []
+
+abbrev pub itself : List ℕ → List ℕ
+itself text = text
+
+-- ---- faults
+
+-- the name of a process; an idle port has none
+abbrev pub process_text : NetlistView → Option ℕ → List ℕ
+process_text net None = codes "null"
+process_text net (Some process) = string_text (process_name net process)
+
+abbrev pub is_net : Subject → Bool
+is_net (Sources n first second) = true
+is_net (ProcessNet process n) = true
+is_net _ = false
+
+abbrev pub is_variable : Subject → Bool
+is_variable (Element process variable place) = true
+is_variable _ = false
+
+abbrev pub names_if : (told : Bool) → NetlistView → FindingView → List ℕ
+names_if told net f = array_text string_text (if told then all_ranges_of net f else [])
+
+-- the place of the first process, and that of the note
+abbrev pub places_of : List FileView → NetlistView → FindingView → List (List ℕ)
+places_of files net f = placed files f.cause.first (codes "null") ++ placed files (note_at f) (string_text (note_text net f))
+
+unfoldable pub title_text : Words Text → List ℕ
+title_text words =
+    codes "{\"layer\":" ++ string_text words.layer.now ++ codes ",\"number\":" ++ decimal words.number ++ codes ",\"name\":" ++ string_text words.name.now
+
+unfoldable pub said_text : NetlistView → FindingView → List ℕ
+said_text net f = codes ",\"message\":" ++ string_text (message net f) ++ codes ",\"help\":" ++ string_text (words_for f).help.now
+
+unfoldable pub named_text : NetlistView → FindingView → List ℕ
+named_text net f =
+    codes ",\"processes\":" ++ array_text (process_text net) (processes f)
+    ++ codes ",\"nets\":" ++ names_if (is_net (report_of f.first).subject) net f
+    ++ codes ",\"variables\":" ++ names_if (is_variable (report_of f.first).subject) net f
+
+unfoldable pub places_text : List (List ℕ) → List ℕ
+places_text places = codes ",\"places\":" ++ array_text itself places ++ codes "}"
+
+unfoldable pub finding_text : List FileView → NetlistView → FindingView → List ℕ
+finding_text files net f = title_text (words_for f) ++ said_text net f ++ named_text net f ++ places_text (places_of files net f)
+
+-- ---- remarks
+
+unfoldable pub remark_text : List FileView → NetlistView → remarked.RemarkView → List ℕ
+remark_text files net f =
+    codes "{\"name\":" ++ string_text (words_of (remarked.report_of f.remark).rule).name.now
+    ++ codes ",\"message\":" ++ string_text (remarked.message net f)
+    ++ codes ",\"process\":" ++ process_text net (remarked.process_of f.remark)
+    ++ codes ",\"nets\":[" ++ string_text f.nets ++ codes "]"
+    ++ places_text (placed files (at_process net (remarked.process_of f.remark)) (codes "null"))
+
+-- ---- verdicts
+
+-- the greatest level, the bound on the delta cycles of a moment, and the command that simulates the netlist
+abbrev pub yes_text : (levels bound : ℕ) → List ℕ
+yes_text levels bound =
+    codes "{\"version\":2,\"verdict\":\"yes\",\"levels\":" ++ decimal levels ++ codes ",\"bound\":" ++ decimal bound ++ codes ",\"simulates\":\"run\""
+
+-- where no variable keeps its value, the simulation cycle itself runs what is rejected
+abbrev pub no_text : (stored : Bool) → List ℕ
+no_text stored =
+    codes "{\"version\":2,\"verdict\":\"no\",\"levels\":null,\"bound\":null,\"simulates\":" ++ (if stored then codes "null" else codes "\"run --event\"")
+
+abbrev pub verdict_text : Verdict → List ℕ
+verdict_text (Yes report) = yes_text (greatest_level report.levels.items) report.bound
+verdict_text (No faults) = no_text (any_stored faults.items)
+
+abbrev pub found : NetlistView → Verdict → List FindingView
+found net (Yes report) = []
+found net (No faults) = findings net faults.items
+
+abbrev pub end_text : List FileView → NetlistView → List ℕ
+end_text files net =
+    codes ",\"remarks\":" ++ array_text itself (map (remark_text files net) (remarked.found net (remarks_of net))) ++ codes "}\n"
+
+abbrev pub json_text : List FileView → NetlistView → Verdict → List ℕ
+json_text files net verdict =
+    verdict_text verdict ++ codes ",\"faults\":[" ++ items_text (finding_text files net) (found net verdict) ++ codes "]" ++ end_text files net

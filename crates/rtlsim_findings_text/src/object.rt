@@ -1,0 +1,251 @@
+//! The objects of findings and remarks.
+
+ghost use Rattle.std.specs.Prelude.{◌≡◌, ◌++◌, All, map, IfOk, OnOk};
+ghost use Rattle.fault_rules.specs.Rules.{words_of};
+ghost use Rattle.vhdl_source_files.specs.Files.{spot_view};
+ghost use Rattle.rtlsim_findings.specs.Findings.{finding_view};
+ghost use Rattle.rtlsim_findings.specs.Remarked.{remark_view};
+ghost use Rattle.rtlsim_findings_text.specs.Json as spec;
+ghost use Rattle.rtlsim_findings_text.specs.Marks.{IsMarked, Stands, view};
+ghost use Rattle.rtlsim_findings_text.specs.Values.{string_text};
+
+use crate::places::{MarkedFile, PlacedByte, place_at};
+use crate::values::{
+    push_number, push_process, push_processes, push_string, push_strings, push_texts,
+};
+use rtl_net::{Net, NoMemory};
+use fault_rules::{Rule, Subject};
+use rtlsim_refusals::Position;
+use rtlsim_findings::{
+    Finding, RemarkFinding, all_ranges_of, at_process, message, note_at, note_text, processes,
+    remark_message, remark_process, remark_report,
+};
+use rtlsim_listing::report_of;
+use std::alloc::Global;
+
+/// The object of a finding.
+#[tactic(auto, unfolding(crate::specs::Json::finding_text))]
+pub(crate) fn finding_text(
+    alloc: Global,
+    files: &[MarkedFile<'_>],
+    net: &Net,
+    finding: &Finding<'_>,
+) -> Result<Vec<u8>, NoMemory>
+    requires marked { All IsMarked files.now }
+    ensures { IfOk result (λ text. text.items
+        ≡ spec.finding_text (map view files.now) net.now (finding_view finding.now)) }
+{
+    let mut text = Vec::new(alloc);
+    push_title(report_of(finding.first).rule, &mut text)?;
+    push_said(alloc, net, finding, &mut text)?;
+    push_named(alloc, net, finding, &mut text)?;
+    let places = places_of(alloc, files, net, finding)?;
+    push_places(&places, &mut text)?;
+    Ok(text)
+}
+
+/// Appends the layer, the number and the name of a rule.
+#[tactic(auto, unfolding(crate::specs::Json::title_text))]
+pub(crate) fn push_title(rule: Rule, text: &mut Vec<u8>) -> Result<(), NoMemory>
+    ensures { OnOk result (text.new.items ≡ text.old.items ++ spec.title_text (words_of rule)) }
+{
+    let words = rule.words();
+    push_member(b"{\"layer\":", words.layer.as_bytes(), text)?;
+    text.extend_from_slice(b",\"number\":")?;
+    push_number(usize::from(words.number), text)?;
+    push_member(b",\"name\":", words.name.as_bytes(), text)
+}
+
+/// Appends the sentence and the help.
+#[tactic(auto, unfolding(crate::specs::Json::said_text))]
+fn push_said(
+    alloc: Global,
+    net: &Net,
+    finding: &Finding<'_>,
+    text: &mut Vec<u8>,
+) -> Result<(), NoMemory>
+    ensures { OnOk result (text.new.items ≡ text.old.items ++ spec.said_text net.now (finding_view finding.now)) }
+{
+    push_member(b",\"message\":", &message(alloc, net, finding)?, text)?;
+    let words = report_of(finding.first).rule.words();
+    push_member(b",\"help\":", words.help.as_bytes(), text)
+}
+
+/// Appends a member of an object: its name, as it stands there, and a string of these bytes.
+pub(crate) fn push_member(name: &[u8], bytes: &[u8], text: &mut Vec<u8>) -> Result<(), NoMemory>
+    ensures { OnOk result (text.new.items ≡ text.old.items ++ (name.now ++ string_text bytes.now)) }
+{
+    text.extend_from_slice(name)?;
+    push_string(bytes, text)
+}
+
+/// Appends the processes, nets and variables.
+#[tactic(auto, unfolding(crate::specs::Json::named_text))]
+fn push_named(
+    alloc: Global,
+    net: &Net,
+    finding: &Finding<'_>,
+    text: &mut Vec<u8>,
+) -> Result<(), NoMemory>
+    ensures { OnOk result (text.new.items ≡ text.old.items ++ spec.named_text net.now (finding_view finding.now)) }
+{
+    let subject = report_of(finding.first).subject;
+    text.extend_from_slice(b",\"processes\":")?;
+    push_processes(alloc, net, &processes(alloc, finding)?, text)?;
+    push_names(alloc, b",\"nets\":", is_net(subject), net, finding, text)?;
+    push_names(
+        alloc,
+        b",\"variables\":",
+        is_variable(subject),
+        net,
+        finding,
+        text,
+    )
+}
+
+/// Appends the member of this name: the names that all faults of a finding are told of, if they are told here.
+#[tactic(auto, unfolding(crate::specs::Values::array_text))]
+fn push_names(
+    alloc: Global,
+    name: &[u8],
+    told: bool,
+    net: &Net,
+    finding: &Finding<'_>,
+    text: &mut Vec<u8>,
+) -> Result<(), NoMemory>
+    ensures { OnOk result (text.new.items
+        ≡ text.old.items ++ (name.now ++ spec.names_if told net.now (finding_view finding.now))) }
+{
+    text.extend_from_slice(name)?;
+    if told {
+        push_strings(&all_ranges_of(alloc, net, finding)?, text)
+    } else {
+        Ok(text.extend_from_slice(b"[]")?)
+    }
+}
+
+/// Whether something is told of nets.
+fn is_net(subject: Subject) -> bool
+    ensures { result ≡ spec.is_net subject }
+{
+    matches!(
+        subject,
+        Subject::Sources { .. } | Subject::ProcessNet { .. }
+    )
+}
+
+/// Whether something is told of a variable.
+fn is_variable(subject: Subject) -> bool
+    ensures { result ≡ spec.is_variable subject }
+{
+    matches!(subject, Subject::Element { .. })
+}
+
+/// The places of a finding: that of its first process, and that of its note.
+fn places_of(
+    alloc: Global,
+    files: &[MarkedFile<'_>],
+    net: &Net,
+    finding: &Finding<'_>,
+) -> Result<Vec<Vec<u8>>, NoMemory>
+    requires marked { All IsMarked files.now }
+    ensures { IfOk result (λ texts. map (λ t. t.items) texts.items
+        ≡ spec.places_of (map view files.now) net.now (finding_view finding.now)) }
+{
+    let mut texts = Vec::new(alloc);
+    push_placed(alloc, files, finding.cause.first, b"null", &mut texts)?;
+    let mut note = Vec::new(alloc);
+    push_string(&note_text(alloc, net, finding)?, &mut note)?;
+    push_placed(alloc, files, note_at(finding), &note, &mut texts)?;
+    Ok(texts)
+}
+
+/// Appends the object of a place with this note, if there is a place.
+fn push_placed(
+    alloc: Global,
+    files: &[MarkedFile<'_>],
+    at: Option<usize>,
+    note: &[u8],
+    texts: &mut Vec<Vec<u8>>,
+) -> Result<(), NoMemory>
+    requires marked { All IsMarked files.now }
+    ensures { OnOk result (map (λ t. t.items) texts.new.items
+        ≡ map (λ t. t.items) texts.old.items ++ spec.placed (map view files.now) at note.now) }
+{
+    let Some(at) = at else {
+        return Ok(());
+    };
+    texts.push(spot_text(alloc, place_at(files, at), note)?)?;
+    Ok(())
+}
+
+/// The object of a place with this note.
+#[tactic(auto, unfolding(crate::specs::Json::spot_text))]
+pub(crate) fn spot_text(
+    alloc: Global,
+    place: PlacedByte<'_>,
+    note: &[u8],
+) -> Result<Vec<u8>, NoMemory>
+    requires stands { Stands place }
+    ensures { IfOk result (λ text. text.items ≡ spec.spot_text (spot_view place.entry.byte) note.now) }
+{
+    let mut text = Vec::from_slice(alloc, b"{\"file\":")?;
+    push_string(place.byte.file.name, &mut text)?;
+    push_position(place.position, &mut text)?;
+    text.extend_from_slice(b",\"note\":")?;
+    text.extend_from_slice(note)?;
+    text.extend_from_slice(b"}")?;
+    Ok(text)
+}
+
+/// Appends a line and a column.
+fn push_position(position: Position, text: &mut Vec<u8>) -> Result<(), NoMemory>
+    ensures { OnOk result (text.new.items ≡ text.old.items ++ spec.position_text position) }
+{
+    text.extend_from_slice(b",\"line\":")?;
+    push_number(position.line, text)?;
+    text.extend_from_slice(b",\"column\":")?;
+    push_number(position.column, text)
+}
+
+/// Appends the array of places, with which an object ends.
+#[tactic(auto, unfolding(crate::specs::Json::places_text))]
+pub(crate) fn push_places(places: &[Vec<u8>], text: &mut Vec<u8>) -> Result<(), NoMemory>
+    ensures { OnOk result (text.new.items ≡ text.old.items ++ spec.places_text (map (λ t. t.items) places.now)) }
+{
+    text.extend_from_slice(b",\"places\":")?;
+    push_texts(places, text)?;
+    text.extend_from_slice(b"}")?;
+    Ok(())
+}
+
+/// The object of remarks that are told as one.
+#[tactic(auto, unfolding(crate::specs::Json::remark_text))]
+pub(crate) fn remark_text(
+    alloc: Global,
+    files: &[MarkedFile<'_>],
+    net: &Net,
+    found: &RemarkFinding,
+) -> Result<Vec<u8>, NoMemory>
+    requires marked { All IsMarked files.now }
+    ensures { IfOk result (λ text. text.items ≡ spec.remark_text (map view files.now) net.now (remark_view found.now)) }
+{
+    let process = remark_process(found.remark);
+    let mut places = Vec::new(alloc);
+    push_placed(alloc, files, at_process(net, process), b"null", &mut places)?;
+    let words = remark_report(found.remark).rule.words();
+    let mut text = Vec::new(alloc);
+    push_member(b"{\"name\":", words.name.as_bytes(), &mut text)?;
+    push_member(
+        b",\"message\":",
+        &remark_message(alloc, net, found)?,
+        &mut text,
+    )?;
+    text.extend_from_slice(b",\"process\":")?;
+    push_process(alloc, net, process, &mut text)?;
+    text.extend_from_slice(b",\"nets\":[")?;
+    push_string(&found.nets, &mut text)?;
+    text.extend_from_slice(b"]")?;
+    push_places(&places, &mut text)?;
+    Ok(text)
+}

@@ -1,0 +1,112 @@
+//! Explanations of the checker's faults, for a designer.
+
+ghost use Rattle.std.specs.Prelude.{◌≡◌, All, flat_map, map};
+ghost use Rattle.byte_streams.specs.Written.{Goes, IsIntact};
+ghost use Rattle.vhdl_source_files.specs.Files.{file_view};
+ghost use Rattle.rtlsim_findings.specs.Findings.{finding_view};
+ghost use Rattle.rtlsim_listing.specs.Printing.{IsListed, Prints};
+ghost use Rattle.rtlsim_findings_text.specs.Explained as spec;
+ghost use Rattle.rtlsim_findings_text.specs.Marks.{IsMarked, view};
+
+use crate::paragraph::paragraph;
+use crate::places::{MarkedFile, mark_files};
+use rtl_check::CheckFault;
+use rtl_net::{Net, NoMemory};
+use fault_rules::Subject;
+use byte_streams::{Sink, finish, push_text};
+use vhdl_source_files::SourceFile;
+use rtlsim_findings::{Finding, findings};
+use rtlsim_listing::{ListingFault, report_of};
+use std::alloc::Global;
+
+/// Explains what the checker found: a paragraph for each finding, at its place in these files, whose texts joined are the netlist's
+/// source, and below them what simulates the netlist all the same. It takes memory for the findings, and for one paragraph at a time.
+///
+/// # Errors
+///
+/// `Memory` where memory was refused, and `Write` where the sink failed: what went out is a beginning of the text.
+pub fn explain_rejection<S: Sink>(
+    alloc: Global,
+    files: &[SourceFile<'_>],
+    net: &Net,
+    faults: &[CheckFault],
+    sink: &mut S,
+) -> Result<(), ListingFault>
+    requires intact { IsIntact (S.state sink.old) }
+    ensures { IsListed result (S.state sink.old) (S.state sink.new)
+        (spec.rejection_explained (map file_view files.now) net.now faults.now) }
+{
+    push_explained(alloc, files, net, faults, sink)?;
+    finish(sink)?;
+    Ok(())
+}
+
+/// Writes the explanation.
+fn push_explained<S: Sink>(
+    alloc: Global,
+    files: &[SourceFile<'_>],
+    net: &Net,
+    faults: &[CheckFault],
+    sink: &mut S,
+) -> Result<(), NoMemory>
+    ensures { Prints result (S.state sink.old) (S.state sink.new)
+        (spec.rejection_explained (map file_view files.now) net.now faults.now) }
+{
+    let found = findings(alloc, net, faults)?;
+    let marked = mark_files(alloc, files)?;
+    push_paragraphs(alloc, &marked, net, &found, sink)?;
+    push_ending(faults, sink);
+    Ok(())
+}
+
+/// Writes the paragraphs of these findings.
+fn push_paragraphs<S: Sink>(
+    alloc: Global,
+    files: &[MarkedFile<'_>],
+    net: &Net,
+    found: &[Finding<'_>],
+    sink: &mut S,
+) -> Result<(), NoMemory>
+    requires marked { All IsMarked files.now }
+    ensures { Prints result (S.state sink.old) (S.state sink.new)
+        (flat_map (spec.paragraph (map view files.now) net.now) (map finding_view found.now)) }
+{
+    for finding in found {
+        let text = paragraph(alloc, files, net, finding)?;
+        push_text(sink, &text);
+    }
+    Ok(())
+}
+
+/// Writes what simulates it all the same, where no variable keeps its value.
+fn push_ending<S: Sink>(faults: &[CheckFault], sink: &mut S)
+    ensures { Goes (S.state sink.old) (S.state sink.new) (spec.ending faults.now) }
+{
+    if !any_stored(faults) {
+        push_text(
+            sink,
+            b"help: run --event simulates it, without the promises of run\n",
+        );
+    }
+}
+
+/// Whether one of these faults is of a variable that keeps its value.
+pub(crate) fn any_stored(faults: &[CheckFault]) -> bool
+    ensures { result ≡ spec.any_stored faults.now }
+{
+    let mut left = faults;
+    while let [fault, rest @ ..] = left {
+        if is_element(report_of(fault).subject) {
+            return true;
+        }
+        left = rest;
+    }
+    false
+}
+
+/// Whether something is told of an element of a variable.
+fn is_element(subject: Subject) -> bool
+    ensures { result ≡ spec.is_element subject }
+{
+    matches!(subject, Subject::Element { .. })
+}

@@ -1,0 +1,204 @@
+//! The object of a verdict.
+
+ghost use Rattle.std.specs.Prelude.{◌≡◌, All, flat_map, map, IfOk};
+ghost use Rattle.byte_streams.specs.Written.{IsIntact};
+ghost use Rattle.vhdl_source_files.specs.Files.{file_view};
+ghost use Rattle.rtlsim_findings.specs.Findings.{finding_view};
+ghost use Rattle.rtlsim_findings.specs.Remarked as remarked;
+ghost use Rattle.rtlsim_listing.specs.CheckText as listing;
+ghost use Rattle.rtlsim_listing.specs.Printing.{IsListed, Prints};
+ghost use Rattle.rtlsim_findings_text.specs.Json as spec;
+ghost use Rattle.rtlsim_findings_text.specs.Marks.{IsMarked, view};
+ghost use Rattle.rtlsim_findings_text.specs.Values.{items_text, next_text};
+
+use crate::object::{finding_text, remark_text};
+use crate::places::{MarkedFile, mark_files};
+use crate::rejection::any_stored;
+use crate::values::{push_number, push_texts};
+use rtl_check::Verdict;
+use rtl_net::{Net, NoMemory};
+use rtl_remarks::remarks;
+use byte_streams::{Sink, finish, push_text};
+use vhdl_source_files::SourceFile;
+use rtlsim_findings::{Finding, RemarkFinding, findings, remark_findings};
+use rtlsim_listing::ListingFault;
+use std::alloc::Global;
+
+/// Writes the checker's verdict on a netlist and the remarks on it as an object of JSON on one line: `yes` with the greatest level and
+/// the bound, or `no` with an object for each finding, at its place in these files, whose texts joined are the netlist's source. It takes
+/// memory for the findings and the remarks, and for the text of one at a time.
+///
+/// # Errors
+///
+/// `Memory` where memory was refused, and `Write` where the sink failed: what went out is a beginning of the text.
+pub fn show_check_json<S: Sink>(
+    alloc: Global,
+    files: &[SourceFile<'_>],
+    net: &Net,
+    verdict: &Verdict,
+    out: &mut S,
+) -> Result<(), ListingFault>
+    requires intact { IsIntact (S.state out.old) }
+    ensures { IsListed result (S.state out.old) (S.state out.new)
+        (spec.json_text (map file_view files.now) net.now verdict.now) }
+{
+    push_verdict(alloc, files, net, verdict, out)?;
+    finish(out)?;
+    Ok(())
+}
+
+/// Writes the object.
+fn push_verdict<S: Sink>(
+    alloc: Global,
+    files: &[SourceFile<'_>],
+    net: &Net,
+    verdict: &Verdict,
+    out: &mut S,
+) -> Result<(), NoMemory>
+    ensures { Prints result (S.state out.old) (S.state out.new)
+        (spec.json_text (map file_view files.now) net.now verdict.now) }
+{
+    let found = found(alloc, net, verdict)?;
+    let marked = mark_files(alloc, files)?;
+    let begin = verdict_text(alloc, verdict)?;
+    let end = end_text(alloc, &marked, net)?;
+    push_text(out, &begin);
+    push_text(out, b",\"faults\":[");
+    push_findings(alloc, &marked, net, &found, out)?;
+    push_text(out, b"]");
+    push_text(out, &end);
+    Ok(())
+}
+
+/// The findings of a verdict.
+fn found<'a>(alloc: Global, net: &Net, verdict: &'a Verdict) -> Result<Vec<Finding<'a>>, NoMemory>
+    ensures { IfOk result (λ found. map finding_view found.items ≡ spec.found net.now verdict.now) }
+{
+    match verdict {
+        Verdict::Yes(_) => Ok(Vec::new(alloc)),
+        Verdict::No(faults) => findings(alloc, net, faults),
+    }
+}
+
+/// How the object begins.
+fn verdict_text(alloc: Global, verdict: &Verdict) -> Result<Vec<u8>, NoMemory>
+    ensures { IfOk result (λ text. text.items ≡ spec.verdict_text verdict.now) }
+{
+    match verdict {
+        Verdict::Yes(report) => yes_text(alloc, greatest_level(&report.levels), report.bound),
+        Verdict::No(faults) => no_text(alloc, any_stored(faults)),
+    }
+}
+
+/// How the object of a yes begins.
+fn yes_text(alloc: Global, levels: u32, bound: u32) -> Result<Vec<u8>, NoMemory>
+    ensures { IfOk result (λ text. text.items ≡ spec.yes_text levels bound) }
+{
+    let mut text = Vec::from_slice(alloc, b"{\"version\":2,\"verdict\":\"yes\",\"levels\":")?;
+    push_number(levels as usize, &mut text)?;
+    text.extend_from_slice(b",\"bound\":")?;
+    push_number(bound as usize, &mut text)?;
+    text.extend_from_slice(b",\"simulates\":\"run\"")?;
+    Ok(text)
+}
+
+/// How the object of a no begins, where a variable is stored or none is.
+fn no_text(alloc: Global, stored: bool) -> Result<Vec<u8>, NoMemory>
+    ensures { IfOk result (λ text. text.items ≡ spec.no_text stored) }
+{
+    let begin = b"{\"version\":2,\"verdict\":\"no\",\"levels\":null,\"bound\":null,\"simulates\":";
+    let mut text = Vec::from_slice(alloc, begin)?;
+    if stored {
+        text.extend_from_slice(b"null")?;
+    } else {
+        text.extend_from_slice(b"\"run --event\"")?;
+    }
+    Ok(text)
+}
+
+/// The greatest of the levels that there are, 0 without any.
+fn greatest_level(levels: &[Option<u32>]) -> u32
+    ensures { result ≡ listing.greatest_level levels.now }
+{
+    let mut greatest: u32 = 0;
+    let mut left = levels;
+    while let [level, others @ ..] = left {
+        greatest = greatest.max(level.unwrap_or(0));
+        left = others;
+    }
+    greatest
+}
+
+/// Writes the objects of findings, with a comma between two.
+fn push_findings<W: Sink>(
+    alloc: Global,
+    files: &[MarkedFile<'_>],
+    net: &Net,
+    found: &[Finding<'_>],
+    out: &mut W,
+) -> Result<(), NoMemory>
+    requires marked { All IsMarked files.now }
+    ensures { Prints result (W.state out.old) (W.state out.new)
+        (items_text (spec.finding_text (map view files.now) net.now) (map finding_view found.now)) }
+{
+    let [first, others @ ..] = found else {
+        return Ok(());
+    };
+    let text = finding_text(alloc, files, net, first)?;
+    push_text(out, &text);
+    push_others(alloc, files, net, others, out)
+}
+
+/// Writes the objects of findings, each behind a comma.
+fn push_others<W: Sink>(
+    alloc: Global,
+    files: &[MarkedFile<'_>],
+    net: &Net,
+    found: &[Finding<'_>],
+    out: &mut W,
+) -> Result<(), NoMemory>
+    requires marked { All IsMarked files.now }
+    ensures { Prints result (W.state out.old) (W.state out.new)
+        (flat_map (next_text (spec.finding_text (map view files.now) net.now)) (map finding_view found.now)) }
+{
+    for finding in found {
+        let text = finding_text(alloc, files, net, finding)?;
+        push_text(out, b",");
+        push_text(out, &text);
+    }
+    Ok(())
+}
+
+/// How the object ends: the remarks.
+fn end_text(alloc: Global, files: &[MarkedFile<'_>], net: &Net) -> Result<Vec<u8>, NoMemory>
+    requires marked { All IsMarked files.now }
+    ensures { IfOk result (λ text. text.items ≡ spec.end_text (map view files.now) net.now) }
+{
+    let remarks = remarks(alloc, net)?;
+    let found = remark_findings(alloc, net, &remarks)?;
+    let objects = objects(alloc, files, net, &found)?;
+    let mut text = Vec::from_slice(alloc, b",\"remarks\":")?;
+    push_texts(&objects, &mut text)?;
+    text.extend_from_slice(b"}\n")?;
+    Ok(text)
+}
+
+/// The objects of remarks.
+fn objects(
+    alloc: Global,
+    files: &[MarkedFile<'_>],
+    net: &Net,
+    found: &[RemarkFinding],
+) -> Result<Vec<Vec<u8>>, NoMemory>
+    requires marked { All IsMarked files.now }
+    ensures { IfOk result (λ texts. map (λ t. t.items) texts.items
+        ≡ map (spec.remark_text (map view files.now) net.now) (map remarked.remark_view found.now)) }
+{
+    let mut texts = Vec::new(alloc);
+    let mut left = found;
+    while let [remark, others @ ..] = left {
+        texts.push(remark_text(alloc, files, net, remark)?)?;
+        left = others;
+    }
+    Ok(texts)
+}

@@ -1,0 +1,185 @@
+-- What is told of a fault of a source, and the paragraph that is written of that: where it is, what is wrong, the line with a mark under the
+-- place, and what to do about it.
+use Rattle.std.specs.Prelude.{ℕ, Bool, List, [], if◌then◌else◌, ◌++◌, Option, Some, None, codes, decimal}
+use Rattle.std.specs.Str.{str_eq_ignore_ascii_case}
+use Rattle.fault_rules.specs.Rules.{words_of}
+use Rattle.fault_rules.specs.declared.elaboration.ElabRule.TheVariants as elaboration
+use Rattle.fault_rules.specs.declared.grammar.SyntaxRule.TheVariants as grammar
+use Rattle.fault_rules.specs.declared.naming.NameRule.TheVariants as naming
+use Rattle.fault_rules.specs.declared.report.Place.{Place}
+use Rattle.fault_rules.specs.declared.report.Place.TheVariants.{Byte}
+use Rattle.fault_rules.specs.declared.report.Report.{Report}
+use Rattle.fault_rules.specs.declared.report.Rule.{Rule}
+use Rattle.fault_rules.specs.declared.report.Rule.TheVariants as rule
+use Rattle.fault_rules.specs.declared.report.Subject.{Subject}
+use Rattle.fault_rules.specs.declared.report.Subject.TheVariants.{Lengths, Nothing}
+use Rattle.vhdl_slips.specs.Choices.{missing_line}
+use Rattle.vhdl_slips.specs.Listings.{entities_line}
+use Rattle.vhdl_slips.specs.Forms.{Said, left_out_form, unexpected_form}
+use Rattle.rtlsim_refusals.specs.Places.{begins_line, line_shown, position_behind}
+use Rattle.rtlsim_refusals.specs.Refused.{refused, said_of, said_refused}
+use Rattle.vhdl_slips.specs.Words.{Read, first_text, from, read_of, subject}
+use Rattle.vhdl_slips.specs.Words as words
+use Rattle.vhdl_hints.specs.Hints.{Hint, hint_at, is_nothing}
+use Rattle.vhdl_hints.specs.Sayings.{help, sentence}
+use Rattle.rtlsim_refusals.specs.declared.explaining.Site.{Site}
+use Rattle.rtlsim_refusals.specs.declared.place.Position.{Position}
+use Rattle.rtlsim_refusals.specs.declared.told.Told as told
+use Rattle.vhdl_source_files.specs.Files.{FileView, Spot, after, before, spot_in, spot_view}
+use Rattle.vhdl_expected.specs.Told.{Expected, expected_of, nothing, perhaps, surely}
+
+-- a byte of a source that has tokens: where it stands in its own file, the tokens before it and from it on, and what was expected at the first
+-- of these, where the parser refuses it
+pub record Seen : Type 0 where
+  pub spot : Spot
+  pub before : Read
+  pub from : Read
+  pub expected : Expected
+
+-- what is told of a fault
+pub record Told : Type 0 where
+  pub rule : Rule
+  pub spot : Spot
+  pub sentence : List ℕ
+  pub help : List ℕ
+  -- a line more that helps, or nothing
+  pub below : List ℕ
+
+abbrev pub told_view : told.Told → Told
+told_view t = record { rule = t.rule; spot = spot_view t.place; sentence = t.sentence.items; help = t.help.now; below = t.below.items }
+
+abbrev pub site_of : Site → Seen
+site_of site =
+    record { spot = spot_view site.place; before = read_of site.before; from = read_of site.from; expected = expected_of site.expected }
+
+abbrev pub seen_at : List FileView → Read → Expected → (at : ℕ) → Seen
+seen_at files source expected at =
+    record { spot = spot_in files at; before = words.before at source; from = from at source; expected = expected }
+
+-- ---- the parts of a paragraph
+
+-- "FILE:LINE:COLUMN: "
+abbrev pub position_text : (file : List ℕ) → Position → List ℕ
+position_text file p = file ++ codes ":" ++ decimal p.line ++ codes ":" ++ decimal p.column ++ codes ": "
+
+-- "LAYER NUMBER NAME: "
+abbrev pub title_text : Rule → List ℕ
+title_text rule = (words_of rule).layer.now ++ codes " " ++ decimal (words_of rule).number ++ codes " " ++ (words_of rule).name.now ++ codes ": "
+
+abbrev pub help_line : (help : List ℕ) → List ℕ
+help_line help = codes "help: " ++ help ++ codes "\n"
+
+-- the first line up to its sentence, which editors read
+abbrev pub head_text : Spot → Rule → List ℕ
+head_text spot rule = position_text spot.file.name (position_behind (before spot)) ++ title_text rule
+
+-- behind the sentence: the line of the source, and the mark; the help
+abbrev pub rest_text : Spot → (help : List ℕ) → List ℕ
+rest_text spot help = codes "\n" ++ line_shown spot ++ help_line help
+
+-- ---- what is said of a rule
+
+-- two lengths that differ
+abbrev pub lengths_text : Rule → (found needed : ℕ) → List ℕ
+lengths_text rule found needed = (words_of rule).middle.now ++ decimal found ++ codes " and " ++ decimal needed
+
+abbrev pub reported_of : (from : Read) → Rule → Subject → List ℕ
+reported_of from rule Nothing = codes ""
+reported_of from rule (Lengths found needed) = subject from ++ lengths_text rule found needed
+reported_of from rule _ = subject from
+
+-- the word, and of lengths both; of an entity that isn't there the word says nothing
+abbrev pub reported : (from : Read) → Report → List ℕ
+reported from r = reported_of from r.rule r.subject
+
+-- the form that isn't read at the token, or the slip of the pen
+abbrev pub form_at : Seen → Said
+form_at s = unexpected_form s.before.tokens (begins_line s.spot) (first_text s.from)
+
+-- nothing is said but that it can't stand there
+abbrev pub is_plain : Said → Bool
+is_plain said = str_eq_ignore_ascii_case said.0 (codes "can't stand here")
+
+abbrev pub unexpected_by : (form : Said) → Expected → Said
+unexpected_by form (surely said) = said
+unexpected_by form (perhaps said) = if is_plain form then said else form
+unexpected_by form nothing = form
+
+-- of a token that can't stand there: what was expected for sure; else the form; else what may be expected
+abbrev pub unexpected_said : Seen → Said
+unexpected_said s = unexpected_by (form_at s) s.expected
+
+-- of what is left out, what is said of the form
+abbrev pub said_at : Seen → Rule → Said
+said_at s (rule.Syntax grammar.Unexpected) = unexpected_said s
+said_at s (rule.Name naming.LeftOut) = left_out_form s.before.tokens (first_text s.from)
+said_at s rule = said_of rule
+
+-- a choice that is missing, where not each value has one; the entities, where the top is none of them
+abbrev pub below : Seen → (source : Read) → Rule → List ℕ
+below s source (rule.Name naming.NoOthers) = missing_line s.before s.from
+below s source (rule.Elab elaboration.NoTop) = entities_line source
+below s source rule = []
+
+-- ---- what is told
+
+-- of a source without tokens: the word at the byte, and what is said of the rule
+abbrev pub refusal_said : Spot → Rule → Said
+refusal_said spot rule = said_refused (after spot) rule
+
+abbrev pub refusal_sentence : Spot → Rule → List ℕ
+refusal_sentence spot rule = refused (after spot) ++ (refusal_said spot rule).0
+
+abbrev pub refusal_told : Spot → Rule → Told
+refusal_told spot rule =
+    record { rule = rule; spot = spot; sentence = refusal_sentence spot rule; help = (refusal_said spot rule).1; below = [] }
+
+-- of a rule that its tokens break: what those around the byte tell of it
+abbrev pub hint_of : Seen → (source : Read) → Report → Hint
+hint_of s source r = hint_at source s.before.tokens s.from.tokens r.rule r.subject
+
+-- or what is said of the rule, where they tell nothing
+abbrev pub usual_sentence : Seen → Report → List ℕ
+usual_sentence s r = reported s.from r ++ (said_at s r.rule).0
+
+abbrev pub sentence_of : Seen → (source : Read) → Report → List ℕ
+sentence_of s source r = if is_nothing (hint_of s source r) then usual_sentence s r else sentence s.from (hint_of s source r)
+
+abbrev pub help_of : Seen → (source : Read) → Report → List ℕ
+help_of s source r = help (hint_of s source r) (said_at s r.rule).1
+
+abbrev pub seen_told : Seen → (source : Read) → Report → Told
+seen_told s source r =
+    record { rule = r.rule; spot = s.spot; sentence = sentence_of s source r; help = help_of s source r; below = below s source r.rule }
+
+-- at the byte of a report; nothing where it has none
+abbrev pub refusal_at : List FileView → Rule → Place → Option Told
+refusal_at files rule (Byte at) = Some (refusal_told (spot_in files at) rule)
+refusal_at files rule _ = None
+
+abbrev pub told_of_refusal : List FileView → Report → Option Told
+told_of_refusal files r = refusal_at files r.rule r.place
+
+abbrev pub told_at : List FileView → (source : Read) → Expected → Report → Place → Option Told
+told_at files source expected r (Byte at) = Some (seen_told (seen_at files source expected at) source r)
+told_at files source expected r _ = None
+
+abbrev pub told_of_source : List FileView → (source : Read) → Expected → Report → Option Told
+told_of_source files source expected r = told_at files source expected r r.place
+
+-- ---- explanations
+
+abbrev pub paragraph : Told → List ℕ
+paragraph t = head_text t.spot t.rule ++ t.sentence ++ rest_text t.spot t.help ++ t.below
+
+abbrev pub explained : Option Told → List ℕ
+explained None = []
+explained (Some t) = paragraph t
+
+-- why a source has no tokens
+abbrev pub refusal_explained : List FileView → Report → List ℕ
+refusal_explained files r = explained (told_of_refusal files r)
+
+-- which rule it breaks
+abbrev pub source_explained : List FileView → (source : Read) → Expected → Report → List ℕ
+source_explained files source expected r = explained (told_of_source files source expected r)

@@ -1,0 +1,93 @@
+-- What is written of the faults of a stimulus, of NAME=VALUE words and of a run.
+use Rattle.std.specs.Prelude.{ℕ, zero, suc, ◌-◌, Bool, true, false, if◌then◌else◌, List, [], ◌∷◌, ◌++◌, Option, Some, None, codes, decimal}
+use Rattle.rtl_net.specs.Names.{net_name}
+use Rattle.rtl_net.specs.Nets.{NetlistView}
+use Rattle.fault_rules.specs.Rules.{words_of}
+use Rattle.fault_rules.specs.declared.report.Place.{Place}
+use Rattle.fault_rules.specs.declared.report.Place.TheVariants.{Line, Time}
+use Rattle.fault_rules.specs.declared.report.Report.{Report}
+use Rattle.fault_rules.specs.declared.report.Rule.{Rule}
+use Rattle.fault_rules.specs.declared.report.Rule.TheVariants as rules
+use Rattle.fault_rules.specs.declared.report.Subject.{Subject}
+use Rattle.fault_rules.specs.declared.report.Subject.TheVariants.{Race}
+use Rattle.fault_rules.specs.declared.settling.RunRule.TheVariants.{NoSettling}
+use Rattle.rtl_stim_lines.specs.Lines.{ends_line}
+use Rattle.rtlsim_refusals.specs.Explained.{title_text, help_line}
+use Rattle.rtlsim_refusals.specs.Places.{line_after}
+use Rattle.rtlsim_refusals.specs.Races.{race_line}
+
+-- ---- a line of a text
+
+-- what stands behind so many lines
+abbrev pub behind_lines : (count : ℕ) → List ℕ → List ℕ
+behind_lines zero bytes = bytes
+behind_lines (suc count) [] = []
+behind_lines (suc count) (byte ∷ bytes) = if ends_line byte then behind_lines count bytes else behind_lines (suc count) bytes
+
+-- the line of this number, from 1
+abbrev pub numbered_line : (line : ℕ) → (text : List ℕ) → List ℕ
+numbered_line line text = line_after (behind_lines (line - 1) text) ++ codes "\n"
+
+-- the same, where there are both
+abbrev pub shown : (line : Option ℕ) → (text : Option (List ℕ)) → List ℕ
+shown (Some line) (Some text) = numbered_line line text
+shown _ _ = []
+
+-- ---- the parts of a paragraph
+
+abbrev pub line_number : (line : Option ℕ) → List ℕ
+line_number None = []
+line_number (Some line) = codes ":" ++ decimal line
+
+-- "FILE:LINE: LAYER NUMBER NAME: ", or without a line
+abbrev pub head : (file : List ℕ) → Rule → (line : Option ℕ) → List ℕ
+head file rule line = file ++ line_number line ++ codes ": " ++ title_text rule
+
+-- what stands behind the sentence: the line, and the help
+abbrev pub rest : (text : Option (List ℕ)) → Rule → (line : Option ℕ) → List ℕ
+rest text rule line = codes "\n" ++ shown line text ++ help_line (words_of rule).help.now
+
+abbrev pub paragraph : (file : List ℕ) → (text : Option (List ℕ)) → Rule → (line : Option ℕ) → (sentence : List ℕ) → List ℕ
+paragraph file text rule line sentence = head file rule line ++ sentence ++ rest text rule line
+
+-- ---- explanations
+
+-- the line that a fault is in: of a stimulus, which is shown, or of a word
+abbrev pub line_of : Place → Option ℕ
+line_of (Line line) = Some line
+line_of _ = None
+
+-- a fault that names no net
+abbrev pub plain_explained : (file : List ℕ) → (text : Option (List ℕ)) → Rule → Place → List ℕ
+plain_explained file text rule place = paragraph file text rule (line_of place) (words_of rule).middle.now
+
+-- a time, and what is said of a rule before it and behind it
+abbrev pub time_text : Rule → (time : ℕ) → List ℕ
+time_text rule time = (words_of rule).opening.now ++ decimal time ++ (words_of rule).middle.now
+
+abbrev pub race_sentence : Rule → (time : ℕ) → (input clock : List ℕ) → List ℕ
+race_sentence rule time input clock = time_text rule time ++ input ++ (words_of rule).closing.now ++ clock
+
+-- a race, in the line that makes the input change, which is shown; in the stimulus where there is none
+abbrev pub race_explained : (file : List ℕ) → (text : Option (List ℕ)) → NetlistView → Rule → (time input clock : ℕ) → List ℕ
+race_explained file text net rule time input clock =
+    paragraph file text rule (race_line net time input text) (race_sentence rule time (net_name net input) (net_name net clock))
+
+abbrev pub stim_of : (file : List ℕ) → (text : Option (List ℕ)) → NetlistView → Rule → Place → Subject → List ℕ
+stim_of file text net rule (Time time) (Race input clock) = race_explained file text net rule time input clock
+stim_of file text net rule place subject = plain_explained file text rule place
+
+abbrev pub stim_explained : (file : List ℕ) → (text : Option (List ℕ)) → NetlistView → Report → List ℕ
+stim_explained file text net r = stim_of file text net r.rule r.place r.subject
+
+abbrev pub names_nets : Subject → Bool
+names_nets (Race input clock) = true
+names_nets _ = false
+
+-- a race names nets
+abbrev pub is_race : Report → Bool
+is_race r = names_nets r.subject
+
+-- a moment that doesn't settle
+abbrev pub settle_explained : (file : List ℕ) → (time : ℕ) → List ℕ
+settle_explained file time = paragraph file None (rules.Run NoSettling) None (time_text (rules.Run NoSettling) time)

@@ -1,0 +1,91 @@
+//! Which line of a stimulus makes an input change at a time.
+
+ghost use Rattle.std.specs.Prelude.{◌≡◌, IfOk, Option, map, option_map};
+ghost use Rattle.rtl_net.specs.Nets.{signal_view};
+ghost use Rattle.rtl_stim_lines.specs.Bounded.{IsFormOf};
+ghost use Rattle.rtl_stim_lines.specs.Forms as forms;
+ghost use Rattle.rtlsim_refusals.specs.Races as spec;
+
+use rtl_net::{Net, Signal};
+use rtl_stim_lines::{Form, Time, form_of, line_end, without_return, words_of};
+use vhdl_slips::is_same_word;
+use std::alloc::{AllocError, Global};
+
+/// The number of the first line of a stimulus, from 1, that sets an input's port at a time in ns, or makes it a clock. `None` where no line
+/// does, or where there is no text. It takes the memory of a line's words.
+pub(crate) fn race_line(
+    alloc: Global,
+    net: &Net,
+    time: u64,
+    input: usize,
+    text: Option<&[u8]>,
+) -> Result<Option<usize>, AllocError>
+    ensures { IfOk result (λ line. line ≡ spec.race_line net.now time input (option_map (λ t. t.now) text.entry)) }
+{
+    match text {
+        None => Ok(None),
+        Some(text) => setting_line(alloc, name_with(input, net.signals()), time, text),
+    }
+}
+
+/// The name of the first signal that has a net, empty where none has it.
+fn name_with(net: usize, mut signals: &[Signal]) -> &[u8]
+    ensures { result.now ≡ spec.name_with net (map signal_view signals.entry.now) }
+{
+    while let [signal, others @ ..] = signals {
+        if signal.nets.contains(&net) {
+            return &signal.name;
+        }
+        signals = others;
+    }
+    &[]
+}
+
+/// The number of the first line of a text that sets a port at a time, or makes it a clock.
+fn setting_line(
+    alloc: Global,
+    port: &[u8],
+    time: u64,
+    text: &[u8],
+) -> Result<Option<usize>, AllocError>
+    ensures { IfOk result (λ line. line ≡ spec.setting_line port.now time text.now) }
+{
+    let mut left = text;
+    let mut number = 1;
+    while let Some(end) = line_end(left) {
+        if line_sets(alloc, port, time, without_return(&left[..end]))? {
+            return Ok(Some(number));
+        }
+        left = &left[end + 1..];
+        number += 1;
+    }
+    if line_sets(alloc, port, time, left)? {
+        return Ok(Some(number));
+    }
+    Ok(None)
+}
+
+/// Whether a line sets a port at a time, or makes it a clock.
+fn line_sets(alloc: Global, port: &[u8], time: u64, line: &[u8]) -> Result<bool, AllocError>
+    ensures { IfOk result (λ sets. sets ≡ spec.line_sets port.now time line.now) }
+{
+    let words = words_of(alloc, line)?;
+    Ok(form_sets(port, time, form_of(&words)))
+}
+
+/// Whether a line of this form does.
+fn form_sets(port: &[u8], time: u64, form: Option<Form<'_>>) -> bool
+    ensures { (said : Option forms.Form) → IsFormOf said form.entry → result ≡ spec.form_sets port.now time said }
+{
+    match form {
+        Some(
+            Form::At {
+                time: Time::At(at),
+                name,
+                ..
+            },
+        ) => at == time && is_same_word(name, port),
+        Some(Form::Clock { name, .. }) => is_same_word(name, port),
+        _ => false,
+    }
+}

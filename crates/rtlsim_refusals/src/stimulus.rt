@@ -1,0 +1,209 @@
+//! Explanations of the faults of a stimulus, of NAME=VALUE words and of a run.
+
+ghost use Rattle.std.specs.Prelude.{◌≡◌, true, IfErr, option_map};
+ghost use Rattle.byte_streams.specs.Written.{Goes, IsIntact};
+ghost use Rattle.rtlsim_refusals.specs.Stimuli as spec;
+ghost use Rattle.rtlsim_listing.specs.Printing.{IsListed};
+ghost use Rattle.rtlsim_listing.specs.declared.fault.ListingFault.TheVariants.{Memory};
+
+use crate::explaining::{push_help, push_title};
+use crate::place::line_after;
+use crate::race::race_line;
+use rtl_net::Net;
+use fault_rules::{Place, Report, Rule, RunRule, Subject};
+use byte_streams::{Sink, finish, push_number, push_text};
+use rtlsim_listing::{ListingFault, net_name};
+use std::alloc::Global;
+
+/// Explains why a stimulus is refused, whose text shows the line, or a NAME=VALUE word, without a text. It takes the memory of two names
+/// and of the words of a line at a race.
+///
+/// # Errors
+///
+/// `Memory` where a name's or a line's memory was refused, and `Write` where the sink failed: what went out is a beginning of the text.
+pub fn explain_stim<S: Sink>(
+    alloc: Global,
+    file: &[u8],
+    text: Option<&[u8]>,
+    net: &Net,
+    report: Report,
+    sink: &mut S,
+) -> Result<(), ListingFault>
+    requires intact { IsIntact (S.state sink.old) }
+    ensures listed { IsListed result (S.state sink.old) (S.state sink.new)
+        (spec.stim_explained file.now (option_map (λ t. t.now) text.entry) net.now report) }
+    ensures named { IfErr result (λ e. e ≡ Memory → spec.is_race report ≡ true) }
+{
+    match (report.place, report.subject) {
+        (Place::Time(time), Subject::Race { input, clock }) => explain_race(
+            alloc,
+            file,
+            text,
+            net,
+            report.rule,
+            (time, input, clock),
+            sink,
+        ),
+        _ => {
+            push_plain(file, text, report, sink);
+            Ok(finish(sink)?)
+        }
+    }
+}
+
+/// Explains a race, by its time, input and clock.
+fn explain_race<S: Sink>(
+    alloc: Global,
+    file: &[u8],
+    text: Option<&[u8]>,
+    net: &Net,
+    rule: Rule,
+    race: (u64, usize, usize),
+    sink: &mut S,
+) -> Result<(), ListingFault>
+    requires intact { IsIntact (S.state sink.old) }
+    ensures { IsListed result (S.state sink.old) (S.state sink.new)
+        (spec.race_explained file.now (option_map (λ t. t.now) text.entry) net.now rule race.0 race.1 race.2) }
+{
+    let (time, input, clock) = race;
+    let line = race_line(alloc, net, time, input, text)?;
+    let input = net_name(alloc, net, input)?;
+    let clock = net_name(alloc, net, clock)?;
+    push_race(file, text, rule, line, (time, &input, &clock), sink);
+    Ok(finish(sink)?)
+}
+
+/// Writes the explanation of a race, by its time and the names of its input and clock, in the line that makes the input change.
+fn push_race<S: Sink>(
+    file: &[u8],
+    text: Option<&[u8]>,
+    rule: Rule,
+    line: Option<usize>,
+    race: (u64, &[u8], &[u8]),
+    sink: &mut S,
+)
+    ensures { Goes (S.state sink.old) (S.state sink.new)
+        (spec.paragraph file.now (option_map (λ t. t.now) text.entry) rule line
+        (spec.race_sentence rule race.entry.0 race.entry.1.now race.entry.2.now)) }
+{
+    let (time, input, clock) = race;
+    push_head(file, rule, line, sink);
+    push_race_sentence(rule, time, input, clock, sink);
+    push_rest(text, rule, line, sink);
+}
+
+/// Writes what races: two nets of these names.
+fn push_race_sentence<S: Sink>(rule: Rule, time: u64, input: &[u8], clock: &[u8], sink: &mut S)
+    ensures { Goes (S.state sink.old) (S.state sink.new) (spec.race_sentence rule time input.now clock.now) }
+{
+    push_time(rule, time, sink);
+    push_text(sink, input);
+    push_text(sink, rule.words().closing.as_bytes());
+    push_text(sink, clock);
+}
+
+/// Writes a time, and what is said of a rule before it and behind it.
+fn push_time<S: Sink>(rule: Rule, time: u64, sink: &mut S)
+    ensures { Goes (S.state sink.old) (S.state sink.new) (spec.time_text rule time) }
+{
+    let words = rule.words();
+    push_text(sink, words.opening.as_bytes());
+    push_number(sink, time);
+    push_text(sink, words.middle.as_bytes());
+}
+
+/// Writes the explanation of a fault that names no net.
+fn push_plain<S: Sink>(file: &[u8], text: Option<&[u8]>, report: Report, sink: &mut S)
+    ensures { Goes (S.state sink.old) (S.state sink.new)
+        (spec.plain_explained file.now (option_map (λ t. t.now) text.entry) report.rule report.place) }
+{
+    let line = line_of(report.place);
+    push_head(file, report.rule, line, sink);
+    push_text(sink, report.rule.words().middle.as_bytes());
+    push_rest(text, report.rule, line, sink);
+}
+
+fn line_of(place: Place) -> Option<usize>
+    ensures { result ≡ spec.line_of place }
+{
+    match place {
+        Place::Line(line) => Some(line),
+        _ => None,
+    }
+}
+
+/// Writes a fault's file, its line where it has one, and under what it is told.
+fn push_head<S: Sink>(file: &[u8], rule: Rule, line: Option<usize>, sink: &mut S)
+    ensures { Goes (S.state sink.old) (S.state sink.new) (spec.head file.now rule line) }
+{
+    push_text(sink, file);
+    push_line_number(line, sink);
+    push_text(sink, b": ");
+    push_title(rule, sink);
+}
+
+/// Writes the number of a line, where there is one.
+fn push_line_number<S: Sink>(line: Option<usize>, sink: &mut S)
+    ensures { Goes (S.state sink.old) (S.state sink.new) (spec.line_number line) }
+{
+    match line {
+        Some(line) => {
+            push_text(sink, b":");
+            push_number(sink, line as u64);
+        }
+        None => push_text(sink, b""),
+    }
+}
+
+/// Writes what stands behind the sentence: the line, where there is one and a text, and the help.
+fn push_rest<S: Sink>(text: Option<&[u8]>, rule: Rule, line: Option<usize>, sink: &mut S)
+    ensures { Goes (S.state sink.old) (S.state sink.new) (spec.rest (option_map (λ t. t.now) text.entry) rule line) }
+{
+    push_text(sink, b"\n");
+    push_shown(line, text, sink);
+    push_help(rule.words().help.as_bytes(), sink);
+}
+
+/// Writes the line of this number of a text, where there are both.
+fn push_shown<S: Sink>(line: Option<usize>, text: Option<&[u8]>, sink: &mut S)
+    ensures { Goes (S.state sink.old) (S.state sink.new) (spec.shown line (option_map (λ t. t.now) text.entry)) }
+{
+    match (line, text) {
+        (Some(line), Some(text)) => push_numbered(line, text, sink),
+        _ => push_text(sink, b""),
+    }
+}
+
+/// Writes the line of this number of a text.
+fn push_numbered<S: Sink>(line: usize, text: &[u8], sink: &mut S)
+    ensures { Goes (S.state sink.old) (S.state sink.new) (spec.numbered_line line text.now) }
+{
+    push_text(sink, line_after(behind_lines(line.saturating_sub(1), text)));
+    push_text(sink, b"\n");
+}
+
+/// What stands behind so many lines.
+fn behind_lines(mut count: usize, mut bytes: &[u8]) -> &[u8]
+    ensures { result.now ≡ spec.behind_lines count bytes.entry.now }
+{
+    while let [byte, rest @ ..] = bytes {
+        if count == 0 {
+            return bytes;
+        }
+        if *byte == b'\n' {
+            count -= 1;
+        }
+        bytes = rest;
+    }
+    bytes
+}
+
+/// Explains that a moment doesn't settle.
+pub fn explain_unsettled<S: Sink>(file: &[u8], time: u64, sink: &mut S)
+    ensures { Goes (S.state sink.old) (S.state sink.new) (spec.settle_explained file.now time) }
+{
+    let rule = Rule::Run(RunRule::NoSettling);
+    push_head(file, rule, None, sink);
+    push_time(rule, time, sink);
+    push_rest(None, rule, None, sink);
+}

@@ -1,5 +1,0 @@
-use Rattle.std.proofs.Common.{ℕ, drop, ap, ◌∙◌}
-use Rattle.rtlsim_tokens.proofs.part.from.Goals as goal
-
-pub returns : goal.returns
-returns c = c.split_at.ensures.back ∙ ap (λ (n : ℕ). drop n c.args.tokens.now) c.len_before.ensures.value

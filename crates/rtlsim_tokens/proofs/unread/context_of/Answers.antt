@@ -1,9 +1,0 @@
-use Rattle.std.proofs.Common.{◌∙◌}
-use Rattle.rtlsim_tokens.specs.Forms.{context_with}
-use Rattle.rtlsim_tokens.proofs.Folds.{found_more}
-use Rattle.rtlsim_tokens.proofs.unread.context_of.Goals as goal
-
-pub loop-tokens-preserved : goal.loop-tokens-preserved
-loop-tokens-preserved c = rw c.context_behind-context.ensures (
-    found_more context_with c.loop-tokens.context _ c.loop-tokens.tokens.now c.in-len1-up.len_at_least ∙ c.loop-tokens.invariant
-    )

@@ -1,8 +1,0 @@
-use Rattle.std.proofs.Common.{◌≡◌, drop, map}
-use Rattle.rtlsim_files.specs.Files.{spot_in}
-use Rattle.rtlsim_verdict.specs.Marks.{view}
-use Rattle.rtlsim_verdict.proofs.places.place_at.Given as goal
-
--- the place is that in the files from this one on
-abbrev pub invariant-loop-number : goal.invariant-loop-number
-invariant-loop-number l = spot_in (map view (drop l.number l.files)) l.at ≡ spot_in (map view l.files) l.fn.at

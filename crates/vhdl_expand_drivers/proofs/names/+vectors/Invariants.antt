@@ -1,8 +1,0 @@
-use Rattle.std.proofs.Common.{drop}
-use Rattle.vhdl_expand_drivers.specs.Names.{link_names}
-use Rattle.vhdl_expand_drivers.proofs.Gathering.{Left}
-use Rattle.vhdl_expand_drivers.proofs.names.+vectors.Given as goal
-
--- those so far, and those that are left
-abbrev pub invariant-of_links-loop-item : goal.invariant-of_links-loop-item
-invariant-of_links-loop-item l = Left link_names l.fn.found l.list l.found (drop l.item-index l.list)

@@ -1,6 +1,0 @@
-use Rattle.std.proofs.Common.{◌≡◌, replicate}
-use Rattle.vhdl_expand_drivers.proofs.variables.filled.Given as goal
-
--- the elements so far
-abbrev pub invariant-loop-place : goal.invariant-loop-place
-invariant-loop-place l = l.codes.items ≡ replicate l._place l.code

@@ -1,0 +1,53 @@
+use Rattle.std.proofs.Common.{refl, sym, ap, ◌∙◌}
+use Rattle.vhdl_names_rules.specs.declared.vector.Vector.{Vector}
+use Rattle.vhdl_names_rules.specs.views.Vectors.{vector_view}
+use Rattle.vhdl_expand_rules.specs.Prefixes.{vector_names}
+use Rattle.vhdl_expand_processes.specs.Names.{link_names}
+use Rattle.vhdl_expand_processes.proofs.Gathering.{nothing_more, adds_along, adds_both, left_next, left_none}
+use Rattle.vhdl_expand_processes.proofs.Reading.{chain_adds}
+use Rattle.vhdl_expand_processes.proofs.names.+vectors.Goals as goal
+
+pub of_vector-returns-in-Signal : goal.of_vector-returns-in-Signal
+of_vector-returns-in-Signal t c =
+    adds_along c.args.found.now c.add_place.new.self _ _ (ap (λ (x : Vector). vector_names (vector_view x)) c.in-Signal.is) c.add_place.ensures
+
+pub of_vector-returns-in-Not : goal.of_vector-returns-in-Not
+of_vector-returns-in-Not t c =
+    adds_along c.args.found.now c.of_vector.new.found _ _ (ap (λ (x : Vector). vector_names (vector_view x)) c.in-Not.is ∙ ap (λ (x : Vector). vector_names (vector_view x)) (sym c.deref.ensures)) c.of_vector.ensures
+
+pub of_vector-returns-in-IntegerWith : goal.of_vector-returns-in-IntegerWith
+of_vector-returns-in-IntegerWith t c =
+    adds_along c.args.found.now c.of_vector-in-IntegerWith.new.found _ _ (ap (λ (x : Vector). vector_names (vector_view x)) c.in-IntegerWith.is ∙ ap (λ (x : Vector). vector_names (vector_view x)) (sym c.deref-in-IntegerWith.ensures)) c.of_vector-in-IntegerWith.ensures
+
+pub of_vector-returns-in-Counted : goal.of_vector-returns-in-Counted
+of_vector-returns-in-Counted t c =
+    adds_along c.args.found.now c.of_vector-in-Counted.new.found _ _ (ap (λ (x : Vector). vector_names (vector_view x)) c.in-Counted.is ∙ ap (λ (x : Vector). vector_names (vector_view x)) (sym c.deref-in-Counted.ensures)) c.of_vector-in-Counted.ensures
+
+pub of_link-returns-in-Vector : goal.of_link-returns-in-Vector
+of_link-returns-in-Vector t c =
+    adds_along c.args.found.now c.of_vector.new.found _ _ (ap link_names c.in-Vector.is) c.of_vector.ensures
+
+pub of_link-returns-in-Integer : goal.of_link-returns-in-Integer
+of_link-returns-in-Integer t c =
+    nothing_more c.args.found.now _ (ap link_names c.in-Integer.is)
+
+pub of_vector-returns-in-Chain : goal.of_vector-returns-in-Chain
+of_vector-returns-in-Chain t c =
+    chain_adds _ c.in-Chain.start c.in-Chain.links _ _ c.args.found.now c.of_links.new.found c.in-Chain.is c.deref-in-Chain.ensures c.deref-in-Chain-2.ensures.value
+    (adds_both c.args.found.now c.of_start.new.found c.of_links.new.found _ _ _ refl c.of_start.ensures c.of_links.ensures)
+
+pub of_start-returns : goal.of_start-returns
+of_start-returns t c =
+    adds_both c.args.found.now c.of_vector.new.found c.of_link.new.found _ _ _ refl c.of_vector.ensures c.of_link.ensures
+
+pub of_links-loop-item-init : goal.of_links-loop-item-init
+of_links-loop-item-init t c =
+    λ n. (n, refl)
+
+pub of_links-loop-item-preserved : goal.of_links-loop-item-preserved
+of_links-loop-item-preserved t c =
+    left_next link_names c.args.found.now c.args.list.now c.loop-item.found c.of_link.new.found c.loop-item.item-index c.item-item.result c.loop-item-test.true c.item-item.is c.loop-item.invariant c.of_link.ensures
+
+pub of_links-returns : goal.of_links-returns
+of_links-returns t c =
+    left_none link_names c.args.found.now c.args.list.now c.loop-item.found c.loop-item.item-index c.loop-item-test.false c.loop-item.invariant

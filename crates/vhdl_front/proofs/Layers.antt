@@ -1,0 +1,135 @@
+-- From the tree of a source to its netlist.
+use Rattle.std.proofs.Common.{◌≡◌, ◌≢◌, ◌<◌, ◌≤◌, subst, ℕ, length, List, ◌∷◌, None, Some, Result, Ok, Err, All, arith}
+use Rattle.std.specs.Prelude.{IsTrue, IsErrAnd, IfOk, IfErr, IfSome, Contains}
+use Rattle.std.proofs.lemmas.List.Elements.{All-cons, All-contains, All-weaker}
+use Rattle.vhdl_tree.specs.Tree.{File}
+use Rattle.vhdl_names_rules.specs.problems.Broken.{Tells}
+use Rattle.vhdl_names_rules.specs.problems.Files as breaks
+use Rattle.vhdl_names_rules.specs.Files.{units_of}
+use Rattle.vhdl_names_rules.specs.declared.fault.NameFault.{NameFault}
+use Rattle.vhdl_names_rules.specs.declared.fault.NameFault.TheVariants as names
+use Rattle.vhdl_names_rules.specs.sound.Units.{are_sound}
+use Rattle.vhdl_names_rules.specs.units.Units as u
+use Rattle.vhdl_names_rules.specs.units.Bytes.{units_bytes}
+use Rattle.vhdl_names_laws.proofs.Units.{units_are_sound}
+use Rattle.vhdl_names_laws.proofs.Named.{small_ports_distinct}
+use Rattle.vhdl_names_laws.proofs.placed.Laws.{faults_lie_in_the_text}
+use Rattle.vhdl_names_laws.proofs.standing.Laws.{units_lie_in_the_text}
+use Rattle.vhdl_names.specs.Spelled.{IsSpelled}
+use Rattle.vhdl_names.proofs.Spelled.{words}
+use Rattle.vhdl_expand_rules.specs.Elab.{fault_told}
+use Rattle.vhdl_expand_rules.specs.declared.fault.ElabFault.{ElabFault}
+use Rattle.vhdl_expand_rules.specs.declared.fault.ElabFault.TheVariants as elab
+use Rattle.vhdl_elab_rules.specs.Refused.{MayRefuse}
+use Rattle.vhdl_elab_rules.proofs.Nets.{each-has-its-names}
+use Rattle.vhdl_elab_rules.proofs.Ports.{each-has-own-ports}
+use Rattle.vhdl_elab_rules.proofs.laws.Standing.{refusals-stand}
+use Rattle.rtl_net.specs.Nets.{NetlistView}
+use Rattle.rtl_stim.specs.Ports.{HasOwnPorts}
+use Rattle.vhdl_front_rules.specs.Sources.{IsFileOf}
+use Rattle.vhdl_front_rules.specs.Designs.{IsNetOf}
+use Rattle.vhdl_front_rules.specs.Faults.{LiesIn, of_name, of_elab}
+use Rattle.vhdl_front_rules.specs.Refusals.{Refuses}
+use Rattle.vhdl_front.specs.Steps.{ShowsTop, HasNameFault, HasElabFault, GivesNet}
+use Rattle.vhdl_front.specs.Laws.{EachRefusalLiesInItsSource}
+use Rattle.vhdl_front_rules.specs.declared.fault.SourceFault.{SourceFault}
+use Rattle.vhdl_front_rules.specs.declared.fault.SourceFault.TheVariants.{Lex, Syntax, Name, Elab, NoMemory}
+
+-- ---- the file of a source
+
+pub is_spelled : (source : List ℕ) (file : File) → IsFileOf source file → IsSpelled file
+is_spelled source file read = record { source = source; tokens = read.tokens; cut = read.cut; spelled = read.spelled }
+
+-- ---- its netlist
+
+pub opened : (source top : List ℕ) (file : File) (units : u.Units) (net : NetlistView) → IsFileOf source file → units_of file ≡ Some units → IsTrue (are_sound units) → ShowsTop units top net
+    → IsNetOf source top net
+opened source top file units net read typed sound shown = record {
+  design = shown.design;
+  has = record { units = units; analysed = record { file = file; read = read; well_typed = typed }; is = shown.is };
+  shows = shown.shows;
+  named = each-has-its-names units top shown.design net sound shown.is shown.shows;
+}
+
+pub own_ports : (source top : List ℕ) (net : NetlistView) → IsNetOf source top net → HasOwnPorts net
+own_ports source top net h =
+    let units = h.has.units in
+    let analysed = h.has.analysed in
+    each-has-own-ports units top h.design net (units_are_sound analysed.file units analysed.read.well_formed analysed.well_typed)
+    (small_ports_distinct analysed.file units (words analysed.file (is_spelled source analysed.file analysed.read)) analysed.well_typed) h.has.is h.shows
+
+-- ---- why it has none
+
+pub no_units : (file : File) (fault : NameFault) → (fault ≢ names.NoMemory → units_of file ≡ None) → Tells (breaks.file file) fault → HasNameFault file (of_name fault)
+no_units file (names.At problem at) none broken = (none (λ e. absurd cc), broken)
+no_units file names.NoMemory none broken = tt
+
+pub untyped_refuses : (source top : List ℕ) (file : File) (fault : SourceFault) → IsFileOf source file → HasNameFault file fault → Refuses source top fault
+untyped_refuses source top file (Name (names.At problem at)) read h = record { file = file; read = read; ill_typed = h.0; broken = h.1 }
+untyped_refuses source top file (Name names.NoMemory) read h = h
+untyped_refuses source top file NoMemory read h = tt
+untyped_refuses source top file (Lex fault) read h = absurd h
+untyped_refuses source top file (Syntax fault) read h = absurd h
+untyped_refuses source top file (Elab fault) read h = absurd h
+
+-- a fault of names stands in the source
+pub untyped_lies : (source : List ℕ) (file : File) (fault : SourceFault) → IsFileOf source file → HasNameFault file fault → LiesIn (length source) fault
+untyped_lies source file (Name (names.At problem at)) read h =
+    let inside : at < length source
+    = subst (λ b. IfSome b (λ at_fault. at_fault.1 < length source)) h.1 (faults_lie_in_the_text source read.tokens file read.cut read.spelled read.well_formed) in
+    omega (arith, inside)
+untyped_lies source file (Name names.NoMemory) read h = absurd h
+untyped_lies source file NoMemory read h = tt
+untyped_lies source file (Lex fault) read h = absurd h
+untyped_lies source file (Syntax fault) read h = absurd h
+untyped_lies source file (Elab fault) read h = absurd h
+
+pub no_net : (units : u.Units) (top : List ℕ) (fault : ElabFault) → (fault ≢ elab.NoMemory → MayRefuse units top (fault_told fault)) → HasElabFault units top (of_elab fault)
+no_net units top (elab.At problem at) h = h (λ e. absurd cc)
+no_net units top elab.NoMemory h = tt
+
+-- a byte of the units is one of the source, and 0 is one or its end
+in_source : (size : ℕ) (bytes : List ℕ) (at : ℕ) → All (λ b. b < size) bytes → Contains (0 ∷ bytes) at → at ≤ size
+in_source size bytes at inside c =
+    All-contains (λ b. b ≤ size) (0 ∷ bytes) at
+    (All-cons (λ b. b ≤ size) 0 bytes (omega arith) (All-weaker (λ b. b < size) (λ b. b ≤ size) (λ b h. omega (arith, h)) bytes inside)) c
+
+pub refusal_lies : EachRefusalLiesInItsSource
+refusal_lies source top problem at r =
+    let read = r.analysed.read in
+    in_source (length source) (units_bytes r.units) at (units_lie_in_the_text source read.tokens r.analysed.file r.units read.cut read.spelled r.analysed.well_typed)
+    (refusals-stand r.units top (problem, at) r.refused)
+
+-- ---- the whole
+
+module _ (source top : List ℕ) (file : File) (units : u.Units) (read : IsFileOf source file) (typed : units_of file ≡ Some units) where
+  pub gives_opened : IsTrue (are_sound units) → (answer : Result NetlistView SourceFault) → GivesNet units top answer → IfOk answer (λ net. IsNetOf source top net)
+  gives_opened sound (Ok net) h = opened source top file units net read typed sound h
+  gives_opened sound (Err fault) h = tt
+
+  pub gives_refused : (answer : Result NetlistView SourceFault) → GivesNet units top answer → IfErr answer (Refuses source top)
+  gives_refused (Ok net) h = tt
+  gives_refused (Err (Elab (elab.At problem at))) h = record { units = units; analysed = record { file = file; read = read; well_typed = typed }; refused = h }
+  gives_refused (Err (Elab elab.NoMemory)) h = h
+  gives_refused (Err NoMemory) h = tt
+  gives_refused (Err (Lex fault)) h = absurd h
+  gives_refused (Err (Syntax fault)) h = absurd h
+  gives_refused (Err (Name fault)) h = absurd h
+
+  pub gives_told : (answer : Result NetlistView SourceFault) → GivesNet units top answer → IfErr answer (LiesIn (length source))
+  gives_told (Ok net) h = tt
+  gives_told (Err (Elab (elab.At problem at))) h =
+      refusal_lies source top problem at (record { units = units; analysed = record { file = file; read = read; well_typed = typed }; refused = h })
+  gives_told (Err (Elab elab.NoMemory)) h = absurd h
+  gives_told (Err NoMemory) h = tt
+  gives_told (Err (Lex fault)) h = absurd h
+  gives_told (Err (Syntax fault)) h = absurd h
+  gives_told (Err (Name fault)) h = absurd h
+
+pub refuses_along : (source top : List ℕ) (answer : Result NetlistView SourceFault) (fault : SourceFault) → IsErrAnd answer (λ f. f ≡ fault) → Refuses source top fault → IfErr answer (Refuses source top)
+refuses_along source top (Ok net) fault is h = tt
+refuses_along source top (Err f) fault is h = rw is h
+
+pub lies_along : (source : List ℕ) (answer : Result NetlistView SourceFault) (fault : SourceFault) → IsErrAnd answer (λ f. f ≡ fault) → LiesIn (length source) fault → IfErr answer (LiesIn (length source))
+lies_along source (Ok net) fault is h = tt
+lies_along source (Err f) fault is h = rw is h

@@ -1,0 +1,105 @@
+-- A source has one tree, and so one of each that follows from it.
+use Rattle.std.proofs.Common.{◌≡◌, ℕ, Bool, true, false, List, Some, Ok, Err, inl, inr, refl, true≢false, sym, ap, ◌∙◌, subst, arith}
+use Rattle.std.specs.Prelude.{IsErr}
+use Rattle.vhdl_lexer.specs.declared.token.Token.{Token}
+use Rattle.vhdl_parser.specs.Fault.{IsRefusal, IsTooDeep}
+use Rattle.vhdl_parser.specs.declared.fault.SyntaxFault.{SyntaxFault}
+use Rattle.vhdl_parser.specs.declared.fault.SyntaxFault.TheVariants as syntax
+use Rattle.vhdl_tree.specs.Levels.{IsShallow, IsDeep, most_open}
+use Rattle.vhdl_tree.specs.Lexeme.{Lexeme, lexemes}
+use Rattle.vhdl_tree.specs.Tree.{File}
+use Rattle.vhdl_names_rules.specs.Files.{units_of}
+use Rattle.vhdl_names_rules.specs.declared.fault.NameFault.TheVariants as names
+use Rattle.vhdl_names_rules.specs.declared.fault.NameProblem.{NameProblem}
+use Rattle.vhdl_names_rules.specs.units.Units.{Units}
+use Rattle.vhdl_expand_rules.specs.Elab.{Told, Elab as Expanded, ◌>>=◌, ◌>>◌, unless}
+use Rattle.vhdl_expand_rules.specs.Expansion.{Design, expanded_design}
+use Rattle.vhdl_expand_rules.specs.declared.fault.ElabFault.TheVariants as elab
+use Rattle.vhdl_expand_rules.specs.declared.fault.ElabProblem.{ElabProblem}
+use Rattle.vhdl_expand_rules.specs.declared.fault.ElabProblem.TheVariants.{TooMany}
+use Rattle.vhdl_elab_rules.specs.Elaboration.{Elaborated, net_of, resolves, shares_unread, netlist_of, elaborated_net}
+use Rattle.vhdl_elab_rules.specs.Limits.{counts, is_within_limits}
+use Rattle.vhdl_elab_rules.specs.Numbering.{numbered_design}
+use Rattle.vhdl_elab_rules.specs.Refused.{MayRefuse}
+use Rattle.vhdl_elab_rules.specs.Shown.{shown}
+use Rattle.vhdl_front_rules.specs.Sources.{SpellsTokens, IsFileOf, HasSyntaxFault}
+use Rattle.vhdl_front_rules.specs.Designs.{HasUnits, HasDesign}
+use Rattle.vhdl_front_rules.specs.Refusals.{HasNoUnits, HasNoDesign}
+use Rattle.vhdl_front.specs.Laws.{EachSourceHasOneDesign, EachSourceHasOneNet, EachRefusedHasNone}
+use Rattle.vhdl_front_rules.specs.declared.fault.SourceFault.TheVariants.{Lex, Syntax, Name, Elab, NoMemory}
+
+one_file : (source : List ℕ) (a b : File) → IsFileOf source a → IsFileOf source b → a ≡ b
+one_file source a b p q =
+    sym (p.only_file b q.well_formed (subst (λ (ts : List Token). SpellsTokens source ts b) (p.only_tokens q.tokens q.cut) q.spelled))
+
+in_some : {A : Type 0} (a b : A) → Some a ≡ Some b → a ≡ b
+in_some a b e = cc
+
+one_units : (source : List ℕ) (a b : Units) → HasUnits source a → HasUnits source b → a ≡ b
+one_units source a b p q = in_some a b (sym p.well_typed ∙ ap units_of (one_file source p.file q.file p.read q.read) ∙ q.well_typed)
+
+pub one_design : EachSourceHasOneDesign
+one_design source top one other p q =
+    let e : elaborated_net p.units top ≡ elaborated_net q.units top = ap (λ (x : Units). elaborated_net x top) (one_units source p.units q.units p.analysed q.analysed) in
+    let both = sym p.is ∙ e ∙ q.is in cc
+
+pub one_net : EachSourceHasOneNet
+one_net source top one other p q = p.shows ∙ ap shown (one_design source top p.design q.design p.has q.has) ∙ sym q.shows
+
+-- ---- refusals
+
+not_both : (n : ℕ) (ts : List Lexeme) → IsDeep n ts → IsShallow n ts → ⊥
+not_both n ts (j, deep) shallow = let low = shallow j in omega (arith, deep, low)
+
+along : (source : List ℕ) (ts : List Token) (file : File) (h : IsFileOf source file) → h.tokens ≡ ts → SpellsTokens source ts file
+along source ts file h e = subst (λ (xs : List Token). SpellsTokens source xs file) e h.spelled
+
+unspelled : (fault : SyntaxFault) (source : List ℕ) (file : File) → IsRefusal fault → HasSyntaxFault fault source → IsFileOf source file → ⊥
+unspelled fault source file is r h = r.refused is file h.well_formed (along source r.tokens file h (r.only_tokens h.tokens h.cut))
+
+too_deep : (fault : SyntaxFault) (source : List ℕ) (file : File) → IsTooDeep fault → HasSyntaxFault fault source → IsFileOf source file → ⊥
+too_deep fault source file is r h =
+    not_both most_open (lexemes source r.tokens) (r.deep is) (subst (λ (ts : List Token). IsShallow most_open (lexemes source ts)) (r.only_tokens h.tokens h.cut) h.shallow)
+
+untyped : (source : List ℕ) (units : Units) (problem : NameProblem) (at : ℕ) → HasNoUnits source problem at → HasUnits source units → ⊥
+untyped source units problem at r h =
+    let both = sym r.ill_typed ∙ ap units_of (one_file source r.file h.file r.read h.read) ∙ h.well_typed in absurd (cc)
+
+undesigned : (given : Expanded Elaborated) (design : Elaborated) → IsErr given → given ≡ Ok design → ⊥
+undesigned (Ok x) design h e = true≢false (sym h)
+undesigned (Err told) design h e = absurd (cc)
+
+-- what may be refused has no design
+not_connected : (r : Expanded Design) → IsErr (r >>= λ d. unless TooMany 0 (is_within_limits (counts (numbered_design d)))) → IsErr (r >>= λ d. netlist_of d)
+unfolding netlist_of
+not_connected (Err p) h = refl
+not_connected (Ok d) h = by (is_within_limits (counts (numbered_design d))) h
+  where
+    rest : Expanded Elaborated
+    rest = resolves (numbered_design d) >> (shares_unread (numbered_design d) >> Ok (net_of (numbered_design d)))
+
+    by : (t : Bool) → IsErr (unless TooMany 0 t) → IsErr (unless TooMany 0 t >> rest)
+    by true k = absurd (true≢false (sym k))
+    by false k = refl
+
+is_refused : (units : Units) (top : List ℕ) (told : Told) → MayRefuse units top told → IsErr (elaborated_net units top)
+unfolding elaborated_net
+is_refused units top told (inl (other, e)) = subst (λ (r : Expanded Elaborated). IsErr r) (sym e) refl
+is_refused units top told (inr (many, cut)) = not_connected (expanded_design units top) cut.refused
+
+no_design : (source top : List ℕ) (problem : ElabProblem) (at : ℕ) (design : Elaborated) → HasNoDesign source top problem at → HasDesign source top design → ⊥
+no_design source top problem at design r h =
+    undesigned (elaborated_net r.units top) design (is_refused r.units top (problem, at) r.refused)
+    (ap (λ (x : Units). elaborated_net x top) (one_units source r.units h.units r.analysed h.analysed) ∙ h.is)
+
+pub refused : EachRefusedHasNone
+refused source top (Lex x) design behind r h = behind
+refused source top (Syntax (syntax.Unexpected at)) design behind r h = unspelled (syntax.Unexpected at) source h.analysed.file tt r h.analysed.read
+refused source top (Syntax (syntax.EndOfFile at)) design behind r h = unspelled (syntax.EndOfFile at) source h.analysed.file tt r h.analysed.read
+refused source top (Syntax (syntax.TooDeep at)) design behind r h = too_deep (syntax.TooDeep at) source h.analysed.file tt r h.analysed.read
+refused source top (Syntax syntax.NoMemory) design behind r h = r
+refused source top (Name (names.At problem at)) design behind r h = untyped source h.units problem at r h.analysed
+refused source top (Name names.NoMemory) design behind r h = r
+refused source top (Elab (elab.At problem at)) design behind r h = no_design source top problem at design r h
+refused source top (Elab elab.NoMemory) design behind r h = r
+refused source top NoMemory design behind r h = behind

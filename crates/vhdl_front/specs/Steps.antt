@@ -1,0 +1,53 @@
+-- What the code's own calls say.
+use Rattle.std.specs.Prelude.{◌≡◌, ℕ, List, None, Some, Result, Ok, Err, IsTrue}
+use Rattle.rtl_net.specs.Nets.{NetlistView}
+use Rattle.vhdl_elab_rules.specs.Elaboration.{Elaborated, elaborated_net}
+use Rattle.vhdl_elab_rules.specs.Refused.{MayRefuse}
+use Rattle.vhdl_expand_rules.specs.declared.fault.ElabFault.TheVariants as elab
+use Rattle.vhdl_names_rules.specs.problems.Files as breaks
+use Rattle.vhdl_names_rules.specs.Files as rules
+use Rattle.vhdl_names_rules.specs.declared.fault.NameFault.TheVariants as names
+use Rattle.vhdl_names_rules.specs.sound.Named.{are_named}
+use Rattle.vhdl_names_rules.specs.sound.Units.{are_sound}
+use Rattle.vhdl_names_rules.specs.units.Units as u
+use Rattle.vhdl_names_laws.specs.Laws.{small_ports_are_distinct}
+use Rattle.vhdl_elab_rules.specs.Shown.{Shows}
+use Rattle.vhdl_tree.specs.Tree.{File}
+use Rattle.vhdl_names_units.specs.declared.unit.Units.{Units}
+use Rattle.vhdl_names_units.specs.views.Units.{units_view}
+use Rattle.vhdl_front_rules.specs.declared.fault.SourceFault.{SourceFault}
+use Rattle.vhdl_front_rules.specs.declared.fault.SourceFault.TheVariants.{Name, Elab, NoMemory}
+
+-- only a fault of names, only where the file has no units, and that of the first rule that it breaks
+abbrev pub HasNameFault : File → SourceFault → Type 0
+HasNameFault file (Name names.NoMemory) = ⊥
+HasNameFault file (Name (names.At problem at)) = (rules.units_of file ≡ None) × (breaks.file file ≡ Some (problem, at))
+HasNameFault file NoMemory = Unit {0}
+HasNameFault file _ = ⊥
+
+abbrev pub GivesUnits : File → Result Units SourceFault → Type 0
+GivesUnits file (Ok units) = rules.units_of file ≡ Some (units_view units)
+GivesUnits file (Err fault) = HasNameFault file fault
+
+-- elaboration can take them, and a stimulus can speak of the ports of each entity
+pub record AreReady (units : u.Units) : Type 0 where
+  pub sound : IsTrue (are_sound units)
+  pub named : IsTrue (are_named units)
+  pub ports : IsTrue (small_ports_are_distinct units)
+
+-- the units have this netlist
+pub record ShowsTop (units : u.Units) (top : List ℕ) (net : NetlistView) : Type 0 where
+  pub design : Elaborated
+  pub is : elaborated_net units top ≡ Ok design
+  pub shows : Shows design net
+
+-- only a fault of elaboration, only where the units have no design, and with the problem and the byte that may be told
+abbrev pub HasElabFault : u.Units → (top : List ℕ) → SourceFault → Type 0
+HasElabFault units top (Elab elab.NoMemory) = ⊥
+HasElabFault units top (Elab (elab.At problem at)) = MayRefuse units top (problem, at)
+HasElabFault units top NoMemory = Unit {0}
+HasElabFault units top _ = ⊥
+
+abbrev pub GivesNet : u.Units → (top : List ℕ) → Result NetlistView SourceFault → Type 0
+GivesNet units top (Ok net) = ShowsTop units top net
+GivesNet units top (Err fault) = HasElabFault units top fault

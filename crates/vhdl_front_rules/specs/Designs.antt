@@ -1,0 +1,30 @@
+-- The design of a source under a top, and the netlist that shows it (IEEE 1076-2008, clauses 3, 13 and 14).
+use Rattle.std.specs.Prelude.{◌≡◌, ℕ, List, Some, Ok}
+use Rattle.rtl_net.specs.Nets.{NetlistView}
+use Rattle.vhdl_elab_rules.specs.Elaboration.{Elaborated, elaborated_net}
+use Rattle.vhdl_names_rules.specs.Files.{units_of}
+use Rattle.vhdl_names_rules.specs.units.Units.{Units}
+use Rattle.vhdl_elab_rules.specs.Named.{IsNamedAlike}
+use Rattle.vhdl_elab_rules.specs.Shown.{Shows}
+use Rattle.vhdl_tree.specs.Tree.{File}
+use Rattle.vhdl_front_rules.specs.Sources.{IsFileOf}
+
+-- the source's one tree is a well-typed file with these units
+pub record HasUnits (source : List ℕ) (units : Units) : Type 0 where
+  pub file : File
+  pub read : IsFileOf source file
+  pub well_typed : units_of file ≡ Some units
+
+-- of which this top is elaborated to this design
+pub record HasDesign (source top : List ℕ) (design : Elaborated) : Type 0 where
+  pub units : Units
+  pub analysed : HasUnits source units
+  pub is : elaborated_net units top ≡ Ok design
+
+-- The netlist shows the source's design: its nets, sources, starts and bodies, the bytes at which its processes start, its scopes and
+-- signals are the design's, and so are the names of its nets and processes.
+pub record IsNetOf (source top : List ℕ) (net : NetlistView) : Type 0 where
+  pub design : Elaborated
+  pub has : HasDesign source top design
+  pub shows : Shows design net
+  pub named : IsNamedAlike design net

@@ -1,0 +1,28 @@
+//! From the bytes of a source to its netlist, for whoever reads sources.
+
+ghost use Rattle.std.specs.Prelude.{IfOk, IfErr, length};
+ghost use Rattle.rtl_stim.specs.Ports.{HasOwnPorts};
+ghost use Rattle.vhdl_front_rules.specs.Designs.{IsNetOf};
+ghost use Rattle.vhdl_front_rules.specs.Faults.{LiesIn};
+ghost use Rattle.vhdl_front_rules.specs.Refusals.{Refuses};
+
+use crate::fault::SourceFault;
+use rtl_net::Net;
+use std::alloc::Global;
+
+/// Whatever turns sources into netlists.
+pub trait Front {
+    /// The netlist of a source: `source` has the bytes of one file, `top` the name of an entity in it, in letters of either case
+    /// (IEEE 1076-2008, 13.5 and clause 14). It takes memory in proportion to the source and to the netlist.
+    ///
+    /// # Errors
+    ///
+    /// The first layer that refuses the source, with its fault: `Lex`, `Syntax`, `Name` or `Elab`, told at a byte of the source or
+    /// at its end. `Name` is the first rule that the file breaks as it is read, with its byte; the problem of `Elab` is the first
+    /// broken rule's, or `TooMany`. `NoMemory` where memory was refused.
+    fn open(alloc: Global, source: &[u8], top: &[u8]) -> Result<Net, SourceFault>
+        ensures net { IfOk result (λ net. IsNetOf source.now top.now net) }
+        ensures ports { IfOk result (λ net. HasOwnPorts net) }
+        ensures refused { IfErr result (Refuses source.now top.now) }
+        ensures told { IfErr result (LiesIn (length source.now)) };
+}

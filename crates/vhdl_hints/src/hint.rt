@@ -1,0 +1,351 @@
+//! Which hint the tokens around a fault give.
+
+ghost use Rattle.std.specs.Prelude.{◌≡◌, Some};
+ghost use Rattle.vhdl_slips.specs.Parts.{first_of};
+ghost use Rattle.vhdl_slips.specs.Words.{read_of, with_tokens};
+ghost use Rattle.vhdl_hints.specs.Hints as spec;
+
+use crate::bound::{bounds_of, is_empty, is_listed, range_at};
+use crate::end_name::{Begun, but_last_two, end_word, last_begun, last_two};
+use fault_rules::{ElabRule, NameRule, Report, Rule, Subject};
+use vhdl_slips::{
+    Lexed, associations, begins, entity_of, first_choice, first_of, first_open, formal_in, formals,
+    has, in_parentheses, interface_of, is_by_name, is_literal, is_same_kind, labelled,
+    open_instance, past, text_of, type_of,
+};
+use vhdl_lexer::{Token, TokenKind};
+
+/// What the tokens around a fault tell of it.
+#[derive(Clone, Copy)]
+pub enum Hint<'a> {
+    /// Nothing more than its rule.
+    Nothing,
+    /// An entity has no generic or port of a name; it has these.
+    NoFormal {
+        entity: Token,
+        formal: Token,
+        is_port: bool,
+        formals: &'a [Token],
+    },
+    /// An instance leaves this port of its entity open.
+    OpenPort {
+        entity: Token,
+        port: Token,
+    },
+    /// What ends there has another name.
+    OtherName {
+        name: Token,
+    },
+    /// What ends there has no name.
+    NoName,
+    /// The choices are literals of an enumeration of the architecture.
+    Enumeration,
+    /// An index or slice, and the bounds that are declared.
+    Outside {
+        index: &'a [Token],
+        bounds: &'a [Token],
+    },
+    /// A range has no element: its bounds, and its direction.
+    Empty {
+        left: Token,
+        right: Token,
+        is_upward: bool,
+    },
+    /// An actual has another length than its port.
+    Actual {
+        entity: Token,
+        port: Token,
+        found: usize,
+        needed: usize,
+    },
+}
+
+impl<'a> Hint<'a> {
+    /// Whether it tells nothing.
+    pub fn is_nothing(self) -> bool
+        ensures { result ≡ spec.is_nothing (spec.hint_view self.entry) }
+    {
+        matches!(self, Hint::Nothing)
+    }
+}
+
+/// The hint at a byte of a source, of whose tokens these start before it, and the others from it on.
+pub fn hint_at<'a>(
+    source: Lexed<'a>,
+    before: &'a [Token],
+    from: &'a [Token],
+    report: Report,
+) -> Hint<'a>
+    ensures { spec.hint_view result
+        ≡ spec.hint_at (read_of source.entry) before.now from.now report.rule report.subject }
+{
+    match report.rule {
+        Rule::Name(NameRule::Undeclared) => no_formal(source, before, from),
+        Rule::Name(NameRule::WrongKind) => other_name(before),
+        Rule::Name(NameRule::NoOthers) => enumeration(source.text, before, from),
+        Rule::Elab(ElabRule::Length) => length_hint(before, from, report.subject),
+        Rule::Elab(ElabRule::Index) => outside(source, before, from),
+        Rule::Elab(ElabRule::Unassociated) => open_port(source, from),
+        _ => Hint::Nothing,
+    }
+}
+
+/// Of a name in an instance that is no formal of its entity.
+fn no_formal<'a>(source: Lexed<'a>, before: &[Token], from: &[Token]) -> Hint<'a>
+    ensures { spec.hint_view result ≡ spec.no_formal (read_of source.entry) before.now from.now }
+{
+    let instance = open_instance(before);
+    match entity_of(instance) {
+        Some(entity) => {
+            let interface = interface_in(source, entity);
+            unknown_formal(
+                source.text,
+                entity,
+                has(TokenKind::Port, instance),
+                interface,
+                from,
+            )
+        }
+        None => Hint::Nothing,
+    }
+}
+
+/// The generics and ports of the entity of this name.
+fn interface_in<'a>(source: Lexed<'a>, entity: Token) -> &'a [Token]
+    ensures { result.now ≡ spec.interface_in (read_of source.entry) entity }
+{
+    interface_of(source.text, text_of(source.text, entity), source.tokens)
+}
+
+/// Of the name at the front, where an arrow follows it and it is no formal of this interface.
+fn unknown_formal<'a>(
+    text: &[u8],
+    entity: Token,
+    is_port: bool,
+    interface: &'a [Token],
+    from: &[Token],
+) -> Hint<'a>
+    ensures { spec.hint_view result ≡ spec.unknown_formal text.now entity is_port interface.now from.now }
+{
+    let formals = formals(is_port, interface);
+    match from {
+        [formal, arrow, ..] => {
+            if is_unknown(text, interface, formals, *formal, *arrow) {
+                Hint::NoFormal {
+                    entity,
+                    formal: *formal,
+                    is_port,
+                    formals,
+                }
+            } else {
+                Hint::Nothing
+            }
+        }
+        _ => Hint::Nothing,
+    }
+}
+
+/// Whether `NAME =>` names no formal of an interface.
+fn is_unknown(
+    text: &[u8],
+    interface: &[Token],
+    formals: &[Token],
+    name: Token,
+    arrow: Token,
+) -> bool
+    ensures { result ≡ spec.is_unknown text.now interface.now formals.now name arrow }
+{
+    is_same_kind(arrow.kind, TokenKind::Arrow)
+        && !interface.is_empty()
+        && !is_listed(text, text_of(text, name), formals)
+}
+
+/// Of the instance of which the label stands at the front.
+fn open_port<'a>(source: Lexed<'a>, from: &[Token]) -> Hint<'a>
+    ensures { spec.hint_view result ≡ spec.open_port (read_of source.entry) from.now }
+{
+    let instance = labelled(from);
+    match entity_of(instance) {
+        Some(entity) => open_hint(
+            entity,
+            open_among(
+                source.text,
+                associations(instance),
+                formals(true, interface_in(source, entity)),
+            ),
+        ),
+        None => Hint::Nothing,
+    }
+}
+
+/// The first of these ports that is left open, where all associations are by name.
+fn open_among(text: &[u8], associations: &[Token], ports: &[Token]) -> Option<Token>
+    ensures { result ≡ spec.open_among text.now associations.now ports.now }
+{
+    if is_by_name(associations) {
+        first_open(text, associations, ports)
+    } else {
+        None
+    }
+}
+
+fn open_hint(entity: Token, port: Option<Token>) -> Hint<'static>
+    ensures { spec.hint_view result ≡ spec.open_hint entity port }
+{
+    match port {
+        Some(port) => Hint::OpenPort { entity, port },
+        None => Hint::Nothing,
+    }
+}
+
+/// Of a name at an end.
+fn other_name(before: &[Token]) -> Hint<'static>
+    ensures { spec.hint_view result ≡ spec.other_name before.now }
+{
+    match end_word(last_two(before)) {
+        Some(word) => begun_hint(last_begun(word, but_last_two(before))),
+        None => Hint::Nothing,
+    }
+}
+
+fn begun_hint(begun: Begun) -> Hint<'static>
+    ensures { spec.hint_view result ≡ spec.begun_hint begun }
+{
+    match begun {
+        Begun::Unknown => Hint::Nothing,
+        Begun::Unnamed => Hint::NoName,
+        Begun::Named(name) => Hint::OtherName { name },
+    }
+}
+
+/// Of choices, the first of which is an identifier and a literal of an enumeration.
+fn enumeration(text: &[u8], before: &[Token], from: &[Token]) -> Hint<'static>
+    ensures { spec.hint_view result ≡ spec.enumeration (with_tokens text.now before.now) from.now }
+{
+    let before = Lexed {
+        text,
+        tokens: before,
+    };
+    match first_choice(from) {
+        Some(choice) => choice_hint(before, choice),
+        None => Hint::Nothing,
+    }
+}
+
+fn choice_hint(before: Lexed<'_>, choice: Token) -> Hint<'static>
+    ensures { spec.hint_view result ≡ spec.choice_hint (read_of before.entry) (Some choice) }
+{
+    let literal = text_of(before.text, choice);
+    if is_same_kind(choice.kind, TokenKind::Identifier)
+        && is_literal(type_of(before, literal), literal)
+    {
+        Hint::Enumeration
+    } else {
+        Hint::Nothing
+    }
+}
+
+/// Of an index behind the name at the front, or of the range in its declaration.
+fn outside<'a>(source: Lexed<'a>, before: &'a [Token], from: &'a [Token]) -> Hint<'a>
+    ensures { spec.hint_view result ≡ spec.outside (read_of source.entry) before.now from.now }
+{
+    let range = range_at(from);
+    if is_empty(source.text, range) {
+        empty_hint(range)
+    } else {
+        index_hint(source, before, from)
+    }
+}
+
+/// Of a range that has no element.
+fn empty_hint(range: &[Token]) -> Hint<'static>
+    ensures { spec.hint_view result ≡ spec.empty_hint range.now }
+{
+    match range {
+        [left, direction, right] => Hint::Empty {
+            left: *left,
+            right: *right,
+            is_upward: is_same_kind(direction.kind, TokenKind::To),
+        },
+        _ => Hint::Nothing,
+    }
+}
+
+/// Of an index behind the name at the front, where its bounds are known.
+fn index_hint<'a>(source: Lexed<'a>, before: &'a [Token], from: &'a [Token]) -> Hint<'a>
+    ensures { spec.hint_view result
+        ≡ spec.index_hint (read_of source.entry) before.now from.now (first_of from.now) }
+{
+    match first_of(from) {
+        Some(name) => outside_hint(
+            in_parentheses(past(1, from)),
+            bounds_of(source, text_of(source.text, name), before),
+        ),
+        None => Hint::Nothing,
+    }
+}
+
+fn outside_hint<'a>(index: &'a [Token], bounds: &'a [Token]) -> Hint<'a>
+    ensures { spec.hint_view result ≡ spec.outside_hint index.now bounds.now }
+{
+    if index.is_empty() || bounds.is_empty() {
+        Hint::Nothing
+    } else {
+        Hint::Outside { index, bounds }
+    }
+}
+
+/// Of an actual of another length than its port.
+fn length_hint(before: &[Token], from: &[Token], subject: Subject) -> Hint<'static>
+    ensures { spec.hint_view result ≡ spec.length_hint before.now from.now subject }
+{
+    match subject {
+        Subject::Lengths { found, needed } => {
+            if ends_actual(from) {
+                actual(before, found, needed)
+            } else {
+                Hint::Nothing
+            }
+        }
+        _ => Hint::Nothing,
+    }
+}
+
+/// Whether the token at the front ends the actual.
+fn ends_actual(from: &[Token]) -> bool
+    ensures { result ≡ spec.ends_actual from.now }
+{
+    begins(TokenKind::Comma, past(1, from)) || begins(TokenKind::RightParen, past(1, from))
+}
+
+fn actual(before: &[Token], found: usize, needed: usize) -> Hint<'static>
+    ensures { spec.hint_view result ≡ spec.actual before.now found needed }
+{
+    let instance = open_instance(before);
+    port_hint(
+        has(TokenKind::Port, instance),
+        entity_of(instance),
+        formal_in(last_two(before)),
+        (found, needed),
+    )
+}
+
+fn port_hint(
+    is_port: bool,
+    entity: Option<Token>,
+    port: Option<Token>,
+    lengths: (usize, usize),
+) -> Hint<'static>
+    ensures { spec.hint_view result ≡ spec.port_hint is_port entity port lengths.0 lengths.1 }
+{
+    let (found, needed) = lengths;
+    match (is_port, entity, port) {
+        (true, Some(entity), Some(port)) => Hint::Actual {
+            entity,
+            port,
+            found,
+            needed,
+        },
+        _ => Hint::Nothing,
+    }
+}

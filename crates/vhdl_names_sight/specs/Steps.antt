@@ -1,0 +1,97 @@
+-- What single steps of the code answer.
+use Rattle.vhdl_lexer.specs.declared.byte.ByteClass.{ByteClass}
+use Rattle.vhdl_lexer.specs.declared.byte.ByteClass.TheVariants.{Hexadecimal, Octal, Binary}
+use Rattle.vhdl_values.specs.declared.kinds.Cmp.{Cmp}
+use Rattle.vhdl_values.specs.declared.kinds.Cmp.TheVariants.{Ne}
+use Rattle.vhdl_names_rules.specs.units.Expressions as u
+use Rattle.vhdl_tree.specs.declared.operator.Sign.{Sign}
+use Rattle.vhdl_names_rules.specs.Rules.{◌>>=◌}
+use Rattle.vhdl_names_rules.specs.Expressions.{as_integer, signed}
+use Rattle.vhdl_names_rules.specs.Literals.{number_of}
+use Rattle.std.specs.Prelude.{ℕ, Bool, true, false, List, [], ◌∷◌, Option, Some, None, option_map}
+use Rattle.vhdl_values.specs.declared.kinds.Edge.{Edge}
+use Rattle.vhdl_names_rules.specs.declared.kind.ElementKind.{ElementKind}
+use Rattle.vhdl_names_rules.specs.declared.kind.ElementKind.TheVariants.{Element, LogicVector, Unsigned, OpenVector}
+use Rattle.vhdl_names_rules.specs.Names.{edge_signal}
+use Rattle.vhdl_names_rules.specs.Operators.{Typed, integer, elements, truth}
+use Rattle.vhdl_names_rules.specs.declared.fault.NameProblem.{NameProblem}
+use Rattle.vhdl_names_rules.specs.declared.fault.NameProblem.TheVariants.{TypeMismatch}
+use Rattle.vhdl_names_rules.specs.problems.Operators.{edge_problem}
+use Rattle.vhdl_names_rules.specs.units.Expressions.{Static, Part, Vector, Value, Test}
+use Rattle.vhdl_names_sight.specs.declared.literals.Base.{Base}
+use Rattle.vhdl_names_sight.specs.declared.literals.Base.TheVariants as b
+
+-- equality of the values, or its negation
+abbrev pub same_by : (at : ℕ) → Cmp → Value → Value → Test
+same_by at Ne = u.unlike at
+same_by at _ = u.alike at
+
+-- the digits of a base
+abbrev pub class_of : Base → ByteClass
+class_of b.Hexadecimal = Hexadecimal
+class_of b.Octal = Octal
+class_of b.Binary = Binary
+
+-- ---- arguments
+
+-- the one element of a list
+abbrev pub sole : {A : Type 0} → List A → Option A
+sole (x ∷ []) = Some x
+sole _ = None
+
+-- the two elements of a list
+abbrev pub two : {A : Type 0} → List A → Option (A × A)
+two (x ∷ y ∷ []) = Some (x, y)
+two _ = None
+
+-- the element of a vector at an index
+abbrev pub indexed : ElementKind → Option Typed → Option (Part × ElementKind)
+indexed LogicVector (Some (integer s)) = Some (u.Part.element s, Element)
+indexed Unsigned (Some (integer s)) = Some (u.Part.element s, Element)
+indexed _ _ = None
+
+-- a vector as one of another kind
+abbrev pub conversion : ElementKind → Option Typed → Option Typed
+conversion k (Some (elements LogicVector x)) = Some (elements k x)
+conversion k (Some (elements Unsigned x)) = Some (elements k x)
+conversion k (Some (elements OpenVector x)) = Some (elements k x)
+conversion _ _ = None
+
+-- a number and a count
+abbrev pub counting : Option (Typed × Typed) → Option (Vector × Static)
+counting (Some (elements Unsigned x, integer n)) = Some (x, n)
+counting _ = None
+
+-- a number and a size
+abbrev pub encoded_by : (at : ℕ) → Option (Typed × Typed) → Option Typed
+encoded_by at (Some (integer n, integer size)) = Some (elements Unsigned (u.Vector.encoded at n size))
+encoded_by at _ = None
+
+abbrev pub is_signal : Vector → Bool
+is_signal (u.of_signal p) = true
+is_signal _ = false
+
+-- an edge of a signal
+abbrev pub edge_by : Edge → Option Typed → Option Typed
+edge_by e (Some x) = option_map (λ p. truth (u.edge e p)) (edge_signal x)
+edge_by e None = None
+
+-- why it isn't given
+abbrev pub edge_call_problem : Option Typed → NameProblem
+edge_call_problem (Some x) = edge_problem x
+edge_call_problem None = TypeMismatch
+
+-- ---- operands
+
+-- a character literal as it counts in parentheses
+abbrev pub closed : Vector → Vector
+closed (u.character c) = u.enclosed_character c
+closed x = x
+
+-- an integer literal
+abbrev pub integer_literal : List ℕ → Option Typed
+integer_literal text = option_map (λ n. integer (u.number n)) (number_of text)
+
+-- a sign before an operand
+abbrev pub signed_by : (at : ℕ) → Sign → Typed → Option Typed
+signed_by at sign x = as_integer x >>= λ s. Some (integer (signed at sign s))

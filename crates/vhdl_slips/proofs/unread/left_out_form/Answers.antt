@@ -1,0 +1,10 @@
+use Rattle.std.proofs.Common.{ap, ◌∙◌}
+use Rattle.vhdl_slips.specs.Forms.{form_among, left_out, left_out_form}
+use Rattle.vhdl_slips.specs.declared.form.TheConstants.{OTHER}
+use Rattle.vhdl_slips.specs.declared.unread.Context.{Context}
+use Rattle.vhdl_slips.proofs.unread.left_out_form.Goals as goal
+
+pub returns : goal.returns
+unfolding left_out_form
+returns c =
+    c.form_among.ensures ∙ ap (λ (context : Context). form_among left_out context c.args.word.now (OTHER.0.now, OTHER.1.now)) c.context_of.ensures

@@ -1,5 +1,0 @@
-use Rattle.vhdl_source.proofs.Once.{one_design, one_net}
-use Rattle.vhdl_source.proofs.laws.a_source_has_one_design.Goals as goal
-
-pub returns : goal.returns
-returns c = record { design = one_design; net = one_net }

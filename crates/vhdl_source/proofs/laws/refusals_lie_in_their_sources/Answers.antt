@@ -1,5 +1,0 @@
-use Rattle.vhdl_source.proofs.Layers.{refusal_lies}
-use Rattle.vhdl_source.proofs.laws.refusals_lie_in_their_sources.Goals as goal
-
-pub returns : goal.returns
-returns c = refusal_lies
