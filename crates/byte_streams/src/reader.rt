@@ -14,8 +14,8 @@ pub trait Reader {
     // The bytes that are left, where they are known, and whether it has failed.
     ghost state: { Self → ReaderState };
 
-    /// Gives the next bytes, at the front of the buffer, and answers how many: none at the end of the
-    /// bytes, where it has failed, or where the buffer has no room.
+    /// Gives the next bytes, at the front of the buffer, and answers how many: none at the end of
+    /// the bytes, where it has failed, or where the buffer has no room.
     fn get(&mut self, buffer: &mut [u8]) -> usize
         ensures within { result ≤ length buffer.new }
         ensures bytes { Consumes (state self.old).left (state self.new).left (take result buffer.new) }

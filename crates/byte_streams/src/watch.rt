@@ -11,13 +11,14 @@ pub trait Watch {
     // What it may be once it was told these, and then of a moment at this time that doesn't settle.
     ghost stuck: { Self → (stands : List Stand) → (before now : List ℕ) → (time : ℕ) → Self → Type 0 };
 
-    /// The nets have these values until before this time, in ns, from where those told before them stood until.
+    /// The nets have these values until before this time, in ns, from where those told before them
+    /// stood until.
     fn stood(&mut self, values: &[u8], until: u64)
         ensures { (start : Self) (stands : List Stand) → told start stands self.old
             → told start (stands ++ record { values = values.now; until = until } ∷ []) self.new };
 
-    /// The moment at this time, in ns, doesn't settle: the nets had the first values before the last delta cycle allowed, and have the
-    /// second ones after it. Nothing is told behind this.
+    /// The moment at this time, in ns, doesn't settle: the nets had the first values before the
+    /// last delta cycle allowed, and have the second ones after it. Nothing is told behind this.
     fn unsettled(&mut self, before: &[u8], now: &[u8], time: u64)
         requires as_many { length before.now ≡ length now.now }
         ensures { (start : Self) (stands : List Stand) → told start stands self.old

@@ -1,6 +1,7 @@
 //! The rules of each layer with what is said of them, and reports: what a fault tells, as data.
 //!
-//! The texts stand once, in a table for each layer (`lexing` to `remarking`); `specs/Rules.antt` says which row is that of a rule.
+//! The texts stand once, in a table for each layer (`lexing` to `remarking`); `specs/Rules.antt`
+//! says which row is that of a rule.
 #![tactic(auto)]
 
 mod checking;

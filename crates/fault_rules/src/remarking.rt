@@ -23,9 +23,11 @@ static REMARKING: [Words<&str>; 9] = [
     rule! { remark 1 Undriven: "process " PROCESS " reads " NET ", which nothing drives" },
     rule! { remark 2 Unassigned: "nothing drives the out port " NET },
     rule! { remark 3 IdlePort: "nothing assigns, inside its instance, an out port that drives " NET },
-    rule! { remark 4 NotReset: "the reset of process " PROCESS " leaves out " NET ", which keeps its value while the reset holds" },
+    rule! { remark 4 NotReset: "the reset of process " PROCESS " leaves out " NET ", which keeps its value while the \
+        reset holds" },
     rule! { remark 5 ClockRead: "process " PROCESS " reads as data the clock " NET },
-    rule! { remark 6 NeverKnown: "process " PROCESS " computes " NET " from its own value, but has no reset for it and drives it from U on, and so it is never 0 or 1" },
+    rule! { remark 6 NeverKnown: "process " PROCESS " computes " NET " from its own value, but has no reset for it and \
+        drives it from U on, and so it is never 0 or 1" },
     rule! { remark 7 UnreadElement: "nothing reads " NET ", though other elements of this in port are read" },
     rule! { remark 8 ClockWithoutLine: "no line of the stimulus drives the clock " NET },
     rule! { remark 9 InputWithoutLine: "no line of the stimulus drives the input " NET },

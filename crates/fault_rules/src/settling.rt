@@ -13,7 +13,8 @@ pub enum RunRule {
 /// What is said of each, in their order.
 static SETTLING: [Words<&str>; 1] = [
     rule! { settle 1 NoSettling: "at " TIME " ns nets still change after 1000 delta cycles"
-        => "see what check tells: processes that feed each other in a circle, or a latch or clock that is made inside" },
+        => "see what check tells: processes that feed each other in a circle, or a latch or clock that is made \
+            inside" },
 ];
 
 impl RunRule {

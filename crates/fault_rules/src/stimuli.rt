@@ -20,7 +20,8 @@ pub enum StimRule {
 /// What is said of each, in their order.
 static STIMULI: [Words<&str>; 8] = [
     rule! { stim 1 BadLine: "the line isn't understood"
-        => "write at TIME NAME VALUE, clock NAME FIRST HALF or, once, stop TIME, all in small letters; # begins a line of comment" },
+        => "write at TIME NAME VALUE, clock NAME FIRST HALF or, once, stop TIME, all in small letters; # begins a line \
+            of comment" },
     rule! { stim 2 NotAnInput: "the name is no in port of the top"
         => "see the spelling of the port; only in ports of the top are set" },
     rule! { stim 3 BadValue: "the value doesn't fit the input"
@@ -34,7 +35,8 @@ static STIMULI: [Words<&str>; 8] = [
     rule! { stim 7 TimeTooLarge: "the time is above 1000000000000000 ns"
         => "write a time in whole nanoseconds up to that" },
     rule! { stim 8 Race: "at " TIME " ns the input " INPUT " changes at an edge of the clock " CLOCK
-        => "let the input change at another time than the clock's edge, as real data does: at that edge the order would count" },
+        => "let the input change at another time than the clock's edge, as real data does: at that edge the order \
+            would count" },
 ];
 
 impl StimRule {

@@ -21,9 +21,13 @@ pub struct Words<T: Copy> {
     pub help: T,
 }
 
-/// A row of a layer's table: `layer number Name: sentence => help`. In the sentence a word in capitals stands for what is filled in there.
+/// A row of a layer's table: `layer number Name: sentence => help`. In the sentence a word in
+/// capitals stands for what is filled in there.
 macro_rules! rule {
-    ($layer:ident $number:literal $name:ident [$($opening:literal)?] [$($middle:literal)?] [$($closing:literal)?] [$($help:literal)?]) => {
+    (
+        $layer:ident $number:literal $name:ident
+        [$($opening:literal)?] [$($middle:literal)?] [$($closing:literal)?] [$($help:literal)?]
+    ) => {
         Words {
             layer: stringify!($layer),
             number: $number,
@@ -40,10 +44,16 @@ macro_rules! rule {
     ($layer:ident $number:literal $name:ident: $middle:literal $(=> $help:literal)?) => {
         rule! { $layer $number $name [] [$middle] [] [$($help)?] }
     };
-    ($layer:ident $number:literal $name:ident: $opening:literal $(CIRCLE)? $(NET $($closing:literal)?)? $(=> $help:literal)?) => {
+    (
+        $layer:ident $number:literal $name:ident: $opening:literal $(CIRCLE)? $(NET $($closing:literal)?)?
+        $(=> $help:literal)?
+    ) => {
         rule! { $layer $number $name [$opening] [] [$($($closing)?)?] [$($help)?] }
     };
-    ($layer:ident $number:literal $name:ident: $($opening:literal)? $first:ident $middle:literal $($second:ident $($closing:literal $($third:ident)?)?)? $(=> $help:literal)?) => {
+    (
+        $layer:ident $number:literal $name:ident: $($opening:literal)? $first:ident $middle:literal
+        $($second:ident $($closing:literal $($third:ident)?)?)? $(=> $help:literal)?
+    ) => {
         rule! { $layer $number $name [$($opening)?] [$middle] [$($($closing)?)?] [$($help)?] }
     };
 }

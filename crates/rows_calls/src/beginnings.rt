@@ -7,8 +7,8 @@ use crate::row::Row;
 use crate::text::Text;
 use std::alloc::Global;
 
-/// How many beginnings of a row's input, the whole among them, are told by `tool` as each line of the row says behind a number: with this
-/// status, and a first line that begins so.
+/// How many beginnings of a row's input, the whole among them, are told by `tool` as each line of
+/// the row says behind a number: with this status, and a first line that begins so.
 pub fn by_beginnings<P: Program>(alloc: Global, program: &P, row: &Row<'_>) -> Answer {
     let told = told_of_each(alloc, program, row);
     let mut answer = Answer::new(alloc);

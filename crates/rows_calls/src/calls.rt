@@ -149,8 +149,8 @@ fn by_files<R: Files + AllocGlobal, P: Program>(rt: &R, program: &P, row: &Row<'
     answer
 }
 
-/// `tool_first_line` over a line of the words, and behind it the input. Where there are no words, the input
-/// has the line.
+/// `tool_first_line` over a line of the words, and behind it the input. Where there are no words,
+/// the input has the line.
 fn by_line<R: Files + AllocGlobal, P: Program>(
     rt: &R,
     program: &P,
@@ -181,7 +181,8 @@ fn with_line(alloc: Global, row: &Row<'_>, end: &str) -> Text {
     all
 }
 
-/// The library's call over the input. It tells a fault by its answer, and so the error output is the row's.
+/// The library's call over the input. It tells a fault by its answer, and so the error output is
+/// the row's.
 fn by_library<P: Program>(alloc: Global, program: &P, row: &Row<'_>) -> Answer {
     let mut answer = Answer::new(alloc);
     let input = row.input.as_bytes();
@@ -192,7 +193,8 @@ fn by_library<P: Program>(alloc: Global, program: &P, row: &Row<'_>) -> Answer {
     answer
 }
 
-/// The run over trees and a map. Of a refusal it tells the status alone, and so the error output is the row's then.
+/// The run over trees and a map. Of a refusal it tells the status alone, and so the error output is
+/// the row's then.
 fn by_trees<P: Program>(alloc: Global, program: &P, row: &Row<'_>) -> Answer {
     let mut answer = Answer::new(alloc);
     let (words, input) = (&row.words, row.input.as_bytes());

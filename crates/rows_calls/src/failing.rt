@@ -15,7 +15,8 @@ type Fails = (usize, Failure);
 /// An output that doesn't fail.
 const NEVER: Fails = (usize::MAX, Failure::Once);
 
-/// `tool`, where each read in turn fails: it tells so, and nothing else. Where none does, it is the row's.
+/// `tool`, where each read in turn fails: it tells so, and nothing else. Where none does, it is the
+/// row's.
 pub fn wrong_by_reads<P: Program>(alloc: Global, program: &P, row: &Row<'_>) -> Option<Answer> {
     for (failure, last) in [(Failure::Once, usize::MAX), (Failure::Interrupted, 0)] {
         for reads in 0..=row.input.as_bytes().len().min(last) {
@@ -34,7 +35,8 @@ fn by_reader<P: Program>(alloc: Global, program: &P, row: &Row<'_>, fails: Fails
     by_tool(alloc, program, &row.words, In::new(reader))
 }
 
-/// `tool` over a reader that gives as many bytes as are asked for without end, and over one that gives a byte a call.
+/// `tool` over a reader that gives as many bytes as are asked for without end, and over one that
+/// gives a byte a call.
 pub fn wrong_by_endless<P: Program>(alloc: Global, program: &P, row: &Row<'_>) -> Option<Answer> {
     for most in [usize::MAX, 1] {
         let reader = In::new(Endless { most });
@@ -70,7 +72,8 @@ pub fn wrong_by_writes<P: Program>(alloc: Global, program: &P, row: &Row<'_>) ->
     unless_told(row, by_writers(alloc, program, row, [NEVER; 3]))
 }
 
-/// `tool`, where each write of what shows how far a run is fails in turn: a beginning of that went out, and all else is the row's.
+/// `tool`, where each write of what shows how far a run is fails in turn: a beginning of that went
+/// out, and all else is the row's.
 pub fn wrong_by_shows<P: Program>(alloc: Global, program: &P, row: &Row<'_>) -> Option<Answer> {
     let wanted = &row.answer;
     let shown = wanted.progress.as_bytes();

@@ -25,7 +25,8 @@ impl<'a> Frame<'a> {
         }
     }
 
-    /// The text in this frame, and the place of the fault: the source's length where there is no mark.
+    /// The text in this frame, and the place of the fault: the source's length where there is no
+    /// mark.
     pub fn source_of(self, alloc: Global, written: &str) -> (Text, usize) {
         let (read, unread) = written.split_once('^').unwrap_or((written, ""));
         let mut source = Text::new(alloc);

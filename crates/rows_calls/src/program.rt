@@ -6,8 +6,8 @@ use byte_streams::{Reader, Sink};
 use std::alloc::Global;
 use std::rt::Files;
 
-/// The calls by which a row can be made. Each answers the status; what goes to the outputs goes to `out` and `err`, and what shows
-/// how far a run is to `progress`.
+/// The calls by which a row can be made. Each answers the status; what goes to the outputs goes to
+/// `out` and `err`, and what shows how far a run is to `progress`.
 pub trait Program {
     /// The call over words and the standard input.
     fn tool<R: Reader + Drop, O: Sink, E: Sink, G: Sink>(
@@ -47,7 +47,8 @@ pub trait Program {
         requires out { IsIntact (O.state out.old) }
         requires err { IsIntact (E.state err.old) };
 
-    /// The library's call for what the words ask, if they ask for something: the status stands for its fault, if it has one.
+    /// The library's call for what the words ask, if they ask for something: the status stands for
+    /// its fault, if it has one.
     fn library<O: Sink>(
         &self,
         alloc: Global,
@@ -57,8 +58,9 @@ pub trait Program {
     ) -> Option<u8>
         requires { IsIntact (O.state out.old) };
 
-    /// The run that the words ask for, over bodies as trees and an agenda over a map, if they ask for one by delta cycles: the status, and
-    /// at `err` what is told where it went on to the stop or did not settle.
+    /// The run that the words ask for, over bodies as trees and an agenda over a map, if they ask
+    /// for one by delta cycles: the status, and at `err` what is told where it went on to the stop
+    /// or did not settle.
     fn by_trees<O: Sink, E: Sink>(
         &self,
         alloc: Global,

@@ -24,7 +24,8 @@ enum Kind {
     Spaces,
     /// A text of the output that is wanted, and what stands behind it.
     Output(&'static str),
-    /// A line of the error output that is wanted, with the number of the marked byte in place of `^`.
+    /// A line of the error output that is wanted, with the number of the marked byte in place of
+    /// `^`.
     Error,
     /// A line of the error output that is wanted.
     PlainError,
@@ -141,7 +142,8 @@ impl<'a> Row<'a> {
         }
     }
 
-    /// Adds lines as often as a text says, with a number in them: how often, the first number, the step, and the lines.
+    /// Adds lines as often as a text says, with a number in them: how often, the first number, the
+    /// step, and the lines.
     fn push_repeated(&mut self, alloc: Global, text: &str) {
         let (count, text) = cut_number(text);
         let (first, text) = cut_number(text);
@@ -208,7 +210,8 @@ impl<'a> Row<'a> {
         self.input.push_bytes(&block[..count % BLOCK]);
     }
 
-    /// Adds a line to the error output that is wanted, with the number of the marked byte in place of `^`.
+    /// Adds a line to the error output that is wanted, with the number of the marked byte in place
+    /// of `^`.
     fn push_error(&mut self, text: &str) {
         match text.split_once('^') {
             Some((before, after)) => {

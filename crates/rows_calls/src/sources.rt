@@ -20,7 +20,8 @@ pub enum Told {
     Counts,
 }
 
-/// Prints tables of small sources, as rows_calls reads them: a row is a call of `net`, of which it tells a few words.
+/// Prints tables of small sources, as rows_calls reads them: a row is a call of `net`, of which it
+/// tells a few words.
 ///
 /// # Errors
 ///
@@ -48,8 +49,8 @@ struct Calls<'a, P: Program> {
 }
 
 impl<P: Program> Teller for Calls<'_, P> {
-    /// The answer to a call of `net`: what is told of the netlist, or the fault's name, where it stands at the text's mark if it
-    /// has one.
+    /// The answer to a call of `net`: what is told of the netlist, or the fault's name, where it
+    /// stands at the text's mark if it has one.
     fn told(&self, alloc: Global, frame: Frame<'_>, written: &str, found: &mut Text) {
         let (source, place) = frame.source_of(alloc, written);
         let words = ["net", "@", self.told.top()];
@@ -65,7 +66,8 @@ impl<P: Program> Teller for Calls<'_, P> {
 }
 
 impl Told {
-    /// The top: no source has one that is no identifier, and so the answer is NoTop where names and types are right.
+    /// The top: no source has one that is no identifier, and so the answer is NoTop where names and
+    /// types are right.
     fn top(self) -> &'static str {
         match self {
             Told::Names => "0",

@@ -12,8 +12,9 @@ pub trait Teller {
     fn told(&self, alloc: Global, frame: Frame<'_>, written: &str, found: &mut Text);
 }
 
-/// Prints a file's name and its rows: a row as it stands where it is as expected, else with what was found. So what is printed is
-/// the table, comments aside, where all is as expected. It takes memory for the file and for one row at a time.
+/// Prints a file's name and its rows: a row as it stands where it is as expected, else with what
+/// was found. So what is printed is the table, comments aside, where all is as expected. It takes
+/// memory for the file and for one row at a time.
 ///
 /// # Errors
 ///

@@ -8,8 +8,8 @@ use crate::text::Text;
 use std::rt::Files;
 use std::{fs, io};
 
-/// Prints tables of calls, each row with its answer and its calls, and what a call gives that answers otherwise. It is told of a row
-/// or a call, too, that it isn't known.
+/// Prints tables of calls, each row with its answer and its calls, and what a call gives that
+/// answers otherwise. It is told of a row or a call, too, that it isn't known.
 ///
 /// # Errors
 ///

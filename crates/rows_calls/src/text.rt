@@ -9,8 +9,8 @@ use std::fmt::{Debug, Display};
 use std::io;
 use std::io::{ErrorKind, Write};
 
-/// The bytes of a text. Where memory for a piece is refused, the text is short from then on: that is asked once, in the end, and
-/// not at each piece.
+/// The bytes of a text. Where memory for a piece is refused, the text is short from then on: that
+/// is asked once, in the end, and not at each piece.
 pub struct Text {
     bytes: Vec<u8>,
     is_short: bool,

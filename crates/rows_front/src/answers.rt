@@ -4,8 +4,8 @@ use crate::calls::{Move, Sum};
 use crate::operands::{natural, value, vector};
 use vhdl_values::{Cmp, Logic, Nine, Vec9, resolve};
 
-/// The logical operator of two vectors of one length. Of two values it has to be the operator of values, alone and
-/// in places 0 and 63 of vectors of 64 elements.
+/// The logical operator of two vectors of one length. Of two values it has to be the operator of
+/// values, alone and in places 0 and 63 of vectors of 64 elements.
 pub fn combined(kind: Logic, left: &Vec9, right: &Vec9) -> Option<Vec9> {
     if left.len() != right.len() {
         return None;

@@ -8,8 +8,8 @@ use std::{fs, io};
 use vhdl_lexer::lex;
 use vhdl_parser::SyntaxFault;
 
-/// Prints which beginnings of a file are files themselves, and whether all others that end behind a token are EndOfFile
-/// there.
+/// Prints which beginnings of a file are files themselves, and whether all others that end behind a
+/// token are EndOfFile there.
 pub fn tell_beginnings(rt: &(impl Files + Print + AllocGlobal), file: &str) -> io::Result<()> {
     let text = fs::read_to_string(rt, file)?;
     let source = text.as_str().as_bytes();

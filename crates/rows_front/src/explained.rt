@@ -3,16 +3,17 @@
 ghost use Rattle.vhdl_lexer.specs.Cut.{AreWithin};
 
 use crate::source::{push_written, source_of};
-use rows_calls::Text;
 use fault_rules::{LexRule, Place, Report, Rule, Subject, SyntaxRule};
+use rows_calls::Text;
 use rtlsim_refusals::{Lexed, explain_refusal, explain_source};
-use vhdl_source_files::SourceFile;
 use std::alloc::Global;
 use vhdl_expected::{Expected, expected_at};
 use vhdl_lexer::{LexFault, Token, lex};
 use vhdl_parser::{SyntaxFault, parse};
+use vhdl_source_files::SourceFile;
 
-/// Adds the explanation of why the lexer or the parser refuses a source, with `\n` and `\t` for ends of lines and tabs.
+/// Adds the explanation of why the lexer or the parser refuses a source, with `\n` and `\t` for
+/// ends of lines and tabs.
 pub fn push_explanation(found: &mut Text, alloc: Global, written: &str) {
     let source = source_of(alloc, written);
     found.heed(&source);

@@ -1,8 +1,9 @@
-//! Rows of the values, the lexer and the parser, and of explanations of what is refused: reads the tables in `data/`, and prints for
-//! each row what is made of it.
+//! Rows of the values, the lexer and the parser, and of explanations of what is refused: reads the
+//! tables in `data/`, and prints for each row what is made of it.
 //!
-//! A row that is as expected is printed as it stands in its table; of any other it is said what was found. So the
-//! transcript is the tables, comments aside, and what is told of the files whose beginnings are parsed.
+//! A row that is as expected is printed as it stands in its table; of any other it is said what was
+//! found. So the transcript is the tables, comments aside, and what is told of the files whose
+//! beginnings are parsed.
 #![tactic(auto)]
 
 mod answers;

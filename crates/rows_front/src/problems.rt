@@ -2,8 +2,8 @@
 
 use crate::explained::explain_at;
 use crate::source::{push_source, push_written, source_of};
-use rows_calls::Text;
 use fault_rules::{ElabRule, NameRule, Rule, Subject};
+use rows_calls::Text;
 use std::alloc::Global;
 use vhdl_expected::Expected;
 use vhdl_lexer::lex;
@@ -39,7 +39,8 @@ static ELAB_RULES: [ElabRule; 12] = [
     ElabRule::TooMany,
 ];
 
-/// Adds the explanation of a problem at the mark of a text: `name NUMBER TEXT` or `elab NUMBER TEXT`.
+/// Adds the explanation of a problem at the mark of a text: `name NUMBER TEXT` or `elab NUMBER
+/// TEXT`.
 pub fn push_problem(found: &mut Text, alloc: Global, written: &str) {
     let (layer, rest) = written.split_once(' ').unwrap_or((written, ""));
     let (number, text) = rest.split_once(' ').unwrap_or((rest, ""));

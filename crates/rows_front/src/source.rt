@@ -1,7 +1,8 @@
 //! Sources as the tables write them.
 //!
-//! A backslash and a letter stand for a byte that a line of a table doesn't hold: `\n`, `\r`, `\t` for the ends of
-//! lines and the tab, `\xHH` for a byte by two hexadecimal digits. `\*N*` stands for N times the byte behind it.
+//! A backslash and a letter stand for a byte that a line of a table doesn't hold: `\n`, `\r`, `\t`
+//! for the ends of lines and the tab, `\xHH` for a byte by two hexadecimal digits. `\*N*` stands
+//! for N times the byte behind it.
 
 ghost use Rattle.std.specs.Prelude.{◌<◌};
 

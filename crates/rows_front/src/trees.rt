@@ -28,7 +28,8 @@ pub fn read(tree: &mut Text, alloc: Global, source: &[u8]) -> Outcome {
     }
 }
 
-/// What becomes of the tokens of a source. A tree lives no longer than this call, so no other function holds one.
+/// What becomes of the tokens of a source. A tree lives no longer than this call, so no other
+/// function holds one.
 fn parsed(tree: &mut Text, alloc: Global, source: &[u8], tokens: &[Token]) -> Outcome
     requires within { AreWithin source.now tokens.now }
 {
@@ -41,7 +42,8 @@ fn parsed(tree: &mut Text, alloc: Global, source: &[u8], tokens: &[Token]) -> Ou
     }
 }
 
-/// Adds what becomes of a text in a frame: `read`, or the fault's name where it stands at the text's mark.
+/// Adds what becomes of a text in a frame: `read`, or the fault's name where it stands at the
+/// text's mark.
 pub fn push_reading(found: &mut Text, alloc: Global, frame: Frame<'_>, written: &str) {
     let (source, place) = frame.source_of(alloc, written);
     let mut tree = Text::new(alloc);

@@ -5,8 +5,8 @@ ghost use Rattle.rtl_agenda.specs.Agenda.{Change};
 ghost use Rattle.vhdl_values.specs.declared.scalar.Nine.TheVariants as nine;
 
 use crate::texts::push_count;
-use rtl_agenda::{Agenda, MapAgenda, NoMemory, Wheel};
 use byte_streams::{Sink, push_line, push_text};
+use rtl_agenda::{Agenda, MapAgenda, NoMemory, Wheel};
 use std::alloc::Global;
 use vhdl_values::Nine;
 
@@ -55,8 +55,8 @@ fn tell_next<A: Agenda, S: Sink>(agenda: &mut A, out: &mut S)
     push_changes(out, agenda.changes());
 }
 
-/// Tells what an agenda gives where changes are pushed for a time that was far and is near by then, for one in front of it,
-/// and for the last times that there are.
+/// Tells what an agenda gives where changes are pushed for a time that was far and is near by then,
+/// for one in front of it, and for the last times that there are.
 fn tell_far_times<A: Agenda, S: Sink>(agenda: &mut A, out: &mut S)
     requires waiting { (A.state agenda.old).waiting ≡ [] }
     requires last { (A.state agenda.old).last ≡ None }
@@ -84,7 +84,8 @@ fn run_far_times<A: Agenda, S: Sink>(agenda: &mut A, out: &mut S) -> Result<(), 
     Ok(())
 }
 
-/// Pushes two changes for a time, and one each for times before and after it; one time is far behind the others.
+/// Pushes two changes for a time, and one each for times before and after it; one time is far
+/// behind the others.
 fn push_some<A: Agenda>(agenda: &mut A) -> Result<(), NoMemory>
     requires waiting { (A.state agenda.old).waiting ≡ [] }
     requires last { (A.state agenda.old).last ≡ None }

@@ -6,11 +6,11 @@ ghost use Rattle.rtl_stim.specs.Ports.{HasOwnPorts, inputs_of};
 
 use crate::row::Row;
 use crate::texts::push_count;
+use byte_streams::{Sink, Unwatched, push_text};
 use rtl_eval::trees;
 use rtl_kernel::Pick;
 use rtl_net::Net;
 use rtl_run::{RunFault, Simulation, Summary};
-use byte_streams::{Sink, Unwatched, push_text};
 use rtl_stim::{MapAgenda, StimFault, StimProblem, Stimulus};
 use std::alloc::Global;
 
@@ -38,7 +38,8 @@ pub fn run_row<P: Pick, W: Sink, S: Sink>(
     push_text(told, b"\n");
 }
 
-/// Simulates a netlist under a stimulus, with so many delta cycles at most in each moment, over trees and a map.
+/// Simulates a netlist under a stimulus, with so many delta cycles at most in each moment, over
+/// trees and a map.
 pub fn simulate<P: Pick, W: Sink>(
     alloc: Global,
     net: &Net,

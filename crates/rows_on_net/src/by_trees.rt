@@ -1,15 +1,16 @@
-//! Runs of sources over bodies as trees and an agenda over a map, as the program makes them over codes and a wheel.
+//! Runs of sources over bodies as trees and an agenda over a map, as the program makes them over
+//! codes and a wheel.
 
 ghost use Rattle.byte_streams.specs.Written.{IsIntact};
 ghost use Rattle.rtl_stim.specs.Ports.{HasOwnPorts};
 
 use crate::answers::{push_end, simulate};
 use crate::nets::Nets;
+use byte_streams::{Sink, push_text};
 use rtl_check::stored;
 use rtl_kernel::Pick;
 use rtl_net::Net;
 use rtl_run::{MachineFault, RunFault, Summary, admit};
-use byte_streams::{Sink, push_text};
 use rtl_stim::{StimFault, Stimulus};
 use std::alloc::Global;
 
@@ -41,7 +42,8 @@ const FAILED: u8 = 8;
 /// The most delta cycles of a moment by events.
 const MAX_DELTAS: u32 = 1000;
 
-/// Runs a source, and gives the status. It is told on `err` how a simulation ended, and nothing of a refusal.
+/// Runs a source, and gives the status. It is told on `err` how a simulation ended, and nothing of
+/// a refusal.
 pub fn run_by_trees<N: Nets, P: Pick, O: Sink, E: Sink>(
     alloc: Global,
     nets: &N,

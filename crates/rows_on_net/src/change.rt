@@ -3,8 +3,8 @@
 use rtl_check::Report;
 use vhdl_values::Edge;
 
-/// Changes a report by the words of a row, and tells whether it did. A word that is no number, as `none`, stands for nothing; what is
-/// put behind the last entry is one more.
+/// Changes a report by the words of a row, and tells whether it did. A word that is no number, as
+/// `none`, stands for nothing; what is put behind the last entry is one more.
 ///
 /// | words | change |
 /// |---|---|

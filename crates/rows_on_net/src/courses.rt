@@ -7,7 +7,8 @@ pub struct Course {
     pub net: &'static str,
     /// What the inputs are at the start.
     pub initial: &'static [Nine],
-    /// How many delta cycles the start may take before the first step, if it is to settle by itself.
+    /// How many delta cycles the start may take before the first step, if it is to settle by
+    /// itself.
     pub start: Option<u32>,
     /// What the first input gets, and how many delta cycles the step may take.
     pub steps: &'static [(Given, u32)],
@@ -84,7 +85,8 @@ pub const THREE_REGISTERS: &Course = &Course {
     form: ORDERED,
 };
 
-/// The same, whose clock rises and falls in one cycle: it has no event, so that nothing runs (IEEE 1076-2008, 14.7.3.4). Then it rises.
+/// The same, whose clock rises and falls in one cycle: it has no event, so that nothing runs (IEEE
+/// 1076-2008, 14.7.3.4). Then it rises.
 pub const FALLING_BACK: &Course = &Course {
     net: "three_registers",
     initial: &[Nine::Zero, Nine::One],

@@ -1,8 +1,10 @@
-//! Rows of netlists: what its processes reach, what the checker reports of it and a second look lets stand, what comes of its
-//! simulation, and what the kernel does with it step by step; runs over trees and a map; and rows of agendas.
+//! Rows of netlists: what its processes reach, what the checker reports of it and a second look
+//! lets stand, what comes of its simulation, and what the kernel does with it step by step; runs
+//! over trees and a map; and rows of agendas.
 //!
-//! Where a netlist comes from is left to `Nets`, so that nothing here stands on sources: a crate of rows opens them. What is told
-//! goes to a sink. Where memory is refused, `memory` stands in place of what is told, or what is told differs from the rows.
+//! Where a netlist comes from is left to `Nets`, so that nothing here stands on sources: a crate of
+//! rows opens them. What is told goes to a sink. Where memory is refused, `memory` stands in place
+//! of what is told, or what is told differs from the rows.
 #![tactic(auto)]
 
 mod agendas;

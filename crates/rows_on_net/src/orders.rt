@@ -1,5 +1,6 @@
-//! Rows of the kernel: netlists whose processes run in several orders, with what they come to step by step, their bodies as trees
-//! and as codes. What is printed of nets are codes of the nine values: 0 for 'U', 1 for 'X', 2 for '0' and 3 for '1'.
+//! Rows of the kernel: netlists whose processes run in several orders, with what they come to step
+//! by step, their bodies as trees and as codes. What is printed of nets are codes of the nine
+//! values: 0 for 'U', 1 for 'X', 2 for '0' and 3 for '1'.
 
 use crate::bodies::Bodies;
 use crate::courses::{

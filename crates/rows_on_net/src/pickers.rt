@@ -1,8 +1,8 @@
 //! A picker that keeps what it was asked.
 
 use crate::texts::push_count;
-use rtl_kernel::{Forward, Pick, Reverse};
 use byte_streams::{Sink, push_text};
+use rtl_kernel::{Forward, Pick, Reverse};
 
 /// Which of the processes that are to run is run next.
 #[derive(Clone, Copy)]

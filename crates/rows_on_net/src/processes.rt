@@ -1,13 +1,13 @@
 //! What each process of a netlist drives, reads and is sensitive to, in words.
 
-use rtl_net::{Net, Process, SignalKind, Variable};
 use byte_streams::{Sink, push_number, push_text};
+use rtl_net::{Net, Process, SignalKind, Variable};
 use rtlsim_listing::net_name;
 use std::alloc::Global;
 use vhdl_values::Nine;
 
-/// Writes the processes of a netlist, with `; ` between them: each with its number, the names of nets, and its variables with the
-/// values that they start with.
+/// Writes the processes of a netlist, with `; ` between them: each with its number, the names of
+/// nets, and its variables with the values that they start with.
 pub fn push_processes<S: Sink>(alloc: Global, net: &Net, out: &mut S) {
     let processes = net.processes();
     for number in 0..processes.len() {
@@ -59,7 +59,8 @@ fn push_variable<S: Sink>(out: &mut S, variable: &Variable) {
     }
 }
 
-/// Writes a value that an element starts with: a letter or digit of the nine values, or the number of a literal.
+/// Writes a value that an element starts with: a letter or digit of the nine values, or the number
+/// of a literal.
 fn push_start<S: Sink>(out: &mut S, kind: SignalKind, start: u8) {
     if let SignalKind::Enumeration { .. } = kind {
         return push_number(out, start as u64);

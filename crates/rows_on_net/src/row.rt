@@ -3,7 +3,8 @@
 use byte_streams::{Out, push_line};
 use std::alloc::Global;
 
-/// A stimulus, how many delta cycles a moment may take, and what must come of it: the trace, and the line of the answer.
+/// A stimulus, how many delta cycles a moment may take, and what must come of it: the trace, and
+/// the line of the answer.
 #[derive(Drop)]
 pub struct Row<'a> {
     pub limit: u32,

@@ -1,8 +1,10 @@
-//! Simulations, row by row: a netlist under a stimulus, with the trace and the answer that it must have.
+//! Simulations, row by row: a netlist under a stimulus, with the trace and the answer that it must
+//! have.
 //!
-//! `data/traces.rows` tells how a row is written. Each row is simulated in several ways: with the processes in order and in
-//! the reverse order, and with outputs that take a byte a call, and that fail. What is told is what the first way gives,
-//! so that the transcript is the tables, comments aside; a way that gives something else is named behind its row.
+//! `data/traces.rows` tells how a row is written. Each row is simulated in several ways: with the
+//! processes in order and in the reverse order, and with outputs that take a byte a call, and that
+//! fail. What is told is what the first way gives, so that the transcript is the tables, comments
+//! aside; a way that gives something else is named behind its row.
 
 ghost use Rattle.rtl_stim.specs.Ports.{HasOwnPorts};
 
@@ -11,12 +13,13 @@ use crate::nets::{Nets, net_named};
 use crate::row::{Row, lines_behind};
 use crate::texts::push_marked;
 use crate::ways::other_way;
+use byte_streams::{Out, Sink, push_line, push_text};
 use rtl_kernel::Forward;
 use rtl_net::Net;
-use byte_streams::{Out, Sink, push_line, push_text};
 use std::alloc::Global;
 
-/// Tells the rows of a table. Behind `$` stand the netlist's name and how many delta cycles a moment may take.
+/// Tells the rows of a table. Behind `$` stand the netlist's name and how many delta cycles a
+/// moment may take.
 pub fn tell_runs<N: Nets, S: Sink>(alloc: Global, nets: &N, table: &str, out: &mut S) {
     let Some((_, rows)) = table.split_once("\n$ ") else {
         return;
@@ -38,8 +41,8 @@ fn tell_named<N: Nets, S: Sink>(alloc: Global, nets: &N, head: &str, lines: &str
     }
 }
 
-/// Takes a row's lines apart: those of the stimulus stand behind `<`, those of the trace behind `>`, and the answer behind `!`.
-/// Others are comments.
+/// Takes a row's lines apart: those of the stimulus stand behind `<`, those of the trace behind
+/// `>`, and the answer behind `!`. Others are comments.
 fn tell_lines<S: Sink>(alloc: Global, net: &Net, limit: u32, lines: &str, out: &mut S)
     requires { HasOwnPorts net.now }
 {

@@ -10,11 +10,11 @@ use crate::courses::{Course, Form, Given};
 use crate::nets::{Nets, net_named};
 use crate::pickers::Asked;
 use crate::texts::{push_count, push_truth};
+use byte_streams::{Sink, push_line, push_text};
 use rtl_eval::{Exec, trees};
 use rtl_eval_code::codes;
 use rtl_kernel::Kernel;
 use rtl_net::Net;
-use byte_streams::{Sink, push_line, push_text};
 use std::alloc::Global;
 use std::cell::Cell;
 

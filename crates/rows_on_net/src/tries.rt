@@ -2,15 +2,16 @@
 
 use crate::change::{change, put};
 use crate::texts::{push_joined, push_truth};
+use byte_streams::{Out, Sink, push_text};
 use rtl_check::{Report, Verdict, check, stored};
 use rtl_net::Net;
 use rtl_recheck::recheck;
-use byte_streams::{Out, Sink, push_text};
 use rtlsim_listing::{show_check, show_faults};
 use std::alloc::Global;
 
-/// Writes what comes of a try with a netlist, by a row's words: `check` for the checker's verdict, `stored` for the variables that
-/// are stored, and `recheck` for whether a report stands: the checker's, with the changes that the words behind tell.
+/// Writes what comes of a try with a netlist, by a row's words: `check` for the checker's verdict,
+/// `stored` for the variables that are stored, and `recheck` for whether a report stands: the
+/// checker's, with the changes that the words behind tell.
 pub fn push_try<S: Sink>(alloc: Global, net: &Net, line: &str, out: &mut S) {
     let (word, words) = line.split_once(' ').unwrap_or((line, ""));
     if word == "check" {

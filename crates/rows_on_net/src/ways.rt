@@ -5,13 +5,13 @@ ghost use Rattle.rtl_stim.specs.Ports.{HasOwnPorts};
 use crate::answers::run_row;
 use crate::held::Held;
 use crate::row::Row;
+use byte_streams::Out;
 use rtl_kernel::{Forward, Pick, Reverse};
 use rtl_net::Net;
-use byte_streams::Out;
 use std::alloc::Global;
 
-/// A way of simulating a row in which something else comes of it than must: with the processes in the reverse order, to an output that
-/// takes a byte a call, and to outputs that fail.
+/// A way of simulating a row in which something else comes of it than must: with the processes in
+/// the reverse order, to an output that takes a byte a call, and to outputs that fail.
 pub fn other_way(alloc: Global, net: &Net, row: &Row<'_>) -> Option<&'static str>
     requires { HasOwnPorts net.now }
 {
@@ -33,8 +33,9 @@ pub fn other_way(alloc: Global, net: &Net, row: &Row<'_>) -> Option<&'static str
     None
 }
 
-/// How many bytes of a row's trace don't go to an output that takes at most so many a call, at so many calls. Nothing stands for
-/// them where what went out is no beginning of the trace, and where the answer isn't the row's, or behind a cut trace `output`.
+/// How many bytes of a row's trace don't go to an output that takes at most so many a call, at so
+/// many calls. Nothing stands for them where what went out is no beginning of the trace, and where
+/// the answer isn't the row's, or behind a cut trace `output`.
 fn left_of<P: Pick>(
     alloc: Global,
     net: &Net,

@@ -1,18 +1,22 @@
-//! Whole calls of the program, row by row. Each row is made by every call that can serve it, and each answer
-//! is compared with the row's: the status, what goes to both outputs, and what shows how far a run is.
+//! Whole calls of the program, row by row. Each row is made by every call that can serve it, and
+//! each answer is compared with the row's: the status, what goes to both outputs, and what shows
+//! how far a run is.
 //!
-//! The tables lie in `data/` with the sources that they name; `data/values.txt` tells how a row is written.
-//! Where a call answers otherwise, what it gave is printed, and so the output isn't that of `stdout`.
+//! The tables lie in `data/` with the sources that they name; `data/values.txt` tells how a row is
+//! written. Where a call answers otherwise, what it gave is printed, and so the output isn't that
+//! of `stdout`.
 //!
-//! `data/names/` and `data/nets/` have tables of many small sources, as rows_calls reads them: a row is a call of `net`, of
-//! which it tells a few words. They are printed as they stand, comments aside.
+//! `data/names/` and `data/nets/` have tables of many small sources, as rows_calls reads them: a
+//! row is a call of `net`, of which it tells a few words. They are printed as they stand, comments
+//! aside.
 //!
-//! `data/rtl/` has rows of what a whole call doesn't show: what the processes of a netlist reach, what the checker reports and a
-//! second look lets stand, and what comes of a simulation. Then it is printed what the kernel does step by step, with the
-//! processes in several orders, once for bodies as trees and once for bodies as codes; and what agendas give.
+//! `data/rtl/` has rows of what a whole call doesn't show: what the processes of a netlist reach,
+//! what the checker reports and a second look lets stand, and what comes of a simulation. Then it
+//! is printed what the kernel does step by step, with the processes in several orders, once for
+//! bodies as trees and once for bodies as codes; and what agendas give.
 //!
-//! All that needs no program stands in rows_calls, and what needs no source in rows_on_net, where it is proved sooner: here are
-//! the calls alone.
+//! All that needs no program stands in rows_calls, and what needs no source in rows_on_net, where
+//! it is proved sooner: here are the calls alone.
 #![tactic(auto)]
 
 mod library;

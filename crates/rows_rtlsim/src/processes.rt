@@ -6,13 +6,14 @@ use std::alloc::Global;
 use vhdl_expand_rules::{ElabFault, ElabProblem};
 use vhdl_front::{SourceFault, open};
 
-/// What each process of a netlist drives, reads and is sensitive to, and what its variables start with.
+/// What each process of a netlist drives, reads and is sensitive to, and what its variables start
+/// with.
 #[derive(Clone, Copy)]
 pub struct Processes;
 
 impl Teller for Processes {
-    /// Adds what is elaborated of a text in a frame: its netlist, or the fault's name, where it stands at the text's mark if it has
-    /// one.
+    /// Adds what is elaborated of a text in a frame: its netlist, or the fault's name, where it
+    /// stands at the text's mark if it has one.
     fn told(&self, alloc: Global, frame: Frame<'_>, written: &str, found: &mut Text) {
         let (source, place) = frame.source_of(alloc, written);
         let mark = written.find('^').is_some().then_some(place);

@@ -1,8 +1,8 @@
 //! The program's calls.
 
 use crate::library::{answer_by_library, answer_by_trees};
-use rows_calls::Program;
 use byte_streams::{Reader, Sink};
+use rows_calls::Program;
 use rtlsim::{Named, Standard, parse_words, tool, tool_first_line, tool_with};
 use std::alloc::Global;
 use std::rt::Files;

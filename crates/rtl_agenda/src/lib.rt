@@ -1,5 +1,5 @@
-//! Pending changes of nets by their times: `Agenda`, which gives the least time first with its changes; `MapAgenda`, an
-//! agenda over an ordered map; and `Wheel`, one over a ring of slots.
+//! Pending changes of nets by their times: `Agenda`, which gives the least time first with its
+//! changes; `MapAgenda`, an agenda over an ordered map; and `Wheel`, one over a ring of slots.
 //!
 //! `specs/Agenda.antt` has the words in which contracts say what an agenda holds, and
 //! `specs/Laws.antt` the law of `push`.

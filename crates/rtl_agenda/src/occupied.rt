@@ -49,7 +49,8 @@ impl Occupied {
     pub fn next_from(&self, from: usize) -> Option<usize>
         ensures from { IfSome result (λ slot. from ≤ slot) }
         ensures occupied { IfSome result (λ slot. is_marked self.now.words.items slot ≡ true) }
-        ensures first { IfSome result (λ slot. (s : ℕ) → from ≤ s → s < slot → is_marked self.now.words.items s ≡ false) }
+        ensures first { IfSome result (λ slot. (s : ℕ) → from ≤ s → s < slot
+            → is_marked self.now.words.items s ≡ false) }
         ensures none { IfNone result ((s : ℕ) → from ≤ s → is_marked self.now.words.items s ≡ false) }
     {
         let mut slot = from;

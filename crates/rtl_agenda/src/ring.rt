@@ -52,8 +52,8 @@ impl Ring {
         (time % self.slots.len() as u64) as usize
     }
 
-    /// Puts a change last among those of its time, whose slot has those of no other. Where memory is refused, nothing
-    /// is changed.
+    /// Puts a change last among those of its time, whose slot has those of no other. Where memory
+    /// is refused, nothing is changed.
     pub fn push(&mut self, time: u64, change: Change) -> Result<(), NoMemory>
         ensures ok { let slots = entries_of self.old.slots.items in let s = time % length slots in
             OnOk result
@@ -77,7 +77,8 @@ impl Ring {
         self.occupied.set(slot, true);
     }
 
-    /// Takes the changes of a slot, which has none from then on. Those taken before make room for others.
+    /// Takes the changes of a slot, which has none from then on. Those taken before make room for
+    /// others.
     pub fn take(&mut self, slot: usize, taken: &mut Vec<Change>)
         requires { slot < length self.old.slots.items }
         ensures taken { taken.new.items ≡ (slot_at (entries_of self.old.slots.items) slot).1 }

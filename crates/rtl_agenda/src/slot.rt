@@ -22,7 +22,8 @@ impl Drop for Slot {
 }
 
 impl Slot {
-    /// Puts a change last, and gives the slot its time. An empty slot takes the room of the spare list.
+    /// Puts a change last, and gives the slot its time. An empty slot takes the room of the spare
+    /// list.
     pub fn push(
         &mut self,
         time: u64,

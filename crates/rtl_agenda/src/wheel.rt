@@ -11,8 +11,8 @@ use crate::ring::Ring;
 use crate::time_map::TimeMap;
 use std::alloc::Global;
 
-/// An agenda that keeps the times of one turn in a ring of slots, each in the slot of its remainder modulo their
-/// number, and later times in an ordered map. A turn is as many ns as there are slots.
+/// An agenda that keeps the times of one turn in a ring of slots, each in the slot of its remainder
+/// modulo their number, and later times in an ordered map. A turn is as many ns as there are slots.
 pub struct Wheel {
     near: Ring,
     far: TimeMap,
@@ -35,7 +35,8 @@ impl Drop for Wheel {
 }
 
 impl Wheel {
-    /// An agenda of so many slots, 1 to 65,536, in which no change waits and no time has been taken.
+    /// An agenda of so many slots, 1 to 65,536, in which no change waits and no time has been
+    /// taken.
     pub fn new(alloc: Global, slots: usize) -> Result<Self, NoMemory>
         requires some { 0 < slots }
         requires bounded { slots ≤ most_slots }

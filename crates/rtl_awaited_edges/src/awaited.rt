@@ -31,7 +31,8 @@ pub fn edges_of(alloc: Global, net: &Net) -> Result<Vec<Option<ClockEdge>>, Allo
     Ok(edges)
 }
 
-/// The edge of the first process that awaits one, and for each process whether it awaits just that one.
+/// The edge of the first process that awaits one, and for each process whether it awaits just that
+/// one.
 pub fn followers_of(alloc: Global, net: &Net) -> Result<(Option<ClockEdge>, Vec<bool>), AllocError>
     ensures { IfOk result (λ r. AreFollowers (core net.now) r.0 r.1.items) }
 {

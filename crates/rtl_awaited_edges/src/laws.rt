@@ -1,4 +1,5 @@
-//! The law of processes that are asleep (`specs/Laws.antt`), the contract of a function that does nothing.
+//! The law of processes that are asleep (`specs/Laws.antt`), the contract of a function that does
+//! nothing.
 
 ghost use Rattle.rtl_awaited_edges.specs.Laws.{EachAsleepAssignsNothing};
 

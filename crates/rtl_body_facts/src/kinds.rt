@@ -225,7 +225,8 @@ fn reset_of(inputs: &[usize], test: Atom) -> Option<usize>
 
 /// What the branch under an edge makes of a process with this reset.
 fn edge_branch(branch: &Branch, reset: Option<usize>) -> Option<Clocking>
-    ensures { result ≡ clocked_branch (m.edge_test (test_view branch.now.test)) (statements_of branch.now.statements.items) reset }
+    ensures { result ≡ clocked_branch (m.edge_test (test_view branch.now.test))
+        (statements_of branch.now.statements.items) reset }
 {
     let test = edge_of(&branch.test)?;
     if body_has_event(&branch.statements) {
@@ -242,7 +243,8 @@ fn edge_branch(branch: &Branch, reset: Option<usize>) -> Option<Clocking>
 /// What a body is clocked by that is one if with these branches and no else.
 fn clocking_of_branches(inputs: &[usize], branches: &[Branch]) -> Option<Clocking>
     requires { IsStrictlyIncreasing inputs.now }
-    ensures { result ≡ option_map clocking_view (m.clocking inputs.now (step (if_of (branches_of no_else branches.now)) done)) }
+    ensures { result ≡ option_map clocking_view
+        (m.clocking inputs.now (step (if_of (branches_of no_else branches.now)) done)) }
 {
     if branches.len() == 1 {
         return edge_branch(&branches[0], None);

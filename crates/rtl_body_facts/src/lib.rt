@@ -1,8 +1,9 @@
-//! What the checker asks of the bodies of processes: whether one is clocked or combinational, whether an edge test or
-//! `'event` stands in it, which nets it assigns on every syntactic path, and whether it stores a variable element.
+//! What the checker asks of the bodies of processes: whether one is clocked or combinational,
+//! whether an edge test or `'event` stands in it, which nets it assigns on every syntactic path,
+//! and whether it stores a variable element.
 //!
-//! The definitions are those of rtl_model (`bodies/Kinds`, `Reads`, `Assigns`, `Stored`); `specs/Looks.antt`
-//! has them of the parts of bodies that stand in lists.
+//! The definitions are those of rtl_model (`bodies/Kinds`, `Reads`, `Assigns`, `Stored`);
+//! `specs/Looks.antt` has them of the parts of bodies that stand in lists.
 #![tactic(auto)]
 
 mod assigned;

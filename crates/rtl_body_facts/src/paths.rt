@@ -30,7 +30,8 @@ fn push_run(
     len: u32,
     nets: &mut Vec<usize>,
 ) -> Result<(), AllocError>
-    ensures { OnOk result ((n : ℕ) → is_in n nets.new.items ≡ (is_in n nets.old.items || list_any (covers drives.now n) (numbers (Indices.Run first len)))) }
+    ensures { OnOk result ((n : ℕ) → is_in n nets.new.items ≡
+        (is_in n nets.old.items || list_any (covers drives.now n) (numbers (Indices.Run first len)))) }
 {
     for i in 0..len {
         push_target(drives, first as usize + i as usize, nets)?;
@@ -40,7 +41,8 @@ fn push_run(
 
 /// Appends those of these places.
 fn push_listed(drives: &[Driver], places: &[u32], nets: &mut Vec<usize>) -> Result<(), AllocError>
-    ensures { OnOk result ((n : ℕ) → is_in n nets.new.items ≡ (is_in n nets.old.items || list_any (covers drives.now n) places.now)) }
+    ensures { OnOk result ((n : ℕ) → is_in n nets.new.items ≡
+        (is_in n nets.old.items || list_any (covers drives.now n) places.now)) }
 {
     for place in places {
         push_target(drives, *place as usize, nets)?;
@@ -54,7 +56,8 @@ fn push_targets(
     places: &Indices,
     nets: &mut Vec<usize>,
 ) -> Result<(), AllocError>
-    ensures { OnOk result ((n : ℕ) → is_in n nets.new.items ≡ (is_in n nets.old.items || list_any (covers drives.now n) (numbers places.now))) }
+    ensures { OnOk result ((n : ℕ) → is_in n nets.new.items ≡
+        (is_in n nets.old.items || list_any (covers drives.now n) (numbers places.now))) }
 {
     match places {
         Indices::Run { first, len } => push_run(drives, *first, *len, nets),
@@ -84,7 +87,8 @@ fn push_assigned(
     statement: &Statement,
     nets: &mut Vec<usize>,
 ) -> Result<(), AllocError>
-    ensures { OnOk result ((n : ℕ) → is_in n nets.new.items ≡ (is_in n nets.old.items || m.stmt_must_assign (to_net drives.now n) (statement_view statement.now))) }
+    ensures { OnOk result ((n : ℕ) → is_in n nets.new.items ≡
+        (is_in n nets.old.items || m.stmt_must_assign (to_net drives.now n) (statement_view statement.now))) }
 {
     match statement {
         Statement::Null => Ok(()),
@@ -116,8 +120,9 @@ fn push_assigned(
     }
 }
 
-/// The nets that a sequence with these drivers assigns on every syntactic path, rising. It takes time in proportion to the
-/// body, but for sorting and for the levels that are open in it, and memory for the nets that it assigns.
+/// The nets that a sequence with these drivers assigns on every syntactic path, rising. It takes
+/// time in proportion to the body, but for sorting and for the levels that are open in it, and
+/// memory for the nets that it assigns.
 #[cycle(every_path)]
 pub fn assigned_nets(
     alloc: Global,
@@ -125,7 +130,8 @@ pub fn assigned_nets(
     statements: &[Statement],
 ) -> Result<Vec<usize>, AllocError>
     ensures rise { IfOk result (λ v. IsStrictlyIncreasing v.items) }
-    ensures are { IfOk result (λ v. (n : ℕ) → is_in n v.items ≡ m.must_assign (to_net drives.now n) (statements_of statements.now)) }
+    ensures are { IfOk result (λ v. (n : ℕ)
+        → is_in n v.items ≡ m.must_assign (to_net drives.now n) (statements_of statements.now)) }
 {
     let mut nets = Vec::new(alloc);
     for statement in statements {
@@ -143,7 +149,8 @@ fn common_with_branches(
     branches: &[Branch],
     mut common: Vec<usize>,
 ) -> Result<Vec<usize>, AllocError>
-    ensures { IfOk result (λ v. (n : ℕ) → is_in n v.items ≡ (list_all (branch_covers drives.now n) branches.now && is_in n common.items)) }
+    ensures { IfOk result (λ v. (n : ℕ)
+        → is_in n v.items ≡ (list_all (branch_covers drives.now n) branches.now && is_in n common.items)) }
 {
     for branch in branches {
         let nets = assigned_nets(alloc, drives, &branch.statements)?;
@@ -160,7 +167,8 @@ fn common_with_alternatives(
     alternatives: &[Alternative],
     mut common: Vec<usize>,
 ) -> Result<Vec<usize>, AllocError>
-    ensures { IfOk result (λ v. (n : ℕ) → is_in n v.items ≡ (list_all (alternative_covers drives.now n) alternatives.now && is_in n common.items)) }
+    ensures { IfOk result (λ v. (n : ℕ)
+        → is_in n v.items ≡ (list_all (alternative_covers drives.now n) alternatives.now && is_in n common.items)) }
 {
     for alternative in alternatives {
         let nets = assigned_nets(alloc, drives, &alternative.statements)?;

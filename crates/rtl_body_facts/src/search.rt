@@ -1,4 +1,5 @@
-//! Whether something stands in a body: an edge test or `'event`, a net that is read, or an element that is looked at.
+//! Whether something stands in a body: an edge test or `'event`, a net that is read, or an element
+//! that is looked at.
 
 ghost use Rattle.std.specs.Prelude.{◌≡◌, ◌||◌, not};
 ghost use Rattle.std.specs.List.{list_any};

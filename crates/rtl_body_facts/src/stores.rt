@@ -10,7 +10,8 @@ use crate::assigned::statement_assigns;
 use crate::search::{test_looks_at, value_looks_at};
 use rtl_net::{Alternative, Branch, Statement};
 
-/// Whether a statement reads this variable element where it hasn't assigned it on every syntactic path.
+/// Whether a statement reads this variable element where it hasn't assigned it on every syntactic
+/// path.
 #[cycle(stores)]
 fn statement_stores(statement: &Statement, element: usize) -> bool
     ensures { result ≡ m.stmt_stores element (statement_view statement.now) }

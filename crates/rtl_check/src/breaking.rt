@@ -39,7 +39,9 @@ fn targets_of(alloc: Global, drives: &[Driver]) -> Result<Vec<usize>, NoMemory>
 /// The nets that a process drives and doesn't assign on every syntactic path, rising.
 fn latches(alloc: Global, process: &Process) -> Result<Vec<usize>, NoMemory>
     ensures rise { IfOk result (λ v. IsStrictlyIncreasing v.items) }
-    ensures are { IfOk result (λ v. (n : ℕ) → is_in n v.items ≡ (is_in n (driven process.now.drives.items) && not (must_assign (to_net process.now.drives.items n) (body_of process.now)))) }
+    ensures are { IfOk result (λ v. (n : ℕ)
+        → is_in n v.items ≡ (is_in n (driven process.now.drives.items)
+        && not (must_assign (to_net process.now.drives.items n) (body_of process.now)))) }
 {
     let mut targets = targets_of(alloc, &process.drives)?;
     sort_once(&mut targets);
@@ -61,7 +63,8 @@ fn tested_nets(alloc: Global, clocking: Clocking) -> Result<Vec<usize>, NoMemory
     Ok(nets)
 }
 
-/// Whether a net that a clocked process reads is read by the branch under its edge, or is its reset.
+/// Whether a net that a clocked process reads is read by the branch under its edge, or is its
+/// reset.
 pub fn is_used(clocking: Clocking, net: usize) -> bool
     ensures { result ≡ is_data clocking net }
 {
@@ -110,7 +113,8 @@ fn clocked_nets(
     requires reads { IsStrictlyIncreasing process.now.reads.items }
     requires wakes { IsStrictlyIncreasing process.now.wakes.items }
     ensures rise { IfOk result (λ v. IsStrictlyIncreasing v.items) }
-    ensures are { IfOk result (λ v. (n : ℕ) → is_in n v.items ≡ clocked_breaks inputs.now clocks.now process.now clocking rule n) }
+    ensures are { IfOk result (λ v. (n : ℕ)
+        → is_in n v.items ≡ clocked_breaks inputs.now clocks.now process.now clocking rule n) }
 {
     match rule {
         Rule::ClockNotInput => outside(alloc, &[clocking.clock], inputs),
@@ -140,7 +144,8 @@ fn combinational_nets(alloc: Global, rule: Rule, process: &Process) -> Result<Ve
     }
 }
 
-/// The nets of a process that break a rule, rising; inputs and clocks are those of the whole netlist, rising too.
+/// The nets of a process that break a rule, rising; inputs and clocks are those of the whole
+/// netlist, rising too.
 pub fn breaking_nets(
     alloc: Global,
     inputs: &[usize],

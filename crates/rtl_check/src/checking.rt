@@ -19,15 +19,15 @@ use std::alloc::Global;
 pub enum Verdict {
     /// It is accepted, and this is the report on it.
     Yes(Report),
-    /// It has these faults: all but loops, in order, each once; or one loop, where it has no other, listed once round from its
-    /// lowest process.
+    /// It has these faults: all but loops, in order, each once; or one loop, where it has no other,
+    /// listed once round from its lowest process.
     No(Vec<CheckFault>),
 }
 
-/// Whether a netlist is accepted: yes, with the report on it, just where it has no fault; else no, with its faults. A loop is
-/// looked for only where there is no other fault. It takes time in proportion to the netlist, but for the logarithms of sorted
-/// lists, and memory for the kinds of processes, for what feeds what, for the elements of one process's variables, and for the
-/// answer.
+/// Whether a netlist is accepted: yes, with the report on it, just where it has no fault; else no,
+/// with its faults. A loop is looked for only where there is no other fault. It takes time in
+/// proportion to the netlist, but for the logarithms of sorted lists, and memory for the kinds of
+/// processes, for what feeds what, for the elements of one process's variables, and for the answer.
 pub fn check(alloc: Global, net: &Net) -> Result<Verdict, NoMemory>
     ensures verdict { IfOk result (IsVerdict (core net.now)) }
     ensures yes { IfOk result (λ v. IsTrue (is_yes v) ↔ IsAccepted (core net.now)) }

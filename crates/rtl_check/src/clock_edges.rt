@@ -112,7 +112,8 @@ fn push_edges(nets: &EdgeNets, net: usize, pairs: &mut Vec<(usize, Edge)>) -> Re
     push_pair(&nets.to_zero, net, Edge::To0, pairs)
 }
 
-/// The pairs of net and edge that clocked processes test, each once: by net, then in the order of edges.
+/// The pairs of net and edge that clocked processes test, each once: by net, then in the order of
+/// edges.
 pub fn clock_edges(
     alloc: Global,
     net: &Net,

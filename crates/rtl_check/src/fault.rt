@@ -1,7 +1,7 @@
 //! Faults of a netlist.
 
-use rtl_net::Source;
 use fault_rules::CheckRule;
+use rtl_net::Source;
 use std::fmt;
 use thiserror::Error;
 
@@ -50,12 +50,14 @@ pub enum CheckFault {
         process: usize,
         net: usize,
     },
-    /// Each process is sensitive to a net that the next drives, and the last to one that the first drives.
+    /// Each process is sensitive to a net that the next drives, and the last to one that the first
+    /// drives.
     #[error("{rule}", rule = CheckRule::Loop.words())]
     Loop {
         processes: Vec<usize>,
     },
-    /// The process reads the element at this place of this variable where it hasn't assigned it on every syntactic path.
+    /// The process reads the element at this place of this variable where it hasn't assigned it on
+    /// every syntactic path.
     #[error("{rule}, of process {process}, variable {variable}, place {place}", rule = CheckRule::StoredVariable.words())]
     StoredVariable {
         process: usize,

@@ -34,7 +34,8 @@ fn push_feeder(
     source: Source,
     feeders: &mut Vec<usize>,
 ) -> Result<(), NoMemory>
-    ensures { OnOk result ((p : ℕ) → is_in p feeders.new.items ≡ (is_in p feeders.old.items || feeds_by kinds.now p (source_view source))) }
+    ensures { OnOk result ((p : ℕ) → is_in p feeders.new.items ≡
+        (is_in p feeders.old.items || feeds_by kinds.now p (source_view source))) }
 {
     match source {
         Source::Driven { process, .. } => {
@@ -56,7 +57,8 @@ fn push_feeders(
     feeders: &mut Vec<usize>,
 ) -> Result<(), NoMemory>
     requires { number < length net.now.types }
-    ensures { OnOk result ((p : ℕ) → is_in p feeders.new.items ≡ (is_in p feeders.old.items || list_any (feeds_by kinds.now p) (flat_sources (flat net.now) number))) }
+    ensures { OnOk result ((p : ℕ) → is_in p feeders.new.items ≡
+        (is_in p feeders.old.items || list_any (feeds_by kinds.now p) (flat_sources (flat net.now) number))) }
 {
     let sources = net.sources(number);
     for source in sources {
@@ -90,8 +92,8 @@ fn row_of(
     Ok(Some(feeders))
 }
 
-/// The combinational processes of a netlist, each with those that feed it. It takes time in proportion to sensitivities and
-/// the drivers of their nets, and memory for the table.
+/// The combinational processes of a netlist, each with those that feed it. It takes time in
+/// proportion to sensitivities and the drivers of their nets, and memory for the table.
 pub fn table_of(
     alloc: Global,
     net: &Net,

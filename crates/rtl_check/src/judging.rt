@@ -23,8 +23,9 @@ pub enum Judged {
     Leveled(Levels),
 }
 
-/// Judges a netlist: all its faults but loops, in order; or else a loop; or else levels. A loop is looked for only where there
-/// is no other fault. It takes memory for its faults, and for what feeds what.
+/// Judges a netlist: all its faults but loops, in order; or else a loop; or else levels. A loop is
+/// looked for only where there is no other fault. It takes memory for its faults, and for what
+/// feeds what.
 pub fn judge(
     alloc: Global,
     net: &Net,

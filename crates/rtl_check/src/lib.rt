@@ -1,7 +1,8 @@
 //! The checker: whether a netlist is accepted, with its report, or else which faults it has.
 //!
-//! The definitions are those of rtl_model's `simulation/Accepted`, `Faults`, `Levels` and `Report`. `specs/Views.antt` says how
-//! the code's faults and reports are seen, and `specs/Listing.antt` how lists of faults grow.
+//! The definitions are those of rtl_model's `simulation/Accepted`, `Faults`, `Levels` and `Report`.
+//! `specs/Views.antt` says how the code's faults and reports are seen, and `specs/Listing.antt` how
+//! lists of faults grow.
 #![tactic(auto)]
 
 mod bound;

@@ -1,4 +1,5 @@
-//! Whether a list has the pairs of net and edge that a netlist's clocked processes test, without memory.
+//! Whether a list has the pairs of net and edge that a netlist's clocked processes test, without
+//! memory.
 
 ghost use Rattle.std.specs.Prelude.{◌≡◌, ◌↔◌, ◌<◌, ℕ, Option, length, IsTrue, Contains};
 ghost use Rattle.rtl_model.specs.basics.Lists.{IsLess, RisesBy};
@@ -75,7 +76,9 @@ fn are_tested(net: &Net, clocks: &[(usize, Edge)]) -> bool
 
 /// Whether the clock of a process of this kind is listed, if it has one.
 fn lists_clock(clocks: &[(usize, Edge)], kind: ProcessKind) -> bool
-    ensures { (q : m.Process) → IsKind q kind → IsTrue result ↔ ((n : ℕ) (edge : m.Edge) (reset : Option m.Reset) → q.kind ≡ m.Clocked n edge reset → Contains clocks.now (n, edge)) }
+    ensures { (q : m.Process) → IsKind q kind
+        → IsTrue result ↔ ((n : ℕ) (edge : m.Edge) (reset : Option m.Reset) → q.kind ≡ m.Clocked n edge reset
+        → Contains clocks.now (n, edge)) }
 {
     match kind {
         ProcessKind::Combinational => true,
@@ -118,8 +121,9 @@ fn rise(clocks: &[(usize, Edge)]) -> bool
     true
 }
 
-/// Whether these are the pairs of net and edge that a netlist's clocked processes test, each once: by net, then in the order of
-/// edges. It takes no memory, and time by the product of clocks and processes at most.
+/// Whether these are the pairs of net and edge that a netlist's clocked processes test, each once:
+/// by net, then in the order of edges. It takes no memory, and time by the product of clocks and
+/// processes at most.
 pub fn are_clocks(net: &Net, clocks: &[(usize, Edge)]) -> bool
     ensures { IsTrue result ↔ AreClocks (core net.now) clocks.now }
 {

@@ -1,4 +1,5 @@
-//! Lists of faults that name no net of a process: two drivers, and processes that are neither clocked nor combinational.
+//! Lists of faults that name no net of a process: two drivers, and processes that are neither
+//! clocked nor combinational.
 
 ghost use Rattle.std.specs.Prelude.{◌<◌, length, OnOk};
 ghost use Rattle.rtl_net.specs.Core.{core};

@@ -79,7 +79,8 @@ fn make_report(
     clocks: &[(usize, Edge)],
     bound: u32,
 ) -> bool
-    ensures { HasNoMixed (core net.now) → IsTrue result ↔ r.IsReport (core net.now) levels.now from.now clocks.now bound }
+    ensures { HasNoMixed (core net.now)
+        → IsTrue result ↔ r.IsReport (core net.now) levels.now from.now clocks.now bound }
 {
     simulation_laws::reports_are_shown();
     if !are_levels(net, levels, from) {
@@ -91,8 +92,9 @@ fn make_report(
     is_bound(net, clocks, greatest_of(levels), bound)
 }
 
-/// Whether a report is the report on a netlist in which each process is clocked or combinational: in its levels, its froms, its
-/// clocks and its bound. It takes no memory, and time by the product of clocks and processes at most.
+/// Whether a report is the report on a netlist in which each process is clocked or combinational:
+/// in its levels, its froms, its clocks and its bound. It takes no memory, and time by the product
+/// of clocks and processes at most.
 pub fn is_report(net: &Net, report: &Report) -> bool
     ensures { HasNoMixed (core net.now) → IsTrue result ↔ IsReportOf (core net.now) report.now }
 {

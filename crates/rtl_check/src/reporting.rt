@@ -20,12 +20,15 @@ use vhdl_values::Edge;
 /// What an accepted netlist's simulation keeps to.
 #[derive(Drop)]
 pub struct Report {
-    /// The level of each combinational process: the length of the longest chain that ends with it, each but the first
-    /// being sensitive to a net that the one before drives. None for a clocked process.
+    /// The level of each combinational process: the length of the longest chain that ends with it,
+    /// each but the first being sensitive to a net that the one before drives. None for a clocked
+    /// process.
     pub levels: Vec<Option<u32>>,
-    /// Of each process above level 1 the lowest process of the level below that drives a net it is sensitive to.
+    /// Of each process above level 1 the lowest process of the level below that drives a net it is
+    /// sensitive to.
     pub from: Vec<Option<usize>>,
-    /// The nets and edges that clocked processes test, each once: by net, then in the order of edges.
+    /// The nets and edges that clocked processes test, each once: by net, then in the order of
+    /// edges.
     pub clocks: Vec<(usize, Edge)>,
     /// No moment has more delta cycles than this.
     pub bound: u32,

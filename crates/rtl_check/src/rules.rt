@@ -41,7 +41,8 @@ fn rule_at(
     requires kinds { AreKinds (core net.now) kinds.now }
     requires clocks { AreClockNets (core net.now) clocks.now }
     requires there { process < length kinds.now }
-    ensures { OnOk result (AddsFaults (core net.now) (one_place (rule_number rule) process) faults.old.items faults.new.items) }
+    ensures { OnOk result (AddsFaults (core net.now) (one_place (rule_number rule) process) faults.old.items
+        faults.new.items) }
 {
     net.is_elaborated();
     let inputs = net.inputs();
@@ -62,7 +63,8 @@ pub fn by_rule(
 ) -> Result<(), NoMemory>
     requires kinds { AreKinds (core net.now) kinds.now }
     requires clocks { AreClockNets (core net.now) clocks.now }
-    ensures { OnOk result (AddsFaults (core net.now) (is_of_number (rule_number rule)) faults.old.items faults.new.items) }
+    ensures { OnOk result (AddsFaults (core net.now) (is_of_number (rule_number rule)) faults.old.items
+        faults.new.items) }
 {
     for process in 0..kinds.len() {
         rule_at(alloc, net, kinds, clocks, rule, process, faults)?;

@@ -1,4 +1,5 @@
-//! Whether levels and froms are those of a netlist, by comparing each process with those that drive what it is sensitive to.
+//! Whether levels and froms are those of a netlist, by comparing each process with those that drive
+//! what it is sensitive to.
 
 ghost use Rattle.std.specs.Prelude.{◌≡◌, ◌<◌, ◌↔◌, length, slice_index_or, IsTrue, None};
 ghost use Rattle.rtl_model.specs.simulation.Netlist as m;
@@ -11,7 +12,8 @@ use crate::kinds::kind_at;
 use rtl_body_facts::ProcessKind;
 use rtl_net::{Net, Source, nets_meet_the_laws};
 
-/// The greatest level of some processes, and the lowest that has it; 0 and none where none has a level.
+/// The greatest level of some processes, and the lowest that has it; 0 and none where none has a
+/// level.
 #[derive(Clone, Copy)]
 pub struct Highest {
     pub level: u32,
@@ -138,8 +140,8 @@ fn stands(net: &Net, levels: &[Option<u32>], from: &[Option<usize>], process: us
     stands_as(highest, kind, level_at(levels, process), from[process])
 }
 
-/// Whether levels and froms are those of a netlist in which each process is clocked or combinational. It takes no memory, and
-/// time in proportion to the netlist.
+/// Whether levels and froms are those of a netlist in which each process is clocked or
+/// combinational. It takes no memory, and time in proportion to the netlist.
 pub fn are_levels(net: &Net, levels: &[Option<u32>], from: &[Option<usize>]) -> bool
     ensures { s.HasNoMixed (core net.now) → IsTrue result ↔ s.ShowFroms (core net.now) levels.now from.now }
 {

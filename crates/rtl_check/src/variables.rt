@@ -13,7 +13,8 @@ use rtl_net::{Net, NoMemory, Variable};
 use rtl_stored::stored_elements;
 use std::alloc::Global;
 
-/// An element of a process's variables: the variable's number, and the element's place from the left.
+/// An element of a process's variables: the variable's number, and the element's place from the
+/// left.
 #[derive(Clone, Copy)]
 pub struct VariableElement {
     pub variable: usize,
@@ -52,7 +53,8 @@ fn push_stored(
     at: VariableElement,
     faults: &mut Vec<CheckFault>,
 ) -> Result<(), NoMemory>
-    ensures { OnOk result (faults.new.items ≡ faults.old.items ++ added_if stored (CheckFault.StoredVariable process at.variable at.place)) }
+    ensures { OnOk result (faults.new.items ≡ faults.old.items
+        ++ added_if stored (CheckFault.StoredVariable process at.variable at.place)) }
 {
     if stored {
         faults.push(CheckFault::StoredVariable {
@@ -99,9 +101,9 @@ pub fn stored_variables(
     Ok(())
 }
 
-/// The variables of a netlist that are stored: all faults of that kind, in order, whatever other faults there are. It takes time in
-/// proportion to the bodies and to the elements of variables, and memory for the elements of one process's variables, and for the
-/// list.
+/// The variables of a netlist that are stored: all faults of that kind, in order, whatever other
+/// faults there are. It takes time in proportion to the bodies and to the elements of variables,
+/// and memory for the elements of one process's variables, and for the list.
 pub fn stored(alloc: Global, net: &Net) -> Result<Vec<CheckFault>, NoMemory>
     ensures { IfOk result (λ faults. AreStored (core net.now) (map fault_view faults.items)) }
 {

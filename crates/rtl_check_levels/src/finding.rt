@@ -72,7 +72,8 @@ impl Finding {
         Ok(())
     }
 
-    /// Gives process q its level if all that feed it have theirs, else lets it wait for the first that hasn't.
+    /// Gives process q its level if all that feed it have theirs, else lets it wait for the first
+    /// that hasn't.
     fn place(&mut self, table: &[Option<Vec<usize>>], q: usize) -> Result<(), AllocError>
         requires sound { IsFinding table.now self.old }
         requires closed { IsClosed table.now }
@@ -121,7 +122,8 @@ impl Finding {
     fn release(&mut self, alloc: Global, table: &[Option<Vec<usize>>]) -> Option<Vec<usize>>
         requires sound { IsFinding table.now self.old }
         ensures sound { IsFinding table.now self.new }
-        ensures done { IfNone result ((self.new.ready.items ≡ []) × (self.new.levels ≡ self.old.levels) × (self.new.waiting ≡ self.old.waiting)) }
+        ensures done { IfNone result ((self.new.ready.items ≡ []) × (self.new.levels ≡ self.old.levels)
+            × (self.new.waiting ≡ self.old.waiting)) }
         ensures released { IfSome result (λ waiters. AreReleased self.old self.new waiters.items) }
     {
         let p = self.ready.pop()?;

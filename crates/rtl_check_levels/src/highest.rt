@@ -3,7 +3,8 @@
 ghost use Rattle.std.specs.Prelude.{◌≡◌, ◌≢◌, ℕ, suc, ◌≤◌, ◌<◌, All, length, slice_index, slice_index_or, Some, None, IsSome, ◌↔◌, IsTrue};
 ghost use Rattle.rtl_check_levels.specs.Levels.{level_of, IsHighest, GivesWay};
 
-/// The greatest level of some processes, and the lowest process that has it; 0 and none where there are no processes.
+/// The greatest level of some processes, and the lowest process that has it; 0 and none where there
+/// are no processes.
 #[derive(Clone, Copy)]
 pub struct Highest {
     pub level: u32,
@@ -43,7 +44,8 @@ pub fn highest_of(processes: &[usize], levels: &[Option<u32>]) -> Highest
     highest
 }
 
-/// The place of the first of these processes, from a place on, that has no level yet; their number where all have.
+/// The place of the first of these processes, from a place on, that has no level yet; their number
+/// where all have.
 pub fn first_open(processes: &[usize], levels: &[Option<u32>], from: usize) -> usize
     requires there { All (λ p. p < length levels.now) processes.now }
     requires within { from ≤ length processes.now }

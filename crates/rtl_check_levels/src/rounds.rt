@@ -77,8 +77,8 @@ fn from_lowest(alloc: Global, path: &[usize], first: usize) -> Result<Vec<usize>
     Ok(turned)
 }
 
-/// The loop that is met first from a process without a level, going each time to the lowest process without a level
-/// that feeds the one before; listed from its lowest process.
+/// The loop that is met first from a process without a level, going each time to the lowest process
+/// without a level that feeds the one before; listed from its lowest process.
 pub fn find_round(
     alloc: Global,
     table: &[Option<Vec<usize>>],

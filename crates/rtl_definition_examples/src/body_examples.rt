@@ -1,4 +1,5 @@
-//! Examples about bodies: what they assign, read and store, of what kind they are, and wrong definitions of what they do.
+//! Examples about bodies: what they assign, read and store, of what kind they are, and wrong
+//! definitions of what they do.
 
 ghost use Rattle.rtl_definition_examples.specs.Bodies.{KindsOfBodies, KindsOfResets, AssignsOfBodies, RunsOfBodies, VariablesOfBodies, StoresOfBodies, ReadsOfBodies};
 ghost use Rattle.rtl_definition_examples.specs.Counter.{CounterCounts};
@@ -49,8 +50,8 @@ pub fn variables_of_nets()
     ensures { VariablesOfNets }
 {}
 
-/// A variable that keeps its value from run to run, and an if without else that counts as assigning a variable, differ from
-/// the right definitions, and with them a law would fail.
+/// A variable that keeps its value from run to run, and an if without else that counts as assigning
+/// a variable, differ from the right definitions, and with them a law would fail.
 pub fn variable_mistakes()
     ensures kept { VariableWouldBeKept }
     ensures stored { StoredWouldPass }

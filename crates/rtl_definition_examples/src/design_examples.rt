@@ -23,7 +23,8 @@ pub fn bodies_are_expanded()
     ensures defaults { DefaultsAreTaken }
 {}
 
-/// Static integers, tops and generics, lengths and indices, turns, associations, sources and variables: what is told, and where.
+/// Static integers, tops and generics, lengths and indices, turns, associations, sources and
+/// variables: what is told, and where.
 pub fn broken_designs_are_refused()
     ensures integers { IntegersHaveValues }
     ensures tops { TopsAreThere }

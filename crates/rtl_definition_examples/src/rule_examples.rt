@@ -1,4 +1,5 @@
-//! Small trees (`specs/rules`) on which the rules are tried: what is accepted, with its units, and what is refused.
+//! Small trees (`specs/rules`) on which the rules are tried: what is accepted, with its units, and
+//! what is refused.
 
 ghost use Rattle.rtl_definition_examples.specs.rules.Expressions.{OperatorsHaveTypes, NamesHaveMeanings, EdgesAskForSignals, LiteralsHaveValues};
 ghost use Rattle.rtl_definition_examples.specs.rules.Declarations.{DeclarationsDeclare, ValuesAreFixed, ChoicesCover};

@@ -1,29 +1,30 @@
-//! Small netlists on which the definitions of simulation are tried: that the laws' premises can be met, that known
-//! counts of delta cycles come out, and that wrong definitions would differ.
+//! Small netlists on which the definitions of simulation are tried: that the laws' premises can be
+//! met, that known counts of delta cycles come out, and that wrong definitions would differ.
 
 ghost use Rattle.rtl_definition_examples.specs.Toggling.{PremisesCanBeMet, BoundsAreMet};
 ghost use Rattle.rtl_definition_examples.specs.Rows.{OscillatorSettles, SiblingWakes};
 ghost use Rattle.rtl_definition_examples.specs.SimulationMistakes.{OrderWouldCount, ActivityWouldGoOn, BoundWouldBreak, LevelsWouldMiss, RegisterWouldFallBack, RegisterWouldRunAhead, RaceWouldPass};
 ghost use Rattle.rtl_definition_examples.specs.Nets.{FaultsOfNets, OrderOfFaults, OrderOfClocks, ReportsOfNets, ResetsOfNets, EdgeWouldWin, ResetWouldBeLeftOut, ResetWouldRead, StatesOfNets, RacesOfNets};
 
-/// A toggling register, with an asynchronous reset and without, has all that the laws ask for, and its moments take as many
-/// delta cycles as the bound says.
+/// A toggling register, with an asynchronous reset and without, has all that the laws ask for, and
+/// its moments take as many delta cycles as the bound says.
 pub fn premises_can_be_met()
     ensures premises { PremisesCanBeMet }
     ensures counts { BoundsAreMet }
 {}
 
-/// `y <= not y` settles from 'U' after one delta cycle and from '0' not within nine; a process that is resumed by its
-/// sibling's output takes a second delta cycle without an event.
+/// `y <= not y` settles from 'U' after one delta cycle and from '0' not within nine; a process that
+/// is resumed by its sibling's output takes a second delta cycle without an event.
 pub fn known_counts_come_out()
     ensures oscillator { OscillatorSettles }
     ensures sibling { SiblingWakes }
 {}
 
-/// Each of these wrong definitions differs from the right one on a small netlist, and with it a law would fail: a process sees
-/// another's new value in its cycle; one is resumed by activity without an event; the bound leaves out the registers' cycle;
-/// levels go by reads in place of sensitivities; a register falls back to its start, or takes its value from after the
-/// edge; races are looked for at rising edges alone.
+/// Each of these wrong definitions differs from the right one on a small netlist, and with it a law
+/// would fail: a process sees another's new value in its cycle; one is resumed by activity without
+/// an event; the bound leaves out the registers' cycle; levels go by reads in place of
+/// sensitivities; a register falls back to its start, or takes its value from after the edge; races
+/// are looked for at rising edges alone.
 pub fn wrong_definitions_differ()
     ensures order { OrderWouldCount }
     ensures activity { ActivityWouldGoOn }
@@ -40,31 +41,35 @@ pub fn faults_of_nets()
     ensures order { OrderOfFaults }
 {}
 
-/// The order of clocks, the lowest process below, a bound without registers, and one without a wake by an idle port.
+/// The order of clocks, the lowest process below, a bound without registers, and one without a wake
+/// by an idle port.
 pub fn reports_of_nets()
     ensures clocks { OrderOfClocks }
     ensures nets { ReportsOfNets }
 {}
 
-/// A counter with a reset, and its faults where it isn't sensitive to the reset or the reset's branch reads a signal.
+/// A counter with a reset, and its faults where it isn't sensitive to the reset or the reset's
+/// branch reads a signal.
 pub fn resets_of_nets()
     ensures { ResetsOfNets }
 {}
 
-/// An edge that wins over a reset, a reset that is left out at the start, and a reset's branch that reads a signal differ from
-/// the right definitions, and with them a law would fail.
+/// An edge that wins over a reset, a reset that is left out at the start, and a reset's branch that
+/// reads a signal differ from the right definitions, and with them a law would fail.
 pub fn reset_mistakes()
     ensures edge { EdgeWouldWin }
     ensures start { ResetWouldBeLeftOut }
     ensures reads { ResetWouldRead }
 {}
 
-/// A machine of three states over an enumeration, beside a process that reads the clock, is sound, and goes to its next state.
+/// A machine of three states over an enumeration, beside a process that reads the clock, is sound,
+/// and goes to its next state.
 pub fn states_of_nets()
     ensures { StatesOfNets }
 {}
 
-/// Two clocks that change at once are no race, and of a race the lowest data input and clock are named.
+/// Two clocks that change at once are no race, and of a race the lowest data input and clock are
+/// named.
 pub fn races_of_nets()
     ensures { RacesOfNets }
 {}

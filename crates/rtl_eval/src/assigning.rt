@@ -20,7 +20,8 @@ use vhdl_values::Logic;
 pub fn assign(places: &Indices, value: &Evaluated, out: &mut Drives)
     requires as_many { length (numbers places.now) ≡ length (codes_of value.now) }
     requires there { All (λ place. place < length out.old.entries) (numbers places.now) }
-    ensures { out.new ≡ record (out.old) { entries = assigned (numbers places.now) (codes_of value.now) out.old.entries } }
+    ensures { out.new ≡ record (out.old)
+        { entries = assigned (numbers places.now) (codes_of value.now) out.old.entries } }
 {
     match value {
         Evaluated::Elements(values) => assign_made(places, values.len(), values, out),
@@ -28,28 +29,31 @@ pub fn assign(places: &Indices, value: &Evaluated, out: &mut Drives)
     }
 }
 
-/// The codes of a logical operator's values on codes, from the left, to the drivers at these places.
+/// The codes of a logical operator's values on codes, from the left, to the drivers at these
+/// places.
 pub fn assign_combined(logic: Logic, left: &[u8], right: &[u8], places: &Indices, out: &mut Drives)
     requires some { 0 < length left.now }
     requires room { length left.now ≤ 64 }
     requires as_many { length right.now ≡ length left.now }
     requires each { length (numbers places.now) ≡ length left.now }
     requires there { All (λ place. place < length out.old.entries) (numbers places.now) }
-    ensures { out.new ≡ record (out.old) { entries = assigned (numbers places.now) (combined logic left.now right.now) out.old.entries } }
+    ensures { out.new ≡ record (out.old)
+        { entries = assigned (numbers places.now) (combined logic left.now right.now) out.old.entries } }
 {
     let combination = Combination { logic, left, right };
     assign_made(places, left.len(), &combination, out);
 }
 
-/// So many codes, from the left, to the drivers at these places. Where these stand one after another and none of them has an
-/// entry, the codes are made where they are kept.
+/// So many codes, from the left, to the drivers at these places. Where these stand one after
+/// another and none of them has an entry, the codes are made where they are kept.
 pub fn assign_made<M: Maker>(places: &Indices, many: usize, maker: &M, out: &mut Drives)
     requires some { 0 < many }
     requires room { many ≤ 64 }
     requires made { length (M.made maker.now) ≡ many }
     requires as_many { length (numbers places.now) ≡ many }
     requires there { All (λ place. place < length out.old.entries) (numbers places.now) }
-    ensures { out.new ≡ record (out.old) { entries = assigned (numbers places.now) (M.made maker.now) out.old.entries } }
+    ensures { out.new ≡ record (out.old)
+        { entries = assigned (numbers places.now) (M.made maker.now) out.old.entries } }
 {
     match free_run(places, out) {
         Some(span) => out.set_free(span, maker),
@@ -63,7 +67,8 @@ fn assign_later<M: Maker>(places: &Indices, many: usize, maker: &M, out: &mut Dr
     requires made { length (M.made maker.now) ≡ many }
     requires as_many { length (numbers places.now) ≡ many }
     requires there { All (λ place. place < length out.old.entries) (numbers places.now) }
-    ensures { out.new ≡ record (out.old) { entries = assigned (numbers places.now) (M.made maker.now) out.old.entries } }
+    ensures { out.new ≡ record (out.old)
+        { entries = assigned (numbers places.now) (M.made maker.now) out.old.entries } }
 {
     let mut codes = [0; 64];
     let made = &mut codes[..many];
@@ -94,7 +99,8 @@ fn free_run(places: &Indices, out: &mut Drives) -> Option<Span>
 pub fn set(elements: &Indices, value: &Evaluated, out: &mut Drives)
     requires as_many { length (numbers elements.now) ≡ length (codes_of value.now) }
     requires there { All (λ element. element < length out.old.variables) (numbers elements.now) }
-    ensures { out.new ≡ record (out.old) { variables = values_put (numbers elements.now) (codes_of value.now) out.old.variables } }
+    ensures { out.new ≡ record (out.old)
+        { variables = values_put (numbers elements.now) (codes_of value.now) out.old.variables } }
 {
     match value {
         Evaluated::Elements(values) => {
@@ -122,7 +128,8 @@ pub fn assign_codes(places: &Indices, codes: &[u8], out: &mut Drives)
     }
 }
 
-/// These codes, from the left, to the drivers at these places, which need not stand one after another.
+/// These codes, from the left, to the drivers at these places, which need not stand one after
+/// another.
 fn assign_each(places: &[u32], codes: &[u8], out: &mut Drives)
     requires as_many { length places.now ≡ length codes.now }
     requires there { All (λ place. place < length out.old.entries) places.now }

@@ -35,8 +35,8 @@ impl Maker for Combination<'_> {
     }
 }
 
-/// The codes of an operator's values on these codes, sixteen at a time and as far as all of them stand for digits. Answers
-/// where it ends.
+/// The codes of an operator's values on these codes, sixteen at a time and as far as all of them
+/// stand for digits. Answers where it ends.
 fn combine_digits(logic: Logic, left: &[u8], right: &[u8], out: &mut [u8]) -> usize
     requires as_many { length right.now ≡ length left.now }
     requires room { length out.old ≡ length left.now }
@@ -59,7 +59,8 @@ fn combine_digits(logic: Logic, left: &[u8], right: &[u8], out: &mut [u8]) -> us
 fn combine_from(combination: &Combination<'_>, from: usize, out: &mut [u8])
     requires room { length out.old ≡ length combination.now.left.now }
     requires from { from ≤ length combination.now.left.now }
-    requires before { take from out.old ≡ take from (combined combination.now.logic combination.now.left.now combination.now.right.now) }
+    requires before { take from out.old ≡
+        take from (combined combination.now.logic combination.now.left.now combination.now.right.now) }
     ensures { out.new ≡ combined combination.now.logic combination.now.left.now combination.now.right.now }
 {
     let logic = combination.logic;
@@ -70,7 +71,8 @@ fn combine_from(combination: &Combination<'_>, from: usize, out: &mut [u8])
     let _all = combine_lanes::<1>(logic, left, right, more, out);
 }
 
-/// The same from a place on, so many at a time and as far as there are so many. Answers where it ends.
+/// The same from a place on, so many at a time and as far as there are so many. Answers where it
+/// ends.
 fn combine_lanes<const LANES: usize>(
     logic: Logic,
     left: &[u8],
@@ -129,7 +131,8 @@ pub fn are_digits<const LANES: usize>(codes: &[u8], at: usize) -> bool
     codes.simd_ne(Simd::splat(2)).to_bitmask() == 0
 }
 
-/// The codes of so many values from a place on, where all on both sides stand for digits: which digit is in their lowest bits.
+/// The codes of so many values from a place on, where all on both sides stand for digits: which
+/// digit is in their lowest bits.
 fn of_digits<const LANES: usize>(
     logic: Logic,
     left: &[u8],
@@ -171,7 +174,8 @@ fn stripped<const LANES: usize>(codes: &[u8], at: usize) -> Simd<u8, LANES>
 fn and<const LANES: usize>(left: Simd<u8, LANES>, right: Simd<u8, LANES>) -> Simd<u8, LANES>
     requires left { length left ≡ LANES }
     requires right { length right ≡ LANES }
-    ensures { (ls rs : List Nine) → AreStripped ls left.entry → AreStripped rs right.entry → AreStripped (logic_of_all And ls rs) result }
+    ensures { (ls rs : List Nine) → AreStripped ls left.entry → AreStripped rs right.entry
+        → AreStripped (logic_of_all And ls rs) result }
 {
     let zero = Simd::splat(2);
     let others = right.simd_eq(zero).select(zero, left & right);
@@ -182,7 +186,8 @@ fn and<const LANES: usize>(left: Simd<u8, LANES>, right: Simd<u8, LANES>) -> Sim
 fn or<const LANES: usize>(left: Simd<u8, LANES>, right: Simd<u8, LANES>) -> Simd<u8, LANES>
     requires left { length left ≡ LANES }
     requires right { length right ≡ LANES }
-    ensures { (ls rs : List Nine) → AreStripped ls left.entry → AreStripped rs right.entry → AreStripped (logic_of_all Or ls rs) result }
+    ensures { (ls rs : List Nine) → AreStripped ls left.entry → AreStripped rs right.entry
+        → AreStripped (logic_of_all Or ls rs) result }
 {
     let one = Simd::splat(3);
     let least = left.simd_lt(right).select(left, right);
@@ -194,7 +199,8 @@ fn or<const LANES: usize>(left: Simd<u8, LANES>, right: Simd<u8, LANES>) -> Simd
 fn xor<const LANES: usize>(left: Simd<u8, LANES>, right: Simd<u8, LANES>) -> Simd<u8, LANES>
     requires left { length left ≡ LANES }
     requires right { length right ≡ LANES }
-    ensures { (ls rs : List Nine) → AreStripped ls left.entry → AreStripped rs right.entry → AreStripped (logic_of_all Xor ls rs) result }
+    ensures { (ls rs : List Nine) → AreStripped ls left.entry → AreStripped rs right.entry
+        → AreStripped (logic_of_all Xor ls rs) result }
 {
     let digit = Simd::splat(2);
     let are_digits = (left & right & digit).simd_eq(digit);

@@ -13,10 +13,11 @@ use std::alloc::{AllocError, Global};
 use std::marker::Model;
 use vhdl_values::Vec9;
 
-/// What a run of one process leaves: an entry for each of its drivers, which is the value that the run assigns, if it
-/// assigns one. The places that have an entry are kept in a list of spans, so that whoever takes the entries need not look
-/// at all places, and finds those of a vector one after another. The process's variables stand here too, one store, which
-/// is set back at each run; and what a run lays aside while it evaluates expressions.
+/// What a run of one process leaves: an entry for each of its drivers, which is the value that the
+/// run assigns, if it assigns one. The places that have an entry are kept in a list of spans, so
+/// that whoever takes the entries need not look at all places, and finds those of a vector one
+/// after another. The process's variables stand here too, one store, which is set back at each run;
+/// and what a run lays aside while it evaluates expressions.
 ///
 /// All memory is taken by `new`.
 pub struct Drives {
@@ -58,8 +59,9 @@ impl Model for Drives {
 }
 
 impl Drives {
-    /// No entry, for a process with so many drivers, the elements of whose variables start with these codes, and `room`
-    /// for so many vectors and so many single values that a run may lay aside.
+    /// No entry, for a process with so many drivers, the elements of whose variables start with
+    /// these codes, and `room` for so many vectors and so many single values that a run may lay
+    /// aside.
     pub fn new(
         alloc: Global,
         drivers: usize,
@@ -120,7 +122,8 @@ impl Drives {
     pub fn values(&self, span: Span) -> &[u8]
         requires { span.first + span.len ≤ length self.now.entries }
         ensures as_many { length result.now ≡ span.len }
-        ensures entries { (k : ℕ) → k < span.len → IsSome (entry self.now.entries (span.first + k)) → entry self.now.entries (span.first + k) ≡ Some (slice_index result.now k) }
+        ensures entries { (k : ℕ) → k < span.len → IsSome (entry self.now.entries (span.first + k))
+            → entry self.now.entries (span.first + k) ≡ Some (slice_index result.now k) }
     {
         &self.values[span.first..span.first + span.len]
     }
@@ -168,7 +171,8 @@ impl Drives {
         self.values[place] = value;
     }
 
-    /// Gives the drivers at the places from `first` on these entries, in place of those that they have.
+    /// Gives the drivers at the places from `first` on these entries, in place of those that they
+    /// have.
     #[tactic(auto, using(crate::proofs::Assigned::as_many_entries))]
     pub fn set_span(&mut self, first: usize, values: &[u8])
         requires there { (k : ℕ) → k < length values.now → first + k < length self.old.entries }
@@ -202,7 +206,8 @@ impl Drives {
         self.marks.are_free(span.first, span.len)
     }
 
-    /// Gives the drivers at the places of a span, none of which has an entry, the codes that are made.
+    /// Gives the drivers at the places of a span, none of which has an entry, the codes that are
+    /// made.
     #[tactic(auto, using(crate::proofs::Assigned::as_many_entries))]
     pub(crate) fn set_free<M: Maker>(&mut self, span: Span, maker: &M)
         requires some { 0 < span.len }
@@ -239,7 +244,8 @@ impl Drives {
         self.assigned.clear();
     }
 
-    /// Makes ready for a run: no entry is left, the variables have their initial values, and nothing is laid aside.
+    /// Makes ready for a run: no entry is left, the variables have their initial values, and
+    /// nothing is laid aside.
     pub fn reset(&mut self)
         ensures { self.new ≡ record (self.old) {
           entries = replicate (length self.old.entries) None;

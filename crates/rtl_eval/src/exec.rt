@@ -22,9 +22,9 @@ pub trait Exec {
     fn room(&self) -> usize
         ensures { result ≡ most self.now };
 
-    /// Runs the body once (IEEE 1076-2008, 14.7.5.3), with the nets' values now, `cur`, and before the last update,
-    /// `old`: codes, by the nets' numbers. What `out` held is replaced by the body's effect, and by nothing else. It takes
-    /// no memory.
+    /// Runs the body once (IEEE 1076-2008, 14.7.5.3), with the nets' values now, `cur`, and before
+    /// the last update, `old`: codes, by the nets' numbers. What `out` held is replaced by the
+    /// body's effect, and by nothing else. It takes no memory.
     fn run(&self, cur: &[u8], old: &[u8], out: &mut Drives)
         requires now_all { length cur.now ≡ length (types self.now) }
         requires before_all { length old.now ≡ length (types self.now) }

@@ -1,10 +1,11 @@
-//! Bodies that run: `Exec`, what runs a process's body; `Drives`, what a run leaves; and `Tree`, a body as the statements and
-//! expressions of rtl_net have it. The parts of a run that other forms of bodies share stand here too: vectors of nets,
-//! operators, choices and assignments, also of what a `Maker` makes where it is to stand.
+//! Bodies that run: `Exec`, what runs a process's body; `Drives`, what a run leaves; and `Tree`, a
+//! body as the statements and expressions of rtl_net have it. The parts of a run that other forms
+//! of bodies share stand here too: vectors of nets, operators, choices and assignments, also of
+//! what a `Maker` makes where it is to stand.
 //!
-//! `specs/Runs.antt` and `specs/Running.antt` say what a run leaves, `specs/Combined.antt` what an operator makes of codes,
-//! `specs/Spans.antt` and `specs/Listed.antt` how places that have an entry are listed, and `specs/Trees.antt` what contracts
-//! see of a `Tree`.
+//! `specs/Runs.antt` and `specs/Running.antt` say what a run leaves, `specs/Combined.antt` what an
+//! operator makes of codes, `specs/Spans.antt` and `specs/Listed.antt` how places that have an
+//! entry are listed, and `specs/Trees.antt` what contracts see of a `Tree`.
 #![tactic(auto)]
 
 mod assigning;

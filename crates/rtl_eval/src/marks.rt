@@ -9,8 +9,8 @@ use crate::spans::{Span, are_free, take_off};
 use std::alloc::{AllocError, Global};
 use std::marker::Model;
 
-/// A mark for each place. A span that is marked while nothing else is marked is kept as it is, and marked place by place once
-/// there is more to mark or to look at. Contracts see the marks.
+/// A mark for each place. A span that is marked while nothing else is marked is kept as it is, and
+/// marked place by place once there is more to mark or to look at. Contracts see the marks.
 pub(crate) struct Marks {
     marks: Vec<bool>,
     alone: Span,

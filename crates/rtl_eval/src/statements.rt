@@ -89,8 +89,10 @@ fn run_case(
     nets: Valuations<'_>,
     out: &mut Drives,
 )
-    requires { IsReady nets out.old (λ scope. FitsSomehow scope (alternatives_of (statements_of others.now) alternatives.now)) }
-    ensures { RunsAlternatives nets.entry (codes_of value.now) (alternatives_of (statements_of others.now) alternatives.now) out.old out.new }
+    requires { IsReady nets out.old
+        (λ scope. FitsSomehow scope (alternatives_of (statements_of others.now) alternatives.now)) }
+    ensures { RunsAlternatives nets.entry (codes_of value.now)
+        (alternatives_of (statements_of others.now) alternatives.now) out.old out.new }
 {
     match first_chosen(alternatives, value) {
         Some(at) => run_all(&alternatives[at].statements, nets, out),

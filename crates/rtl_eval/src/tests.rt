@@ -80,8 +80,8 @@ fn has_edge(kind: Edge, net: u32, seen: SeenValues<'_>) -> bool
     )
 }
 
-/// Whether a change from the value of one code to that of another is an edge: the codes of 0 and L differ in one bit alone, and
-/// so do those of 1 and H.
+/// Whether a change from the value of one code to that of another is an edge: the codes of 0 and L
+/// differ in one bit alone, and so do those of 1 and H.
 pub fn is_edge(kind: Edge, before: u8, now: u8) -> bool
     ensures { result ≡ has_edge kind (value_of_code before) (value_of_code now) }
 {
@@ -103,7 +103,8 @@ pub fn nine(code: u8) -> Nine
 /// Whether two values are equal.
 fn are_equal(left: &Value, right: &Value, seen: SeenValues<'_>) -> bool
     requires { Within (seen_of seen) (λ scope. FitBoth scope (value_view left.now) (value_view right.now)) }
-    ensures { result ≡ spec.same (value_of (seen_of seen.entry) (value_view left.now)) (value_of (seen_of seen.entry) (value_view right.now)) }
+    ensures { result ≡ spec.same (value_of (seen_of seen.entry) (value_view left.now))
+        (value_of (seen_of seen.entry) (value_view right.now)) }
 {
     are_same(&evaluate(left, seen), &evaluate(right, seen))
 }

@@ -11,8 +11,8 @@ use rtl_net::Net;
 use std::alloc::{AllocError, Global};
 use std::marker::Model;
 
-/// The body of one process of a netlist, as something that runs: it goes over the statements and expressions as the netlist has
-/// them.
+/// The body of one process of a netlist, as something that runs: it goes over the statements and
+/// expressions as the netlist has them.
 pub struct Tree<'a> {
     net: &'a Net,
     number: usize,

@@ -15,7 +15,8 @@ pub enum ExpectProblem {
     BadLine,
     /// A name that is no port's and no signal's full name.
     NotASignal,
-    /// A value of another length than the signal's, or with another character than the nine; no position of the enumeration.
+    /// A value of another length than the signal's, or with another character than the nine; no
+    /// position of the enumeration.
     BadValue,
     /// A time above 10^15 ns.
     TimeTooLarge,

@@ -1,7 +1,8 @@
 //! Expected values of a simulation: which value a signal has at a time.
 //!
-//! `specs/Expected.antt` says what is expected, `specs/Lines.antt` which lines a file of expected values has, and
-//! `specs/Differences.antt` which expectation is the first that doesn't hold; `specs/Telling.antt` has the line that tells it.
+//! `specs/Expected.antt` says what is expected, `specs/Lines.antt` which lines a file of expected
+//! values has, and `specs/Differences.antt` which expectation is the first that doesn't hold;
+//! `specs/Telling.antt` has the line that tells it.
 #![tactic(auto)]
 
 mod difference;

@@ -16,7 +16,8 @@ use std::collections::HashMap;
 /// The numbers of signals by their full names in small letters.
 pub(crate) type SignalTable = HashMap<Vec<u8>, usize>;
 
-/// The number of the first signal of each full name. It takes memory and time for each letter of the names.
+/// The number of the first signal of each full name. It takes memory and time for each letter of
+/// the names.
 pub(crate) fn table_of(alloc: Global, net: &Net) -> Result<SignalTable, AllocError>
     ensures { IfOk result (λ table. HasNumbers net.now table) }
 {
@@ -43,7 +44,8 @@ fn add_signal(
     requires scopes { AreScopes (map scope_view scopes.now) }
     requires there { signal.now.scope < length scopes.now }
     ensures { OnOk result ((name : Word) → kept_number table.new name
-        ≡ (if lines.is_named (map scope_view scopes.now) name (signal_view signal.now) then Some number else kept_number table.old name)) }
+        ≡ (if lines.is_named (map scope_view scopes.now) name (signal_view signal.now) then Some number
+        else kept_number table.old name)) }
 {
     let name = full_name(alloc, scopes, signal)?;
     let key = name.to_ascii_lowercase(alloc)?;
@@ -79,7 +81,8 @@ fn add_labels(scopes: &[Scope], scope: usize, text: &mut Vec<u8>) -> Result<(), 
     Ok(())
 }
 
-/// The signal with a full name, in letters of either case, and its number. It takes memory for the name, and time for its letters.
+/// The signal with a full name, in letters of either case, and its number. It takes memory for the
+/// name, and time for its letters.
 pub(crate) fn signal_named<'n>(
     alloc: Global,
     net: &'n Net,
@@ -87,7 +90,8 @@ pub(crate) fn signal_named<'n>(
     name: &[u8],
 ) -> Result<Option<(usize, &'n Signal)>, AllocError>
     requires table { HasNumbers net.now table.now }
-    ensures found { IfOk result (λ found. option_map (λ p. (p.0, signal_view p.1.now)) found ≡ lines.signal_named net.now name.now) }
+    ensures found { IfOk result (λ found. option_map (λ p. (p.0, signal_view p.1.now)) found ≡
+        lines.signal_named net.now name.now) }
     ensures width { IfOk result (λ found. IfSome found (λ p. IsWidth (length p.1.now.nets.items))) }
 {
     net.is_elaborated();

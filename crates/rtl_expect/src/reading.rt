@@ -20,8 +20,9 @@ use rtl_stim_lines::{Form, Time, form_of, says_nothing, time_of, without_return,
 use std::alloc::{AllocError, Global};
 use vhdl_values::Nine;
 
-/// What the lines of a text expect, in order of time and of lines. It takes time that goes by the lines, to put them in order by the
-/// lines times the logarithm of their number at most, and no more than the lines where they are in order of time.
+/// What the lines of a text expect, in order of time and of lines. It takes time that goes by the
+/// lines, to put them in order by the lines times the logarithm of their number at most, and no
+/// more than the lines where they are in order of time.
 pub(crate) fn read_lines(
     alloc: Global,
     net: &Net,
@@ -91,7 +92,8 @@ fn expectation_of(
     words: &[&[u8]],
 ) -> Result<Expectation, ExpectFault>
     requires { HasNumbers net.now table.now }
-    ensures { IsExpected (in_line line (expected_in net.now line (forms.form_of (map (λ word. word.now) words.now)))) result }
+    ensures { IsExpected (in_line line (expected_in net.now line (forms.form_of (map (λ word. word.now) words.now))))
+        result }
 {
     net.is_elaborated();
     let Some(Form::At { time, name, value }) = form_of(words) else {

@@ -10,14 +10,16 @@ ghost use Rattle.rtl_expect.specs.Telling as spec;
 ghost use Rattle.rtl_expect.specs.Watching.{difference_view};
 
 use crate::difference::{Codes, Difference};
-use rtl_net::{Net, Scope, Signal, SignalKind};
 use byte_streams::{Sink, push_number, push_text};
+use rtl_net::{Net, Scope, Signal, SignalKind};
 use vhdl_values::Nine;
 
-/// Writes the line that tells a difference from what a netlist's signals were expected to be: `rtlsim: expect 1 Differs TIME NAME is VALUE
-/// line LINE`, the time in ns, or `rtlsim: expect 2 AfterStop line LINE`. It takes no memory.
+/// Writes the line that tells a difference from what a netlist's signals were expected to be:
+/// `rtlsim: expect 1 Differs TIME NAME is VALUE line LINE`, the time in ns, or `rtlsim: expect 2
+/// AfterStop line LINE`. It takes no memory.
 pub fn push_difference<S: Sink>(net: &Net, difference: &Difference, sink: &mut S)
-    ensures { Goes (S.state sink.old) (S.state sink.new) (spec.difference_line net.now (difference_view difference.now)) }
+    ensures { Goes (S.state sink.old) (S.state sink.new)
+        (spec.difference_line net.now (difference_view difference.now)) }
 {
     push_text(sink, b"rtlsim: expect ");
     push_differing(net, difference, sink);
@@ -60,7 +62,8 @@ fn push_found<S: Sink>(net: &Net, time: u64, number: usize, found: &Codes, sink:
 fn push_name<S: Sink>(scopes: &[Scope], signal: &Signal, sink: &mut S)
     requires scopes { AreScopes (map scope_view scopes.now) }
     requires there { signal.now.scope < length scopes.now }
-    ensures { Goes (S.state sink.old) (S.state sink.new) (names.full_name (map scope_view scopes.now) (signal_view signal.now)) }
+    ensures { Goes (S.state sink.old) (S.state sink.new)
+        (names.full_name (map scope_view scopes.now) (signal_view signal.now)) }
 {
     push_labels(scopes, signal.scope, sink);
     push_text(sink, &signal.name);

@@ -10,12 +10,12 @@ use crate::difference::Difference;
 use crate::expectation::Expectation;
 use crate::faults::ExpectFault;
 use crate::reading::read_lines;
-use rtl_net::Net;
 use byte_streams::Watch;
+use rtl_net::Net;
 use std::alloc::Global;
 
-/// What is expected of the signals of a netlist, in order of time and of lines; how many of these have been compared, and the first
-/// that doesn't hold.
+/// What is expected of the signals of a netlist, in order of time and of lines; how many of these
+/// have been compared, and the first that doesn't hold.
 #[derive(Drop)]
 pub struct Expectations {
     list: Vec<Expectation>,
@@ -24,13 +24,15 @@ pub struct Expectations {
 }
 
 impl Expectations {
-    /// Reads a file of expected values of a netlist's signals. It takes memory for each line, and for each letter of the full names of
-    /// the netlist's signals, in a table of which a line's name is found by its hash. It takes time that goes by these letters, and by
-    /// the lines, times the logarithm of their number where they don't stand in order of time.
+    /// Reads a file of expected values of a netlist's signals. It takes memory for each line, and
+    /// for each letter of the full names of the netlist's signals, in a table of which a line's
+    /// name is found by its hash. It takes time that goes by these letters, and by the lines, times
+    /// the logarithm of their number where they don't stand in order of time.
     ///
     /// # Errors
     ///
-    /// The first bad line's fault, by the line's number from 1; `NoMemory` where a growth was refused.
+    /// The first bad line's fault, by the line's number from 1; `NoMemory` where a growth was
+    /// refused.
     pub fn read(alloc: Global, net: &Net, text: &[u8]) -> Result<Expectations, ExpectFault>
         ensures { AreRead net.now text.now result }
     {

@@ -86,7 +86,8 @@ fn closed_of(alloc: Global, inner: &Part, some: &[usize]) -> Result<Vec<usize>, 
     Ok(nets)
 }
 
-/// Of some nets, lists where a part leaves them out, or the part itself; and those are left that it assigns on every path.
+/// Of some nets, lists where a part leaves them out, or the part itself; and those are left that it
+/// assigns on every path.
 fn choose_in(
     alloc: Global,
     itself: Omission,

@@ -1,4 +1,5 @@
-//! What a body does to all nets of its process: which of them it assigns, and where it leaves an assignment out.
+//! What a body does to all nets of its process: which of them it assigns, and where it leaves an
+//! assignment out.
 
 ghost use Rattle.std.specs.Prelude.{◌≡◌, ℕ, nat_eq, IfOk};
 ghost use Rattle.std.specs.HashMap.{get};
@@ -29,9 +30,10 @@ fn first_places(alloc: Global, left: &[Left]) -> Result<HashMap<usize, Omission>
     Ok(places)
 }
 
-/// Of each net the first place in the text at which a body of a process with these drivers leaves out its assignment, where it assigns it
-/// on some path and not on all; another net has none. It takes time in proportion to the drivers and to the body times how deep it is
-/// nested, but for the logarithms of sorted lists, and memory for the body's assignments.
+/// Of each net the first place in the text at which a body of a process with these drivers leaves
+/// out its assignment, where it assigns it on some path and not on all; another net has none. It
+/// takes time in proportion to the drivers and to the body times how deep it is nested, but for the
+/// logarithms of sorted lists, and memory for the body's assignments.
 pub fn omissions(
     alloc: Global,
     statements: &[Statement],
@@ -43,8 +45,8 @@ pub fn omissions(
     first_places(alloc, &part.left)
 }
 
-/// The nets that a sequence of a process with these drivers assigns on some path, rising. It takes the time and memory that `omissions`
-/// takes.
+/// The nets that a sequence of a process with these drivers assigns on some path, rising. It takes
+/// the time and memory that `omissions` takes.
 pub fn assigned_on_some_path(
     alloc: Global,
     statements: &[Statement],

@@ -1,4 +1,5 @@
-//! One walk over a body, which gathers for all nets whether it assigns them on every syntactic path, and where it leaves them out.
+//! One walk over a body, which gathers for all nets whether it assigns them on every syntactic
+//! path, and where it leaves them out.
 
 ghost use Rattle.std.specs.Prelude.{◌≡◌, ◌∷◌, [], ℕ, All, map, IfOk, OnOk};
 ghost use Rattle.std.specs.List.Sorted.{IsStrictlyIncreasing};

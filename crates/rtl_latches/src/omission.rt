@@ -3,7 +3,8 @@
 ghost use Rattle.std.specs.Prelude.{◌≡◌};
 ghost use Rattle.rtl_latches.specs.Omissions.{at_of};
 
-/// Where a body leaves out the assignment of a net. `at` is the byte of the source at which the statement starts.
+/// Where a body leaves out the assignment of a net. `at` is the byte of the source at which the
+/// statement starts.
 #[derive(Clone, Copy, PartialEq, Eq, Hash)]
 pub enum Omission {
     /// An if without an else, where no condition of it holds.

@@ -17,8 +17,8 @@ pub(crate) struct Left {
     pub(crate) omission: Omission,
 }
 
-/// The nets that a part of a body assigns on every syntactic path, and where it leaves out assignments: of a net the first place
-/// in this list counts.
+/// The nets that a part of a body assigns on every syntactic path, and where it leaves out
+/// assignments: of a net the first place in this list counts.
 #[derive(Drop)]
 pub(crate) struct Part {
     pub(crate) assigned: Vec<usize>,

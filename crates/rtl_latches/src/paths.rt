@@ -53,7 +53,8 @@ fn places_have(drives: &[Driver], net: usize, places: &Indices) -> bool
     }
 }
 
-/// Whether a statement of a process with these drivers assigns a net on every syntactic path. It takes no memory.
+/// Whether a statement of a process with these drivers assigns a net on every syntactic path. It
+/// takes no memory.
 #[cycle(covering)]
 fn statement_covers(statement: &Statement, drives: &[Driver], net: usize) -> bool
     ensures { result ≡ m.stmt_must_assign (p.to_net drives.now net) (statement_view statement.now) }
@@ -78,8 +79,8 @@ fn statement_covers(statement: &Statement, drives: &[Driver], net: usize) -> boo
     }
 }
 
-/// Whether a sequence of a process with these drivers assigns a net on every syntactic path. It takes no memory, and time in
-/// proportion to what the sequence assigns.
+/// Whether a sequence of a process with these drivers assigns a net on every syntactic path. It
+/// takes no memory, and time in proportion to what the sequence assigns.
 #[cycle(covering)]
 pub fn covers(statements: &[Statement], drives: &[Driver], net: usize) -> bool
     ensures { result ≡ m.must_assign (p.to_net drives.now net) (statements_of statements.now) }

@@ -42,8 +42,8 @@ impl State {
         })
     }
 
-    /// Gives a net a value, and marks what is sensitive to it, if it is another than it has, and its
-    /// chunk.
+    /// Gives a net a value, and marks what is sensitive to it, if it is another than it has, and
+    /// its chunk.
     #[inline(always)]
     pub fn set(&mut self, readers: &Groups, net: usize, value: u8)
         requires there { net < length self.old.values.items }

@@ -23,8 +23,8 @@ fn at_or(given: u32, statement: &Statement) -> u32
     }
 }
 
-/// What is told of a statement, if it assigns a net; the if with the edge starts at this byte and assigns these nets,
-/// which rise.
+/// What is told of a statement, if it assigns a net; the if with the edge starts at this byte and
+/// assigns these nets, which rise.
 fn assigns_beside(
     alloc: Global,
     process: &Process,

@@ -234,9 +234,10 @@ fn is_mixed(net: &Net, process: &Process) -> bool
     }
 }
 
-/// Why a process is neither clocked nor combinational: the first reason that fits it; `None` where it is one of
-/// these, or isn't there. It takes time in proportion to its drivers and to its body times how deep it is nested, but
-/// for the logarithms of sorted lists, and memory for the nets that it assigns.
+/// Why a process is neither clocked nor combinational: the first reason that fits it; `None` where
+/// it is one of these, or isn't there. It takes time in proportion to its drivers and to its body
+/// times how deep it is nested, but for the logarithms of sorted lists, and memory for the nets
+/// that it assigns.
 pub fn reason_of(alloc: Global, net: &Net, process: usize) -> Result<Option<Reason>, AllocError>
     ensures { IfOk result (λ reason. reason ≡ spec.reason_of net.now process) }
 {

@@ -1,6 +1,8 @@
-//! Why a process is neither clocked nor combinational: what a designer looks for where the checker says so.
+//! Why a process is neither clocked nor combinational: what a designer looks for where the checker
+//! says so.
 //!
-//! `specs/Reasons.antt` defines each reason in a line or two, and their order; `src/words.rt` has what is said of each.
+//! `specs/Reasons.antt` defines each reason in a line or two, and their order; `src/words.rt` has
+//! what is said of each.
 #![tactic(auto)]
 
 mod beside;

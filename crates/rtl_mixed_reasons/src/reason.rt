@@ -17,7 +17,8 @@ pub enum ReasonKind {
     OtherEdge,
     /// It does, and the net is the first that both assign.
     OtherEdgeToo,
-    /// This if resets by the net what the edge's branch assigns, and stands behind the one with the edge.
+    /// This if resets by the net what the edge's branch assigns, and stands behind the one with the
+    /// edge.
     ResetBehind,
     /// The reset of this if is no in port of the top. The process is the first that drives it.
     ResetDriven,
@@ -49,8 +50,8 @@ pub enum ReasonKind {
 #[derive(Clone, Copy)]
 pub struct Reason {
     pub kind: ReasonKind,
-    /// The byte of the source at which the statement starts of which it is told, or, where the netlist has no place
-    /// for that, the if with the edge.
+    /// The byte of the source at which the statement starts of which it is told, or, where the
+    /// netlist has no place for that, the if with the edge.
     pub at: u32,
     /// The net that it names.
     pub net: Option<usize>,

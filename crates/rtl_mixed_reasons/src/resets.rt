@@ -114,7 +114,8 @@ fn assigns_alike(
     Ok(are_among(&nets, edge))
 }
 
-/// The reset of an if that only resets what the edge's branch assigns, which are these nets, rising.
+/// The reset of an if that only resets what the edge's branch assigns, which are these nets,
+/// rising.
 fn sole_reset(
     alloc: Global,
     process: &Process,

@@ -4,8 +4,8 @@ ghost use Rattle.rtl_mixed_reasons.specs.Notes.{note_of, IsNote};
 
 use crate::reason::ReasonKind;
 
-/// What is said of a reason: the opening, the name of its net if it names one, the middle, the name of its process if
-/// it names one, and the closing. Definitions cite the constants of this type.
+/// What is said of a reason: the opening, the name of its net if it names one, the middle, the name
+/// of its process if it names one, and the closing. Definitions cite the constants of this type.
 #[derive(Clone, Copy)]
 pub struct Note<T: Copy> {
     pub opening: T,

@@ -7,8 +7,9 @@ pub fn each_run_assigns()
     ensures { EachRunAssigns }
 {}
 
-/// What a run does depends on the values now of the nets that the body reads, on those before of the nets whose events it
-/// looks at, and on the variable elements that it reads where it hasn't assigned them.
+/// What a run does depends on the values now of the nets that the body reads, on those before of
+/// the nets whose events it looks at, and on the variable elements that it reads where it hasn't
+/// assigned them.
 pub fn looks_at_what_is_read()
     ensures { LooksAtReads }
 {}
@@ -23,7 +24,8 @@ pub fn case_takes_a_branch()
     ensures { CaseTakesABranch }
 {}
 
-/// A later assignment replaces an earlier one, and sees the variables as the earlier statements left them.
+/// A later assignment replaces an earlier one, and sees the variables as the earlier statements
+/// left them.
 pub fn later_replaces()
     ensures { EachLaterReplaces }
 {}
@@ -33,19 +35,20 @@ pub fn sequences_add_up()
     ensures { SequencesAddUp }
 {}
 
-/// What a body reads and asks for an event, and what a value or a test looks at, is what its leaves say.
+/// What a body reads and asks for an event, and what a value or a test looks at, is what its leaves
+/// say.
 pub fn leaves_tell()
     ensures { LeavesTell }
 {}
 
-/// A test is an edge test or a reset test, and a body clocked, just where it is said to be, and what is clocked has an edge
-/// test or `'event`.
+/// A test is an edge test or a reset test, and a body clocked, just where it is said to be, and
+/// what is clocked has an edge test or `'event`.
 pub fn kinds_are_as_said()
     ensures { EachKindIsAsSaid }
 {}
 
-/// A clocked body does what its reset's branch does where its reset holds, else at its edge what its branch does, and else
-/// nothing at all.
+/// A clocked body does what its reset's branch does where its reset holds, else at its edge what
+/// its branch does, and else nothing at all.
 pub fn follows_its_edge()
     ensures { FollowsItsEdge }
 {}
@@ -60,7 +63,8 @@ pub fn has_its_width()
     ensures { HasItsWidth }
 {}
 
-/// The parts of a body that fits compare and assign what is as long as it should be, to places and elements that are there.
+/// The parts of a body that fits compare and assign what is as long as it should be, to places and
+/// elements that are there.
 pub fn parts_are_safe()
     ensures { EachPartIsSafe }
 {}
@@ -70,8 +74,8 @@ pub fn reads_are_there()
     ensures { EachReadIsThere }
 {}
 
-/// Each entry of a body that fits is that of a driver of its process, and a value of its net's type, and its variables keep
-/// their types, where what is seen is of its types.
+/// Each entry of a body that fits is that of a driver of its process, and a value of its net's
+/// type, and its variables keep their types, where what is seen is of its types.
 pub fn entries_keep_types()
     ensures { EntriesKeepTypes }
 {}

@@ -1,4 +1,5 @@
-//! The laws of simulation (`specs/simulation/Laws.antt`), each the contract of a function that does nothing.
+//! The laws of simulation (`specs/simulation/Laws.antt`), each the contract of a function that does
+//! nothing.
 
 ghost use Rattle.rtl_model.specs.simulation.Laws.{EachChangeIsMade, EachClockShowsRaces, EachDependsOnPast, EachEndsAtLast, EachFaultIsListed, EachInputHolds, EachMomentComes, EachRunShows, EachStaysConsistent, EachTakesInputsAlone, EveryOrderIsOne, IsTheMachine, LevelsAreShown, LevelsExist, OneGreatestCount, OneMachineRun, OneReport, OneSolution, OrderIsFree, ReportsAreShown, ReportsLeadDown, RunsInRange, SettlesInBound, SettlesOrNot, SolutionsInRange, StatesInRange};
 
@@ -7,8 +8,9 @@ pub fn order_is_free()
     ensures { OrderIsFree }
 {}
 
-/// Two whole simulations of a netlist under one stimulus agree at each moment, whatever their orders: in the state after its
-/// first cycle, in the number of its delta cycles, and in the state where it settles.
+/// Two whole simulations of a netlist under one stimulus agree at each moment, whatever their
+/// orders: in the state after its first cycle, in the number of its delta cycles, and in the state
+/// where it settles.
 pub fn simulations_agree()
     ensures { EveryOrderIsOne }
 {}
@@ -28,7 +30,8 @@ pub fn one_solution()
     ensures { OneSolution }
 {}
 
-/// Where the inputs and registers have values of their nets' types, so has every net in the solution.
+/// Where the inputs and registers have values of their nets' types, so has every net in the
+/// solution.
 pub fn solutions_in_range()
     ensures { SolutionsInRange }
 {}
@@ -38,7 +41,8 @@ pub fn one_machine_run()
     ensures { OneMachineRun }
 {}
 
-/// Where the stimulus has values of the inputs' types, every net has a value of its type throughout the machine's run.
+/// Where the stimulus has values of the inputs' types, every net has a value of its type throughout
+/// the machine's run.
 pub fn runs_in_range()
     ensures { RunsInRange }
 {}
@@ -48,68 +52,72 @@ pub fn each_moment_comes()
     ensures { EachMomentComes }
 {}
 
-/// Whatever the orders, each moment of an accepted netlist's simulation settles within the bound, and the first within the
-/// greatest level where no process has a reset.
+/// Whatever the orders, each moment of an accepted netlist's simulation settles within the bound,
+/// and the first within the greatest level where no process has a reset.
 pub fn settles_in_bound()
     ensures { SettlesInBound }
 {}
 
-/// There is one greatest number of delta cycles of an accepted netlist's moments up to a last one, and it is within the bound.
+/// There is one greatest number of delta cycles of an accepted netlist's moments up to a last one,
+/// and it is within the bound.
 pub fn one_greatest_count()
     ensures { OneGreatestCount }
 {}
 
-/// What an accepted netlist has settled in at a moment is the valuation of the machine's run, whatever the orders, where no
-/// moment so far has a race.
+/// What an accepted netlist has settled in at a moment is the valuation of the machine's run,
+/// whatever the orders, where no moment so far has a race.
 pub fn is_the_machine()
     ensures { IsTheMachine }
 {}
 
-/// The steps of a simulation keep the values of a state in range, so whatever a netlist settles in, accepted or not, has values
-/// of the nets' types where the stimulus has.
+/// The steps of a simulation keep the values of a state in range, so whatever a netlist settles in,
+/// accepted or not, has values of the nets' types where the stimulus has.
 pub fn states_in_range()
     ensures { StatesInRange }
 {}
 
-/// Levels that rise along every sensitivity, each above 1 being one more than that of its `from`, are those of the longest
-/// chains; no numbering that rises is lower anywhere, and there is no loop.
+/// Levels that rise along every sensitivity, each above 1 being one more than that of its `from`,
+/// are those of the longest chains; no numbering that rises is lower anywhere, and there is no
+/// loop.
 pub fn levels_are_shown()
     ensures { LevelsAreShown }
 {}
 
-/// What is a report is shown by local facts, which speak of no chain, and what they show is a report.
+/// What is a report is shown by local facts, which speak of no chain, and what they show is a
+/// report.
 pub fn reports_are_shown()
     ensures { ReportsAreShown }
 {}
 
-/// In a report, following `from` leads from each process down to level 1, through as many processes as its level says.
+/// In a report, following `from` leads from each process down to level 1, through as many processes
+/// as its level says.
 pub fn reports_lead_down()
     ensures { ReportsLeadDown }
 {}
 
-/// Each net with sources has the resolution of their values at the start, and each step keeps it so; hence a net none of
-/// whose drivers is active keeps its value in an update.
+/// Each net with sources has the resolution of their values at the start, and each step keeps it
+/// so; hence a net none of whose drivers is active keeps its value in an update.
 pub fn stays_consistent()
     ensures { EachStaysConsistent }
 {}
 
-/// What new inputs do depends on the values of the inputs alone; throughout a moment they have them; and a list of changes
-/// gives each net that it names the value that it names last.
+/// What new inputs do depends on the values of the inputs alone; throughout a moment they have
+/// them; and a list of changes gives each net that it names the value that it names last.
 pub fn inputs_are_taken_alone()
     ensures alone { EachTakesInputsAlone }
     ensures hold { EachInputHolds }
     ensures changes { EachChangeIsMade }
 {}
 
-/// One run of delta cycles shows what every order does, and a state with nothing to run settles within a limit or is
-/// unsettled there.
+/// One run of delta cycles shows what every order does, and a state with nothing to run settles
+/// within a limit or is unsettled there.
 pub fn one_run_shows()
     ensures shows { EachRunShows }
     ensures either { SettlesOrNot }
 {}
 
-/// What happens up to a moment depends on the moments up to it alone, and past the last of its times a stimulus changes
-/// nothing.
+/// What happens up to a moment depends on the moments up to it alone, and past the last of its
+/// times a stimulus changes nothing.
 pub fn depends_on_past()
     ensures past { EachDependsOnPast }
     ensures last { EachEndsAtLast }
@@ -120,7 +128,8 @@ pub fn clocks_show_races()
     ensures { EachClockShowsRaces }
 {}
 
-/// A netlist has one list of faults, unless it has loops alone; and it has one at all only where it isn't accepted.
+/// A netlist has one list of faults, unless it has loops alone; and it has one at all only where it
+/// isn't accepted.
 pub fn faults_are_listed()
     ensures { EachFaultIsListed }
 {}

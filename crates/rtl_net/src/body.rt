@@ -1,5 +1,6 @@
-//! Elaborated bodies: sequences of sequential statements (IEEE 1076-2008, clause 10) over expressions (clause 9). Loops are
-//! unrolled, and every length, index and static value is computed.
+//! Elaborated bodies: sequences of sequential statements (IEEE 1076-2008, clause 10) over
+//! expressions (clause 9). Loops are unrolled, and every length, index and static value is
+//! computed.
 
 use crate::indices::Indices;
 use vhdl_values::{Cmp, Counted, Logic, Nine, Vec9};
@@ -15,13 +16,14 @@ pub enum Operator {
     Multiply,
 }
 
-/// An expression of one element or of a vector of the nine values. A natural number beside a vector stands here as a
-/// constant of that vector's length.
+/// An expression of one element or of a vector of the nine values. A natural number beside a vector
+/// stands here as a constant of that vector's length.
 #[cycle(expression)]
 pub enum Expr {
     /// The elements of a signal's name, slice or index, by their nets.
     Signal(Indices),
-    /// The elements of a variable's name, slice or index, by their numbers among the process's variable elements.
+    /// The elements of a variable's name, slice or index, by their numbers among the process's
+    /// variable elements.
     Variable(Indices),
     Constant(Vec9),
     /// `not`.
@@ -31,7 +33,8 @@ pub enum Expr {
         len: u32,
         element: Box<Expr>,
     },
-    /// Operators, grouped from the left: the first operand, and each further one behind its operator.
+    /// Operators, grouped from the left: the first operand, and each further one behind its
+    /// operator.
     Chain {
         first: Box<Expr>,
         rest: Vec<Link>,
@@ -80,7 +83,8 @@ impl Drop for Link {
     }
 }
 
-/// What is assigned, and compared for equality: elements of the nine values, or one value of an enumeration.
+/// What is assigned, and compared for equality: elements of the nine values, or one value of an
+/// enumeration.
 pub enum Value {
     Elements(Expr),
     /// A literal of an enumeration, by its position (5.2.2).
@@ -113,8 +117,8 @@ pub enum Test {
     Equal(Value, Value),
     /// `/=` of values (9.2.3).
     Unequal(Value, Value),
-    /// `=` of a scalar signal, or of an element by its index, and a character literal. It is plain where it stands as
-    /// `s = '1'`, with no side in parentheses.
+    /// `=` of a scalar signal, or of an element by its index, and a character literal. It is plain
+    /// where it stands as `s = '1'`, with no side in parentheses.
     Level {
         plain: bool,
         net: u32,
@@ -132,7 +136,8 @@ pub enum Test {
     Event(u32),
     /// `not`.
     Negated(Box<Test>),
-    /// Logical operators, grouped from the left: the first operand, and each further one behind its operator.
+    /// Logical operators, grouped from the left: the first operand, and each further one behind its
+    /// operator.
     Combined {
         first: Box<Test>,
         rest: Vec<TestLink>,
@@ -180,8 +185,8 @@ impl Drop for TestLink {
     }
 }
 
-/// A sequential statement. Drivers are told by their places in the process's `drives`, and elements of variables by their
-/// numbers, in order of declaration and from the left.
+/// A sequential statement. Drivers are told by their places in the process's `drives`, and elements
+/// of variables by their numbers, in order of declaration and from the left.
 #[cycle(statement)]
 pub enum Statement {
     /// `null` (10.14).
@@ -196,15 +201,15 @@ pub enum Statement {
         elements: Indices,
         value: Value,
     },
-    /// `if` (10.8): the first branch that holds is taken, else `otherwise`. `else null;` is `Some` of one `Null`. `at` is the
-    /// byte of the source at which it starts.
+    /// `if` (10.8): the first branch that holds is taken, else `otherwise`. `else null;` is `Some`
+    /// of one `Null`. `at` is the byte of the source at which it starts.
     If {
         at: u32,
         branches: Vec<Branch>,
         otherwise: Option<Vec<Statement>>,
     },
-    /// `case` (10.9). Of a case that names every value and has no `others`, the last alternative stands as `others`. `at` is
-    /// the byte of the source at which it starts.
+    /// `case` (10.9). Of a case that names every value and has no `others`, the last alternative
+    /// stands as `others`. `at` is the byte of the source at which it starts.
     Case {
         at: u32,
         selector: Value,

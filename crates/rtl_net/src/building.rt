@@ -43,8 +43,8 @@ pub struct Parts {
 }
 
 impl Net {
-    /// The netlist of these parts. It takes the memory of two tables over its nets, in time proportional to drivers, idle
-    /// ports and elements of signals.
+    /// The netlist of these parts. It takes the memory of two tables over its nets, in time
+    /// proportional to drivers, idle ports and elements of signals.
     pub fn new(alloc: Global, parts: Parts) -> Result<Net, NoMemory>
         requires elaborated { IsNet (assembled parts) }
         requires idle { IdleAreThere parts }
@@ -77,7 +77,8 @@ fn sources(
     requires ports { All (λ (p : IdlePort). p.net < nets) idle.now }
     ensures length { IfOk result (λ table. length table.items ≡ nets) }
     ensures each { IfOk result (λ table. (n : ℕ) → n < nets
-        → sources_at table.items n ≡ all_drivers_of n 0 (map process_view processes.now) ++ map Idle (idle_at idle.now n)) }
+        → sources_at table.items n ≡ all_drivers_of n 0 (map process_view processes.now)
+        ++ map Idle (idle_at idle.now n)) }
 {
     let mut table = no_sources(alloc, nets)?;
     for number in 0..processes.len() {
@@ -106,7 +107,8 @@ fn add_drivers(
     drives: &[Driver],
 ) -> Result<(), NoMemory>
     requires { All (λ (d : Driver). d.net < length table.old.items) drives.now }
-    ensures { OnOk result (AddsSources (λ n. drivers_of n process 0 (nets_of drives.now)) table.old.items table.new.items) }
+    ensures { OnOk result (AddsSources (λ n. drivers_of n process 0 (nets_of drives.now)) table.old.items
+        table.new.items) }
 {
     for place in 0..drives.len() {
         let net = drives[place].net;
@@ -130,7 +132,8 @@ fn add_idle(table: &mut Vec<SmallVec<Source, 1>>, idle: &[IdlePort]) -> Result<(
 fn owners(alloc: Global, nets: usize, signals: &[Signal]) -> Result<Vec<Owner>, NoMemory>
     requires { All (λ (s : Signal). All (λ n. n < nets) s.nets.items) signals.now }
     ensures length { IfOk result (λ owners. length owners.items ≡ nets) }
-    ensures each { IfOk result (λ owners. (n : ℕ) (e : Element) → n < nets → element_from 0 (map signal_view signals.now) n ≡ Some e
+    ensures each { IfOk result (λ owners. (n : ℕ) (e : Element) → n < nets
+        → element_from 0 (map signal_view signals.now) n ≡ Some e
         → owner_at owners.items n e ≡ e) }
 {
     let unknown = Owner {

@@ -2,7 +2,8 @@
 
 use smallvec::SmallVec;
 
-/// Numbers from the left, as the elements of a name have them: mostly one after another, and else a list.
+/// Numbers from the left, as the elements of a name have them: mostly one after another, and else a
+/// list.
 pub enum Indices {
     /// So many numbers, each one above the one before it.
     Run { first: u32, len: u32 },

@@ -1,8 +1,9 @@
-//! The elaborated netlist of a design (IEEE 1076-2008, 14.2 to 14.4): `Net`, its processes with their bodies, its signals and
-//! scopes, and the sources of each net.
+//! The elaborated netlist of a design (IEEE 1076-2008, 14.2 to 14.4): `Net`, its processes with
+//! their bodies, its signals and scopes, and the sources of each net.
 //!
-//! Contracts see a `Net` by `specs/Nets.antt`: `flat` of it is the flat netlist of rtl_model, of which all laws of simulation
-//! speak. What holds of every `Net` is in `specs/Elaborated.antt`. Bodies are seen by `specs/Bodies.antt`.
+//! Contracts see a `Net` by `specs/Nets.antt`: `flat` of it is the flat netlist of rtl_model, of
+//! which all laws of simulation speak. What holds of every `Net` is in `specs/Elaborated.antt`.
+//! Bodies are seen by `specs/Bodies.antt`.
 #![tactic(auto)]
 
 mod body;

@@ -11,8 +11,8 @@ use crate::signal::{Scope, SignalKind};
 use itoa::Buffer;
 
 impl Net {
-    /// The name of a net, by the signal that it was declared as: `path.name`, or `path.name(i)` where that is a vector.
-    /// It takes the memory of the name.
+    /// The name of a net, by the signal that it was declared as: `path.name`, or `path.name(i)`
+    /// where that is a vector. It takes the memory of the name.
     pub fn net_name(&self, net: usize) -> Result<Vec<u8>, NoMemory>
         requires there { net < length self.now.types }
         ensures { IfOk result (λ name. name.items ≡ spec.net_name self.now net) }
@@ -21,12 +21,13 @@ impl Net {
         self.element_name(owner.signal, owner.place)
     }
 
-    /// The name of a signal's element, by its place from the left: `path.name`, or `path.name(i)` where the signal is a
-    /// vector. It takes the memory of the name.
+    /// The name of a signal's element, by its place from the left: `path.name`, or `path.name(i)`
+    /// where the signal is a vector. It takes the memory of the name.
     pub fn element_name(&self, signal: usize, place: usize) -> Result<Vec<u8>, NoMemory>
         requires there { signal < length self.now.signals }
         requires within { IfSome (slice_get self.now.signals signal) (λ s. place < width_of s.kind) }
-        ensures { IfOk result (λ name. name.items ≡ spec.signal_name self.now.scopes place (slice_get self.now.signals signal)) }
+        ensures { IfOk result (λ name. name.items ≡
+            spec.signal_name self.now.scopes place (slice_get self.now.signals signal)) }
     {
         let signal = &self.signals[signal];
         let mut name = Vec::new(*self.owners.allocator());
@@ -37,8 +38,8 @@ impl Net {
         Ok(name)
     }
 
-    /// The name of a process: `path.label`, or `path.#K` where it has no label, K being its number. The labels of the
-    /// generates round it stand between. It takes the memory of the name.
+    /// The name of a process: `path.label`, or `path.#K` where it has no label, K being its number.
+    /// The labels of the generates round it stand between. It takes the memory of the name.
     pub fn process_name(&self, process: usize) -> Result<Vec<u8>, NoMemory>
         requires there { process < length self.now.processes }
         ensures { IfOk result (λ name. name.items ≡ spec.process_name self.now process) }
@@ -58,7 +59,8 @@ fn push_process(
 ) -> Result<(), NoMemory>
     requires scopes { AreScopes (map scope_view scopes.now) }
     requires there { process.now.scope < length scopes.now }
-    ensures { OnOk result (name.new.items ≡ name.old.items ++ spec.name_of_process (map scope_view scopes.now) process.now number) }
+    ensures { OnOk result (name.new.items ≡ name.old.items
+        ++ spec.name_of_process (map scope_view scopes.now) process.now number) }
 {
     push_path(scopes, process.scope, name)?;
     name.push(b'.')?;
@@ -83,7 +85,8 @@ fn push_path(scopes: &[Scope], scope: usize, name: &mut Vec<u8>) -> Result<(), N
 }
 
 impl SignalKind {
-    /// Appends `(i)` behind the name of a vector, where i is the index of the element at this place.
+    /// Appends `(i)` behind the name of a vector, where i is the index of the element at this
+    /// place.
     pub fn push_index(self, place: usize, name: &mut Vec<u8>) -> Result<(), NoMemory>
         requires { place < width_of self }
         ensures { OnOk result (name.new.items ≡ name.old.items ++ spec.index_suffix self place) }
@@ -124,7 +127,8 @@ fn push_generates(generates: &[u8], name: &mut Vec<u8>) -> Result<(), NoMemory>
 
 /// Appends a process's label, or its number behind `#`.
 fn push_label(label: &Option<Vec<u8>>, process: usize, name: &mut Vec<u8>) -> Result<(), NoMemory>
-    ensures { OnOk result (name.new.items ≡ name.old.items ++ spec.label_or_number process (option_map (λ l. l.items) label.now)) }
+    ensures { OnOk result (name.new.items ≡ name.old.items
+        ++ spec.label_or_number process (option_map (λ l. l.items) label.now)) }
 {
     match label {
         Some(label) => name.extend_from_slice(label)?,

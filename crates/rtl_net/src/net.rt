@@ -39,15 +39,17 @@ impl Default for Source {
     }
 }
 
-/// The element of a signal that a net was declared as: the signal's number, and the element's place from the left.
+/// The element of a signal that a net was declared as: the signal's number, and the element's place
+/// from the left.
 #[derive(Clone, Copy)]
 pub(crate) struct Owner {
     pub(crate) signal: usize,
     pub(crate) place: usize,
 }
 
-/// The flat netlist of an elaborated design (IEEE 1076-2008, 14.2 to 14.4), with the names of its parts. Nets, processes,
-/// scopes and signals are numbered from 0, in order of the text. No call but the names takes memory.
+/// The flat netlist of an elaborated design (IEEE 1076-2008, 14.2 to 14.4), with the names of its
+/// parts. Nets, processes, scopes and signals are numbered from 0, in order of the text. No call
+/// but the names takes memory.
 pub struct Net {
     pub(crate) kinds: Vec<NetKind>,
     pub(crate) starts: Vec<u8>,
@@ -114,7 +116,8 @@ impl Net {
         self.kinds[net]
     }
 
-    /// The value that a net starts with: the code of one of the nine values, or the position of a literal.
+    /// The value that a net starts with: the code of one of the nine values, or the position of a
+    /// literal.
     pub fn start(&self, net: usize) -> u8
         requires there { net < length self.now.types }
         ensures { slice_get self.now.starts net ≡ Some result }

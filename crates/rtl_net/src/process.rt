@@ -30,7 +30,8 @@ impl Drop for Variable {
 
 /// A process of the elaborated design.
 pub struct Process {
-    /// Its drivers, in order of declaration of what they drive. The places in its body's assignments count them.
+    /// Its drivers, in order of declaration of what they drive. The places in its body's
+    /// assignments count them.
     pub drives: Vec<Driver>,
     /// The nets that its body reads, rising.
     pub reads: Vec<usize>,
@@ -41,7 +42,8 @@ pub struct Process {
     pub body: Vec<Statement>,
     /// The number of the scope in which it stands.
     pub scope: usize,
-    /// The labels of the generates round it in its scope, joined by dots; empty where there is none.
+    /// The labels of the generates round it in its scope, joined by dots; empty where there is
+    /// none.
     pub generates: Vec<u8>,
     pub label: Option<Vec<u8>>,
     /// The byte of the source at which it starts, behind its label (IEEE 1076-2008, 11.3).

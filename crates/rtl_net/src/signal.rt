@@ -2,8 +2,9 @@
 
 use smallvec::SmallVec;
 
-/// An instance, or the top: its label and the scope in which it stands. The top's label is its entity's name, an
-/// instance's has the labels of the generates round it before its own, joined by dots.
+/// An instance, or the top: its label and the scope in which it stands. The top's label is its
+/// entity's name, an instance's has the labels of the generates round it before its own, joined by
+/// dots.
 pub struct Scope {
     pub label: Vec<u8>,
     /// The number of the scope round it; `None` for the top.

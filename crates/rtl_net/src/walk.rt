@@ -1,4 +1,5 @@
-//! One walk over a body: a visitor is told of each leaf, in order of the text, in each branch, taken or not.
+//! One walk over a body: a visitor is told of each leaf, in order of the text, in each branch,
+//! taken or not.
 
 ghost use Rattle.std.specs.Prelude.{List, [], ◌∷◌, ◌++◌, flat_map};
 ghost use Rattle.rtl_model.specs.bodies.Leaves as m;

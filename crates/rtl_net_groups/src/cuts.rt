@@ -8,7 +8,8 @@ use crate::lists::Lists;
 use std::alloc::{AllocError, Global};
 use std::marker::Model;
 
-/// So many places of a process's drivers from `place` on, whose nets are those from `net` on, all in one group.
+/// So many places of a process's drivers from `place` on, whose nets are those from `net` on, all
+/// in one group.
 #[derive(Clone, Copy)]
 pub struct Cut {
     pub place: usize,
@@ -45,7 +46,8 @@ impl Model for Cuts {
 }
 
 impl Cuts {
-    /// The cuts of processes whose drivers have these nets, in these groups. It takes time in proportion to the drivers.
+    /// The cuts of processes whose drivers have these nets, in these groups. It takes time in
+    /// proportion to the drivers.
     pub fn new(alloc: Global, of_net: &[usize], targets: &Lists<usize>) -> Result<Cuts, AllocError>
         requires { All (λ nets. All (λ n. n < length of_net.now) nets) targets.now }
         ensures { IfOk result (λ cuts. AreCutsOf of_net.now targets.now cuts) }
@@ -120,7 +122,8 @@ impl CutRow {
     /// Puts a cut behind those of the places before it.
     fn push(&mut self, cut: Cut) -> Result<(), AllocError>
         ensures cuts { OnOk result (self.new.cuts.items ≡ self.old.cuts.items ++ cut ∷ []) }
-        ensures numbers { OnOk result (self.new.numbers.items ≡ self.old.numbers.items ++ replicate cut.len (length self.old.cuts.items)) }
+        ensures numbers { OnOk result (self.new.numbers.items ≡ self.old.numbers.items
+            ++ replicate cut.len (length self.old.cuts.items)) }
     {
         let number = self.cuts.len();
         self.cuts.push(cut)?;

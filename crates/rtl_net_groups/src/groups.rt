@@ -35,8 +35,8 @@ impl Model for Groups {
 }
 
 impl Groups {
-    /// The groups of nets that are elements of these declarations and listed for processes, for the p-th by the p-th list.
-    /// It takes time in proportion to the nets and the lists.
+    /// The groups of nets that are elements of these declarations and listed for processes, for the
+    /// p-th by the p-th list. It takes time in proportion to the nets and the lists.
     pub fn new(
         alloc: Global,
         declared: &[usize],

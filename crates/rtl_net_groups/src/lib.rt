@@ -1,6 +1,7 @@
-//! Nets that stand together: groups of nets that the same processes are listed for (`Groups`), and the runs of a process's
-//! drivers whose nets stand one behind the other in such a group (`Cuts`). Who goes over them handles vectors at once. And marks of
-//! those that may have changed (`Touched`), so that who comes behind needn't look at the others. And runs of values, which are
+//! Nets that stand together: groups of nets that the same processes are listed for (`Groups`), and
+//! the runs of a process's drivers whose nets stand one behind the other in such a group (`Cuts`).
+//! Who goes over them handles vectors at once. And marks of those that may have changed
+//! (`Touched`), so that who comes behind needn't look at the others. And runs of values, which are
 //! compared and written so many at a time.
 #![tactic(auto)]
 

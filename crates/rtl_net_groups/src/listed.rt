@@ -41,7 +41,8 @@ fn list_process(
     requires there { All (λ n. n < length runs.now.of_net.items) nets.now }
     requires as_many { length by_group.old.items ≡ length runs.now.first.items }
     ensures as_many { length by_group.new.items ≡ length by_group.old.items }
-    ensures added { OnOk result (IsListedIn process nets.now runs.now.first.items (rows by_group.old.items) (rows by_group.new.items)) }
+    ensures added { OnOk result (IsListedIn process nets.now runs.now.first.items (rows by_group.old.items)
+        (rows by_group.new.items)) }
 {
     for net in nets {
         let group = runs.of_net[*net];

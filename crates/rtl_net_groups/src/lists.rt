@@ -6,7 +6,8 @@ ghost use Rattle.rtl_net_groups.specs.Lists.{rows};
 use std::alloc::{AllocError, Global};
 use std::marker::Model;
 
-/// Lists that stand one behind the other in one row: however many they are, they take two allocations.
+/// Lists that stand one behind the other in one row: however many they are, they take two
+/// allocations.
 pub struct Lists<T> {
     /// Where each list starts, and behind that where the last one ends.
     starts: Vec<usize>,

@@ -38,7 +38,8 @@ impl Runs {
         Ok(runs)
     }
 
-    /// Puts a net behind those before it: into a group of its own, if it begins one, else into theirs.
+    /// Puts a net behind those before it: into a group of its own, if it begins one, else into
+    /// theirs.
     fn push(&mut self, begins: &[bool], net: usize) -> Result<(), AllocError>
         requires next { length self.old.of_net.items ≡ net }
         requires there { net < length begins.now }

@@ -3,8 +3,8 @@
 ghost use Rattle.std.specs.Prelude.{◌≡◌, ℕ, ◌<◌, ◌≤◌, true, false, length, slice_index_or};
 ghost use Rattle.rtl_net_groups.specs.NextMarks.{AreUnmarked, IsNextMark};
 
-/// The first marked place from this one on, or how many places there are. It looks at the nearest places one by one, and at all
-/// others sixteen at once.
+/// The first marked place from this one on, or how many places there are. It looks at the nearest
+/// places one by one, and at all others sixteen at once.
 pub fn next_marked(marks: &[bool], from: usize) -> usize
     requires { from ≤ length marks.now }
     ensures { IsNextMark marks.now from (length marks.now) result }
@@ -32,7 +32,8 @@ fn first_marked(marks: &[bool], from: usize, end: usize) -> usize
     end
 }
 
-/// A place from this one on, before which none from this one on is marked. It looks at sixteen places at once.
+/// A place from this one on, before which none from this one on is marked. It looks at sixteen
+/// places at once.
 fn after_unmarked(marks: &[bool], from: usize) -> usize
     requires { from ≤ length marks.now }
     ensures later { from ≤ result }

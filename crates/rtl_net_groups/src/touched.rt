@@ -15,8 +15,8 @@ const CHUNK: usize = 256;
 /// How many places share the marks of what is listed for groups: number p has place p modulo this.
 pub const PLACES: usize = 1024;
 
-/// For each chunk of nets a mark, which one of them gets where it may have changed. So what follows a few changes needn't look at
-/// all nets. All memory is taken by `new`.
+/// For each chunk of nets a mark, which one of them gets where it may have changed. So what follows
+/// a few changes needn't look at all nets. All memory is taken by `new`.
 pub struct Touched {
     nets: usize,
     marks: Vec<bool>,
@@ -76,12 +76,14 @@ impl Touched {
         requires some { first < end }
         requires within { end ≤ self.now.nets }
         ensures left { result ≡ true → (n : ℕ) → first ≤ n → n < end → IsLeft self.now n }
-        ensures marked { result ≡ false → (k : ℕ) × (first / 256 ≤ k) × (k ≤ (end - 1) / 256) × (slice_index_or self.now.marks k false ≡ true) }
+        ensures marked { result ≡ false → (k : ℕ) × (first / 256 ≤ k) × (k ≤ (end - 1) / 256)
+            × (slice_index_or self.now.marks k false ≡ true) }
     {
         !has_mark(&self.marks[first / CHUNK..(end - 1) / CHUNK + 1])
     }
 
-    /// Makes values those of others, from which they differ in marked chunks at most. It looks at no others.
+    /// Makes values those of others, from which they differ in marked chunks at most. It looks at
+    /// no others.
     pub fn bring(&self, from: &[u8], to: &mut [u8])
         requires from { length from.now ≡ self.now.nets }
         requires to { length to.old ≡ self.now.nets }
@@ -96,14 +98,15 @@ impl Touched {
         }
     }
 
-    /// Marks the places of what is listed for nets whose values differ. It looks at the nets of marked chunks alone. A place that
-    /// isn't there counts as marked.
+    /// Marks the places of what is listed for nets whose values differ. It looks at the nets of
+    /// marked chunks alone. A place that isn't there counts as marked.
     pub fn mark_listed(&self, groups: &Groups, old: &[u8], new: &[u8], marks: &mut [bool])
         requires groups { length groups.now.of_net ≡ self.now.nets }
         requires old { length old.now ≡ self.now.nets }
         requires new { length new.now ≡ self.now.nets }
         requires left { KeepsLeft self.now old.now new.now }
-        ensures { (p n : ℕ) → n < self.now.nets → IsListed groups.now p n → slice_index_or marks.new (p % 1024) true ≡ false
+        ensures { (p n : ℕ) → n < self.now.nets → IsListed groups.now p n
+            → slice_index_or marks.new (p % 1024) true ≡ false
             → slice_index old.now n ≡ slice_index new.now n }
     {
         let mut chunk = next_marked(&self.marks, 0);
@@ -127,7 +130,8 @@ fn mark_others(
     requires groups { end ≤ length groups.now.of_net }
     requires old { end ≤ length old.now }
     requires new { end ≤ length new.now }
-    ensures marked { (p n : ℕ) → first ≤ n → n < end → IsListed groups.now p n → slice_index_or marks.new (p % 1024) true ≡ false
+    ensures marked { (p n : ℕ) → first ≤ n → n < end → IsListed groups.now p n
+        → slice_index_or marks.new (p % 1024) true ≡ false
         → slice_index old.now n ≡ slice_index new.now n }
     ensures kept { (k : ℕ) → slice_index_or marks.old k true ≡ true → slice_index_or marks.new k true ≡ true }
 {
@@ -151,7 +155,8 @@ fn mark_each(marks: &mut [bool], first: usize, last: usize)
     requires order { first ≤ last }
     requires there { last < length marks.old }
     ensures there { (k : ℕ) → first ≤ k → k ≤ last → slice_index_or marks.new k false ≡ true }
-    ensures others { (k : ℕ) → (k < first) ⊎ (last < k) → slice_index_or marks.new k false ≡ slice_index_or marks.old k false }
+    ensures others { (k : ℕ) → (k < first) ⊎ (last < k)
+        → slice_index_or marks.new k false ≡ slice_index_or marks.old k false }
 {
     marks[last] = true;
     for place in first..last {

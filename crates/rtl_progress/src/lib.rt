@@ -1,6 +1,7 @@
 //! How far a simulation is, shown while it runs.
 //!
-//! `specs/Shown.antt` says what is shown, and `specs/Stops.antt` until when a stimulus asks to simulate.
+//! `specs/Shown.antt` says what is shown, and `specs/Stops.antt` until when a stimulus asks to
+//! simulate.
 #![tactic(auto)]
 
 mod progress;

@@ -7,8 +7,8 @@ ghost use Rattle.rtl_progress.specs.Shown.{hundredths, text_of_hundredths, text_
 
 use byte_streams::{Sink, Watch, push_number, push_text};
 
-/// Shows how many hundredths of the time till the stop are simulated, each time that there are more: a line that replaces the one before
-/// it. What the sink doesn't take is left out.
+/// Shows how many hundredths of the time till the stop are simulated, each time that there are
+/// more: a line that replaces the one before it. What the sink doesn't take is left out.
 pub struct Progress<'a, G: Sink> {
     sink: &'a mut G,
     stop: u64,

@@ -8,7 +8,8 @@ ghost use Rattle.rtl_progress.specs.Stops as stops;
 
 use rtl_stim_lines::{Time, line_end, time_of, without_return};
 
-/// The time in ns of the first line of a stimulus that says one to stop at; 0 where none does. It takes no memory.
+/// The time in ns of the first line of a stimulus that says one to stop at; 0 where none does. It
+/// takes no memory.
 pub fn stop_of(text: &[u8]) -> u64
     ensures { result ≡ stops.stop_of text.now }
 {

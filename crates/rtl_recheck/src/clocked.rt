@@ -26,7 +26,8 @@ pub fn are_within(nets: &[usize], others: &[usize]) -> bool
     true
 }
 
-/// Whether the nets that the tests of a clocked process look at, its clock and its reset, are among others.
+/// Whether the nets that the tests of a clocked process look at, its clock and its reset, are among
+/// others.
 fn tested_are_within(clocking: Clocking, others: &[usize]) -> bool
     requires { IsStrictlyIncreasing others.now }
     ensures { IsTrue result ↔ AreWithin (nets_tested clocking) others.now }
@@ -72,8 +73,8 @@ fn has_no_clock_as_data(clocks: &[(usize, Edge)], process: &Process, clocking: C
     true
 }
 
-/// Whether a clocked process breaks no rule: its clock is an in port of the top, it is sensitive to its clock and its reset,
-/// and it uses no clock as data.
+/// Whether a clocked process breaks no rule: its clock is an in port of the top, it is sensitive to
+/// its clock and its reset, and it uses no clock as data.
 pub fn clocked_keeps(
     inputs: &[usize],
     clocks: &[(usize, Edge)],

@@ -1,7 +1,8 @@
-//! Whether a report stands: that a netlist is accepted, and that this is the report on it, without memory.
+//! Whether a report stands: that a netlist is accepted, and that this is the report on it, without
+//! memory.
 //!
-//! The definitions are those of rtl_model's `simulation/Accepted` and `Report`; `specs/Kept.antt` says what is asked of each
-//! process.
+//! The definitions are those of rtl_model's `simulation/Accepted` and `Report`; `specs/Kept.antt`
+//! says what is asked of each process.
 #![tactic(auto)]
 
 mod clocked;

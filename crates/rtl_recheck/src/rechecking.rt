@@ -11,11 +11,13 @@ use rtl_check::{Report, is_report};
 use rtl_model::simulation_laws;
 use rtl_net::Net;
 
-/// Whether a netlist is accepted and this is the report on it, in its levels, its froms, its clocks and its bound. It searches for
-/// no loop: levels and froms that agree process by process show that there is none.
+/// Whether a netlist is accepted and this is the report on it, in its levels, its froms, its clocks
+/// and its bound. It searches for no loop: levels and froms that agree process by process show that
+/// there is none.
 ///
-/// It takes no memory. Its time is in proportion to the netlist, but for the product of clocks and processes, and in each process
-/// for the product of its body and the elements that it drives or declares as variables.
+/// It takes no memory. Its time is in proportion to the netlist, but for the product of clocks and
+/// processes, and in each process for the product of its body and the elements that it drives or
+/// declares as variables.
 pub fn recheck(net: &Net, report: &Report) -> bool
     ensures { IsTrue result ↔ (IsAccepted (core net.now) × IsReportOf (core net.now) report.now) }
 {

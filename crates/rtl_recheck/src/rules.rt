@@ -28,7 +28,8 @@ fn has_no_latch(process: &Process) -> bool
     true
 }
 
-/// Whether a combinational process breaks no rule: it is sensitive to what it reads, and has no latch.
+/// Whether a combinational process breaks no rule: it is sensitive to what it reads, and has no
+/// latch.
 fn combinational_keeps(process: &Process) -> bool
     requires { IsStrictlyIncreasing process.now.wakes.items }
     ensures { IsTrue result ↔ CombinationalKeeps process.now }

@@ -154,9 +154,9 @@ fn push_alternatives(
     Ok(())
 }
 
-/// The nets of these drivers that some assignment in a sequence keeps undefined (`kept`), or that one doesn't that
-/// may run while they are; rising. It takes time in proportion to the sequence, but for sorting and for the levels
-/// that are open in it.
+/// The nets of these drivers that some assignment in a sequence keeps undefined (`kept`), or that
+/// one doesn't that may run while they are; rising. It takes time in proportion to the sequence,
+/// but for sorting and for the levels that are open in it.
 pub(crate) fn may_assign(
     alloc: Global,
     drives: &[Driver],

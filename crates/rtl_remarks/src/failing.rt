@@ -65,7 +65,8 @@ fn fails_between(
     Ok(found.nets)
 }
 
-/// The nets for which a test fails while one of them is undefined. It takes time and memory in proportion to the test.
+/// The nets for which a test fails while one of them is undefined. It takes time and memory in
+/// proportion to the test.
 #[cycle(failing)]
 fn failing(alloc: Global, test: &Test) -> Result<Vec<usize>, NoMemory>
     ensures { IfOk result (λ nets. (n : ℕ) → is_in n nets.items ≡ spec.fails n (test_view test.now)) }

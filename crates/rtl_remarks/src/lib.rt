@@ -1,4 +1,5 @@
-//! Remarks on a netlist: what a designer may not have meant, and the checker's verdict doesn't tell.
+//! Remarks on a netlist: what a designer may not have meant, and the checker's verdict doesn't
+//! tell.
 //!
 //! `specs/Remarks.antt` defines each in a line or two, and their order.
 #![tactic(auto)]

@@ -10,9 +10,10 @@ use crate::remark::{Remark, RemarkKind};
 use rtl_net::{Net, NoMemory};
 use std::alloc::Global;
 
-/// The remarks on a netlist, one kind after the other, each by net, or by process and net. It takes time in
-/// proportion to the netlist, but for the logarithms of sorted lists and for the levels that are open in a body, and
-/// memory for a table over the nets, for lists of nets, and for the answer.
+/// The remarks on a netlist, one kind after the other, each by net, or by process and net. It takes
+/// time in proportion to the netlist, but for the logarithms of sorted lists and for the levels
+/// that are open in a body, and memory for a table over the nets, for lists of nets, and for the
+/// answer.
 pub fn remarks(alloc: Global, net: &Net) -> Result<Vec<Remark>, NoMemory>
     ensures { IfOk result (λ remarks. remarks.items ≡ spec.remarks_of net.now) }
 {

@@ -90,7 +90,8 @@ fn push_idle(net: &Net, number: usize, remarks: &mut Vec<Remark>) -> Result<(), 
     Ok(())
 }
 
-/// Appends the remark on a net that nothing reads, of an in port of the top of which another element is read.
+/// Appends the remark on a net that nothing reads, of an in port of the top of which another
+/// element is read.
 fn push_unread(
     net: &Net,
     known: &Known,

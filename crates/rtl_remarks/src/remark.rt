@@ -6,18 +6,20 @@ ghost use Rattle.rtl_remarks.specs.Remarks as spec;
 /// What a remark on a netlist, or on a stimulus of it, tells of its net.
 #[derive(Clone, Copy)]
 pub enum RemarkKind {
-    /// It is an element of a signal, no port, and nothing drives it. The process is the first that reads it.
+    /// It is an element of a signal, no port, and nothing drives it. The process is the first that
+    /// reads it.
     Undriven,
     /// It is an out port of the top that nothing drives.
     Unassigned,
     /// An out port of an instance drives it, and nothing inside drives the port.
     IdlePort,
-    /// The process drives it at a clock's edge, and the branch of its asynchronous reset doesn't assign it.
+    /// The process drives it at a clock's edge, and the branch of its asynchronous reset doesn't
+    /// assign it.
     NotReset,
     /// The combinational process reads it, and it is the clock of another.
     ClockRead,
-    /// The process drives it at a clock's edge, from `U` on, and no assignment that may run while it is undefined
-    /// makes it anything else, while some would keep it so.
+    /// The process drives it at a clock's edge, from `U` on, and no assignment that may run while
+    /// it is undefined makes it anything else, while some would keep it so.
     NeverKnown,
     /// No process reads it, and it is an element of an in port of the top of which others are read.
     UnreadElement,

@@ -11,8 +11,8 @@ use crate::fault::MachineFault;
 use crate::level_summary::LevelSummary;
 use crate::prepared::{Prepared, prepare};
 use crate::stepping::Stepping;
-use rtl_net::Net;
 use byte_streams::{Sink, Watch};
+use rtl_net::Net;
 use std::alloc::Global;
 
 /// Simulates a netlist under the stimulus that a text says, as the synchronous machine that it is:

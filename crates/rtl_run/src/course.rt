@@ -10,8 +10,8 @@ ghost use Rattle.rtl_run.specs.simulations.Running.{HasCome, IsNextMoment, GoesO
 use crate::engine::Engine;
 use crate::progress::Progress;
 use crate::summary::RunFault;
-use rtl_net::Net;
 use byte_streams::{Sink, Watch};
+use rtl_net::Net;
 use rtl_stim::{Agenda, Stimulus};
 use rtl_vcd::{Blocks, VcdFault, end, first, header};
 use std::alloc::Global;

@@ -6,8 +6,8 @@ ghost use Rattle.byte_streams.specs.Stands.{Stand};
 ghost use Rattle.rtl_run.specs.simulations.Engines.{CourseView, Follows, IsStuck, Shows};
 
 use crate::summary::RunFault;
-use rtl_net_groups::Touched;
 use byte_streams::Watch;
+use rtl_net_groups::Touched;
 use vhdl_values::Nine;
 
 /// Computes what the moments of a simulation settle to, one after another.

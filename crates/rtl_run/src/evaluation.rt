@@ -15,10 +15,10 @@ use crate::event_engine::EventEngine;
 use crate::fault::MachineFault;
 use crate::laws::accepted_nets_are_synchronous;
 use crate::ports::push_ports;
+use byte_streams::{Sink, Unwatched, finish};
 use rtl_eval_code::codes;
 use rtl_kernel::Forward;
 use rtl_net::Net;
-use byte_streams::{Sink, Unwatched, finish};
 use std::alloc::{AllocError, Global};
 
 /// Writes, for each out port of the top in order of declaration, the line `NAME=VALUE` with its

@@ -14,10 +14,10 @@ ghost use Rattle.rtl_run.specs.simulations.Engines.{KernelBegins, KernelSettled,
 use crate::course::Course;
 use crate::engine::Engine;
 use crate::summary::RunFault;
+use byte_streams::Watch;
 use rtl_eval::Exec;
 use rtl_kernel::{Kernel, Pick};
 use rtl_net_groups::Touched;
-use byte_streams::Watch;
 use std::alloc::{AllocError, Global};
 use vhdl_values::Nine;
 

@@ -6,8 +6,8 @@ ghost use Rattle.rtl_run.specs.declared.summary.RunFault.TheVariants.{NoSettling
 ghost use Rattle.rtl_run.specs.Faults.{of_run, of_stim};
 
 use crate::summary::RunFault;
-use rtl_check::CheckFault;
 use byte_streams::WriteFailed;
+use rtl_check::CheckFault;
 use rtl_stim::StimFault;
 use std::alloc::AllocError;
 

@@ -4,10 +4,10 @@ ghost use Rattle.rtl_run.specs.simulations.Engines.{MachineSettled};
 
 use crate::engine::Engine;
 use crate::summary::RunFault;
+use byte_streams::Watch;
 use rtl_eval::Exec;
 use rtl_levels::Machine;
 use rtl_net_groups::Touched;
-use byte_streams::Watch;
 use vhdl_values::Nine;
 
 /// The synchronous machine of an accepted netlist, which is at the first moment from the start on.

@@ -7,9 +7,9 @@ ghost use Rattle.byte_streams.specs.Written.{Goes};
 ghost use Rattle.rtl_run.specs.Evaluated as spec;
 ghost use Rattle.rtl_run.specs.Evaluated.{port_lines, port_text, port_line, letters};
 
+use byte_streams::{Sink, push_text};
 use rtl_body_facts::contains_rising;
 use rtl_net::{Net, Signal};
-use byte_streams::{Sink, push_text};
 use vhdl_values::Nine;
 
 /// Writes the line of each out port of the top, in order of declaration, where the nets have these

@@ -13,11 +13,11 @@ use crate::laws::accepted_nets_are_synchronous;
 use crate::prepared::{Prepared, prepare};
 use crate::simulation::Simulation;
 use crate::summary::Summary;
+use byte_streams::{Sink, Watch};
 use rtl_eval::Exec;
 use rtl_kernel::Pick;
 use rtl_model::simulation_laws;
 use rtl_net::Net;
-use byte_streams::{Sink, Watch};
 use rtl_stim::Agenda;
 use std::alloc::Global;
 

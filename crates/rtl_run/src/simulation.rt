@@ -11,10 +11,10 @@ ghost use Rattle.rtl_run.specs.simulations.Watched.{IsToldAll, WasTold};
 use crate::course::Course;
 use crate::event_engine::EventEngine;
 use crate::summary::{RunFault, Summary};
+use byte_streams::{Sink, Watch};
 use rtl_eval::Exec;
 use rtl_kernel::Pick;
 use rtl_net::Net;
-use byte_streams::{Sink, Watch};
 use rtl_stim::{Agenda, Stimulus};
 use std::alloc::Global;
 

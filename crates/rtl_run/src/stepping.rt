@@ -12,10 +12,10 @@ use crate::fault::{MachineFault, settled_fault};
 use crate::laws::accepted_nets_are_synchronous;
 use crate::level_engine::LevelEngine;
 use crate::level_summary::LevelSummary;
+use byte_streams::{Sink, Watch};
 use rtl_eval::Exec;
 use rtl_levels::Machine;
 use rtl_net::Net;
-use byte_streams::{Sink, Watch};
 use rtl_stim::{Agenda, Stimulus};
 use std::alloc::Global;
 

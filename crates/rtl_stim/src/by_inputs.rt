@@ -25,7 +25,8 @@ fn has_race(stimulus: &Stimulus, clocks: &[(usize, Edge)], elements: &[Element],
 }
 
 impl Stimulus {
-    /// The first time before another at which the input at a place has a race, the other time where it has none.
+    /// The first time before another at which the input at a place has a race, the other time where
+    /// it has none.
     fn race_before(&self, clocks: &[(usize, Edge)], place: usize, past: u64) -> u64
         requires clocks { RisesBy clock_key clocks.now }
         requires there { place < length self.now.inputs }
@@ -48,8 +49,8 @@ impl Stimulus {
         past
     }
 
-    /// The first time with a race, the one behind the stop where there is none. It looks at the times at which an input changes
-    /// that is no clock.
+    /// The first time with a race, the one behind the stop where there is none. It looks at the
+    /// times at which an input changes that is no clock.
     fn time_by_inputs(&self, clocks: &[(usize, Edge)]) -> u64
         requires { RisesBy clock_key clocks.now }
         ensures { HasPassed self.now clocks.now (length self.now.inputs) result }
@@ -63,8 +64,8 @@ impl Stimulus {
         past
     }
 
-    /// The first time with a race; none where no time up to the stop has one. It takes no memory, and time by the changes of
-    /// inputs that are no clocks times the clocks.
+    /// The first time with a race; none where no time up to the stop has one. It takes no memory,
+    /// and time by the changes of inputs that are no clocks times the clocks.
     pub(crate) fn race_by_inputs(&self, clocks: &[(usize, Edge)]) -> Option<u64>
         requires { RisesBy clock_key clocks.now }
         ensures found { IfSome result (IsFirstTime self.now clocks.now) }

@@ -20,9 +20,11 @@ use std::collections::BTreeMap;
 use vhdl_values::Vec9;
 
 impl Stimulus {
-    /// Fills a new agenda with what comes after 0: of each input the next values that are set, and of a clock the next toggle.
+    /// Fills a new agenda with what comes after 0: of each input the next values that are set, and
+    /// of a clock the next toggle.
     ///
-    /// It takes the agenda's memory for these. Where that is refused, some of these wait, and nothing else.
+    /// It takes the agenda's memory for these. Where that is refused, some of these wait, and
+    /// nothing else.
     pub fn load<A: Agenda>(&self, agenda: &mut A) -> Result<(), NoMemory>
         requires waiting { (A.state agenda.old).waiting ≡ [] }
         requires last { (A.state agenda.old).last ≡ None }
@@ -36,17 +38,20 @@ impl Stimulus {
         Ok(())
     }
 
-    /// Brings what comes next of each input that was set or toggled at the time that was taken from the agenda last.
+    /// Brings what comes next of each input that was set or toggled at the time that was taken from
+    /// the agenda last.
     ///
-    /// It looks at the changes of that time alone, and takes the agenda's memory for what comes next. Where that is refused, what
-    /// waited waits still, with some of these.
+    /// It looks at the changes of that time alone, and takes the agenda's memory for what comes
+    /// next. Where that is refused, what waited waits still, with some of these.
     pub fn refill<A: Agenda>(&self, time: u64, agenda: &mut A) -> Result<(), NoMemory>
         requires last { (A.state agenda.old).last ≡ Some time }
         requires waited { (now : ℕ) × (now < time)
-            × Waits self.now.inputs self.now.schedule now ((time, (A.state agenda.old).taken) ∷ (A.state agenda.old).waiting) }
+            × Waits self.now.inputs self.now.schedule now
+            ((time, (A.state agenda.old).taken) ∷ (A.state agenda.old).waiting) }
         ensures kept { KeepsTaken (A.state agenda.old) (A.state agenda.new) }
         ensures waits { OnOk result (Waits self.now.inputs self.now.schedule time (A.state agenda.new).waiting) }
-        ensures left { OnErr result (WaitsPartly self.now.inputs self.now.schedule time (A.state agenda.old).waiting (A.state agenda.new).waiting) }
+        ensures left { OnErr result (WaitsPartly self.now.inputs self.now.schedule time (A.state agenda.old).waiting
+            (A.state agenda.new).waiting) }
     {
         for index in 0..agenda.changes().len() {
             let (net, _) = agenda.changes()[index];
@@ -121,7 +126,8 @@ pub fn next_busy(course: &Course, now: u64, stop: u64) -> Option<u64>
 fn next_set(sets: &BTreeMap<u64, Vec9>, now: u64, stop: u64) -> Option<u64>
     ensures within { IsWithin now stop result }
     ensures busy { IfSome result (λ t. IsTrue (is_busy (course_view (Course.Sets sets.now)) t)) }
-    ensures idle { (b : ℕ) → now < b → b < found_or_past result stop → is_busy (course_view (Course.Sets sets.now)) b ≡ false }
+    ensures idle { (b : ℕ) → now < b → b < found_or_past result stop
+        → is_busy (course_view (Course.Sets sets.now)) b ≡ false }
 {
     if stop <= now {
         return None;

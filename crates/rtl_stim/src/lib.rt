@@ -1,4 +1,5 @@
-//! Stimuli of netlists: `Stimulus`, which a text says of the in ports of a netlist's top, and what an agenda is filled with.
+//! Stimuli of netlists: `Stimulus`, which a text says of the in ports of a netlist's top, and what
+//! an agenda is filled with.
 //!
 //! `specs/Ports.antt` says which inputs a netlist has, and `specs/Stimuli.antt` what a stimulus is.
 #![tactic(auto)]

@@ -52,7 +52,8 @@ fn is_input(net: &Net, number: usize) -> bool
 /// An in port as an input.
 fn input_of(alloc: Global, net: &Net, port: &Signal) -> Result<Input, AllocError>
     requires { All (λ n. n < length net.now.types) port.now.nets.items }
-    ensures { IfOk result (λ input. kept.named_input (small port.now.name.items) input ≡ input_of net.now (signal_view port.now)) }
+    ensures { IfOk result (λ input. kept.named_input (small port.now.name.items) input ≡
+        input_of net.now (signal_view port.now)) }
 {
     Ok(Input {
         is_scalar: matches!(port.kind, SignalKind::One),
@@ -79,7 +80,8 @@ fn elements_of(alloc: Global, net: &Net, nets: &[usize]) -> Result<Vec<Element>,
 /// The elements of the input at a place, from the left.
 pub fn elements_at(inputs: &InputTable, place: usize) -> &[Element]
     requires { place < length (kept.inputs_view inputs.now) }
-    ensures { option_map (λ input. input.elements) (slice_get (kept.inputs_view inputs.now) place) ≡ Some (map kept.element_view result.now) }
+    ensures { option_map (λ input. input.elements) (slice_get (kept.inputs_view inputs.now) place) ≡
+        Some (map kept.element_view result.now) }
 {
     match inputs.get_index(place) {
         Some((_, input)) => input.elements.as_slice(),

@@ -63,7 +63,8 @@ pub(crate) fn active_clock(
     time: u64,
 ) -> Option<usize>
     requires { 0 < time }
-    ensures found { IfSome result (λ clock. (k : ℕ) × (k < length clocks.now) × IsActiveAt stimulus.now clocks.now time k
+    ensures found { IfSome result (λ clock. (k : ℕ) × (k < length clocks.now)
+        × IsActiveAt stimulus.now clocks.now time k
         × (clock_at clocks.now k ≡ clock) × ((j : ℕ) → j < k → IsActiveAt stimulus.now clocks.now time j → ⊥)) }
     ensures none { IfNone result ((k : ℕ) → k < length clocks.now → IsActiveAt stimulus.now clocks.now time k → ⊥) }
 {
@@ -114,7 +115,8 @@ fn changed_input(
     None
 }
 
-/// The race at a time, of the first of these inputs that changes and the first clock with an active edge.
+/// The race at a time, of the first of these inputs that changes and the first clock with an active
+/// edge.
 fn race_at(
     inputs: &[usize],
     clocks: &[(usize, Edge)],
@@ -194,13 +196,16 @@ fn next_of(times: &BTreeSet<u64>, from: u64) -> Option<u64>
     }
 }
 
-/// Beside how many clocks at most races are searched for input by input, each change beside each clock.
+/// Beside how many clocks at most races are searched for input by input, each change beside each
+/// clock.
 const FEW: usize = 16;
 
-/// How often the data inputs with clock lines toggle, some times more or less, in what is searched for races at once.
+/// How often the data inputs with clock lines toggle, some times more or less, in what is searched
+/// for races at once.
 const TOGGLES: u64 = 16384;
 
-/// How often an input with this course toggles up to a stop, or once more; 0 where it has no clock line.
+/// How often an input with this course toggles up to a stop, or once more; 0 where it has no clock
+/// line.
 fn toggles_of(course: &Course, stop: u64) -> u64
     requires { stop < 18446744073709551615 }
     ensures { result ≤ stop + 1 }
@@ -221,8 +226,8 @@ impl Stimulus {
         !are_clocks(clocks, elements_at(&self.inputs, place))
     }
 
-    /// How many ns are searched for races at once, so that data inputs with clock lines take little memory, and an early race is
-    /// found early.
+    /// How many ns are searched for races at once, so that data inputs with clock lines take little
+    /// memory, and an early race is found early.
     fn span(&self, clocks: &[(usize, Edge)]) -> u64
         requires { RisesBy clock_key clocks.now }
         ensures { 0 < result }
@@ -237,7 +242,8 @@ impl Stimulus {
         stop / (toggles / TOGGLES + 1) + 1
     }
 
-    /// Adds the times behind one and up to a last one at which the input at a place changes. It takes memory for each of them.
+    /// Adds the times behind one and up to a last one at which the input at a place changes. It
+    /// takes memory for each of them.
     fn add_changes(
         &self,
         clocks: &[(usize, Edge)],
@@ -262,7 +268,8 @@ impl Stimulus {
         Ok(())
     }
 
-    /// The times behind one and up to a last one at which an input changes that is no clock. It takes memory for each of them.
+    /// The times behind one and up to a last one at which an input changes that is no clock. It
+    /// takes memory for each of them.
     fn change_times(
         &self,
         alloc: Global,
@@ -282,7 +289,8 @@ impl Stimulus {
         Ok(times)
     }
 
-    /// The first of these times before another at which a net has an edge, the other time where there is none.
+    /// The first of these times before another at which a net has an edge, the other time where
+    /// there is none.
     fn edge_before(&self, times: &BTreeSet<u64>, past: u64, net: usize, kind: Edge) -> u64
         requires { 0 < past }
         ensures later { 0 < result }
@@ -303,7 +311,8 @@ impl Stimulus {
         past
     }
 
-    /// The first of these times up to a last one at which a clock has its edge, the one behind the last where there is none.
+    /// The first of these times up to a last one at which a clock has its edge, the one behind the
+    /// last where there is none.
     fn first_time(&self, clocks: &[(usize, Edge)], times: &BTreeSet<u64>, last: u64) -> u64
         requires { last < 18446744073709551615 }
         ensures { HasSearched self.now clocks.now times.now last (length clocks.now) result }
@@ -315,7 +324,8 @@ impl Stimulus {
         past
     }
 
-    /// The first time with a race; none where no time up to the stop has one. It takes memory for the changes of one span.
+    /// The first time with a race; none where no time up to the stop has one. It takes memory for
+    /// the changes of one span.
     fn race_by_clocks(
         &self,
         alloc: Global,
@@ -340,7 +350,8 @@ impl Stimulus {
         Ok(None)
     }
 
-    /// The first time with a race; none where no time up to the stop has one. It goes by inputs where the clocks are few.
+    /// The first time with a race; none where no time up to the stop has one. It goes by inputs
+    /// where the clocks are few.
     fn race_time(&self, alloc: Global, clocks: &[(usize, Edge)]) -> Result<Option<u64>, NoMemory>
         requires { RisesBy clock_key clocks.now }
         ensures found { IfOk result (λ found. IfSome found (IsFirstTime self.now clocks.now)) }
@@ -353,12 +364,12 @@ impl Stimulus {
     }
 }
 
-/// The earliest race of a netlist whose clocks these are, with the lowest data input that changes and the lowest clock with an
-/// active edge; `None` exactly where no moment up to the stop has one.
+/// The earliest race of a netlist whose clocks these are, with the lowest data input that changes
+/// and the lowest clock with an active edge; `None` exactly where no moment up to the stop has one.
 ///
-/// It looks at the times at which a data input changes, and passes over the edges of clocks at which none does. Beside more than a
-/// few clocks it takes memory for the changes of one span of time: for each that a line of the stimulus says, and for some ten
-/// thousand toggles.
+/// It looks at the times at which a data input changes, and passes over the edges of clocks at
+/// which none does. Beside more than a few clocks it takes memory for the changes of one span of
+/// time: for each that a line of the stimulus says, and for some ten thousand toggles.
 pub fn first_race(
     alloc: Global,
     net: &Net,

@@ -20,13 +20,13 @@ use std::alloc::{AllocError, Global};
 use vhdl_values::Nine;
 
 impl Stimulus {
-    /// Reads the text of a stimulus for a netlist. It takes memory for each in port of the top and for each line, and none
-    /// for the edges of a clock.
+    /// Reads the text of a stimulus for a netlist. It takes memory for each in port of the top and
+    /// for each line, and none for the edges of a clock.
     ///
     /// # Errors
     ///
-    /// The first bad line's fault, by the line's number from 1; `NoStop` where all lines are good and none says when to
-    /// stop; `NoMemory` where a growth was refused. Never `Race`.
+    /// The first bad line's fault, by the line's number from 1; `NoStop` where all lines are good
+    /// and none says when to stop; `NoMemory` where a growth was refused. Never `Race`.
     pub fn read(alloc: Global, net: &Net, text: &[u8]) -> Result<Stimulus, StimFault>
         requires { HasOwnPorts net.now }
         ensures { IsRead net.now text.now result }
@@ -37,13 +37,13 @@ impl Stimulus {
         Ok(with_initial(alloc, inputs, schedule)?)
     }
 
-    /// The stimulus that sets each input that is named to its value at 0, and stops there. It takes memory for each in port of
-    /// the top and for each pair.
+    /// The stimulus that sets each input that is named to its value at 0, and stops there. It takes
+    /// memory for each in port of the top and for each pair.
     ///
     /// # Errors
     ///
-    /// The first bad pair's fault, by its place from 1: `BadLine` where a name or a value is missing. `NoMemory` where a growth
-    /// was refused. Never `Race` or `NoStop`.
+    /// The first bad pair's fault, by its place from 1: `BadLine` where a name or a value is
+    /// missing. `NoMemory` where a growth was refused. Never `Race` or `NoStop`.
     pub fn of_pairs(
         alloc: Global,
         net: &Net,
@@ -101,7 +101,8 @@ fn initial_values(
     requires own { HaveOwnNets (inputs_view inputs.now) }
     requires each { vec_len schedule.now.courses ≡ length (inputs_view inputs.now) }
     ensures { IfOk result (λ values. values.items
-        ≡ map (λ n. value_at (inputs_view inputs.now) (schedule_view schedule.now) n 0) (all_nets (inputs_view inputs.now))) }
+        ≡ map (λ n. value_at (inputs_view inputs.now) (schedule_view schedule.now) n 0)
+        (all_nets (inputs_view inputs.now))) }
 {
     let mut values = Vec::new(alloc);
     for place in 0..inputs.len() {

@@ -46,7 +46,8 @@ impl Model for Stimulus {
 }
 
 impl Stimulus {
-    /// The last time, in ns, which is at most 10^15. A caller in another crate also learns here what holds of every stimulus.
+    /// The last time, in ns, which is at most 10^15. A caller in another crate also learns here
+    /// what holds of every stimulus.
     pub fn stop(&self) -> u64
         ensures stop { result ≡ self.now.schedule.stop }
         ensures in_time { self.now.schedule.stop ≤ latest_time }
@@ -62,8 +63,8 @@ impl Stimulus {
         self.initial.as_slice()
     }
 
-    /// The value of a net at a time, in ns: of an input, and `U` of any other net. It takes no memory, and time by the
-    /// logarithm of the inputs and in proportion to the elements of one.
+    /// The value of a net at a time, in ns: of an input, and `U` of any other net. It takes no
+    /// memory, and time by the logarithm of the inputs and in proportion to the elements of one.
     pub fn value(&self, net: usize, time: u64) -> Nine
         ensures { result ≡ value_at self.now.inputs self.now.schedule net time }
     {
@@ -77,7 +78,8 @@ impl Stimulus {
     /// The place of the only input that may have a net.
     pub(crate) fn place_of(&self, net: usize) -> Option<usize>
         ensures within { IfSome result (λ place. place < length self.now.inputs) }
-        ensures only { (place : ℕ) → place < length self.now.inputs → Contains (nets_of (input_at self.now.inputs place)) net
+        ensures only { (place : ℕ) → place < length self.now.inputs
+            → Contains (nets_of (input_at self.now.inputs place)) net
             → result ≡ Some place }
     {
         match self.firsts.binary_search(&net) {
@@ -96,7 +98,8 @@ fn value_among(
     time: u64,
 ) -> Option<Nine>
     requires { place < vec_len schedule.now.courses }
-    ensures { result ≡ element_value (course_in (schedule_view schedule.now) place) 0 (map element_view elements.now) net time }
+    ensures { result ≡ element_value (course_in (schedule_view schedule.now) place) 0 (map element_view elements.now)
+        net time }
 {
     for (from_left, element) in elements.iter().enumerate() {
         if element.net == net {

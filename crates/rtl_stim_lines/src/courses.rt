@@ -122,8 +122,8 @@ fn halves(elapsed: u64, half: u64) -> u64
     elapsed / half
 }
 
-/// The first time after another at which a clock toggles, `None` where it never does. It is at most the latest
-/// time of a stimulus and a half period more.
+/// The first time after another at which a clock toggles, `None` where it never does. It is at most
+/// the latest time of a stimulus and a half period more.
 pub fn next_toggle(first: u64, half: u64, now: u64) -> Option<u64>
     requires bounded { now + half < 2 ^ 64 }
     ensures next { IfSome result (λ time. IsNextToggle first half now time) }

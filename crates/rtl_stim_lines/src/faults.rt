@@ -11,13 +11,13 @@ use thiserror::Error;
 /// What is wrong with a line of a stimulus.
 #[derive(Clone, Copy, Debug)]
 pub enum StimProblem {
-    /// An unknown word, a wrong count of words, no number where one has to stand, a half period of 0, or a
-    /// second stop.
+    /// An unknown word, a wrong count of words, no number where one has to stand, a half period of
+    /// 0, or a second stop.
     BadLine,
     /// A name that is no input port of the top.
     NotAnInput,
-    /// A value of another length than the port's, or with another character than the nine; a clock on a
-    /// vector.
+    /// A value of another length than the port's, or with another character than the nine; a clock
+    /// on a vector.
     BadValue,
     /// An input that is set twice at one time, or has two clocks.
     SetTwice,

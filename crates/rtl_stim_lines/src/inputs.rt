@@ -47,9 +47,11 @@ pub fn input_named<'i>(
     inputs: &'i InputTable,
     name: &[u8],
 ) -> Result<Option<(usize, &'i Input)>, AllocError>
-    ensures place { IfOk result (λ found. option_map (λ p. p.0) found ≡ named.input_named (inputs_view inputs.now) name.now) }
+    ensures place { IfOk result (λ found. option_map (λ p. p.0) found ≡
+        named.input_named (inputs_view inputs.now) name.now) }
     ensures within { IfOk result (λ found. IfSome found (λ p. p.0 < length (inputs_view inputs.now))) }
-    ensures input { IfOk result (λ found. IfSome found (λ p. IsElementsOf p.1.now (input_at (inputs_view inputs.now) p.0))) }
+    ensures input { IfOk result (λ found.
+        IfSome found (λ p. IsElementsOf p.1.now (input_at (inputs_view inputs.now) p.0))) }
 {
     let name = name.to_ascii_lowercase(alloc)?;
     match inputs.get_full(name.as_slice()) {

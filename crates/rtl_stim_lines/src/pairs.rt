@@ -11,7 +11,8 @@ use crate::reading::Said;
 use crate::schedule::Schedule;
 use std::alloc::Global;
 
-/// What names with values say of these inputs: each sets its input at 0, where the simulation stops.
+/// What names with values say of these inputs: each sets its input at 0, where the simulation
+/// stops.
 pub fn read_pairs(
     alloc: Global,
     pairs: &[Option<(&[u8], &[u8])>],
@@ -39,7 +40,8 @@ impl Said {
     ) -> Result<(), StimFault>
         requires vectors { AreVectors (inputs_view inputs.now) }
         requires each { vec_len self.old.courses ≡ length (inputs_view inputs.now) }
-        ensures said { Leads (after_pairs (inputs_view inputs.now) 1 (map pair_view pairs.now) (Ok (said_view self.old))) (said_view self.new) result }
+        ensures said { Leads (after_pairs (inputs_view inputs.now) 1 (map pair_view pairs.now)
+            (Ok (said_view self.old))) (said_view self.new) result }
         ensures each { vec_len self.new.courses ≡ vec_len self.old.courses }
     {
         for (index, pair) in pairs.iter().enumerate() {
@@ -58,7 +60,9 @@ impl Said {
     ) -> Result<(), StimFault>
         requires vectors { AreVectors (inputs_view inputs.now) }
         requires each { vec_len self.old.courses ≡ length (inputs_view inputs.now) }
-        ensures said { Leads (in_line number (after_pair (inputs_view inputs.now) (said_view self.old) (pair_view pair.entry))) (said_view self.new) result }
+        ensures said { Leads (in_line number
+            (after_pair (inputs_view inputs.now) (said_view self.old) (pair_view pair.entry))) (said_view self.new)
+            result }
         ensures each { vec_len self.new.courses ≡ vec_len self.old.courses }
     {
         match pair {

@@ -77,7 +77,8 @@ impl Said {
     ) -> Result<(), StimFault>
         requires vectors { AreVectors (inputs_view inputs.now) }
         requires each { vec_len self.old.courses ≡ length (inputs_view inputs.now) }
-        ensures said { Leads (after_lines (inputs_view inputs.now) 1 (lines_of text.now) (Ok (said_view self.old))) (said_view self.new) result }
+        ensures said { Leads (after_lines (inputs_view inputs.now) 1 (lines_of text.now) (Ok (said_view self.old)))
+            (said_view self.new) result }
         ensures each { vec_len self.new.courses ≡ vec_len self.old.courses }
     {
         let mut at = 0;
@@ -100,7 +101,8 @@ impl Said {
     ) -> Result<(), StimFault>
         requires vectors { AreVectors (inputs_view inputs.now) }
         requires each { vec_len self.old.courses ≡ length (inputs_view inputs.now) }
-        ensures said { Leads (in_line number (after_line (inputs_view inputs.now) (said_view self.old) line.now)) (said_view self.new) result }
+        ensures said { Leads (in_line number (after_line (inputs_view inputs.now) (said_view self.old) line.now))
+            (said_view self.new) result }
         ensures each { vec_len self.new.courses ≡ vec_len self.old.courses }
     {
         let words = words_of(alloc, line)?;
@@ -123,7 +125,8 @@ impl Said {
     ) -> Result<(), StimFault>
         requires vectors { AreVectors (inputs_view inputs.now) }
         requires each { vec_len self.old.courses ≡ length (inputs_view inputs.now) }
-        ensures said { Leads (in_line line (after_kept (inputs_view inputs.now) (said_view self.old) form.entry)) (said_view self.new) result }
+        ensures said { Leads (in_line line (after_kept (inputs_view inputs.now) (said_view self.old) form.entry))
+            (said_view self.new) result }
         ensures each { vec_len self.new.courses ≡ vec_len self.old.courses }
     {
         match form {

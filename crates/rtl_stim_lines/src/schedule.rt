@@ -15,8 +15,8 @@ pub struct Schedule {
 }
 
 impl Schedule {
-    /// The value at a time of an element of an input: of the input at this place, the element at its place from
-    /// the left, whose default is `start`.
+    /// The value at a time of an element of an input: of the input at this place, the element at
+    /// its place from the left, whose default is `start`.
     pub fn value(&self, input: usize, place: usize, start: Nine, time: u64) -> Nine
         requires { input < vec_len self.now.courses }
         ensures { result ≡ course_value (course_in (schedule_view self.now) input) place start time }

@@ -10,8 +10,8 @@ use crate::walk::walk_statements;
 use rtl_net::Statement;
 use std::alloc::{AllocError, Global};
 
-/// Of so many variable elements, whether a body stores each. It takes time in proportion to the body and to the elements, and
-/// memory for the elements.
+/// Of so many variable elements, whether a body stores each. It takes time in proportion to the
+/// body and to the elements, and memory for the elements.
 pub fn stored_elements(
     alloc: Global,
     body: &[Statement],

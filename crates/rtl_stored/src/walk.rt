@@ -13,8 +13,8 @@ use crate::marks::Marks;
 use rtl_net::{Alternative, Branch, Statement, walk_test, walk_value};
 use std::alloc::{AllocError, Global};
 
-/// Marks the elements that a statement stores and those that it assigns on every syntactic path, and lists the latter that weren't
-/// marked so.
+/// Marks the elements that a statement stores and those that it assigns on every syntactic path,
+/// and lists the latter that weren't marked so.
 #[cycle(walking)]
 fn walk_statement(
     alloc: Global,

@@ -13,9 +13,9 @@ use rtl_net::{Net, NoMemory};
 use rtl_remarks::{Remark, RemarkKind, clocks_of, is_chosen};
 use std::alloc::Global;
 
-/// The remarks on the stimulus of this text: the clocks that none of its lines drives, and then the other inputs,
-/// each by net. It takes time in proportion to the netlist and the text, but for the logarithms of sorted lists, and
-/// memory for lists of nets and for the lines.
+/// The remarks on the stimulus of this text: the clocks that none of its lines drives, and then the
+/// other inputs, each by net. It takes time in proportion to the netlist and the text, but for the
+/// logarithms of sorted lists, and memory for lists of nets and for the lines.
 pub fn stimulus_remarks(alloc: Global, net: &Net, text: &[u8]) -> Result<Vec<Remark>, NoMemory>
     ensures { IfOk result (λ remarks. remarks.items ≡ spec.stimulus_remarks_of net.now text.now) }
 {

@@ -21,7 +21,8 @@ const FEW: usize = 7;
 /// How many nets for each name of a block are compared at most.
 const REACH: usize = 128;
 
-/// Of how many nets, from the least to the greatest of a block, the marks are looked at. A block whose nets are compared reaches no further.
+/// Of how many nets, from the least to the greatest of a block, the marks are looked at. A block
+/// whose nets are compared reaches no further.
 const SPAN: usize = NAMES * REACH;
 
 /// How many blocks are looked at as fast as those are marked that have nets which differ.
@@ -43,7 +44,8 @@ impl Block {
     fn of(signal: &Signal) -> Block
         requires some { 0 < length signal.now.nets.items }
         ensures names { result.names ≡ 1 }
-        ensures block { (nets : ℕ) → IsShown nets (signal_view signal.now) → IsBlockOf nets result (signal_view signal.now ∷ []) }
+        ensures block { (nets : ℕ) → IsShown nets (signal_view signal.now)
+            → IsBlockOf nets result (signal_view signal.now ∷ []) }
     {
         let (least, greatest) = bounds(&signal.nets);
         Block {
@@ -58,7 +60,8 @@ impl Block {
     fn with(&self, other: &Block) -> Block
         requires room { self.now.names + other.now.names < 18446744073709551616 }
         ensures names { result.names ≡ self.now.names + other.now.names }
-        ensures block { (nets : ℕ) (names more : List SignalView) → IsBlockOf nets self.now names → IsBlockOf nets other.now more
+        ensures block { (nets : ℕ) (names more : List SignalView) → IsBlockOf nets self.now names
+            → IsBlockOf nets other.now more
             → IsBlockOf nets result (names ++ more) }
     {
         Block {
@@ -69,22 +72,24 @@ impl Block {
         }
     }
 
-    /// Whether it has no more nets, from the least to the greatest, than are compared for so many names.
+    /// Whether it has no more nets, from the least to the greatest, than are compared for so many
+    /// names.
     fn is_dense(&self) -> bool
         requires order { self.now.least ≤ self.now.greatest }
     {
         (self.greatest - self.least) / REACH < self.names
     }
 
-    /// Whether it shows, without a look at a name, that the nets from the least to the greatest have the same values in both: by the
-    /// marks, or since they are compared.
+    /// Whether it shows, without a look at a name, that the nets from the least to the greatest
+    /// have the same values in both: by the marks, or since they are compared.
     pub(crate) fn is_quiet(&self, touched: &Touched, old: &[u8], new: &[u8]) -> bool
         requires order { self.now.least ≤ self.now.greatest }
         requires before { self.now.greatest < length old.now }
         requires after { self.now.greatest < length new.now }
         requires nets { touched.now.nets ≡ length new.now }
         requires left { KeepsLeft touched.now old.now new.now }
-        ensures { result ≡ true → (n : ℕ) → self.now.least ≤ n → n ≤ self.now.greatest → slice_index old.now n ≡ slice_index new.now n }
+        ensures { result ≡ true → (n : ℕ) → self.now.least ≤ n → n ≤ self.now.greatest
+            → slice_index old.now n ≡ slice_index new.now n }
     {
         let beyond = self.greatest + 1;
         if beyond - self.least <= SPAN && touched.are_left(self.least, beyond) {
@@ -126,7 +131,8 @@ pub(crate) fn blocks_of(alloc: Global, net: &Net) -> Result<Vec<Block>, AllocErr
     Ok(blocks)
 }
 
-/// For each net the blocks of these that have a name with it. It takes memory for each net, and for each net of a name.
+/// For each net the blocks of these that have a name with it. It takes memory for each net, and for
+/// each net of a name.
 pub(crate) fn listed_for(alloc: Global, net: &Net, blocks: &[Block]) -> Result<Groups, AllocError>
     requires { AreBlocks (length net.now.types) blocks.now net.now.signals }
     ensures { IfOk result (λ groups. AreListed (length net.now.types) groups blocks.now net.now.signals) }
@@ -155,7 +161,8 @@ fn nets_in(alloc: Global, names: &[Signal]) -> Result<Vec<usize>, AllocError>
     Ok(nets)
 }
 
-/// The block that begins with the name of this number: names whose nets stand close to one another, or those before so many.
+/// The block that begins with the name of this number: names whose nets stand close to one another,
+/// or those before so many.
 fn block_at(net: &Net, first: usize) -> Block
     requires there { first < length net.now.signals }
     ensures some { 0 < result.names }
@@ -181,7 +188,8 @@ fn block_at(net: &Net, first: usize) -> Block
     block
 }
 
-/// The names from this number on whose nets stand close to one another. They end where one name more would be too many, or too far off.
+/// The names from this number on whose nets stand close to one another. They end where one name
+/// more would be too many, or too far off.
 fn close_at(net: &Net, first: usize) -> Block
     requires there { first < length net.now.signals }
     ensures some { 0 < result.names }

@@ -39,11 +39,13 @@ pub fn change_line(number: usize, signal: &Signal, values: &[u8]) -> Line
     line
 }
 
-/// Whether the name with this number prints otherwise where the nets have the values `new` than where they have `old`.
+/// Whether the name with this number prints otherwise where the nets have the values `new` than
+/// where they have `old`.
 pub fn prints_otherwise(number: usize, signal: &Signal, old: &[u8], new: &[u8]) -> bool
     requires before { IsShown (length old.now) (signal_view signal.now) }
     requires after { IsShown (length new.now) (signal_view signal.now) }
-    ensures { result ≡ not (bytes_eq (printed number (signal_view signal.now) old.now) (printed number (signal_view signal.now) new.now)) }
+    ensures { result ≡ not (bytes_eq (printed number (signal_view signal.now) old.now)
+        (printed number (signal_view signal.now) new.now)) }
 {
     match signal.kind {
         SignalKind::Enumeration { .. } => {
@@ -58,7 +60,8 @@ pub fn prints_otherwise(number: usize, signal: &Signal, old: &[u8], new: &[u8]) 
 fn has_other_characters(nets: &[usize], old: &[u8], new: &[u8]) -> bool
     requires before { All (λ n. n < length old.now) nets.now }
     requires after { All (λ n. n < length new.now) nets.now }
-    ensures { result ≡ not (bytes_eq (map character (map (slice_index old.now) nets.now)) (map character (map (slice_index new.now) nets.now))) }
+    ensures { result ≡ not (bytes_eq (map character (map (slice_index old.now) nets.now))
+        (map character (map (slice_index new.now) nets.now))) }
 {
     for net in nets {
         if is_other_character(old[*net], new[*net]) {

@@ -8,8 +8,9 @@ ghost use Rattle.rtl_vcd.specs.Puts.{plain, PrintsDigit, IsPut};
 use rtl_net_groups::are_different;
 use std::simd::prelude::*;
 
-/// Puts what so many new values from this place on print as behind the first bytes of the room. Answers whether the old ones
-/// print otherwise. It is fastest where each of the new ones prints as a digit.
+/// Puts what so many new values from this place on print as behind the first bytes of the room.
+/// Answers whether the old ones print otherwise. It is fastest where each of the new ones prints as
+/// a digit.
 pub(crate) fn put_lanes<const LANES: usize>(
     room: &mut [u8],
     from: usize,
@@ -100,7 +101,8 @@ pub(crate) fn are_same(old: &[u8], new: &[u8]) -> bool
     are_same_ends::<4>(old, new)
 }
 
-/// Whether the first so many values and the last so many, which together are all, are the same in both.
+/// Whether the first so many values and the last so many, which together are all, are the same in
+/// both.
 fn are_same_ends<const LANES: usize>(old: &[u8], new: &[u8]) -> bool
     requires most { LANES ≤ 64 }
     requires as_many { length old.now ≡ length new.now }

@@ -26,7 +26,8 @@ impl End {
         }
     }
 
-    /// Puts it behind the first bytes of the room, in one copy of all its bytes, which needs no call. What stands behind it is anything.
+    /// Puts it behind the first bytes of the room, in one copy of all its bytes, which needs no
+    /// call. What stands behind it is anything.
     pub(crate) fn put(&self, room: &mut [u8], from: usize)
         requires room { from + 8 ≤ length room.old }
         ensures text { take (from + self.now.len) room.new ≡ take from room.old ++ take self.now.len self.now.bytes }

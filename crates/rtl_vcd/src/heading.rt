@@ -11,8 +11,8 @@ ghost use Rattle.rtl_vcd.specs.Shown.{IsShown, StandInOrder, StartsScope};
 use crate::fault::VcdFault;
 use crate::line::{Line, binary_digits, push_code};
 use crate::trace::written;
-use rtl_net::{Net, Scope, Signal, SignalKind};
 use byte_streams::{Sink, push_number, push_text};
+use rtl_net::{Net, Scope, Signal, SignalKind};
 
 /// Writes the header: the unit of time, and the design's scopes with their names. Takes no memory.
 ///
@@ -37,7 +37,8 @@ pub fn header<W: Sink>(net: &Net, out: &mut W) -> Result<(), VcdFault>
 fn push_scopes<W: Sink>(scopes: &[Scope], signals: &[Signal], out: &mut W)
     requires scopes { AreScopes (map scope_view scopes.now) }
     requires order { StandInOrder signals.now }
-    ensures { Goes (W.state out.old) (W.state out.new) (spec.scopes_text (map scope_view scopes.now) (map signal_view signals.now) (length scopes.now)) }
+    ensures { Goes (W.state out.old) (W.state out.new)
+        (spec.scopes_text (map scope_view scopes.now) (map signal_view signals.now) (length scopes.now)) }
 {
     let mut next = 0;
     for number in 0..scopes.len() {
@@ -56,11 +57,13 @@ fn push_scope_line<W: Sink>(label: &[u8], out: &mut W)
     push_text(out, b" $end\n");
 }
 
-/// The names of a scope, the first of which stands at `start` if it has any. Answers where those of the next scope start.
+/// The names of a scope, the first of which stands at `start` if it has any. Answers where those of
+/// the next scope start.
 fn push_variables<W: Sink>(signals: &[Signal], scope: usize, start: usize, out: &mut W) -> usize
     requires order { StandInOrder signals.now }
     requires starts { StartsScope signals.now scope start }
-    ensures text { Goes (W.state out.old) (W.state out.new) (values.numbered (spec.variable_line_in scope) 0 (map signal_view signals.now)) }
+    ensures text { Goes (W.state out.old) (W.state out.new)
+        (values.numbered (spec.variable_line_in scope) 0 (map signal_view signals.now)) }
     ensures next { StartsScope signals.now (scope + 1) result }
 {
     let mut next = start;
@@ -131,7 +134,8 @@ fn push_closing_before<W: Sink>(scopes: &[Scope], number: usize, out: &mut W)
 /// The closing of the last scope and those round it.
 fn push_closing_after<W: Sink>(scopes: &[Scope], out: &mut W)
     requires scopes { AreScopes (map scope_view scopes.now) }
-    ensures { Goes (W.state out.old) (W.state out.new) (spec.closing_after (map scope_view scopes.now) (length scopes.now)) }
+    ensures { Goes (W.state out.old) (W.state out.new)
+        (spec.closing_after (map scope_view scopes.now) (length scopes.now)) }
 {
     if scopes.is_empty() {
         return;

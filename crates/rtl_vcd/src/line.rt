@@ -6,7 +6,8 @@ ghost use Rattle.rtl_vcd.specs.Values as spec;
 
 use arrayvec::ArrayVec;
 
-/// How long the longest change is: `b`, 64 digits, a space, a code of ten characters, and the line's end.
+/// How long the longest change is: `b`, 64 digits, a space, a code of ten characters, and the
+/// line's end.
 pub(crate) const LINE: usize = 77;
 
 /// Room for the longest change.

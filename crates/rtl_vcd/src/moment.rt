@@ -16,13 +16,14 @@ use crate::named::{Step, push_part};
 use crate::page::Page;
 use crate::ready::{Run, runs_of};
 use crate::trace::{push_time, written};
+use byte_streams::{Sink, push_text};
 use rtl_net::{Net, Signal};
 use rtl_net_groups::{Groups, PLACES, Touched};
-use byte_streams::{Sink, push_text};
 use std::alloc::{AllocError, Global};
 use std::marker::Model;
 
-/// The names of a netlist in blocks, so that a moment passes over those whose nets keep their values. Contracts see the netlist.
+/// The names of a netlist in blocks, so that a moment passes over those whose nets keep their
+/// values. Contracts see the netlist.
 pub struct Blocks<'a> {
     net: &'a Net,
     blocks: Vec<Block>,
@@ -58,14 +59,16 @@ impl<'a> Model for Blocks<'a> {
 
     ghost view = { λ b. b.net.now };
 
-    ghost invariant = { λ b. AreBlocks (length b.net.now.types) b.blocks.items b.net.now.signals × AreReady 0 b.net.now.signals b.runs.items
+    ghost invariant = { λ b. AreBlocks (length b.net.now.types) b.blocks.items b.net.now.signals
+        × AreReady 0 b.net.now.signals b.runs.items
         × IfSome b.listed (λ groups. AreListed (length b.net.now.types) groups b.blocks.items b.net.now.signals) };
 }
 
 impl<'a> Blocks<'a> {
-    /// The blocks of the netlist's names, and the names that stand on nets one behind the other, ready to print. They take four words
-    /// for each block, which mostly has some 64 names, and two for each name; and where there are many blocks, up to three for each
-    /// net and one for each net of a name.
+    /// The blocks of the netlist's names, and the names that stand on nets one behind the other,
+    /// ready to print. They take four words for each block, which mostly has some 64 names, and two
+    /// for each name; and where there are many blocks, up to three for each net and one for each
+    /// net of a name.
     pub fn new(alloc: Global, net: &'a Net) -> Result<Blocks<'a>, AllocError>
         ensures { IfOk result (λ b. b ≡ net.now) }
     {
@@ -84,14 +87,16 @@ impl<'a> Blocks<'a> {
         })
     }
 
-    /// Writes what the names print at a time after 0, where the nets had the values `old` and have the values `new`, one for
-    /// each net: those that print otherwise than before, behind the time. Answers whether there were such. Takes no memory. Nets of
-    /// chunks that aren't marked have one value in both.
+    /// Writes what the names print at a time after 0, where the nets had the values `old` and have
+    /// the values `new`, one for each net: those that print otherwise than before, behind the time.
+    /// Answers whether there were such. Takes no memory. Nets of chunks that aren't marked have one
+    /// value in both.
     ///
-    /// Where there are many blocks, one that has no net whose value differs, nor shares its place with one that has, costs the look at
-    /// one mark, and each net of a marked chunk costs a comparison. Of the other blocks, one
-    /// of names whose nets stand close to one another costs one comparison of two runs of bytes where none of them has changed; else each
-    /// of its names is looked at. The sink gets up to a page of lines at a time.
+    /// Where there are many blocks, one that has no net whose value differs, nor shares its place
+    /// with one that has, costs the look at one mark, and each net of a marked chunk costs a
+    /// comparison. Of the other blocks, one of names whose nets stand close to one another costs
+    /// one comparison of two runs of bytes where none of them has changed; else each of its names
+    /// is looked at. The sink gets up to a page of lines at a time.
     ///
     /// # Errors
     ///
@@ -129,7 +134,8 @@ impl<'a> Blocks<'a> {
     }
 }
 
-/// The changes of the netlist's names, which stand in these blocks, behind their time. Answers whether there are any.
+/// The changes of the netlist's names, which stand in these blocks, behind their time. Answers
+/// whether there are any.
 fn push_moment<W: Sink>(
     net: &Net,
     blocks: &[Block],
@@ -146,7 +152,8 @@ fn push_moment<W: Sink>(
     requires after { length step.now.new.now ≡ length net.now.types }
     requires nets { touched.now.nets ≡ length net.now.types }
     requires left { KeepsLeft touched.now step.now.old.now step.now.new.now }
-    ensures text { Goes (W.state out.old) (W.state out.new) (moment_text net.now.signals step.now.time step.now.old.now step.now.new.now) }
+    ensures text { Goes (W.state out.old) (W.state out.new)
+        (moment_text net.now.signals step.now.time step.now.old.now step.now.new.now) }
     ensures printed { result ≡ are_some (changes net.now.signals step.now.old.now step.now.new.now) }
 {
     net.is_elaborated();
@@ -177,8 +184,9 @@ fn push_moment<W: Sink>(
     is_printed
 }
 
-/// The changes of these names, the first of them being number `first`, behind their time where that isn't printed yet. Answers
-/// whether it is printed then. The last of what is printed stays in the page.
+/// The changes of these names, the first of them being number `first`, behind their time where that
+/// isn't printed yet. Answers whether it is printed then. The last of what is printed stays in the
+/// page.
 #[inline(never)]
 fn push_changes<W: Sink>(
     names: &[Signal],
@@ -196,8 +204,10 @@ fn push_changes<W: Sink>(
     requires opened { IsOpen is_printed page.old }
     ensures opened { IsOpen result page.new }
     ensures text { Passes (W.state out.old) (W.state out.new) page.old page.new
-        (continued is_printed step.now.time (changes_from first (map signal_view names.now) step.now.old.now step.now.new.now)) }
-    ensures printed { result ≡ (is_printed || are_some (changes_from first (map signal_view names.now) step.now.old.now step.now.new.now)) }
+        (continued is_printed step.now.time
+        (changes_from first (map signal_view names.now) step.now.old.now step.now.new.now)) }
+    ensures printed { result ≡ (is_printed
+        || are_some (changes_from first (map signal_view names.now) step.now.old.now step.now.new.now)) }
 {
     let here = *step;
     let mut printed = is_printed;

@@ -13,8 +13,8 @@ use crate::change::{change_line, prints_otherwise};
 use crate::page::{PAGE, Page};
 use crate::ready::Run;
 use crate::trace::push_time;
-use rtl_net::Signal;
 use byte_streams::{Sink, push_text};
+use rtl_net::Signal;
 
 /// A time, and the values of the nets before it and at it.
 #[derive(Clone, Copy)]
@@ -24,9 +24,10 @@ pub(crate) struct Step<'a> {
     pub(crate) new: &'a [u8],
 }
 
-/// The changes of the first of these names, behind their time where that isn't printed yet: up to one that leaves no room for
-/// another line in the page, or up to one that isn't ready. The first of all is number
-/// `first`. Answers how many names these are, and whether the time is printed then.
+/// The changes of the first of these names, behind their time where that isn't printed yet: up to
+/// one that leaves no room for another line in the page, or up to one that isn't ready. The first
+/// of all is number `first`. Answers how many names these are, and whether the time is printed
+/// then.
 pub(crate) fn push_part<W: Sink>(
     first: usize,
     names: &[Signal],
@@ -46,9 +47,11 @@ pub(crate) fn push_part<W: Sink>(
     ensures within { result.0 ≤ length names.now }
     ensures opened { IsOpen result.1 page.new }
     ensures text { Passes (W.state out.old) (W.state out.new) page.old page.new
-        (continued is_printed step.now.time (changes_from first (take result.0 (map signal_view names.now)) step.now.old.now step.now.new.now)) }
+        (continued is_printed step.now.time
+        (changes_from first (take result.0 (map signal_view names.now)) step.now.old.now step.now.new.now)) }
     ensures printed { result.1
-        ≡ (is_printed || are_some (changes_from first (take result.0 (map signal_view names.now)) step.now.old.now step.now.new.now)) }
+        ≡ (is_printed || are_some (changes_from first (take result.0 (map signal_view names.now)) step.now.old.now
+        step.now.new.now)) }
 {
     let many = append_changes(first, names, runs, step, page);
     if page.text().is_empty() {
@@ -75,7 +78,8 @@ fn append_changes(
     requires room { length page.old + 77 ≤ PAGE }
     ensures some { 0 < result }
     ensures within { result ≤ length names.now }
-    ensures text { page.new ≡ page.old ++ changes_from first (take result (map signal_view names.now)) step.now.old.now step.now.new.now }
+    ensures text { page.new ≡ page.old
+        ++ changes_from first (take result (map signal_view names.now)) step.now.old.now step.now.new.now }
 {
     let old = step.old;
     let new = step.new;

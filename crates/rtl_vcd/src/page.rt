@@ -104,14 +104,17 @@ impl Page {
         self.len += end.len as usize;
     }
 
-    /// Appends the line of a vector that has this end, if its values print otherwise in `new` than in `old`. Answers whether they do.
+    /// Appends the line of a vector that has this end, if its values print otherwise in `new` than
+    /// in `old`. Answers whether they do.
     ///
-    /// The line is put behind what stands on the page while its values are looked at. It counts only where they print otherwise.
+    /// The line is put behind what stands on the page while its values are looked at. It counts
+    /// only where they print otherwise.
     pub(crate) fn push_vector(&mut self, old: &[u8], new: &[u8], end: &End) -> bool
         requires as_many { length old.now ≡ length new.now }
         requires short { length new.now ≤ 64 }
         requires room { length self.old + 77 ≤ PAGE }
-        ensures line { self.new ≡ self.old ++ (if result then (codes "b" ++ map character new.now ++ take end.now.len end.now.bytes) else []) }
+        ensures line { self.new ≡ self.old
+            ++ (if result then (codes "b" ++ map character new.now ++ take end.now.len end.now.bytes) else []) }
         ensures other { result ≡ not (bytes_eq (map character old.now) (map character new.now)) }
     {
         let first = self.len + 1;

@@ -14,8 +14,8 @@ struct Front {
     is_other: bool,
 }
 
-/// Puts what the new values print as behind the first bytes of the room. Answers whether the old ones print otherwise. What
-/// stands behind these characters is lost, too, or isn't.
+/// Puts what the new values print as behind the first bytes of the room. Answers whether the old
+/// ones print otherwise. What stands behind these characters is lost, too, or isn't.
 pub(crate) fn put_run(room: &mut [u8], from: usize, old: &[u8], new: &[u8]) -> bool
     requires as_many { length old.now ≡ length new.now }
     requires room { from + length new.now ≤ length room.old }
@@ -30,7 +30,8 @@ pub(crate) fn put_run(room: &mut [u8], from: usize, old: &[u8], new: &[u8]) -> b
     either(front.is_other, is_more)
 }
 
-/// The same of the first values, as many as are put at once: 64, 32, 16, eight or four, or none where they are fewer.
+/// The same of the first values, as many as are put at once: 64, 32, 16, eight or four, or none
+/// where they are fewer.
 fn put_front(room: &mut [u8], from: usize, old: &[u8], new: &[u8]) -> Front
     requires as_many { length old.now ≡ length new.now }
     requires room { from + length new.now ≤ length room.old }

@@ -1,4 +1,5 @@
-//! Names that are ready to print: those whose nets stand one behind the other, with the end of their lines.
+//! Names that are ready to print: those whose nets stand one behind the other, with the end of
+//! their lines.
 
 ghost use Rattle.std.specs.Prelude.{◌≡◌, ℕ, ◌+◌, ◌<◌, ◌≤◌, ◌++◌, [], not, if◌then◌else◌, length, take, codes, true, slice_index, IfOk};
 ghost use Rattle.std.specs.Str.{bytes_eq};
@@ -35,8 +36,8 @@ pub(crate) enum Form {
     Position { digits: u8 },
 }
 
-/// A name whose nets stand one behind the other, so many from the first on, how it prints them, and the end of its line. It has no
-/// nets where it isn't ready.
+/// A name whose nets stand one behind the other, so many from the first on, how it prints them, and
+/// the end of its line. It has no nets where it isn't ready.
 #[derive(Clone, Copy)]
 pub(crate) struct Run {
     pub(crate) first: u32,
@@ -65,8 +66,8 @@ impl Run {
         }
     }
 
-    /// Appends the line that the name prints where the nets have the values `new`, if it is another than where they have `old`.
-    /// Answers whether it is.
+    /// Appends the line that the name prints where the nets have the values `new`, if it is another
+    /// than where they have `old`. Answers whether it is.
     pub(crate) fn push_other(&self, page: &mut Page, old: &[u8], new: &[u8]) -> bool
         requires before { LiesAmong (length old.now) self.now }
         requires after { LiesAmong (length new.now) self.now }
@@ -212,7 +213,8 @@ fn is_as_wide(kind: SignalKind, nets: usize) -> bool
     }
 }
 
-/// Whether the first of the nets, how many they are, and the code of the name with this number have room in a run.
+/// Whether the first of the nets, how many they are, and the code of the name with this number have
+/// room in a run.
 fn is_short(number: usize, nets: &[usize]) -> bool
     requires { 0 < length nets.now }
     ensures number { result ≡ true → number < 4294967296 }

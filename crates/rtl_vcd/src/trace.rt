@@ -9,10 +9,11 @@ ghost use Rattle.rtl_vcd.specs.Shown.{IsShown};
 
 use crate::change::change_line;
 use crate::fault::VcdFault;
-use rtl_net::{Net, Signal};
 use byte_streams::{Sink, finish, push_number, push_text};
+use rtl_net::{Net, Signal};
 
-/// Writes what every name prints at 0, where the nets have these values, one for each net. Takes no memory.
+/// Writes what every name prints at 0, where the nets have these values, one for each net. Takes no
+/// memory.
 ///
 /// # Errors
 ///
@@ -72,7 +73,8 @@ pub(crate) fn push_time<W: Sink>(out: &mut W, time: u64)
 /// What each of the names prints.
 fn push_all<W: Sink>(signals: &[Signal], values: &[u8], out: &mut W)
     requires shown { All (IsShown (length values.now)) (map signal_view signals.now) }
-    ensures { Goes (W.state out.old) (W.state out.new) (numbered (λ k s. printed k s values.now) 0 (map signal_view signals.now)) }
+    ensures { Goes (W.state out.old) (W.state out.new)
+        (numbered (λ k s. printed k s values.now) 0 (map signal_view signals.now)) }
 {
     for (number, signal) in signals.iter().enumerate() {
         push_text(out, &change_line(number, signal, values));

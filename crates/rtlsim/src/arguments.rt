@@ -12,8 +12,8 @@ use crate::inputs::Named;
 use crate::refusals::{not_text, refuse_words};
 use crate::tools::tool_with;
 use byte_streams::{In, Sink};
-use rtlsim_commands::{Front, Status};
 use rtlsim_command_line::Refused;
+use rtlsim_commands::{Front, Status};
 use std::alloc::{AllocError, Global};
 use std::env;
 use std::io::{ErrorKind, Read};
@@ -30,8 +30,17 @@ pub(crate) fn serve_arguments<
 >(rt: &T, reader: R, out: &mut O, err: &mut E, progress: &mut G) -> Status
     requires out { IsIntact (O.state out.old) }
     requires err { IsIntact (E.state err.old) }
-    ensures { (words : Option (List (List ℕ))) × ServesArguments (GivesNamed T.File.remaining) words (R.remaining reader) result
-        (record { out = O.state out.old; out_after = O.state out.new; err = E.state err.old; err_after = E.state err.new; progress = G.state progress.old; progress_after = G.state progress.new }) }
+    ensures { (words : Option (List (List ℕ)))
+        × ServesArguments (GivesNamed T.File.remaining) words (R.remaining reader) result
+        (record {
+          out = O.state out.old;
+          out_after = O.state out.new;
+          err = E.state err.old;
+          err_after = E.state
+              err.new;
+          progress = G.state progress.old;
+          progress_after = G.state progress.new;
+        }) }
 {
     match words_of(rt) {
         Ok(words) => serve_words::<F, _, _, _, _, _>(
@@ -75,7 +84,15 @@ fn serve_words<F: Front, T: Files, R: Read + Drop, O: Sink, E: Sink, G: Sink>(
     requires err { IsIntact (E.state err.old) }
     ensures { (after : ReaderState) × ServesWords (GivesNamed T.File.remaining) (map string_bytes args.now)
         (record { left = R.remaining reader; failed = false }) after result
-        (record { out = O.state out.old; out_after = O.state out.new; err = E.state err.old; err_after = E.state err.new; progress = G.state progress.old; progress_after = G.state progress.new }) }
+        (record {
+          out = O.state out.old;
+          out_after = O.state out.new;
+          err = E.state err.old;
+          err_after = E.state
+              err.new;
+          progress = G.state progress.old;
+          progress_after = G.state progress.new;
+        }) }
 {
     let mut reader = In::new(reader);
     if args.is_empty() {

@@ -15,14 +15,14 @@ use crate::refusals::{not_text, refuse_input, refuse_words};
 use crate::tools::tool_with;
 use crate::unread::ReadFault;
 use byte_streams::{Reader, Sink};
-use rtlsim_commands::{Front, Status};
 use rtlsim_command_line::Refused;
+use rtlsim_commands::{Front, Status};
 use std::alloc::{AllocError, Global};
 use std::rt::Files;
 
-/// The program without words: does what the words of the first line of the input ask for, cut at runs of
-/// spaces, as `tool_with` does; `@` is what stands after that line. Where the input can't be read, or the
-/// line isn't UTF-8, it tells so.
+/// The program without words: does what the words of the first line of the input ask for, cut at
+/// runs of spaces, as `tool_with` does; `@` is what stands after that line. Where the input can't
+/// be read, or the line isn't UTF-8, it tells so.
 pub fn tool_first_line<F: Front, T: Files, R: Reader, O: Sink, E: Sink, G: Sink>(
     alloc: Global,
     files: &T,
@@ -34,7 +34,15 @@ pub fn tool_first_line<F: Front, T: Files, R: Reader, O: Sink, E: Sink, G: Sink>
     requires out { IsIntact (O.state out.old) }
     requires err { IsIntact (E.state err.old) }
     ensures { ServesFirstLine (GivesNamed T.File.remaining) (R.state reader.old) (R.state reader.new) result
-        (record { out = O.state out.old; out_after = O.state out.new; err = E.state err.old; err_after = E.state err.new; progress = G.state progress.old; progress_after = G.state progress.new }) }
+        (record {
+          out = O.state out.old;
+          out_after = O.state out.new;
+          err = E.state err.old;
+          err_after = E.state
+              err.new;
+          progress = G.state progress.old;
+          progress_after = G.state progress.new;
+        }) }
 {
     match read_input(alloc, reader) {
         Ok(all) => {
@@ -60,7 +68,15 @@ pub(crate) fn serve_reader_line<F: Front, R: Reader, O: Sink, E: Sink, G: Sink>(
     requires out { IsIntact (O.state out.old) }
     requires err { IsIntact (E.state err.old) }
     ensures { ServesFirstLine GivesStandardAlone (R.state reader.old) (R.state reader.new) result
-        (record { out = O.state out.old; out_after = O.state out.new; err = E.state err.old; err_after = E.state err.new; progress = G.state progress.old; progress_after = G.state progress.new }) }
+        (record {
+          out = O.state out.old;
+          out_after = O.state out.new;
+          err = E.state err.old;
+          err_after = E.state
+              err.new;
+          progress = G.state progress.old;
+          progress_after = G.state progress.new;
+        }) }
 {
     match read_input(alloc, reader) {
         Ok(all) => {
@@ -84,7 +100,15 @@ fn serve_line<F: Front, I: Inputs, O: Sink, E: Sink, G: Sink>(
     requires out { IsIntact (O.state out.old) }
     requires err { IsIntact (E.state err.old) }
     ensures { ServesLine I.gives line.now (I.state inputs.old) (I.state inputs.new) result
-        (record { out = O.state out.old; out_after = O.state out.new; err = E.state err.old; err_after = E.state err.new; progress = G.state progress.old; progress_after = G.state progress.new }) }
+        (record {
+          out = O.state out.old;
+          out_after = O.state out.new;
+          err = E.state err.old;
+          err_after = E.state
+              err.new;
+          progress = G.state progress.old;
+          progress_after = G.state progress.new;
+        }) }
 {
     match read_words(alloc, line) {
         Ok(words) => tool_with::<F, _, _, _, _>(alloc, &words, inputs, out, err, progress),
@@ -106,7 +130,8 @@ fn read_words(alloc: Global, line: &[u8]) -> Result<Vec<&str>, Refused>
 
 /// The pieces of a text between its spaces.
 fn pieces_of(alloc: Global, text: &str) -> Result<Vec<&str>, AllocError>
-    ensures { IfOk result (λ pieces. map (λ piece. piece.now) pieces.items ≡ slice_split (λ byte. byte == 32) text.now) }
+    ensures { IfOk result (λ pieces. map (λ piece. piece.now) pieces.items ≡
+        slice_split (λ byte. byte == 32) text.now) }
 {
     text.split(' ').collect(alloc)
 }

@@ -5,9 +5,9 @@ ghost use Rattle.rtlsim.specs.Halves.{begins_mark, mark_of, halves_of};
 
 use crate::first_line::first_line;
 
-/// The source and the stimulus of one input: the first line that is `@` alone ends the source, and the
-/// rest is the stimulus, which is empty without such a line. A carriage return at its end counts for
-/// nothing.
+/// The source and the stimulus of one input: the first line that is `@` alone ends the source, and
+/// the rest is the stimulus, which is empty without such a line. A carriage return at its end
+/// counts for nothing.
 pub fn halves_at_line(all: &[u8]) -> (&[u8], &[u8])
     ensures source { result.0.now ≡ (halves_of all.now).0 }
     ensures stimulus { result.1.now ≡ (halves_of all.now).1 }

@@ -54,15 +54,17 @@ impl From<AllocError> for InputFault {
 pub trait Inputs {
     // The standard input.
     ghost state: { Self → ReaderState };
-    // What a read of the file of a name may give, between two states of the standard input: its bytes, or why it isn't read.
+    // What a read of the file of a name may give, between two states of the standard input: its
+    // bytes, or why it isn't read.
     ghost gives: { ReaderState → ReaderState → List ℕ → Answer → Type 0 };
 
-    /// The whole file of this name, at most `MAX_INPUT` bytes: `Failed` where it isn't there, can't be read
-    /// or is longer, and `NoMemory` where memory was refused.
+    /// The whole file of this name, at most `MAX_INPUT` bytes: `Failed` where it isn't there, can't
+    /// be read or is longer, and `NoMemory` where memory was refused.
     fn read(&mut self, alloc: Global, name: &str) -> Result<Vec<u8>, InputFault>
         ensures whole { IfOk result (λ all. gives (state self.old) (state self.new) name.now (Ok all.items)) }
         ensures short { IfOk result (λ all. length all.items ≤ greatest_input) }
-        ensures failed { IfErr result (λ fault. (problem : InputProblem) → fault ≡ Failed problem → gives (state self.old) (state self.new) name.now (Err problem)) };
+        ensures failed { IfErr result (λ fault. (problem : InputProblem) → fault ≡ Failed problem
+            → gives (state self.old) (state self.new) name.now (Err problem)) };
 }
 
 /// The standard input alone.
@@ -108,7 +110,8 @@ impl<F: Files, R: Reader> Inputs for Named<'_, F, R> {
 fn read_file<F: Files>(alloc: Global, files: &F, name: &str) -> Result<Vec<u8>, InputFault>
     ensures whole { IfOk result (λ all. GivesFile F.File.remaining (Ok all.items)) }
     ensures short { IfOk result (λ all. length all.items ≤ greatest_input) }
-    ensures failed { IfErr result (λ fault. (problem : InputProblem) → fault ≡ Failed problem → GivesFile F.File.remaining (Err problem)) }
+    ensures failed { IfErr result (λ fault. (problem : InputProblem) → fault ≡ Failed problem
+        → GivesFile F.File.remaining (Err problem)) }
 {
     match fs::open(files, name) {
         Ok(file) => read_opened(alloc, files, name, file),
@@ -117,7 +120,8 @@ fn read_file<F: Files>(alloc: Global, files: &F, name: &str) -> Result<Vec<u8>, 
     }
 }
 
-/// Reads an open file to its end. A folder is told as one: the system opens it, and refuses to read it.
+/// Reads an open file to its end. A folder is told as one: the system opens it, and refuses to read
+/// it.
 fn read_opened<F: Files>(
     alloc: Global,
     files: &F,
@@ -126,7 +130,8 @@ fn read_opened<F: Files>(
 ) -> Result<Vec<u8>, InputFault>
     ensures whole { IfOk result (λ all. GivesFile F.File.remaining (Ok all.items)) }
     ensures short { IfOk result (λ all. length all.items ≤ greatest_input) }
-    ensures failed { IfErr result (λ fault. (problem : InputProblem) → fault ≡ Failed problem → GivesFile F.File.remaining (Err problem)) }
+    ensures failed { IfErr result (λ fault. (problem : InputProblem) → fault ≡ Failed problem
+        → GivesFile F.File.remaining (Err problem)) }
 {
     match read_input(alloc, &mut In::new(file)) {
         Ok(all) => Ok(all),
@@ -142,12 +147,14 @@ fn is_folder<F: Files>(files: &F, name: &str) -> bool {
     }
 }
 
-/// Reads to the end, which has to come within `MAX_INPUT` bytes and within as many reads: `Failed` where
-/// the reader fails or the end doesn't come, with which of these it is, and `NoMemory` where memory was refused.
+/// Reads to the end, which has to come within `MAX_INPUT` bytes and within as many reads: `Failed`
+/// where the reader fails or the end doesn't come, with which of these it is, and `NoMemory` where
+/// memory was refused.
 pub fn read_input<R: Reader>(alloc: Global, reader: &mut R) -> Result<Vec<u8>, InputFault>
     ensures whole { IfOk result (λ all. GivesWhole (R.state reader.old) (R.state reader.new) (Ok all.items)) }
     ensures short { IfOk result (λ all. length all.items ≤ greatest_input) }
-    ensures failed { IfErr result (λ fault. (problem : InputProblem) → fault ≡ Failed problem → GivesWhole (R.state reader.old) (R.state reader.new) (Err problem)) }
+    ensures failed { IfErr result (λ fault. (problem : InputProblem) → fault ≡ Failed problem
+        → GivesWhole (R.state reader.old) (R.state reader.new) (Err problem)) }
 {
     let mut all = Vec::new(alloc);
     let mut part = [0u8; PART];

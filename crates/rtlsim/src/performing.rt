@@ -17,10 +17,10 @@ use crate::refusals::refuse_input;
 use crate::simulating::{serve_job, simulate, simulate_levels};
 use crate::texts::Texts;
 use crate::unread::ReadFault;
-use rtl_progress::{Progress, stop_of};
 use byte_streams::{Sink, Unwatched, Watch};
-use rtlsim_commands::{CheckNet, DrawNet, EvalNet, Front, ListNet, Status, Telling, describe};
+use rtl_progress::{Progress, stop_of};
 use rtlsim_command_line::{Call, Request};
+use rtlsim_commands::{CheckNet, DrawNet, EvalNet, Front, ListNet, Status, Telling, describe};
 use std::alloc::Global;
 
 /// Does what is asked for with what was read, or tells that memory was refused before.
@@ -130,7 +130,12 @@ fn perform_job<F: Front, V: Watch, O: Sink, E: Sink>(
     requires out { IsIntact (O.state out.old) }
     requires err { IsIntact (E.state err.old) }
     ensures { ServesBy job.now.telling.now job.now.source.now job.now.top.now result
-        (record { out = O.state out.old; out_after = O.state out.new; err = E.state err.old; err_after = E.state err.new })
+        (record {
+          out = O.state out.old;
+          out_after = O.state out.new;
+          err = E.state err.old;
+          err_after = E.state err.new;
+        })
         (λ stands. V.told watch.old stands watch.new) request
         (map (λ set. set.now) job.now.sets.now) job.now.stimulus.now (option_map (λ text. text.now) job.now.expected) }
 {

@@ -6,8 +6,8 @@ ghost use Rattle.vhdl_source_files.specs.Files as joining;
 ghost use Rattle.vhdl_source_files.specs.Files.{file_view};
 
 use crate::texts::Texts;
-use vhdl_source_files::{SourceFile, joined};
 use std::alloc::{AllocError, Global};
+use vhdl_source_files::{SourceFile, joined};
 
 /// The files of a source, and the words that set inputs as bytes.
 pub(crate) struct Prepared<'a> {
@@ -44,14 +44,16 @@ impl Prepared<'_> {
     }
 }
 
-/// What commands are given. It takes memory for the files' list and the words', and for the text where it is that of several files.
+/// What commands are given. It takes memory for the files' list and the words', and for the text
+/// where it is that of several files.
 pub(crate) fn prepare<'b>(
     alloc: Global,
     sets: &[&'b str],
     texts: &'b Texts<'_>,
 ) -> Result<Prepared<'b>, AllocError>
     ensures files { IfOk result (λ p. map file_view p.files.items ≡ (texts_view texts.now).files) }
-    ensures source { IfOk result (λ p. source_by p.joined.items (map file_view p.files.items) ≡ joining.joined (texts_view texts.now).files) }
+    ensures source { IfOk result (λ p. source_by p.joined.items (map file_view p.files.items) ≡
+        joining.joined (texts_view texts.now).files) }
     ensures sets { IfOk result (λ p. map (λ set. set.now) p.sets.items ≡ map (λ set. set.now) sets.now) }
 {
     let files = files_of(alloc, texts)?;
@@ -82,7 +84,8 @@ fn files_of<'b>(alloc: Global, texts: &'b Texts<'_>) -> Result<Vec<SourceFile<'b
 
 /// The text of several files; that of one is its own.
 fn joined_where_several(alloc: Global, files: &[SourceFile<'_>]) -> Result<Vec<u8>, AllocError>
-    ensures { IfOk result (λ text. source_by text.items (map file_view files.now) ≡ joining.joined (map file_view files.now)) }
+    ensures { IfOk result (λ text. source_by text.items (map file_view files.now) ≡
+        joining.joined (map file_view files.now)) }
 {
     match files {
         [_] => Ok(Vec::new(alloc)),

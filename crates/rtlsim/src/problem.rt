@@ -30,7 +30,8 @@ impl InputProblem {
         ensures missing { kind ≡ ErrorKind.NotFound → result ≡ InputProblem.Missing }
         ensures denied { kind ≡ ErrorKind.PermissionDenied → result ≡ InputProblem.Denied }
         ensures folder { kind ≡ ErrorKind.IsADirectory → result ≡ InputProblem.Folder }
-        ensures other { kind ≢ ErrorKind.NotFound → kind ≢ ErrorKind.PermissionDenied → kind ≢ ErrorKind.IsADirectory → result ≡ InputProblem.NotOpened }
+        ensures other { kind ≢ ErrorKind.NotFound → kind ≢ ErrorKind.PermissionDenied → kind ≢ ErrorKind.IsADirectory
+            → result ≡ InputProblem.NotOpened }
     {
         match kind {
             ErrorKind::NotFound => InputProblem::Missing,

@@ -10,14 +10,19 @@ ghost use Rattle.rtlsim.specs.Unread as unread;
 use crate::problem::InputProblem;
 use crate::unread::ReadFault;
 use byte_streams::{Sink, push_text};
-use rtlsim_commands::{Status, ended_by_writes, push_memory};
 use rtlsim_command_line::Refused;
+use rtlsim_commands::{Status, ended_by_writes, push_memory};
 use std::alloc::Global;
 
 /// Tells why the words are refused, and answers the status.
 pub(crate) fn refuse_words<O: Sink, E: Sink>(refused: &Refused, out: &O, err: &mut E) -> Status
     ensures { RefusesWords (IsOfWords refused.now) result
-        (record { out = O.state out.now; out_after = O.state out.now; err = E.state err.old; err_after = E.state err.new }) }
+        (record {
+          out = O.state out.now;
+          out_after = O.state out.now;
+          err = E.state err.old;
+          err_after = E.state err.new;
+        }) }
 {
     match refused {
         Refused::NoMemory => {
@@ -39,15 +44,18 @@ pub(crate) fn not_text(alloc: Global) -> Refused {
     }
 }
 
-/// Tells why an input isn't read, with an explanation where that is asked for, and answers the status.
+/// Tells why an input isn't read, with an explanation where that is asked for, and answers the
+/// status.
 pub(crate) fn refuse_input<O: Sink, E: Sink>(
     fault: ReadFault<'_>,
     explains: bool,
     out: &O,
     err: &mut E,
 ) -> Status
-    ensures told { Goes (E.state err.old) (E.state err.new) (unread.fault_text explains (unread.unread_of fault.entry)) }
-    ensures status { result ≡ ended (unread.fault_status (unread.unread_of fault.entry)) (O.state out.now) (E.state err.new) }
+    ensures told { Goes (E.state err.old) (E.state err.new)
+        (unread.fault_text explains (unread.unread_of fault.entry)) }
+    ensures status { result ≡ ended (unread.fault_status (unread.unread_of fault.entry)) (O.state out.now)
+        (E.state err.new) }
 {
     push_fault(fault, explains, err);
     ended_by_writes(fault.status(), out, err)
@@ -65,7 +73,8 @@ fn push_fault<S: Sink>(fault: ReadFault<'_>, explains: bool, sink: &mut S)
 
 /// Writes why an input isn't read.
 fn push_unread<S: Sink>(name: &str, problem: InputProblem, explains: bool, sink: &mut S)
-    ensures { Goes (S.state sink.old) (S.state sink.new) (unread.input_text explains (record { name = name.now; problem = problem })) }
+    ensures { Goes (S.state sink.old) (S.state sink.new)
+        (unread.input_text explains (record { name = name.now; problem = problem })) }
 {
     push_text(sink, b"rtlsim: input\n");
     if explains {
@@ -75,7 +84,8 @@ fn push_unread<S: Sink>(name: &str, problem: InputProblem, explains: bool, sink:
 
 /// Writes what is behind it.
 fn explain_input<S: Sink>(name: &str, problem: InputProblem, sink: &mut S)
-    ensures { Goes (S.state sink.old) (S.state sink.new) (unread.input_explained (record { name = name.now; problem = problem })) }
+    ensures { Goes (S.state sink.old) (S.state sink.new)
+        (unread.input_explained (record { name = name.now; problem = problem })) }
 {
     push_text(sink, name.as_bytes());
     push_text(sink, b": input: ");

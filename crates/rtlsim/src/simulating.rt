@@ -8,14 +8,15 @@ ghost use Rattle.rtlsim.specs.Served.{ServesLevels, ServesRun};
 
 use crate::job::Job;
 use byte_streams::{Sink, Watch};
+use rtlsim_command_line::Order;
 use rtlsim_commands::{
     Command, Compared, Forward, Front, Pick, Reverse, RunEvents, RunLevels, RunMachine, Status,
     serve,
 };
-use rtlsim_command_line::Order;
 use std::alloc::Global;
 
-/// Runs a source while this watch looks on, by events alone where `is_event` says so, with its processes in this order.
+/// Runs a source while this watch looks on, by events alone where `is_event` says so, with its
+/// processes in this order.
 pub(crate) fn simulate<F: Front, V: Watch, O: Sink, E: Sink>(
     alloc: Global,
     is_event: bool,
@@ -28,8 +29,14 @@ pub(crate) fn simulate<F: Front, V: Watch, O: Sink, E: Sink>(
     requires out { IsIntact (O.state out.old) }
     requires err { IsIntact (E.state err.old) }
     ensures { ServesRun job.now.telling.now job.now.source.now job.now.top.now result
-        (record { out = O.state out.old; out_after = O.state out.new; err = E.state err.old; err_after = E.state err.new })
-        (λ stands. V.told watch.old stands watch.new) is_event job.now.stimulus.now (option_map (λ text. text.now) job.now.expected) }
+        (record {
+          out = O.state out.old;
+          out_after = O.state out.new;
+          err = E.state err.old;
+          err_after = E.state err.new;
+        })
+        (λ stands. V.told watch.old stands watch.new) is_event job.now.stimulus.now
+        (option_map (λ text. text.now) job.now.expected) }
 {
     match order {
         Order::Forward => {
@@ -54,8 +61,14 @@ fn simulate_by<F: Front, P: Pick, V: Watch, O: Sink, E: Sink>(
     requires out { IsIntact (O.state out.old) }
     requires err { IsIntact (E.state err.old) }
     ensures { ServesRun job.now.telling.now job.now.source.now job.now.top.now result
-        (record { out = O.state out.old; out_after = O.state out.new; err = E.state err.old; err_after = E.state err.new })
-        (λ stands. V.told watch.old stands watch.new) is_event job.now.stimulus.now (option_map (λ text. text.now) job.now.expected) }
+        (record {
+          out = O.state out.old;
+          out_after = O.state out.new;
+          err = E.state err.old;
+          err_after = E.state err.new;
+        })
+        (λ stands. V.told watch.old stands watch.new) is_event job.now.stimulus.now
+        (option_map (λ text. text.now) job.now.expected) }
 {
     let (stimulus, expected) = (job.stimulus, job.expected);
     if is_event {
@@ -78,8 +91,14 @@ pub(crate) fn simulate_levels<F: Front, V: Watch, O: Sink, E: Sink>(
     requires out { IsIntact (O.state out.old) }
     requires err { IsIntact (E.state err.old) }
     ensures { ServesLevels job.now.telling.now job.now.source.now job.now.top.now result
-        (record { out = O.state out.old; out_after = O.state out.new; err = E.state err.old; err_after = E.state err.new })
-        (λ stands. V.told watch.old stands watch.new) job.now.stimulus.now (option_map (λ text. text.now) job.now.expected) }
+        (record {
+          out = O.state out.old;
+          out_after = O.state out.new;
+          err = E.state err.old;
+          err_after = E.state err.new;
+        })
+        (λ stands. V.told watch.old stands watch.new) job.now.stimulus.now
+        (option_map (λ text. text.now) job.now.expected) }
 {
     let (stimulus, expected) = (job.stimulus, job.expected);
     let run = RunLevels { stimulus };
@@ -98,8 +117,14 @@ pub(crate) fn serve_job<F: Front, C: Command, V: Watch, O: Sink, E: Sink>(
     requires out { IsIntact (O.state out.old) }
     requires err { IsIntact (E.state err.old) }
     ensures { Serves (Seeing (C.sight command.old) (C.does command.old) (λ stands. V.told watch.old stands watch.new))
-        (record { text = C.Answer.text; status = C.Answer.said; events = events_of (C.sight command.old) }) job.now.telling.now job.now.source.now job.now.top.now result
-        (record { out = O.state out.old; out_after = O.state out.new; err = E.state err.old; err_after = E.state err.new }) }
+        (record { text = C.Answer.text; status = C.Answer.said; events = events_of (C.sight command.old) })
+        job.now.telling.now job.now.source.now job.now.top.now result
+        (record {
+          out = O.state out.old;
+          out_after = O.state out.new;
+          err = E.state err.old;
+          err_after = E.state err.new;
+        }) }
 {
     let (source, top, telling) = (job.source, job.top, job.telling);
     serve::<F, _, _, _, _>(alloc, source, top, telling, command, watch, out, err)

@@ -16,7 +16,8 @@ use std::io::{BufWriter, Read, Write};
 use std::process::ExitCode;
 use std::rt::{Env, Files};
 
-/// What the program ends with: its status, the writers of its two streams, and that to which how far a run is went.
+/// What the program ends with: its status, the writers of its two streams, and that to which how
+/// far a run is went.
 #[derive(Drop)]
 pub struct Ended<O, E, P> {
     pub status: Status,
@@ -28,9 +29,11 @@ pub struct Ended<O, E, P> {
 /// How many bytes of output wait for one write: of a trace of many megabytes each write costs.
 const OUTPUT: usize = 65536;
 
-/// The program over the system's arguments and files, a reader and three writers: does what the arguments ask for, as `tool_with`
-/// does, or `tool_first_line` where there are none, and sees that all that it prints and tells goes out, in as few writes as it
-/// can. The status is that of what was done, or `Failed` where something didn't go out. How far a run is goes to `progress` at once.
+/// The program over the system's arguments and files, a reader and three writers: does what the
+/// arguments ask for, as `tool_with` does, or `tool_first_line` where there are none, and sees that
+/// all that it prints and tells goes out, in as few writes as it can. The status is that of what
+/// was done, or `Failed` where something didn't go out. How far a run is goes to `progress` at
+/// once.
 pub fn program<
     F: Front,
     T: Files + Env + AllocGlobal,
@@ -40,7 +43,15 @@ pub fn program<
     P: Write + Drop,
 >(rt: &T, reader: R, stdout: O, stderr: E, progress: P) -> Ended<O, E, P>
     ensures { RunsArguments (GivesNamed T.File.remaining) (R.remaining reader) result.status
-        (record { out = O.contents stdout; out_after = O.contents result.stdout; err = E.contents stderr; err_after = E.contents result.stderr; progress = P.contents progress; progress_after = P.contents result.progress }) }
+        (record {
+          out = O.contents stdout;
+          out_after = O.contents result.stdout;
+          err = E.contents stderr;
+          err_after =
+              E.contents result.stderr;
+          progress = P.contents progress;
+          progress_after = P.contents result.progress;
+        }) }
 {
     let Ok(output) = BufWriter::with_capacity(rt.alloc(), OUTPUT, stdout) else {
         return refuse_memory(stdout, stderr, progress);
@@ -57,7 +68,8 @@ pub fn program<
     )
 }
 
-/// The program, as `program` runs it, with what the process ends with: the number of the program's status.
+/// The program, as `program` runs it, with what the process ends with: the number of the program's
+/// status.
 pub fn exit_code<
     F: Front,
     T: Files + Env + AllocGlobal,
@@ -67,8 +79,17 @@ pub fn exit_code<
     P: Write + Drop,
 >(rt: &T, reader: R, stdout: O, stderr: E, progress: P) -> ExitCode
     ensures { (status : Status) × (out : Option (List ℕ)) × (err : Option (List ℕ)) × (shown : Option (List ℕ))
-        × (exit_status result ≡ code_of status) × RunsArguments (GivesNamed T.File.remaining) (R.remaining reader) status
-        (record { out = O.contents stdout; out_after = out; err = E.contents stderr; err_after = err; progress = P.contents progress; progress_after = shown }) }
+        × (exit_status result ≡ code_of status)
+        × RunsArguments (GivesNamed T.File.remaining) (R.remaining reader) status
+        (record {
+          out = O.contents stdout;
+          out_after = out;
+          err = E.contents stderr;
+          err_after = err;
+          progress =
+              P.contents progress;
+          progress_after = shown;
+        }) }
 {
     let ended = program::<F, _, _, _, _, _>(rt, reader, stdout, stderr, progress);
     ExitCode::from(ended.status.code())
@@ -109,7 +130,8 @@ fn run_arguments<
     requires err { IsIntact (⟦<Out<BufWriter<E>> as Sink>⟧.state err) }
     ensures { (words : Option (List (List ℕ)))
         × GoesToWriters (ServesArguments (GivesNamed T.File.remaining) words (R.remaining reader)) result.status
-        (⟦<Out<BufWriter<O>> as Sink>⟧.state out) (⟦<Out<BufWriter<E>> as Sink>⟧.state err) (⟦<Out<P> as Sink>⟧.state shown)
+        (⟦<Out<BufWriter<O>> as Sink>⟧.state out) (⟦<Out<BufWriter<E>> as Sink>⟧.state err)
+        (⟦<Out<P> as Sink>⟧.state shown)
         (O.contents result.stdout) (E.contents result.stderr) (P.contents result.progress) }
 {
     let outcome = serve_arguments::<F, _, _, _, _, _>(rt, reader, &mut out, &mut err, &mut shown);
@@ -124,7 +146,8 @@ fn end<O: Write + Drop, E: Write + Drop, P>(
     progress: P,
 ) -> Ended<O, E, P>
     ensures kept { result.progress ≡ progress }
-    ensures ends { Ends outcome (⟦<Out<BufWriter<O>> as Sink>⟧.state out) (⟦<Out<BufWriter<E>> as Sink>⟧.state err) result.status
+    ensures ends { Ends outcome (⟦<Out<BufWriter<O>> as Sink>⟧.state out) (⟦<Out<BufWriter<E>> as Sink>⟧.state err)
+        result.status
         (O.contents result.stdout) (E.contents result.stderr) }
 {
     let had_failed = out.failed();

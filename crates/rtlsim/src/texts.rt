@@ -10,9 +10,9 @@ ghost use Rattle.rtlsim_command_line.specs.Words.{call_view};
 use crate::halves::halves_at_line;
 use crate::inputs::Inputs;
 use crate::unread::ReadFault;
-use vhdl_source_files::SourceFile;
 use rtlsim_command_line::Call;
 use std::alloc::Global;
+use vhdl_source_files::SourceFile;
 
 /// What was read for a call.
 pub(crate) struct Texts<'a> {
@@ -120,8 +120,8 @@ impl ReadFile<'_> {
     }
 }
 
-/// Reads the files that a call names: those before the source, the source, the stimulus, and that of what is expected. The first that
-/// isn't read is told.
+/// Reads the files that a call names: those before the source, the source, the stimulus, and that
+/// of what is expected. The first that isn't read is told.
 pub(crate) fn read_texts<'a, I: Inputs>(
     alloc: Global,
     call: &Call<'a>,
@@ -149,8 +149,10 @@ fn read_one<'a, I: Inputs>(
     name: &'a str,
     inputs: &mut I,
 ) -> Result<Vec<u8>, ReadFault<'a>>
-    ensures given { IfOk result (λ text. GivesOne I.gives name.now (I.state inputs.old) (I.state inputs.new) (Ok text.items)) }
-    ensures failed { IfErr result (λ fault. (unread : Unread) → unread_of fault ≡ Some unread → GivesOne I.gives name.now (I.state inputs.old) (I.state inputs.new) (Err unread)) }
+    ensures given { IfOk result (λ text.
+        GivesOne I.gives name.now (I.state inputs.old) (I.state inputs.new) (Ok text.items)) }
+    ensures failed { IfErr result (λ fault. (unread : Unread) → unread_of fault ≡ Some unread
+        → GivesOne I.gives name.now (I.state inputs.old) (I.state inputs.new) (Err unread)) }
 {
     match inputs.read(alloc, name) {
         Ok(text) => Ok(text),
@@ -164,8 +166,11 @@ fn read_files<'a, I: Inputs>(
     names: &[&'a str],
     inputs: &mut I,
 ) -> Result<Vec<ReadFile<'a>>, ReadFault<'a>>
-    ensures given { IfOk result (λ files. GivesAll I.gives (map (λ name. name.now) names.now) (I.state inputs.old) (I.state inputs.new) (Ok (map read_view files.items))) }
-    ensures failed { IfErr result (λ fault. (unread : Unread) → unread_of fault ≡ Some unread → GivesAll I.gives (map (λ name. name.now) names.now) (I.state inputs.old) (I.state inputs.new) (Err unread)) }
+    ensures given { IfOk result (λ files.
+        GivesAll I.gives (map (λ name. name.now) names.now) (I.state inputs.old) (I.state inputs.new)
+        (Ok (map read_view files.items))) }
+    ensures failed { IfErr result (λ fault. (unread : Unread) → unread_of fault ≡ Some unread
+        → GivesAll I.gives (map (λ name. name.now) names.now) (I.state inputs.old) (I.state inputs.new) (Err unread)) }
 {
     let mut files = Vec::new(alloc);
     let mut left = names;
@@ -177,15 +182,20 @@ fn read_files<'a, I: Inputs>(
     Ok(files)
 }
 
-/// Reads a source, and then a stimulus if one is named; where both are the standard input, one input has both.
+/// Reads a source, and then a stimulus if one is named; where both are the standard input, one
+/// input has both.
 fn read_main<'a, I: Inputs>(
     alloc: Global,
     file: &'a str,
     stimulus: Option<&'a str>,
     inputs: &mut I,
 ) -> Result<Main, ReadFault<'a>>
-    ensures given { IfOk result (λ main. GivesMain I.gives file.now (option_map (λ name. name.now) stimulus.entry) (I.state inputs.old) (I.state inputs.new) (Ok (texts_of main))) }
-    ensures failed { IfErr result (λ fault. (unread : Unread) → unread_of fault ≡ Some unread → GivesMain I.gives file.now (option_map (λ name. name.now) stimulus.entry) (I.state inputs.old) (I.state inputs.new) (Err unread)) }
+    ensures given { IfOk result (λ main.
+        GivesMain I.gives file.now (option_map (λ name. name.now) stimulus.entry) (I.state inputs.old)
+        (I.state inputs.new) (Ok (texts_of main))) }
+    ensures failed { IfErr result (λ fault. (unread : Unread) → unread_of fault ≡ Some unread
+        → GivesMain I.gives file.now (option_map (λ name. name.now) stimulus.entry) (I.state inputs.old)
+        (I.state inputs.new) (Err unread)) }
 {
     match stimulus {
         None => Ok(Main::Alone(read_one(alloc, file, inputs)?)),
@@ -200,8 +210,10 @@ fn read_both<'a, I: Inputs>(
     stimulus: &'a str,
     inputs: &mut I,
 ) -> Result<Main, ReadFault<'a>>
-    ensures given { IfOk result (λ main. GivesBoth I.gives file.now stimulus.now (I.state inputs.old) (I.state inputs.new) (Ok (texts_of main))) }
-    ensures failed { IfErr result (λ fault. (unread : Unread) → unread_of fault ≡ Some unread → GivesBoth I.gives file.now stimulus.now (I.state inputs.old) (I.state inputs.new) (Err unread)) }
+    ensures given { IfOk result (λ main.
+        GivesBoth I.gives file.now stimulus.now (I.state inputs.old) (I.state inputs.new) (Ok (texts_of main))) }
+    ensures failed { IfErr result (λ fault. (unread : Unread) → unread_of fault ≡ Some unread
+        → GivesBoth I.gives file.now stimulus.now (I.state inputs.old) (I.state inputs.new) (Err unread)) }
 {
     if file == "@" && stimulus == "@" {
         return Ok(Main::Together(read_one(alloc, file, inputs)?));
@@ -217,8 +229,12 @@ fn read_maybe<'a, I: Inputs>(
     name: Option<&'a str>,
     inputs: &mut I,
 ) -> Result<Option<Vec<u8>>, ReadFault<'a>>
-    ensures given { IfOk result (λ text. GivesMaybe I.gives (option_map (λ name. name.now) name.entry) (I.state inputs.old) (I.state inputs.new) (Ok (option_map (λ text. text.items) text))) }
-    ensures failed { IfErr result (λ fault. (unread : Unread) → unread_of fault ≡ Some unread → GivesMaybe I.gives (option_map (λ name. name.now) name.entry) (I.state inputs.old) (I.state inputs.new) (Err unread)) }
+    ensures given { IfOk result (λ text.
+        GivesMaybe I.gives (option_map (λ name. name.now) name.entry) (I.state inputs.old) (I.state inputs.new)
+        (Ok (option_map (λ text. text.items) text))) }
+    ensures failed { IfErr result (λ fault. (unread : Unread) → unread_of fault ≡ Some unread
+        → GivesMaybe I.gives (option_map (λ name. name.now) name.entry) (I.state inputs.old) (I.state inputs.new)
+        (Err unread)) }
 {
     match name {
         None => Ok(None),

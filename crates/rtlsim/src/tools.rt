@@ -14,13 +14,13 @@ use crate::performing::perform_texts;
 use crate::refusals::{refuse_input, refuse_words};
 use crate::texts::read_texts;
 use byte_streams::{Reader, Sink};
-use rtlsim_commands::{Front, Status};
 use rtlsim_command_line::{Call, parse_words};
+use rtlsim_commands::{Front, Status};
 use std::alloc::Global;
 
-/// The program where each file is `@`: does what the words ask for, or without words what those of the
-/// input's first line ask for, with the standard input alone, and answers the exit status. How far a run is goes to `progress`, where that
-/// is asked for.
+/// The program where each file is `@`: does what the words ask for, or without words what those of
+/// the input's first line ask for, with the standard input alone, and answers the exit status. How
+/// far a run is goes to `progress`, where that is asked for.
 pub fn tool<F: Front, R: Reader, O: Sink, E: Sink, G: Sink>(
     alloc: Global,
     words: &[&str],
@@ -32,8 +32,17 @@ pub fn tool<F: Front, R: Reader, O: Sink, E: Sink, G: Sink>(
     requires out { IsIntact (O.state out.old) }
     requires err { IsIntact (E.state err.old) }
     ensures { (outcome : Status) × (result ≡ code_of outcome)
-        × ServesWords GivesStandardAlone (map (λ word. word.now) words.now) (R.state input.old.reader) (R.state input.new.reader) outcome
-        (record { out = O.state out.old; out_after = O.state out.new; err = E.state err.old; err_after = E.state err.new; progress = G.state progress.old; progress_after = G.state progress.new }) }
+        × ServesWords GivesStandardAlone (map (λ word. word.now) words.now) (R.state input.old.reader)
+        (R.state input.new.reader) outcome
+        (record {
+          out = O.state out.old;
+          out_after = O.state out.new;
+          err = E.state err.old;
+          err_after = E.state
+              err.new;
+          progress = G.state progress.old;
+          progress_after = G.state progress.new;
+        }) }
 {
     if words.is_empty() {
         return serve_reader_line::<F, _, _, _, _>(
@@ -47,10 +56,11 @@ pub fn tool<F: Front, R: Reader, O: Sink, E: Sink, G: Sink>(
     tool_with::<F, _, _, _, _>(alloc, words, input, out, err, progress).code()
 }
 
-/// Does what the words ask for: reads the files that they name by `inputs`, writes the result to `out` and
-/// what is told of it to `err`, and answers the status. Words that are no command are refused with a text
-/// on `err`. How far a run is goes to `progress` while it runs, where that is asked for; what can't be written
-/// there is left out. It takes memory for the words and the files, and as the command does.
+/// Does what the words ask for: reads the files that they name by `inputs`, writes the result to
+/// `out` and what is told of it to `err`, and answers the status. Words that are no command are
+/// refused with a text on `err`. How far a run is goes to `progress` while it runs, where that is
+/// asked for; what can't be written there is left out. It takes memory for the words and the files,
+/// and as the command does.
 pub fn tool_with<F: Front, I: Inputs, O: Sink, E: Sink, G: Sink>(
     alloc: Global,
     words: &[&str],
@@ -62,7 +72,15 @@ pub fn tool_with<F: Front, I: Inputs, O: Sink, E: Sink, G: Sink>(
     requires out { IsIntact (O.state out.old) }
     requires err { IsIntact (E.state err.old) }
     ensures { ServesCall I.gives (map (λ word. word.now) words.now) (I.state inputs.old) (I.state inputs.new) result
-        (record { out = O.state out.old; out_after = O.state out.new; err = E.state err.old; err_after = E.state err.new; progress = G.state progress.old; progress_after = G.state progress.new }) }
+        (record {
+          out = O.state out.old;
+          out_after = O.state out.new;
+          err = E.state err.old;
+          err_after = E.state
+              err.new;
+          progress = G.state progress.old;
+          progress_after = G.state progress.new;
+        }) }
 {
     match parse_words(alloc, words) {
         Ok(call) => perform::<F, _, _, _, _>(alloc, &call, inputs, out, err, progress),
@@ -70,9 +88,11 @@ pub fn tool_with<F: Front, I: Inputs, O: Sink, E: Sink, G: Sink>(
     }
 }
 
-/// Does what is asked for: reads the files before the source, the source, the stimulus and what is expected by `inputs`, and then does what
-/// the command does with the joined source: writes the result to `out`, what is told of it to `err`, and how far a run is to `progress`,
-/// and answers the status. The first input that isn't read is told. It takes memory for the files, once more for the source where it is that of several, and as the command does.
+/// Does what is asked for: reads the files before the source, the source, the stimulus and what is
+/// expected by `inputs`, and then does what the command does with the joined source: writes the
+/// result to `out`, what is told of it to `err`, and how far a run is to `progress`, and answers
+/// the status. The first input that isn't read is told. It takes memory for the files, once more
+/// for the source where it is that of several, and as the command does.
 pub fn perform<F: Front, I: Inputs, O: Sink, E: Sink, G: Sink>(
     alloc: Global,
     call: &Call<'_>,

@@ -7,8 +7,8 @@ ghost use Rattle.rtlsim_command_faults.specs.Changing as spec;
 ghost use Rattle.rtlsim_command_faults.specs.Lines.{memory_line};
 
 use crate::lines::push_memory;
-use rtl_net::{Net, NoMemory};
 use byte_streams::{Sink, push_text};
+use rtl_net::{Net, NoMemory};
 use rtlsim_findings::{follows, push_range};
 use rtlsim_listing::net_name;
 use std::alloc::Global;
@@ -16,10 +16,11 @@ use std::alloc::Global;
 /// How many nets are named behind the first.
 const MOST_OTHERS: u32 = 15;
 
-/// Writes the line of the nets of these numbers, 16 of them at most, and answers whether memory for their names sufficed; where it is
-/// refused it tells so in its place.
+/// Writes the line of the nets of these numbers, 16 of them at most, and answers whether memory for
+/// their names sufficed; where it is refused it tells so in its place.
 pub fn tell_changing<E: Sink>(alloc: Global, net: &Net, numbers: &[usize], err: &mut E) -> bool
-    ensures { Goes (E.state err.old) (E.state err.new) (if result then spec.changing_line net.now numbers.now else memory_line) }
+    ensures { Goes (E.state err.old) (E.state err.new)
+        (if result then spec.changing_line net.now numbers.now else memory_line) }
 {
     match changing_line(alloc, net, numbers) {
         Ok(line) => {
@@ -47,7 +48,8 @@ fn changing_line(alloc: Global, net: &Net, numbers: &[usize]) -> Result<Vec<u8>,
     Ok(line)
 }
 
-/// Appends the elements from the one of this name to the net `last`, and the nets behind them, so many of them at most.
+/// Appends the elements from the one of this name to the net `last`, and the nets behind them, so
+/// many of them at most.
 fn push_names(
     alloc: Global,
     net: &Net,

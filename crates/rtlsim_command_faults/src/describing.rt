@@ -12,17 +12,18 @@ use crate::expecting::expected_by;
 use crate::faults::Fault;
 use crate::reports::{elab_report, lex_report, name_report, syntax_report};
 use crate::search::{End, find_further, told_of};
-use fault_rules::Report;
 use byte_streams::{Sink, push_text};
-use rtlsim_refusals::{Lexed, Told, told_refusal};
-use vhdl_source_files::SourceFile;
+use fault_rules::Report;
 use rtlsim_findings_text::refused_text;
+use rtlsim_refusals::{Lexed, Told, told_refusal};
 use std::alloc::{AllocError, Global};
-use vhdl_lexer::lex;
 use vhdl_front_rules::{Front, SourceFault};
+use vhdl_lexer::lex;
+use vhdl_source_files::SourceFile;
 
-/// Writes the object of a source that is refused: what is told of its first fault, and of those behind it that `push_further_faults` tells.
-/// Answers that fault; or the want of memory, where nothing was written. It takes memory as `push_further_faults` does, and for the text.
+/// Writes the object of a source that is refused: what is told of its first fault, and of those
+/// behind it that `push_further_faults` tells. Answers that fault; or the want of memory, where
+/// nothing was written. It takes memory as `push_further_faults` does, and for the text.
 pub fn describe_refusal<F: Front, S: Sink>(
     alloc: Global,
     files: &[SourceFile<'_>],
@@ -32,7 +33,8 @@ pub fn describe_refusal<F: Front, S: Sink>(
     out: &mut S,
 ) -> SourceFault
     ensures fault { (result ≡ fault) ⊎ (result ≡ SourceFault.NoMemory) }
-    ensures described { spec.Describes (map file_view files.now) source.now top.now result (S.state out.old) (S.state out.new) }
+    ensures described { spec.Describes (map file_view files.now) source.now top.now result (S.state out.old)
+        (S.state out.new) }
 {
     match object_of::<F>(alloc, files, source, top, &Fault::from(fault)) {
         Ok(object) => {
@@ -51,7 +53,8 @@ fn object_of<F: Front>(
     top: &[u8],
     first: &Fault,
 ) -> Result<Vec<u8>, AllocError>
-    ensures { IfOk result (λ object. spec.IsObject (map file_view files.now) source.now top.now first.now object.items) }
+    ensures { IfOk result (λ object.
+        spec.IsObject (map file_view files.now) source.now top.now first.now object.items) }
 {
     let told = told_of_all::<F>(alloc, files, source, top, first)?;
     refused_text(alloc, &told)
@@ -65,7 +68,8 @@ fn told_of_all<'f, F: Front>(
     top: &[u8],
     first: &Fault,
 ) -> Result<Vec<Told<'f>>, AllocError>
-    ensures { IfOk result (λ told. spec.AreTold (map file_view files.now) source.now top.now first.now (map told_view told.items)) }
+    ensures { IfOk result (λ told. spec.AreTold (map file_view files.now) source.now top.now first.now
+        (map told_view told.items)) }
 {
     let Some(one) = told_of_first(alloc, files, source, first)? else {
         return Err(AllocError);
@@ -85,7 +89,8 @@ fn told_of_first<'f>(
     source: &[u8],
     fault: &Fault,
 ) -> Result<Option<Told<'f>>, AllocError>
-    ensures { IfOk result (λ told. spec.TellsFirst (map file_view files.now) source.now fault.now (option_map told_view told)) }
+    ensures { IfOk result (λ told. spec.TellsFirst (map file_view files.now) source.now fault.now
+        (option_map told_view told)) }
 {
     match fault {
         Fault::Lex(fault) => told_of_lexer(alloc, files, lex_report(*fault)),
@@ -102,7 +107,8 @@ fn told_of_lexer<'f>(
     files: &[SourceFile<'f>],
     report: Option<Report>,
 ) -> Result<Option<Told<'f>>, AllocError>
-    ensures { IfOk result (λ told. option_map told_view told ≡ told_by (told_of_refusal (map file_view files.now)) report) }
+    ensures { IfOk result (λ told. option_map told_view told ≡
+        told_by (told_of_refusal (map file_view files.now)) report) }
 {
     match report {
         Some(report) => told_refusal(alloc, files, report),
@@ -117,7 +123,8 @@ fn told_read<'f>(
     source: &[u8],
     report: Option<Report>,
 ) -> Result<Option<Told<'f>>, AllocError>
-    ensures { IfOk result (λ told. spec.TellsRead (map file_view files.now) source.now report (option_map told_view told)) }
+    ensures { IfOk result (λ told. spec.TellsRead (map file_view files.now) source.now report
+        (option_map told_view told)) }
 {
     let Ok(tokens) = lex(alloc, source) else {
         return Err(AllocError);

@@ -15,17 +15,17 @@ use crate::expecting::expected_by;
 use crate::faults::Fault;
 use crate::reports::{elab_report, lex_report, name_report, stim_report, syntax_report};
 use crate::telling::Telling;
-use rtl_net::Net;
-use fault_rules::Report;
 use byte_streams::{Sink, finish, push_text};
+use fault_rules::Report;
+use rtl_net::Net;
 use rtl_stim::StimFault;
-use rtlsim_refusals::{Lexed, explain_refusal, explain_source, explain_stim, explain_unsettled};
-use vhdl_source_files::{SourceFile, joined, source_name};
-use rtlsim_listing::ListingFault;
 use rtlsim_findings_text::explain_rejection;
+use rtlsim_listing::ListingFault;
+use rtlsim_refusals::{Lexed, explain_refusal, explain_source, explain_stim, explain_unsettled};
 use std::alloc::Global;
 use vhdl_expected::Expected;
 use vhdl_lexer::lex;
+use vhdl_source_files::{SourceFile, joined, source_name};
 
 /// Explains a fault of the checker or of a stimulus, where that is asked for.
 pub(crate) fn explain_fault<S: Sink>(
@@ -89,8 +89,9 @@ fn explain_stimulus<S: Sink>(
     explain_stim(alloc, telling.stimulus, text, net, report, sink)
 }
 
-/// Explains any other fault. One of grammar, of names or of elaboration takes the memory of the source and of its tokens. Answers whether
-/// memory sufficed; where it is refused, nothing is written.
+/// Explains any other fault. One of grammar, of names or of elaboration takes the memory of the
+/// source and of its tokens. Answers whether memory sufficed; where it is refused, nothing is
+/// written.
 pub(crate) fn explain_nameless<S: Sink>(
     alloc: Global,
     telling: &Telling<'_>,
@@ -155,7 +156,8 @@ fn explain_read<S: Sink>(
     true
 }
 
-/// Explains which rule of a source is broken, by its text and tokens. Of want of memory nothing is said.
+/// Explains which rule of a source is broken, by its text and tokens. Of want of memory nothing is
+/// said.
 fn explain_report<S: Sink>(
     files: &[SourceFile<'_>],
     source: Lexed<'_>,

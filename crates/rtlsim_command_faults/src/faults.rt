@@ -5,9 +5,9 @@ ghost use Rattle.rtlsim_command_faults.specs.Faults.{of_source, of_stim, of_expe
 ghost use Rattle.rtlsim_command_faults.specs.declared.faults.Fault.TheVariants.{Memory};
 
 use crate::status::Status;
+use fault_rules::{ExpectRule, RunRule};
 use rtl_check::CheckFault;
 use rtl_expect::{Difference, ExpectFault};
-use fault_rules::{ExpectRule, RunRule};
 use rtl_run::{MachineFault, RunFault};
 use rtl_stim::StimFault;
 use rtlsim_listing::ListingFault;
@@ -15,12 +15,13 @@ use std::alloc::AllocError;
 use std::fmt;
 use thiserror::Error;
 use vhdl_expand_rules::ElabFault;
+use vhdl_front_rules::SourceFault;
 use vhdl_lexer::LexFault;
 use vhdl_names_rules::NameFault;
 use vhdl_parser::SyntaxFault;
-use vhdl_front_rules::SourceFault;
 
-/// Why a call of this library is refused, by the first layer that refuses. Each layer's want of memory is `Memory`.
+/// Why a call of this library is refused, by the first layer that refuses. Each layer's want of
+/// memory is `Memory`.
 #[derive(Drop, Error)]
 pub enum Fault {
     /// The source has no tokens.

@@ -13,11 +13,13 @@ use rtlsim_refusals::{Told, push_paragraph};
 use std::alloc::Global;
 use vhdl_front_rules::Front;
 
-/// Tells the faults of a source behind its first, each by its explanation: 20 at most with the first, and then a line `and more`. Behind one
-/// of grammar each is the parser's refusal of the tokens without the statements of those before it. Behind one
-/// of names and types each is one of the source with blanks in place of the statements of those before it, for which the source is read once
-/// more, 100 times at most. A fault of a word that stands in such a statement isn't told once more. It takes the memory of the tokens and of
-/// two copies of the source beside that of the readings, and of what is told; where it is refused, those are told that were found.
+/// Tells the faults of a source behind its first, each by its explanation: 20 at most with the
+/// first, and then a line `and more`. Behind one of grammar each is the parser's refusal of the
+/// tokens without the statements of those before it. Behind one of names and types each is one of
+/// the source with blanks in place of the statements of those before it, for which the source is
+/// read once more, 100 times at most. A fault of a word that stands in such a statement isn't told
+/// once more. It takes the memory of the tokens and of two copies of the source beside that of the
+/// readings, and of what is told; where it is refused, those are told that were found.
 pub fn push_further_faults<F: Front, S: Sink>(
     alloc: Global,
     telling: &Telling<'_>,

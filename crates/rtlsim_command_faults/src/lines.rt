@@ -19,20 +19,21 @@ use crate::reports::{
 };
 use crate::status::Status;
 use crate::telling::Telling;
+use byte_streams::{Sink, finish, push_number, push_text};
+use fault_rules::{Place, Report, Rule, StimRule};
 use rtl_expect::push_difference;
 use rtl_net::Net;
-use fault_rules::{Place, Report, Rule, StimRule};
 use rtl_run::{LevelSummary, Summary};
-use byte_streams::{Sink, finish, push_number, push_text};
 use rtl_stim::StimFault;
-use vhdl_source_files::{FilePlace, SourceFile, place_in};
 use rtlsim_listing::{ListingFault, net_name, show_faults};
 use std::alloc::Global;
 use vhdl_front_rules::SourceFault;
+use vhdl_source_files::{FilePlace, SourceFile, place_in};
 
-/// Writes the lines that tell a fault, with the names of the netlist that has it, and its explanation where that is asked for, and answers
-/// the status. It takes the memory of a few names at a time, or of the source and its tokens for the explanation of its own fault; where
-/// that is refused it tells so in their place.
+/// Writes the lines that tell a fault, with the names of the netlist that has it, and its
+/// explanation where that is asked for, and answers the status. It takes the memory of a few names
+/// at a time, or of the source and its tokens for the explanation of its own fault; where that is
+/// refused it tells so in their place.
 pub fn tell_fault<E: Sink>(
     alloc: Global,
     telling: &Telling<'_>,
@@ -50,8 +51,9 @@ pub fn tell_fault<E: Sink>(
     }
 }
 
-/// Writes the line that tells why a source is refused, and its explanation where that is asked for, and answers the status. The explanation
-/// takes the memory of the source and of its tokens; where that is refused it tells so in its place.
+/// Writes the line that tells why a source is refused, and its explanation where that is asked for,
+/// and answers the status. The explanation takes the memory of the source and of its tokens; where
+/// that is refused it tells so in its place.
 pub fn tell_source_fault<E: Sink>(
     alloc: Global,
     telling: &Telling<'_>,
@@ -74,7 +76,8 @@ fn is_of_names(fault: &Fault) -> bool
     )
 }
 
-/// Writes the lines that tell a fault that may have names, and its explanation where that is asked for, and answers the status.
+/// Writes the lines that tell a fault that may have names, and its explanation where that is asked
+/// for, and answers the status.
 fn tell_named<E: Sink>(
     alloc: Global,
     telling: &Telling<'_>,
@@ -96,7 +99,8 @@ fn tell_named<E: Sink>(
     }
 }
 
-/// Writes the line of any other fault, and its explanation where that is asked for, and answers the status.
+/// Writes the line of any other fault, and its explanation where that is asked for, and answers the
+/// status.
 fn tell_nameless<E: Sink>(
     alloc: Global,
     telling: &Telling<'_>,

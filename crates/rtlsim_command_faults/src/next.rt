@@ -6,10 +6,10 @@ ghost use Rattle.vhdl_lexer.specs.Cut.{Cuts};
 ghost use Rattle.vhdl_names_further.specs.Taken.{past};
 
 use std::alloc::Global;
+use vhdl_front_rules::{Front, SourceFault};
 use vhdl_lexer::Token;
 use vhdl_names_further::take_out;
 use vhdl_names_rules::NameFault;
-use vhdl_front_rules::{Front, SourceFault};
 
 /// What is found behind a fault of names.
 #[derive(Drop)]

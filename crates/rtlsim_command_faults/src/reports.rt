@@ -3,8 +3,8 @@
 ghost use Rattle.std.specs.Prelude.{◌≡◌, Some};
 ghost use Rattle.rtlsim_command_faults.specs.Reports as spec;
 
-use rtl_expect::ExpectFault;
 use fault_rules::{LexRule, Place, Report, Rule, RunRule, StimRule, Subject, SyntaxRule};
+use rtl_expect::ExpectFault;
 use rtl_stim::StimFault;
 use vhdl_expand_rules::{ElabFault, ElabProblem};
 use vhdl_lexer::LexFault;

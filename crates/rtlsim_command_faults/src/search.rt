@@ -16,13 +16,13 @@ use crate::reports::name_report;
 use crate::syntax::find_grammar;
 use fault_rules::Report;
 use rtlsim_refusals::{Lexed, Told, told_source};
-use vhdl_source_files::SourceFile;
 use std::alloc::{AllocError, Global};
 use vhdl_expected::Expected;
+use vhdl_front_rules::Front;
 use vhdl_lexer::{Token, lex};
 use vhdl_names_further::is_known;
 use vhdl_names_rules::NameFault;
-use vhdl_front_rules::Front;
+use vhdl_source_files::SourceFile;
 
 /// The most faults that are told of a source, its first among them.
 pub(crate) const MOST_TOLD: u32 = 20;
@@ -50,7 +50,8 @@ pub(crate) struct Search<'s, 'f> {
     pub top: &'s [u8],
 }
 
-/// Finds the faults of a source behind its first, and appends what is told of them: behind one of grammar, or of names and types, the further ones.
+/// Finds the faults of a source behind its first, and appends what is told of them: behind one of
+/// grammar, or of names and types, the further ones.
 pub(crate) fn find_further<'f, F: Front>(
     alloc: Global,
     files: &[SourceFile<'f>],
@@ -96,7 +97,8 @@ fn find_names<'f, F: Front>(
     find_behind::<F>(alloc, &search, left, first, MOST_STEPS, MOST_TOLD - 1, told)
 }
 
-/// Finds the faults behind one of what is left of the source, in so many readings and so many of them at most.
+/// Finds the faults behind one of what is left of the source, in so many readings and so many of
+/// them at most.
 fn find_behind<'f, F: Front>(
     alloc: Global,
     search: &Search<'_, 'f>,
@@ -161,7 +163,8 @@ pub(crate) fn push_report<'f>(
 ) -> Result<(), AllocError>
     ensures { map told_view told.new.items
         ≡ (if is_ok result then map told_view told.old.items
-        ++ option_to_list (spec.told_of (map file_view files.now) (read_of source.entry) (expected_of expected) report) else map told_view told.old.items) }
+        ++ option_to_list (spec.told_of (map file_view files.now) (read_of source.entry) (expected_of expected) report)
+        else map told_view told.old.items) }
 {
     match told_of(alloc, files, source, expected, report)? {
         Some(one) => Ok(told.push(one)?),

@@ -14,11 +14,11 @@ use crate::expecting::expected_by;
 use crate::reports::syntax_report;
 use crate::search::{End, MOST_TOLD, is_none, push_report};
 use rtlsim_refusals::{Lexed, Told};
-use vhdl_source_files::SourceFile;
 use std::alloc::{AllocError, Global};
 use vhdl_lexer::{Token, lex};
 use vhdl_parser::SyntaxFault;
 use vhdl_parser_further::{Next, next_fault};
+use vhdl_source_files::SourceFile;
 
 /// Finds the faults of grammar of a source behind its first, and appends what is told of them.
 pub(crate) fn find_grammar<'f>(

@@ -27,7 +27,8 @@ pub enum Request {
     Dot,
     /// Says as an object of JSON whether a design is sure to settle.
     Json,
-    /// Prints the trace of a design under a stimulus; with `is_event` by events alone, without the checker.
+    /// Prints the trace of a design under a stimulus; with `is_event` by events alone, without the
+    /// checker.
     Run { is_event: bool, order: Order },
     /// Prints the trace of a design under a stimulus, processes run in order of level.
     Levels,
@@ -49,7 +50,8 @@ pub struct Call<'a> {
     pub with: Vec<&'a str>,
     /// Whether faults are explained.
     pub explains: bool,
-    /// The name of the file of what is expected of a run; `None` where nothing is, and beside any other request.
+    /// The name of the file of what is expected of a run; `None` where nothing is, and beside any
+    /// other request.
     pub expected: Option<&'a str>,
     /// Whether a run shows how far it is; `false` beside any other request.
     pub shows_progress: bool,

@@ -1,7 +1,8 @@
 //! The words of the command line: which call they say.
 //!
-//! The table of `parts.rt` has what each command takes, and `specs/Words.antt` which call words say by it. For words
-//! that say none clap writes the text, by the same table, which is the help where that is asked for.
+//! The table of `parts.rt` has what each command takes, and `specs/Words.antt` which call words say
+//! by it. For words that say none clap writes the text, by the same table, which is the help where
+//! that is asked for.
 #![tactic(auto)]
 
 mod call;

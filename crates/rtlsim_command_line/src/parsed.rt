@@ -22,8 +22,8 @@ pub(crate) struct Parsed<'a> {
     pub operands: Vec<&'a str>,
 }
 
-/// The options and operands that the words are; `None` where one can't be there. It takes memory in proportion to
-/// the words.
+/// The options and operands that the words are; `None` where one can't be there. It takes memory in
+/// proportion to the words.
 pub(crate) fn read_words<'a>(
     alloc: Global,
     parts: &[Part<&str>],
@@ -51,8 +51,8 @@ impl<'a> Parsed<'a> {
     ghost use Rattle.rtlsim_command_line.specs.Words as words;
     ghost use Rattle.rtlsim_command_line.specs.Words.{parsed_view, reads, row_of, takes_option, with_use, text_of, use_view};
 
-    /// Takes a word in, and answers how many of the others behind it are taken with it; `None` where the word can't
-    /// be there.
+    /// Takes a word in, and answers how many of the others behind it are taken with it; `None`
+    /// where the word can't be there.
     fn take(
         &mut self,
         parts: &[Part<&str>],
@@ -79,7 +79,8 @@ impl<'a> Parsed<'a> {
         Ok(Some(0))
     }
 
-    /// Takes in the option of a word's text behind its dashes, whose value may be the first of the others.
+    /// Takes in the option of a word's text behind its dashes, whose value may be the first of the
+    /// others.
     fn take_option(
         &mut self,
         parts: &[Part<&str>],
@@ -169,7 +170,8 @@ impl<'a> Parsed<'a> {
         self.value(name).is_some()
     }
 
-    /// Whether this command takes each option that is given, as often as it stands, beside the others.
+    /// Whether this command takes each option that is given, as often as it stands, beside the
+    /// others.
     pub(crate) fn fits(&self, parts: &[Part<&str>], command: &str) -> bool
         ensures { result ≡ words.fits (map use_view self.now.uses.items) command.now (map row_of parts.now) }
     {

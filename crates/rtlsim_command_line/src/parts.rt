@@ -1,4 +1,5 @@
-//! What the commands take. By this one table words are read, and of it clap has the help and what it tells of mistakes.
+//! What the commands take. By this one table words are read, and of it clap has the help and what
+//! it tells of mistakes.
 
 ghost use Rattle.std.specs.Prelude.{◌≡◌, map};
 ghost use Rattle.rtlsim_command_line.specs.Words as words;

@@ -135,8 +135,8 @@ fn parted<'r, 'a>(request: Request, rest: &'r [&'a str]) -> Option<(&'r [&'a str
     }
 }
 
-/// Whether the standard input is read once at most: by one of the files beside the source and the stimulus, or by
-/// operands.
+/// Whether the standard input is read once at most: by one of the files beside the source and the
+/// stimulus, or by operands.
 fn is_read_once(with: &[&str], expected: Option<&str>, operands: &[&str]) -> bool
     ensures { result
         ≡ words.is_read_once (map text_of with.now) (option_map text_of expected.entry) (map text_of operands.now) }

@@ -4,8 +4,8 @@ ghost use Rattle.std.specs.Prelude.{◌≡◌};
 ghost use Rattle.std.proofs.Common.{refl};
 ghost use Rattle.rtl_expect.specs.Watching.{IsToldOf, fresh_has_seen};
 
-use rtl_expect::Expectations;
 use byte_streams::Watch;
+use rtl_expect::Expectations;
 
 /// Compares with what is expected, and lets another watch look on.
 #[derive(Drop)]

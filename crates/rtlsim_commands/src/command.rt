@@ -12,9 +12,9 @@ ghost use Rattle.rtlsim_commands.specs.Answered.{TellsText, verdict_status};
 ghost use Rattle.rtlsim_commands.specs.Expected.{IsOfRun};
 ghost use Rattle.rtlsim_commands.specs.Sights.{Sight, Seeing, IsOfNet};
 
+use byte_streams::{Sink, Watch};
 use rtl_net::Net;
 use rtl_run::{LevelSummary, Summary};
-use byte_streams::{Sink, Watch};
 use rtlsim_command_faults::{Fault, Status, tell_levels, tell_summary};
 use std::alloc::Global;
 
@@ -98,14 +98,17 @@ pub trait Command {
     ) -> Result<Self::Answer, Fault>
         requires ports { HasOwnPorts net.now }
         requires intact { IsIntact (S.state out.old) }
-        ensures does { Seeing (sight self.old) (does self.old) (λ stands. V.told watch.old stands watch.new) net.now result
+        ensures does { Seeing (sight self.old) (does self.old) (λ stands. V.told watch.old stands watch.new) net.now
+            result
             (S.state out.old) (S.state out.new) }
-        ensures faults { IfErr result (IsOfNet (sight self.old) (λ stands before now at. V.stuck watch.old stands before now at watch.new) net.now) };
+        ensures faults { IfErr result (IsOfNet (sight self.old)
+            (λ stands before now at. V.stuck watch.old stands before now at watch.new) net.now) };
 }
 
 /// A run of a netlist.
 pub trait Run: Command {
     // None of its faults is one of what is expected.
-    ghost unexpecting: { (run : Self) (net : NetlistView) (fault : Fault) (old new : SinkState) → Self.does run net (Err fault) old new
+    ghost unexpecting: { (run : Self) (net : NetlistView) (fault : Fault) (old new : SinkState)
+        → Self.does run net (Err fault) old new
         → IsOfRun fault };
 }

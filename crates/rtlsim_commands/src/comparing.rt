@@ -6,13 +6,14 @@ ghost use Rattle.rtlsim_commands.specs.Expected.{Comparing};
 
 use crate::both::Both;
 use crate::command::{Command, Run};
+use byte_streams::{Sink, Watch};
 use rtl_expect::{Difference, Expectations};
 use rtl_net::Net;
-use byte_streams::{Sink, Watch};
 use rtlsim_command_faults::Fault;
 use std::alloc::Global;
 
-/// A run that is compared with what the lines of `expected` say, if these are given. It takes memory for each of them.
+/// A run that is compared with what the lines of `expected` say, if these are given. It takes
+/// memory for each of them.
 ///
 /// # Errors
 ///
@@ -28,7 +29,8 @@ pub struct Compared<'a, R: Run + Drop> {
 impl<R: Run + Drop> Command for Compared<'_, R> {
     type Answer = R::Answer;
 
-    ghost does = { λ command. Comparing (R.sight command.run) (R.does command.run) (option_map (λ text. text.now) command.expected) };
+    ghost does = { λ command. Comparing (R.sight command.run) (R.does command.run)
+        (option_map (λ text. text.now) command.expected) };
 
     ghost sight = { λ command. R.sight command.run };
 

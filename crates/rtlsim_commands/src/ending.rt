@@ -9,15 +9,16 @@ ghost use Rattle.rtlsim_commands.specs.Served.{ended};
 ghost use Rattle.rtlsim_commands.specs.Told as told;
 ghost use Rattle.rtlsim_commands.specs.Unsettled.{NamesIf, TellsRun};
 
-use rtl_net::Net;
 use byte_streams::Sink;
+use rtl_net::Net;
 use rtlsim_command_faults::{
     Fault, Status, Telling, push_further_faults, tell_changing, tell_fault, tell_source_fault,
 };
 use std::alloc::Global;
 use vhdl_front_rules::{Front, SourceFault};
 
-/// Tells why a source is refused, and its other faults too where that is told whole and explanations are asked for, and answers the status.
+/// Tells why a source is refused, and its other faults too where that is told whole and
+/// explanations are asked for, and answers the status.
 pub(crate) fn refuse_source<F: Front, O: Sink, E: Sink>(
     alloc: Global,
     source: &[u8],
@@ -27,7 +28,8 @@ pub(crate) fn refuse_source<F: Front, O: Sink, E: Sink>(
     out: &O,
     err: &mut E,
 ) -> Status
-    ensures { (said : Status) × RefusesSource telling.now source.now top.now (of_source fault) (E.state err.old) (E.state err.new) said
+    ensures { (said : Status) × RefusesSource telling.now source.now top.now (of_source fault) (E.state err.old)
+        (E.state err.new) said
         × (result ≡ ended said (O.state out.now) (E.state err.new)) }
 {
     let said = tell_source_fault(alloc, telling, fault, err);
@@ -45,7 +47,8 @@ fn tell_others<F: Front, E: Sink>(
     said: Status,
     err: &mut E,
 )
-    ensures { told.TellsOthers (told.asks_others telling.now.explains first.now said) telling.now source.now top.now first.now
+    ensures { told.TellsOthers (told.asks_others telling.now.explains first.now said) telling.now source.now top.now
+        first.now
         (E.state err.old) (E.state err.new) }
 {
     if asks_others(telling.explains, first, said) {
@@ -74,8 +77,8 @@ fn is_memory(said: Status) -> bool
     matches!(said, Status::Memory)
 }
 
-/// Tells a fault of a netlist with its names, and below its explanation the nets of these numbers where a moment doesn't settle, and answers
-/// the status.
+/// Tells a fault of a netlist with its names, and below its explanation the nets of these numbers
+/// where a moment doesn't settle, and answers the status.
 pub(crate) fn refuse_net<O: Sink, E: Sink>(
     alloc: Global,
     telling: &Telling<'_>,
@@ -86,7 +89,8 @@ pub(crate) fn refuse_net<O: Sink, E: Sink>(
     err: &mut E,
 ) -> Status
     requires { IsIntact (E.state err.old) }
-    ensures { (said : Status) × TellsRun telling.now net.now fault.now changing.now (E.state err.old) (E.state err.new) said
+    ensures { (said : Status) × TellsRun telling.now net.now fault.now changing.now (E.state err.old) (E.state err.new)
+        said
         × (result ≡ ended said (O.state out.now) (E.state err.new)) }
 {
     let said = tell_fault(alloc, telling, net, fault, err);

@@ -1,12 +1,16 @@
-//! The commands on a netlist: each does its work and writes to a sink, while a watch looks on. The commands on a source: each opens it
-//! and does its work on the netlist; and what is told of its answer.
+//! The commands on a netlist: each does its work and writes to a sink, while a watch looks on. The
+//! commands on a source: each opens it and does its work on the netlist; and what is told of its
+//! answer.
 //!
-//! Each call that opens a source has a type for its first parameter that does so, by the contract of `Front`.
+//! Each call that opens a source has a type for its first parameter that does so, by the contract
+//! of `Front`.
 //!
-//! `specs/Listed.antt` says what `net` and `check` write, `specs/Machine.antt` what `run`, `run --levels` and `eval` do,
-//! `specs/Simulated.antt` what `run --event` does, `specs/Watched.antt` what is seen of a run, and `specs/Expected.antt` what is compared with
-//! what is expected of it. `specs/Opened.antt` says what a command answers that opens a source, `specs/Served.antt` and `specs/Told.antt`
-//! what it leaves on both outputs, and `specs/Unsettled.antt` what is told of nets that still change.
+//! `specs/Listed.antt` says what `net` and `check` write, `specs/Machine.antt` what `run`, `run
+//! --levels` and `eval` do, `specs/Simulated.antt` what `run --event` does, `specs/Watched.antt`
+//! what is seen of a run, and `specs/Expected.antt` what is compared with what is expected of it.
+//! `specs/Opened.antt` says what a command answers that opens a source, `specs/Served.antt` and
+//! `specs/Told.antt` what it leaves on both outputs, and `specs/Unsettled.antt` what is told of
+//! nets that still change.
 #![tactic(auto)]
 
 mod both;
@@ -21,6 +25,7 @@ mod remarking;
 mod running;
 mod serving;
 
+pub use byte_streams::{Sink, Unwatched, Watch};
 pub use command::{Answer, Command, Run};
 pub use comparing::Compared;
 pub use ending::ended_by_writes;
@@ -33,14 +38,13 @@ pub use rtl_check::CheckFault;
 pub use rtl_kernel::{Forward, Pick, Reverse};
 pub use rtl_net::Net;
 pub use rtl_run::{LevelSummary, Summary};
-pub use byte_streams::{Sink, Unwatched, Watch};
 pub use rtl_stim::StimFault;
 pub use rtlsim_command_faults::{
     Fault, Status, Telling, push_memory, tell_fault, tell_levels, tell_source_fault, tell_summary,
 };
-pub use vhdl_source_files::SourceFile;
 pub use running::{MAX_DELTAS, RunEvents, RunLevels, RunMachine};
 pub use serving::{describe, serve};
 pub use vhdl_expand_rules::{ElabFault, ElabProblem};
-pub use vhdl_names_rules::{NameFault, NameProblem};
 pub use vhdl_front_rules::{Front, SourceFault};
+pub use vhdl_names_rules::{NameFault, NameProblem};
+pub use vhdl_source_files::SourceFile;

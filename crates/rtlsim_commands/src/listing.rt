@@ -10,13 +10,13 @@ ghost use Rattle.rtlsim_listing.specs.DotText.{dot_text};
 ghost use Rattle.rtlsim_listing.specs.Printing.{IsListed};
 ghost use Rattle.rtlsim_findings_text.specs.RemarkText.{remarks_text};
 
+use byte_streams::{Sink, finish};
 use rtl_check::{Verdict, check};
 use rtl_net::Net;
-use byte_streams::{Sink, finish};
 use rtlsim_command_faults::{Fault, Telling};
+use rtlsim_findings_text::{explain_rejection, show_check_json, show_remarks};
 use rtlsim_listing;
 use rtlsim_listing::ListingFault;
-use rtlsim_findings_text::{explain_rejection, show_check_json, show_remarks};
 use std::alloc::Global;
 
 /// Writes the lines of a netlist. It takes memory for one name at a time.
@@ -31,7 +31,8 @@ pub(crate) fn list_net<S: Sink>(net: &Net, out: &mut S) -> Result<(), Fault>
     Ok(rtlsim_listing::show_net(net, out)?)
 }
 
-/// Checks a netlist, writes the lines of the verdict, and answers whether it is yes. It takes memory in proportion to the netlist.
+/// Checks a netlist, writes the lines of the verdict, and answers whether it is yes. It takes
+/// memory in proportion to the netlist.
 ///
 /// # Errors
 ///
@@ -45,8 +46,8 @@ pub fn check_net<S: Sink>(alloc: Global, net: &Net, out: &mut S) -> Result<bool,
     Ok(is_yes(&verdict))
 }
 
-/// Checks a netlist, draws its levels where the verdict is yes and writes its lines else, and answers whether it is yes. It takes memory in
-/// proportion to the netlist.
+/// Checks a netlist, draws its levels where the verdict is yes and writes its lines else, and
+/// answers whether it is yes. It takes memory in proportion to the netlist.
 ///
 /// # Errors
 ///
@@ -60,8 +61,8 @@ pub fn check_net_dot<S: Sink>(alloc: Global, net: &Net, out: &mut S) -> Result<b
     Ok(is_yes(&verdict))
 }
 
-/// Checks a netlist and writes the lines of the verdict, as `check_net` does, and below them the explanation of its faults and the remarks
-/// on the netlist, where these are asked for.
+/// Checks a netlist and writes the lines of the verdict, as `check_net` does, and below them the
+/// explanation of its faults and the remarks on the netlist, where these are asked for.
 ///
 /// # Errors
 ///
@@ -80,7 +81,8 @@ pub(crate) fn check_net_told<S: Sink>(
     Ok(is_yes(&verdict))
 }
 
-/// Checks a netlist and draws its levels where the verdict is yes, as `check_net_dot` does; else writes what `check_net_told` does.
+/// Checks a netlist and draws its levels where the verdict is yes, as `check_net_dot` does; else
+/// writes what `check_net_told` does.
 ///
 /// # Errors
 ///
@@ -99,8 +101,8 @@ pub(crate) fn check_net_dot_told<S: Sink>(
     Ok(is_yes(&verdict))
 }
 
-/// Checks a netlist, writes the verdict as an object of JSON, and answers whether it is yes. Places are told by the files. It takes memory
-/// in proportion to the netlist.
+/// Checks a netlist, writes the verdict as an object of JSON, and answers whether it is yes. Places
+/// are told by the files. It takes memory in proportion to the netlist.
 ///
 /// # Errors
 ///
@@ -119,7 +121,8 @@ pub(crate) fn check_net_json<S: Sink>(
     Ok(is_yes(&verdict))
 }
 
-/// Writes the lines of a verdict, and the explanation of its faults and the remarks where they are asked for.
+/// Writes the lines of a verdict, and the explanation of its faults and the remarks where they are
+/// asked for.
 fn show_told<S: Sink>(
     alloc: Global,
     telling: &Telling<'_>,
@@ -161,13 +164,15 @@ fn show_lines<S: Sink>(
     out: &mut S,
 ) -> Result<(), ListingFault>
     requires intact { IsIntact (S.state out.old) }
-    ensures { IsListed result (S.state out.old) (S.state out.new) (with_explanation check_text telling.now net.now verdict.now) }
+    ensures { IsListed result (S.state out.old) (S.state out.new)
+        (with_explanation check_text telling.now net.now verdict.now) }
 {
     rtlsim_listing::show_check(alloc, net, verdict, out)?;
     show_explanation(alloc, telling, net, verdict, out)
 }
 
-/// Writes the graph of a verdict or its lines, and the explanation of its faults where that is asked for.
+/// Writes the graph of a verdict or its lines, and the explanation of its faults where that is
+/// asked for.
 fn show_graph<S: Sink>(
     alloc: Global,
     telling: &Telling<'_>,
@@ -176,7 +181,8 @@ fn show_graph<S: Sink>(
     out: &mut S,
 ) -> Result<(), ListingFault>
     requires intact { IsIntact (S.state out.old) }
-    ensures { IsListed result (S.state out.old) (S.state out.new) (with_explanation dot_text telling.now net.now verdict.now) }
+    ensures { IsListed result (S.state out.old) (S.state out.new)
+        (with_explanation dot_text telling.now net.now verdict.now) }
 {
     rtlsim_listing::show_dot(alloc, net, verdict, out)?;
     show_explanation(alloc, telling, net, verdict, out)

@@ -18,7 +18,8 @@ pub(crate) struct Noting<'a, V: Watch> {
 }
 
 impl<V: Watch> Watch for Noting<'_, V> {
-    ghost told = { λ start stands now. (now.other.ghost_name ≡ start.other.ghost_name) × V.told start.other.now stands now.other.now };
+    ghost told = { λ start stands now. (now.other.ghost_name ≡ start.other.ghost_name)
+        × V.told start.other.now stands now.other.now };
 
     ghost stuck = { λ start stands before now time watch. (watch.other.ghost_name ≡ start.other.ghost_name)
         × (watch.changing.items ≡ take 17 (spec.changing before now)) × V.stuck start.other.now stands before now time watch.other.now };

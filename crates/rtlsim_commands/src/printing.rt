@@ -7,9 +7,9 @@ ghost use Rattle.rtlsim_commands.specs.Sights.{nothing};
 
 use crate::command::Command;
 use crate::listing::{check_net_dot_told, check_net_json, check_net_told, list_net};
+use byte_streams::{Sink, Watch};
 use rtl_net::Net;
 use rtl_run;
-use byte_streams::{Sink, Watch};
 use rtlsim_command_faults::{Fault, Telling};
 use std::alloc::Global;
 

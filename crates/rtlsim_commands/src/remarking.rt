@@ -2,13 +2,14 @@
 
 ghost use Rattle.rtlsim_commands.specs.Remarked.{TellsRemarks};
 
-use rtl_net::Net;
 use byte_streams::{Sink, push_text};
+use rtl_net::Net;
 use rtlsim_command_faults::{Telling, push_memory};
 use rtlsim_findings_text::stimulus_remarks_text;
 use std::alloc::Global;
 
-/// Tells the remarks on the stimulus, if there is one and explanations are asked for, or that memory for them is refused.
+/// Tells the remarks on the stimulus, if there is one and explanations are asked for, or that
+/// memory for them is refused.
 pub(crate) fn tell_remarks<E: Sink>(alloc: Global, telling: &Telling<'_>, net: &Net, err: &mut E)
     ensures { TellsRemarks telling.now net.now (E.state err.old) (E.state err.new) }
 {

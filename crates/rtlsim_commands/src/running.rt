@@ -6,13 +6,13 @@ ghost use Rattle.rtlsim_commands.specs.Sights.{machine, events};
 ghost use Rattle.rtlsim_commands.specs.Runs.{machine_unexpecting, events_unexpecting};
 
 use crate::command::{Command, Run};
+use byte_streams::{Sink, Watch};
 use rtl_check::stored;
 use rtl_eval_code::codes;
 use rtl_kernel::Pick;
 use rtl_net::Net;
 use rtl_run;
 use rtl_run::{LevelSummary, SLOTS, Simulation, Summary};
-use byte_streams::{Sink, Watch};
 use rtl_stim::{Stimulus, Wheel};
 use rtlsim_command_faults::Fault;
 use std::alloc::Global;
@@ -20,8 +20,8 @@ use std::alloc::Global;
 /// The most delta cycles that a moment may take.
 pub const MAX_DELTAS: u32 = 1000;
 
-/// `run`: as a synchronous machine, where the checker accepts the netlist and the stimulus has no race. `pick` chooses the order of processes
-/// within a cycle.
+/// `run`: as a synchronous machine, where the checker accepts the netlist and the stimulus has no
+/// race. `pick` chooses the order of processes within a cycle.
 #[derive(Drop)]
 pub struct RunMachine<'a, P: Pick> {
     pub stimulus: &'a [u8],
@@ -53,8 +53,8 @@ impl<P: Pick> Run for RunMachine<'_, P> {
     ghost unexpecting = { λ run net fault old new does. machine_unexpecting does.0 fault does.1 };
 }
 
-/// `run --levels`: the same trace without delta cycles: at each moment the clocked processes that an input wakes run, and then the
-/// combinational ones in order of level.
+/// `run --levels`: the same trace without delta cycles: at each moment the clocked processes that
+/// an input wakes run, and then the combinational ones in order of level.
 #[derive(Drop)]
 pub struct RunLevels<'a> {
     pub stimulus: &'a [u8],
@@ -85,7 +85,8 @@ impl Run for RunLevels<'_> {
     ghost unexpecting = { λ run net fault old new does. machine_unexpecting does.0 fault does.1 };
 }
 
-/// `run --event`: by events, of any netlist without a stored variable. `pick` chooses the order of processes within a cycle.
+/// `run --event`: by events, of any netlist without a stored variable. `pick` chooses the order of
+/// processes within a cycle.
 #[derive(Drop)]
 pub struct RunEvents<'a, P: Pick> {
     pub stimulus: &'a [u8],

@@ -12,14 +12,15 @@ use crate::ending::{ended_by_writes, refuse_net, refuse_source};
 use crate::noting::{Noting, Numbers};
 use crate::printing::DescribeNet;
 use crate::remarking::tell_remarks;
-use rtl_net::Net;
 use byte_streams::{Sink, Unwatched, Watch};
+use rtl_net::Net;
 use rtlsim_command_faults::{Fault, Status, Telling, describe_refusal};
 use std::alloc::Global;
 use vhdl_front_rules::Front;
 
-/// Serves a command, while this watch looks on: opens the source, does the command on its netlist, writes what is told of its answer or the
-/// lines of a fault to `err`, and answers the status. Behind the explanation of a moment that doesn't settle stand the nets that still change.
+/// Serves a command, while this watch looks on: opens the source, does the command on its netlist,
+/// writes what is told of its answer or the lines of a fault to `err`, and answers the status.
+/// Behind the explanation of a moment that doesn't settle stand the nets that still change.
 pub fn serve<F: Front, C: Command, V: Watch, O: Sink, E: Sink>(
     alloc: Global,
     source: &[u8],
@@ -33,8 +34,14 @@ pub fn serve<F: Front, C: Command, V: Watch, O: Sink, E: Sink>(
     requires out { IsIntact (O.state out.old) }
     requires err { IsIntact (E.state err.old) }
     ensures { Serves (Seeing (C.sight command.old) (C.does command.old) (λ stands. V.told watch.old stands watch.new))
-        (record { text = C.Answer.text; status = C.Answer.said; events = events_of (C.sight command.old) }) telling.now source.now top.now result
-        (record { out = O.state out.old; out_after = O.state out.new; err = E.state err.old; err_after = E.state err.new }) }
+        (record { text = C.Answer.text; status = C.Answer.said; events = events_of (C.sight command.old) }) telling.now
+        source.now top.now result
+        (record {
+          out = O.state out.old;
+          out_after = O.state out.new;
+          err = E.state err.old;
+          err_after = E.state err.new;
+        }) }
 {
     match F::open(alloc, source, top) {
         Ok(net) => serve_net(alloc, telling, &net, command, watch, out, err),
@@ -42,9 +49,9 @@ pub fn serve<F: Front, C: Command, V: Watch, O: Sink, E: Sink>(
     }
 }
 
-/// Serves the object of `check`: opens the source, and writes the verdict on its netlist as an object, or that of a source that is refused.
-/// What is told of a fault goes to `err`, and it answers the status. Where memory for the object is refused, that is told in place of the
-/// fault.
+/// Serves the object of `check`: opens the source, and writes the verdict on its netlist as an
+/// object, or that of a source that is refused. What is told of a fault goes to `err`, and it
+/// answers the status. Where memory for the object is refused, that is told in place of the fault.
 pub fn describe<F: Front, O: Sink, E: Sink>(
     alloc: Global,
     source: &[u8],
@@ -56,7 +63,12 @@ pub fn describe<F: Front, O: Sink, E: Sink>(
     requires out { IsIntact (O.state out.old) }
     requires err { IsIntact (E.state err.old) }
     ensures { ServesObject telling.now source.now top.now result
-        (record { out = O.state out.old; out_after = O.state out.new; err = E.state err.old; err_after = E.state err.new }) }
+        (record {
+          out = O.state out.old;
+          out_after = O.state out.new;
+          err = E.state err.old;
+          err_after = E.state err.new;
+        }) }
 {
     match F::open(alloc, source, top) {
         Ok(net) => {
@@ -83,9 +95,16 @@ fn serve_net<C: Command, V: Watch, O: Sink, E: Sink>(
     requires ports { HasOwnPorts net.now }
     requires out { IsIntact (O.state out.old) }
     requires err { IsIntact (E.state err.old) }
-    ensures { ServesNet (Seeing (C.sight command.old) (C.does command.old) (λ stands. V.told watch.old stands watch.new))
-        (record { text = C.Answer.text; status = C.Answer.said; events = events_of (C.sight command.old) }) telling.now net.now result
-        (record { out = O.state out.old; out_after = O.state out.new; err = E.state err.old; err_after = E.state err.new }) }
+    ensures { ServesNet (Seeing (C.sight command.old) (C.does command.old)
+        (λ stands. V.told watch.old stands watch.new))
+        (record { text = C.Answer.text; status = C.Answer.said; events = events_of (C.sight command.old) }) telling.now
+        net.now result
+        (record {
+          out = O.state out.old;
+          out_after = O.state out.new;
+          err = E.state err.old;
+          err_after = E.state err.new;
+        }) }
 {
     let (answer, changing) = on_net_noting(alloc, net, command, watch, out);
     match answer {
@@ -98,7 +117,8 @@ fn serve_net<C: Command, V: Watch, O: Sink, E: Sink>(
     }
 }
 
-/// Does a command on a netlist, and answers beside that which nets still change where a moment doesn't settle.
+/// Does a command on a netlist, and answers beside that which nets still change where a moment
+/// doesn't settle.
 fn on_net_noting<C: Command, V: Watch, S: Sink>(
     alloc: Global,
     net: &Net,
@@ -108,9 +128,12 @@ fn on_net_noting<C: Command, V: Watch, S: Sink>(
 ) -> (Result<C::Answer, Fault>, Numbers)
     requires ports { HasOwnPorts net.now }
     requires intact { IsIntact (S.state out.old) }
-    ensures does { Seeing (C.sight command.old) (C.does command.old) (λ stands. V.told watch.old stands watch.new) net.now result.0
+    ensures does { Seeing (C.sight command.old) (C.does command.old) (λ stands. V.told watch.old stands watch.new)
+        net.now result.0
         (S.state out.old) (S.state out.new) }
-    ensures faults { IfErr result.0 (IsOfNet (C.sight command.old) (λ stands before now at. result.1.items ≡ take 17 (spec.changing before now)) net.now) }
+    ensures faults { IfErr result.0
+        (IsOfNet (C.sight command.old) (λ stands before now at. result.1.items ≡ take 17 (spec.changing before now))
+        net.now) }
 {
     let mut noting = Noting {
         changing: Numbers::new(),

@@ -7,11 +7,11 @@ ghost use Rattle.rtlsim_findings.specs.steps.Walked.{AreOf};
 
 use crate::mixed::why;
 use crate::omitted::Omissions;
+use fault_rules::{Place, Subject};
 use rtl_check::CheckFault;
 use rtl_latches::Omission;
-use rtl_net::{Net, NoMemory};
 use rtl_mixed_reasons::Reason;
-use fault_rules::{Place, Subject};
+use rtl_net::{Net, NoMemory};
 use rtlsim_listing::report_of;
 use std::alloc::Global;
 

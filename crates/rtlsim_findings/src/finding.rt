@@ -28,8 +28,9 @@ pub struct Finding<'a> {
     pub others: Vec<&'a CheckFault>,
 }
 
-/// The findings of a rejection with these faults. It takes memory for each fault and for the body of one process at a time, which is
-/// walked over once while its latches follow each other; and time in proportion to these, but for the logarithms of sorted lists.
+/// The findings of a rejection with these faults. It takes memory for each fault and for the body
+/// of one process at a time, which is walked over once while its latches follow each other; and
+/// time in proportion to these, but for the logarithms of sorted lists.
 pub fn findings<'a>(
     alloc: Global,
     net: &Net,

@@ -1,8 +1,10 @@
-//! What is told of the checker's faults and of remarks, as data: a finding for all faults of one cause, with its sentence, its nets as
-//! ranges, the other instances that have it and the note beside it.
+//! What is told of the checker's faults and of remarks, as data: a finding for all faults of one
+//! cause, with its sentence, its nets as ranges, the other instances that have it and the note
+//! beside it.
 //!
-//! `specs/Causes.antt` says which faults are told together, `specs/Findings.antt` which findings there are, and `specs/Sayings.antt`
-//! what each says; `specs/Remarked.antt` the same of remarks. `specs/Ranges.antt` tells elements of a vector as a range.
+//! `specs/Causes.antt` says which faults are told together, `specs/Findings.antt` which findings
+//! there are, and `specs/Sayings.antt` what each says; `specs/Remarked.antt` the same of remarks.
+//! `specs/Ranges.antt` tells elements of a vector as a range.
 #![tactic(auto)]
 
 mod cause;

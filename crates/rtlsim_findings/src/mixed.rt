@@ -6,8 +6,8 @@ ghost use Rattle.rtlsim_findings.specs.Mixed as spec;
 
 use crate::rounds::name_of_net;
 use rtl_check::CheckFault;
-use rtl_net::{Net, NoMemory};
 use rtl_mixed_reasons::{Reason, reason_of};
+use rtl_net::{Net, NoMemory};
 use rtlsim_listing::process_name;
 use std::alloc::Global;
 

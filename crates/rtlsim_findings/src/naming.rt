@@ -12,14 +12,15 @@ use crate::cause::is_of;
 use crate::finding::Finding;
 use crate::ranges::{follows, push_range};
 use crate::rounds::loop_text;
+use fault_rules::Subject;
 use indexmap::IndexSet;
 use rtl_check::CheckFault;
 use rtl_net::{Net, NoMemory};
-use fault_rules::Subject;
 use rtlsim_listing::{circle_of, element_of, net_name, process_name, report_of, source_name};
 use std::alloc::Global;
 
-/// The name of the net or of a variable's element that something is told of, empty where there is none.
+/// The name of the net or of a variable's element that something is told of, empty where there is
+/// none.
 fn name_of(alloc: Global, net: &Net, subject: Subject) -> Result<Vec<u8>, NoMemory>
     ensures { IfOk result (λ name. name.items ≡ spec.name_of net.now subject) }
 {
@@ -36,7 +37,8 @@ fn name_of(alloc: Global, net: &Net, subject: Subject) -> Result<Vec<u8>, NoMemo
     }
 }
 
-/// The nets or elements of variables that a finding's first fault and those of the same processes are told of, as ranges.
+/// The nets or elements of variables that a finding's first fault and those of the same processes
+/// are told of, as ranges.
 pub fn ranges_of(alloc: Global, net: &Net, finding: &Finding<'_>) -> Result<Vec<Vec<u8>>, NoMemory>
     ensures { IfOk result (λ texts. map (λ t. t.items) texts.items
         ≡ spec.ranges_of net.now (finding_view finding.now)) }

@@ -31,7 +31,8 @@ impl Omissions {
         }
     }
 
-    /// Where the process of a latch leaves out the net's assignment. One walk over a process serves all latches of it that follow.
+    /// Where the process of a latch leaves out the net's assignment. One walk over a process serves
+    /// all latches of it that follow.
     pub(crate) fn left_out(
         &mut self,
         alloc: Global,

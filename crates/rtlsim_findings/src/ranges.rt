@@ -87,7 +87,8 @@ fn direction(first: &[u8], last: &[u8]) -> &'static [u8]
     }
 }
 
-/// Appends the range from the first name to the last, as `alu.b(7 downto 0)`, or the one name. It takes memory where the text grows.
+/// Appends the range from the first name to the last, as `alu.b(7 downto 0)`, or the one name. It
+/// takes memory where the text grows.
 pub fn push_range(first: &[u8], last: &[u8], text: &mut Vec<u8>) -> Result<(), NoMemory>
     ensures { OnOk result (text.new.items ≡ text.old.items ++ spec.range_text first.now last.now) }
 {

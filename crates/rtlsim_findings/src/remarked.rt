@@ -9,9 +9,9 @@ use crate::mixed::name_of_process;
 use crate::naming::range;
 use crate::ranges::follows;
 use crate::saying::sentence;
+use fault_rules::{RemarkRule, Report, Rule, Subject};
 use rtl_net::{Net, NoMemory};
 use rtl_remarks::{Remark, RemarkKind};
-use fault_rules::{RemarkRule, Report, Rule, Subject};
 use rtlsim_listing::{net_name, place_of};
 use std::alloc::Global;
 
@@ -116,7 +116,8 @@ fn push_found(
     Ok(())
 }
 
-/// Appends what is told that ends before a remark, and takes the name of the first net of those with which the remark is told.
+/// Appends what is told that ends before a remark, and takes the name of the first net of those
+/// with which the remark is told.
 fn push_ended(
     alloc: Global,
     net: &Net,

@@ -13,10 +13,10 @@ use crate::finding::Finding;
 use crate::mixed::{reason_text, why};
 use crate::naming::{culprits, ranges_of};
 use crate::omitted::said;
+use fault_rules::{Rule, Subject};
 use indexmap::IndexSet;
 use rtl_check::CheckFault;
 use rtl_net::{Net, NoMemory};
-use fault_rules::{Rule, Subject};
 use rtlsim_listing::{circle_of, process_name, report_of};
 use std::alloc::Global;
 
@@ -74,7 +74,8 @@ fn push_others(texts: &[Vec<u8>], text: &mut Vec<u8>) -> Result<(), NoMemory>
     Ok(())
 }
 
-/// Of each process that a finding is told of, or pair of drivers, but those of its first fault, the first fault, in order.
+/// Of each process that a finding is told of, or pair of drivers, but those of its first fault, the
+/// first fault, in order.
 pub fn also<'a>(alloc: Global, finding: &Finding<'a>) -> Result<Vec<&'a CheckFault>, NoMemory>
     ensures { IfOk result (λ faults. map (λ f. fault_view f.now) faults.items ≡ spec.also (finding_view finding.now)) }
 {
@@ -115,7 +116,8 @@ fn push_if<'a>(
     Ok(())
 }
 
-/// All processes that a finding is told of: those of its first fault, and those of the other instances. An idle port has none.
+/// All processes that a finding is told of: those of its first fault, and those of the other
+/// instances. An idle port has none.
 pub fn processes(alloc: Global, finding: &Finding<'_>) -> Result<Vec<Option<usize>>, NoMemory>
     ensures { IfOk result (λ processes. processes.items ≡ spec.processes (finding_view finding.now)) }
 {
@@ -177,9 +179,9 @@ fn is_latch(fault: &CheckFault) -> bool
     }
 }
 
-/// The byte at which the note beside a finding stands, if it has one: where the second driver is declared, where a latch leaves the
-/// assignment out, or where a process has what makes it neither clocked nor combinational; at the process of a latch whose net
-/// nothing in it assigns.
+/// The byte at which the note beside a finding stands, if it has one: where the second driver is
+/// declared, where a latch leaves the assignment out, or where a process has what makes it neither
+/// clocked nor combinational; at the process of a latch whose net nothing in it assigns.
 pub fn note_at(finding: &Finding<'_>) -> Option<usize>
     ensures { result ≡ spec.note_at (finding_view finding.now) }
 {

@@ -1,9 +1,12 @@
-//! What `check` tells of a netlist beside the lines of its verdict: a paragraph for each finding of a rejection, remarks in lines, and
-//! all of it as an object of JSON, for programs; and the object of a source that is refused.
+//! What `check` tells of a netlist beside the lines of its verdict: a paragraph for each finding of
+//! a rejection, remarks in lines, and all of it as an object of JSON, for programs; and the object
+//! of a source that is refused.
 //!
-//! `specs/Explained.antt` says what is written of a rejection, `specs/RemarkText.antt` what of remarks, `specs/Json.antt` the object, and
-//! `specs/Refusals.antt` that of a refused source; `specs/Placed.antt` and `specs/Values.antt` how places, strings and arrays are written.
-//! Which findings there are is defined by rtlsim_findings, and what is told of a fault of a source by rtlsim_refusals.
+//! `specs/Explained.antt` says what is written of a rejection, `specs/RemarkText.antt` what of
+//! remarks, `specs/Json.antt` the object, and `specs/Refusals.antt` that of a refused source;
+//! `specs/Placed.antt` and `specs/Values.antt` how places, strings and arrays are written. Which
+//! findings there are is defined by rtlsim_findings, and what is told of a fault of a source by
+//! rtlsim_refusals.
 #![tactic(auto)]
 
 mod object;

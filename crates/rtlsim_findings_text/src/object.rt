@@ -13,14 +13,14 @@ use crate::places::{MarkedFile, PlacedByte, place_at};
 use crate::values::{
     push_number, push_process, push_processes, push_string, push_strings, push_texts,
 };
-use rtl_net::{Net, NoMemory};
 use fault_rules::{Rule, Subject};
-use rtlsim_refusals::Position;
+use rtl_net::{Net, NoMemory};
 use rtlsim_findings::{
     Finding, RemarkFinding, all_ranges_of, at_process, message, note_at, note_text, processes,
     remark_message, remark_process, remark_report,
 };
 use rtlsim_listing::report_of;
+use rtlsim_refusals::Position;
 use std::alloc::Global;
 
 /// The object of a finding.
@@ -103,7 +103,8 @@ fn push_named(
     )
 }
 
-/// Appends the member of this name: the names that all faults of a finding are told of, if they are told here.
+/// Appends the member of this name: the names that all faults of a finding are told of, if they are
+/// told here.
 #[tactic(auto, unfolding(crate::specs::Values::array_text))]
 fn push_names(
     alloc: Global,

@@ -10,9 +10,9 @@ ghost use Rattle.rtlsim_findings_text.specs.Marks.{IsMarked, view};
 
 use crate::places::{MarkedFile, push_place};
 use crate::shown::push_shown;
+use fault_rules::Rule;
 use rtl_check::CheckFault;
 use rtl_net::{Net, NoMemory};
-use fault_rules::Rule;
 use rtlsim_findings::{Finding, also, culprits, message, note_at, note_text};
 use rtlsim_listing::{push_decimal, push_title, report_of};
 use std::alloc::Global;
@@ -104,7 +104,8 @@ fn push_also(
     Ok(())
 }
 
-/// Appends the processes of the instances behind the first, or of so many and how many more there are.
+/// Appends the processes of the instances behind the first, or of so many and how many more there
+/// are.
 fn push_others(
     alloc: Global,
     net: &Net,

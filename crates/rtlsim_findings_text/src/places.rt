@@ -9,15 +9,16 @@ ghost use Rattle.rtlsim_findings_text.specs.Marks.{AreMarks, AreMarked, IsMarked
 ghost use Rattle.rtlsim_findings_text.specs.Placed as placed;
 
 use rtl_net::NoMemory;
-use rtlsim_refusals::{Position, line_after};
-use vhdl_source_files::{FilePlace, SourceFile, halves};
 use rtlsim_listing::push_decimal;
+use rtlsim_refusals::{Position, line_after};
 use std::alloc::Global;
+use vhdl_source_files::{FilePlace, SourceFile, halves};
 
 /// So many bytes stand between two marks.
 const STEP: usize = 1024;
 
-/// So many bytes from a byte on decide what is shown of its line: one more than are shown whole, and a carriage return.
+/// So many bytes from a byte on decide what is shown of its line: one more than are shown whole,
+/// and a carriage return.
 const AHEAD: usize = 202;
 
 /// A file, and where the byte at each mark of it stands.
@@ -139,8 +140,8 @@ pub(crate) fn place_at<'a>(files: &[MarkedFile<'a>], at: usize) -> PlacedByte<'a
     }
 }
 
-/// What stands in its line before a byte of the files' joined text, and what stands there from it on, of which the next 202 bytes are looked
-/// at.
+/// What stands in its line before a byte of the files' joined text, and what stands there from it
+/// on, of which the next 202 bytes are looked at.
 pub(crate) fn halves_at<'a>(files: &[MarkedFile<'a>], at: usize) -> (&'a [u8], &'a [u8])
     requires marked { All IsMarked files.now }
     ensures before { result.0.now ≡ spec.line_before (spots.before (spots.spot_in (map view files.now) at)) }

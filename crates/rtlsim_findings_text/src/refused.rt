@@ -13,8 +13,8 @@ use rtl_net::NoMemory;
 use rtlsim_refusals::{Told, position_behind};
 use std::alloc::Global;
 
-/// A source that is refused, as an object of JSON on one line: an object for each of its faults, of which this is told. It takes memory for
-/// the text.
+/// A source that is refused, as an object of JSON on one line: an object for each of its faults, of
+/// which this is told. It takes memory for the text.
 ///
 /// # Errors
 ///

@@ -10,21 +10,23 @@ ghost use Rattle.rtlsim_findings_text.specs.Marks.{IsMarked, view};
 
 use crate::paragraph::paragraph;
 use crate::places::{MarkedFile, mark_files};
+use byte_streams::{Sink, finish, push_text};
+use fault_rules::Subject;
 use rtl_check::CheckFault;
 use rtl_net::{Net, NoMemory};
-use fault_rules::Subject;
-use byte_streams::{Sink, finish, push_text};
-use vhdl_source_files::SourceFile;
 use rtlsim_findings::{Finding, findings};
 use rtlsim_listing::{ListingFault, report_of};
 use std::alloc::Global;
+use vhdl_source_files::SourceFile;
 
-/// Explains what the checker found: a paragraph for each finding, at its place in these files, whose texts joined are the netlist's
-/// source, and below them what simulates the netlist all the same. It takes memory for the findings, and for one paragraph at a time.
+/// Explains what the checker found: a paragraph for each finding, at its place in these files,
+/// whose texts joined are the netlist's source, and below them what simulates the netlist all the
+/// same. It takes memory for the findings, and for one paragraph at a time.
 ///
 /// # Errors
 ///
-/// `Memory` where memory was refused, and `Write` where the sink failed: what went out is a beginning of the text.
+/// `Memory` where memory was refused, and `Write` where the sink failed: what went out is a
+/// beginning of the text.
 pub fn explain_rejection<S: Sink>(
     alloc: Global,
     files: &[SourceFile<'_>],

@@ -9,22 +9,24 @@ ghost use Rattle.rtlsim_findings_text.specs.Marks.{IsMarked, view};
 ghost use Rattle.rtlsim_findings_text.specs.RemarkText as spec;
 
 use crate::places::{MarkedFile, mark_files, push_place};
+use byte_streams::{Sink, finish, push_text};
 use rtl_net::{Net, NoMemory};
 use rtl_remarks::{Remark, remarks};
-use byte_streams::{Sink, finish, push_text};
 use rtl_undriven_inputs::stimulus_remarks;
-use vhdl_source_files::SourceFile;
 use rtlsim_findings::{RemarkFinding, at_process, remark_findings, remark_message, remark_process};
 use rtlsim_listing::ListingFault;
 use std::alloc::Global;
+use vhdl_source_files::SourceFile;
 
-/// Writes the remarks on a netlist, whatever the checker says of it: a line for each, or one for elements of a vector that stand side
-/// by side and of which the same is told, at the place of its process in these files, whose texts joined are the netlist's source;
-/// nothing where there are none. It takes memory for the remarks and the text.
+/// Writes the remarks on a netlist, whatever the checker says of it: a line for each, or one for
+/// elements of a vector that stand side by side and of which the same is told, at the place of its
+/// process in these files, whose texts joined are the netlist's source; nothing where there are
+/// none. It takes memory for the remarks and the text.
 ///
 /// # Errors
 ///
-/// `Memory` where memory was refused: nothing was written. `Write` where the sink failed: what went out is a beginning of the text.
+/// `Memory` where memory was refused: nothing was written. `Write` where the sink failed: what went
+/// out is a beginning of the text.
 pub fn show_remarks<S: Sink>(
     alloc: Global,
     files: &[SourceFile<'_>],
@@ -42,8 +44,8 @@ pub fn show_remarks<S: Sink>(
     Ok(())
 }
 
-/// The lines of the remarks on a stimulus of a netlist, by its text: none where there are none. It takes memory for the remarks and
-/// the lines.
+/// The lines of the remarks on a stimulus of a netlist, by its text: none where there are none. It
+/// takes memory for the remarks and the lines.
 pub fn stimulus_remarks_text(
     alloc: Global,
     files: &[SourceFile<'_>],

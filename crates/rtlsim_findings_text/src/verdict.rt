@@ -15,22 +15,24 @@ use crate::object::{finding_text, remark_text};
 use crate::places::{MarkedFile, mark_files};
 use crate::rejection::any_stored;
 use crate::values::{push_number, push_texts};
+use byte_streams::{Sink, finish, push_text};
 use rtl_check::Verdict;
 use rtl_net::{Net, NoMemory};
 use rtl_remarks::remarks;
-use byte_streams::{Sink, finish, push_text};
-use vhdl_source_files::SourceFile;
 use rtlsim_findings::{Finding, RemarkFinding, findings, remark_findings};
 use rtlsim_listing::ListingFault;
 use std::alloc::Global;
+use vhdl_source_files::SourceFile;
 
-/// Writes the checker's verdict on a netlist and the remarks on it as an object of JSON on one line: `yes` with the greatest level and
-/// the bound, or `no` with an object for each finding, at its place in these files, whose texts joined are the netlist's source. It takes
-/// memory for the findings and the remarks, and for the text of one at a time.
+/// Writes the checker's verdict on a netlist and the remarks on it as an object of JSON on one
+/// line: `yes` with the greatest level and the bound, or `no` with an object for each finding, at
+/// its place in these files, whose texts joined are the netlist's source. It takes memory for the
+/// findings and the remarks, and for the text of one at a time.
 ///
 /// # Errors
 ///
-/// `Memory` where memory was refused, and `Write` where the sink failed: what went out is a beginning of the text.
+/// `Memory` where memory was refused, and `Write` where the sink failed: what went out is a
+/// beginning of the text.
 pub fn show_check_json<S: Sink>(
     alloc: Global,
     files: &[SourceFile<'_>],

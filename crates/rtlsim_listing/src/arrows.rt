@@ -1,4 +1,5 @@
-//! The arrows of a graph of levels, to the processes that are sensitive to nets from those that drive these.
+//! The arrows of a graph of levels, to the processes that are sensitive to nets from those that
+//! drive these.
 
 ghost use Rattle.std.specs.Prelude.{◌≡◌, ◌<◌, ◌==◌, All, [], if◌then◌else◌, length, position, bytes_eq, map, IfOk, IfSome};
 ghost use Rattle.byte_streams.specs.Written.{Goes};
@@ -7,8 +8,8 @@ ghost use Rattle.rtlsim_listing.specs.DotText as spec;
 ghost use Rattle.rtlsim_listing.specs.Printing.{Prints};
 
 use crate::names::process_name;
-use rtl_net::{Net, NoMemory, Source};
 use byte_streams::{Sink, push_text};
+use rtl_net::{Net, NoMemory, Source};
 use std::alloc::Global;
 
 /// The arrows to a process, by the nets that it is sensitive to.

@@ -9,18 +9,20 @@ use crate::fault::ListingFault;
 use crate::graph::push_graph;
 use crate::levels::push_report;
 use crate::rejection::push_rejection;
+use byte_streams::{Sink, finish};
 use rtl_check::{CheckFault, Verdict};
 use rtl_net::{Net, NoMemory};
-use byte_streams::{Sink, finish};
 use std::alloc::Global;
 
-/// Writes the checker's verdict on a netlist: `yes` with the greatest level, the bound and the level of each combinational process,
-/// or `no` with a line for each fault. It takes the memory of a few names at a time. Where a verdict names what the netlist doesn't
-/// have, as one on another netlist may, nothing stands for the name.
+/// Writes the checker's verdict on a netlist: `yes` with the greatest level, the bound and the
+/// level of each combinational process, or `no` with a line for each fault. It takes the memory of
+/// a few names at a time. Where a verdict names what the netlist doesn't have, as one on another
+/// netlist may, nothing stands for the name.
 ///
 /// # Errors
 ///
-/// `Memory` where a name's memory was refused, and `Write` where the sink failed: what went out is a beginning of the text.
+/// `Memory` where a name's memory was refused, and `Write` where the sink failed: what went out is
+/// a beginning of the text.
 pub fn show_check<W: Sink>(
     alloc: Global,
     net: &Net,
@@ -35,8 +37,8 @@ pub fn show_check<W: Sink>(
     Ok(())
 }
 
-/// Writes the levels of an accepted netlist as a graph in Graphviz's language, or as `show_check` does `no` with a line for each fault.
-/// It takes the memory of a few names at a time.
+/// Writes the levels of an accepted netlist as a graph in Graphviz's language, or as `show_check`
+/// does `no` with a line for each fault. It takes the memory of a few names at a time.
 ///
 /// # Errors
 ///
@@ -55,7 +57,8 @@ pub fn show_dot<W: Sink>(
     Ok(())
 }
 
-/// Writes the checker's no: `no`, and a line for each of these faults of a netlist, as `show_check` does.
+/// Writes the checker's no: `no`, and a line for each of these faults of a netlist, as `show_check`
+/// does.
 ///
 /// # Errors
 ///

@@ -3,8 +3,8 @@
 ghost use Rattle.std.specs.Prelude.{◌≡◌};
 ghost use Rattle.rtlsim_listing.specs.declared.fault.ListingFault.TheVariants.{Memory, Write};
 
-use rtl_net::NoMemory;
 use byte_streams::WriteFailed;
+use rtl_net::NoMemory;
 
 /// Why lines were not written whole.
 #[derive(Clone, Copy)]

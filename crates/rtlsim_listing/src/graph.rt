@@ -9,9 +9,9 @@ ghost use Rattle.rtlsim_listing.specs.Printing.{Prints};
 use crate::arrows::push_arrows_to;
 use crate::levels::greatest_level;
 use crate::names::process_name;
+use byte_streams::{Sink, push_number, push_text};
 use rtl_check::Report;
 use rtl_net::{Net, NoMemory};
-use byte_streams::{Sink, push_number, push_text};
 use std::alloc::Global;
 
 /// The whole graph.
@@ -82,7 +82,8 @@ fn push_processes<W: Sink>(
     levels: &[Option<u32>],
     out: &mut W,
 ) -> Result<(), NoMemory>
-    ensures { Prints result (W.state out.old) (W.state out.new) (lines (spec.process_lines net.now levels.now) (length levels.now)) }
+    ensures { Prints result (W.state out.old) (W.state out.new)
+        (lines (spec.process_lines net.now levels.now) (length levels.now)) }
 {
     for number in 0..levels.len() {
         push_process(alloc, net, levels, number, out)?;

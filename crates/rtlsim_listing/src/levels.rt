@@ -7,9 +7,9 @@ ghost use Rattle.rtlsim_listing.specs.CheckText as spec;
 ghost use Rattle.rtlsim_listing.specs.Printing.{Prints};
 
 use crate::names::process_name;
+use byte_streams::{Sink, push_number, push_text};
 use rtl_check::Report;
 use rtl_net::{Net, NoMemory};
-use byte_streams::{Sink, push_number, push_text};
 use std::alloc::Global;
 
 /// The whole report.
@@ -55,7 +55,8 @@ fn push_levels<W: Sink>(
     from: &[Option<usize>],
     out: &mut W,
 ) -> Result<(), NoMemory>
-    ensures { Prints result (W.state out.old) (W.state out.new) (lines (spec.level_line net.now levels.now from.now) (length levels.now)) }
+    ensures { Prints result (W.state out.old) (W.state out.new)
+        (lines (spec.level_line net.now levels.now from.now) (length levels.now)) }
 {
     for number in 0..levels.len() {
         push_level(alloc, net, levels, from, number, out)?;

@@ -1,7 +1,8 @@
 //! What is printed of a netlist and of the checker's verdict on it, in lines.
 //!
-//! `specs/NetText.antt` and `specs/CheckText.antt` define the lines, `specs/DotText.antt` the graph of an accepted netlist's levels, and
-//! `specs/Printing.antt` says what goes out of them where the sink fails or memory is refused.
+//! `specs/NetText.antt` and `specs/CheckText.antt` define the lines, `specs/DotText.antt` the graph
+//! of an accepted netlist's levels, and `specs/Printing.antt` says what goes out of them where the
+//! sink fails or memory is refused.
 #![tactic(auto)]
 
 mod arrows;

@@ -7,16 +7,17 @@ ghost use Rattle.rtlsim_listing.specs.Printing.{Prints, IsListed};
 
 use crate::fault::ListingFault;
 use crate::sources::{push_sources, push_start};
+use byte_streams::{Sink, finish, push_number, push_text};
 use rtl_body_facts::contains_rising;
 use rtl_net::{Net, NoMemory};
-use byte_streams::{Sink, finish, push_number, push_text};
 
-/// Writes how many nets and processes there are, then for each net its number, name, start and sources, and for each process
-/// its number and name. It takes the memory of one name at a time.
+/// Writes how many nets and processes there are, then for each net its number, name, start and
+/// sources, and for each process its number and name. It takes the memory of one name at a time.
 ///
 /// # Errors
 ///
-/// `Memory` where a name's memory was refused, and `Write` where the sink failed: what went out is a beginning of the text.
+/// `Memory` where a name's memory was refused, and `Write` where the sink failed: what went out is
+/// a beginning of the text.
 pub fn show_net<W: Sink>(net: &Net, out: &mut W) -> Result<(), ListingFault>
     requires intact { IsIntact (W.state out.old) }
     ensures { IsListed result (W.state out.old) (W.state out.new) (net_text net.now) }
@@ -77,7 +78,8 @@ fn push_net<W: Sink>(net: &Net, number: usize, out: &mut W) -> Result<(), NoMemo
 
 /// The lines of all processes.
 fn push_processes<W: Sink>(net: &Net, out: &mut W) -> Result<(), NoMemory>
-    ensures { Prints result (W.state out.old) (W.state out.new) (lines (process_line net.now) (length net.now.processes)) }
+    ensures { Prints result (W.state out.old) (W.state out.new)
+        (lines (process_line net.now) (length net.now.processes)) }
 {
     for number in 0..net.processes().len() {
         push_process(net, number, out)?;

@@ -9,10 +9,10 @@ use crate::names::{net_name, process_name, source_name};
 use crate::report::{circle_of, report_of};
 use crate::texts::push_title;
 use crate::variables::element_of;
+use byte_streams::{Sink, push_text};
+use fault_rules::Subject;
 use rtl_check::CheckFault;
 use rtl_net::{Net, NoMemory};
-use fault_rules::Subject;
-use byte_streams::{Sink, push_text};
 use std::alloc::Global;
 
 /// `no`, and the lines of all faults.

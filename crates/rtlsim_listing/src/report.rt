@@ -5,9 +5,9 @@ ghost use Rattle.rtl_check.specs.Views.{fault_view};
 ghost use Rattle.rtl_net.specs.Nets.{source_view};
 ghost use Rattle.rtlsim_listing.specs.Reports as spec;
 
+use fault_rules::{CheckRule, Place, Report, Rule, Subject};
 use rtl_check::CheckFault;
 use rtl_net::Source;
-use fault_rules::{CheckRule, Place, Report, Rule, Subject};
 
 /// What a fault tells.
 pub fn report_of(fault: &CheckFault) -> Report

@@ -5,8 +5,8 @@ ghost use Rattle.byte_streams.specs.Written.{Goes};
 ghost use Rattle.rtl_net.specs.Nets.{source_view, type_of};
 ghost use Rattle.rtlsim_listing.specs.NetText.{start_text, source_text, driven_text, sources_text};
 
-use rtl_net::{NetKind, Source};
 use byte_streams::{Sink, push_number, push_text};
+use rtl_net::{NetKind, Source};
 use vhdl_values::Nine;
 
 /// The character of one of the nine values, or the position of a literal.

@@ -4,9 +4,9 @@ ghost use Rattle.std.specs.Prelude.{◌≡◌, ◌++◌, decimal, OnOk};
 ghost use Rattle.fault_rules.specs.Rules.{words_of};
 ghost use Rattle.rtlsim_listing.specs.CheckText.{title_text};
 
+use fault_rules::Rule;
 use itoa::Buffer;
 use rtl_net::NoMemory;
-use fault_rules::Rule;
 
 /// Appends a number in decimal digits.
 pub fn push_decimal(number: usize, text: &mut Vec<u8>) -> Result<(), NoMemory>

@@ -10,15 +10,15 @@ ghost use Rattle.vhdl_expected.specs.Told.{expected_of};
 
 use crate::place::{begins_line, position_behind, push_shown};
 use crate::refused::{push_refused, said_of, said_refused};
-use fault_rules::{ElabRule, NameRule, Place, Report, Rule, Subject, SyntaxRule};
 use byte_streams::{Sink, push_number, push_text};
-use vhdl_source_files::{FilePlace, SourceFile, place_in};
+use fault_rules::{ElabRule, NameRule, Place, Report, Rule, Subject, SyntaxRule};
+use vhdl_expected::Expected;
 use vhdl_hints::{Hint, help, hint_at, push_hint};
 use vhdl_slips::{
     Lexed, Listing, Said, first_text, is_same_word, left_out_form, push_missing, push_names,
     push_subject, unexpected_form,
 };
-use vhdl_expected::Expected;
+use vhdl_source_files::{FilePlace, SourceFile, place_in};
 
 /// A byte of a source that has tokens.
 #[derive(Clone, Copy)]
@@ -43,8 +43,9 @@ pub fn explain_refusal<S: Sink>(files: &[SourceFile<'_>], report: Report, sink: 
     }
 }
 
-/// Explains which rule of grammar, on names or of elaboration a source of these files breaks, by its text and tokens, and by what was expected
-/// where the parser refuses one; below stands what helps with that rule.
+/// Explains which rule of grammar, on names or of elaboration a source of these files breaks, by
+/// its text and tokens, and by what was expected where the parser refuses one; below stands what
+/// helps with that rule.
 pub fn explain_source<S: Sink>(
     files: &[SourceFile<'_>],
     source: Lexed<'_>,
@@ -198,7 +199,8 @@ fn said_at(site: Site<'_, '_>, rule: Rule) -> Said
     }
 }
 
-/// What is said of a token that can't stand there: what was expected for sure; else the form that isn't read; else what may be expected.
+/// What is said of a token that can't stand there: what was expected for sure; else the form that
+/// isn't read; else what may be expected.
 fn unexpected_said(site: Site<'_, '_>) -> Said
     ensures { (result.0.now, result.1.now) ≡ spec.unexpected_said (spec.site_of site.entry) }
 {
@@ -228,7 +230,8 @@ fn is_plain(said: Said) -> bool
     is_same_word(said.0.as_bytes(), b"can't stand here")
 }
 
-/// Writes what helps with a rule: a choice that is missing, where not each value has one; the entities, where the top is none of them.
+/// Writes what helps with a rule: a choice that is missing, where not each value has one; the
+/// entities, where the top is none of them.
 pub(crate) fn push_below<S: Sink>(site: Site<'_, '_>, source: Lexed<'_>, rule: Rule, sink: &mut S)
     ensures { Goes (S.state sink.old) (S.state sink.new)
         (spec.below (spec.site_of site.entry) (read_of source.entry) rule) }
@@ -268,7 +271,8 @@ pub(crate) fn push_title<S: Sink>(rule: Rule, sink: &mut S)
     push_text(sink, b": ");
 }
 
-/// Writes what stands behind the sentence: the line with a mark under the place, and what to do about it.
+/// Writes what stands behind the sentence: the line with a mark under the place, and what to do
+/// about it.
 pub(crate) fn push_rest<S: Sink>(place: FilePlace<'_>, help: &[u8], sink: &mut S)
     ensures { Goes (S.state sink.old) (S.state sink.new) (spec.rest_text (spot_view place.entry) help.now) }
 {

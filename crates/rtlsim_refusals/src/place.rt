@@ -65,7 +65,8 @@ fn line_len(after: &[u8]) -> usize
     after.iter().take_while(|byte| **byte != b'\n').count()
 }
 
-/// Writes the line of a byte, and below it a mark at the byte; of a long line what stands round the byte.
+/// Writes the line of a byte, and below it a mark at the byte; of a long line what stands round the
+/// byte.
 pub(crate) fn push_shown<S: Sink>(place: FilePlace<'_>, sink: &mut S)
     ensures { Goes (S.state sink.old) (S.state sink.new) (spec.line_shown (spot_view place.entry)) }
 {

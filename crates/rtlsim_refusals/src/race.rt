@@ -8,11 +8,12 @@ ghost use Rattle.rtlsim_refusals.specs.Races as spec;
 
 use rtl_net::{Net, Signal};
 use rtl_stim_lines::{Form, Time, form_of, line_end, without_return, words_of};
-use vhdl_slips::is_same_word;
 use std::alloc::{AllocError, Global};
+use vhdl_slips::is_same_word;
 
-/// The number of the first line of a stimulus, from 1, that sets an input's port at a time in ns, or makes it a clock. `None` where no line
-/// does, or where there is no text. It takes the memory of a line's words.
+/// The number of the first line of a stimulus, from 1, that sets an input's port at a time in ns,
+/// or makes it a clock. `None` where no line does, or where there is no text. It takes the memory
+/// of a line's words.
 pub(crate) fn race_line(
     alloc: Global,
     net: &Net,

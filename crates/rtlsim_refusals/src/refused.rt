@@ -5,10 +5,10 @@ ghost use Rattle.byte_streams.specs.Written.{Goes};
 ghost use Rattle.rtlsim_refusals.specs.Refused as spec;
 ghost use Rattle.vhdl_lexer.specs.Scan as scan;
 
-use fault_rules::{ElabRule, LexRule, Rule};
 use byte_streams::{Sink, push_text};
-use vhdl_source_files::halves;
+use fault_rules::{ElabRule, LexRule, Rule};
 use vhdl_slips::{Said, push_quoted};
+use vhdl_source_files::halves;
 
 const MATCHING: Said = (
     "begins a matching operator, as ?= or ?/=, and these aren't read here",
@@ -93,7 +93,8 @@ fn run(text: &[u8]) -> usize
         .count()
 }
 
-/// How many bytes stand at the front of a text where the lexer refuses it: a word, `/*` or a byte that can be printed.
+/// How many bytes stand at the front of a text where the lexer refuses it: a word, `/*` or a byte
+/// that can be printed.
 fn refused_len(text: &[u8]) -> usize
     ensures { result ≡ spec.refused_len text.now }
 {

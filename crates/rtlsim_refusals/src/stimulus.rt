@@ -9,18 +9,19 @@ ghost use Rattle.rtlsim_listing.specs.declared.fault.ListingFault.TheVariants.{M
 use crate::explaining::{push_help, push_title};
 use crate::place::line_after;
 use crate::race::race_line;
-use rtl_net::Net;
-use fault_rules::{Place, Report, Rule, RunRule, Subject};
 use byte_streams::{Sink, finish, push_number, push_text};
+use fault_rules::{Place, Report, Rule, RunRule, Subject};
+use rtl_net::Net;
 use rtlsim_listing::{ListingFault, net_name};
 use std::alloc::Global;
 
-/// Explains why a stimulus is refused, whose text shows the line, or a NAME=VALUE word, without a text. It takes the memory of two names
-/// and of the words of a line at a race.
+/// Explains why a stimulus is refused, whose text shows the line, or a NAME=VALUE word, without a
+/// text. It takes the memory of two names and of the words of a line at a race.
 ///
 /// # Errors
 ///
-/// `Memory` where a name's or a line's memory was refused, and `Write` where the sink failed: what went out is a beginning of the text.
+/// `Memory` where a name's or a line's memory was refused, and `Write` where the sink failed: what
+/// went out is a beginning of the text.
 pub fn explain_stim<S: Sink>(
     alloc: Global,
     file: &[u8],
@@ -73,7 +74,8 @@ fn explain_race<S: Sink>(
     Ok(finish(sink)?)
 }
 
-/// Writes the explanation of a race, by its time and the names of its input and clock, in the line that makes the input change.
+/// Writes the explanation of a race, by its time and the names of its input and clock, in the line
+/// that makes the input change.
 fn push_race<S: Sink>(
     file: &[u8],
     text: Option<&[u8]>,

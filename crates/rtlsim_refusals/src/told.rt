@@ -11,12 +11,12 @@ use crate::explaining::{
     Site, help_of, push_below, push_head, push_refusal_sentence, push_rest, push_sentence,
     refusal_help, site_at,
 };
-use fault_rules::{Place, Report, Rule};
 use byte_streams::{Out, Sink, push_text};
-use vhdl_source_files::{FilePlace, SourceFile, place_in};
-use vhdl_slips::Lexed;
+use fault_rules::{Place, Report, Rule};
 use std::alloc::{AllocError, Global};
 use vhdl_expected::Expected;
+use vhdl_slips::Lexed;
+use vhdl_source_files::{FilePlace, SourceFile, place_in};
 
 /// What is told of a fault of a source.
 #[derive(Drop)]
@@ -32,7 +32,8 @@ pub struct Told<'a> {
     pub below: Vec<u8>,
 }
 
-/// What is told of why a source of these files has no tokens; nothing of a report without a byte. It takes the memory of its texts.
+/// What is told of why a source of these files has no tokens; nothing of a report without a byte.
+/// It takes the memory of its texts.
 ///
 /// # Errors
 ///
@@ -51,8 +52,9 @@ pub fn told_refusal<'a>(
     }
 }
 
-/// What is told of which rule a source of these files breaks, by its text and tokens, and by what was expected where the
-/// parser refuses one; nothing of a report without a byte. It takes the memory of its texts.
+/// What is told of which rule a source of these files breaks, by its text and tokens, and by what
+/// was expected where the parser refuses one; nothing of a report without a byte. It takes the
+/// memory of its texts.
 ///
 /// # Errors
 ///

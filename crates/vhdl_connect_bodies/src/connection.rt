@@ -8,7 +8,8 @@ use rtl_net::Indices;
 use smallvec::SmallVec;
 use std::alloc::{AllocError, Global};
 
-/// The nets of an instance's elements, and the elements that a process of it has drivers for, rising.
+/// The nets of an instance's elements, and the elements that a process of it has drivers for,
+/// rising.
 #[derive(Clone, Copy)]
 pub struct Connection<'a> {
     pub alloc: Global,
@@ -29,7 +30,8 @@ impl Connection<'_> {
 
     /// Whether the nets of neighbouring elements stand one after another from this one on.
     fn are_neighbours(&self, net: u32, first: u32, len: u32) -> bool
-        ensures { IsTrue result → map (slice_index self.now.nets.now) (range_with_len first len) ≡ range_with_len net len }
+        ensures { IsTrue result → map (slice_index self.now.nets.now) (range_with_len first len) ≡
+            range_with_len net len }
     {
         for k in 0..len {
             let found = self.net(first as usize + k as usize) as usize;
@@ -41,7 +43,8 @@ impl Connection<'_> {
         true
     }
 
-    /// The nets of neighbouring elements. It takes the memory of a list of them, where they don't stand one after another.
+    /// The nets of neighbouring elements. It takes the memory of a list of them, where they don't
+    /// stand one after another.
     fn nets_of_run(&self, first: u32, len: u32) -> Result<Indices, AllocError>
         ensures { IfOk result (λ nets. numbers nets ≡ map (slice_index self.now.nets.now) (range_with_len first len)) }
     {
@@ -67,7 +70,8 @@ impl Connection<'_> {
         Ok(Indices::List(nets))
     }
 
-    /// The nets of elements. It takes the memory of a list of them, where they don't stand one after another.
+    /// The nets of elements. It takes the memory of a list of them, where they don't stand one
+    /// after another.
     pub fn nets_of(&self, elements: &Indices) -> Result<Indices, AllocError>
         ensures { IfOk result (λ nets. numbers nets ≡ map (slice_index self.now.nets.now) (numbers elements.now)) }
     {

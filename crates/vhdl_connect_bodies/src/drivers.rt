@@ -22,7 +22,8 @@ impl Connection<'_> {
         }
     }
 
-    /// The places of the drivers of listed elements, which have one each. It takes the memory of the list.
+    /// The places of the drivers of listed elements, which have one each. It takes the memory of
+    /// the list.
     fn places_of_list(&self, elements: &[u32]) -> Result<Indices, AllocError>
         requires rising { IsRising self.now.drives.now }
         requires driven { All (Contains self.now.drives.now) elements.now }
@@ -35,8 +36,9 @@ impl Connection<'_> {
         Ok(Indices::List(places))
     }
 
-    /// The places of the drivers of elements, which have one each: those of neighbours stand one after another. It takes the
-    /// memory of a list of them, where the elements are listed, and the time of a search among the drivers, then for each.
+    /// The places of the drivers of elements, which have one each: those of neighbours stand one
+    /// after another. It takes the memory of a list of them, where the elements are listed, and the
+    /// time of a search among the drivers, then for each.
     pub fn places_of(&self, elements: &Indices) -> Result<Indices, AllocError>
         requires rising { IsRising self.now.drives.now }
         requires driven { All (Contains self.now.drives.now) (numbers elements.now) }

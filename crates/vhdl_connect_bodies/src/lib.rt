@@ -1,5 +1,6 @@
-//! Processes of the flat netlist of a design, their bodies with nets and drivers in place of elements, and what an instance drives and
-//! reads of its elements' nets (IEEE 1076-2008, 14.2, 14.7.2, 14.7.3).
+//! Processes of the flat netlist of a design, their bodies with nets and drivers in place of
+//! elements, and what an instance drives and reads of its elements' nets (IEEE 1076-2008, 14.2,
+//! 14.7.2, 14.7.3).
 #![tactic(auto)]
 
 mod body_laws;

@@ -1,4 +1,5 @@
-//! The nets of an instance's elements, and what these start with (IEEE 1076-2008, 6.4.2.3, 6.5.6.3).
+//! The nets of an instance's elements, and what these start with (IEEE 1076-2008, 6.4.2.3,
+//! 6.5.6.3).
 
 ghost use Rattle.std.specs.Prelude.{◌≡◌, ◌+◌, ◌≤◌, ◌-◌, ◌++◌, map, slice_index, IfOk, OnOk};
 ghost use Rattle.std.specs.List.{range_with_len};
@@ -11,7 +12,8 @@ use crate::process::net_at;
 use std::alloc::{AllocError, Global};
 use vhdl_expand_tree::Object;
 
-/// What the elements of objects start with, in order of declaration. It takes the memory of the list.
+/// What the elements of objects start with, in order of declaration. It takes the memory of the
+/// list.
 pub fn defaults_of(alloc: Global, objects: &[Object]) -> Result<Vec<u8>, AllocError>
     ensures { IfOk result (λ v. v.items ≡ wiring.defaults_of (map object_view objects.now)) }
 {
@@ -22,8 +24,9 @@ pub fn defaults_of(alloc: Global, objects: &[Object]) -> Result<Vec<u8>, AllocEr
     Ok(defaults)
 }
 
-/// The nets of the elements of objects, in order of declaration, where the elements of the instance above have these nets, and
-/// the first net of their own has this number. It takes the memory of the list.
+/// The nets of the elements of objects, in order of declaration, where the elements of the instance
+/// above have these nets, and the first net of their own has this number. It takes the memory of
+/// the list.
 pub fn element_nets(
     alloc: Global,
     above: &[u32],
@@ -50,7 +53,8 @@ fn push_object(
 ) -> Result<usize, AllocError>
     requires { first + numbering.own_size (object_view object.now) ≤ most_nets }
     ensures next { IfOk result (λ next. next ≡ first + numbering.own_size (object_view object.now)) }
-    ensures nets { OnOk result (nets.new.items ≡ nets.old.items ++ numbering.object_nets above.now first (object_view object.now)) }
+    ensures nets { OnOk result (nets.new.items ≡ nets.old.items
+        ++ numbering.object_nets above.now first (object_view object.now)) }
 {
     match &object.actual {
         Some(actual) => push_actual(above, first, actual, nets),
@@ -58,7 +62,8 @@ fn push_object(
     }
 }
 
-/// Puts the nets of an actual's elements behind others, and gives the number of the next net, which stays the same.
+/// Puts the nets of an actual's elements behind others, and gives the number of the next net, which
+/// stays the same.
 fn push_actual(
     above: &[u32],
     first: usize,

@@ -19,7 +19,8 @@ use std::mem;
 use vhdl_expand_processes::read_of;
 use vhdl_expand_rules::byte;
 
-/// Where a process stands: the number of its scope, and of its instance's elements the nets and what they start with.
+/// Where a process stands: the number of its scope, and of its instance's elements the nets and
+/// what they start with.
 #[derive(Clone, Copy)]
 pub struct Round<'a> {
     pub alloc: Global,
@@ -87,7 +88,8 @@ fn variables(
 impl Round<'_> {
     /// The drivers of elements. It takes the memory of the list.
     fn drivers(&self, elements: &[usize]) -> Result<Vec<Driver>, AllocError>
-        ensures { IfOk result (λ v. map driver_view v.items ≡ map (driver_in self.now.nets.now self.now.defaults.now) elements.now) }
+        ensures { IfOk result (λ v. map driver_view v.items ≡
+            map (driver_in self.now.nets.now self.now.defaults.now) elements.now) }
     {
         let mut drivers = Vec::new(self.alloc);
         for element in elements {
@@ -99,13 +101,14 @@ impl Round<'_> {
         Ok(drivers)
     }
 
-    /// A process, taken out of the tree, with nets in place of elements. It takes the memory of its drivers, of what it reads
-    /// and of what resumes it, and time to sort these.
+    /// A process, taken out of the tree, with nets in place of elements. It takes the memory of its
+    /// drivers, of what it reads and of what resumes it, and time to sort these.
     pub fn process(&self, from: &mut vhdl_expand_tree::Process) -> Result<Process, AllocError>
         requires rising { IsRising from.old.drives.items }
         requires driven { Assigns (Contains from.old.drives.items) (statements_of from.old.body.items) }
         requires dotted { IsDotted from.old.prefix.items }
-        ensures { IfOk result (λ p. IsOf self.now.scope self.now.nets.now self.now.defaults.now (process_view from.old) p) }
+        ensures { IfOk result (λ p. IsOf self.now.scope self.now.nets.now self.now.defaults.now (process_view from.old)
+            p) }
     {
         let connection = Connection {
             alloc: self.alloc,

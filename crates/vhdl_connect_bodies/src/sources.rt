@@ -11,8 +11,9 @@ use smallvec::SmallVec;
 use std::alloc::{AllocError, Global};
 use vhdl_values::{Nine, resolve};
 
-/// What the sources of each of so many nets hold: its drivers, by process and place, and behind them its idle ports. It takes the
-/// memory of the table, in time proportional to nets, drivers and idle ports.
+/// What the sources of each of so many nets hold: its drivers, by process and place, and behind
+/// them its idle ports. It takes the memory of the table, in time proportional to nets, drivers and
+/// idle ports.
 pub fn held(
     alloc: Global,
     nets: usize,
@@ -20,7 +21,8 @@ pub fn held(
     idle: &[IdlePort],
 ) -> Result<Vec<SmallVec<u8, 1>>, AllocError>
     ensures length { IfOk result (λ table. length table.items ≡ nets) }
-    ensures each { IfOk result (λ table. Holds (λ n. processes_hold processes.now n ++ idle_hold idle.now n) table.items) }
+    ensures each { IfOk result (λ table.
+        Holds (λ n. processes_hold processes.now n ++ idle_hold idle.now n) table.items) }
 {
     let mut table = nothing(alloc, nets)?;
     add_processes(&mut table, processes)?;
@@ -53,7 +55,8 @@ fn add_value(table: &mut [SmallVec<u8, 1>], net: usize, value: u8) -> Result<(),
 
 /// Puts what drivers start with behind the values of their nets.
 fn add_drivers(table: &mut [SmallVec<u8, 1>], drives: &[Driver]) -> Result<(), AllocError>
-    ensures { OnOk result ((f : ℕ → List ℕ) → Holds f table.old → Holds (λ n. f n ++ drivers_hold drives.now n) table.new) }
+    ensures { OnOk result ((f : ℕ → List ℕ) → Holds f table.old
+        → Holds (λ n. f n ++ drivers_hold drives.now n) table.new) }
 {
     for driver in drives {
         add_value(table, driver.net, driver.start)?;
@@ -63,7 +66,8 @@ fn add_drivers(table: &mut [SmallVec<u8, 1>], drives: &[Driver]) -> Result<(), A
 
 /// The same of all drivers of processes.
 fn add_processes(table: &mut [SmallVec<u8, 1>], processes: &[Process]) -> Result<(), AllocError>
-    ensures { OnOk result ((f : ℕ → List ℕ) → Holds f table.old → Holds (λ n. f n ++ processes_hold processes.now n) table.new) }
+    ensures { OnOk result ((f : ℕ → List ℕ) → Holds f table.old
+        → Holds (λ n. f n ++ processes_hold processes.now n) table.new) }
 {
     for process in processes {
         add_drivers(table, &process.drives)?;
@@ -81,7 +85,8 @@ fn add_idle(table: &mut [SmallVec<u8, 1>], idle: &[IdlePort]) -> Result<(), Allo
     Ok(())
 }
 
-/// The resolution of values by their codes; one alone is passed on as it is. It takes the memory of a list, where they are several.
+/// The resolution of values by their codes; one alone is passed on as it is. It takes the memory of
+/// a list, where they are several.
 fn resolved(alloc: Global, values: &[u8]) -> Result<u8, AllocError>
     requires { 0 < length values.now }
     ensures { IfOk result (λ v. v ≡ core_resolve values.now) }
@@ -114,15 +119,17 @@ fn nine_value(code: u8) -> Nine
     }
 }
 
-/// What each net starts with: the resolution of what its sources hold, or where it has none its default. It takes the memory of
-/// the list, and of one of a net's values.
+/// What each net starts with: the resolution of what its sources hold, or where it has none its
+/// default. It takes the memory of the list, and of one of a net's values.
 pub fn starts(
     alloc: Global,
     defaults: &[u8],
     held: &[SmallVec<u8, 1>],
 ) -> Result<Vec<u8>, AllocError>
     requires { length held.now ≡ length defaults.now }
-    ensures { IfOk result (λ v. v.items ≡ map (λ n. start_with (slice_index defaults.now n) (items_at held.now n)) (range_with_len 0 (length defaults.now))) }
+    ensures { IfOk result (λ v. v.items ≡
+        map (λ n. start_with (slice_index defaults.now n) (items_at held.now n))
+        (range_with_len 0 (length defaults.now))) }
 {
     let mut starts = Vec::new(alloc);
     for net in 0..defaults.len() {

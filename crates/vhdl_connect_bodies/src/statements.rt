@@ -1,4 +1,5 @@
-//! Bodies in place: nets for elements, and drivers for what is assigned (IEEE 1076-2008, clause 10, 14.7.2).
+//! Bodies in place: nets for elements, and drivers for what is assigned (IEEE 1076-2008, clause 10,
+//! 14.7.2).
 
 ghost use Rattle.std.specs.Prelude.{◌≡◌, All, Contains, OnOk};
 ghost use Rattle.rtl_net.specs.Bodies.{statement_view, statements_of};
@@ -11,12 +12,14 @@ use rtl_net::{Alternative, Branch, Statement};
 use std::alloc::AllocError;
 
 impl Connection<'_> {
-    /// Puts nets in place of the elements that a body reads, and places of drivers in place of those that it assigns, which have
-    /// one each. It takes the memory of lists of them, and time for each name in the body.
+    /// Puts nets in place of the elements that a body reads, and places of drivers in place of
+    /// those that it assigns, which have one each. It takes the memory of lists of them, and time
+    /// for each name in the body.
     pub fn connect_body(&self, body: &mut [Statement]) -> Result<(), AllocError>
         requires rising { IsRising self.now.drives.now }
         requires driven { Assigns (Contains self.now.drives.now) (statements_of body.old) }
-        ensures { OnOk result (statements_of body.new ≡ connected_body self.now.nets.now self.now.drives.now (statements_of body.old)) }
+        ensures { OnOk result (statements_of body.new ≡
+            connected_body self.now.nets.now self.now.drives.now (statements_of body.old)) }
     {
         self.connect_statements(body)
     }
@@ -76,7 +79,8 @@ impl Connection<'_> {
     #[cycle(statement)]
     fn connect_branches(&self, branches: &mut [Branch]) -> Result<(), AllocError>
         requires rising { IsRising self.now.drives.now }
-        requires driven { All (λ b. Assigns (Contains self.now.drives.now) (statements_of b.statements.items)) branches.old }
+        requires driven { All (λ b. Assigns (Contains self.now.drives.now) (statements_of b.statements.items))
+            branches.old }
         ensures { OnOk result (Became branch_view (branch_in self.now) branches.old branches.new) }
     {
         for i in 0..branches.len() {
@@ -100,7 +104,8 @@ impl Connection<'_> {
     #[cycle(statement)]
     fn connect_alternatives(&self, alternatives: &mut [Alternative]) -> Result<(), AllocError>
         requires rising { IsRising self.now.drives.now }
-        requires driven { All (λ a. Assigns (Contains self.now.drives.now) (statements_of a.statements.items)) alternatives.old }
+        requires driven { All (λ a. Assigns (Contains self.now.drives.now) (statements_of a.statements.items))
+            alternatives.old }
         ensures { OnOk result (Became alternative_view (alternative_in self.now) alternatives.old alternatives.new) }
     {
         for i in 0..alternatives.len() {
@@ -114,7 +119,8 @@ impl Connection<'_> {
     fn connect_alternative(&self, alternative: &mut Alternative) -> Result<(), AllocError>
         requires rising { IsRising self.now.drives.now }
         requires driven { Assigns (Contains self.now.drives.now) (statements_of alternative.old.statements.items) }
-        ensures { OnOk result (alternative_view alternative.new ≡ alternative_in self.now (alternative_view alternative.old)) }
+        ensures { OnOk result (alternative_view alternative.new ≡
+            alternative_in self.now (alternative_view alternative.old)) }
     {
         self.connect_statements(&mut alternative.statements)
     }

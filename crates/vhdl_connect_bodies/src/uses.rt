@@ -1,5 +1,5 @@
-//! What an instance does with the elements of its ports and signals: how many sources they have in it, and whether they are
-//! read (IEEE 1076-2008, 6.4.2.3, 6.5.6.3).
+//! What an instance does with the elements of its ports and signals: how many sources they have in
+//! it, and whether they are read (IEEE 1076-2008, 6.4.2.3, 6.5.6.3).
 
 ghost use Rattle.std.specs.Prelude.{◌≡◌, ℕ, List, [], ◌∷◌, ◌++◌, length, map, IfOk, OnOk};
 ghost use Rattle.vhdl_expand_rules.specs.Tree.{input, output, no_parts};
@@ -87,7 +87,8 @@ fn set_read(uses: &mut [Use], element: usize)
     };
 }
 
-/// Marks what a process drives and reads. It takes the memory of a list of what its body reads, and time to sort it.
+/// Marks what a process drives and reads. It takes the memory of a list of what its body reads, and
+/// time to sort it.
 fn mark_process(alloc: Global, uses: &mut [Use], process: &Process) -> Result<(), AllocError>
     ensures { OnOk result ((driven read : List ℕ) → AreUses driven read uses.old
         → AreUses (driven ++ process.now.drives.items) (read ++ process_reads (process_view process.now)) uses.new) }
@@ -101,7 +102,8 @@ fn mark_process(alloc: Global, uses: &mut [Use], process: &Process) -> Result<()
 
 /// Marks what the list of a process reads.
 fn mark_listed(uses: &mut [Use], sensitivity: &Sensitivity)
-    ensures { (driven read : List ℕ) → AreUses driven read uses.old → AreUses driven (read ++ listed_by (sensitivity_view sensitivity.now)) uses.new }
+    ensures { (driven read : List ℕ) → AreUses driven read uses.old
+        → AreUses driven (read ++ listed_by (sensitivity_view sensitivity.now)) uses.new }
 {
     match sensitivity {
         Sensitivity::Listed(listed) => mark_read(uses, listed),
@@ -113,7 +115,8 @@ fn mark_listed(uses: &mut [Use], sensitivity: &Sensitivity)
 /// Marks what the ports of an instance drive and read in the one round it.
 fn mark_ports(uses: &mut [Use], objects: &[Object])
     ensures { (driven read : List ℕ) → AreUses driven read uses.old
-        → AreUses (driven ++ actuals_of output (map object_view objects.now)) (read ++ actuals_of input (map object_view objects.now)) uses.new }
+        → AreUses (driven ++ actuals_of output (map object_view objects.now))
+        (read ++ actuals_of input (map object_view objects.now)) uses.new }
 {
     for object in objects {
         mark_port(uses, object);
@@ -123,7 +126,8 @@ fn mark_ports(uses: &mut [Use], objects: &[Object])
 /// Marks what a port of an instance drives or reads in the one round it.
 fn mark_port(uses: &mut [Use], object: &Object)
     ensures { (driven read : List ℕ) → AreUses driven read uses.old
-        → AreUses (driven ++ actuals_of output (map object_view (object.now ∷ []))) (read ++ actuals_of input (map object_view (object.now ∷ []))) uses.new }
+        → AreUses (driven ++ actuals_of output (map object_view (object.now ∷ [])))
+        (read ++ actuals_of input (map object_view (object.now ∷ []))) uses.new }
 {
     match &object.actual {
         None => {}
@@ -135,11 +139,12 @@ fn mark_port(uses: &mut [Use], object: &Object)
     }
 }
 
-/// Marks what a part of an instance drives and reads in it. It takes the memory of a list of what a body reads, and time to sort
-/// it.
+/// Marks what a part of an instance drives and reads in it. It takes the memory of a list of what a
+/// body reads, and time to sort it.
 fn mark_part(alloc: Global, uses: &mut [Use], part: &InstancePart) -> Result<(), AllocError>
     ensures { OnOk result ((driven read : List ℕ) → AreUses driven read uses.old
-        → AreUses (driven ++ driven_in (part_before no_parts part.now)) (read ++ read_in (part_before no_parts part.now)) uses.new) }
+        → AreUses (driven ++ driven_in (part_before no_parts part.now))
+        (read ++ read_in (part_before no_parts part.now)) uses.new) }
 {
     match part {
         InstancePart::Process(process) => mark_process(alloc, uses, process),
@@ -165,15 +170,16 @@ fn unused(alloc: Global, elements: usize) -> Result<Vec<Use>, AllocError>
     Ok(uses)
 }
 
-/// What the parts of an instance do with its first so many elements. It takes the memory of the list and of lists of what bodies
-/// read, and time to sort these.
+/// What the parts of an instance do with its first so many elements. It takes the memory of the
+/// list and of lists of what bodies read, and time to sort these.
 pub fn uses_in(
     alloc: Global,
     parts: &[InstancePart],
     elements: usize,
 ) -> Result<Vec<Use>, AllocError>
     ensures length { IfOk result (λ uses. length uses.items ≡ elements) }
-    ensures each { IfOk result (λ uses. AreUses (driven_in (parts_of parts.now)) (read_in (parts_of parts.now)) uses.items) }
+    ensures each { IfOk result (λ uses.
+        AreUses (driven_in (parts_of parts.now)) (read_in (parts_of parts.now)) uses.items) }
 {
     let mut uses = unused(alloc, elements)?;
     for part in parts {

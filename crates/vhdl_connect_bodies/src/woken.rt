@@ -48,8 +48,9 @@ fn nets_in_order(
     short(connection.alloc, &found)
 }
 
-/// The nets that a process is sensitive to, rising, each once, where its body reads these nets: those of a list's names, of all
-/// names that it reads, or those that it reads. It takes the memory of the list, and time to sort it.
+/// The nets that a process is sensitive to, rising, each once, where its body reads these nets:
+/// those of a list's names, of all names that it reads, or those that it reads. It takes the memory
+/// of the list, and time to sort it.
 pub fn wakes(
     connection: &Connection,
     sensitivity: &Sensitivity,

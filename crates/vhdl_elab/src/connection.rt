@@ -20,9 +20,10 @@ use std::alloc::Global;
 use vhdl_expand_rules::ElabFault;
 use vhdl_expand_tree::Design;
 
-/// The parts of the flat netlist of a design within the limits, where it breaks no rule of a design as a whole (IEEE 1076-2008,
-/// 6.4.2.3, 14.7.2, 14.7.3): its instances, nets and processes are numbered and its nets are wired. It takes the memory of the
-/// netlist's parts, and for a while that of a table of elements and one of what the sources of nets hold.
+/// The parts of the flat netlist of a design within the limits, where it breaks no rule of a design
+/// as a whole (IEEE 1076-2008, 6.4.2.3, 14.7.2, 14.7.3): its instances, nets and processes are
+/// numbered and its nets are wired. It takes the memory of the netlist's parts, and for a while
+/// that of a table of elements and one of what the sources of nets hold.
 pub fn connect(alloc: Global, design: Design) -> Result<Parts, ElabFault>
     requires ready { InstanceIsReady (design_view design).top }
     requires there { NetsAreThere (numbered_design (design_view design)) }

@@ -21,17 +21,21 @@ use vhdl_expand::expand;
 use vhdl_expand_rules::ElabFault;
 use vhdl_names_units::Units;
 
-/// Elaborates the design whose top is the entity of this name, in letters of either case. The generics of the top have their
-/// defaults, and its ports are joined to nothing. It takes the memory of the tree of instances and then of the netlist, within the
-/// limits of elaboration. The units are such as `vhdl_names::analyse` promises of a file that `vhdl_parser::parse`
-/// gives of the tokens of `vhdl_lexer::lex`.
+/// Elaborates the design whose top is the entity of this name, in letters of either case. The
+/// generics of the top have their defaults, and its ports are joined to nothing. It takes the
+/// memory of the tree of instances and then of the netlist, within the limits of elaboration. The
+/// units are such as `vhdl_names::analyse` promises of a file that `vhdl_parser::parse` gives of
+/// the tokens of `vhdl_lexer::lex`.
 pub fn elaborate(alloc: Global, units: &Units, top: &[u8]) -> Result<Net, ElabFault>
     requires sound { IsTrue (are_sound (units_view units.now)) }
     requires named { IsTrue (are_named (units_view units.now)) }
-    ensures given { Charges (units_bytes (units_view units.now)) net_shown (as_shown (elaborated_net (units_view units.now) top.now)) result }
-    ensures refused { IfErr result (λ fault. fault ≢ NoMemory → MayRefuse (units_view units.now) top.now (fault_told fault)) }
+    ensures given { Charges (units_bytes (units_view units.now)) net_shown
+        (as_shown (elaborated_net (units_view units.now) top.now)) result }
+    ensures refused { IfErr result (λ fault. fault ≢ NoMemory
+        → MayRefuse (units_view units.now) top.now (fault_told fault)) }
 
-    // Where the ports of each entity have names of their own, those of the top have, so that a stimulus can speak of them.
+    // Where the ports of each entity have names of their own, those of the top have, so that a
+    // stimulus can speak of them.
     ensures ports { IfOk result (λ net. IsTrue (small_ports_are_distinct (units_view units.now)) → HasOwnPorts net) }
 {
     let design = expand(alloc, units, top)?;

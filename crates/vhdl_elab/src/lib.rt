@@ -1,7 +1,9 @@
-//! Elaboration of a design: from the units of a file and the name of its top to its netlist (IEEE 1076-2008, clause 14).
+//! Elaboration of a design: from the units of a file and the name of its top to its netlist (IEEE
+//! 1076-2008, clause 14).
 //!
-//! `connect` makes the flat netlist of the tree of a design's instances: `number` takes the tree apart into the tables of the netlist,
-//! `wire` gives these their inputs, sources, idle ports and starts (IEEE 1076-2008, 6.4.2.3, 14.7.2, 14.7.3).
+//! `connect` makes the flat netlist of the tree of a design's instances: `number` takes the tree
+//! apart into the tables of the netlist, `wire` gives these their inputs, sources, idle ports and
+//! starts (IEEE 1076-2008, 6.4.2.3, 14.7.2, 14.7.3).
 #![tactic(auto)]
 
 mod connection;

@@ -1,4 +1,5 @@
-//! The nets that are an object's own, and no actual's: their types, and what they start with (IEEE 1076-2008, 6.4.2.3, 6.5.6.3).
+//! The nets that are an object's own, and no actual's: their types, and what they start with (IEEE
+//! 1076-2008, 6.4.2.3, 6.5.6.3).
 
 ghost use Rattle.std.specs.Prelude.{◌≡◌, ◌++◌, map, replicate, slice_index, OnOk};
 ghost use Rattle.std.specs.List.{range_with_len};
@@ -38,7 +39,8 @@ fn net_kind(kind: ObjectKind) -> NetKind
 
 /// Puts the types of the nets of an object of this kind behind others.
 fn push_kinds(kinds: &mut Vec<NetKind>, kind: ObjectKind) -> Result<(), AllocError>
-    ensures { OnOk result (map type_of kinds.new.items ≡ map type_of kinds.old.items ++ replicate (size (kind_view kind)) (element_type (kind_view kind))) }
+    ensures { OnOk result (map type_of kinds.new.items ≡ map type_of kinds.old.items
+        ++ replicate (size (kind_view kind)) (element_type (kind_view kind))) }
 {
     let net = net_kind(kind);
     for _ in 0..kind.size() {
@@ -49,7 +51,8 @@ fn push_kinds(kinds: &mut Vec<NetKind>, kind: ObjectKind) -> Result<(), AllocErr
 
 /// Puts what so many elements start with behind others.
 fn push_defaults(defaults: &mut Vec<u8>, starts: &[u8], len: usize) -> Result<(), AllocError>
-    ensures { OnOk result (defaults.new.items ≡ defaults.old.items ++ map (slice_index starts.now) (range_with_len 0 len)) }
+    ensures { OnOk result (defaults.new.items ≡ defaults.old.items
+        ++ map (slice_index starts.now) (range_with_len 0 len)) }
 {
     for k in 0..len {
         defaults.push(start_at(starts, k))?;
@@ -59,7 +62,8 @@ fn push_defaults(defaults: &mut Vec<u8>, starts: &[u8], len: usize) -> Result<()
 
 /// Puts the types of the nets that are an object's own behind others.
 pub(crate) fn push_own_kinds(kinds: &mut Vec<NetKind>, object: &Object) -> Result<(), AllocError>
-    ensures { OnOk result (map type_of kinds.new.items ≡ map type_of kinds.old.items ++ own_types (object_view object.now)) }
+    ensures { OnOk result (map type_of kinds.new.items ≡ map type_of kinds.old.items
+        ++ own_types (object_view object.now)) }
 {
     match &object.actual {
         Some(_) => Ok(()),

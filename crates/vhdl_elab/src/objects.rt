@@ -1,5 +1,5 @@
-//! What the ports and signals of an instance add to the tables (IEEE 1076-2008, 6.4.2.3), and an instance without what stands in
-//! it (14.3).
+//! What the ports and signals of an instance add to the tables (IEEE 1076-2008, 6.4.2.3), and an
+//! instance without what stands in it (14.3).
 
 ghost use Rattle.std.specs.Prelude.{◌≡◌, ◌+◌, ◌≤◌, [], ◌∷◌, map, vec_len, IfOk, OnOk};
 ghost use Rattle.vhdl_expand_rules.specs.Kinds.{size};
@@ -17,8 +17,8 @@ use vhdl_connect_bodies::uses_in;
 use vhdl_expand_tree::{Instance, Object};
 
 impl Made {
-    /// Adds an object, whose first element has this number in its instance, and gives the number of the element after it. Its name
-    /// is taken out of the tree.
+    /// Adds an object, whose first element has this number in its instance, and gives the number of
+    /// the element after it. Its name is taken out of the tree.
     fn object(
         &mut self,
         place: &InstancePlace,
@@ -38,7 +38,8 @@ impl Made {
         Ok(first + len)
     }
 
-    /// Adds the objects of an instance, and gives the number of their elements. Their names are taken out of the tree.
+    /// Adds the objects of an instance, and gives the number of their elements. Their names are
+    /// taken out of the tree.
     fn objects(
         &mut self,
         place: &InstancePlace,
@@ -54,9 +55,10 @@ impl Made {
         Ok(first)
     }
 
-    /// Adds an instance, without what stands in it, in its place, under this scope (IEEE 1076-2008, 14.3). The names of its objects
-    /// are taken out of the tree; its parts stay. It takes the memory of what the tables get, and for a time of one use for each
-    /// element, and time to sort what each process in it reads. After a fault the tables may have a part of it.
+    /// Adds an instance, without what stands in it, in its place, under this scope (IEEE 1076-2008,
+    /// 14.3). The names of its objects are taken out of the tree; its parts stay. It takes the
+    /// memory of what the tables get, and for a time of one use for each element, and time to sort
+    /// what each process in it reads. After a fault the tables may have a part of it.
     pub fn declare(
         &mut self,
         place: &InstancePlace,

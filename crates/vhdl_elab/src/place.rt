@@ -19,7 +19,8 @@ use vhdl_connect_bodies::signal_kind;
 use vhdl_expand_rules::byte;
 use vhdl_expand_tree::{Object, Role};
 
-/// The place of an instance: its number, whether it is the top, and the nets of its elements, in order of declaration.
+/// The place of an instance: its number, whether it is the top, and the nets of its elements, in
+/// order of declaration.
 #[derive(Clone, Copy)]
 pub struct InstancePlace<'a> {
     pub alloc: Global,
@@ -60,7 +61,8 @@ impl InstancePlace<'_> {
         requires { first ≤ vec_len elements.old }
         ensures count { OnOk result (vec_len elements.new ≡ vec_len elements.old + size (kind_view object.now.kind)) }
         ensures made { OnOk result (map element_view elements.new.items
-            ≡ map element_view elements.old.items ++ object_statics self.now.is_top self.now.nets.now first (object_view object.now)) }
+            ≡ map element_view elements.old.items
+            ++ object_statics self.now.is_top self.now.nets.now first (object_view object.now)) }
     {
         for k in 0..object.kind.size() {
             elements.push(Element {
@@ -92,9 +94,11 @@ impl InstancePlace<'_> {
         Ok(found)
     }
 
-    /// The signal that an object is, whose first element has this number. Its name is taken out of the tree.
+    /// The signal that an object is, whose first element has this number. Its name is taken out of
+    /// the tree.
     pub(crate) fn signal(&self, first: usize, object: &mut Object) -> Result<Signal, AllocError>
-        ensures { IfOk result (λ s. signal_with_byte s ≡ shown_with_byte (signal_of self.now.scope self.now.nets.now first (object_view object.old))) }
+        ensures { IfOk result (λ s. signal_with_byte s ≡
+            shown_with_byte (signal_of self.now.scope self.now.nets.now first (object_view object.old))) }
     {
         let kind = signal_kind(object.kind);
         let nets = self.nets_from(first, object.kind.size())?;

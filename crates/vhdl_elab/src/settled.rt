@@ -10,7 +10,8 @@ use rtl_net::Process;
 
 /// Leaves nothing that resumes a process where there are no nets.
 pub(crate) fn settle(processes: &mut [Process], nets: usize)
-    ensures { (xs : List Located) → AllZip IsLocated xs processes.old → NetsAreBelow nets xs → AllZip (IsSettled nets) xs processes.new }
+    ensures { (xs : List Located) → AllZip IsLocated xs processes.old → NetsAreBelow nets xs
+        → AllZip (IsSettled nets) xs processes.new }
 {
     if nets > 0 {
         return;

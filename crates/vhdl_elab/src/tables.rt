@@ -1,5 +1,5 @@
-//! What is told of a design by its elements and their uses: inputs, idle out ports, and what is refused of it as a whole
-//! (IEEE 1076-2008, 6.4.2.3, 6.5.6.3, 14.7.2).
+//! What is told of a design by its elements and their uses: inputs, idle out ports, and what is
+//! refused of it as a whole (IEEE 1076-2008, 6.4.2.3, 6.5.6.3, 14.7.2).
 
 ghost use Rattle.std.specs.Prelude.{◌≡◌, nat_le, length, IfOk};
 ghost use Rattle.std.specs.List.{zip};
@@ -35,7 +35,8 @@ fn is_input_of_top(element: &Element) -> bool
     }
 }
 
-/// The out ports' elements below the top without a source in their instance, in order. It takes the memory of the list.
+/// The out ports' elements below the top without a source in their instance, in order. It takes the
+/// memory of the list.
 pub fn idle_ports(
     alloc: Global,
     elements: &[Element],
@@ -97,8 +98,8 @@ fn is_two_unresolved(element: &Element, used: &Use) -> bool
     }
 }
 
-/// Where the first element of an out port is declared that is read in its instance, and whose net has several sources, where
-/// the sources of each net hold these values.
+/// Where the first element of an out port is declared that is read in its instance, and whose net
+/// has several sources, where the sources of each net hold these values.
 pub fn read_of_shared(elements: &[Element], uses: &[Use], held: &[SmallVec<u8, 1>]) -> Option<usize>
     requires { length uses.now ≡ length elements.now }
     ensures { result ≡ tables.first_at (tables.is_read_of_shared held.now) (zip elements.now uses.now) }

@@ -24,7 +24,8 @@ struct Above<'a> {
     nets: &'a [u32],
 }
 
-/// Adds an instance with this label, and what stands in it, behind what is made already. It is taken apart.
+/// Adds an instance with this label, and what stands in it, behind what is made already. It is
+/// taken apart.
 #[cycle(instance)]
 fn instance(
     alloc: Global,
@@ -35,7 +36,8 @@ fn instance(
 ) -> Result<(), AllocError>
     requires ready { InstanceIsReady (instance_view from.old) }
     requires room { length made.old.kinds.items + instance_nets (instance_view from.old) ≤ most_nets }
-    ensures nets { OnOk result (length made.new.kinds.items ≡ length made.old.kinds.items + instance_nets (instance_view from.old)) }
+    ensures nets { OnOk result (length made.new.kinds.items ≡
+        length made.old.kinds.items + instance_nets (instance_view from.old)) }
     ensures made { (d : Numbered) (path : List ℕ) → IsMade d made.old
         → OnOk result (IsMade (with_instance (above_at above.now path) label.items (instance_view from.old) d) made.new) }
 {
@@ -59,12 +61,14 @@ fn instance(
     parts(&round, &mut from.parts, made)
 }
 
-/// Adds what stands in an instance, in order of the text, behind what is made already. It is taken apart.
+/// Adds what stands in an instance, in order of the text, behind what is made already. It is taken
+/// apart.
 #[cycle(instance)]
 fn parts(round: &Round, list: &mut [InstancePart], made: &mut Made) -> Result<(), AllocError>
     requires ready { PartsAreReady (parts_of list.old) }
     requires room { length made.old.kinds.items + parts_nets (parts_of list.old) ≤ most_nets }
-    ensures nets { OnOk result (length made.new.kinds.items ≡ length made.old.kinds.items + parts_nets (parts_of list.old)) }
+    ensures nets { OnOk result (length made.new.kinds.items ≡
+        length made.old.kinds.items + parts_nets (parts_of list.old)) }
     ensures made { (d : Numbered) (p : Placed) → IsIn p round.now → IsMade d made.old
         → OnOk result (IsMade (with_parts round.now.scope p (parts_of list.old) d) made.new) }
 {
@@ -74,12 +78,14 @@ fn parts(round: &Round, list: &mut [InstancePart], made: &mut Made) -> Result<()
     Ok(())
 }
 
-/// Adds a process or an instance that stands in an instance, behind what is made already. It is taken apart.
+/// Adds a process or an instance that stands in an instance, behind what is made already. It is
+/// taken apart.
 #[cycle(instance)]
 fn part(round: &Round, from: &mut InstancePart, made: &mut Made) -> Result<(), AllocError>
     requires ready { PartsAreReady (part_before no_parts from.old) }
     requires room { length made.old.kinds.items + parts_nets (part_before no_parts from.old) ≤ most_nets }
-    ensures nets { OnOk result (length made.new.kinds.items ≡ length made.old.kinds.items + parts_nets (part_before no_parts from.old)) }
+    ensures nets { OnOk result (length made.new.kinds.items ≡
+        length made.old.kinds.items + parts_nets (part_before no_parts from.old)) }
     ensures made { (d : Numbered) (p : Placed) → IsIn p round.now → IsMade d made.old
         → OnOk result (IsMade (with_parts round.now.scope p (part_before no_parts from.old) d) made.new) }
 {
@@ -102,9 +108,9 @@ fn part(round: &Round, from: &mut InstancePart, made: &mut Made) -> Result<(), A
     }
 }
 
-/// Numbers the instances, nets and processes of a design in order of the text, and makes of them the tables of its netlist (IEEE
-/// 1076-2008, 14.2). The tree is taken apart. It takes the memory of the tables, and at each level of instances that of the nets
-/// and defaults of one.
+/// Numbers the instances, nets and processes of a design in order of the text, and makes of them
+/// the tables of its netlist (IEEE 1076-2008, 14.2). The tree is taken apart. It takes the memory
+/// of the tables, and at each level of instances that of the nets and defaults of one.
 pub fn number(alloc: Global, mut design: Design) -> Result<Made, AllocError>
     requires ready { InstanceIsReady (design_view design).top }
     requires room { instance_nets (design_view design).top ≤ most_nets }

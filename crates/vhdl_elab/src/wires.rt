@@ -1,4 +1,5 @@
-//! What is told of a design as a whole: its idle ports, inputs, and what its nets start with, or why it is refused.
+//! What is told of a design as a whole: its idle ports, inputs, and what its nets start with, or
+//! why it is refused.
 
 ghost use Rattle.std.specs.Prelude.{◌≡◌, ◌≢◌, length, IfOk, IfErr};
 ghost use Rattle.vhdl_expand_rules.specs.declared.fault.ElabFault.TheVariants.{NoMemory};
@@ -23,7 +24,8 @@ pub(crate) struct Wires {
     pub(crate) starts: Vec<u8>,
 }
 
-/// What is told of a design by its tables. It takes the memory of a table of what the sources of nets hold.
+/// What is told of a design by its tables. It takes the memory of a table of what the sources of
+/// nets hold.
 pub(crate) fn told(alloc: Global, made: &Made) -> Result<Wires, ElabFault>
     requires uses { length made.now.uses.items ≡ length made.now.elements.items }
     requires defaults { length made.now.kinds.items ≡ length made.now.defaults.items }

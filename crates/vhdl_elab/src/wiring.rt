@@ -18,14 +18,17 @@ use rtl_net::Parts;
 use std::alloc::Global;
 use vhdl_expand_rules::ElabFault;
 
-/// The parts of the flat netlist of the numbered design that these tables are made of, where it breaks no rule of a design as a
-/// whole: an unresolved element with two sources, and an out port with several sources that is read. It takes the memory of a
-/// table of what the sources of nets hold.
+/// The parts of the flat netlist of the numbered design that these tables are made of, where it
+/// breaks no rule of a design as a whole: an unresolved element with two sources, and an out port
+/// with several sources that is read. It takes the memory of a table of what the sources of nets
+/// hold.
 pub fn wire(alloc: Global, made: Made) -> Result<Parts, ElabFault>
     requires uses { length made.uses.items ≡ length made.elements.items }
     requires defaults { length made.kinds.items ≡ length made.defaults.items }
-    ensures given { (d : Numbered) → IsMade d made → NetsAreThere d → Expands (λ p. net_shown (assembled p)) (as_shown (wired d)) result }
-    ensures reads { (d : Numbered) → IsMade d made → NetsAreThere d → IfOk result (λ p. All ReadsOfBody p.processes.items) }
+    ensures given { (d : Numbered) → IsMade d made → NetsAreThere d
+        → Expands (λ p. net_shown (assembled p)) (as_shown (wired d)) result }
+    ensures reads { (d : Numbered) → IsMade d made → NetsAreThere d
+        → IfOk result (λ p. All ReadsOfBody p.processes.items) }
     ensures signals { (d : Numbered) → IsMade d made → IfOk result (AreDeclaredAt (net_of d).signals) }
     ensures idle { (d : Numbered) → IsMade d made → NetsAreThere d → IfOk result IdleAreThere }
 {

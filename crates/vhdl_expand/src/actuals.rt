@@ -69,8 +69,8 @@ fn as_many(run: Run, kind: ObjectKind, at: usize) -> Result<(), ElabFault>
     Ok(())
 }
 
-/// Gives a port of a declaration the elements of its actual, if it has one; a fault is StaticError, Index, Length or Unassociated,
-/// the last at this byte.
+/// Gives a port of a declaration the elements of its actual, if it has one; a fault is StaticError,
+/// Index, Length or Unassociated, the last at this byte.
 #[tactic(auto, unfolding(vhdl_expand_rules::specs::Declarations::association), using(crate::proofs::Associating::run_long))]
 fn associate(
     alloc: Global,
@@ -81,7 +81,9 @@ fn associate(
     at: usize,
 ) -> Result<(), ElabFault>
     requires { IsSite above.now }
-    ensures { Expands (λ _. object_view port.new) (definition.association (site_view above.now) at (any_port declaration.now) (option_map (λ place. place_view place.now) actual.entry) (object_view port.old)) result }
+    ensures { Expands (λ _. object_view port.new)
+        (definition.association (site_view above.now) at (any_port declaration.now)
+        (option_map (λ place. place_view place.now) actual.entry) (object_view port.old)) result }
 {
     let Some(place) = actual else {
         if is_input(port.role) && declaration.objects.default.is_none() {
@@ -95,8 +97,8 @@ fn associate(
     Ok(())
 }
 
-/// Associates the ports of one declaration, where so many are associated before; how many are then. It ends where there are no
-/// further ones.
+/// Associates the ports of one declaration, where so many are associated before; how many are then.
+/// It ends where there are no further ones.
 fn associate_all(
     alloc: Global,
     above: &Site,
@@ -108,7 +110,9 @@ fn associate_all(
 ) -> Result<usize, ElabFault>
     requires placed { IsSite above.now }
     requires there { before ≤ length ports.old.items }
-    ensures given { Expands (λ count. associated_to count ports.new.items) (stepwise (next_associated (site_view above.now) at (places_view actuals.now)) (associated_to before ports.old.items) (ports_view declaration.now)) result }
+    ensures given { Expands (λ count. associated_to count ports.new.items)
+        (stepwise (next_associated (site_view above.now) at (places_view actuals.now))
+        (associated_to before ports.old.items) (ports_view declaration.now)) result }
     ensures within { IfOk result (λ count. count ≤ length ports.new.items) }
 {
     let mut count = before;
@@ -124,8 +128,8 @@ fn associate_all(
     Ok(count)
 }
 
-/// Associates ports, in order, with elements of the instance above; a fault is StaticError, Index, Length, or Unassociated at this
-/// byte.
+/// Associates ports, in order, with elements of the instance above; a fault is StaticError, Index,
+/// Length, or Unassociated at this byte.
 fn associate_ports(
     alloc: Global,
     above: &Site,
@@ -135,7 +139,9 @@ fn associate_ports(
     at: usize,
 ) -> Result<(), ElabFault>
     requires { IsSite above.now }
-    ensures { Expands (λ _. map object_view ports.new.items) (definition.associations (site_view above.now) at (flat_map ports_view declarations.now) (places_view actuals.now) (map object_view ports.old.items)) result }
+    ensures { Expands (λ _. map object_view ports.new.items)
+        (definition.associations (site_view above.now) at (flat_map ports_view declarations.now)
+        (places_view actuals.now) (map object_view ports.old.items)) result }
 {
     let mut count = 0;
     for declaration in declarations {
@@ -145,8 +151,10 @@ fn associate_ports(
     Ok(())
 }
 
-/// Associates the ports of an instance of an entity, behind which nothing is declared yet, with elements of the instance above. It
-/// takes the memory of these, and for a while that of a list of the actuals. A fault is StaticError, Index, Length, or Unassociated at this byte, and then no one says how far it came.
+/// Associates the ports of an instance of an entity, behind which nothing is declared yet, with
+/// elements of the instance above. It takes the memory of these, and for a while that of a list of
+/// the actuals. A fault is StaticError, Index, Length, or Unassociated at this byte, and then no
+/// one says how far it came.
 pub fn associations(
     alloc: Global,
     above: &Site,
@@ -156,7 +164,9 @@ pub fn associations(
     at: usize,
 ) -> Result<(), ElabFault>
     requires { IsSite above.now }
-    ensures { Expands (λ _. declared_view declared.new) (associated (site_view above.now) at (all_ports_view unit.now.ports) (map (option_map place_view) (each_actual actuals.now)) (declared_view declared.old)) result }
+    ensures { Expands (λ _. declared_view declared.new)
+        (associated (site_view above.now) at (all_ports_view unit.now.ports)
+        (map (option_map place_view) (each_actual actuals.now)) (declared_view declared.old)) result }
 {
     let actuals = actuals.listed(alloc)?;
     associate_ports(

@@ -1,7 +1,8 @@
-//! What bodies cost, counted over their text before their loops are unrolled (IEEE 1076-2008, 10.10).
+//! What bodies cost, counted over their text before their loops are unrolled (IEEE 1076-2008,
+//! 10.10).
 //!
-//! Only ranges of loops are computed, and each turn and each statement is taken from the budget as it is come to: so the walk ends
-//! where none is left, however long the body would be.
+//! Only ranges of loops are computed, and each turn and each statement is taken from the budget as
+//! it is come to: so the walk ends where none is left, however long the body would be.
 
 ghost use Rattle.std.specs.Prelude.{◌≡◌, ◌++◌, [], ◌∷◌, flat_map, map, Ok};
 ghost use Rattle.vhdl_names_rules.specs.views.Integers.{range_view};
@@ -23,9 +24,10 @@ use vhdl_expand_rules::{ElabFault, Integers};
 use vhdl_expand_tree::Budget;
 use vhdl_names_units::{Alternative, Branch, Case, If, Loop, Statement};
 
-/// Takes what a body costs from the budget: a turn for each turn of its loops, and a statement for each statement of the unrolled
-/// body. A fault is StaticError, or TooMany where a loop has more than 4,096 turns or the budget has less left; `at` is the byte of
-/// the process. It takes the memory of the loops' parameters.
+/// Takes what a body costs from the budget: a turn for each turn of its loops, and a statement for
+/// each statement of the unrolled body. A fault is StaticError, or TooMany where a loop has more
+/// than 4,096 turns or the budget has less left; `at` is the byte of the process. It takes the
+/// memory of the loops' parameters.
 pub fn charge_body(
     alloc: Global,
     integers: &Integers,
@@ -33,8 +35,10 @@ pub fn charge_body(
     at: usize,
     budget: &mut Budget,
 ) -> Result<(), ElabFault>
-    ensures { Charges (at ∷ statements_bytes (analysed.statements_of (map analysed.statement_view statements.now))) (λ _. budget_view budget.new)
-        (paid (budget_view budget.old) (definition.statements_costs (integers_view integers.now) (analysed.statements_of (map analysed.statement_view statements.now)))) result }
+    ensures { Charges (at ∷ statements_bytes (analysed.statements_of (map analysed.statement_view statements.now)))
+        (λ _. budget_view budget.new)
+        (paid (budget_view budget.old) (definition.statements_costs (integers_view integers.now)
+        (analysed.statements_of (map analysed.statement_view statements.now)))) result }
 {
     of_statements(alloc, integers, statements, at, budget)
 }
@@ -48,8 +52,10 @@ fn of_statements(
     at: usize,
     budget: &mut Budget,
 ) -> Result<(), ElabFault>
-    ensures { Charges (at ∷ statements_bytes (analysed.statements_of (map analysed.statement_view list.now))) (λ _. budget_view budget.new)
-        (paid (budget_view budget.old) (definition.statements_costs (integers_view integers.now) (analysed.statements_of (map analysed.statement_view list.now)))) result }
+    ensures { Charges (at ∷ statements_bytes (analysed.statements_of (map analysed.statement_view list.now)))
+        (λ _. budget_view budget.new)
+        (paid (budget_view budget.old) (definition.statements_costs (integers_view integers.now)
+        (analysed.statements_of (map analysed.statement_view list.now)))) result }
 {
     for statement in list {
         of_statement(alloc, integers, statement, at, budget)?;
@@ -68,7 +74,8 @@ fn of_statement(
     budget: &mut Budget,
 ) -> Result<(), ElabFault>
     ensures { Charges (at ∷ statement_bytes (analysed.statement_view statement.now)) (λ _. budget_view budget.new)
-        (paid (budget_view budget.old) (definition.statement_costs (integers_view integers.now) (analysed.statement_view statement.now))) result }
+        (paid (budget_view budget.old) (definition.statement_costs (integers_view integers.now)
+        (analysed.statement_view statement.now))) result }
 {
     match statement {
         Statement::Null => budget.charge_statement(at),
@@ -88,9 +95,14 @@ fn of_conditional(
     conditional: &If,
     budget: &mut Budget,
 ) -> Result<(), ElabFault>
-    ensures { Charges ((out-If conditional.now).at ∷ branches_bytes (analysed.branches_of (analysed.branches_view (out-If conditional.now).branches) (analysed.last_of (analysed.option_statements_view (out-If conditional.now).otherwise)))) (λ _. budget_view budget.new)
+    ensures { Charges ((out-If conditional.now).at
+        ∷ branches_bytes (analysed.branches_of (analysed.branches_view (out-If conditional.now).branches)
+        (analysed.last_of (analysed.option_statements_view (out-If conditional.now).otherwise))))
+        (λ _. budget_view budget.new)
         (paid (budget_view budget.old) (definition.statement_costs (integers_view integers.now)
-        (units.if_of (out-If conditional.now).at (analysed.branches_of (analysed.branches_view (out-If conditional.now).branches) (analysed.last_of (analysed.option_statements_view (out-If conditional.now).otherwise)))))) result }
+        (units.if_of (out-If conditional.now).at
+        (analysed.branches_of (analysed.branches_view (out-If conditional.now).branches)
+        (analysed.last_of (analysed.option_statements_view (out-If conditional.now).otherwise)))))) result }
 {
     let at = conditional.at;
     budget.charge_statement(at)?;
@@ -111,7 +123,8 @@ fn of_branches(
     budget: &mut Budget,
 ) -> Result<(), ElabFault>
     ensures { Charges (at ∷ flat_map guarded_bytes (map analysed.branch_view list.now)) (λ _. budget_view budget.new)
-        (paid (budget_view budget.old) (together (guarded_costs (integers_view integers.now)) (map analysed.branch_view list.now))) result }
+        (paid (budget_view budget.old) (together (guarded_costs (integers_view integers.now))
+        (map analysed.branch_view list.now))) result }
 {
     for branch in list {
         of_statements(alloc, integers, &branch.statements, at, budget)?;
@@ -127,9 +140,15 @@ fn of_selection(
     selection: &Case,
     budget: &mut Budget,
 ) -> Result<(), ElabFault>
-    ensures { Charges ((out-Case selection.now).at ∷ alternatives_bytes (analysed.alternatives_of (analysed.alternatives_view (out-Case selection.now).alternatives) (analysed.statements_of (analysed.statements_view (out-Case selection.now).others)))) (λ _. budget_view budget.new)
-        (paid (budget_view budget.old) (both (Ok a_statement) (definition.alternatives_costs (integers_view integers.now)
-        (analysed.alternatives_of (analysed.alternatives_view (out-Case selection.now).alternatives) (analysed.statements_of (analysed.statements_view (out-Case selection.now).others)))))) result }
+    ensures { Charges ((out-Case selection.now).at
+        ∷ alternatives_bytes (analysed.alternatives_of
+        (analysed.alternatives_view (out-Case selection.now).alternatives)
+        (analysed.statements_of (analysed.statements_view (out-Case selection.now).others))))
+        (λ _. budget_view budget.new)
+        (paid (budget_view budget.old) (both (Ok a_statement)
+        (definition.alternatives_costs (integers_view integers.now)
+        (analysed.alternatives_of (analysed.alternatives_view (out-Case selection.now).alternatives)
+        (analysed.statements_of (analysed.statements_view (out-Case selection.now).others)))))) result }
 {
     let at = selection.at;
     budget.charge_statement(at)?;
@@ -146,8 +165,10 @@ fn of_alternatives(
     at: usize,
     budget: &mut Budget,
 ) -> Result<(), ElabFault>
-    ensures { Charges (at ∷ flat_map chosen_bytes (map analysed.alternative_view list.now)) (λ _. budget_view budget.new)
-        (paid (budget_view budget.old) (together (chosen_costs (integers_view integers.now)) (map analysed.alternative_view list.now))) result }
+    ensures { Charges (at ∷ flat_map chosen_bytes (map analysed.alternative_view list.now))
+        (λ _. budget_view budget.new)
+        (paid (budget_view budget.old) (together (chosen_costs (integers_view integers.now))
+        (map analysed.alternative_view list.now))) result }
 {
     for alternative in list {
         of_statements(alloc, integers, &alternative.statements, at, budget)?;
@@ -155,7 +176,8 @@ fn of_alternatives(
     Ok(())
 }
 
-/// Takes what the turns of a loop cost. What is refused of its range by itself is told, whatever the budget has left.
+/// Takes what the turns of a loop cost. What is refused of its range by itself is told, whatever
+/// the budget has left.
 #[cycle(costs)]
 fn of_loop(
     alloc: Global,
@@ -163,9 +185,12 @@ fn of_loop(
     repeated: &Loop,
     budget: &mut Budget,
 ) -> Result<(), ElabFault>
-    ensures given { Charges (repeated.now.at ∷ statements_bytes (analysed.statements_of (analysed.statements_view repeated.now.statements))) (λ _. budget_view budget.new)
+    ensures given { Charges (repeated.now.at
+        ∷ statements_bytes (analysed.statements_of (analysed.statements_view repeated.now.statements)))
+        (λ _. budget_view budget.new)
         (paid (budget_view budget.old) (definition.statement_costs (integers_view integers.now)
-        (units.for_of repeated.now.at (range_view repeated.now.range) (analysed.statements_of (analysed.statements_view repeated.now.statements))))) result }
+        (units.for_of repeated.now.at (range_view repeated.now.range)
+        (analysed.statements_of (analysed.statements_view repeated.now.statements))))) result }
     ensures turned { TellsTurns (integers_view integers.now) repeated.now.at (range_view repeated.now.range) result }
 {
     let turns = integers.turns(&repeated.range, repeated.at)?;
@@ -186,7 +211,9 @@ fn of_turn(
     parameter: i32,
     budget: &mut Budget,
 ) -> Result<(), ElabFault>
-    ensures { Charges (repeated.now.at ∷ statements_bytes (analysed.statements_of (analysed.statements_view repeated.now.statements))) (λ _. budget_view budget.new)
+    ensures { Charges (repeated.now.at
+        ∷ statements_bytes (analysed.statements_of (analysed.statements_view repeated.now.statements)))
+        (λ _. budget_view budget.new)
         (paid (budget_view budget.old) (definition.statements_costs (in_turn (integers_view integers.now) parameter)
         (analysed.statements_of (analysed.statements_view repeated.now.statements)))) result }
 {

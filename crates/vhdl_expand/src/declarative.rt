@@ -23,9 +23,9 @@ use vhdl_names_rules::{IntegerType, Static};
 use vhdl_names_units::{Actuals, Declaration, Entity, Fixed, Form};
 use vhdl_tree::Identifier;
 
-/// What is known of an instance of an entity where its architecture begins: the values of its generics, of which those with an
-/// actual are computed where these integers are known, and its ports. A fault is NoGeneric, GenericRange, StaticError, Length,
-/// Index or TooWide.
+/// What is known of an instance of an entity where its architecture begins: the values of its
+/// generics, of which those with an actual are computed where these integers are known, and its
+/// ports. A fault is NoGeneric, GenericRange, StaticError, Length, Index or TooWide.
 #[tactic(auto, unfolding(vhdl_expand_rules::specs::Declarations::interface))]
 pub fn interface(
     alloc: Global,
@@ -33,7 +33,9 @@ pub fn interface(
     actuals: &Actuals<Static>,
     unit: &Entity,
 ) -> Result<InstanceObjects, ElabFault>
-    ensures { Expands declared_view (definition.interface (integers_view above.now) (map (option_map static_view) (each_actual actuals.now)) (entity_view unit.now)) result }
+    ensures { Expands declared_view
+        (definition.interface (integers_view above.now) (map (option_map static_view) (each_actual actuals.now))
+        (entity_view unit.now)) result }
 {
     let actuals = actuals.listed(alloc)?;
     let values = generics(alloc, above, &actuals, &unit.generics)?;
@@ -42,15 +44,17 @@ pub fn interface(
     Ok(declared)
 }
 
-/// Puts the constants of a type of integers of one declaration behind those before them; a fault is StaticError or GenericRange.
-/// Their value is computed once.
+/// Puts the constants of a type of integers of one declaration behind those before them; a fault is
+/// StaticError or GenericRange. Their value is computed once.
 fn add_integers(
     names: &[Identifier],
     integer_type: IntegerType,
     value: &Static,
     declared: &mut InstanceObjects,
 ) -> Result<(), ElabFault>
-    ensures { Expands (λ _. declared_view declared.new) (definition.declarations (declared_view declared.old) (map (λ n. u.Declaration.integer n.at integer_type (static_view value.now)) names.now)) result }
+    ensures { Expands (λ _. declared_view declared.new)
+        (definition.declarations (declared_view declared.old)
+        (map (λ n. u.Declaration.integer n.at integer_type (static_view value.now)) names.now)) result }
 {
     let Some(first) = names.first() else {
         return Ok(());
@@ -62,15 +66,17 @@ fn add_integers(
     Ok(())
 }
 
-/// Puts the other constants of one declaration behind those before them; a fault is StaticError, Length, Index or TooWide. Their
-/// values are computed once.
+/// Puts the other constants of one declaration behind those before them; a fault is StaticError,
+/// Length, Index or TooWide. Their values are computed once.
 fn add_constants(
     names: &[Identifier],
     form: &Form,
     value: &Fixed,
     declared: &mut InstanceObjects,
 ) -> Result<(), ElabFault>
-    ensures { Expands (λ _. declared_view declared.new) (definition.declarations (declared_view declared.old) (map (λ n. u.Declaration.constant n.at (form_view form.now) (fixed_view value.now)) names.now)) result }
+    ensures { Expands (λ _. declared_view declared.new)
+        (definition.declarations (declared_view declared.old)
+        (map (λ n. u.Declaration.constant n.at (form_view form.now) (fixed_view value.now)) names.now)) result }
 {
     let Some(first) = names.first() else {
         return Ok(());
@@ -91,7 +97,8 @@ fn declare(
     declared: &mut InstanceObjects,
     declaration: &Declaration,
 ) -> Result<(), ElabFault>
-    ensures { Expands (λ _. declared_view declared.new) (definition.declarations (declared_view declared.old) (declaration_view declaration.now)) result }
+    ensures { Expands (λ _. declared_view declared.new)
+        (definition.declarations (declared_view declared.old) (declaration_view declaration.now)) result }
 {
     match declaration {
         Declaration::Integers {
@@ -106,14 +113,15 @@ fn declare(
     }
 }
 
-/// Puts what an architecture declares behind what is known of its instance; a fault is GenericRange, StaticError, Length, Index or
-/// TooWide, and then no one says how far it came.
+/// Puts what an architecture declares behind what is known of its instance; a fault is
+/// GenericRange, StaticError, Length, Index or TooWide, and then no one says how far it came.
 pub fn declarations(
     alloc: Global,
     declared: &mut InstanceObjects,
     list: &[Declaration],
 ) -> Result<(), ElabFault>
-    ensures { Expands (λ _. declared_view declared.new) (definition.declarations (declared_view declared.old) (flat_map declaration_view list.now)) result }
+    ensures { Expands (λ _. declared_view declared.new)
+        (definition.declarations (declared_view declared.old) (flat_map declaration_view list.now)) result }
 {
     for declaration in list {
         declare(alloc, declared, declaration)?;

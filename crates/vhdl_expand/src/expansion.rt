@@ -28,7 +28,8 @@ const LEVELS: u32 = 32;
 
 /// The first entity of this name.
 fn named<'a>(units: &'a [Entity], name: &[u8]) -> Option<&'a Entity>
-    ensures { find (λ (e : u.Entity). bytes_eq e.name name.now) (map entity_view units.now) ≡ option_map (λ e. entity_view e.now) result }
+    ensures { find (λ (e : u.Entity). bytes_eq e.name name.now) (map entity_view units.now) ≡
+        option_map (λ e. entity_view e.now) result }
 {
     for unit in units {
         if unit.name.text.as_slice() == name {
@@ -58,12 +59,16 @@ fn outermost(alloc: Global, unit: &Entity) -> Result<InstanceObjects, ElabFault>
     declared
 }
 
-/// Expands the design whose top is the entity of this name, in letters of either case: the tree of its instances. The generics of
-/// the top have their defaults, and its ports are joined to nothing. A fault is any problem but TwoUnresolved and ReadOfShared, and
-/// nothing is made beyond the limits. It takes the memory of the tree.
+/// Expands the design whose top is the entity of this name, in letters of either case: the tree of
+/// its instances. The generics of the top have their defaults, and its ports are joined to nothing.
+/// A fault is any problem but TwoUnresolved and ReadOfShared, and nothing is made beyond the
+/// limits. It takes the memory of the tree.
 pub fn expand(alloc: Global, units: &Units, top: &[u8]) -> Result<Design, ElabFault>
-    ensures given { Charges (units_bytes (units_view units.now)) design_view (within_limits (expanded_design (units_view units.now) top.now)) result }
-    ensures begun { IfErr result (λ fault. fault ≢ NoMemory → (within_limits (expanded_design (units_view units.now) top.now) ≡ Err (fault_told fault)) ⊎ HasInterface (units_view units.now) top.now) }
+    ensures given { Charges (units_bytes (units_view units.now)) design_view
+        (within_limits (expanded_design (units_view units.now) top.now)) result }
+    ensures begun { IfErr result (λ fault. fault ≢ NoMemory
+        → (within_limits (expanded_design (units_view units.now) top.now) ≡ Err (fault_told fault))
+        ⊎ HasInterface (units_view units.now) top.now) }
 {
     let name = top.to_ascii_lowercase(alloc)?;
     let Some(unit) = named(&units.entities, &name) else {

@@ -16,7 +16,8 @@ use vhdl_expand_rules::{ElabFault, ElabProblem, Integers};
 use vhdl_names_rules::{IntegerType, Static};
 use vhdl_names_units::Generics;
 
-/// The value of a default, which may name the generics with these values; a fault is StaticError or GenericRange.
+/// The value of a default, which may name the generics with these values; a fault is StaticError or
+/// GenericRange.
 fn of_default(
     values: &[i32],
     integer_type: IntegerType,
@@ -41,8 +42,8 @@ fn of_default(
     value
 }
 
-/// The value of a generic: of its actual, in the instance above, else of its default, which may name the generics with these
-/// values; a fault is NoGeneric, StaticError or GenericRange.
+/// The value of a generic: of its actual, in the instance above, else of its default, which may
+/// name the generics with these values; a fault is NoGeneric, StaticError or GenericRange.
 fn generic(
     above: &Integers,
     values: &[i32],
@@ -50,7 +51,8 @@ fn generic(
     declaration: &Generics,
     at: usize,
 ) -> Result<i32, ElabFault>
-    ensures { Computes (definition.generic (integers_view above.now) (generics_alone values.now) (option_map (λ value. static_view value.now) actual.entry) (generic_view at declaration.now)) result }
+    ensures { Computes (definition.generic (integers_view above.now) (generics_alone values.now)
+        (option_map (λ value. static_view value.now) actual.entry) (generic_view at declaration.now)) result }
 {
     if let Some(value) = actual {
         return above.integer_of(declaration.integer_type, value, at);
@@ -61,15 +63,17 @@ fn generic(
     of_default(values, declaration.integer_type, value, at)
 }
 
-/// Puts the values of the generics of one declaration behind those of the generics before them; a fault is NoGeneric,
-/// StaticError or GenericRange.
+/// Puts the values of the generics of one declaration behind those of the generics before them; a
+/// fault is NoGeneric, StaticError or GenericRange.
 fn add_generics(
     above: &Integers,
     actuals: &[Option<&Static>],
     declaration: &Generics,
     values: &mut Vec<i32>,
 ) -> Result<(), ElabFault>
-    ensures { Expands (λ _. generics_alone values.new.items) (further_generics (integers_view above.now) (actuals_view actuals.now) values.old.items (generics_view declaration.now)) result }
+    ensures { Expands (λ _. generics_alone values.new.items)
+        (further_generics (integers_view above.now) (actuals_view actuals.now) values.old.items
+        (generics_view declaration.now)) result }
 {
     for name in &declaration.names {
         let actual = actual_of(actuals, values.len());
@@ -79,14 +83,17 @@ fn add_generics(
     Ok(())
 }
 
-/// The values of generics, in order; a fault is NoGeneric, StaticError or GenericRange. It takes the memory of the list.
+/// The values of generics, in order; a fault is NoGeneric, StaticError or GenericRange. It takes
+/// the memory of the list.
 pub(crate) fn generics(
     alloc: Global,
     above: &Integers,
     actuals: &[Option<&Static>],
     declarations: &[Generics],
 ) -> Result<Vec<i32>, ElabFault>
-    ensures { Expands (λ values. generics_alone values.items) (definition.generics (integers_view above.now) no_integers (actuals_view actuals.now) (flat_map generics_view declarations.now)) result }
+    ensures { Expands (λ values. generics_alone values.items)
+        (definition.generics (integers_view above.now) no_integers (actuals_view actuals.now)
+        (flat_map generics_view declarations.now)) result }
 {
     let mut values = Vec::new(alloc);
     for declaration in declarations {

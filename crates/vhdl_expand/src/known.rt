@@ -41,7 +41,8 @@ impl InstanceObjects {
         }
     }
 
-    /// What is known in the architecture, within turns of generates whose parameters have these values.
+    /// What is known in the architecture, within turns of generates whose parameters have these
+    /// values.
     pub fn site<'a>(&'a self, generates: &'a [i32]) -> Site<'a>
         ensures placed { IsSite result }
         ensures seen { site_view result ≡ within_generates (declared_view self.now).site generates.now }
@@ -68,7 +69,8 @@ impl InstanceObjects {
         value: &Static,
         at: usize,
     ) -> Result<i32, ElabFault>
-        ensures { Computes (integer_of integer_type (declared_view self.now).site.integers at (static_view value.now)) result }
+        ensures { Computes (integer_of integer_type (declared_view self.now).site.integers at (static_view value.now))
+            result }
     {
         let site = self.site(&[]);
         let number = site.integers.integer_of(integer_type, value, at);
@@ -83,7 +85,8 @@ impl InstanceObjects {
         value: &Fixed,
         at: usize,
     ) -> Result<Constant, ElabFault>
-        ensures { Makes constant_view (constant_of (declared_view self.now).site at (form_view form.now) (fixed_view value.now)) result }
+        ensures { Makes constant_view (constant_of (declared_view self.now).site at (form_view form.now)
+            (fixed_view value.now)) result }
     {
         let site = self.site(&[]);
         let constant = constant(&site, form, value, at);
@@ -91,15 +94,17 @@ impl InstanceObjects {
         constant
     }
 
-    /// What ports or signals of a declaration are and start with; a fault is StaticError, Length, Index or TooWide. It takes the
-    /// memory of the list.
+    /// What ports or signals of a declaration are and start with; a fault is StaticError, Length,
+    /// Index or TooWide. It takes the memory of the list.
     pub(crate) fn shape(
         &self,
         alloc: Global,
         objects: &Objects,
         at: usize,
     ) -> Result<Shape, ElabFault>
-        ensures { Expands (λ shape. (kind_view shape.kind, shape.starts.items)) (shape_of (declared_view self.now).site at (form_view objects.now.form) (option_map fixed_view objects.now.default)) result }
+        ensures { Expands (λ shape. (kind_view shape.kind, shape.starts.items))
+            (shape_of (declared_view self.now).site at (form_view objects.now.form)
+            (option_map fixed_view objects.now.default)) result }
     {
         let site = self.site(&[]);
         let shape = Shape::of(alloc, &site, objects, at);
@@ -107,7 +112,8 @@ impl InstanceObjects {
         shape
     }
 
-    /// Puts a port or signal behind those before it. Memory would be refused where the numbers of their elements don't fit a word.
+    /// Puts a port or signal behind those before it. Memory would be refused where the numbers of
+    /// their elements don't fit a word.
     pub(crate) fn add_object(&mut self, object: Object) -> Result<(), AllocError>
         requires { IsWidth (size (kind_view object.kind)) }
         ensures { OnOk result (declared_view self.new ≡ with_object (declared_view self.old) (object_view object)) }

@@ -1,6 +1,7 @@
-//! The tree of a design's instances: what an instance declares, its processes, the concurrent statements of architectures, their
-//! generates and their instances, from the top on (IEEE 1076-2008, clause 11, 6.4.2, 6.5.6, 6.5.7, 10.10, 14.2 to 14.5). What a body
-//! would cost unrolled is counted before it is.
+//! The tree of a design's instances: what an instance declares, its processes, the concurrent
+//! statements of architectures, their generates and their instances, from the top on (IEEE
+//! 1076-2008, clause 11, 6.4.2, 6.5.6, 6.5.7, 10.10, 14.2 to 14.5). What a body would cost unrolled
+//! is counted before it is.
 #![tactic(auto)]
 
 mod actuals;

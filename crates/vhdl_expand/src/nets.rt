@@ -19,10 +19,11 @@ fn own_elements(object: &Object) -> usize
     }
 }
 
-/// Takes the nets of the elements that aren't those of an actual; where fewer are left, the fault is TooMany at the byte of the
-/// object that is too much, and what came before it is taken.
+/// Takes the nets of the elements that aren't those of an actual; where fewer are left, the fault
+/// is TooMany at the byte of the object that is too much, and what came before it is taken.
 pub fn charge_own_nets(objects: &[Object], budget: &mut Budget) -> Result<(), ElabFault>
-    ensures { Charges (map (λ o. o.at) objects.now) (λ _. budget_view budget.new) (spent 0 (budget_view budget.old) (nets (own_sizes (map object_view objects.now)))) result }
+    ensures { Charges (map (λ o. o.at) objects.now) (λ _. budget_view budget.new)
+        (spent 0 (budget_view budget.old) (nets (own_sizes (map object_view objects.now)))) result }
 {
     for object in objects {
         budget.charge_nets(own_elements(object), object.at)?;

@@ -16,15 +16,16 @@ use vhdl_expand_tree::Role;
 use vhdl_names_units::{Objects, Ports};
 use vhdl_tree::Mode;
 
-/// Puts the ports or signals of one declaration behind those before them; a fault is StaticError, Length, Index or TooWide. What
-/// they are and start with is computed once.
+/// Puts the ports or signals of one declaration behind those before them; a fault is StaticError,
+/// Length, Index or TooWide. What they are and start with is computed once.
 pub(crate) fn add_objects(
     alloc: Global,
     role: Role,
     objects: &Objects,
     declared: &mut InstanceObjects,
 ) -> Result<(), ElabFault>
-    ensures { Expands (λ _. declared_view declared.new) (stepwise (next_object (role_view role)) (declared_view declared.old) (units.object_view objects.now)) result }
+    ensures { Expands (λ _. declared_view declared.new)
+        (stepwise (next_object (role_view role)) (declared_view declared.old) (units.object_view objects.now)) result }
 {
     let names = objects.names.as_slice();
     let Some(first) = names.first() else {
@@ -54,7 +55,8 @@ pub(crate) fn add_ports(
     declarations: &[Ports],
     declared: &mut InstanceObjects,
 ) -> Result<(), ElabFault>
-    ensures { Expands (λ _. declared_view declared.new) (definition.ports (declared_view declared.old) (flat_map units.ports_view declarations.now)) result }
+    ensures { Expands (λ _. declared_view declared.new)
+        (definition.ports (declared_view declared.old) (flat_map units.ports_view declarations.now)) result }
 {
     for declaration in declarations {
         add_objects(

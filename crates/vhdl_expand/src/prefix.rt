@@ -9,7 +9,8 @@ use std::alloc::{AllocError, Global};
 
 /// Appends `label(i)`, as a turn of a for generate is named.
 fn push_turn(prefix: &mut Vec<u8>, label: &[u8], parameter: i32) -> Result<(), AllocError>
-    ensures { OnOk result (prefix.new.items ≡ prefix.old.items ++ with_dot (label.now ++ (codes "(" ++ (signed_decimal parameter ++ codes ")")))) }
+    ensures { OnOk result (prefix.new.items ≡ prefix.old.items
+        ++ with_dot (label.now ++ (codes "(" ++ (signed_decimal parameter ++ codes ")")))) }
 {
     let mut buffer = Buffer::new();
     prefix.extend_from_slice(label)?;
@@ -19,8 +20,8 @@ fn push_turn(prefix: &mut Vec<u8>, label: &[u8], parameter: i32) -> Result<(), A
     Ok(())
 }
 
-/// The labels round what stands in a turn of a for generate, and that generate's own with the value of its parameter. It takes
-/// the memory of the text.
+/// The labels round what stands in a turn of a for generate, and that generate's own with the value
+/// of its parameter. It takes the memory of the text.
 #[inline(never)]
 pub(crate) fn turn_prefix(
     alloc: Global,
@@ -28,14 +29,16 @@ pub(crate) fn turn_prefix(
     label: &[u8],
     parameter: i32,
 ) -> Result<Vec<u8>, AllocError>
-    ensures { IfOk result (λ v. v.items ≡ outer.now ++ with_dot (label.now ++ (codes "(" ++ (signed_decimal parameter ++ codes ")")))) }
+    ensures { IfOk result (λ v. v.items ≡ outer.now
+        ++ with_dot (label.now ++ (codes "(" ++ (signed_decimal parameter ++ codes ")")))) }
 {
     let mut prefix = outer.to_vec(alloc)?;
     push_turn(&mut prefix, label, parameter)?;
     Ok(prefix)
 }
 
-/// The labels round what stands in an if generate, and that generate's own. It takes the memory of the text.
+/// The labels round what stands in an if generate, and that generate's own. It takes the memory of
+/// the text.
 #[inline(never)]
 pub(crate) fn branch_prefix(
     alloc: Global,
@@ -50,7 +53,8 @@ pub(crate) fn branch_prefix(
     Ok(prefix)
 }
 
-/// The label of an instance behind those of the generates round it. It takes the memory of the text.
+/// The label of an instance behind those of the generates round it. It takes the memory of the
+/// text.
 pub(crate) fn labelled(alloc: Global, outer: &[u8], label: &[u8]) -> Result<Vec<u8>, AllocError>
     ensures { IfOk result (λ v. v.items ≡ outer.now ++ label.now) }
 {

@@ -42,7 +42,8 @@ fn sensitivity(
 ) -> Result<Sensitivity, ElabFault>
     requires { IsSite site.now }
     ensures { Expands sensitivity_view
-        (definition.sensitivity (site_view site.now) (analysed.sensitivity_view process.now.sensitivity) (statements.body_view process.now.statements)) result }
+        (definition.sensitivity (site_view site.now) (analysed.sensitivity_view process.now.sensitivity)
+        (statements.body_view process.now.statements)) result }
 {
     match &process.sensitivity {
         analysed::Sensitivity::Listed(names) => {
@@ -57,8 +58,8 @@ fn sensitivity(
     }
 }
 
-/// How many turns the loops of a body have together, when what it costs is taken from the budget; a fault is StaticError or
-/// TooMany. It takes the memory of the loops' parameters.
+/// How many turns the loops of a body have together, when what it costs is taken from the budget; a
+/// fault is StaticError or TooMany. It takes the memory of the loops' parameters.
 fn charge_turns(
     alloc: Global,
     integers: &Integers,
@@ -66,8 +67,11 @@ fn charge_turns(
     at: usize,
     budget: &mut Budget,
 ) -> Result<u32, ElabFault>
-    ensures { Charges (at ∷ statements_bytes (statements.statements_of (map statements.statement_view list.now))) (λ turns. (turns, budget_view budget.new))
-        (turns_paid (budget_view budget.old) (statements_costs (integers_view integers.now) (statements.statements_of (map statements.statement_view list.now)))) result }
+    ensures { Charges (at ∷ statements_bytes (statements.statements_of (map statements.statement_view list.now)))
+        (λ turns. (turns, budget_view budget.new))
+        (turns_paid (budget_view budget.old)
+        (statements_costs (integers_view integers.now)
+        (statements.statements_of (map statements.statement_view list.now)))) result }
 {
     let before = budget.turns;
     charge_body(alloc, integers, list, at, budget)?;
@@ -84,8 +88,10 @@ fn parts_of(
     budget: &mut Budget,
 ) -> Result<Process, ElabFault>
     requires { IsSite site.now }
-    ensures { Charges (process_bytes (analysed.process_view process.now)) (λ made. (process_view made, budget_view budget.new))
-        (process_steps (budget_view budget.old) (record { site = site_view site.now; prefix = prefix.now }) (analysed.process_view process.now)) result }
+    ensures { Charges (process_bytes (analysed.process_view process.now))
+        (λ made. (process_view made, budget_view budget.new))
+        (process_steps (budget_view budget.old) (record { site = site_view site.now; prefix = prefix.now })
+        (analysed.process_view process.now)) result }
 {
     let at = process.at;
     budget.charge_process(at)?;
@@ -109,9 +115,10 @@ fn parts_of(
     })
 }
 
-/// A process of the tree, whose costs are taken from the budget; `prefix` is of the generates round it. A fault is StaticError,
-/// Length, Index, TooWide or TooMany, also where the budget has less left than it costs, and then what is left of the budget is
-/// not told. Its body is counted before it is unrolled. It takes the memory of the process.
+/// A process of the tree, whose costs are taken from the budget; `prefix` is of the generates round
+/// it. A fault is StaticError, Length, Index, TooWide or TooMany, also where the budget has less
+/// left than it costs, and then what is left of the budget is not told. Its body is counted before
+/// it is unrolled. It takes the memory of the process.
 pub fn process(
     alloc: Global,
     site: &Site,
@@ -120,8 +127,11 @@ pub fn process(
     budget: &mut Budget,
 ) -> Result<Process, ElabFault>
     requires { IsSite site.now }
-    ensures { Charges (process_bytes (analysed.process_view process.now)) (λ made. (process_view made, budget_view budget.new))
-        (charged (budget_view budget.old) process_costs (definition.process (record { site = site_view site.now; prefix = prefix.now }) (analysed.process_view process.now))) result }
+    ensures { Charges (process_bytes (analysed.process_view process.now))
+        (λ made. (process_view made, budget_view budget.new))
+        (charged (budget_view budget.old) process_costs
+        (definition.process (record { site = site_view site.now; prefix = prefix.now })
+        (analysed.process_view process.now))) result }
 {
     parts_of(alloc, site, prefix, process, budget)
 }

@@ -29,8 +29,8 @@ pub(crate) struct Shape {
 }
 
 impl Shape {
-    /// Of objects of a declaration; a fault is StaticError, Length, Index or TooWide, at this byte where no operator is to
-    /// blame. It takes the memory of the list.
+    /// Of objects of a declaration; a fault is StaticError, Length, Index or TooWide, at this byte
+    /// where no operator is to blame. It takes the memory of the list.
     #[tactic(auto, using(vhdl_expand_rules::proofs::laws::Kinds::kind_width))]
     pub(crate) fn of(
         alloc: Global,
@@ -38,7 +38,9 @@ impl Shape {
         objects: &Objects,
         at: usize,
     ) -> Result<Shape, ElabFault>
-        ensures { Expands (λ shape. (kind_view shape.kind, shape.starts.items)) (shape_of (site_view site.now) at (form_view objects.now.form) (option_map fixed_view objects.now.default)) result }
+        ensures { Expands (λ shape. (kind_view shape.kind, shape.starts.items))
+            (shape_of (site_view site.now) at (form_view objects.now.form) (option_map fixed_view objects.now.default))
+            result }
     {
         let kind = kind(&site.integers, &objects.form, at)?;
         let starts = starts(alloc, site, kind, &objects.default, at)?;
@@ -53,7 +55,9 @@ impl Shape {
         objects: &Objects,
         name: &Identifier,
     ) -> Result<Object, AllocError>
-        ensures given { IfOk result (λ object. object_view object ≡ shaped (kind_view self.now.kind, self.now.starts.items) (role_view role) (named_object objects.now (ident_view name.now))) }
+        ensures given { IfOk result (λ object. object_view object ≡
+            shaped (kind_view self.now.kind, self.now.starts.items) (role_view role)
+            (named_object objects.now (ident_view name.now))) }
         ensures width { IfOk result (λ object. IsWidth (size (kind_view object.kind))) }
     {
         Ok(Object {

@@ -32,8 +32,9 @@ use vhdl_names_rules::{StaticRange, StaticTest};
 use vhdl_names_units as analysed;
 use vhdl_names_units::Entity;
 
-/// Where concurrent statements stand: what their instance declares, the values of the parameters of the generates round them, and
-/// the labels of these, each with a dot behind it. One stands on the stack for each of these generates, so it is small.
+/// Where concurrent statements stand: what their instance declares, the values of the parameters of
+/// the generates round them, and the labels of these, each with a dot behind it. One stands on the
+/// stack for each of these generates, so it is small.
 #[derive(Clone, Copy)]
 pub(crate) struct Spot<'a> {
     pub declared: &'a InstanceObjects,
@@ -61,10 +62,12 @@ impl Spot<'_> {
         self.declared.site(self.generates)
     }
 
-    /// The turns of a for generate with this range, at most 4,096; a fault is StaticError or TooMany.
+    /// The turns of a for generate with this range, at most 4,096; a fault is StaticError or
+    /// TooMany.
     #[inline(never)]
     pub(crate) fn turns(&self, range: &StaticRange, at: usize) -> Result<Turns, ElabFault>
-        ensures { Makes turns_view (integers.turns (spot_view self.now).site.integers at (range_view range.now)) result }
+        ensures { Makes turns_view (integers.turns (spot_view self.now).site.integers at
+            (range_view range.now)) result }
     {
         let site = self.site();
         let turns = site.integers.turns(range, at);
@@ -91,8 +94,10 @@ impl Spot<'_> {
         written: &analysed::Process,
         left: &mut Budget,
     ) -> Result<Process, ElabFault>
-        ensures { Charges (process_bytes (analysed.process_view written.now)) (λ made. (process_view made, budget_view left.new))
-            (charged (budget_view left.old) process_costs (definition.process (spot_view self.now) (analysed.process_view written.now))) result }
+        ensures { Charges (process_bytes (analysed.process_view written.now))
+            (λ made. (process_view made, budget_view left.new))
+            (charged (budget_view left.old) process_costs
+            (definition.process (spot_view self.now) (analysed.process_view written.now))) result }
     {
         let site = self.site();
         let made = process(alloc, &site, self.prefix, written, left);
@@ -108,7 +113,9 @@ impl Spot<'_> {
         written: &analysed::Instance,
         unit: &Entity,
     ) -> Result<InstanceObjects, ElabFault>
-        ensures { Expands declared_view (declarations.interface (spot_view self.now).site.integers (analysed.instance_view written.now).generics (entity_view unit.now)) result }
+        ensures { Expands declared_view
+            (declarations.interface (spot_view self.now).site.integers (analysed.instance_view written.now).generics
+            (entity_view unit.now)) result }
     {
         let site = self.site();
         let declared = interface(alloc, &site.integers, &written.generics, unit);
@@ -126,7 +133,8 @@ impl Spot<'_> {
         declared: &mut InstanceObjects,
     ) -> Result<(), ElabFault>
         ensures { Expands (λ _. declared_view declared.new)
-            (associated (spot_view self.now).site written.now.label.at (all_ports_view unit.now.ports) (analysed.instance_view written.now).ports (declared_view declared.old)) result }
+            (associated (spot_view self.now).site written.now.label.at (all_ports_view unit.now.ports)
+            (analysed.instance_view written.now).ports (declared_view declared.old)) result }
     {
         let site = self.site();
         let at = written.label.at;

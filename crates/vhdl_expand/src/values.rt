@@ -42,7 +42,8 @@ fn vector(len: usize, values: Vec9, at: usize) -> Result<Vec9, ElabFault>
     Ok(values)
 }
 
-/// The values of `to_unsigned`, which have to be as many; a fault is StaticError, Length, Index or TooWide.
+/// The values of `to_unsigned`, which have to be as many; a fault is StaticError, Length, Index or
+/// TooWide.
 #[tactic(auto, using(vhdl_expand_bodies::proofs::Places::size_fits))]
 fn encoded(
     site: &Site,
@@ -51,7 +52,8 @@ fn encoded(
     size: &Static,
     at: usize,
 ) -> Result<Vec9, ElabFault>
-    ensures given { Computes (encoded_as (site_view site.now) at len (static_view number.now) (static_view size.now)) result }
+    ensures given { Computes (encoded_as (site_view site.now) at len (static_view number.now) (static_view size.now))
+        result }
     ensures long { IfOk result (λ values. length values ≡ len) }
 {
     let number = site.integers.natural(number, at)?;
@@ -94,7 +96,8 @@ pub(crate) fn constant(
     value: &Fixed,
     at: usize,
 ) -> Result<Constant, ElabFault>
-    ensures { Makes constant_view (constant_of (site_view site.now) at (form_view form.now) (fixed_view value.now)) result }
+    ensures { Makes constant_view (constant_of (site_view site.now) at (form_view form.now) (fixed_view value.now))
+        result }
 {
     let kind = kind(&site.integers, form, at)?;
     let values = fixed(site, kind.size(), value, at)?;

@@ -31,7 +31,8 @@ use vhdl_names_units as analysed;
 use vhdl_names_units::Objects;
 use vhdl_tree::Identifier;
 
-/// The variable of this name among those of a declaration; a fault is StaticError, Length, Index or TooWide.
+/// The variable of this name among those of a declaration; a fault is StaticError, Length, Index or
+/// TooWide.
 #[tactic(auto, unfolding(vhdl_expand_rules::specs::Declarations::variable))]
 fn variable(
     alloc: Global,
@@ -39,7 +40,8 @@ fn variable(
     objects: &Objects,
     name: &Identifier,
 ) -> Result<Variable, ElabFault>
-    ensures { Expands variable_view (definition.variable (site_view site.now) (named_object objects.now (ident_view name.now))) result }
+    ensures { Expands variable_view
+        (definition.variable (site_view site.now) (named_object objects.now (ident_view name.now))) result }
 {
     let kind = kind(&site.integers, &objects.form, name.at)?;
     let starts = starts(alloc, site, kind, &objects.default, name.at)?;
@@ -56,7 +58,9 @@ fn add_named(
     variables: &mut Vec<Variable>,
 ) -> Result<(), ElabFault>
     ensures { Expands (λ _. map variable_view variables.new.items)
-        (behind (map variable_view variables.old.items) (each (definition.variable (site_view site.now)) (map (λ i. named_object objects.now (ident_view i)) names.now))) result }
+        (behind (map variable_view variables.old.items)
+        (each (definition.variable (site_view site.now))
+        (map (λ i. named_object objects.now (ident_view i)) names.now))) result }
 {
     for name in names {
         let next = variable(alloc, site, objects, name)?;
@@ -65,13 +69,15 @@ fn add_named(
     Ok(())
 }
 
-/// The variables of declarations, in order; a fault is StaticError, Length, Index or TooWide. It takes the memory of the list.
+/// The variables of declarations, in order; a fault is StaticError, Length, Index or TooWide. It
+/// takes the memory of the list.
 pub(crate) fn variables(
     alloc: Global,
     site: &Site,
     declarations: &[Objects],
 ) -> Result<Vec<Variable>, ElabFault>
-    ensures { Expands (λ v. map variable_view v.items) (each (definition.variable (site_view site.now)) (flat_map object_view declarations.now)) result }
+    ensures { Expands (λ v. map variable_view v.items)
+        (each (definition.variable (site_view site.now)) (flat_map object_view declarations.now)) result }
 {
     let mut variables = Vec::new(alloc);
     for objects in declarations {
@@ -80,13 +86,15 @@ pub(crate) fn variables(
     Ok(variables)
 }
 
-/// Takes the elements of variables from the budget; a fault is TooMany, at this byte, where fewer are left.
+/// Takes the elements of variables from the budget; a fault is TooMany, at this byte, where fewer
+/// are left.
 pub(crate) fn charge_variables(
     variables: &[Variable],
     at: usize,
     budget: &mut Budget,
 ) -> Result<(), ElabFault>
-    ensures { Charges (at ∷ []) (λ _. budget_view budget.new) (spent at (budget_view budget.old) (variables_costs (map variable_view variables.now))) result }
+    ensures { Charges (at ∷ []) (λ _. budget_view budget.new)
+        (spent at (budget_view budget.old) (variables_costs (map variable_view variables.now))) result }
 {
     for variable in variables {
         budget.charge_variables(variable.starts.len(), at)?;
@@ -107,7 +115,8 @@ fn layout_of(alloc: Global, variables: &[Variable]) -> Result<Layout, AllocError
     Ok(layout)
 }
 
-/// A body among variables; a fault is StaticError, Length, Index, TooWide or TooMany. It takes the memory of the body.
+/// A body among variables; a fault is StaticError, Length, Index, TooWide or TooMany. It takes the
+/// memory of the body.
 pub(crate) fn body(
     alloc: Global,
     site: &Site,
@@ -118,7 +127,8 @@ pub(crate) fn body(
     requires wide { All HasWidth variables.now }
     requires few { elements_count (map variable_kind variables.now) < 2 ^ 32 }
     ensures { Expands (λ v. statements_of v.items)
-        (bodies.statements (with_variables (site_view site.now) (map variable_view variables.now)) (analysed.statements_of (map analysed.statement_view list.now))) result }
+        (bodies.statements (with_variables (site_view site.now) (map variable_view variables.now))
+        (analysed.statements_of (map analysed.statement_view list.now))) result }
 {
     let layout = layout_of(alloc, variables)?;
     let inner = Site {

@@ -1,8 +1,9 @@
 //! Concurrent statements, and the instances that they make (IEEE 1076-2008, clause 11).
 //!
-//! In each of 31 instances that stand in one another 63 generates may stand in one another, so a generate keeps little on the
-//! stack: the statements in it are gone through in the frame of its turn or branch, and what is known there and the labels are
-//! made in calls that end before it is entered.
+//! In each of 31 instances that stand in one another 63 generates may stand in one another, so a
+//! generate keeps little on the stack: the statements in it are gone through in the frame of its
+//! turn or branch, and what is known there and the labels are made in calls that end before it is
+//! entered.
 
 ghost use Rattle.std.specs.Prelude.{◌++◌, [], ◌∷◌, map, Ok};
 ghost use Rattle.vhdl_names_rules.specs.units.Units.{generate_for, generate_if};
@@ -54,8 +55,10 @@ impl Walk<'_> {
         so_far: &mut TreeProgress,
     ) -> Result<(), ElabFault>
         requires fits { TurnsFit so_far.old }
-        ensures { Charges (concurrents_bytes (units.concurrents_of (map units.concurrent_view list.now)) ++ units_bytes (units_of self.now)) (λ _. progress_view so_far.new) (adding (progress_view so_far.old)
-            (made.concurrents (units_of self.now) self.now.levels (spot_view spot.now) (units.concurrents_of (map units.concurrent_view list.now)))) result }
+        ensures { Charges (concurrents_bytes (units.concurrents_of (map units.concurrent_view list.now))
+            ++ units_bytes (units_of self.now)) (λ _. progress_view so_far.new) (adding (progress_view so_far.old)
+            (made.concurrents (units_of self.now) self.now.levels (spot_view spot.now)
+            (units.concurrents_of (map units.concurrent_view list.now)))) result }
     {
         for item in list {
             self.concurrent(spot, item, so_far)?;
@@ -73,8 +76,10 @@ impl Walk<'_> {
         so_far: &mut TreeProgress,
     ) -> Result<(), ElabFault>
         requires fits { TurnsFit so_far.old }
-        ensures { Charges (concurrent_bytes (units.concurrent_view item.now) ++ units_bytes (units_of self.now)) (λ _. progress_view so_far.new) (adding (progress_view so_far.old)
-            (made.concurrent (units_of self.now) self.now.levels (spot_view spot.now) (units.concurrent_view item.now))) result }
+        ensures { Charges (concurrent_bytes (units.concurrent_view item.now) ++ units_bytes (units_of self.now))
+            (λ _. progress_view so_far.new) (adding (progress_view so_far.old)
+            (made.concurrent (units_of self.now) self.now.levels (spot_view spot.now) (units.concurrent_view item.now)))
+            result }
     {
         match item {
             Concurrent::Process(written) => self.add_process(spot, written, so_far),
@@ -90,8 +95,10 @@ impl Walk<'_> {
         written: &analysed::Process,
         so_far: &mut TreeProgress,
     ) -> Result<(), ElabFault>
-        ensures { Charges (process_bytes (units.process_view written.now)) (λ _. progress_view so_far.new) (adding (progress_view so_far.old)
-            (made.process (units_of self.now) self.now.levels (spot_view spot.now) (units.process_view written.now))) result }
+        ensures { Charges (process_bytes (units.process_view written.now)) (λ _. progress_view so_far.new)
+            (adding (progress_view so_far.old)
+            (made.process (units_of self.now) self.now.levels (spot_view spot.now) (units.process_view written.now)))
+            result }
     {
         let made = spot.process(self.alloc, written, &mut so_far.left)?;
         so_far.parts.push(InstancePart::Process(made))?;
@@ -106,8 +113,10 @@ impl Walk<'_> {
         written: &analysed::Instance,
         so_far: &mut TreeProgress,
     ) -> Result<(), ElabFault>
-        ensures { Charges (instance_bytes (units.instance_view written.now) ++ units_bytes (units_of self.now)) (λ _. progress_view so_far.new) (adding (progress_view so_far.old)
-            (made.instance (units_of self.now) self.now.levels (spot_view spot.now) (units.instance_view written.now))) result }
+        ensures { Charges (instance_bytes (units.instance_view written.now) ++ units_bytes (units_of self.now))
+            (λ _. progress_view so_far.new) (adding (progress_view so_far.old)
+            (made.instance (units_of self.now) self.now.levels (spot_view spot.now) (units.instance_view written.now)))
+            result }
     {
         let at = written.label.at;
         let Some(unit) = self.units.get(written.unit) else {
@@ -123,7 +132,8 @@ impl Walk<'_> {
         Ok(())
     }
 
-    /// An instance of a unit whose generics and ports are declared; a fault that stands nowhere else stands at byte `at`.
+    /// An instance of a unit whose generics and ports are declared; a fault that stands nowhere
+    /// else stands at byte `at`.
     #[cycle(concurrent)]
     pub(crate) fn instance(
         &self,
@@ -133,7 +143,8 @@ impl Walk<'_> {
         left: &mut Budget,
     ) -> Result<Instance, ElabFault>
         requires among { IsAmong (units_of self.now) (entity_view unit.now) }
-        ensures { Charges (at ∷ (map (λ o. o.at) (declared_view declared).objects ++ units_bytes (units_of self.now))) (λ i. (instance_view i, budget_view left.new)) (charged (budget_view left.old) instance_costs
+        ensures { Charges (at ∷ (map (λ o. o.at) (declared_view declared).objects ++ units_bytes (units_of self.now)))
+            (λ i. (instance_view i, budget_view left.new)) (charged (budget_view left.old) instance_costs
             (instance_of (units_of self.now) self.now.levels at (entity_view unit.now) (declared_view declared))) result }
     {
         if self.levels == 0 {
@@ -167,8 +178,11 @@ impl Walk<'_> {
         list: &[Concurrent],
         left: Budget,
     ) -> Result<TreeProgress, ElabFault>
-        ensures { Charges (concurrents_bytes (units.concurrents_of (map units.concurrent_view list.now)) ++ units_bytes (units_of self.now)) progress_view (adding (nothing_yet (budget_view left))
-            (made.concurrents (units_of self.now) self.now.levels (record { site = (declared_view declared.now).site; prefix = [] }) (units.concurrents_of (map units.concurrent_view list.now)))) result }
+        ensures { Charges (concurrents_bytes (units.concurrents_of (map units.concurrent_view list.now))
+            ++ units_bytes (units_of self.now)) progress_view (adding (nothing_yet (budget_view left))
+            (made.concurrents (units_of self.now) self.now.levels
+            (record { site = (declared_view declared.now).site; prefix = [] })
+            (units.concurrents_of (map units.concurrent_view list.now)))) result }
     {
         let mut made = TreeProgress {
             parts: Vec::new(self.alloc),
@@ -194,9 +208,12 @@ impl Walk<'_> {
         so_far: &mut TreeProgress,
     ) -> Result<(), ElabFault>
         requires fits { TurnsFit so_far.old }
-        ensures { Charges (written.now.at ∷ (concurrents_bytes (units.concurrents_of (units.concurrents_view written.now.statements)) ++ units_bytes (units_of self.now))) (λ _. progress_view so_far.new) (adding (progress_view so_far.old)
+        ensures { Charges (written.now.at
+            ∷ (concurrents_bytes (units.concurrents_of (units.concurrents_view written.now.statements))
+            ++ units_bytes (units_of self.now))) (λ _. progress_view so_far.new) (adding (progress_view so_far.old)
             (made.concurrent (units_of self.now) self.now.levels (spot_view spot.now)
-            (units.generated written.now.label.text.items written.now.at (units.concurrents_of (units.concurrents_view written.now.statements)) written.now.scheme))) result }
+            (units.generated written.now.label.text.items written.now.at
+            (units.concurrents_of (units.concurrents_view written.now.statements)) written.now.scheme))) result }
     {
         match &written.scheme {
             Scheme::For(range) => self.turns(spot, written, range, so_far),
@@ -204,8 +221,8 @@ impl Walk<'_> {
         }
     }
 
-    /// The turns of a for generate, behind what is made so far. What is refused of its range by itself is told, whatever the budget
-    /// has left.
+    /// The turns of a for generate, behind what is made so far. What is refused of its range by
+    /// itself is told, whatever the budget has left.
     #[cycle(concurrent)]
     fn turns(
         &self,
@@ -215,9 +232,12 @@ impl Walk<'_> {
         so_far: &mut TreeProgress,
     ) -> Result<(), ElabFault>
         requires fits { TurnsFit so_far.old }
-        ensures given { Charges (written.now.at ∷ (concurrents_bytes (units.concurrents_of (units.concurrents_view written.now.statements)) ++ units_bytes (units_of self.now))) (λ _. progress_view so_far.new) (adding (progress_view so_far.old)
+        ensures given { Charges (written.now.at
+            ∷ (concurrents_bytes (units.concurrents_of (units.concurrents_view written.now.statements))
+            ++ units_bytes (units_of self.now))) (λ _. progress_view so_far.new) (adding (progress_view so_far.old)
             (made.concurrent (units_of self.now) self.now.levels (spot_view spot.now)
-            (generate_for written.now.at written.now.label.text.items (range_view range.now) (units.concurrents_of (units.concurrents_view written.now.statements))))) result }
+            (generate_for written.now.at written.now.label.text.items (range_view range.now)
+            (units.concurrents_of (units.concurrents_view written.now.statements))))) result }
         ensures turned { TellsTurns (spot_view spot.now).site.integers written.now.at (range_view range.now) result }
     {
         let turns = spot.turns(range, written.at)?;
@@ -239,8 +259,10 @@ impl Walk<'_> {
         so_far: &mut TreeProgress,
     ) -> Result<(), ElabFault>
         requires fits { TurnsFit so_far.old }
-        ensures { Charges (concurrents_bytes (units.concurrents_of (units.concurrents_view written.now.statements)) ++ units_bytes (units_of self.now)) (λ _. progress_view so_far.new) (adding (progress_view so_far.old)
-            (made.concurrents (units_of self.now) self.now.levels (in_turn (spot_view spot.now) written.now.label.text.items parameter)
+        ensures { Charges (concurrents_bytes (units.concurrents_of (units.concurrents_view written.now.statements))
+            ++ units_bytes (units_of self.now)) (λ _. progress_view so_far.new) (adding (progress_view so_far.old)
+            (made.concurrents (units_of self.now) self.now.levels
+            (in_turn (spot_view spot.now) written.now.label.text.items parameter)
             (units.concurrents_of (units.concurrents_view written.now.statements)))) result }
     {
         let mut generates = spot.generates.to_vec(self.alloc)?;
@@ -260,9 +282,11 @@ impl Walk<'_> {
         so_far: &mut TreeProgress,
     ) -> Result<(), ElabFault>
         requires fits { TurnsFit so_far.old }
-        ensures { Charges (concurrents_bytes (units.concurrents_of (units.concurrents_view written.now.statements)) ++ units_bytes (units_of self.now)) (λ _. progress_view so_far.new) (adding (progress_view so_far.old)
+        ensures { Charges (concurrents_bytes (units.concurrents_of (units.concurrents_view written.now.statements))
+            ++ units_bytes (units_of self.now)) (λ _. progress_view so_far.new) (adding (progress_view so_far.old)
             (made.concurrent (units_of self.now) self.now.levels (spot_view spot.now)
-            (generate_if written.now.at written.now.label.text.items (static_test_view test.now) (units.concurrents_of (units.concurrents_view written.now.statements))))) result }
+            (generate_if written.now.at written.now.label.text.items (static_test_view test.now)
+            (units.concurrents_of (units.concurrents_view written.now.statements))))) result }
     {
         if !spot.decision(test)? {
             return Ok(());

@@ -1,4 +1,5 @@
-//! Assignments and choices, expanded (IEEE 1076-2008, 10.5, 10.6, 10.9). Lengths agree, whether a statement is run or not.
+//! Assignments and choices, expanded (IEEE 1076-2008, 10.5, 10.6, 10.9). Lengths agree, whether a
+//! statement is run or not.
 
 ghost use Rattle.std.specs.Prelude.{length};
 ghost use Rattle.rtl_net.specs.Bodies.{choice_view, statement_view, value_view};
@@ -48,7 +49,8 @@ impl Site<'_> {
         at: usize,
     ) -> Result<Value, ElabFault>
         requires { IsSite self.now }
-        ensures { Expands value_view (definition.value_given (site_view self.now) at len (analysed.given_view given.now)) result }
+        ensures { Expands value_view (definition.value_given (site_view self.now) at len
+            (analysed.given_view given.now)) result }
     {
         match given {
             Given::Single(value) => {
@@ -74,7 +76,8 @@ impl Site<'_> {
         }
     }
 
-    /// An assignment to a signal, by its elements; a fault is StaticError, Length, Index or TooWide.
+    /// An assignment to a signal, by its elements; a fault is StaticError, Length, Index or
+    /// TooWide.
     pub(crate) fn assign(
         &self,
         alloc: Global,

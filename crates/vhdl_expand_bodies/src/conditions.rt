@@ -120,7 +120,8 @@ fn turned(relation: Cmp) -> Cmp
 /// An event of an element, which has this value.
 #[tactic(auto, using(rtl_net::proofs::Rows::view_combined))]
 fn event_to(alloc: Global, element: u32, value: Nine) -> Result<Test, AllocError>
-    ensures { IfOk result (λ t. test_view t ≡ bodies.combined And (bodies.event element) (bodies.level true element value)) }
+    ensures { IfOk result (λ t. test_view t ≡
+        bodies.combined And (bodies.event element) (bodies.level true element value)) }
 {
     let first = Box::new(alloc, Test::Event(element))?;
     let mut rest = Vec::new(alloc);
@@ -213,7 +214,8 @@ impl Site<'_> {
         }
     }
 
-    /// Equality of two values: of one element of a signal and a character literal, the level of the element.
+    /// Equality of two values: of one element of a signal and a character literal, the level of the
+    /// element.
     fn alike(
         &self,
         alloc: Global,
@@ -222,7 +224,8 @@ impl Site<'_> {
         at: usize,
     ) -> Result<Test, ElabFault>
         requires { IsSite self.now }
-        ensures { Expands test_view (steps.alike (site_view self.now) at (value_view left.now) (value_view right.now)) result }
+        ensures { Expands test_view (steps.alike (site_view self.now) at (value_view left.now) (value_view right.now))
+            result }
     {
         if let Some(place) = name_of(left) {
             if let Some(character) = character_of(right) {
@@ -245,7 +248,8 @@ impl Site<'_> {
         at: usize,
     ) -> Result<Test, ElabFault>
         requires { IsSite self.now }
-        ensures { Expands test_view (steps.equal (site_view self.now) at (value_view left.now) (value_view right.now)) result }
+        ensures { Expands test_view (steps.equal (site_view self.now) at (value_view left.now) (value_view right.now))
+            result }
     {
         let left = self.expanded_value(alloc, left, at)?;
         let (left, right) = both(left, self.expanded_value(alloc, right, at))?;
@@ -261,7 +265,8 @@ impl Site<'_> {
         at: usize,
     ) -> Result<Test, ElabFault>
         requires { IsSite self.now }
-        ensures { Expands test_view (steps.unlike (site_view self.now) at (value_view left.now) (value_view right.now)) result }
+        ensures { Expands test_view (steps.unlike (site_view self.now) at (value_view left.now) (value_view right.now))
+            result }
     {
         let left = self.expanded_value(alloc, left, at)?;
         let (left, right) = both(left, self.expanded_value(alloc, right, at))?;
@@ -277,7 +282,8 @@ impl Site<'_> {
         right: &Vector,
     ) -> Result<Test, ElabFault>
         requires { IsSite self.now }
-        ensures { Expands test_view (steps.compared (site_view self.now) relation (vector_view left.now) (vector_view right.now)) result }
+        ensures { Expands test_view (steps.compared (site_view self.now) relation (vector_view left.now)
+            (vector_view right.now)) result }
     {
         let left = self.expanded(alloc, left)?;
         let (left, right) = both(left, self.expanded(alloc, right))?;
@@ -294,7 +300,8 @@ impl Site<'_> {
         at: usize,
     ) -> Result<Test, ElabFault>
         requires { IsSite self.now }
-        ensures { Expands test_view (steps.compared_to (site_view self.now) at relation (vector_view vector.now) (static_view integer.now)) result }
+        ensures { Expands test_view (steps.compared_to (site_view self.now) at relation (vector_view vector.now)
+            (static_view integer.now)) result }
     {
         let operand = self.expanded(alloc, vector)?;
         let (operand, number) = both(operand, self.integers.natural(integer, at))?;
@@ -343,7 +350,8 @@ impl Site<'_> {
         chain: &mut TestChain,
     ) -> Result<(), ElabFault>
         requires { IsSite self.now }
-        ensures { Expands (λ _. chain_view chain.new) (steps.all_linked (site_view self.now) (chain_view chain.old) links.now) result }
+        ensures { Expands (λ _. chain_view chain.new)
+            (steps.all_linked (site_view self.now) (chain_view chain.old) links.now) result }
     {
         for link in links {
             self.add_test(alloc, link, chain)?;
@@ -360,7 +368,8 @@ impl Site<'_> {
         chain: &mut TestChain,
     ) -> Result<(), ElabFault>
         requires { IsSite self.now }
-        ensures { Expands (λ _. chain_view chain.new) (steps.linked (site_view self.now) (chain_view chain.old) link.now) result }
+        ensures { Expands (λ _. chain_view chain.new)
+            (steps.linked (site_view self.now) (chain_view chain.old) link.now) result }
     {
         let operand = self.expanded_test(alloc, &link.operand)?;
         let operator = link.operator;

@@ -11,7 +11,8 @@ use crate::site::Placed;
 use std::alloc::{AllocError, Global};
 use vhdl_expand_rules::ObjectKind;
 
-/// Things whose elements are numbered from 0 on, each behind those before it, and how many elements they have together.
+/// Things whose elements are numbered from 0 on, each behind those before it, and how many elements
+/// they have together.
 #[derive(Drop)]
 pub struct Layout {
     pub things: Vec<Placed>,
@@ -31,12 +32,14 @@ impl Layout {
         }
     }
 
-    /// Puts a thing of this kind behind the others, where the numbers of all elements fit a word. It takes the memory of the list.
+    /// Puts a thing of this kind behind the others, where the numbers of all elements fit a word.
+    /// It takes the memory of the list.
     pub fn add(&mut self, kind: ObjectKind) -> Result<(), AllocError>
         requires width { IsWidth (size (kind_view kind)) }
         requires few { self.old.elements + size (kind_view kind) < 2 ^ 32 }
         ensures grows { self.new.elements ≤ self.old.elements + size (kind_view kind) }
-        ensures ok { OnOk result (map placed_kind self.new.things.items ≡ map placed_kind self.old.things.items ++ kind_view kind ∷ []) }
+        ensures ok { OnOk result (map placed_kind self.new.things.items ≡ map placed_kind self.old.things.items
+            ++ kind_view kind ∷ []) }
         ensures err { OnErr result (map placed_kind self.new.things.items ≡ map placed_kind self.old.things.items) }
     {
         let first = self.elements;

@@ -91,7 +91,8 @@ fn fitted(operator: Operator, left: Width, right: Width, at: usize) -> Result<Wi
 }
 
 impl Chain {
-    /// Puts an operator with its right operand behind it; a fault is Length or TooWide. It takes the memory of a list.
+    /// Puts an operator with its right operand behind it; a fault is Length or TooWide. It takes
+    /// the memory of a list.
     #[tactic(auto, using(crate::proofs::Links::links_push))]
     pub(crate) fn add(
         &mut self,
@@ -100,7 +101,8 @@ impl Chain {
         at: usize,
     ) -> Result<(), ElabFault>
         ensures { Expands (λ _. links_of (expr_view self.new.first.value) self.new.rest.items)
-            (definition.operation_on at (operator_view operator) (links_of (expr_view self.old.first.value) self.old.rest.items) (expr_view right.expr)) result }
+            (definition.operation_on at (operator_view operator)
+            (links_of (expr_view self.old.first.value) self.old.rest.items) (expr_view right.expr)) result }
     {
         let width = fitted(operator, self.width, right.width, at)?;
         let operand = right.expr;
@@ -167,8 +169,8 @@ impl Operand {
         })
     }
 
-    /// An operator on a number and this: the number stands for its last digits, as many as this has; a fault is Length or
-    /// TooWide. It takes the memory of a list and a box.
+    /// An operator on a number and this: the number stands for its last digits, as many as this
+    /// has; a fault is Length or TooWide. It takes the memory of a list and a box.
     pub(crate) fn behind(
         self,
         alloc: Global,
@@ -177,7 +179,8 @@ impl Operand {
         at: usize,
     ) -> Result<Operand, ElabFault>
         ensures { Expands (λ o. expr_view o.expr)
-            (definition.operation_on at (operator_view operator) (bodies.constant (digits_of (fits.width (expr_view self.expr)) number)) (expr_view self.expr)) result }
+            (definition.operation_on at (operator_view operator)
+            (bodies.constant (digits_of (fits.width (expr_view self.expr)) number)) (expr_view self.expr)) result }
     {
         let digits = Operand::constant(Vec9::of_nat(u64::from(number), self.width.len));
         let mut chain = digits.begin(alloc)?;

@@ -1,4 +1,5 @@
-//! What is known where a body stands, and the elements that its names mean (IEEE 1076-2008, 8.1 to 8.5).
+//! What is known where a body stands, and the elements that its names mean (IEEE 1076-2008, 8.1 to
+//! 8.5).
 
 ghost use Rattle.std.specs.Prelude.{◌≡◌, ℕ, ◌+◌, ◌^◌, ◌<◌, map, IfOk, Ok};
 ghost use Rattle.rtl_net.specs.Indices.{numbers};
@@ -56,8 +57,8 @@ pub(crate) fn element(run: Run) -> u32
 }
 
 impl Site<'_> {
-    /// The elements of a part of the thing of this number, the first of all having the number `from`; a fault is StaticError
-    /// or Index.
+    /// The elements of a part of the thing of this number, the first of all having the number
+    /// `from`; a fault is StaticError or Index.
     fn part_elements(
         &self,
         from: u32,
@@ -68,7 +69,9 @@ impl Site<'_> {
     ) -> Result<Run, ElabFault>
         requires placed { ArePlaced things.now }
         requires few { from + elements_count (map placed_kind things.now) < 2 ^ 32 }
-        ensures given { Expands run_view (definition.part_elements (integers_view self.now.integers) at from (map placed_kind things.now) number (part_view part.now)) result }
+        ensures given { Expands run_view
+            (definition.part_elements (integers_view self.now.integers) at from (map placed_kind things.now) number
+            (part_view part.now)) result }
         ensures short { IfOk result IsShort }
     {
         let Some(thing) = things.get(number) else {
@@ -86,7 +89,8 @@ impl Site<'_> {
     #[tactic(auto, unfolding(vhdl_expand_rules::specs::Site::signal_elements))]
     pub fn signal_elements(&self, signal: Signal, part: &Part, at: usize) -> Result<Run, ElabFault>
         requires { IsSite self.now }
-        ensures given { Expands run_view (definition.signal_elements (site_view self.now) at (signal_view signal) (part_view part.now)) result }
+        ensures given { Expands run_view
+            (definition.signal_elements (site_view self.now) at (signal_view signal) (part_view part.now)) result }
         ensures short { IfOk result IsShort }
     {
         match signal {
@@ -106,7 +110,8 @@ impl Site<'_> {
         at: usize,
     ) -> Result<Run, ElabFault>
         requires { IsSite self.now }
-        ensures given { Expands run_view (definition.variable_elements (site_view self.now) at number (part_view part.now)) result }
+        ensures given { Expands run_view
+            (definition.variable_elements (site_view self.now) at number (part_view part.now)) result }
         ensures short { IfOk result IsShort }
     {
         self.part_elements(0, self.variables, number, part, at)
@@ -120,7 +125,8 @@ impl Site<'_> {
         part: &Part,
         at: usize,
     ) -> Result<Vec9, ElabFault>
-        ensures { Expands (λ values. values) (definition.constant_values (site_view self.now) at number (part_view part.now)) result }
+        ensures { Expands (λ values. values)
+            (definition.constant_values (site_view self.now) at number (part_view part.now)) result }
     {
         let Some(constant) = self.constants.get(number) else {
             return Err(ElabProblem::Index.at(at));

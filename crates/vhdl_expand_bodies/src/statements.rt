@@ -35,7 +35,8 @@ fn choices(
     list: &[analysed::Choice],
     at: usize,
 ) -> Result<Vec<Choice>, ElabFault>
-    ensures { Expands (λ v. map choice_view v.items) (each (definition.choice at width.len) (map answers.choice_view list.now)) result }
+    ensures { Expands (λ v. map choice_view v.items)
+        (each (definition.choice at width.len) (map answers.choice_view list.now)) result }
 {
     let mut choices = Vec::new(alloc);
     for item in list {
@@ -45,8 +46,8 @@ fn choices(
 }
 
 impl Site<'_> {
-    /// A body, expanded: its statements in order, in which names and targets are elements; a fault is StaticError, Length, Index,
-    /// TooWide or TooMany. It takes the memory of the body.
+    /// A body, expanded: its statements in order, in which names and targets are elements; a fault
+    /// is StaticError, Length, Index, TooWide or TooMany. It takes the memory of the body.
     #[cycle(statement)]
     pub fn body(
         &self,
@@ -55,7 +56,8 @@ impl Site<'_> {
     ) -> Result<Vec<Statement>, ElabFault>
         requires { IsSite self.now }
         ensures { Expands (λ v. statements_of v.items)
-            (definition.statements (site_view self.now) (analysed.statements_of (map analysed.statement_view statements.now))) result }
+            (definition.statements (site_view self.now)
+            (analysed.statements_of (map analysed.statement_view statements.now))) result }
     {
         let mut body = Vec::new(alloc);
         self.add_statements(alloc, statements, &mut body)?;
@@ -73,7 +75,8 @@ impl Site<'_> {
         requires { IsSite self.now }
         ensures { Expands (λ _. statements_of body.new.items)
             (steps.after (statements_of body.old.items)
-            (definition.statements (site_view self.now) (analysed.statements_of (map analysed.statement_view list.now)))) result }
+            (definition.statements (site_view self.now)
+            (analysed.statements_of (map analysed.statement_view list.now)))) result }
     {
         for statement in list {
             self.add_statement(alloc, statement, body)?;
@@ -185,8 +188,10 @@ impl Site<'_> {
     fn selection(&self, alloc: Global, selection: &Case) -> Result<Statement, ElabFault>
         requires { IsSite self.now }
         ensures { Expands statement_view
-            (steps.selection (site_view self.now) (out-Case selection.now).at (value_view (out-Case selection.now).selector)
-            (analysed.alternatives_view (out-Case selection.now).alternatives) (analysed.statements_of (analysed.statements_view (out-Case selection.now).others))) result }
+            (steps.selection (site_view self.now) (out-Case selection.now).at
+            (value_view (out-Case selection.now).selector)
+            (analysed.alternatives_view (out-Case selection.now).alternatives)
+            (analysed.statements_of (analysed.statements_view (out-Case selection.now).others))) result }
     {
         let at = selection.at;
         let selector = self.expanded_value(alloc, &selection.selector, at)?;
@@ -279,7 +284,8 @@ impl Site<'_> {
         requires { IsSite self.now }
         ensures { Expands (λ _. statements_of body.new.items)
             (steps.after (statements_of body.old.items)
-            (definition.statements (in_loop (site_view self.now) parameter) (analysed.statements_of (map analysed.statement_view list.now)))) result }
+            (definition.statements (in_loop (site_view self.now) parameter)
+            (analysed.statements_of (map analysed.statement_view list.now)))) result }
     {
         let mut loops = self.integers.loops.to_vec(alloc)?;
         loops.push(parameter)?;

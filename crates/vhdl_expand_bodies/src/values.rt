@@ -36,7 +36,8 @@ impl Site<'_> {
         at: usize,
     ) -> Result<u32, ElabFault>
         requires { IsSite self.now }
-        ensures { Expands (λ n. n) (the_element at (signal_elements (site_view self.now) at (signal_view signal) (part_view part.now))) result }
+        ensures { Expands (λ n. n) (the_element at
+            (signal_elements (site_view self.now) at (signal_view signal) (part_view part.now))) result }
     {
         let run = self.signal_elements(signal, part, at)?;
         Ok(element(run))
@@ -51,7 +52,8 @@ impl Site<'_> {
         at: usize,
     ) -> Result<Selected, ElabFault>
         requires { IsSite self.now }
-        ensures { Expands selected_view (definition.value (site_view self.now) at (analysed.value_view value.now)) result }
+        ensures { Expands selected_view (definition.value (site_view self.now) at (analysed.value_view value.now))
+            result }
     {
         match value {
             Value::Elements(vector) => {

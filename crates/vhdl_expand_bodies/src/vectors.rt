@@ -99,7 +99,8 @@ impl Site<'_> {
     /// `to_unsigned`.
     #[tactic(auto, using(crate::proofs::Places::size_fits))]
     fn encoded(&self, number: &Static, size: &Static, at: usize) -> Result<Operand, ElabFault>
-        ensures { Expands operand_view (steps.encoded (site_view self.now) at (static_view number.now) (static_view size.now)) result }
+        ensures { Expands operand_view (steps.encoded (site_view self.now) at (static_view number.now)
+            (static_view size.now)) result }
     {
         let number = self.integers.natural(number, at)?;
         let len = self.integers.size_of(size, at)?;
@@ -126,7 +127,8 @@ impl Site<'_> {
         Ok(operand.by_count(alloc, operator, count)?)
     }
 
-    /// A static integer, an operator and a vector: the integer stands for its last digits, as many as the vector has.
+    /// A static integer, an operator and a vector: the integer stands for its last digits, as many
+    /// as the vector has.
     #[cycle(vector)]
     fn integer_with(
         &self,
@@ -138,7 +140,8 @@ impl Site<'_> {
     ) -> Result<Operand, ElabFault>
         requires { IsSite self.now }
         ensures { Expands operand_view
-            (steps.integer_with (site_view self.now) at operator (static_view integer.now) (vector_view operand.now)) result }
+            (steps.integer_with (site_view self.now) at operator (static_view integer.now) (vector_view operand.now))
+            result }
     {
         let number = self.integers.natural(integer, at)?;
         let operand = self.expanded(alloc, operand)?;
@@ -166,7 +169,8 @@ impl Site<'_> {
         chain: &mut Chain,
     ) -> Result<(), ElabFault>
         requires { IsSite self.now }
-        ensures { Expands (λ _. chain_view chain.new) (steps.all_linked (site_view self.now) (chain_view chain.old) links.now) result }
+        ensures { Expands (λ _. chain_view chain.new)
+            (steps.all_linked (site_view self.now) (chain_view chain.old) links.now) result }
     {
         for link in links {
             self.add_link(alloc, link, chain)?;
@@ -178,7 +182,8 @@ impl Site<'_> {
     #[cycle(vector)]
     fn add_link(&self, alloc: Global, link: &VectorLink, chain: &mut Chain) -> Result<(), ElabFault>
         requires { IsSite self.now }
-        ensures { Expands (λ _. chain_view chain.new) (steps.linked (site_view self.now) (chain_view chain.old) link.now) result }
+        ensures { Expands (λ _. chain_view chain.new)
+            (steps.linked (site_view self.now) (chain_view chain.old) link.now) result }
     {
         match link {
             VectorLink::Vector(kind, at, operand) => {

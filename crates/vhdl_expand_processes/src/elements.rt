@@ -1,5 +1,6 @@
-//! The elements that names in a text mean (IEEE 1076-2008, 8.1, 14.7.2): those of the ports and signals of the instance, numbered
-//! from 0 in order of declaration, ports before signals, and from the left.
+//! The elements that names in a text mean (IEEE 1076-2008, 8.1, 14.7.2): those of the ports and
+//! signals of the instance, numbered from 0 in order of declaration, ports before signals, and from
+//! the left.
 
 ghost use Rattle.std.specs.Prelude.{◌≡◌, ◌++◌, map, IfOk, OnOk};
 ghost use Rattle.vhdl_names_rules.specs.views.Vectors.{place_view};
@@ -22,10 +23,12 @@ use vhdl_expand_rules::{ElabFault, Run, is_static_part};
 use vhdl_names_rules::{Part, SignalPart};
 use vhdl_names_units::Statement;
 
-/// The elements of the longest static prefix of a name; a fault is StaticError or Index, at byte 0 where the name has none.
+/// The elements of the longest static prefix of a name; a fault is StaticError or Index, at byte 0
+/// where the name has none.
 fn prefix(site: &Site, named: &Name) -> Result<Run, ElabFault>
     requires { IsSite site.now }
-    ensures given { Expands run_view (place_elements (site_view site.now) (definition.prefix (name_view named.now))) result }
+    ensures given { Expands run_view (place_elements (site_view site.now) (definition.prefix (name_view named.now)))
+        result }
     ensures short { IfOk result IsShort }
 {
     match named {
@@ -50,11 +53,12 @@ fn add_run(found: &mut Vec<usize>, run: Run) -> Result<(), AllocError>
     Ok(())
 }
 
-/// The elements of the longest static prefixes of names, in order of the names; a fault is StaticError or Index. It takes the
-/// memory of the list.
+/// The elements of the longest static prefixes of names, in order of the names; a fault is
+/// StaticError or Index. It takes the memory of the list.
 fn prefixes(alloc: Global, site: &Site, names: &[Name]) -> Result<Vec<usize>, ElabFault>
     requires { IsSite site.now }
-    ensures { Expands (λ v. v.items) (definition.prefixes_elements (site_view site.now) (map name_view names.now)) result }
+    ensures { Expands (λ v. v.items) (definition.prefixes_elements (site_view site.now) (map name_view names.now))
+        result }
 {
     let mut found = Vec::new(alloc);
     for item in names {
@@ -64,10 +68,12 @@ fn prefixes(alloc: Global, site: &Site, names: &[Name]) -> Result<Vec<usize>, El
     Ok(found)
 }
 
-/// The elements of a sensitivity list's names, in their order; a fault is StaticError or Index. It takes the memory of the list.
+/// The elements of a sensitivity list's names, in their order; a fault is StaticError or Index. It
+/// takes the memory of the list.
 pub fn listed(alloc: Global, site: &Site, names: &[SignalPart]) -> Result<Vec<usize>, ElabFault>
     requires { IsSite site.now }
-    ensures { Expands (λ v. v.items) (definition.names_elements (site_view site.now) (map place_view names.now)) result }
+    ensures { Expands (λ v. v.items)
+        (definition.names_elements (site_view site.now) (map place_view names.now)) result }
 {
     let mut found = Vec::new(alloc);
     for item in names {
@@ -77,25 +83,29 @@ pub fn listed(alloc: Global, site: &Site, names: &[SignalPart]) -> Result<Vec<us
     Ok(found)
 }
 
-/// The elements of the longest static prefixes of the names that statements read, in order of the text, to which `process (all)`
-/// is sensitive; a fault is StaticError or Index. It takes the memory of the list.
+/// The elements of the longest static prefixes of the names that statements read, in order of the
+/// text, to which `process (all)` is sensitive; a fault is StaticError or Index. It takes the
+/// memory of the list.
 pub fn read_elements(
     alloc: Global,
     site: &Site,
     list: &[Statement],
 ) -> Result<Vec<usize>, ElabFault>
     requires { IsSite site.now }
-    ensures { Expands (λ v. v.items) (read_by (site_view site.now) (statements_of (map statement_view list.now))) result }
+    ensures { Expands (λ v. v.items)
+        (read_by (site_view site.now) (statements_of (map statement_view list.now))) result }
 {
     let names = names_in(alloc, list)?;
     prefixes(alloc, site, &names)
 }
 
-/// The elements that statements drive, which are those of the longest static prefixes of their targets, in order and each once; a
-/// fault is StaticError or Index. It takes the memory of the list, and time by the elements of the targets, sorted.
+/// The elements that statements drive, which are those of the longest static prefixes of their
+/// targets, in order and each once; a fault is StaticError or Index. It takes the memory of the
+/// list, and time by the elements of the targets, sorted.
 pub fn drives(alloc: Global, site: &Site, list: &[Statement]) -> Result<Vec<usize>, ElabFault>
     requires { IsSite site.now }
-    ensures given { Expands (λ v. v.items) (drives_of (site_view site.now) (statements_of (map statement_view list.now))) result }
+    ensures given { Expands (λ v. v.items)
+        (drives_of (site_view site.now) (statements_of (map statement_view list.now))) result }
     ensures rising { IfOk result (λ v. IsRising v.items) }
 {
     let names = targets_of(alloc, list)?;

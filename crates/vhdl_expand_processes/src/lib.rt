@@ -1,5 +1,5 @@
-//! Processes: what an analysed process drives, reads and is sensitive to, and its variables (IEEE 1076-2008, 11.3, 14.7.2). Its
-//! statements are expanded by vhdl_expand_bodies.
+//! Processes: what an analysed process drives, reads and is sensitive to, and its variables (IEEE
+//! 1076-2008, 11.3, 14.7.2). Its statements are expanded by vhdl_expand_bodies.
 #![tactic(auto)]
 
 mod elements;

@@ -64,7 +64,8 @@ fn of_link<'a>(link: &'a VectorLink, found: &mut Gathered<'a>)
 /// Puts the names in a first operand, and in the one after it, behind others.
 #[cycle(vectors)]
 fn of_start<'a>(start: &'a VectorStart, found: &mut Gathered<'a>)
-    ensures { Adds found.old found.new (definition.vector_names (vector_view start.now.first) ++ link_names start.now.link) }
+    ensures { Adds found.old found.new
+        (definition.vector_names (vector_view start.now.first) ++ link_names start.now.link) }
 {
     of_vector(&start.first, found);
     of_link(&start.link, found);
@@ -94,7 +95,8 @@ fn of_value<'a>(value: &'a Value, found: &mut Gathered<'a>)
 
 /// Puts the names in two values behind others.
 fn of_values<'a>(left: &'a Value, right: &'a Value, found: &mut Gathered<'a>)
-    ensures { Adds found.old found.new (definition.value_names (value_view left.now) ++ definition.value_names (value_view right.now)) }
+    ensures { Adds found.old found.new
+        (definition.value_names (value_view left.now) ++ definition.value_names (value_view right.now)) }
 {
     of_value(left, found);
     of_value(right, found);
@@ -102,7 +104,8 @@ fn of_values<'a>(left: &'a Value, right: &'a Value, found: &mut Gathered<'a>)
 
 /// Puts the names in two vectors behind others.
 fn of_vectors<'a>(left: &'a Vector, right: &'a Vector, found: &mut Gathered<'a>)
-    ensures { Adds found.old found.new (definition.vector_names (vector_view left.now) ++ definition.vector_names (vector_view right.now)) }
+    ensures { Adds found.old found.new
+        (definition.vector_names (vector_view left.now) ++ definition.vector_names (vector_view right.now)) }
 {
     of_vector(left, found);
     of_vector(right, found);
@@ -144,7 +147,8 @@ fn of_test<'a>(test: &'a Test, found: &mut Gathered<'a>)
 /// Puts the names in a first condition, and in the one after it, behind others.
 #[cycle(conditions)]
 fn of_test_start<'a>(start: &'a TestStart, found: &mut Gathered<'a>)
-    ensures { Adds found.old found.new (definition.test_names (test_view start.now.first) ++ test_link_names start.now.link) }
+    ensures { Adds found.old found.new
+        (definition.test_names (test_view start.now.first) ++ test_link_names start.now.link) }
 {
     of_test(&start.first, found);
     of_test(&start.link.operand, found);
@@ -188,7 +192,8 @@ fn of_statement<'a>(statement: &'a Statement, found: &mut Gathered<'a>)
 /// Puts the names that an if statement reads behind others.
 #[cycle(names)]
 fn of_if<'a>(conditional: &'a If, found: &mut Gathered<'a>)
-    ensures { Adds found.old found.new (flat_map branch_names (out-If conditional.now).branches.items ++ last_names (out-If conditional.now).otherwise) }
+    ensures { Adds found.old found.new
+        (flat_map branch_names (out-If conditional.now).branches.items ++ last_names (out-If conditional.now).otherwise) }
 {
     of_branches(&conditional.branches, found);
     match &conditional.otherwise {
@@ -212,7 +217,8 @@ fn of_branches<'a>(list: &'a [Branch], found: &mut Gathered<'a>)
 #[cycle(names)]
 fn of_case<'a>(selection: &'a Case, found: &mut Gathered<'a>)
     ensures { Adds found.old found.new (definition.value_names (value_view (out-Case selection.now).selector)
-        ++ (flat_map alternative_names (out-Case selection.now).alternatives.items ++ flat_map statement_names (out-Case selection.now).others.items)) }
+        ++ (flat_map alternative_names (out-Case selection.now).alternatives.items
+        ++ flat_map statement_names (out-Case selection.now).others.items)) }
 {
     of_value(&selection.selector, found);
     of_alternatives(&selection.alternatives, found);

@@ -1,5 +1,5 @@
-//! What a body reads (IEEE 1076-2008, 11.3): the nets whose values or events it looks at, or the elements, where it has these in
-//! place of nets.
+//! What a body reads (IEEE 1076-2008, 11.3): the nets whose values or events it looks at, or the
+//! elements, where it has these in place of nets.
 
 ghost use Rattle.std.specs.Prelude.{◌≡◌, ℕ, false, ◌++◌, ◌↔◌, [], ◌∷◌, Contains, IfOk, OnOk};
 ghost use Rattle.std.specs.List.{range_with_len};
@@ -22,7 +22,8 @@ struct Reads {
 }
 
 impl Visit for Reads {
-    ghost takes = { λ old leaf new. new.failed ≡ false → (old.failed ≡ false) × (new.found.items ≡ old.found.items ++ leaves.read_of leaf) };
+    ghost takes = { λ old leaf new. new.failed ≡ false → (old.failed ≡ false)
+        × (new.found.items ≡ old.found.items ++ leaves.read_of leaf) };
 
     fn leaf(&mut self, leaf: Leaf<'_>) {
         if !self.failed {
@@ -31,10 +32,12 @@ impl Visit for Reads {
     }
 }
 
-/// What a body reads, rising. It takes the memory of a list of all nets or elements that the body's names have, and time to sort it.
+/// What a body reads, rising. It takes the memory of a list of all nets or elements that the body's
+/// names have, and time to sort it.
 pub fn read_of(alloc: Global, body: &[Statement]) -> Result<Vec<usize>, AllocError>
     ensures rise { IfOk result (λ v. IsStrictlyIncreasing v.items) }
-    ensures all { IfOk result (λ v. (n : ℕ) → Contains v.items n ↔ Contains (definition.reads (statements_of body.now)) n) }
+    ensures all { IfOk result (λ v. (n : ℕ)
+        → Contains v.items n ↔ Contains (definition.reads (statements_of body.now)) n) }
 {
     let mut reads = Reads {
         found: Vec::new(alloc),

@@ -50,7 +50,9 @@ fn of_statement<'a>(statement: &'a Statement, found: &mut Gathered<'a>)
 /// Puts the names that an if statement assigns behind others.
 #[cycle(targets)]
 fn of_if<'a>(conditional: &'a If, found: &mut Gathered<'a>)
-    ensures { Adds found.old found.new (flat_map branch_targets (out-If conditional.now).branches.items ++ last_targets (out-If conditional.now).otherwise) }
+    ensures { Adds found.old found.new
+        (flat_map branch_targets (out-If conditional.now).branches.items
+        ++ last_targets (out-If conditional.now).otherwise) }
 {
     of_branches(&conditional.branches, found);
     match &conditional.otherwise {
@@ -72,7 +74,9 @@ fn of_branches<'a>(list: &'a [Branch], found: &mut Gathered<'a>)
 /// Puts the names that a case statement assigns behind others.
 #[cycle(targets)]
 fn of_case<'a>(selection: &'a Case, found: &mut Gathered<'a>)
-    ensures { Adds found.old found.new (flat_map alternative_targets (out-Case selection.now).alternatives.items ++ flat_map statement_targets (out-Case selection.now).others.items) }
+    ensures { Adds found.old found.new
+        (flat_map alternative_targets (out-Case selection.now).alternatives.items
+        ++ flat_map statement_targets (out-Case selection.now).others.items) }
 {
     of_alternatives(&selection.alternatives, found);
     of_statements(&selection.others, found);

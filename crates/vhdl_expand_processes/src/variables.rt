@@ -97,7 +97,8 @@ fn vector(alloc: Global, len: usize, values: Vec9, at: usize) -> Result<SmallVec
     Ok(vector_codes(alloc, values)?)
 }
 
-/// The codes of `to_unsigned`, which has to be as long; a fault is StaticError, Length, Index or TooWide.
+/// The codes of `to_unsigned`, which has to be as long; a fault is StaticError, Length, Index or
+/// TooWide.
 #[tactic(auto, using(vhdl_expand_bodies::proofs::Places::size_fits))]
 fn encoded(
     alloc: Global,
@@ -107,7 +108,8 @@ fn encoded(
     size: &Static,
     at: usize,
 ) -> Result<SmallVec<u8, 8>, ElabFault>
-    ensures { Expands (λ v. v.items) (codes_of (encoded_as (site_view site.now) at len (static_view number.now) (static_view size.now))) result }
+    ensures { Expands (λ v. v.items)
+        (codes_of (encoded_as (site_view site.now) at len (static_view number.now) (static_view size.now))) result }
 {
     let number = site.integers.natural(number, at)?;
     let size = site.integers.size_of(size, at)?;
@@ -128,7 +130,8 @@ fn fixed(
     value: &Fixed,
     at: usize,
 ) -> Result<SmallVec<u8, 8>, ElabFault>
-    ensures { Expands (λ v. v.items) (codes_of (definition.fixed_values (site_view site.now) at len (fixed_view value.now))) result }
+    ensures { Expands (λ v. v.items)
+        (codes_of (definition.fixed_values (site_view site.now) at len (fixed_view value.now))) result }
 {
     match value {
         Fixed::Literal(values) => literal(alloc, len, values, at),
@@ -150,7 +153,8 @@ fn fixed(
     }
 }
 
-/// What an enumeration that starts with its literal of this position starts with. It takes the memory of the list.
+/// What an enumeration that starts with its literal of this position starts with. It takes the
+/// memory of the list.
 fn literal_start(alloc: Global, position: u8) -> Result<SmallVec<u8, 8>, ElabFault>
     ensures { Expands (λ v. v.items) (Ok (position ∷ [])) result }
 {
@@ -165,7 +169,8 @@ fn given(
     value: &Fixed,
     at: usize,
 ) -> Result<SmallVec<u8, 8>, ElabFault>
-    ensures { Expands (λ v. v.items) (definition.given_starts (site_view site.now) at (kind_view kind) (fixed_view value.now)) result }
+    ensures { Expands (λ v. v.items)
+        (definition.given_starts (site_view site.now) at (kind_view kind) (fixed_view value.now)) result }
 {
     match kind {
         ObjectKind::One | ObjectKind::Vector(_) => fixed(alloc, site, kind.size(), value, at),
@@ -177,8 +182,8 @@ fn given(
     }
 }
 
-/// What the elements of a variable, port or signal of this kind start with: U or an enumeration's first literal without a
-/// default; a fault is StaticError, Length, Index or TooWide.
+/// What the elements of a variable, port or signal of this kind start with: U or an enumeration's
+/// first literal without a default; a fault is StaticError, Length, Index or TooWide.
 #[tactic(auto, unfolding(vhdl_expand_rules::specs::Declarations::starts))]
 pub fn starts(
     alloc: Global,
@@ -187,7 +192,8 @@ pub fn starts(
     default: &Option<Fixed>,
     at: usize,
 ) -> Result<SmallVec<u8, 8>, ElabFault>
-    ensures { Expands (λ v. v.items) (definition.starts (site_view site.now) at (kind_view kind) (option_map fixed_view default.now)) result }
+    ensures { Expands (λ v. v.items)
+        (definition.starts (site_view site.now) at (kind_view kind) (option_map fixed_view default.now)) result }
 {
     match default {
         None => Ok(filled(alloc, kind.size(), 0)?),

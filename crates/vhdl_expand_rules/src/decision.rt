@@ -1,4 +1,5 @@
-//! Truths over static integers, and the turns of loops and generates (IEEE 1076-2008, 9.2.3, 9.4, 10.10, 11.9).
+//! Truths over static integers, and the turns of loops and generates (IEEE 1076-2008, 9.2.3, 9.4,
+//! 10.10, 11.9).
 
 ghost use Rattle.std.specs.Prelude.{◌≡◌, Ok};
 ghost use Rattle.rtl_model.specs.bodies.Tests as tests;
@@ -112,7 +113,8 @@ impl Integers<'_> {
         Ok(holds)
     }
 
-    /// The turns of a loop or generate with this range, at most 4,096; a fault is StaticError or TooMany.
+    /// The turns of a loop or generate with this range, at most 4,096; a fault is StaticError or
+    /// TooMany.
     #[tactic(auto, unfolding(crate::specs::Integers::turns))]
     pub fn turns(&self, range: &StaticRange, at: usize) -> Result<Turns, ElabFault>
         ensures { Makes turns_view (definition.turns (integers_view self.now) at (range_view range.now)) result }

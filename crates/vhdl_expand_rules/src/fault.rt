@@ -19,8 +19,8 @@ pub enum ElabProblem {
     GenericRange,
     /// A static expression without a value, or a negative number where a natural is needed (9.4).
     StaticError,
-    /// Lengths that have to be equal and are not (9.2.2, 10.5.2.2, 6.5.7.3): so many elements stand where so many are needed, or left
-    /// and right of an operator.
+    /// Lengths that have to be equal and are not (9.2.2, 10.5.2.2, 6.5.7.3): so many elements stand
+    /// where so many are needed, or left and right of an operator.
     Length { found: usize, needed: usize },
     /// An index or slice outside its declaration or against its direction, or a vector without
     /// elements (8.4, 8.5).

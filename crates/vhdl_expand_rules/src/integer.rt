@@ -165,7 +165,8 @@ impl Integers<'_> {
         as_natural(x, at)
     }
 
-    /// The value of a generic or constant of a type of integers; a fault is StaticError or GenericRange.
+    /// The value of a generic or constant of a type of integers; a fault is StaticError or
+    /// GenericRange.
     #[tactic(auto, unfolding(crate::specs::Integers::integer_of))]
     pub fn integer_of(&self, of: IntegerType, value: &Static, at: usize) -> Result<i32, ElabFault>
         ensures { Computes (definition.integer_of of (integers_view self.now) at (static_view value.now)) result }
@@ -186,7 +187,8 @@ impl Integers<'_> {
     #[cycle(integer)]
     #[tactic(auto, unfolding(crate::specs::Integers::integer))]
     fn started(&self, start: &StaticStart) -> Result<i32, ElabFault>
-        ensures { Computes (definition.integer (integers_view self.now) start.now.link.at (start_view start.now)) result }
+        ensures { Computes (definition.integer (integers_view self.now) start.now.link.at
+            (start_view start.now)) result }
     {
         let at = start.link.at;
         let left = self.integer(&start.first, at)?;

@@ -136,10 +136,12 @@ fn as_size(n: u32, at: usize) -> Result<u32, ElabFault>
 }
 
 impl Integers<'_> {
-    /// The bounds of a declared vector, of 1 to 64 elements; a fault is StaticError, Index or TooWide.
+    /// The bounds of a declared vector, of 1 to 64 elements; a fault is StaticError, Index or
+    /// TooWide.
     #[tactic(auto, unfolding(crate::specs::Kinds::declared_bounds))]
     pub fn declared_bounds(&self, range: &StaticRange, at: usize) -> Result<Bounds, ElabFault>
-        ensures { Makes bounds_view (definition.declared_bounds (integers_view self.now) at (range_view range.now)) result }
+        ensures { Makes bounds_view (definition.declared_bounds (integers_view self.now) at (range_view range.now))
+            result }
     {
         let left = self.integer(&range.left, at)?;
         let right = self.integer(&range.right, at)?;
@@ -167,7 +169,8 @@ impl Integers<'_> {
         as_size(n, at)
     }
 
-    /// The count of an operator: a length, 1 to 64, or how many places; a fault is StaticError, Index or TooWide.
+    /// The count of an operator: a length, 1 to 64, or how many places; a fault is StaticError,
+    /// Index or TooWide.
     #[tactic(auto, unfolding(crate::specs::Kinds::count_of))]
     pub fn count_of(&self, operator: Counted, count: &Static, at: usize) -> Result<u32, ElabFault>
         ensures { Computes (definition.count_of operator (integers_view self.now) at (static_view count.now)) result }
@@ -181,7 +184,8 @@ impl Integers<'_> {
     /// The places of a part of what is declared; a fault is StaticError or Index.
     #[tactic(auto, unfolding(crate::specs::Kinds::places))]
     pub fn places(&self, kind: ObjectKind, part: &Part, at: usize) -> Result<Run, ElabFault>
-        ensures { Makes run_view (definition.places (integers_view self.now) at (kind_view kind) (part_view part.now)) result }
+        ensures { Makes run_view (definition.places (integers_view self.now) at (kind_view kind) (part_view part.now))
+            result }
     {
         match part {
             Part::Whole => Ok(Run {
@@ -202,7 +206,8 @@ impl Integers<'_> {
     /// The place of an element of a vector.
     #[tactic(auto, unfolding(crate::specs::Kinds::places))]
     fn element_of(&self, bounds: Bounds, index: &Static, at: usize) -> Result<Run, ElabFault>
-        ensures { Makes run_view (definition.places (integers_view self.now) at (definition.vector (bounds_view bounds)) (units.Part.element (static_view index.now))) result }
+        ensures { Makes run_view (definition.places (integers_view self.now) at (definition.vector (bounds_view bounds))
+            (units.Part.element (static_view index.now))) result }
     {
         let index = self.integer(index, at)?;
         let first = bounds.place_of(index, at)?;
@@ -212,7 +217,8 @@ impl Integers<'_> {
     /// The places of a slice of a vector.
     #[tactic(auto, unfolding(crate::specs::Kinds::places))]
     fn slice_of(&self, bounds: Bounds, range: &StaticRange, at: usize) -> Result<Run, ElabFault>
-        ensures { Makes run_view (definition.places (integers_view self.now) at (definition.vector (bounds_view bounds)) (units.slice (range_view range.now))) result }
+        ensures { Makes run_view (definition.places (integers_view self.now) at (definition.vector (bounds_view bounds))
+            (units.slice (range_view range.now))) result }
     {
         let left = self.integer(&range.left, at)?;
         let right = self.integer(&range.right, at)?;

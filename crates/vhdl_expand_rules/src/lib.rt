@@ -1,6 +1,6 @@
-//! Expansion of a design: from its units and its top to the tree of its instances, in which every static value is
-//! computed, generates have become their turns, and loops are unrolled (IEEE 1076-2008, clause 14). The definitions stand
-//! in `specs`.
+//! Expansion of a design: from its units and its top to the tree of its instances, in which every
+//! static value is computed, generates have become their turns, and loops are unrolled (IEEE
+//! 1076-2008, clause 14). The definitions stand in `specs`.
 #![tactic(auto)]
 
 mod decision;

@@ -1,4 +1,5 @@
-//! Which names are static: their longest static prefixes are the drivers of a process (IEEE 1076-2008, 8.1).
+//! Which names are static: their longest static prefixes are the drivers of a process (IEEE
+//! 1076-2008, 8.1).
 
 ghost use Rattle.std.specs.Prelude.{◌≡◌};
 ghost use Rattle.vhdl_names_rules.specs.views.Integers.{static_view, start_view};

@@ -10,7 +10,8 @@ use vhdl_tree::Direction;
 /// The most turns that a loop or generate takes by itself.
 pub(crate) const MAX_TURNS: u64 = 4096;
 
-/// The turns of a loop or generate: the values of its parameter are `count` numbers from `first` on.
+/// The turns of a loop or generate: the values of its parameter are `count` numbers from `first`
+/// on.
 #[derive(Clone, Copy)]
 pub struct Turns {
     pub first: i32,

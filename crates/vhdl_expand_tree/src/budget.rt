@@ -52,7 +52,8 @@ impl Budget {
         }
     }
 
-    /// Takes a process, which starts at byte `at`; where none is left, nothing is taken, and the fault is TooMany there.
+    /// Takes a process, which starts at byte `at`; where none is left, nothing is taken, and the
+    /// fault is TooMany there.
     pub fn charge_process(&mut self, at: usize) -> Result<(), ElabFault>
         ensures spent { Makes (λ _. budget_view self.new) (spent at (budget_view self.old) a_process) result }
         ensures fault { IfErr result (λ fault. fault ≡ At TooMany at) }
@@ -62,7 +63,8 @@ impl Budget {
         Ok(())
     }
 
-    /// Takes an instance, whose label starts at byte `at`; where none is left, nothing is taken, and the fault is TooMany there.
+    /// Takes an instance, whose label starts at byte `at`; where none is left, nothing is taken,
+    /// and the fault is TooMany there.
     pub fn charge_instance(&mut self, at: usize) -> Result<(), ElabFault>
         ensures spent { Makes (λ _. budget_view self.new) (spent at (budget_view self.old) an_instance) result }
         ensures fault { IfErr result (λ fault. fault ≡ At TooMany at) }
@@ -72,7 +74,8 @@ impl Budget {
         Ok(())
     }
 
-    /// Takes a statement of an unrolled body; where none is left, nothing is taken, and the fault is TooMany at this byte.
+    /// Takes a statement of an unrolled body; where none is left, nothing is taken, and the fault
+    /// is TooMany at this byte.
     pub fn charge_statement(&mut self, at: usize) -> Result<(), ElabFault>
         ensures spent { Makes (λ _. budget_view self.new) (spent at (budget_view self.old) a_statement) result }
         ensures fault { IfErr result (λ fault. fault ≡ At TooMany at) }
@@ -82,8 +85,8 @@ impl Budget {
         Ok(())
     }
 
-    /// Takes so many turns of a loop or generate, whose range starts at byte `at`; where fewer are left, nothing is taken, and the
-    /// fault is TooMany there.
+    /// Takes so many turns of a loop or generate, whose range starts at byte `at`; where fewer are
+    /// left, nothing is taken, and the fault is TooMany there.
     pub fn charge_turns(&mut self, count: usize, at: usize) -> Result<(), ElabFault>
         ensures spent { Makes (λ _. budget_view self.new) (spent at (budget_view self.old) (turns count)) result }
         ensures fault { IfErr result (λ fault. fault ≡ At TooMany at) }
@@ -93,7 +96,8 @@ impl Budget {
         Ok(())
     }
 
-    /// Takes so many nets, of an object at byte `at`; where fewer are left, nothing is taken, and the fault is TooMany there.
+    /// Takes so many nets, of an object at byte `at`; where fewer are left, nothing is taken, and
+    /// the fault is TooMany there.
     pub fn charge_nets(&mut self, count: usize, at: usize) -> Result<(), ElabFault>
         ensures spent { Makes (λ _. budget_view self.new) (spent at (budget_view self.old) (nets count)) result }
         ensures fault { IfErr result (λ fault. fault ≡ At TooMany at) }
@@ -103,10 +107,11 @@ impl Budget {
         Ok(())
     }
 
-    /// Takes so many elements of variables of the process at byte `at`; where fewer are left, nothing is taken, and the fault is
-    /// TooMany there.
+    /// Takes so many elements of variables of the process at byte `at`; where fewer are left,
+    /// nothing is taken, and the fault is TooMany there.
     pub fn charge_variables(&mut self, count: usize, at: usize) -> Result<(), ElabFault>
-        ensures spent { Makes (λ _. budget_view self.new) (spent at (budget_view self.old) (variable_elements count)) result }
+        ensures spent { Makes (λ _. budget_view self.new) (spent at (budget_view self.old) (variable_elements count))
+            result }
         ensures fault { IfErr result (λ fault. fault ≡ At TooMany at) }
         ensures kept { OnErr result (self.new ≡ self.old) }
     {
@@ -115,7 +120,8 @@ impl Budget {
     }
 }
 
-/// What is left of so many when so many are taken; where there are fewer, the fault is TooMany at this byte.
+/// What is left of so many when so many are taken; where there are fewer, the fault is TooMany at
+/// this byte.
 fn left(of: u32, taken: usize, at: usize) -> Result<u32, ElabFault>
     ensures given { Makes (λ rest. rest) (costs.left at of taken) result }
     ensures fault { IfErr result (λ fault. fault ≡ At TooMany at) }

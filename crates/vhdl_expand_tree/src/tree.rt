@@ -1,6 +1,6 @@
-//! The tree: a design, its instances, and the objects and processes of these. Elements of an instance's ports and signals are
-//! numbered from 0 in order of declaration, ports before signals, and from the left; those of a process's variables in the
-//! same way.
+//! The tree: a design, its instances, and the objects and processes of these. Elements of an
+//! instance's ports and signals are numbered from 0 in order of declaration, ports before signals,
+//! and from the left; those of a process's variables in the same way.
 
 use rtl_net::Statement;
 use smallvec::SmallVec;

@@ -1,9 +1,10 @@
-//! What was expected at a token with which no file goes on: a reserved word for a word that is nearly the same, what lacks before the token,
-//! what stands in its place, or nothing.
+//! What was expected at a token with which no file goes on: a reserved word for a word that is
+//! nearly the same, what lacks before the token, what stands in its place, or nothing.
 //!
-//! `specs/Reading.antt` says which tokens are looked at, `specs/Changes.antt` how they are changed and when they then go on, and
-//! `specs/Told.antt` in which order that is tried and what is told. `specs/Near.antt` says which words are nearly the same. The words and
-//! the changes stand in `word` and `table`, with what is told of each.
+//! `specs/Reading.antt` says which tokens are looked at, `specs/Changes.antt` how they are changed
+//! and when they then go on, and `specs/Told.antt` in which order that is tried and what is told.
+//! `specs/Near.antt` says which words are nearly the same. The words and the changes stand in
+//! `word` and `table`, with what is told of each.
 #![tactic(auto)]
 
 mod change;

@@ -18,7 +18,8 @@ pub(crate) struct Reading<'a> {
     pub refused: usize,
 }
 
-/// The tokens before a byte from the beginning of their design unit on, and those from the byte on up to the next `;` behind the first.
+/// The tokens before a byte from the beginning of their design unit on, and those from the byte on
+/// up to the next `;` behind the first.
 pub(crate) fn halves_at(tokens: &[Token], at: usize) -> (&[Token], &[Token])
     ensures before { result.0.now ≡ spec.before at tokens.now }
     ensures from { result.1.now ≡ spec.from at tokens.now }
@@ -51,7 +52,8 @@ fn count_before(tokens: &[Token], at: usize) -> usize
         .count()
 }
 
-/// The tokens of the last design unit that begins among these, or of the last item of its context clause.
+/// The tokens of the last design unit that begins among these, or of the last item of its context
+/// clause.
 fn unit(tokens: &[Token]) -> &[Token]
     ensures { result.now ≡ spec.unit tokens.now }
 {

@@ -17,11 +17,13 @@ use vhdl_lexer::{Token, TokenKind};
 /// At how many places a word may be meant: the refused token and those before it.
 pub(crate) const MOST_PLACES: usize = 16;
 
-/// What is said of the first word with which the text goes on in place of the refused token, or else of a token shortly before it.
+/// What is said of the first word with which the text goes on in place of the refused token, or
+/// else of a token shortly before it.
 pub(crate) fn respelt(alloc: Global, reading: Reading<'_>) -> Result<Option<Said>, AllocError>
     requires within { IsWithin reading }
     requires place { reading.refused ≤ length reading.tokens.now }
-    ensures { IfOk result (λ said. spec.Finds (reading_of reading.entry) (spec.respelt (reading_of reading.entry)) (option_map said_of said)) }
+    ensures { IfOk result (λ said. spec.Finds (reading_of reading.entry) (spec.respelt (reading_of reading.entry))
+        (option_map said_of said)) }
 {
     let mut place = reading.refused;
     let mut places = MOST_PLACES.min(reading.refused + 1);
@@ -41,7 +43,8 @@ fn respelt_at(alloc: Global, reading: Reading<'_>, place: usize) -> Result<Optio
     requires within { IsWithin reading }
     requires place { place ≤ length reading.tokens.now }
     ensures { IfOk result (λ said. spec.Finds (reading_of reading.entry)
-        (spec.respelt_first (reading_of reading.entry) place (drop place reading.entry.tokens.now)) (option_map said_of said)) }
+        (spec.respelt_first (reading_of reading.entry) place (drop place reading.entry.tokens.now))
+        (option_map said_of said)) }
 {
     let (_, from) = reading.tokens.split_at(place);
     let [token, ..] = from else {
@@ -69,7 +72,8 @@ fn respelt_token(
     respelt_among(alloc, reading, place, token, &words())
 }
 
-/// What is said of the first word of these tables that is meant by the token and with which the text goes on.
+/// What is said of the first word of these tables that is meant by the token and with which the
+/// text goes on.
 fn respelt_among(
     alloc: Global,
     reading: Reading<'_>,

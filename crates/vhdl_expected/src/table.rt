@@ -16,10 +16,12 @@ use crate::texts::{
 };
 use vhdl_lexer::TokenKind;
 
-/// A change of a token: what is put before it, how many tokens from it on are taken away, and what is told where the text then goes on.
+/// A change of a token: what is put before it, how many tokens from it on are taken away, and what
+/// is told where the text then goes on.
 pub type Change = (&'static [TokenKind], usize, Said);
 
-/// A row: how many tokens before the refused one the changed one stands, the kinds of tokens that have to stand there, and the change.
+/// A row: how many tokens before the refused one the changed one stands, the kinds of tokens that
+/// have to stand there, and the change.
 pub type Row = (
     usize,
     &'static [TokenKind],
@@ -160,8 +162,9 @@ pub static JOINTS: [Row; 20] = [
     // Behind another alternative: so what is no choice isn't taken for one.
     before!("`when`", ALTERNATIVE, [] When Others Arrow Null Semicolon When),
     before_name!("`when`", ALTERNATIVE, [Identifier] When Others Arrow Null Semicolon When),
-    // Behind an aggregate, and behind another statement: so neither an operand nor a declaration is taken for an assignment. The token stands in
-    // a relation: so none follows it, as that of another assignment.
+    // Behind an aggregate, and behind another statement: so neither an operand nor a declaration is
+    // taken for an assignment. The token stands in a relation: so none follows it, as that of
+    // another assignment.
     row!(ASSIGNED, 0, [] 0, [LessEqual LeftParen Others Arrow Integer RightParen When Integer Else Integer Equal]),
     row!(EITHER, 0, [] 0, [Assign Integer Semicolon Null Semicolon Identifier Assign Integer Equal]),
     // A character literal behind a name is read as two ticks with a word between them.
@@ -184,7 +187,8 @@ pub static DECLARED: [Row; 19] = [
     row!(TARGET, 0, [Identifier LessEqual] 0, [Colon]),
     row!(TARGET, 0, [Identifier Assign] 0, [Colon]),
     before!("`:`", COLON, [] Colon),
-    // Behind a slice: so an index in an expression, or in the name that is assigned, isn't taken for a list of names.
+    // Behind a slice: so an index in an expression, or in the name that is assigned, isn't taken
+    // for a list of names.
     row!(INDEX, 0, [] 0, [To Integer RightParen Ampersand Identifier LeftParen Integer Comma]),
     row!(INDEX, 0, [] 0, [To Integer RightParen LessEqual Integer Semicolon Identifier LeftParen Integer Comma]),
     before!("`,`", COMMA, [] Comma),
@@ -317,7 +321,8 @@ pub static OTHERWISE: [Row; 42] = [
     row!(LEFT_OUT, 0, [] 1, []),
 ];
 
-/// The tables of what lacks, or of what else is wrong, at the token or shortly before it; the first row counts with which the text goes on.
+/// The tables of what lacks, or of what else is wrong, at the token or shortly before it; the first
+/// row counts with which the text goes on.
 pub(crate) fn missing() -> [&'static [Row]; 7]
     ensures { map spec.rows_of result ≡ spec.missing_tables }
 {

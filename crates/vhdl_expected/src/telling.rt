@@ -21,16 +21,19 @@ pub enum Expected {
     Nothing,
     /// A word is meant or lacks.
     Surely(Said),
-    /// Something else stands in the token's place or before it, unless a form is known that isn't read.
+    /// Something else stands in the token's place or before it, unless a form is known that isn't
+    /// read.
     Perhaps(Said),
 }
 
-/// What was expected at the first token that doesn't start before a byte, where the parser refuses it.
+/// What was expected at the first token that doesn't start before a byte, where the parser refuses
+/// it.
 ///
-/// Changes at that token, and shortly before it, are tried in a fixed order, until the text goes on with one up to the next
-/// `;`. Each trial reads the text once, from the beginning of the design unit on; of a text of more than [`MOST_TOKENS`] nothing is told.
-/// There are some 80 trials at most, and one for each word that one of 16 identifiers is nearly the same as: never 200. They take 40 ms at
-/// most.
+/// Changes at that token, and shortly before it, are tried in a fixed order, until the text goes on
+/// with one up to the next `;`. Each trial reads the text once, from the beginning of the design
+/// unit on; of a text of more than [`MOST_TOKENS`] nothing is told. There are some 80 trials at
+/// most, and one for each word that one of 16 identifiers is nearly the same as: never 200. They
+/// take 40 ms at most.
 ///
 /// # Errors
 ///

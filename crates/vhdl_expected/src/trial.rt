@@ -99,7 +99,8 @@ fn is_same_kind(first: TokenKind, second: TokenKind) -> bool
     first == second
 }
 
-/// Whether the text goes on with a change of the token at a place. Where too many levels are open, it counts as one that doesn't.
+/// Whether the text goes on with a change of the token at a place. Where too many levels are open,
+/// it counts as one that doesn't.
 pub(crate) fn goes_on_with(
     alloc: Global,
     reading: Reading<'_>,

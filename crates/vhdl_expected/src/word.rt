@@ -6,8 +6,8 @@ ghost use Rattle.vhdl_expected.specs.Told as spec;
 use crate::texts::Said;
 use vhdl_lexer::TokenKind;
 
-/// A word: how it is written; the tokens that stand for it, and in place of how many; and what is told where it is meant by the refused token,
-/// or by one before that.
+/// A word: how it is written; the tokens that stand for it, and in place of how many; and what is
+/// told where it is meant by the refused token, or by one before that.
 pub type Word = (&'static str, &'static [TokenKind], usize, Said, Said);
 
 /// What helps where a word is meant by the refused token.
@@ -92,8 +92,8 @@ const FORCE_BEFORE: Said = (
     "assign the value alone, without the word before it",
 );
 
-/// The words of the grammar from a to i, but for those between operands: a name that is near to an operator, as reg to rem, mostly stands
-/// behind a `;` that is missing.
+/// The words of the grammar from a to i, but for those between operands: a name that is near to an
+/// operator, as reg to rem, mostly stands behind a `;` that is missing.
 pub static EARLY: [Word; 20] = [
     word!("all", "all", All),
     word!("architecture", "architecture", Architecture),
@@ -169,7 +169,8 @@ pub static JOINED: [Word; 17] = [
     ("force", &[], 1, FORCE, FORCE_BEFORE),
 ];
 
-/// The tables of words that are suggested; of two that are meant the first counts with which the text goes on.
+/// The tables of words that are suggested; of two that are meant the first counts with which the
+/// text goes on.
 pub(crate) fn words() -> [&'static [Word]; 3]
     ensures { map spec.words_of result ≡ spec.words }
 {

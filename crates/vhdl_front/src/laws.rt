@@ -13,12 +13,14 @@ pub fn refused_sources_have_no_design()
     ensures { EachRefusedHasNone }
 {}
 
-/// In the netlist of a source the ports of the top have names of their own, and the elements of its in ports are the inputs.
+/// In the netlist of a source the ports of the top have names of their own, and the elements of its
+/// in ports are the inputs.
 pub fn nets_of_sources_have_own_ports()
     ensures { EachNetHasOwnPorts }
 {}
 
-/// What elaboration refuses of a source is told at a byte of the source, and of an empty one at its end.
+/// What elaboration refuses of a source is told at a byte of the source, and of an empty one at its
+/// end.
 pub fn refusals_lie_in_their_sources()
     ensures { EachRefusalLiesInItsSource }
 {}

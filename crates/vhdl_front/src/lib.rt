@@ -1,7 +1,8 @@
-//! The netlist of a source: from its bytes and the name of the top to the elaborated netlist (IEEE 1076-2008, 13.5 and clause 14).
+//! The netlist of a source: from its bytes and the name of the top to the elaborated netlist (IEEE
+//! 1076-2008, 13.5 and clause 14).
 //!
-//! The specs of vhdl_front_rules say which tree, design and netlist a source has, and why it is refused; `specs/Laws.antt` says that it
-//! has one design at most for a top.
+//! The specs of vhdl_front_rules say which tree, design and netlist a source has, and why it is
+//! refused; `specs/Laws.antt` says that it has one design at most for a top.
 #![tactic(auto)]
 
 mod laws;

@@ -15,22 +15,24 @@ ghost use Rattle.vhdl_names_units.specs.views.Units.{units_view};
 use rtl_net::Net;
 use std::alloc::Global;
 use vhdl_elab::elaborate;
+use vhdl_front_rules::{Front, SourceFault};
 use vhdl_lexer::lex;
 use vhdl_names::analyse;
 use vhdl_names_units::Units;
 use vhdl_parser::parse;
-use vhdl_front_rules::{Front, SourceFault};
 use vhdl_tree::File;
 
-/// The netlist of a source: `source` has the bytes of one file, `top` the name of an entity in it, in letters of either case. The
-/// file is read, its names and types are analysed, and its top is elaborated (IEEE 1076-2008, clauses 15, 12 and 14). It takes
-/// memory in proportion to the source and to the netlist, within the limits of elaboration.
+/// The netlist of a source: `source` has the bytes of one file, `top` the name of an entity in it,
+/// in letters of either case. The file is read, its names and types are analysed, and its top is
+/// elaborated (IEEE 1076-2008, clauses 15, 12 and 14). It takes memory in proportion to the source
+/// and to the netlist, within the limits of elaboration.
 ///
 /// # Errors
 ///
-/// The first layer that refuses the source, with its fault: `Lex`, `Syntax`, `Name` or `Elab`, told at a byte of the source or at
-/// its end. `Name` is the first rule that the file breaks as it is read, with its byte; `Elab` is the first broken rule, with its byte, or
-/// `TooMany`. `NoMemory` where memory was refused.
+/// The first layer that refuses the source, with its fault: `Lex`, `Syntax`, `Name` or `Elab`, told
+/// at a byte of the source or at its end. `Name` is the first rule that the file breaks as it is
+/// read, with its byte; `Elab` is the first broken rule, with its byte, or `TooMany`. `NoMemory`
+/// where memory was refused.
 pub fn open(alloc: Global, source: &[u8], top: &[u8]) -> Result<Net, SourceFault>
     ensures net { IfOk result (λ net. IsNetOf source.now top.now net) }
     ensures ports { IfOk result (λ net. HasOwnPorts net) }

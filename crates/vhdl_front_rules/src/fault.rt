@@ -9,7 +9,8 @@ use vhdl_lexer::LexFault;
 use vhdl_names_rules::NameFault;
 use vhdl_parser::SyntaxFault;
 
-/// Why a source has no netlist with this top, by the first layer that refuses it. A layer's want of memory is `NoMemory`.
+/// Why a source has no netlist with this top, by the first layer that refuses it. A layer's want of
+/// memory is `NoMemory`.
 #[derive(Clone, Copy, Debug, Error)]
 pub enum SourceFault {
     /// The source has no tokens.

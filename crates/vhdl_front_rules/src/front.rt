@@ -12,14 +12,16 @@ use std::alloc::Global;
 
 /// Whatever turns sources into netlists.
 pub trait Front {
-    /// The netlist of a source: `source` has the bytes of one file, `top` the name of an entity in it, in letters of either case
-    /// (IEEE 1076-2008, 13.5 and clause 14). It takes memory in proportion to the source and to the netlist.
+    /// The netlist of a source: `source` has the bytes of one file, `top` the name of an entity in
+    /// it, in letters of either case (IEEE 1076-2008, 13.5 and clause 14). It takes memory in
+    /// proportion to the source and to the netlist.
     ///
     /// # Errors
     ///
-    /// The first layer that refuses the source, with its fault: `Lex`, `Syntax`, `Name` or `Elab`, told at a byte of the source or
-    /// at its end. `Name` is the first rule that the file breaks as it is read, with its byte; the problem of `Elab` is the first
-    /// broken rule's, or `TooMany`. `NoMemory` where memory was refused.
+    /// The first layer that refuses the source, with its fault: `Lex`, `Syntax`, `Name` or `Elab`,
+    /// told at a byte of the source or at its end. `Name` is the first rule that the file breaks as
+    /// it is read, with its byte; the problem of `Elab` is the first broken rule's, or `TooMany`.
+    /// `NoMemory` where memory was refused.
     fn open(alloc: Global, source: &[u8], top: &[u8]) -> Result<Net, SourceFault>
         ensures net { IfOk result (λ net. IsNetOf source.now top.now net) }
         ensures ports { IfOk result (λ net. HasOwnPorts net) }

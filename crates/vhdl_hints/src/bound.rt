@@ -3,11 +3,11 @@
 ghost use Rattle.std.specs.Prelude.{◌≡◌};
 ghost use Rattle.vhdl_hints.specs.Bounds as spec;
 
+use vhdl_lexer::{MAX_INTEGER, Token, TokenKind, integer_value};
 use vhdl_slips::{
     Lexed, begins, behind_last, formals, from, has, in_parentheses, interface_of, is_literal,
     is_same_kind, past, text_of, up_to,
 };
-use vhdl_lexer::{MAX_INTEGER, Token, TokenKind, integer_value};
 
 /// How often a name was declared.
 #[derive(Clone, Copy)]
@@ -18,8 +18,8 @@ pub(crate) enum Declared<'a> {
     Often,
 }
 
-/// The bounds of the type of this name, where the architecture before a byte and the ports of its entity declare it once
-/// together, and it has bounds without parentheses in them; else nothing.
+/// The bounds of the type of this name, where the architecture before a byte and the ports of its
+/// entity declare it once together, and it has bounds without parentheses in them; else nothing.
 pub(crate) fn bounds_of<'a>(source: Lexed<'a>, name: &[u8], before: &'a [Token]) -> &'a [Token]
     ensures { result.now ≡ spec.bounds_of source.entry.text.now name.now source.entry.tokens.now before.now }
 {
@@ -110,8 +110,8 @@ fn declared_at<'a>(
     }
 }
 
-/// Whether a declaration stands behind such a token: behind signal, variable or constant, and in a list of generics or
-/// ports behind `(` or `;` too.
+/// Whether a declaration stands behind such a token: behind signal, variable or constant, and in a
+/// list of generics or ports behind `(` or `;` too.
 fn opens(in_list: bool, kind: TokenKind) -> bool
     ensures { result ≡ spec.opens in_list kind }
 {

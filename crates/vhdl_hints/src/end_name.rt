@@ -4,8 +4,8 @@ ghost use Rattle.std.specs.Prelude.{◌≡◌};
 ghost use Rattle.std.specs.List.{prefix_len};
 ghost use Rattle.vhdl_hints.specs.Ends as spec;
 
-use vhdl_slips::{begins, is_same_kind, past};
 use vhdl_lexer::{Token, TokenKind};
+use vhdl_slips::{begins, is_same_kind, past};
 
 /// What is known of what ends somewhere.
 #[derive(Clone, Copy)]
@@ -34,7 +34,8 @@ pub(crate) fn but_last_two(tokens: &[Token]) -> &[Token]
     before
 }
 
-/// The word of an end that stands before a name, these two tokens standing there: `end WORD`, or a bare `end`.
+/// The word of an end that stands before a name, these two tokens standing there: `end WORD`, or a
+/// bare `end`.
 pub(crate) fn end_word(last_two: &[Token]) -> Option<TokenKind>
     ensures { result ≡ spec.end_word last_two.now }
 {

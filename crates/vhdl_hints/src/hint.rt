@@ -8,12 +8,12 @@ ghost use Rattle.vhdl_hints.specs.Hints as spec;
 use crate::bound::{bounds_of, is_empty, is_listed, range_at};
 use crate::end_name::{Begun, but_last_two, end_word, last_begun, last_two};
 use fault_rules::{ElabRule, NameRule, Report, Rule, Subject};
+use vhdl_lexer::{Token, TokenKind};
 use vhdl_slips::{
     Lexed, associations, begins, entity_of, first_choice, first_of, first_open, formal_in, formals,
     has, in_parentheses, interface_of, is_by_name, is_literal, is_same_kind, labelled,
     open_instance, past, text_of, type_of,
 };
-use vhdl_lexer::{Token, TokenKind};
 
 /// What the tokens around a fault tell of it.
 #[derive(Clone, Copy)]
@@ -69,7 +69,8 @@ impl<'a> Hint<'a> {
     }
 }
 
-/// The hint at a byte of a source, of whose tokens these start before it, and the others from it on.
+/// The hint at a byte of a source, of whose tokens these start before it, and the others from it
+/// on.
 pub fn hint_at<'a>(
     source: Lexed<'a>,
     before: &'a [Token],

@@ -1,6 +1,7 @@
-//! What the tokens around a fault of a source tell of it, beside what is said of its rule: which ports an entity has that has no such one, which
-//! port an instance leaves open, which name an end has to have, whether choices are of an enumeration, which bounds an index is outside of, and
-//! of which port an actual has another length.
+//! What the tokens around a fault of a source tell of it, beside what is said of its rule: which
+//! ports an entity has that has no such one, which port an instance leaves open, which name an end
+//! has to have, whether choices are of an enumeration, which bounds an index is outside of, and of
+//! which port an actual has another length.
 //!
 //! `specs/Hints.antt` says which hint there is at a byte, and `specs/Sayings.antt` how it is told.
 #![tactic(auto)]

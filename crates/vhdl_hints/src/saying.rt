@@ -8,10 +8,8 @@ ghost use Rattle.vhdl_hints.specs.Sayings as spec;
 
 use crate::hint::Hint;
 use byte_streams::{Sink, push_number, push_text};
-use vhdl_slips::{
-    Lexed, Listing, first_of, first_text, past, push_names, push_subject, text_of,
-};
 use vhdl_lexer::Token;
+use vhdl_slips::{Lexed, Listing, first_of, first_text, past, push_names, push_subject, text_of};
 
 const HELP_FORMAL: &str = "write one of these names before =>, or declare it in the entity";
 

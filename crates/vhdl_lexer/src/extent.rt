@@ -13,8 +13,9 @@ pub struct Extent {
     pub end: u32,
 }
 
-/// What is taken out with a fault at byte `at` of the source that has these tokens: the innermost statement in which the fault stands, or
-/// the declaration, and for what stands in the head of a process that process; `None` where it stands in what the rest may stand on.
+/// What is taken out with a fault at byte `at` of the source that has these tokens: the innermost
+/// statement in which the fault stands, or the declaration, and for what stands in the head of a
+/// process that process; `None` where it stands in what the rest may stand on.
 pub fn statement_at(tokens: &[Token], at: usize) -> Option<Extent>
     ensures { result ≡ spec.statement_at tokens.now at }
 {
@@ -48,7 +49,8 @@ fn is_from(at: usize, start: u32) -> bool
     at <= start as usize
 }
 
-/// The rest behind a token where a statement or declaration begins there, else what was begun before.
+/// The rest behind a token where a statement or declaration begins there, else what was begun
+/// before.
 fn chosen<'a>(begins: bool, rest: &'a [Token], here: &'a [Token]) -> &'a [Token]
     ensures { result.now ≡ (if begins then rest.now else here.now) }
 {
@@ -69,7 +71,8 @@ pub fn depth_behind(depth: usize, last: TokenKind, kind: TokenKind) -> usize
     }
 }
 
-/// Whether a statement or declaration may begin behind a token, behind which so many parentheses are open.
+/// Whether a statement or declaration may begin behind a token, behind which so many parentheses
+/// are open.
 pub fn begins_behind(depth: usize, last: TokenKind, kind: TokenKind) -> bool
     ensures { result ≡ spec.begins_behind depth last kind }
 {
@@ -109,7 +112,8 @@ fn end_of(tokens: &[Token]) -> Option<u32>
     None
 }
 
-/// Whether a statement or declaration ends with a token, where so many statements with an `end` are open.
+/// Whether a statement or declaration ends with a token, where so many statements with an `end` are
+/// open.
 fn ends_here(opened: usize, kind: TokenKind) -> bool
     ensures { result ≡ spec.ends_here opened kind }
 {

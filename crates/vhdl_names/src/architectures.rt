@@ -30,7 +30,8 @@ use vhdl_tree::{ContextItem, DesignUnit, File, LibraryUnit};
 
 /// What is wrong with context items, whatever the context clause of their entity names.
 fn context(items: &[ContextItem]) -> Result<(), NameFault>
-    ensures { Finds (declarations.context (record { has_ieee = true; has_logic = false; has_numbers = false }) (map view.context_view items.now)) result }
+    ensures { Finds (declarations.context (record { has_ieee = true; has_logic = false; has_numbers = false })
+        (map view.context_view items.now)) result }
 {
     let before = Context {
         has_ieee: true,
@@ -47,8 +48,10 @@ fn up_to_hidden(
     tree: &syntax::Architecture,
     read: Result<Architecture, NameFault>,
 ) -> Result<Option<Architecture>, NameFault>
-    ensures told { (b : Broken) → Finds b read → Finds (broken.up_to_hidden (is_hidden given.now) (view.architecture_view tree.now) b) result }
-    ensures given { ((n : Name) → is_hidden given.now n ≡ false) → (o : Option u.Architecture) → IfOk read (λ a. o ≡ Some (architecture_view a))
+    ensures told { (b : Broken) → Finds b read
+        → Finds (broken.up_to_hidden (is_hidden given.now) (view.architecture_view tree.now) b) result }
+    ensures given { ((n : Name) → is_hidden given.now n ≡ false) → (o : Option u.Architecture)
+        → IfOk read (λ a. o ≡ Some (architecture_view a))
         → IfOk result (λ a. option_map Some o ≡ Some (option_map architecture_view a)) }
 {
     match read {
@@ -63,8 +66,8 @@ fn up_to_hidden(
     }
 }
 
-/// One more architecture, which becomes that of its entity; where the entity isn't given its context
-/// items alone are read.
+/// One more architecture, which becomes that of its entity; where the entity isn't given its
+/// context items alone are read.
 fn add_architecture(
     alloc: Global,
     given: &Given<'_, '_>,
@@ -79,7 +82,8 @@ fn add_architecture(
         (map view.context_view items.now, view.architecture_view tree.now)) result }
     ensures given { ((n : Name) → is_hidden given.now n ≡ false) → IfOk result (λ _.
         steps.with_described (entities_view given.now.entities.now) (map (option_map architecture_view) all.old)
-        (map view.context_view items.now, view.architecture_view tree.now) ≡ Some (map (option_map architecture_view) all.new)) }
+        (map view.context_view items.now, view.architecture_view tree.now) ≡
+        Some (map (option_map architecture_view) all.new)) }
 {
     match given.entities.get_full(tree.entity.text.as_slice()) {
         None => context(items),
@@ -101,10 +105,12 @@ fn add_unit(
     requires table { AreEntities given.now.formals.now (entities_view given.now.entities.now) }
     requires room { length all.old ≡ length (entities_view given.now.entities.now) }
     ensures room { length all.new ≡ length all.old }
-    ensures told { Finds (any_of (broken.described (names_view given.now.names.now) (entities_view given.now.entities.now))
+    ensures told { Finds (any_of (broken.described (names_view given.now.names.now)
+        (entities_view given.now.entities.now))
         (all_of (view.unit_view unit.now ∷ []))) result }
     ensures given { ((n : Name) → is_hidden given.now n ≡ false) → IfOk result (λ _.
-        steps.with_unit (entities_view given.now.entities.now) (map (option_map architecture_view) all.old) (view.unit_view unit.now)
+        steps.with_unit (entities_view given.now.entities.now) (map (option_map architecture_view) all.old)
+        (view.unit_view unit.now)
         ≡ Some (map (option_map architecture_view) all.new)) }
 {
     match &unit.unit {
@@ -126,18 +132,20 @@ fn none_of_each(alloc: Global, count: usize) -> Result<Vec<Option<Architecture>>
     Ok(all)
 }
 
-/// The architecture of each entity, if the file has one; and where one is at fault the first in order
-/// of the text. It takes memory for what is declared in each and analysed of it.
+/// The architecture of each entity, if the file has one; and where one is at fault the first in
+/// order of the text. It takes memory for what is declared in each and analysed of it.
 pub fn architectures_of(
     alloc: Global,
     file: &File,
     given: &Given<'_, '_>,
 ) -> Result<Vec<Option<Architecture>>, NameFault>
     requires table { AreEntities given.now.formals.now (entities_view given.now.entities.now) }
-    ensures told { Finds (any_of (broken.described (names_view given.now.names.now) (entities_view given.now.entities.now))
+    ensures told { Finds (any_of (broken.described (names_view given.now.names.now)
+        (entities_view given.now.entities.now))
         (all_of (view.units_view file.now.units))) result }
     ensures given { ((n : Name) → is_hidden given.now n ≡ false) → IfOk result (λ v.
-        in_turn (steps.with_unit (entities_view given.now.entities.now)) (replicate (length (entities_view given.now.entities.now)) None)
+        in_turn (steps.with_unit (entities_view given.now.entities.now))
+        (replicate (length (entities_view given.now.entities.now)) None)
         (view.units_view file.now.units) ≡ Some (options_view v)) }
 {
     let mut all = none_of_each(alloc, given.entities.len())?;

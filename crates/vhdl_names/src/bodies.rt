@@ -40,10 +40,14 @@ fn declare_each(
     statements: &[syntax::Concurrent],
 ) -> Result<(), NameFault>
     ensures given { IfOk result (λ _.
-        more (region_view region.old) (labelled (concurrent_labels (t.concurrents_of (map view.concurrent_view statements.now)))) ≡ Some (region_view region.new)) }
-    ensures told { Finds (standing_twice (region_view region.old) (labels_of (t.concurrents_of (map view.concurrent_view statements.now)))) result }
+        more (region_view region.old) (labelled
+        (concurrent_labels (t.concurrents_of (map view.concurrent_view statements.now)))) ≡
+        Some (region_view region.new)) }
+    ensures told { Finds (standing_twice (region_view region.old)
+        (labels_of (t.concurrents_of (map view.concurrent_view statements.now)))) result }
     ensures past { HasMemory result → region_view region.new
-        ≡ with_labels (region_view region.old) (concurrent_labels (t.concurrents_of (map view.concurrent_view statements.now))) }
+        ≡ with_labels (region_view region.old)
+        (concurrent_labels (t.concurrents_of (map view.concurrent_view statements.now))) }
 {
     names_are_apart(region);
     let mut told: Result<(), NameFault> = Ok(());
@@ -64,7 +68,8 @@ fn body(
 ) -> Result<Architecture, NameFault>
     requires outside { sight.old.variables ≡ [] }
     ensures given { (all : List EntityView) → AreEntities formals.now all → IfOk result (λ a.
-        steps.body all sight.old (declarations_view declarations) (view.architecture_view tree.now) ≡ Some (architecture_view a)) }
+        steps.body all sight.old (declarations_view declarations) (view.architecture_view tree.now) ≡
+        Some (architecture_view a)) }
     ensures told { (all : List EntityView) → AreEntities formals.now all
         → IfErr result (Tells (broken.body all sight.old (t.concurrents_of (view.architecture_view tree.now).statements)
         ▸ end_name (view.architecture_view tree.now).name (view.architecture_view tree.now).end_name)) }
@@ -89,9 +94,12 @@ fn within(
     requires table { AreEntities given.now.formals.now (entities_view given.now.entities.now) }
     requires outside { sight.old.variables ≡ [] }
     requires outermost { sight.old.enclosing ≡ [] }
-    ensures given { IfOk result (λ a. steps.within (entities_view given.now.entities.now) sight.old (view.architecture_view tree.now) ≡ Some (architecture_view a)) }
+    ensures given { IfOk result (λ a.
+        steps.within (entities_view given.now.entities.now) sight.old (view.architecture_view tree.now) ≡
+        Some (architecture_view a)) }
     ensures told { (e : EntityView) → (items : List t.ContextItem) → sight_behind e items ≡ Some sight.old
-        → IfErr result (Tells (broken.architecture (entities_view given.now.entities.now) e items (view.architecture_view tree.now))) }
+        → IfErr result (Tells (broken.architecture (entities_view given.now.entities.now) e items
+        (view.architecture_view tree.now))) }
 {
     let declarations = declarations(given.entities, sight, &tree.declarations)?;
     body(given.formals, sight, declarations, tree)

@@ -42,7 +42,8 @@ fn add_viewed<'a>(
     items: &[ContextItem],
     tree: &'a Entity,
 ) -> Result<(), NameFault>
-    ensures given { Gives (λ _. entities_view entities.new) (steps.with_entity (architectures_view outline.now.architectures) (entities_view entities.old)
+    ensures given { Gives (λ _. entities_view entities.new)
+        (steps.with_entity (architectures_view outline.now.architectures) (entities_view entities.old)
         (map view.context_view items.now) (view.entity_view tree.now)) result }
     ensures told { IfErr result (Tells (broken.entity (map view.context_view items.now) (view.entity_view tree.now))) }
     ensures kept { IfErr result (λ f. f ≢ NoMemory → entities_view entities.new ≡ entities_view entities.old) }
@@ -64,8 +65,10 @@ fn add_unit<'a>(
     unit: &'a DesignUnit,
 ) -> Result<(), NameFault>
     ensures given { Gives (λ _. entities_view entities.new)
-        (steps.with_unit (architectures_view outline.now.architectures) (entities_view entities.old) (view.unit_view unit.now)) result }
-    ensures told { IfErr result (Tells (any_of (λ e. broken.entity e.0 e.1) (rules.entities_of (view.unit_view unit.now ∷ [])))) }
+        (steps.with_unit (architectures_view outline.now.architectures) (entities_view entities.old)
+        (view.unit_view unit.now)) result }
+    ensures told { IfErr result (Tells
+        (any_of (λ e. broken.entity e.0 e.1) (rules.entities_of (view.unit_view unit.now ∷ [])))) }
     ensures kept { IfErr result (λ f. f ≢ NoMemory → entities_view entities.new ≡ entities_view entities.old) }
 {
     match &unit.unit {
@@ -74,19 +77,24 @@ fn add_unit<'a>(
     }
 }
 
-/// The entities of a file in order of the text, each with the name of its architecture, but for those
-/// that are at fault, and of one name the first alone; and the first fault. It takes memory for what
-/// is declared in each and analysed of it.
+/// The entities of a file in order of the text, each with the name of its architecture, but for
+/// those that are at fault, and of one name the first alone; and the first fault. It takes memory
+/// for what is declared in each and analysed of it.
 pub fn entities_of<'a>(
     alloc: Global,
     file: &'a File,
     outline: &Outline<'a>,
 ) -> (Entities<'a>, Result<(), NameFault>)
-    ensures told { Finds (any_of (λ e. broken.entity e.0 e.1) (rules.entities_of (view.units_view file.now.units))) result.1 }
-    ensures all { IfOk result.1 (λ _. each (steps.viewed_by (architectures_view outline.now.architectures)) (rules.entities_of (view.units_view file.now.units))
-        ≡ Some (filter_map (steps.viewed_by (architectures_view outline.now.architectures)) (rules.entities_of (view.units_view file.now.units)))) }
+    ensures told { Finds (any_of (λ e. broken.entity e.0 e.1) (rules.entities_of (view.units_view file.now.units)))
+        result.1 }
+    ensures all { IfOk result.1 (λ _.
+        each (steps.viewed_by (architectures_view outline.now.architectures))
+        (rules.entities_of (view.units_view file.now.units))
+        ≡ Some (filter_map (steps.viewed_by (architectures_view outline.now.architectures))
+        (rules.entities_of (view.units_view file.now.units)))) }
     ensures given { HasMemory result.1 → entities_view result.0
-        ≡ with_entities [] (filter_map (steps.viewed_by (architectures_view outline.now.architectures)) (rules.entities_of (view.units_view file.now.units))) }
+        ≡ with_entities [] (filter_map (steps.viewed_by (architectures_view outline.now.architectures))
+        (rules.entities_of (view.units_view file.now.units))) }
 {
     let mut entities = IndexMap::new(alloc);
     let mut told: Result<(), NameFault> = Ok(());

@@ -1,5 +1,6 @@
-//! The analysis of a file (IEEE 1076-2008, clauses 3, 11 and 13, and 10.1 for the labels inside a process), by the rules of
-//! `vhdl_names_rules`: its entities and architectures in order of the text, their concurrent statements, and the units that they are.
+//! The analysis of a file (IEEE 1076-2008, clauses 3, 11 and 13, and 10.1 for the labels inside a
+//! process), by the rules of `vhdl_names_rules`: its entities and architectures in order of the
+//! text, their concurrent statements, and the units that they are.
 #![tactic(auto)]
 
 mod architectures;

@@ -53,7 +53,8 @@ fn is_component(given: &Given<'_, '_>, declaration: &Declaration, at: usize) -> 
 
 /// Whether one of these declarations is.
 fn is_declared(given: &Given<'_, '_>, declarations: &[Declaration], at: usize) -> bool
-    ensures { result ≡ one_is_hidden given.now at (flat_map broken.of_declaration (map view.declaration_view declarations.now)) }
+    ensures { result ≡ one_is_hidden given.now at
+        (flat_map broken.of_declaration (map view.declaration_view declarations.now)) }
 {
     for declaration in declarations {
         if is_component(given, declaration, at) {
@@ -77,7 +78,8 @@ fn is_instantiated(given: &Given<'_, '_>, instance: &Instance, at: usize) -> boo
 /// Whether one of the statements of a generate does.
 #[cycle(instances)]
 fn is_generated(given: &Given<'_, '_>, generate: &Generate, at: usize) -> bool
-    ensures { result ≡ one_is_hidden given.now at (broken.of_concurrents (t.concurrents_of (view.concurrents_view generate.now.statements))) }
+    ensures { result ≡ one_is_hidden given.now at
+        (broken.of_concurrents (t.concurrents_of (view.concurrents_view generate.now.statements))) }
 {
     is_among(given, &generate.statements, at)
 }

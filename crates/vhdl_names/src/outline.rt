@@ -1,4 +1,5 @@
-//! The entities and architectures of a file, before they are analysed (IEEE 1076-2008, 3.2, 3.3 and 13.1).
+//! The entities and architectures of a file, before they are analysed (IEEE 1076-2008, 3.2, 3.3 and
+//! 13.1).
 
 ghost use Rattle.std.specs.Prelude.{◌≡◌, IfOk, IfErr, OnErr, not, [], map, Some, option_map};
 ghost use Rattle.vhdl_names_units.specs.Once.{names_view};
@@ -53,9 +54,11 @@ fn add_described<'a>(
     architectures: &mut Architectures<'a>,
     described: Described<'a>,
 ) -> Result<(), NameFault>
-    ensures given { Gives (λ _. architectures_view architectures.new) (steps.one_described (architectures_view architectures.old) (described_view described.entry)) result }
+    ensures given { Gives (λ _. architectures_view architectures.new)
+        (steps.one_described (architectures_view architectures.old) (described_view described.entry)) result }
     ensures told { IfErr result (Tells (unless SecondArchitecture (described_view described.entry).1.entity.at
-        (not (is_among (described_view described.entry).1.entity.text (steps.names_of (architectures_view architectures.old)))))) }
+        (not (is_among (described_view described.entry).1.entity.text
+        (steps.names_of (architectures_view architectures.old)))))) }
     ensures kept { OnErr result (architectures_view architectures.new ≡ architectures_view architectures.old) }
 {
     let entity = &described.tree.entity;
@@ -76,8 +79,10 @@ pub fn has_name(names: &Names, name: &[u8]) -> bool
 
 /// One more entity, whose name none before it has.
 fn add_entity(alloc: Global, outline: &mut Outline<'_>, tree: &Entity) -> Result<(), NameFault>
-    ensures given { Gives (λ _. outline_view outline.new) (steps.with_entity (outline_view outline.old) (view.entity_view tree.now)) result }
-    ensures told { IfErr result (Tells (breaking.one_unit (outline_view outline.old) (t.LibraryUnit.entity (view.entity_view tree.now)))) }
+    ensures given { Gives (λ _. outline_view outline.new)
+        (steps.with_entity (outline_view outline.old) (view.entity_view tree.now)) result }
+    ensures told { IfErr result (Tells
+        (breaking.one_unit (outline_view outline.old) (t.LibraryUnit.entity (view.entity_view tree.now)))) }
     ensures kept { OnErr result (outline_view outline.new ≡ outline_view outline.old) }
 {
     add_name(alloc, &mut outline.entities, &tree.name.text, tree.name.at)
@@ -91,8 +96,10 @@ fn add_architecture<'a>(
     tree: &'a Architecture,
 ) -> Result<(), NameFault>
     ensures given { Gives (λ _. outline_view outline.new)
-        (steps.with_architecture (outline_view outline.old) (map view.context_view items.entry.now) (view.architecture_view tree.entry.now)) result }
-    ensures told { IfErr result (Tells (breaking.one_unit (outline_view outline.old) (t.architecture (view.architecture_view tree.entry.now)))) }
+        (steps.with_architecture (outline_view outline.old) (map view.context_view items.entry.now)
+        (view.architecture_view tree.entry.now)) result }
+    ensures told { IfErr result (Tells
+        (breaking.one_unit (outline_view outline.old) (t.architecture (view.architecture_view tree.entry.now)))) }
     ensures kept { OnErr result (outline_view outline.new ≡ outline_view outline.old) }
 {
     if !has_name(&outline.entities, &tree.entity.text) {
@@ -107,7 +114,8 @@ fn add_unit<'a>(
     outline: &mut Outline<'a>,
     unit: &'a DesignUnit,
 ) -> Result<(), NameFault>
-    ensures given { Gives (λ _. outline_view outline.new) (steps.with_unit (outline_view outline.old) (view.unit_view unit.now)) result }
+    ensures given { Gives (λ _. outline_view outline.new)
+        (steps.with_unit (outline_view outline.old) (view.unit_view unit.now)) result }
     ensures told { IfErr result (Tells (breaking.one_unit (outline_view outline.old) (view.unit_view unit.now).unit)) }
     ensures kept { OnErr result (outline_view outline.new ≡ outline_view outline.old) }
 {
@@ -122,8 +130,10 @@ fn add_unit<'a>(
 /// after its entity. It takes the memory of the names.
 pub fn outline_of<'a>(alloc: Global, file: &'a File) -> (Outline<'a>, Result<(), NameFault>)
     ensures told { Finds (broken.names [] (view.units_view file.now.units)) result.1 }
-    ensures given { IfOk result.1 (λ _. steps.outlined (view.units_view file.now.units) ≡ Some (outline_view result.0)) }
-    ensures names { HasMemory result.1 → (n : Name) → is_among n (names_view result.0.entities) ≡ is_among n (entity_names (view.units_view file.now.units)) }
+    ensures given { IfOk result.1 (λ _. steps.outlined (view.units_view file.now.units) ≡
+        Some (outline_view result.0)) }
+    ensures names { HasMemory result.1 → (n : Name)
+        → is_among n (names_view result.0.entities) ≡ is_among n (entity_names (view.units_view file.now.units)) }
     ensures seen { HasMemory result.1 → (n : Name) → steps.described_of n (architectures_view result.0.architectures)
         ≡ steps.described_of n (map steps.keyed (broken.placed_architectures (view.units_view file.now.units))) }
 {
@@ -140,7 +150,8 @@ pub fn outline_of<'a>(alloc: Global, file: &'a File) -> (Outline<'a>, Result<(),
 
 /// The architecture of the entity of a name, if the file has one.
 pub fn architecture_of<'o, 'a>(outline: &'o Outline<'a>, name: &[u8]) -> Option<&'o Described<'a>>
-    ensures { option_map (λ d. described_view d.now) result ≡ steps.described_of name.now (architectures_view outline.now.architectures) }
+    ensures { option_map (λ d. described_view d.now) result ≡
+        steps.described_of name.now (architectures_view outline.now.architectures) }
 {
     outline.architectures.get(name)
 }

@@ -27,8 +27,10 @@ use vhdl_tree::Identifier;
 
 /// A label, if there is one, which none before it is.
 fn label(alloc: Global, taken: &mut Names, label: &Option<Identifier>) -> Result<(), NameFault>
-    ensures given { Gives (λ _. names_view taken.new) (in_turn one_name (names_view taken.old) (rules.label_names (tree.option_ident_view label.now))) result }
-    ensures told { IfErr result (Tells (twice (names_view taken.old) (broken.label_if_any (tree.option_ident_view label.now)))) }
+    ensures given { Gives (λ _. names_view taken.new)
+        (in_turn one_name (names_view taken.old) (rules.label_names (tree.option_ident_view label.now))) result }
+    ensures told { IfErr result (Tells
+        (twice (names_view taken.old) (broken.label_if_any (tree.option_ident_view label.now)))) }
 {
     match label {
         None => Ok(()),
@@ -43,8 +45,10 @@ fn of_statements(
     taken: &mut Names,
     list: &[syntax::Sequential],
 ) -> Result<(), NameFault>
-    ensures given { Gives (λ _. names_view taken.new) (steps.with_statements (names_view taken.old) (map tree.sequential_view list.now)) result }
-    ensures told { IfErr result (Tells (twice (names_view taken.old) (broken.statement_labels (statements_of (map tree.sequential_view list.now))))) }
+    ensures given { Gives (λ _. names_view taken.new)
+        (steps.with_statements (names_view taken.old) (map tree.sequential_view list.now)) result }
+    ensures told { IfErr result (Tells
+        (twice (names_view taken.old) (broken.statement_labels (statements_of (map tree.sequential_view list.now))))) }
 {
     for item in list {
         of_statement(alloc, taken, item)?;
@@ -60,8 +64,12 @@ fn of_statement(
     taken: &mut Names,
     item: &syntax::Sequential,
 ) -> Result<(), NameFault>
-    ensures given { Gives (λ _. names_view taken.new) (steps.with_statement (names_view taken.old) (tree.sequential_view item.now)) result }
-    ensures told { IfErr result (Tells (twice (names_view taken.old) (broken.label_if_any (tree.sequential_view item.now).label ++ broken.inner_labels (tree.sequential_view item.now).statement))) }
+    ensures given { Gives (λ _. names_view taken.new)
+        (steps.with_statement (names_view taken.old) (tree.sequential_view item.now)) result }
+    ensures told { IfErr result (Tells
+        (twice (names_view taken.old)
+        (broken.label_if_any (tree.sequential_view item.now).label
+        ++ broken.inner_labels (tree.sequential_view item.now).statement))) }
 {
     label(alloc, taken, &item.label)?;
     inside(alloc, taken, &item.statement)
@@ -70,8 +78,10 @@ fn of_statement(
 /// The labels inside a statement.
 #[cycle(labels)]
 fn inside(alloc: Global, taken: &mut Names, statement: &syntax::Statement) -> Result<(), NameFault>
-    ensures given { Gives (λ _. names_view taken.new) (in_turn one_name (names_view taken.old) (rules.inner_labels (tree.statement_view statement.now))) result }
-    ensures told { IfErr result (Tells (twice (names_view taken.old) (broken.inner_labels (tree.statement_view statement.now)))) }
+    ensures given { Gives (λ _. names_view taken.new)
+        (in_turn one_name (names_view taken.old) (rules.inner_labels (tree.statement_view statement.now))) result }
+    ensures told { IfErr result (Tells
+        (twice (names_view taken.old) (broken.inner_labels (tree.statement_view statement.now)))) }
 {
     match statement {
         syntax::Statement::Null { .. } => Ok(()),
@@ -87,8 +97,11 @@ fn inside(alloc: Global, taken: &mut Names, statement: &syntax::Statement) -> Re
 #[cycle(labels)]
 fn of_if(alloc: Global, taken: &mut Names, conditional: &syntax::If) -> Result<(), NameFault>
     ensures given { Gives (λ _. names_view taken.new) (steps.with_if (names_view taken.old)
-        (tree.conditionals_view (out-If conditional.now).branches) (tree.option_sequentials_view (out-If conditional.now).otherwise)) result }
-    ensures told { IfErr result (Tells (twice (names_view taken.old) (broken.conditional_labels (conditionals_of (tree.conditionals_view (out-If conditional.now).branches))
+        (tree.conditionals_view (out-If conditional.now).branches)
+        (tree.option_sequentials_view (out-If conditional.now).otherwise)) result }
+    ensures told { IfErr result (Tells
+        (twice (names_view taken.old)
+        (broken.conditional_labels (conditionals_of (tree.conditionals_view (out-If conditional.now).branches))
         ++ broken.otherwise_labels (otherwise_of (tree.option_sequentials_view (out-If conditional.now).otherwise))))) }
 {
     of_branches(alloc, taken, &conditional.branches)?;
@@ -105,8 +118,11 @@ fn of_branches(
     taken: &mut Names,
     list: &[syntax::Conditional],
 ) -> Result<(), NameFault>
-    ensures given { Gives (λ _. names_view taken.new) (in_turn steps.with_branch (names_view taken.old) (map tree.conditional_view list.now)) result }
-    ensures told { IfErr result (Tells (twice (names_view taken.old) (broken.conditional_labels (conditionals_of (map tree.conditional_view list.now))))) }
+    ensures given { Gives (λ _. names_view taken.new)
+        (in_turn steps.with_branch (names_view taken.old) (map tree.conditional_view list.now)) result }
+    ensures told { IfErr result (Tells
+        (twice (names_view taken.old)
+        (broken.conditional_labels (conditionals_of (map tree.conditional_view list.now))))) }
 {
     for item in list {
         of_statements(alloc, taken, &item.statements)?;
@@ -119,7 +135,9 @@ fn of_branches(
 fn of_case(alloc: Global, taken: &mut Names, case: &syntax::Case) -> Result<(), NameFault>
     ensures given { Gives (λ _. names_view taken.new) (in_turn steps.with_alternative (names_view taken.old)
         (tree.alternatives_view (out-Case case.now).alternatives)) result }
-    ensures told { IfErr result (Tells (twice (names_view taken.old) (broken.alternative_labels (alternatives_of (tree.alternatives_view (out-Case case.now).alternatives))))) }
+    ensures told { IfErr result (Tells
+        (twice (names_view taken.old)
+        (broken.alternative_labels (alternatives_of (tree.alternatives_view (out-Case case.now).alternatives))))) }
 {
     for item in &case.alternatives {
         of_statements(alloc, taken, &item.statements)?;
@@ -130,8 +148,11 @@ fn of_case(alloc: Global, taken: &mut Names, case: &syntax::Case) -> Result<(), 
 /// The labels inside a loop.
 #[cycle(labels)]
 fn of_loop(alloc: Global, taken: &mut Names, repeated: &syntax::For) -> Result<(), NameFault>
-    ensures given { Gives (λ _. names_view taken.new) (steps.with_statements (names_view taken.old) (tree.sequentials_view (out-For repeated.now).statements)) result }
-    ensures told { IfErr result (Tells (twice (names_view taken.old) (broken.statement_labels (statements_of (tree.sequentials_view (out-For repeated.now).statements))))) }
+    ensures given { Gives (λ _. names_view taken.new)
+        (steps.with_statements (names_view taken.old) (tree.sequentials_view (out-For repeated.now).statements)) result }
+    ensures told { IfErr result (Tells
+        (twice (names_view taken.old)
+        (broken.statement_labels (statements_of (tree.sequentials_view (out-For repeated.now).statements))))) }
 {
     of_statements(alloc, taken, &repeated.statements)
 }
@@ -143,8 +164,10 @@ pub fn statement_labels_are_distinct(
     alloc: Global,
     list: &[syntax::Sequential],
 ) -> Result<(), NameFault>
-    ensures given { Gives (λ _. tt) (rule Twice (are_distinct (rules.statement_labels (statements_of (map tree.sequential_view list.now))))) result }
-    ensures told { IfErr result (Tells (twice [] (broken.statement_labels (statements_of (map tree.sequential_view list.now))))) }
+    ensures given { Gives (λ _. tt)
+        (rule Twice (are_distinct (rules.statement_labels (statements_of (map tree.sequential_view list.now))))) result }
+    ensures told { IfErr result (Tells
+        (twice [] (broken.statement_labels (statements_of (map tree.sequential_view list.now))))) }
 {
     let mut taken: Names = IndexSet::new(alloc);
     of_statements(alloc, &mut taken, list)?;

@@ -20,8 +20,8 @@ use indexmap::IndexMap;
 use vhdl_names_declarations::objects::variables;
 use vhdl_names_expressions::signal;
 use vhdl_names_rules::{NameFault, NameProblem, SignalPart};
-use vhdl_names_statements::analysed;
 use vhdl_names_sight::Sight;
+use vhdl_names_statements::analysed;
 use vhdl_names_units::{Process, Sensitivity, Statement, copied_label, earlier_in, label_ends};
 use vhdl_tree as syntax;
 use vhdl_tree::Identifier;
@@ -74,7 +74,8 @@ fn body(sight: &mut Sight, list: &[syntax::Sequential]) -> Result<Vec<Statement>
 
 /// Outside a process again, where no variables are in sight.
 fn leave_process(sight: &mut Sight)
-    ensures { (outer : SightView) (ds : List Declared) → outer.variables ≡ [] → sight.old ≡ with_variables outer ds → sight.new ≡ outer }
+    ensures { (outer : SightView) (ds : List Declared) → outer.variables ≡ [] → sight.old ≡ with_variables outer ds
+        → sight.new ≡ outer }
 {
     sight.variables = IndexMap::new(sight.alloc);
 }
@@ -86,9 +87,11 @@ fn process_in_turn(
     process: &syntax::Process,
 ) -> Result<Process, NameFault>
     requires outside { sight.old.variables ≡ [] }
-    ensures given { Gives process_view (steps.process sight.old (tree.option_ident_view label.now) (tree.process_view process.now)) result }
+    ensures given { Gives process_view
+        (steps.process sight.old (tree.option_ident_view label.now) (tree.process_view process.now)) result }
     ensures kept { OnOk result (sight.new ≡ sight.old) }
-    ensures told { IfErr result (Tells (broken.process sight.old (tree.option_ident_view label.now) (tree.process_view process.now))) }
+    ensures told { IfErr result (Tells
+        (broken.process sight.old (tree.option_ident_view label.now) (tree.process_view process.now))) }
 {
     let sensitivity = sensitivity(sight, process.at, &process.sensitivity)?;
     let variables = variables(sight, &process.variables)?;
@@ -113,9 +116,11 @@ pub fn process(
     process: &syntax::Process,
 ) -> Result<Process, NameFault>
     requires outside { sight.old.variables ≡ [] }
-    ensures given { Gives process_view (rules.process sight.old (tree.option_ident_view label.now) (tree.process_view process.now)) result }
+    ensures given { Gives process_view
+        (rules.process sight.old (tree.option_ident_view label.now) (tree.process_view process.now)) result }
     ensures kept { OnOk result (sight.new ≡ sight.old) }
-    ensures told { IfErr result (Tells (broken.process sight.old (tree.option_ident_view label.now) (tree.process_view process.now))) }
+    ensures told { IfErr result (Tells
+        (broken.process sight.old (tree.option_ident_view label.now) (tree.process_view process.now))) }
 {
     process_in_turn(sight, label, process)
 }

@@ -22,15 +22,16 @@ use crate::schemes::scheme;
 use vhdl_names_declarations::labels_are_distinct;
 use vhdl_names_instances::{InstanceEntities, instance_in_turn};
 use vhdl_names_rules::NameFault;
-use vhdl_names_statements::{assignment, selected};
 use vhdl_names_sight::{Declared, Meaning, Sight};
+use vhdl_names_statements::{assignment, selected};
 use vhdl_names_units::{Concurrent, copied, earlier_in, ends};
 use vhdl_tree as syntax;
 use vhdl_tree::Identifier;
 
 /// The sight within a for-generate.
 fn enter_parameter(sight: &mut Sight, parameter: &Identifier) -> Result<(), NameFault>
-    ensures given { Gives (λ _. sight.new) (Some (visibility.within_generate sight.old (tree.ident_view parameter.now))) result }
+    ensures given { Gives (λ _. sight.new) (Some (visibility.within_generate sight.old (tree.ident_view parameter.now)))
+        result }
     ensures told { IfErr result (Tells (nothing)) }
 {
     let name = parameter.text.to_vec(sight.alloc)?;
@@ -52,14 +53,16 @@ fn enter_generate(sight: &mut Sight, scheme: &syntax::Scheme) -> Result<(), Name
 
 /// The sight outside a for-generate again.
 fn leave_parameter(sight: &mut Sight)
-    ensures { (outer : visibility.Sight) (d : visibility.Declared) → sight.old ≡ steps.in_generate outer d → sight.new ≡ outer }
+    ensures { (outer : visibility.Sight) (d : visibility.Declared) → sight.old ≡ steps.in_generate outer d
+        → sight.new ≡ outer }
 {
     sight.generates.pop();
 }
 
 /// The sight outside a generate again.
 fn leave_generate(sight: &mut Sight, scheme: &syntax::Scheme)
-    ensures { (outer : visibility.Sight) → sight.old ≡ rules.sight_within outer (tree.scheme_view scheme.now) → sight.new ≡ outer }
+    ensures { (outer : visibility.Sight) → sight.old ≡ rules.sight_within outer (tree.scheme_view scheme.now)
+        → sight.new ≡ outer }
 {
     match scheme {
         syntax::Scheme::For { .. } => leave_parameter(sight),
@@ -76,7 +79,8 @@ fn statements(
     list: &[syntax::Concurrent],
 ) -> Result<Vec<Concurrent>, NameFault>
     requires outside { sight.old.variables ≡ [] }
-    ensures given { Gives views.concurrents_view (steps.all (instance_of (names_view entities.now.names) (seens_view entities.now.formals))
+    ensures given { Gives views.concurrents_view
+        (steps.all (instance_of (names_view entities.now.names) (seens_view entities.now.formals))
         sight.old (map tree.concurrent_view list.now)) result }
     ensures kept { OnOk result (sight.new ≡ sight.old) }
     ensures told { (all : List EntityView) → AreEntities entities.now all
@@ -99,7 +103,8 @@ fn statement(
     item: &syntax::Concurrent,
 ) -> Result<Concurrent, NameFault>
     requires outside { sight.old.variables ≡ [] }
-    ensures given { Gives views.concurrent_view (steps.concurrent (instance_of (names_view entities.now.names) (seens_view entities.now.formals))
+    ensures given { Gives views.concurrent_view
+        (steps.concurrent (instance_of (names_view entities.now.names) (seens_view entities.now.formals))
         sight.old (tree.concurrent_view item.now)) result }
     ensures kept { OnOk result (sight.new ≡ sight.old) }
     ensures told { (all : List EntityView) → AreEntities entities.now all
@@ -124,8 +129,8 @@ fn statement(
     }
 }
 
-/// The statements directly in a generate, with labels of their own. Of a label that stands twice and
-/// another fault the earlier one is told.
+/// The statements directly in a generate, with labels of their own. Of a label that stands twice
+/// and another fault the earlier one is told.
 #[cycle(concurrent)]
 fn labelled(
     entities: &InstanceEntities,
@@ -133,7 +138,8 @@ fn labelled(
     list: &[syntax::Concurrent],
 ) -> Result<Vec<Concurrent>, NameFault>
     requires outside { sight.old.variables ≡ [] }
-    ensures given { Gives views.concurrents_view (steps.labelled (instance_of (names_view entities.now.names) (seens_view entities.now.formals))
+    ensures given { Gives views.concurrents_view
+        (steps.labelled (instance_of (names_view entities.now.names) (seens_view entities.now.formals))
         sight.old (map tree.concurrent_view list.now)) result }
     ensures kept { OnOk result (sight.new ≡ sight.old) }
     ensures told { (all : List EntityView) → AreEntities entities.now all
@@ -154,13 +160,18 @@ fn generate(
     written: &syntax::Generate,
 ) -> Result<Concurrent, NameFault>
     requires outside { sight.old.variables ≡ [] }
-    ensures given { Gives views.concurrent_view (steps.generate (instance_of (names_view entities.now.names) (seens_view entities.now.formals))
-        sight.old (tree.ident_view (out-Generate written.now).label) (out-Generate written.now).at (tree.scheme_view (out-Generate written.now).scheme)
-        (tree.concurrents_view (out-Generate written.now).statements) (tree.option_ident_view (out-Generate written.now).end_label)) result }
+    ensures given { Gives views.concurrent_view
+        (steps.generate (instance_of (names_view entities.now.names) (seens_view entities.now.formals))
+        sight.old (tree.ident_view (out-Generate written.now).label) (out-Generate written.now).at
+        (tree.scheme_view (out-Generate written.now).scheme)
+        (tree.concurrents_view (out-Generate written.now).statements)
+        (tree.option_ident_view (out-Generate written.now).end_label)) result }
     ensures kept { OnOk result (sight.new ≡ sight.old) }
     ensures told { (all : List EntityView) → AreEntities entities.now all
-        → IfErr result (Tells (told.generate all sight.old (tree.ident_view (out-Generate written.now).label) (tree.scheme_view (out-Generate written.now).scheme)
-        (tree.concurrents_view (out-Generate written.now).statements) (tree.option_ident_view (out-Generate written.now).end_label))) }
+        → IfErr result (Tells (told.generate all sight.old (tree.ident_view (out-Generate written.now).label)
+        (tree.scheme_view (out-Generate written.now).scheme)
+        (tree.concurrents_view (out-Generate written.now).statements)
+        (tree.option_ident_view (out-Generate written.now).end_label))) }
 {
     let by = scheme(sight, &written.scheme)?;
     enter_generate(sight, &written.scheme)?;
@@ -181,7 +192,8 @@ pub fn concurrents(
 ) -> Result<Vec<Concurrent>, NameFault>
     requires outside { sight.old.variables ≡ [] }
     ensures given { (all : List EntityView) → AreEntities entities.now all
-        → Gives steps.body_view (rules.concurrents all sight.old (t.concurrents_of (map tree.concurrent_view list.now))) result }
+        → Gives steps.body_view (rules.concurrents all sight.old (t.concurrents_of (map tree.concurrent_view list.now)))
+        result }
     ensures kept { OnOk result (sight.new ≡ sight.old) }
     ensures told { (all : List EntityView) → AreEntities entities.now all
         → IfErr result (Tells (broken.concurrents all sight.old (t.concurrents_of (map tree.concurrent_view list.now)))) }

@@ -14,8 +14,8 @@ use vhdl_names_instances::{Formals, InstanceEntities, Names, add_name, formals_o
 use vhdl_names_rules::NameFault;
 use vhdl_names_sight::names_are_apart;
 
-/// What the architectures of a file are read among: the names of its entities, the entities that are
-/// given, and these as instances see them.
+/// What the architectures of a file are read among: the names of its entities, the entities that
+/// are given, and these as instances see them.
 #[derive(Drop)]
 pub struct Given<'o, 'a> {
     pub names: &'o Names,
@@ -38,7 +38,8 @@ fn add_seen(
     name: &[u8],
     entity: &EntityInterface<'_>,
 ) -> Result<(), NameFault>
-    ensures { Gives (λ _. table_view table.new) (steps.with_seen (table_view table.old) (named_view name.now entity.now)) result }
+    ensures { Gives (λ _. table_view table.new)
+        (steps.with_seen (table_view table.old) (named_view name.now entity.now)) result }
 {
     add_name(alloc, &mut table.names, name, 0)?;
     let formals = seen_of(alloc, entity)?;

@@ -35,7 +35,8 @@ use vhdl_tree::{File, Identifier};
 
 /// The next architecture, if the next entity has one.
 fn next_of(rest: &mut vec::IntoIter<Option<Architecture>>) -> Option<Architecture>
-    ensures first { option_map views.architecture_view result ≡ steps.first (map (option_map views.architecture_view) (into_iter_items rest.old)) }
+    ensures first { option_map views.architecture_view result ≡
+        steps.first (map (option_map views.architecture_view) (into_iter_items rest.old)) }
     ensures rest { map (option_map views.architecture_view) (into_iter_items rest.new)
         ≡ drop 1 (map (option_map views.architecture_view) (into_iter_items rest.old)) }
 {
@@ -51,7 +52,8 @@ fn with_architecture(
     entity: EntityInterface<'_>,
     architecture: Option<Architecture>,
 ) -> Entity
-    ensures { views.entity_view result ≡ steps.with_architecture (named_view name.items entity.entry) (option_map views.architecture_view architecture) }
+    ensures { views.entity_view result ≡
+        steps.with_architecture (named_view name.items entity.entry) (option_map views.architecture_view architecture) }
 {
     let at = entity.tree.name.at;
     let (generics, ports) = entity.into_parts();
@@ -69,7 +71,8 @@ fn joined(
     entities: Entities<'_>,
     architectures: Vec<Option<Architecture>>,
 ) -> Result<Vec<Entity>, AllocError>
-    ensures { IfOk result (λ v. map views.entity_view v.items ≡ steps.joined (entities_view entities.entry) (options_view architectures)) }
+    ensures { IfOk result (λ v. map views.entity_view v.items ≡
+        steps.joined (entities_view entities.entry) (options_view architectures)) }
 {
     let mut all = Vec::new(alloc);
     let mut rest = architectures.into_iter();
@@ -88,9 +91,12 @@ fn described(
     outline: &Outline<'_>,
     entities: &Entities<'_>,
 ) -> Result<Vec<Option<Architecture>>, NameFault>
-    ensures told { Finds (any_of (broken.described (names_view outline.now.entities) (entities_view entities.now)) (all_of (file_view file.now).units)) result }
-    ensures given { ((n : Name) → broken.is_hidden (names_view outline.now.entities) (entities_view entities.now) n ≡ false) → IfOk result (λ v.
-        in_turn (with_unit (entities_view entities.now)) (replicate (length (entities_view entities.now)) None) (file_view file.now).units ≡ Some (options_view v)) }
+    ensures told { Finds (any_of (broken.described (names_view outline.now.entities) (entities_view entities.now))
+        (all_of (file_view file.now).units)) result }
+    ensures given { ((n : Name) → broken.is_hidden (names_view outline.now.entities) (entities_view entities.now) n ≡
+        false) → IfOk result (λ v.
+        in_turn (with_unit (entities_view entities.now)) (replicate (length (entities_view entities.now)) None)
+        (file_view file.now).units ≡ Some (options_view v)) }
 {
     let formals = table(alloc, entities)?;
     let given = Given {
@@ -103,7 +109,8 @@ fn described(
 
 /// The entities that are given of a file, and the architecture of each, if the file has one.
 fn read(alloc: Global, file: &File) -> Result<(Entities<'_>, Vec<Option<Architecture>>), NameFault>
-    ensures given { Gives (λ p. steps.joined (entities_view p.0) (options_view p.1)) (units_of (file_view file.now)) result }
+    ensures given { Gives (λ p. steps.joined (entities_view p.0) (options_view p.1)) (units_of (file_view file.now))
+        result }
     ensures told { IfErr result (Tells (broken.file (file_view file.now))) }
 {
     let (outline, names) = outline_of(alloc, file);
@@ -113,19 +120,19 @@ fn read(alloc: Global, file: &File) -> Result<(Entities<'_>, Vec<Option<Architec
     beside(entities, told)
 }
 
-/// The units of a file: its entities in order of the text, each with its architecture if it has one.
-/// No two entities have one name, no entity has two architectures, and each architecture stands
-/// after its entity; instances may be of any entity of the file. It fails at the first byte where a
-/// rule is broken, or where memory is refused; an entity that stands later than a component or an
-/// instance of it is read there, so that what is wrong behind it in that architecture isn't told
-/// where the entity is at fault. It takes memory for what is declared in the file and analysed of
-/// it.
+/// The units of a file: its entities in order of the text, each with its architecture if it has
+/// one. No two entities have one name, no entity has two architectures, and each architecture
+/// stands after its entity; instances may be of any entity of the file. It fails at the first byte
+/// where a rule is broken, or where memory is refused; an entity that stands later than a component
+/// or an instance of it is read there, so that what is wrong behind it in that architecture isn't
+/// told where the entity is at fault. It takes memory for what is declared in the file and analysed
+/// of it.
 pub fn analyse(alloc: Global, file: &File) -> Result<Units, NameFault>
     ensures given { Gives views.units_view (units_of (file_view file.now)) result }
     ensures told { IfErr result (Tells (broken.file (file_view file.now))) }
 
-    // Of a file that `parse` gives of the tokens of `lex` they are what elaboration asks for, and the
-    // ports of each entity have names of their own.
+    // Of a file that `parse` gives of the tokens of `lex` they are what elaboration asks for, and
+    // the ports of each entity have names of their own.
     ensures sound { IfOk result (λ units. IsFile (file_view file.now) → IsTrue (are_sound (views.units_view units))) }
     ensures named { IfOk result (λ units. IsSpelled (file_view file.now)
         → IsTrue (are_named (views.units_view units))) }

@@ -17,8 +17,8 @@ use vhdl_tree::Identifier;
 /// Entities in order of the text, by name.
 pub type Entities<'a> = IndexMap<Vec<u8>, EntityInterface<'a>>;
 
-/// One more entity, whose name no entity before it has; else it is Twice. It takes the memory of its
-/// name and entry.
+/// One more entity, whose name no entity before it has; else it is Twice. It takes the memory of
+/// its name and entry.
 pub fn add_entity<'a>(
     alloc: Global,
     entities: &mut Entities<'a>,

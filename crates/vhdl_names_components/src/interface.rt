@@ -152,8 +152,8 @@ fn entity_in<'a>(
     })
 }
 
-/// An entity behind these context items, with the name of its architecture. It takes memory for what
-/// is declared and analysed.
+/// An entity behind these context items, with the name of its architecture. It takes memory for
+/// what is declared and analysed.
 pub fn entity<'a>(
     alloc: Global,
     items: &[ContextItem],

@@ -92,7 +92,8 @@ fn copied_region(alloc: Global, region: &Region) -> Result<Region, NameFault>
 
 /// What is in sight where an architecture of an entity begins, behind these context items: its
 /// entity's context and its own, and the entity's generics and ports, in the region that goes on
-/// with its declarations; no region encloses it. It takes the memory of the names and their entries.
+/// with its declarations; no region encloses it. It takes the memory of the names and their
+/// entries.
 pub fn architecture_sight(
     alloc: Global,
     entity: &EntityInterface<'_>,

@@ -38,7 +38,8 @@ pub enum Constant {
 /// The value of an integer constant is one expression; `(others => e)` is a TypeMismatch.
 fn single_expression(value: &Value) -> Result<&Expr, NameFault>
     ensures given { Gives (λ e. tree.view e.now) (rules.single_expression (tree.value_view value.now)) result }
-    ensures told { IfErr result (λ f. (inner : visibility.Sight) → Tells (broken.integer_value inner (tree.value_view value.now)) f) }
+    ensures told { IfErr result (λ f. (inner : visibility.Sight)
+        → Tells (broken.integer_value inner (tree.value_view value.now)) f) }
 {
     match value {
         Value::Expr(e) => Ok(e),
@@ -52,7 +53,8 @@ fn integer(
     integer_type: IntegerType,
     declaration: &Constants,
 ) -> Result<Constant, NameFault>
-    ensures given { Gives typed.constant_view (typed.integer sight.now integer_type (tree.constants_view declaration.now)) result }
+    ensures given { Gives typed.constant_view
+        (typed.integer sight.now integer_type (tree.constants_view declaration.now)) result }
     ensures told { IfErr result (Tells (broken.integer_constants sight.now (tree.constants_view declaration.now))) }
 {
     if declaration.subtype.range.is_some() {

@@ -115,7 +115,8 @@ fn libraries(before: Context, names: &[Identifier]) -> Result<Context, NameFault
 /// Why a use clause names no package that is offered.
 fn use_fault(before: Context, selected: &Selected) -> NameFault
     ensures given { result ≢ NoMemory }
-    ensures told { (before.has_ieee && (rules.is_logic (selected_view selected.now) || rules.is_numbers (selected_view selected.now))) ≡ false
+    ensures told { (before.has_ieee
+        && (rules.is_logic (selected_view selected.now) || rules.is_numbers (selected_view selected.now))) ≡ false
         → Tells (broken.package_used (context_view before) (selected_view selected.now)) result }
 {
     if !is_ieee(&selected.library) {

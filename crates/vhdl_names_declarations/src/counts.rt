@@ -1,4 +1,5 @@
-//! How many declarations of each class a region has. Objects are numbered from 0 within their class.
+//! How many declarations of each class a region has. Objects are numbered from 0 within their
+//! class.
 
 ghost use Rattle.std.specs.Prelude.{◌≡◌, ◌≤◌, ◌<◌, ◌+◌, ◌^◌, if◌then◌else◌, take};
 ghost use Rattle.indexmap.specs.IndexMap.{index_map_len};

@@ -25,7 +25,8 @@ fn literals(
 ) -> Result<(), NameFault>
     requires { length literals.now ≤ 256 }
     ensures given { Gives (λ _. region_view region.new)
-        (more (region_view region.old) (rules.literals number (length literals.now) 0 (names_of (map ident_view literals.now)))) result }
+        (more (region_view region.old) (rules.literals number (length literals.now) 0
+        (names_of (map ident_view literals.now)))) result }
     ensures told { IfErr result (Tells (broken.standing_twice (region_view region.old) (map ident_view literals.now))) }
 {
     names_are_apart(region);

@@ -45,7 +45,8 @@ pub fn integer_type(meaning: &Meaning, at: usize) -> Result<IntegerType, NameFau
 
 /// A static integer, if there is one.
 fn static_if_any(sight: &Sight, value: &Option<Expr>) -> Result<Option<Static>, NameFault>
-    ensures given { Gives (option_map static_view) (if_any (expressions.static sight.now) (option_expr_view value.now)) result }
+    ensures given { Gives (option_map static_view) (if_any (expressions.static sight.now) (option_expr_view value.now))
+        result }
     ensures told { IfErr result (Tells (of_any (expressions_broken.static sight.now) (option_expr_view value.now))) }
 {
     match value {
@@ -59,7 +60,8 @@ fn generic_type(
     sight: &Sight,
     generic: &Generic,
 ) -> Result<(IntegerType, Option<Static>), NameFault>
-    ensures given { Gives (λ x. (x.0, option_map static_view x.1)) (typed_generic sight.now (generic_view generic.now)) result }
+    ensures given { Gives (λ x. (x.0, option_map static_view x.1)) (typed_generic sight.now (generic_view generic.now))
+        result }
     ensures told { IfErr result (Tells (broken.typed_generic sight.now (generic_view generic.now))) }
 {
     let mark = meaning_of(sight, &generic.mark)?;

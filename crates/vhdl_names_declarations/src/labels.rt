@@ -32,8 +32,10 @@ fn declare_if_any(
     region: &mut Region,
     label: &Option<Identifier>,
 ) -> Result<(), NameFault>
-    ensures given { Gives (λ _. region_view region.new) (more (region_view region.old) (labelled (label_names (option_ident_view label.now)))) result }
-    ensures told { IfErr result (Tells (standing_twice (region_view region.old) (label_if_any (option_ident_view label.now)))) }
+    ensures given { Gives (λ _. region_view region.new)
+        (more (region_view region.old) (labelled (label_names (option_ident_view label.now)))) result }
+    ensures told { IfErr result (Tells
+        (standing_twice (region_view region.old) (label_if_any (option_ident_view label.now)))) }
     ensures kept { IfErr result (λ f. f ≢ NoMemory → region_view region.new ≡ region_view region.old) }
 {
     names_are_apart(region);
@@ -43,15 +45,17 @@ fn declare_if_any(
     }
 }
 
-/// The label of a statement, if it has one, declared in a region. It takes the memory of the label and
-/// its entry.
+/// The label of a statement, if it has one, declared in a region. It takes the memory of the label
+/// and its entry.
 pub fn declare_label(
     alloc: Global,
     region: &mut Region,
     statement: &Concurrent,
 ) -> Result<(), NameFault>
-    ensures given { Gives (λ _. region_view region.new) (more (region_view region.old) (labelled (rules.concurrent_label (concurrent_view statement.now)))) result }
-    ensures told { IfErr result (Tells (standing_twice (region_view region.old) (label_of (concurrent_view statement.now)))) }
+    ensures given { Gives (λ _. region_view region.new)
+        (more (region_view region.old) (labelled (rules.concurrent_label (concurrent_view statement.now)))) result }
+    ensures told { IfErr result (Tells
+        (standing_twice (region_view region.old) (label_of (concurrent_view statement.now)))) }
     ensures kept { IfErr result (λ f. f ≢ NoMemory → region_view region.new ≡ region_view region.old) }
 {
     match statement {
@@ -65,16 +69,18 @@ pub fn declare_label(
     }
 }
 
-/// The labels that stand directly among statements, declared in their region. It takes the memory of
-/// the labels and their entries.
+/// The labels that stand directly among statements, declared in their region. It takes the memory
+/// of the labels and their entries.
 pub fn declare_labels(
     alloc: Global,
     region: &mut Region,
     statements: &[Concurrent],
 ) -> Result<(), NameFault>
     ensures given { Gives (λ _. region_view region.new)
-        (more (region_view region.old) (labelled (rules.concurrent_labels (concurrents_of (map concurrent_view statements.now))))) result }
-    ensures told { IfErr result (Tells (standing_twice (region_view region.old) (labels_of (concurrents_of (map concurrent_view statements.now))))) }
+        (more (region_view region.old) (labelled
+        (rules.concurrent_labels (concurrents_of (map concurrent_view statements.now))))) result }
+    ensures told { IfErr result (Tells
+        (standing_twice (region_view region.old) (labels_of (concurrents_of (map concurrent_view statements.now))))) }
 {
     names_are_apart(region);
     for statement in statements {
@@ -87,7 +93,8 @@ pub fn declare_labels(
 /// No label stands twice directly among statements, as those of a generate; else it is Twice. It
 /// takes the memory of the labels and their entries.
 pub fn labels_are_distinct(alloc: Global, statements: &[Concurrent]) -> Result<(), NameFault>
-    ensures given { Gives (λ x. x) (rule Twice (are_distinct (rules.concurrent_labels (concurrents_of (map concurrent_view statements.now))))) result }
+    ensures given { Gives (λ x. x) (rule Twice
+        (are_distinct (rules.concurrent_labels (concurrents_of (map concurrent_view statements.now))))) result }
     ensures told { IfErr result (Tells (twice [] (labels_of (concurrents_of (map concurrent_view statements.now))))) }
 {
     let mut region: Region = IndexMap::new(alloc);

@@ -1,5 +1,6 @@
-//! The declarations of a file as they are analysed (IEEE 1076-2008, clauses 5, 6, 12 and 13), by the rules of `vhdl_names_rules`: what
-//! context clauses bring in sight, regions in which no name is declared twice, interfaces, and declarations of objects and types.
+//! The declarations of a file as they are analysed (IEEE 1076-2008, clauses 5, 6, 12 and 13), by
+//! the rules of `vhdl_names_rules`: what context clauses bring in sight, regions in which no name
+//! is declared twice, interfaces, and declarations of objects and types.
 #![tactic(auto)]
 
 mod class;

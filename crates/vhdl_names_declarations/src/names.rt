@@ -36,7 +36,8 @@ pub fn copied_names(alloc: Global, names: &[Identifier]) -> Result<Vec<Identifie
 
 /// An end name, if there is one, repeats the name at the beginning; else it is of WrongKind.
 pub fn ends(name: &Identifier, end: &Option<Identifier>) -> Result<(), NameFault>
-    ensures given { Gives (λ x. x) (rule WrongKind (visibility.ends name.now.text.items (option_ident_view end.now))) result }
+    ensures given { Gives (λ x. x) (rule WrongKind (visibility.ends name.now.text.items (option_ident_view end.now)))
+        result }
     ensures told { IfErr result (Tells (end_name (ident_view name.now) (option_ident_view end.now))) }
 {
     match end {

@@ -1,5 +1,5 @@
-//! Objects of one type: signals of an architecture and variables of a process (IEEE 1076-2008, 6.4.2), and what ports share with
-//! them.
+//! Objects of one type: signals of an architecture and variables of a process (IEEE 1076-2008,
+//! 6.4.2), and what ports share with them.
 
 ghost use Rattle.std.specs.Prelude.{◌≡◌, map, option_map, IfOk, OnOk, IfErr};
 ghost use Rattle.vhdl_names_declarations.specs.Entered.{entering, entering_variables};
@@ -33,8 +33,10 @@ pub fn fixed_if_any(
     object_type: ObjectType,
     value: &Option<Value>,
 ) -> Result<Option<Fixed>, NameFault>
-    ensures given { Gives (option_map fixed_view) (if_any (types.fixed_value sight.now object_type) (tree.option_value_view value.now)) result }
-    ensures told { IfErr result (Tells (of_any (subtypes_broken.fixed_value sight.now object_type) (tree.option_value_view value.now))) }
+    ensures given { Gives (option_map fixed_view)
+        (if_any (types.fixed_value sight.now object_type) (tree.option_value_view value.now)) result }
+    ensures told { IfErr result (Tells
+        (of_any (subtypes_broken.fixed_value sight.now object_type) (tree.option_value_view value.now))) }
 {
     match value {
         None => Ok(None),
@@ -50,7 +52,8 @@ pub fn object_type(
 ) -> Result<(Subtype, Option<Fixed>), NameFault>
     ensures given { Gives (λ x. (subtype_view x.0, option_map fixed_view x.1))
         (typed_object sight.now (tree.subtype_view indication.now) (tree.option_value_view value.now)) result }
-    ensures told { IfErr result (Tells (broken.object sight.now (tree.subtype_view indication.now) (tree.option_value_view value.now))) }
+    ensures told { IfErr result (Tells
+        (broken.object sight.now (tree.subtype_view indication.now) (tree.option_value_view value.now))) }
 {
     let subtype = subtype(sight, indication)?;
     let default = fixed_if_any(sight, subtype.object_type, value)?;
@@ -65,7 +68,8 @@ pub fn objects(
     default: Option<Fixed>,
 ) -> Result<Objects, AllocError>
     ensures { IfOk result (λ o. object_view o
-        ≡ rules.for_each (types.object (subtype_view subtype) (option_map fixed_view default)) (map tree.ident_view names.now)) }
+        ≡ rules.for_each (types.object (subtype_view subtype) (option_map fixed_view default))
+        (map tree.ident_view names.now)) }
 {
     let names = copied_names(alloc, names)?;
     Ok(Objects {
@@ -121,8 +125,10 @@ fn variables_of_one(
 /// declared and analysed.
 pub fn variables(sight: &mut Sight, all: &[Variables]) -> Result<Vec<Objects>, NameFault>
     ensures given { Gives (λ v. (sight.new, objects_view v))
-        (entering_variables (rules.in_order with_variables rules.variables) sight.old (map tree.variables_view all.now)) result }
-    ensures told { IfErr result (Tells (broken.in_order with_variables rules.variables broken.variables sight.old (map tree.variables_view all.now))) }
+        (entering_variables (rules.in_order with_variables rules.variables) sight.old (map tree.variables_view all.now))
+        result }
+    ensures told { IfErr result (Tells
+        (broken.in_order with_variables rules.variables broken.variables sight.old (map tree.variables_view all.now))) }
 {
     let mut done = Vec::new(sight.alloc);
     names_are_apart(&sight.variables);

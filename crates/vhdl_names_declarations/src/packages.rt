@@ -137,7 +137,8 @@ fn add_used(
     is_used: bool,
     rows: &[Row],
 ) -> Result<(), NameFault>
-    ensures given { Gives (λ _. region_view region.new) (more (region_view region.old) (if is_used then map row_view rows.now else [])) result }
+    ensures given { Gives (λ _. region_view region.new)
+        (more (region_view region.old) (if is_used then map row_view rows.now else [])) result }
     ensures told { IfErr result (Tells (refused Twice 0)) }
 {
     if is_used {

@@ -48,7 +48,8 @@ fn mode_of(mode: Option<Mode>) -> Mode
 
 /// The type, kind and default of ports of one declaration.
 fn port_type(sight: &Sight, port: &Port) -> Result<(Subtype, ElementKind, Option<Fixed>), NameFault>
-    ensures given { Gives (λ x. (subtype_view x.0, x.1, option_map fixed_view x.2)) (typed_port sight.now (tree.port_view port.now)) result }
+    ensures given { Gives (λ x. (subtype_view x.0, x.1, option_map fixed_view x.2))
+        (typed_port sight.now (tree.port_view port.now)) result }
     ensures told { IfErr result (Tells (broken.typed_port sight.now (tree.port_view port.now))) }
 {
     let subtype = subtype(sight, &port.subtype)?;
@@ -61,7 +62,8 @@ fn port_type(sight: &Sight, port: &Port) -> Result<(Subtype, ElementKind, Option
 /// default, which they do not hide.
 fn port(sight: &mut Sight, number: usize, port: &Port) -> Result<Ports, NameFault>
     requires { number ≡ count_of is_port sight.old.region }
-    ensures given { Gives (λ p. (sight.new, ports_view p)) (entering rules.port sight.old (tree.port_view port.now)) result }
+    ensures given { Gives (λ p. (sight.new, ports_view p)) (entering rules.port sight.old (tree.port_view port.now))
+        result }
     ensures kept { OnOk result (sight.new ≡ record sight.old { region = sight.new.region }) }
     ensures told { IfErr result (Tells (broken.port sight.old (tree.port_view port.now))) }
 {

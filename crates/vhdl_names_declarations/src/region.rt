@@ -1,4 +1,5 @@
-//! Regions, in which no name is declared twice (IEEE 1076-2008, 12.1). Look-ups and declarations don't walk lists.
+//! Regions, in which no name is declared twice (IEEE 1076-2008, 12.1). Look-ups and declarations
+//! don't walk lists.
 
 ghost use Rattle.std.specs.Prelude.{◌≡◌, ◌≢◌, ◌≤◌, ◌∷◌, [], map, OnOk, IfErr};
 ghost use Rattle.indexmap.specs.IndexMap.{index_map_len};
@@ -28,7 +29,8 @@ pub fn declare_name(
     at: usize,
     meaning: Meaning,
 ) -> Result<(), NameFault>
-    ensures given { Gives (λ _. region_view region.new) (more (region_view region.old) (visibility.declare name.now (meaning_view meaning) ∷ [])) result }
+    ensures given { Gives (λ _. region_view region.new)
+        (more (region_view region.old) (visibility.declare name.now (meaning_view meaning) ∷ [])) result }
     ensures told { IfErr result (Tells (standing_twice (region_view region.old) (ident at name.now ∷ []))) }
     ensures kept { IfErr result (λ f. f ≢ NoMemory → region_view region.new ≡ region_view region.old) }
 {
@@ -61,7 +63,8 @@ pub fn declare(
 /// names and their entries.
 pub fn hide(alloc: Global, region: &mut Region, names: &[Identifier]) -> Result<(), NameFault>
     ensures given { Gives (λ _. region_view region.new)
-        (more (region_view region.old) (all_declared visibility.unfinished (names_of (map ident_view names.now)))) result }
+        (more (region_view region.old) (all_declared visibility.unfinished (names_of (map ident_view names.now))))
+        result }
     ensures told { IfErr result (Tells (standing_twice (region_view region.old) (map ident_view names.now))) }
 {
     names_are_apart(region);
@@ -83,7 +86,8 @@ pub fn settle(
 ) -> Result<(), AllocError>
     requires place { first ≤ index_map_len region.old }
     requires number { number ≤ first }
-    ensures { OnOk result (region_view region.new ≡ settled (class_view class.now) number first (region_view region.old)) }
+    ensures { OnOk result (region_view region.new ≡
+        settled (class_view class.now) number first (region_view region.old)) }
 {
     for place in first..region.len() {
         region[place] = class.meaning(alloc, number + (place - first))?;

@@ -55,7 +55,8 @@ fn position_choice(
     meaning: &Meaning,
     at: usize,
 ) -> Result<Choice, NameFault>
-    ensures given { Gives choice_view (rules.named_choice (Enumeration number count) (meaning_view meaning.now)) result }
+    ensures given { Gives choice_view
+        (rules.named_choice (Enumeration number count) (meaning_view meaning.now)) result }
     ensures told { IfErr result (Tells (refused (broken.choice_problem (meaning_view meaning.now)) at)) }
 {
     match meaning {
@@ -68,8 +69,8 @@ fn position_choice(
     }
 }
 
-/// The choice that a literal of an enumeration is, or a constant that a literal declares; the name is
-/// at byte `at`.
+/// The choice that a literal of an enumeration is, or a constant that a literal declares; the name
+/// is at byte `at`.
 fn named_choice(object_type: ObjectType, meaning: &Meaning, at: usize) -> Result<Choice, NameFault>
     ensures given { Gives choice_view (rules.named_choice object_type (meaning_view meaning.now)) result }
     ensures told { IfErr result (Tells (refused (broken.choice_problem (meaning_view meaning.now)) at)) }
@@ -98,8 +99,14 @@ fn is_bare_name(name: &Name) -> bool
 /// A name as a choice, with nothing behind it.
 #[tactic(auto, using(crate::proofs::Choosing::chosen_named))]
 fn chosen_name(sight: &Sight, object_type: ObjectType, name: &Name) -> Result<Choice, NameFault>
-    ensures given { Gives choice_view (rules.chosen sight.now object_type (t.named (ident_view name.now.identifier) (suffix_view name.now.suffix) (option_ident_view name.now.attribute))) result }
-    ensures told { IfErr result (Tells (broken.chosen sight.now object_type (t.named (ident_view name.now.identifier) (suffix_view name.now.suffix) (option_ident_view name.now.attribute)))) }
+    ensures given { Gives choice_view
+        (rules.chosen sight.now object_type
+        (t.named (ident_view name.now.identifier) (suffix_view name.now.suffix) (option_ident_view name.now.attribute)))
+        result }
+    ensures told { IfErr result (Tells
+        (broken.chosen sight.now object_type
+        (t.named (ident_view name.now.identifier) (suffix_view name.now.suffix)
+        (option_ident_view name.now.attribute)))) }
 {
     let meaning = meaning_of(sight, &name.identifier)?;
     if !is_bare_name(name) {
@@ -154,7 +161,8 @@ fn each_choice(
     object_type: ObjectType,
     all: &[TreeChoice],
 ) -> Result<Vec<Choice>, NameFault>
-    ensures given { Gives choices_view (each (rules.choice sight.now object_type) (map tree_choice_view all.now)) result }
+    ensures given { Gives choices_view
+        (each (rules.choice sight.now object_type) (map tree_choice_view all.now)) result }
     ensures told { IfErr result (Tells (any_of (broken.choice sight.now object_type) (map tree_choice_view all.now))) }
 {
     let mut done = Vec::new(sight.alloc);

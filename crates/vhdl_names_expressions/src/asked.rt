@@ -1,5 +1,6 @@
-//! What statements ask of an expression: a condition (IEEE 1076-2008, 9.2.9), a value of a type (9.3.3, 10.5) and what a case
-//! selects by (10.9). Each takes memory for what is analysed, and fails at the first byte where a rule is broken.
+//! What statements ask of an expression: a condition (IEEE 1076-2008, 9.2.9), a value of a type
+//! (9.3.3, 10.5) and what a case selects by (10.9). Each takes memory for what is analysed, and
+//! fails at the first byte where a rule is broken.
 
 ghost use Rattle.std.specs.Prelude.{◌≡◌, IfErr};
 ghost use Rattle.vhdl_names_rules.specs.problems.Broken.{Tells, refused, ◌▸◌, unless, lacking};
@@ -135,7 +136,9 @@ fn as_filled(
     element_at: usize,
 ) -> Result<Given, NameFault>
     ensures given { Gives given_view (rules.as_filled object_type (typed_view operand)) result }
-    ensures told { IfErr result (Tells (unless TypeMismatch at (broken.is_vector_type object_type) ▸ lacking TypeMismatch element_at (rules.as_filled object_type (typed_view operand)))) }
+    ensures told { IfErr result (Tells
+        (unless TypeMismatch at (broken.is_vector_type object_type) ▸ lacking TypeMismatch element_at
+        (rules.as_filled object_type (typed_view operand)))) }
 {
     match object_type {
         ObjectType::Elements(kind) if kind.is_vector() => match operand {

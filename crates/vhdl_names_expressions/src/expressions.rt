@@ -229,9 +229,14 @@ fn of_no_value(
     suffix: &TypedSuffix,
     attribute: &Option<Identifier>,
 ) -> Result<(), NameFault>
-    ensures kept { IfOk result (λ _. broken.of_no_value (meaning_view meaning.now) (typed_suffix_view suffix.now) (option_map ident_view attribute.now) ≡ nothing) }
-    ensures none { OnErr result ((at : ℕ) → denoted_of at (meaning_view meaning.now) (typed_suffix_view suffix.now) ≡ None) }
-    ensures told { IfErr result (Tells (broken.of_no_value (meaning_view meaning.now) (typed_suffix_view suffix.now) (option_map ident_view attribute.now))) }
+    ensures kept { IfOk result (λ _.
+        broken.of_no_value (meaning_view meaning.now) (typed_suffix_view suffix.now)
+        (option_map ident_view attribute.now) ≡ nothing) }
+    ensures none { OnErr result ((at : ℕ)
+        → denoted_of at (meaning_view meaning.now) (typed_suffix_view suffix.now) ≡ None) }
+    ensures told { IfErr result (Tells
+        (broken.of_no_value (meaning_view meaning.now) (typed_suffix_view suffix.now)
+        (option_map ident_view attribute.now))) }
 {
     match suffix {
         TypedSuffix::Plain => {
@@ -250,8 +255,14 @@ fn of_no_value(
 #[cycle(typed)]
 #[tactic(auto, using(crate::proofs::Chains::named_in_turn))]
 fn named(sight: &Sight, name: &Name) -> Result<Typed, NameFault>
-    ensures given { Gives typed_view (rules.typed sight.now (t.named (ident_view name.now.identifier) (suffix_view name.now.suffix) (option_map ident_view name.now.attribute))) result }
-    ensures told { IfErr result (Tells (broken.typed sight.now (t.named (ident_view name.now.identifier) (suffix_view name.now.suffix) (option_map ident_view name.now.attribute)))) }
+    ensures given { Gives typed_view
+        (rules.typed sight.now
+        (t.named (ident_view name.now.identifier) (suffix_view name.now.suffix)
+        (option_map ident_view name.now.attribute))) result }
+    ensures told { IfErr result (Tells
+        (broken.typed sight.now
+        (t.named (ident_view name.now.identifier) (suffix_view name.now.suffix)
+        (option_map ident_view name.now.attribute)))) }
 {
     let at = name.identifier.at;
     let meaning = meaning_of(sight, &name.identifier)?;
@@ -318,7 +329,8 @@ pub fn static_range(sight: &Sight, range: &Range) -> Result<StaticRange, NameFau
 /// Arguments with their types. It takes memory for what is analysed.
 #[cycle(typed)]
 pub fn typed_each(sight: &Sight, arguments: &[Expr]) -> Result<Vec<Typed>, NameFault>
-    ensures given { Gives (λ v. map typed_view v.items) (rules.typed_each sight.now (t.exprs_of (map view arguments.now))) result }
+    ensures given { Gives (λ v. map typed_view v.items)
+        (rules.typed_each sight.now (t.exprs_of (map view arguments.now))) result }
     ensures told { IfErr result (Tells (broken.typed_each sight.now (t.exprs_of (map view arguments.now)))) }
 {
     let mut done = Vec::new(sight.alloc);

@@ -83,7 +83,8 @@ fn named_value(object_type: ObjectType, meaning: &Meaning, at: usize) -> Result<
 
 /// to_unsigned of a number and a size; its name is at byte `at`.
 fn encoded(arguments: Option<(Typed, Typed)>, at: usize) -> Result<Fixed, NameFault>
-    ensures given { Gives fixed_view (encoded_fixed (option_map (λ p. (typed_view p.0, typed_view p.1)) arguments)) result }
+    ensures given { Gives fixed_view (encoded_fixed (option_map (λ p. (typed_view p.0, typed_view p.1)) arguments))
+        result }
     ensures told { IfErr result (Tells (refused TypeMismatch at)) }
 {
     let Some((first, second)) = arguments else {
@@ -103,7 +104,8 @@ fn encoded_value(
     arguments: Vec<Typed>,
     at: usize,
 ) -> Result<Fixed, NameFault>
-    ensures given { Gives fixed_view (rules.encoded_value object_type (meaning_view meaning.now) (map typed_view arguments.items)) result }
+    ensures given { Gives fixed_view
+        (rules.encoded_value object_type (meaning_view meaning.now) (map typed_view arguments.items)) result }
     ensures told { IfErr result (Tells (refused (broken.call_problem object_type (meaning_view meaning.now)) at)) }
 {
     match (object_type, meaning) {
@@ -121,8 +123,10 @@ fn suffixed(
     suffix: TypedSuffix,
     at: usize,
 ) -> Result<Fixed, NameFault>
-    ensures given { Gives fixed_view (suffixed_value object_type (meaning_view meaning.now) (typed_suffix_view suffix)) result }
-    ensures told { IfErr result (Tells (refused (broken.suffixed_problem object_type (meaning_view meaning.now) (typed_suffix_view suffix)) at)) }
+    ensures given { Gives fixed_view (suffixed_value object_type (meaning_view meaning.now) (typed_suffix_view suffix))
+        result }
+    ensures told { IfErr result (Tells
+        (refused (broken.suffixed_problem object_type (meaning_view meaning.now) (typed_suffix_view suffix)) at)) }
 {
     match suffix {
         TypedSuffix::Plain => named_value(object_type, meaning, at),
@@ -134,8 +138,14 @@ fn suffixed(
 /// The value that a name or a call is.
 #[tactic(auto, using(crate::proofs::Fixing::fixed_named))]
 fn fixed_name(sight: &Sight, object_type: ObjectType, name: &Name) -> Result<Fixed, NameFault>
-    ensures given { Gives fixed_view (rules.fixed sight.now object_type (t.named (ident_view name.now.identifier) (suffix_view name.now.suffix) (option_ident_view name.now.attribute))) result }
-    ensures told { IfErr result (Tells (broken.fixed sight.now object_type (t.named (ident_view name.now.identifier) (suffix_view name.now.suffix) (option_ident_view name.now.attribute)))) }
+    ensures given { Gives fixed_view
+        (rules.fixed sight.now object_type
+        (t.named (ident_view name.now.identifier) (suffix_view name.now.suffix) (option_ident_view name.now.attribute)))
+        result }
+    ensures told { IfErr result (Tells
+        (broken.fixed sight.now object_type
+        (t.named (ident_view name.now.identifier) (suffix_view name.now.suffix)
+        (option_ident_view name.now.attribute)))) }
 {
     let meaning = meaning_of(sight, &name.identifier)?;
     let suffix = typed_suffix(sight, &name.suffix)?;
@@ -197,7 +207,9 @@ fn filled(
     element_at: usize,
 ) -> Result<Fixed, NameFault>
     ensures given { Gives fixed_view (filled_with object_type code) result }
-    ensures told { IfErr result (Tells (unless LeftOut element_at (is_some code) ▸ unless TypeMismatch at (is_vector_type object_type) ▸ lacking TypeMismatch element_at (filled_with object_type code))) }
+    ensures told { IfErr result (Tells
+        (unless LeftOut element_at (is_some code) ▸ unless TypeMismatch at (is_vector_type object_type) ▸ lacking
+        TypeMismatch element_at (filled_with object_type code))) }
 {
     let Some(code) = code else {
         return Err(NameProblem::LeftOut.at(element_at));
@@ -211,9 +223,9 @@ fn filled(
     }
 }
 
-/// The value of a constant that is no integer, or a default, of a type: a constant, a literal, a call
-/// of to_unsigned, or `(others => c)`. It takes memory for what is analysed, and fails at the first
-/// byte where a rule is broken.
+/// The value of a constant that is no integer, or a default, of a type: a constant, a literal, a
+/// call of to_unsigned, or `(others => c)`. It takes memory for what is analysed, and fails at the
+/// first byte where a rule is broken.
 #[tactic(auto, using(crate::proofs::Fixing::fixed_single, crate::proofs::Fixing::fixed_others))]
 pub fn fixed_value(
     sight: &Sight,

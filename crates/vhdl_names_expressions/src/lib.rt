@@ -1,5 +1,5 @@
-//! The types of expressions (IEEE 1076-2008, clause 9), and what statements and declarations ask of expressions and names, by the
-//! rules of `vhdl_names_rules`.
+//! The types of expressions (IEEE 1076-2008, clause 9), and what statements and declarations ask of
+//! expressions and names, by the rules of `vhdl_names_rules`.
 #![tactic(auto)]
 
 mod alternatives;

@@ -1,5 +1,5 @@
-//! Literals as they stand, which constants, defaults and choices ask for (IEEE 1076-2008, 9.3.2), and
-//! expressions that are one name.
+//! Literals as they stand, which constants, defaults and choices ask for (IEEE 1076-2008, 9.3.2),
+//! and expressions that are one name.
 
 ghost use Rattle.std.specs.Prelude.{◌≡◌, ℕ, option_map, option_copied, IfErr};
 ghost use Rattle.vhdl_names_rules.specs.problems.Broken.{Tells, refused};
@@ -75,8 +75,8 @@ pub(crate) fn no_literal(e: &Expr) -> NameFault
     }
 }
 
-/// The values of a literal as it stands: a character for one element, a string or a bit string for a
-/// vector. It takes the memory of a list.
+/// The values of a literal as it stands: a character for one element, a string or a bit string for
+/// a vector. It takes the memory of a list.
 #[tactic(auto, using(crate::proofs::Choosing::literal_character, crate::proofs::Choosing::literal_string, crate::proofs::Choosing::literal_bits, crate::proofs::Choosing::no_literal, crate::proofs::Choosing::chain_is_no_literal))]
 pub(crate) fn literal_values(
     alloc: Global,

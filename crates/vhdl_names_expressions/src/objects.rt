@@ -18,7 +18,8 @@ use vhdl_tree::{Mode, Name};
 
 /// The signal or port that a name at byte `at` is, or the part of one.
 fn as_signal(meaning: &Meaning, suffix: TypedSuffix, at: usize) -> Result<SignalName, NameFault>
-    ensures given { Gives signal_name_view (rules.as_signal at (meaning_view meaning.now) (typed_suffix_view suffix)) result }
+    ensures given { Gives signal_name_view (rules.as_signal at (meaning_view meaning.now) (typed_suffix_view suffix))
+        result }
     ensures told { IfErr result (Tells (refused (broken.signal_problem (meaning_view meaning.now)) at)) }
 {
     let (signal, mode, object_type) = match meaning {
@@ -66,7 +67,8 @@ pub fn target(sight: &Sight, name: &Name) -> Result<SignalName, NameFault>
 
 /// The variable that a name at byte `at` is, or the part of one.
 fn as_variable(meaning: &Meaning, suffix: TypedSuffix, at: usize) -> Result<VariableName, NameFault>
-    ensures given { Gives variable_name_view (rules.as_variable at (meaning_view meaning.now) (typed_suffix_view suffix)) result }
+    ensures given { Gives variable_name_view
+        (rules.as_variable at (meaning_view meaning.now) (typed_suffix_view suffix)) result }
     ensures told { IfErr result (Tells (refused (broken.variable_problem (meaning_view meaning.now)) at)) }
 {
     match meaning {

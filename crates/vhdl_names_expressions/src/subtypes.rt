@@ -35,7 +35,8 @@ fn mark_problem(meaning: &Meaning) -> NameProblem
 /// What objects of a type mark without a range are, where the mark is at byte `at`.
 fn marked(meaning: &Meaning, at: usize) -> Result<Subtype, NameFault>
     ensures given { Gives subtype_view (rules.marked (meaning_view meaning.now) None) result }
-    ensures told { IfErr result (Tells (unless (broken.mark_problem (meaning_view meaning.now)) at (broken.is_marked (meaning_view meaning.now) None))) }
+    ensures told { IfErr result (Tells
+        (unless (broken.mark_problem (meaning_view meaning.now)) at (broken.is_marked (meaning_view meaning.now) None))) }
 {
     match meaning {
         Meaning::ElementType { is_resolved } => Ok(Subtype {
@@ -58,8 +59,12 @@ fn marked(meaning: &Meaning, at: usize) -> Result<Subtype, NameFault>
 /// What objects of a type mark with a range are, where the mark is at byte `at`.
 #[tactic(auto, using(crate::proofs::Marks::no_range))]
 fn ranged(sight: &Sight, meaning: &Meaning, range: &Range, at: usize) -> Result<Subtype, NameFault>
-    ensures given { Gives subtype_view (with_range (meaning_view meaning.now) (expressions.static_range sight.now (trees.range_view range.now))) result }
-    ensures told { IfErr result (Tells (unless (broken.mark_problem (meaning_view meaning.now)) at (broken.is_marked (meaning_view meaning.now) (Some (trees.range_view range.now))) ▸ range_breaks sight.now (trees.range_view range.now))) }
+    ensures given { Gives subtype_view
+        (with_range (meaning_view meaning.now) (expressions.static_range sight.now (trees.range_view range.now))) result }
+    ensures told { IfErr result (Tells
+        (unless (broken.mark_problem (meaning_view meaning.now)) at
+        (broken.is_marked (meaning_view meaning.now) (Some (trees.range_view range.now))) ▸ range_breaks sight.now
+        (trees.range_view range.now))) }
 {
     match meaning {
         Meaning::VectorType(kind, is_resolved) => {
@@ -75,8 +80,8 @@ fn ranged(sight: &Sight, meaning: &Meaning, range: &Range, at: usize) -> Result<
 }
 
 /// The type of a signal, port or variable, or of a constant that is no integer: a type mark, with a
-/// range exactly where it is of vectors. It takes memory for what is analysed, and fails at the first
-/// byte where a rule is broken.
+/// range exactly where it is of vectors. It takes memory for what is analysed, and fails at the
+/// first byte where a rule is broken.
 #[tactic(auto, using(crate::proofs::Marks::subtype_alone, crate::proofs::Marks::subtype_ranged))]
 pub fn subtype(sight: &Sight, indication: &TreeSubtype) -> Result<Subtype, NameFault>
     ensures given { Gives subtype_view (rules.subtype sight.now (trees.subtype_view indication.now)) result }

@@ -5,7 +5,8 @@ ghost use Rattle.vhdl_lexer.specs.Extents.{blank, blanked};
 
 use vhdl_lexer::Extent;
 
-/// Puts blanks in place of the bytes of an extent. What ends a line stays, so that what is left stands at its byte, line and column.
+/// Puts blanks in place of the bytes of an extent. What ends a line stays, so that what is left
+/// stands at its byte, line and column.
 pub(crate) fn blank_out(extent: Extent, left: &mut [u8])
     ensures { left.new ≡ blanked extent left.old }
 {

@@ -9,8 +9,9 @@ use crate::taking::{extent_of, is_unknown};
 use vhdl_lexer::{Token, TokenKind};
 use vhdl_names_rules::{NameFault, NameProblem};
 
-/// Whether a fault of what is left of a source that has these tokens may follow from what was taken out of its architecture, since it is one
-/// of a name whose declaration stood there; or is told already, since the name stood there and the fault can't be taken out.
+/// Whether a fault of what is left of a source that has these tokens may follow from what was taken
+/// out of its architecture, since it is one of a name whose declaration stood there; or is told
+/// already, since the name stood there and the fault can't be taken out.
 pub fn is_known(source: &[u8], tokens: &[Token], left: &[u8], fault: NameFault) -> bool
     requires { AreWithin source.now tokens.now }
     ensures { result ≡ spec.is_known source.now tokens.now left.now fault }
@@ -45,7 +46,8 @@ fn stays(tokens: &[Token], problem: NameProblem, at: usize) -> bool
     extent_of(tokens, problem, at).is_none() && is_unknown(around(tokens, at), problem)
 }
 
-/// Whether the name was found in what was taken out, in these tokens before the byte, in its architecture: as it is declared, or anywhere.
+/// Whether the name was found in what was taken out, in these tokens before the byte, in its
+/// architecture: as it is declared, or anywhere.
 fn is_found(
     source: &[u8],
     left: &[u8],

@@ -41,7 +41,8 @@ pub(crate) fn name_at<'a>(source: &'a [u8], tokens: &[Token], at: usize) -> &'a 
     }
 }
 
-/// Whether `=>` stands behind the first of these tokens: so it is a formal, a name of the entity that is instantiated, or a choice.
+/// Whether `=>` stands behind the first of these tokens: so it is a formal, a name of the entity
+/// that is instantiated, or a choice.
 pub(crate) fn is_before_arrow(tokens: &[Token]) -> bool
     ensures { result ≡ spec.is_before_arrow tokens.now }
 {
@@ -61,7 +62,8 @@ pub(crate) fn is_formal(tokens: &[Token]) -> bool
     }
 }
 
-/// Whether behind the first of these tokens a value begins, an actual or what something starts with: it is `=>` or `:=`.
+/// Whether behind the first of these tokens a value begins, an actual or what something starts
+/// with: it is `=>` or `:=`.
 pub(crate) fn begins_value(tokens: &[Token]) -> bool
     ensures { result ≡ spec.begins_value tokens.now }
 {

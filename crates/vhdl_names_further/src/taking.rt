@@ -11,9 +11,11 @@ use crate::naming::{around, begins_value, is_before_arrow, is_formal, is_from, i
 use vhdl_lexer::{Extent, Token, TokenKind, begins_behind, depth_behind, statement_at};
 use vhdl_names_rules::{NameFault, NameProblem};
 
-/// Takes out of what is left of a source that has these tokens what is at fault: puts blanks in place of the statement or declaration in
-/// which the fault stands, and of a name that isn't declared, isn't visible or is left out in place of each one in which it stands, from the
-/// fault up to the next architecture, but for a formal. Answers whether anything is taken out. It is one walk over the tokens.
+/// Takes out of what is left of a source that has these tokens what is at fault: puts blanks in
+/// place of the statement or declaration in which the fault stands, and of a name that isn't
+/// declared, isn't visible or is left out in place of each one in which it stands, from the fault
+/// up to the next architecture, but for a formal. Answers whether anything is taken out. It is one
+/// walk over the tokens.
 pub fn take_out(source: &[u8], tokens: &[Token], fault: NameFault, left: &mut [u8]) -> bool
     requires { Cuts None 0 source.now tokens.now }
     ensures { spec.past source.now tokens.now left.old fault ≡ (if result then Some left.new else None) }
@@ -49,8 +51,8 @@ fn is_everywhere(tokens: &[Token], problem: NameProblem, at: usize) -> bool
     is_unknown(around, problem) && !is_formal(around)
 }
 
-/// Whether a name has this problem wherever it stands, that is the second of these tokens. What is left out where a value begins is the
-/// value's form, and not the name.
+/// Whether a name has this problem wherever it stands, that is the second of these tokens. What is
+/// left out where a value begins is the value's form, and not the name.
 pub(crate) fn is_unknown(around: &[Token], problem: NameProblem) -> bool
     ensures { result ≡ spec.is_unknown around.now problem }
 {
@@ -61,7 +63,8 @@ pub(crate) fn is_unknown(around: &[Token], problem: NameProblem) -> bool
     }
 }
 
-/// Takes out each statement in which the name stands, from this byte on up to the next architecture.
+/// Takes out each statement in which the name stands, from this byte on up to the next
+/// architecture.
 fn take_name(source: &[u8], tokens: &[Token], name: &[u8], at: usize, left: &mut [u8])
     requires { Cuts None 0 source.now tokens.now }
     ensures { left.new
@@ -106,7 +109,8 @@ fn is_named(source: &[u8], name: &[u8], at: usize, tokens: &[Token]) -> bool
     }
 }
 
-/// Takes out the statement that begins here, where that is wanted, and unless it is out. Answers whether it's out then.
+/// Takes out the statement that begins here, where that is wanted, and unless it is out. Answers
+/// whether it's out then.
 fn take_once(wanted: bool, is_out: bool, here: &[Token], left: &mut [u8]) -> bool
     requires { IsOut is_out here.now left.old }
     ensures taken { left.new ≡ (if wanted then without_begun here.now left.old else left.old) }
@@ -128,7 +132,8 @@ fn take_begun(here: &[Token], left: &mut [u8])
     }
 }
 
-/// The rest behind a token where a statement or declaration begins there, else what was begun before.
+/// The rest behind a token where a statement or declaration begins there, else what was begun
+/// before.
 fn begun<'a>(begins: bool, rest: &'a [Token], here: &'a [Token]) -> &'a [Token]
     ensures { result.now ≡ (if begins then rest.now else here.now) }
 {

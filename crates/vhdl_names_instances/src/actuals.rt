@@ -81,7 +81,8 @@ fn is_value(meaning: &Meaning, suffix: &Suffix) -> bool
 
 /// Whether a name is a value.
 fn names_value(sight: &Sight, name: &Name) -> bool
-    ensures { result ≡ broken.names_value (visibility.meaning sight.now name.now.identifier.text.items) (suffix_view name.now.suffix) }
+    ensures { result ≡ broken.names_value (visibility.meaning sight.now name.now.identifier.text.items)
+        (suffix_view name.now.suffix) }
 {
     match sight.meaning(&name.identifier.text) {
         None => false,
@@ -91,7 +92,8 @@ fn names_value(sight: &Sight, name: &Name) -> bool
 
 /// The byte at which a value is left out: an attribute is left out at itself.
 fn left_out_place(name: &Name) -> usize
-    ensures { (no_attribute (option_ident_view name.now.attribute) ▸ refused LeftOut name.now.identifier.at) ≡ refused LeftOut result }
+    ensures { (no_attribute (option_ident_view name.now.attribute) ▸ refused LeftOut name.now.identifier.at) ≡
+        refused LeftOut result }
 {
     match &name.attribute {
         None => name.identifier.at,
@@ -101,9 +103,11 @@ fn left_out_place(name: &Name) -> usize
 
 /// No signal, where a name is a value: it is an expression, which is left out.
 fn signal_of_value(sight: &Sight, name: &Name) -> Result<SignalName, NameFault>
-    ensures given { broken.names_value (visibility.meaning sight.now name.now.identifier.text.items) (suffix_view name.now.suffix) ≡ true
+    ensures given { broken.names_value (visibility.meaning sight.now name.now.identifier.text.items)
+        (suffix_view name.now.suffix) ≡ true
         → Gives signal_name_view (signal_of sight.now (name_view name.now)) result }
-    ensures told { broken.names_value (visibility.meaning sight.now name.now.identifier.text.items) (suffix_view name.now.suffix) ≡ true
+    ensures told { broken.names_value (visibility.meaning sight.now name.now.identifier.text.items)
+        (suffix_view name.now.suffix) ≡ true
         → IfErr result (Tells (named sight.now (name_view name.now) ▸ refused LeftOut name.now.identifier.at)) }
 {
     typed_suffix(sight, &name.suffix)?;
@@ -185,7 +189,8 @@ fn entry(
     actuals: &[Option<&Expr>],
     index: usize,
 ) -> Result<Option<Option<SignalPart>>, NameFault>
-    ensures { Gives (option_map (option_map place_view)) (steps.entry sight.now ports.now (map actual_view actuals.now) index) result }
+    ensures { Gives (option_map (option_map place_view))
+        (steps.entry sight.now ports.now (map actual_view actuals.now) index) result }
 {
     match port_at(ports, index) {
         None => Ok(None),

@@ -49,8 +49,11 @@ pub(crate) fn formal_at<'a>(
     index: usize,
     association: &'a Association,
 ) -> Result<&'a [u8], NameFault>
-    ensures given { Gives (λ n. n.now) (steps.formal_at (names_view formals.now) index (option_ident_view association.now.formal)) result }
-    ensures told { IfErr result (Tells (lacking WrongKind (association_place (association_view association.now)) (steps.formal_at (names_view formals.now) index (option_ident_view association.now.formal)))) }
+    ensures given { Gives (λ n. n.now)
+        (steps.formal_at (names_view formals.now) index (option_ident_view association.now.formal)) result }
+    ensures told { IfErr result (Tells
+        (lacking WrongKind (association_place (association_view association.now))
+        (steps.formal_at (names_view formals.now) index (option_ident_view association.now.formal)))) }
 {
     match &association.formal {
         Some(formal) => Ok(formal.text.as_slice()),
@@ -99,8 +102,11 @@ pub(crate) fn take(
     association: &Association,
 ) -> Result<(), NameFault>
     ensures given { Gives (λ _. names_view taken.new)
-        (steps.one_taken (names_view formals.now) index is_behind_named (names_view taken.old) (association_view association.now)) result }
-    ensures told { IfErr result (Tells (breaking.one_association (names_view formals.now) index is_behind_named (names_view taken.old) (association_view association.now))) }
+        (steps.one_taken (names_view formals.now) index is_behind_named (names_view taken.old)
+        (association_view association.now)) result }
+    ensures told { IfErr result (Tells
+        (breaking.one_association (names_view formals.now) index is_behind_named (names_view taken.old)
+        (association_view association.now))) }
     ensures kept { OnErr result (names_view taken.new ≡ names_view taken.old) }
 {
     if is_behind_named && !is_named(association) {
@@ -121,7 +127,8 @@ fn take_all(
     taken: &mut Names,
     list: &[Association],
 ) -> Result<(), NameFault>
-    ensures { Gives (λ _. names_view taken.new) (steps.taking (names_view formals.now) 0 false (names_view taken.old) (map association_view list.now)) result }
+    ensures { Gives (λ _. names_view taken.new)
+        (steps.taking (names_view formals.now) 0 false (names_view taken.old) (map association_view list.now)) result }
 {
     let mut is_behind_named = false;
     for (index, association) in list.iter().enumerate() {
@@ -154,7 +161,8 @@ fn actual_at<'a>(list: &'a [Association], index: usize) -> Option<&'a Expr>
 
 /// What is associated with the formal of a name, where associations are for these formals.
 fn actual_of<'a>(taken: &Names, list: &'a [Association], name: &[u8]) -> Option<&'a Expr>
-    ensures { option_map (λ e. view e.now) result ≡ rules.actual_of name.now (names_view taken.now) (map association_view list.now) }
+    ensures { option_map (λ e. view e.now) result ≡
+        rules.actual_of name.now (names_view taken.now) (map association_view list.now) }
 {
     match taken.get_index_of(name) {
         None => None,

@@ -76,7 +76,8 @@ pub(crate) fn listed(list: &Option<Vec<Association>>) -> &[Association]
 
 /// Whether an architecture that is named is the one that an entity has.
 fn is_architecture(named: &Option<Identifier>, own: &Option<Vec<u8>>) -> bool
-    ensures { result ≡ rules.is_architecture (option_map tree.ident_view named.now) (option_map (λ n. n.items) own.now) }
+    ensures { result ≡ rules.is_architecture (option_map tree.ident_view named.now)
+        (option_map (λ n. n.items) own.now) }
 {
     match (named, own) {
         (None, _) => true,
@@ -119,8 +120,11 @@ fn with_architecture(
     architecture: &Option<Identifier>,
     at: usize,
 ) -> Result<usize, NameFault>
-    ensures given { Gives (λ k. k) (steps.with_architecture (seens_view entities.now.formals) (option_map tree.ident_view architecture.now) number) result }
-    ensures told { IfErr result (Tells (breaking.with_architecture (seens_view entities.now.formals) (option_map tree.ident_view architecture.now) at number)) }
+    ensures given { Gives (λ k. k) (steps.with_architecture (seens_view entities.now.formals)
+        (option_map tree.ident_view architecture.now) number) result }
+    ensures told { IfErr result (Tells
+        (breaking.with_architecture (seens_view entities.now.formals) (option_map tree.ident_view architecture.now) at
+        number)) }
 {
     match formals_at(entities, number) {
         None => Err(NameProblem::Undeclared.at(at)),
@@ -143,7 +147,8 @@ fn entity_of(
 ) -> Result<usize, NameFault>
     ensures given { Gives (λ k. k) (steps.entity_of (names_view entities.now.names) (seens_view entities.now.formals)
         (tree.ident_view library.now) (tree.ident_view name.now) (option_map tree.ident_view architecture.now)) result }
-    ensures told { IfErr result (Tells (breaking.entity_of (names_view entities.now.names) (seens_view entities.now.formals)
+    ensures told { IfErr result (Tells
+        (breaking.entity_of (names_view entities.now.names) (seens_view entities.now.formals)
         (tree.ident_view library.now) (tree.ident_view name.now) (option_map tree.ident_view architecture.now))) }
 {
     if !is_text(&library.text, b"work") {
@@ -199,7 +204,8 @@ fn by_formals(
     instance: &syntax::Instance,
 ) -> Result<Instance, NameFault>
     ensures { Gives instance_view (steps.with_formals sight.now (tree.ident_view label.now) unit (seen_view formals.now)
-        (all_of (option_map tree.associations_view instance.now.generics)) (all_of (option_map tree.associations_view instance.now.ports))) result }
+        (all_of (option_map tree.associations_view instance.now.generics))
+        (all_of (option_map tree.associations_view instance.now.ports))) result }
 {
     let generics = generic_actuals(
         sight,
@@ -219,8 +225,8 @@ fn by_formals(
     })
 }
 
-/// What is told of maps with which something is wrong, as this fault shows: the first fault in order
-/// of the text.
+/// What is told of maps with which something is wrong, as this fault shows: the first fault in
+/// order of the text.
 fn first_of_maps(
     sight: &Sight,
     formals: &Formals,
@@ -229,8 +235,10 @@ fn first_of_maps(
 ) -> NameFault
     ensures memory { result ≢ NoMemory → fault ≢ NoMemory }
     ensures told { (seen_of : EntityView) → seen_view formals.now ≡ seen seen_of
-        → (label : Ident) → (unit : ℕ) → (fault ≢ NoMemory → steps.with_formals sight.now label unit (seen_view formals.now)
-        (all_of (option_map tree.associations_view instance.now.generics)) (all_of (option_map tree.associations_view instance.now.ports)) ≡ None)
+        → (label : Ident) → (unit : ℕ) →
+        (fault ≢ NoMemory → steps.with_formals sight.now label unit (seen_view formals.now)
+        (all_of (option_map tree.associations_view instance.now.generics))
+        (all_of (option_map tree.associations_view instance.now.ports)) ≡ None)
         → Tells (broken.maps sight.now seen_of (tree.instance_view instance.now)) result }
 {
     match fault {
@@ -242,8 +250,8 @@ fn first_of_maps(
     }
 }
 
-/// An instance of the entity of a number, which has these formals. Of what is wrong with its maps the
-/// first in order of the text is told.
+/// An instance of the entity of a number, which has these formals. Of what is wrong with its maps
+/// the first in order of the text is told.
 fn with_formals(
     sight: &Sight,
     label: &Identifier,
@@ -251,8 +259,10 @@ fn with_formals(
     formals: &Formals,
     instance: &syntax::Instance,
 ) -> Result<Instance, NameFault>
-    ensures given { Gives instance_view (steps.with_formals sight.now (tree.ident_view label.now) unit (seen_view formals.now)
-        (all_of (option_map tree.associations_view instance.now.generics)) (all_of (option_map tree.associations_view instance.now.ports))) result }
+    ensures given { Gives instance_view
+        (steps.with_formals sight.now (tree.ident_view label.now) unit (seen_view formals.now)
+        (all_of (option_map tree.associations_view instance.now.generics))
+        (all_of (option_map tree.associations_view instance.now.ports))) result }
     ensures told { (seen_of : EntityView) → seen_view formals.now ≡ seen seen_of
         → IfErr result (Tells (broken.maps sight.now seen_of (tree.instance_view instance.now))) }
 {
@@ -269,10 +279,12 @@ pub fn instance_in_turn(
     label: &Identifier,
     instance: &syntax::Instance,
 ) -> Result<Instance, NameFault>
-    ensures given { Gives instance_view (steps.instance (names_view entities.now.names) (seens_view entities.now.formals)
+    ensures given { Gives instance_view
+        (steps.instance (names_view entities.now.names) (seens_view entities.now.formals)
         sight.now (tree.ident_view label.now) (tree.instance_view instance.now)) result }
     ensures told { (views : List EntityView) → AreEntities entities.now views
-        → IfErr result (Tells (broken.instance views sight.now (tree.ident_view label.now) (tree.instance_view instance.now))) }
+        → IfErr result (Tells (broken.instance views sight.now (tree.ident_view label.now)
+        (tree.instance_view instance.now))) }
 {
     let unit = instantiated(entities, sight, &instance.unit)?;
     match formals_at(entities, unit) {
@@ -291,9 +303,11 @@ pub fn instance(
     instance: &syntax::Instance,
 ) -> Result<Instance, NameFault>
     ensures given { (views : List EntityView) → AreEntities entities.now views
-        → Gives instance_view (rules.instance views sight.now (tree.ident_view label.now) (tree.instance_view instance.now)) result }
+        → Gives instance_view (rules.instance views sight.now (tree.ident_view label.now)
+        (tree.instance_view instance.now)) result }
     ensures told { (views : List EntityView) → AreEntities entities.now views
-        → IfErr result (Tells (broken.instance views sight.now (tree.ident_view label.now) (tree.instance_view instance.now))) }
+        → IfErr result (Tells (broken.instance views sight.now (tree.ident_view label.now)
+        (tree.instance_view instance.now))) }
 {
     instance_in_turn(entities, sight, label, instance)
 }

@@ -1,5 +1,5 @@
-//! How instances are analysed (IEEE 1076-2008, 6.5.7 and 11.7), by the rules of `vhdl_names_rules`: which entity each is of, which formal
-//! each association is for, and what is associated.
+//! How instances are analysed (IEEE 1076-2008, 6.5.7 and 11.7), by the rules of `vhdl_names_rules`:
+//! which entity each is of, which formal each association is for, and what is associated.
 #![tactic(auto)]
 
 mod actuals;

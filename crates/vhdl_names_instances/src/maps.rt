@@ -1,4 +1,5 @@
-//! The maps of an instance in order of the text (IEEE 1076-2008, 6.5.7): which fault is told where something is wrong with them.
+//! The maps of an instance in order of the text (IEEE 1076-2008, 6.5.7): which fault is told where
+//! something is wrong with them.
 
 ghost use Rattle.std.specs.Prelude.{◌≡◌, ℕ, true, IfErr, IfOk, List, drop, is_some, map, option_map};
 ghost use Rattle.vhdl_names_instances.specs.Table.{seen, seen_view, type_of};
@@ -35,8 +36,10 @@ fn read_generic(
     association: &Association,
 ) -> Result<(), NameFault>
     ensures told { IfErr result (Tells (broken.association (names_view formals.now) (λ n e. broken_static sight.now e)
-        (drop index (names_view formals.now)) is_behind_named (names_view taken.old) (tree.association_view association.now))) }
-    ensures read { IfOk result (λ _. steps.one_read (names_view formals.now) (steps.is_static sight.now) index is_behind_named
+        (drop index (names_view formals.now)) is_behind_named (names_view taken.old)
+        (tree.association_view association.now))) }
+    ensures read { IfOk result (λ _.
+        steps.one_read (names_view formals.now) (steps.is_static sight.now) index is_behind_named
         (names_view taken.old) (tree.association_view association.now) ≡ Some (names_view taken.new)) }
 {
     take(
@@ -53,9 +56,12 @@ fn read_generic(
 
 /// A generic map, association by association.
 fn generic_map(sight: &Sight, formals: &Names, list: &[Association]) -> Result<(), NameFault>
-    ensures told { IfErr result (Tells (broken.generic_map sight.now (names_view formals.now) (map tree.association_view list.now))) }
-    ensures kept { IfOk result (λ _. broken.generic_map sight.now (names_view formals.now) (map tree.association_view list.now) ≡ nothing) }
-    ensures given { IfOk result (λ _. is_some (steps.generics sight.now (names_view formals.now) (map tree.association_view list.now)) ≡ true) }
+    ensures told { IfErr result (Tells
+        (broken.generic_map sight.now (names_view formals.now) (map tree.association_view list.now))) }
+    ensures kept { IfOk result (λ _.
+        broken.generic_map sight.now (names_view formals.now) (map tree.association_view list.now) ≡ nothing) }
+    ensures given { IfOk result (λ _.
+        is_some (steps.generics sight.now (names_view formals.now) (map tree.association_view list.now)) ≡ true) }
 {
     let mut taken = IndexSet::new(sight.alloc);
     let mut is_behind_named = false;
@@ -75,7 +81,8 @@ fn generic_map(sight: &Sight, formals: &Names, list: &[Association]) -> Result<(
 
 /// The type of the port at a place, if it has this name.
 fn port_named(formals: &Formals, index: usize, name: &[u8]) -> Option<PortType>
-    ensures { (all : List Formal) → names_view formals.now.ports ≡ map (λ f. f.name) all → formals.now.port_types.items ≡ map type_of all
+    ensures { (all : List Formal) → names_view formals.now.ports ≡ map (λ f. f.name) all
+        → formals.now.port_types.items ≡ map type_of all
         → result ≡ steps.port_named all index name.now }
 {
     match formals.ports.get_index(index) {
@@ -98,9 +105,12 @@ fn one_port(
     name: &[u8],
     e: &Expr,
 ) -> Result<(), NameFault>
-    ensures told { (all : List Formal) → names_view formals.now.ports ≡ map (λ f. f.name) all → formals.now.port_types.items ≡ map type_of all
-        → IfErr result (Tells (where_given (steps.port_named all index name.now) (λ p. broken.port_actual sight.now (formal p) (tree.view e.now)))) }
-    ensures fits { (all : List Formal) → names_view formals.now.ports ≡ map (λ f. f.name) all → formals.now.port_types.items ≡ map type_of all
+    ensures told { (all : List Formal) → names_view formals.now.ports ≡ map (λ f. f.name) all
+        → formals.now.port_types.items ≡ map type_of all
+        → IfErr result (Tells (where_given (steps.port_named all index name.now)
+        (λ p. broken.port_actual sight.now (formal p) (tree.view e.now)))) }
+    ensures fits { (all : List Formal) → names_view formals.now.ports ≡ map (λ f. f.name) all
+        → formals.now.port_types.items ≡ map type_of all
         → IfOk result (λ _. steps.fits_if_any sight.now (steps.port_named all index name.now) (tree.view e.now) ≡ true) }
 {
     match port_named(formals, index, name) {
@@ -114,9 +124,12 @@ fn one_port(
 
 /// What is associated with a name, for each port of this name.
 fn named_ports(sight: &Sight, formals: &Formals, name: &[u8], e: &Expr) -> Result<(), NameFault>
-    ensures told { (all : List Formal) → names_view formals.now.ports ≡ map (λ f. f.name) all → formals.now.port_types.items ≡ map type_of all
-        → IfErr result (Tells (any_of (λ f. broken.port_actual sight.now f (tree.view e.now)) (broken.ports_named all name.now))) }
-    ensures fits { (all : List Formal) → names_view formals.now.ports ≡ map (λ f. f.name) all → formals.now.port_types.items ≡ map type_of all
+    ensures told { (all : List Formal) → names_view formals.now.ports ≡ map (λ f. f.name) all
+        → formals.now.port_types.items ≡ map type_of all
+        → IfErr result (Tells (any_of (λ f. broken.port_actual sight.now f (tree.view e.now))
+        (broken.ports_named all name.now))) }
+    ensures fits { (all : List Formal) → names_view formals.now.ports ≡ map (λ f. f.name) all
+        → formals.now.port_types.items ≡ map type_of all
         → IfOk result (λ _. steps.fits sight.now all name.now (tree.view e.now) ≡ true) }
 {
     for index in 0..formals.ports.len() {
@@ -134,10 +147,14 @@ fn read_port(
     is_behind_named: bool,
     association: &Association,
 ) -> Result<(), NameFault>
-    ensures told { (all : List Formal) → names_view formals.now.ports ≡ map (λ f. f.name) all → formals.now.port_types.items ≡ map type_of all
-        → IfErr result (Tells (broken.association (map (λ f. f.name) all) (λ n e. any_of (λ f. broken.port_actual sight.now f e) (broken.ports_named all n))
-        (drop index (map (λ f. f.name) all)) is_behind_named (names_view taken.old) (tree.association_view association.now))) }
-    ensures read { (all : List Formal) → names_view formals.now.ports ≡ map (λ f. f.name) all → formals.now.port_types.items ≡ map type_of all
+    ensures told { (all : List Formal) → names_view formals.now.ports ≡ map (λ f. f.name) all
+        → formals.now.port_types.items ≡ map type_of all
+        → IfErr result (Tells (broken.association (map (λ f. f.name) all)
+        (λ n e. any_of (λ f. broken.port_actual sight.now f e) (broken.ports_named all n))
+        (drop index (map (λ f. f.name) all)) is_behind_named (names_view taken.old)
+        (tree.association_view association.now))) }
+    ensures read { (all : List Formal) → names_view formals.now.ports ≡ map (λ f. f.name) all
+        → formals.now.port_types.items ≡ map type_of all
         → IfOk result (λ _. steps.one_read (map (λ f. f.name) all) (steps.fits sight.now all) index is_behind_named
         (names_view taken.old) (tree.association_view association.now) ≡ Some (names_view taken.new)) }
 {
@@ -160,9 +177,11 @@ fn read_port(
 
 /// A port map, association by association.
 fn port_map(sight: &Sight, formals: &Formals, list: &[Association]) -> Result<(), NameFault>
-    ensures told { (all : List Formal) → names_view formals.now.ports ≡ map (λ f. f.name) all → formals.now.port_types.items ≡ map type_of all
+    ensures told { (all : List Formal) → names_view formals.now.ports ≡ map (λ f. f.name) all
+        → formals.now.port_types.items ≡ map type_of all
         → IfErr result (Tells (broken.port_map sight.now all (map tree.association_view list.now))) }
-    ensures given { (all : List Formal) → names_view formals.now.ports ≡ map (λ f. f.name) all → formals.now.port_types.items ≡ map type_of all
+    ensures given { (all : List Formal) → names_view formals.now.ports ≡ map (λ f. f.name) all
+        → formals.now.port_types.items ≡ map type_of all
         → IfOk result (λ _. is_some (steps.ports sight.now all (map tree.association_view list.now)) ≡ true) }
 {
     let mut taken = IndexSet::new(sight.alloc);
@@ -181,8 +200,8 @@ fn port_map(sight: &Sight, formals: &Formals, list: &[Association]) -> Result<()
     Ok(())
 }
 
-/// The maps of an instance of an entity with these formals: they fail at the first byte where a rule
-/// is broken, or where memory is refused. Where no rule is broken, an instance is given.
+/// The maps of an instance of an entity with these formals: they fail at the first byte where a
+/// rule is broken, or where memory is refused. Where no rule is broken, an instance is given.
 pub(crate) fn maps(
     sight: &Sight,
     formals: &Formals,
@@ -192,7 +211,8 @@ pub(crate) fn maps(
         → IfErr result (Tells (broken.maps sight.now seen_of (tree.instance_view instance.now))) }
     ensures given { (seen_of : EntityView) → seen_view formals.now ≡ seen seen_of → (label : Ident) → (unit : ℕ)
         → IfOk result (λ _. is_some (with_formals sight.now label unit (seen_view formals.now)
-        (all_of (option_map tree.associations_view instance.now.generics)) (all_of (option_map tree.associations_view instance.now.ports))) ≡ true) }
+        (all_of (option_map tree.associations_view instance.now.generics))
+        (all_of (option_map tree.associations_view instance.now.ports))) ≡ true) }
 {
     generic_map(sight, &formals.generics, listed(&instance.generics))?;
     port_map(sight, formals, listed(&instance.ports))

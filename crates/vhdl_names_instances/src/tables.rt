@@ -57,7 +57,8 @@ fn add_declared(
     name: &[u8],
     meaning: &Meaning,
 ) -> Result<(), NameFault>
-    ensures { Gives (λ _. seen_view formals.new) (steps.with_declared (seen_view formals.old) (visibility.declare name.now (meaning_view meaning.now))) result }
+    ensures { Gives (λ _. seen_view formals.new)
+        (steps.with_declared (seen_view formals.old) (visibility.declare name.now (meaning_view meaning.now))) result }
 {
     if is_generic(meaning) {
         return add_name(alloc, &mut formals.generics, name, 0);
@@ -75,7 +76,8 @@ fn add_declared_at(
     region: &Region,
     place: usize,
 ) -> Result<(), NameFault>
-    ensures { Gives (λ _. seen_view formals.new) (steps.with_declared_at (seen_view formals.old) (region_view region.now) place) result }
+    ensures { Gives (λ _. seen_view formals.new)
+        (steps.with_declared_at (seen_view formals.old) (region_view region.now) place) result }
 {
     match region.get_index(place) {
         None => Ok(()),
@@ -100,7 +102,8 @@ pub fn formals_of(
     region: &Region,
     architecture: &Option<&Identifier>,
 ) -> Result<Formals, NameFault>
-    ensures { Gives seen_view (in_turn steps.with_declared (steps.no_formals (option_map (λ i. i.now.text.items) architecture.now)) (region_view region.now)) result }
+    ensures { Gives seen_view (in_turn steps.with_declared
+        (steps.no_formals (option_map (λ i. i.now.text.items) architecture.now)) (region_view region.now)) result }
 {
     let architecture = name_if_any(alloc, architecture)?;
     let mut formals = Formals {

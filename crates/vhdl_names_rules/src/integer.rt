@@ -114,7 +114,8 @@ impl Static {
         at: usize,
         operand: Static,
     ) -> Result<Static, AllocError>
-        ensures { IfOk result (λ s. static_view s ≡ units.Static.binary at operator (static_view self) (static_view operand)) }
+        ensures { IfOk result (λ s. static_view s ≡
+            units.Static.binary at operator (static_view self) (static_view operand)) }
     {
         let link = StaticLink {
             operator,

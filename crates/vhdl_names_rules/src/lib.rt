@@ -1,8 +1,9 @@
-//! Names and types of a file (IEEE 1076-2008, clauses 3 to 13). The definitions stand in `specs`: what an analysed file is (`units`),
-//! which file is well typed, one rule a line, and what follows of both.
+//! Names and types of a file (IEEE 1076-2008, clauses 3 to 13). The definitions stand in `specs`:
+//! what an analysed file is (`units`), which file is well typed, one rule a line, and what follows
+//! of both.
 //!
-//! `specs/problems` says which rule a file breaks first in order of its text, by the problem that the rule bears, and at which byte:
-//! what a fault of names tells.
+//! `specs/problems` says which rule a file breaks first in order of its text, by the problem that
+//! the rule bears, and at which byte: what a fault of names tells.
 #![tactic(auto)]
 
 mod fault;

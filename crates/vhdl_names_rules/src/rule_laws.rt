@@ -7,19 +7,22 @@ ghost use Rattle.vhdl_names_rules.specs.laws.Files.{EntitiesStandInOrder};
 ghost use Rattle.vhdl_names_rules.specs.laws.Parameters.{LoopsNumberParameters, GeneratesNumberParameters};
 ghost use Rattle.vhdl_names_rules.specs.laws.Regions.{InterfaceNamesStandOnce, ArchitectureNamesStandOnce, ProcessNamesStandOnce, GenerateLabelsStandOnce, InnermostIsMeant, MeaningsAreDeclared};
 
-/// No two choices of all alternatives are the same, and `others` stands nowhere but alone in the last.
+/// No two choices of all alternatives are the same, and `others` stands nowhere but alone in the
+/// last.
 pub fn choices_are_told_apart()
     ensures differ { ChoicesDiffer }
     ensures others { OthersIsLast }
 {}
 
-/// Each association is for one formal, no formal has two, and each formal has the actual of its own.
+/// Each association is for one formal, no formal has two, and each formal has the actual of its
+/// own.
 pub fn formals_have_actuals()
     ensures { FormalsHaveActuals }
 {}
 
-/// No name stands twice in a region: in an interface, in an architecture with its interface and labels, among a process's
-/// variables and among its labels, and among the labels of a generate's statements.
+/// No name stands twice in a region: in an interface, in an architecture with its interface and
+/// labels, among a process's variables and among its labels, and among the labels of a generate's
+/// statements.
 pub fn names_stand_once()
     ensures interface { InterfaceNamesStandOnce }
     ensures architecture { ArchitectureNamesStandOnce }
@@ -27,14 +30,15 @@ pub fn names_stand_once()
     ensures generate { GenerateLabelsStandOnce }
 {}
 
-/// A name means what its one declaration in the innermost region that has one is, and nothing that isn't declared in sight.
+/// A name means what its one declaration in the innermost region that has one is, and nothing that
+/// isn't declared in sight.
 pub fn innermost_is_meant()
     ensures innermost { InnermostIsMeant }
     ensures declared { MeaningsAreDeclared }
 {}
 
-/// The units of a file are its entities in order of the text, each of a name of its own, each with one architecture at most, which
-/// stands after it.
+/// The units of a file are its entities in order of the text, each of a name of its own, each with
+/// one architecture at most, which stands after it.
 pub fn entities_stand_in_order()
     ensures { EntitiesStandInOrder }
 {}
@@ -45,12 +49,14 @@ pub fn no_in_port_is_driven()
     ensures actuals { ActualsAreDriven }
 {}
 
-/// An instance is of a unit of the file, and has an entry for each of that unit's generics and ports.
+/// An instance is of a unit of the file, and has an entry for each of that unit's generics and
+/// ports.
 pub fn instances_fit_units()
     ensures { InstancesFitUnits }
 {}
 
-/// The parameters of the loops, and of the generates, round a place are numbered from the outermost on.
+/// The parameters of the loops, and of the generates, round a place are numbered from the outermost
+/// on.
 pub fn parameters_are_numbered()
     ensures loops { LoopsNumberParameters }
     ensures generates { GeneratesNumberParameters }

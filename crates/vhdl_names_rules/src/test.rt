@@ -157,7 +157,8 @@ fn static_chain_with(
     link: StaticTestLink,
 ) -> Result<StaticTest, AllocError>
     ensures { IfOk result (λ t. static_test_view t
-        ≡ units.StaticTest.both link.operator (static_test_chained (static_start_view start.value) links.items) (static_test_view link.operand)) }
+        ≡ units.StaticTest.both link.operator (static_test_chained (static_start_view start.value) links.items)
+        (static_test_view link.operand)) }
 {
     links.push(link)?;
     Ok(static_chain(start, links))
@@ -169,7 +170,8 @@ fn static_chain_of(
     first: StaticTest,
     link: StaticTestLink,
 ) -> Result<StaticTest, AllocError>
-    ensures { IfOk result (λ t. static_test_view t ≡ units.StaticTest.both link.operator (static_test_view first) (static_test_view link.operand)) }
+    ensures { IfOk result (λ t. static_test_view t ≡
+        units.StaticTest.both link.operator (static_test_view first) (static_test_view link.operand)) }
 {
     let start = Box::new(alloc, StaticTestStart { first, link })?;
     Ok(static_chain(start, Vec::new(alloc)))
@@ -190,7 +192,8 @@ fn chain_with(
 
 /// A chain of one link, over signals.
 fn chain_of(alloc: Global, first: Test, link: TestLink) -> Result<Test, AllocError>
-    ensures { IfOk result (λ t. test_view t ≡ units.Test.both link.operator (test_view first) (test_view link.operand)) }
+    ensures { IfOk result (λ t. test_view t ≡
+        units.Test.both link.operator (test_view first) (test_view link.operand)) }
 {
     let start = Box::new(alloc, TestStart { first, link })?;
     Ok(chain(start, Vec::new(alloc)))
@@ -203,7 +206,8 @@ fn fixed_both(
     operator: Logic,
     right: StaticTest,
 ) -> Result<Test, AllocError>
-    ensures { IfOk result (λ t. test_view t ≡ units.Test.fixed (units.StaticTest.both operator (static_test_view left) (static_test_view right))) }
+    ensures { IfOk result (λ t. test_view t ≡
+        units.Test.fixed (units.StaticTest.both operator (static_test_view left) (static_test_view right))) }
 {
     Ok(Test::Fixed(left.both(alloc, operator, right)?))
 }
@@ -224,7 +228,8 @@ impl StaticTest {
         operator: Logic,
         operand: StaticTest,
     ) -> Result<StaticTest, AllocError>
-        ensures { IfOk result (λ t. static_test_view t ≡ units.StaticTest.both operator (static_test_view self) (static_test_view operand)) }
+        ensures { IfOk result (λ t. static_test_view t ≡
+            units.StaticTest.both operator (static_test_view self) (static_test_view operand)) }
     {
         let link = StaticTestLink { operator, operand };
         match self {
@@ -235,7 +240,8 @@ impl StaticTest {
 }
 
 impl Test {
-    /// Equality of two values, by `=` at byte `at`. It takes the memory of two boxes, as `unlike` does.
+    /// Equality of two values, by `=` at byte `at`. It takes the memory of two boxes, as `unlike`
+    /// does.
     pub fn alike(alloc: Global, at: usize, left: Value, right: Value) -> Result<Test, AllocError>
         ensures { IfOk result (λ t. test_view t ≡ units.alike at (value_view left) (value_view right)) }
     {
@@ -259,13 +265,15 @@ impl Test {
         left: Vector,
         right: Vector,
     ) -> Result<Test, AllocError>
-        ensures { IfOk result (λ t. test_view t ≡ units.Test.compared at comparison (vector_view left) (vector_view right)) }
+        ensures { IfOk result (λ t. test_view t ≡
+            units.Test.compared at comparison (vector_view left) (vector_view right)) }
     {
         let left = Box::new(alloc, left)?;
         Ok(Test::Compared(comparison, at, left, Box::new(alloc, right)?))
     }
 
-    /// A relation of a number and a static integer. It takes the memory of a box, as `compared_with` does.
+    /// A relation of a number and a static integer. It takes the memory of a box, as
+    /// `compared_with` does.
     pub fn compared_to(
         alloc: Global,
         comparison: Cmp,
@@ -273,7 +281,8 @@ impl Test {
         left: Vector,
         right: Static,
     ) -> Result<Test, AllocError>
-        ensures { IfOk result (λ t. test_view t ≡ units.compared_to at comparison (vector_view left) (static_view right)) }
+        ensures { IfOk result (λ t. test_view t ≡
+            units.compared_to at comparison (vector_view left) (static_view right)) }
     {
         let left = Box::new(alloc, left)?;
         Ok(Test::ComparedTo(comparison, at, left, right))
@@ -287,7 +296,8 @@ impl Test {
         left: Static,
         right: Vector,
     ) -> Result<Test, AllocError>
-        ensures { IfOk result (λ t. test_view t ≡ units.compared_with at comparison (static_view left) (vector_view right)) }
+        ensures { IfOk result (λ t. test_view t ≡
+            units.compared_with at comparison (static_view left) (vector_view right)) }
     {
         let right = Box::new(alloc, right)?;
         Ok(Test::ComparedWith(comparison, at, left, right))

@@ -185,7 +185,8 @@ impl Vector {
         Ok(Vector::Not(at, Box::new(alloc, operand)?))
     }
 
-    /// An integer, an operator that starts at byte `at`, and a number. It takes the memory of a box.
+    /// An integer, an operator that starts at byte `at`, and a number. It takes the memory of a
+    /// box.
     pub fn integer_with(
         alloc: Global,
         operator: Numeric,
@@ -193,7 +194,8 @@ impl Vector {
         integer: Static,
         number: Vector,
     ) -> Result<Vector, AllocError>
-        ensures { IfOk result (λ v. vector_view v ≡ units.integer_with at operator (static_view integer) (vector_view number)) }
+        ensures { IfOk result (λ v. vector_view v ≡
+            units.integer_with at operator (static_view integer) (vector_view number)) }
     {
         Ok(Vector::IntegerWith(operator, at, integer, Box::new(alloc, number)?))
     }

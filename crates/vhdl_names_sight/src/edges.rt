@@ -1,4 +1,5 @@
-//! Edges of signals: rising_edge, falling_edge and 'event (IEEE 1076-2008, 16.2.4; IEEE 1164), of a signal's static name (8.1).
+//! Edges of signals: rising_edge, falling_edge and 'event (IEEE 1076-2008, 16.2.4; IEEE 1164), of a
+//! signal's static name (8.1).
 
 ghost use Rattle.vhdl_names_rules.specs.problems.Broken.{Tells, refused, lacking};
 ghost use Rattle.vhdl_names_rules.specs.problems.Operators.{edge_problem as problem_of, name_problem};
@@ -126,7 +127,8 @@ fn static_signal(vector: Vector, at: usize) -> Result<SignalPart, NameFault>
 /// The signal of one element that an edge call or 'event at byte `at` asks for.
 pub(crate) fn edge_signal(operand: Typed, at: usize) -> Result<SignalPart, NameFault>
     ensures given { Gives place_view (rules.edge_signal (typed_view operand)) result }
-    ensures told { IfErr result (Tells (lacking (problem_of (typed_view operand)) at (rules.edge_signal (typed_view operand)))) }
+    ensures told { IfErr result (Tells
+        (lacking (problem_of (typed_view operand)) at (rules.edge_signal (typed_view operand)))) }
 {
     let vector = element_of(operand, at)?;
     static_signal(vector, at)
@@ -150,7 +152,8 @@ fn edge_call(edge: Edge, operand: Option<Typed>, at: usize) -> Result<Typed, Nam
 #[tactic(auto, using(crate::proofs::Meant::edge_sole, crate::proofs::Meant::call_problem_sole))]
 pub(crate) fn edge_of(edge: Edge, suffix: TypedSuffix, at: usize) -> Result<Typed, NameFault>
     ensures given { Gives typed_view (rules.edge_of edge (typed_suffix_view suffix)) result }
-    ensures told { IfErr result (Tells (refused (name_problem (visibility.function (EdgeCall edge)) (typed_suffix_view suffix)) at)) }
+    ensures told { IfErr result (Tells
+        (refused (name_problem (visibility.function (EdgeCall edge)) (typed_suffix_view suffix)) at)) }
 {
     match suffix {
         TypedSuffix::Arguments(true, arguments) => edge_call(edge, sole_argument(arguments), at),

@@ -1,5 +1,6 @@
-//! What names mean (IEEE 1076-2008, clauses 8, 12), and what names, literals and operators are, by the rules of `vhdl_names_rules`: the
-//! declarations in sight of a place, and the types of what stands alone.
+//! What names mean (IEEE 1076-2008, clauses 8, 12), and what names, literals and operators are, by
+//! the rules of `vhdl_names_rules`: the declarations in sight of a place, and the types of what
+//! stands alone.
 #![tactic(auto)]
 
 mod edges;

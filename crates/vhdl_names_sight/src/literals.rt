@@ -83,7 +83,9 @@ fn values_of(alloc: Global, characters: &[u8], at: usize) -> Result<Vec<Nine>, N
 /// The values of a string.
 pub fn string_values(alloc: Global, literal: &Literal) -> Result<Vec<Nine>, NameFault>
     ensures given { Gives (λ v. v.items) (rules.values_of_string literal.now.text.items) result }
-    ensures told { IfErr result (Tells (lacking (string_problem literal.now.text.items) literal.now.at (rules.values_of_string literal.now.text.items))) }
+    ensures told { IfErr result (Tells
+        (lacking (string_problem literal.now.text.items) literal.now.at
+        (rules.values_of_string literal.now.text.items))) }
 {
     let values = values_of(alloc, quoted(&literal.text), literal.at)?;
     at_least_one(values, literal.at)
@@ -140,7 +142,9 @@ fn push_digit(values: &mut Vec<Nine>, base: Base, digit: u8) -> Result<(), Alloc
 
 /// The bits of digits of a base, underscores counting for nothing.
 fn bits(alloc: Global, base: Base, digits: &[u8]) -> Result<Vec<Nine>, NameFault>
-    ensures given { Gives (λ v. v.items) (Some (flat_map (λ b. rules.bits_of (class_of base) (rules.digit_value b)) (filter (λ b. not (b == underscore)) digits.now))) result }
+    ensures given { Gives (λ v. v.items)
+        (Some (flat_map (λ b. rules.bits_of (class_of base) (rules.digit_value b))
+        (filter (λ b. not (b == underscore)) digits.now))) result }
     ensures told { IfErr result (Tells nothing) }
 {
     let mut values = Vec::new(alloc);

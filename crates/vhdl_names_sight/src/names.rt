@@ -35,7 +35,8 @@ fn read_signal(
     suffix: TypedSuffix,
     at: usize,
 ) -> Result<Typed, NameFault>
-    ensures given { Gives typed_view (rules.read_signal at (signal_view signal) kind (typed_suffix_view suffix)) result }
+    ensures given { Gives typed_view
+        (rules.read_signal at (signal_view signal) kind (typed_suffix_view suffix)) result }
     ensures told { IfErr result (Tells (refused TypeMismatch at)) }
 {
     let (part, kind) = part(kind, suffix, at)?;
@@ -49,7 +50,8 @@ fn read_variable(
     suffix: TypedSuffix,
     at: usize,
 ) -> Result<Typed, NameFault>
-    ensures given { Gives typed_view (rules.read_by (units.of_variable at number) kind (typed_suffix_view suffix)) result }
+    ensures given { Gives typed_view (rules.read_by (units.of_variable at number) kind (typed_suffix_view suffix))
+        result }
     ensures told { IfErr result (Tells (refused TypeMismatch at)) }
 {
     let (part, kind) = part(kind, suffix, at)?;
@@ -63,7 +65,8 @@ fn read_constant(
     suffix: TypedSuffix,
     at: usize,
 ) -> Result<Typed, NameFault>
-    ensures given { Gives typed_view (rules.read_by (units.of_constant at number) kind (typed_suffix_view suffix)) result }
+    ensures given { Gives typed_view (rules.read_by (units.of_constant at number) kind (typed_suffix_view suffix))
+        result }
     ensures told { IfErr result (Tells (refused TypeMismatch at)) }
 {
     let (part, kind) = part(kind, suffix, at)?;
@@ -100,7 +103,8 @@ fn converted(kind: ElementKind, suffix: TypedSuffix, at: usize) -> Result<Typed,
 
 /// A number and a count, which a call at byte `at` is of.
 fn number_and_count(arguments: Vec<Typed>, at: usize) -> Result<(Vector, Static), NameFault>
-    ensures given { Gives (λ p. (vector_view p.0, static_view p.1)) (counting (option_map (λ p. (typed_view p.0, typed_view p.1)) (two arguments.items))) result }
+    ensures given { Gives (λ p. (vector_view p.0, static_view p.1))
+        (counting (option_map (λ p. (typed_view p.0, typed_view p.1)) (two arguments.items))) result }
     ensures told { IfErr result (Tells (refused TypeMismatch at)) }
 {
     let Some((first, second)) = two_arguments(arguments) else {
@@ -118,7 +122,8 @@ fn number_and_count(arguments: Vec<Typed>, at: usize) -> Result<(Vector, Static)
 
 /// to_unsigned, whose name is at byte `at`, of a number and a size.
 fn encoded(arguments: Vec<Typed>, at: usize) -> Result<Typed, NameFault>
-    ensures given { Gives typed_view (encoded_by at (option_map (λ p. (typed_view p.0, typed_view p.1)) (two arguments.items))) result }
+    ensures given { Gives typed_view
+        (encoded_by at (option_map (λ p. (typed_view p.0, typed_view p.1)) (two arguments.items))) result }
     ensures told { IfErr result (Tells (refused TypeMismatch at)) }
 {
     let Some((first, second)) = two_arguments(arguments) else {
@@ -145,7 +150,8 @@ fn called(
     at: usize,
 ) -> Result<Typed, NameFault>
     ensures given { Gives typed_view (rules.called at function (typed_suffix_view suffix)) result }
-    ensures told { IfErr result (Tells (refused (name_problem (visibility.function function) (typed_suffix_view suffix)) at)) }
+    ensures told { IfErr result (Tells
+        (refused (name_problem (visibility.function function) (typed_suffix_view suffix)) at)) }
 {
     if let Function::EdgeCall(edge) = function {
         return edge_of(edge, suffix, at);
@@ -180,7 +186,8 @@ fn signal_of(
     suffix: TypedSuffix,
     at: usize,
 ) -> Result<Typed, NameFault>
-    ensures given { Gives typed_view (rules.denoted at (visibility.signal number object_type) (typed_suffix_view suffix)) result }
+    ensures given { Gives typed_view
+        (rules.denoted at (visibility.signal number object_type) (typed_suffix_view suffix)) result }
     ensures told { IfErr result (Tells (refused TypeMismatch at)) }
 {
     let signal = Signal::Signal(number);
@@ -203,7 +210,8 @@ fn variable_of(
     suffix: TypedSuffix,
     at: usize,
 ) -> Result<Typed, NameFault>
-    ensures given { Gives typed_view (rules.denoted at (visibility.variable number object_type) (typed_suffix_view suffix)) result }
+    ensures given { Gives typed_view
+        (rules.denoted at (visibility.variable number object_type) (typed_suffix_view suffix)) result }
     ensures told { IfErr result (Tells (refused TypeMismatch at)) }
 {
     match object_type {
@@ -218,7 +226,8 @@ fn variable_of(
     }
 }
 
-/// What a name of this meaning is at byte `at`, with what follows it. It may take the memory of a box.
+/// What a name of this meaning is at byte `at`, with what follows it. It may take the memory of a
+/// box.
 #[inline(never)]
 pub fn denoted(
     alloc: Global,
@@ -227,7 +236,9 @@ pub fn denoted(
     at: usize,
 ) -> Result<Typed, NameFault>
     ensures given { Gives typed_view (rules.denoted at (meaning_view meaning.now) (typed_suffix_view suffix)) result }
-    ensures told { IfErr result (Tells (lacking (name_problem (meaning_view meaning.now) (typed_suffix_view suffix)) at (rules.denoted at (meaning_view meaning.now) (typed_suffix_view suffix)))) }
+    ensures told { IfErr result (Tells
+        (lacking (name_problem (meaning_view meaning.now) (typed_suffix_view suffix)) at
+        (rules.denoted at (meaning_view meaning.now) (typed_suffix_view suffix)))) }
 {
     match meaning {
         Meaning::Generic(k) => if_plain(suffix, Typed::Integer(Static::Generic(*k)), at),
@@ -269,8 +280,10 @@ pub fn attributed(
     operand: Typed,
     at: usize,
 ) -> Result<Typed, NameFault>
-    ensures given { Gives typed_view (rules.attributed (option_map ident_view attribute.now) (typed_view operand)) result }
-    ensures told { IfErr result (Tells (broken.attributed at (option_map ident_view attribute.now) (typed_view operand))) }
+    ensures given { Gives typed_view (rules.attributed (option_map ident_view attribute.now) (typed_view operand))
+        result }
+    ensures told { IfErr result (Tells
+        (broken.attributed at (option_map ident_view attribute.now) (typed_view operand))) }
 {
     match attribute {
         None => Ok(operand),

@@ -21,7 +21,8 @@ use vhdl_lexer::integer_value;
 use vhdl_names_rules::{ElementKind, NameFault, NameProblem, Static, Vector, nine_of};
 use vhdl_tree::{Literal, Sign};
 
-/// An integer literal, of at most 2,147,483,647 (IEEE 1076-2008, 5.2.3.2); a greater one is LeftOut.
+/// An integer literal, of at most 2,147,483,647 (IEEE 1076-2008, 5.2.3.2); a greater one is
+/// LeftOut.
 #[inline(never)]
 pub fn integer_literal(literal: &Literal) -> Result<Typed, NameFault>
     ensures given { Gives typed_view (integer_of literal.now.text.items) result }
@@ -33,9 +34,11 @@ pub fn integer_literal(literal: &Literal) -> Result<Typed, NameFault>
     }
 }
 
-/// A character literal at byte `at`, of one of the nine values (15.6), or else there is TypeMismatch.
+/// A character literal at byte `at`, of one of the nine values (15.6), or else there is
+/// TypeMismatch.
 pub fn character_literal(code: u8, at: usize) -> Result<Typed, NameFault>
-    ensures given { Gives typed_view (option_map (λ v. table.elements Element (u.character v)) (literals.nine_of code)) result }
+    ensures given { Gives typed_view (option_map (λ v. table.elements Element (u.character v)) (literals.nine_of code))
+        result }
     ensures told { IfErr result (Tells (lacking TypeMismatch at (literals.nine_of code))) }
 {
     match nine_of(code) {
@@ -47,8 +50,12 @@ pub fn character_literal(code: u8, at: usize) -> Result<Typed, NameFault>
 /// A string literal, a vector of the nine values (15.7). It takes the memory of a list.
 #[inline(never)]
 pub fn string_literal(alloc: Global, literal: &Literal) -> Result<Typed, NameFault>
-    ensures given { Gives typed_view (option_map (λ vs. table.elements OpenVector (u.Vector.literal literal.now.at vs)) (literals.values_of_string literal.now.text.items)) result }
-    ensures told { IfErr result (Tells (lacking (string_problem literal.now.text.items) literal.now.at (literals.values_of_string literal.now.text.items))) }
+    ensures given { Gives typed_view
+        (option_map (λ vs. table.elements OpenVector (u.Vector.literal literal.now.at vs))
+        (literals.values_of_string literal.now.text.items)) result }
+    ensures told { IfErr result (Tells
+        (lacking (string_problem literal.now.text.items) literal.now.at
+        (literals.values_of_string literal.now.text.items))) }
 {
     let values = string_values(alloc, literal)?;
     Ok(Typed::Elements(ElementKind::OpenVector, Vector::Literal(literal.at, values)))
@@ -57,8 +64,11 @@ pub fn string_literal(alloc: Global, literal: &Literal) -> Result<Typed, NameFau
 /// A bit string literal, a vector of zeros and ones (15.8). It takes the memory of a list.
 #[inline(never)]
 pub fn bit_string_literal(alloc: Global, literal: &Literal) -> Result<Typed, NameFault>
-    ensures given { Gives typed_view (option_map (λ vs. table.elements OpenVector (u.Vector.literal literal.now.at vs)) (literals.values_of_bits literal.now.text.items)) result }
-    ensures told { IfErr result (Tells (lacking LeftOut literal.now.at (literals.values_of_bits literal.now.text.items))) }
+    ensures given { Gives typed_view
+        (option_map (λ vs. table.elements OpenVector (u.Vector.literal literal.now.at vs))
+        (literals.values_of_bits literal.now.text.items)) result }
+    ensures told { IfErr result (Tells
+        (lacking LeftOut literal.now.at (literals.values_of_bits literal.now.text.items))) }
 {
     let values = bit_string_values(alloc, literal)?;
     Ok(Typed::Elements(ElementKind::OpenVector, Vector::Literal(literal.at, values)))

@@ -1,5 +1,5 @@
-//! Operators on typed operands (IEEE 1076-2008, 9.2; numeric_std for unsigned, 16.8). Each takes the
-//! memory of a list or a box.
+//! Operators on typed operands (IEEE 1076-2008, 9.2; numeric_std for unsigned, 16.8). Each takes
+//! the memory of a list or a box.
 
 ghost use Rattle.vhdl_names_rules.specs.problems.Broken.{Tells, refused, lacking};
 ghost use Rattle.vhdl_names_rules.specs.problems.Operators.{is_numeric, is_unordered, arithmetic_problem, order_problem, operator_problem};
@@ -28,7 +28,8 @@ fn logical(
     operator: Logic,
     operands: (Typed, Typed),
 ) -> Result<Typed, NameFault>
-    ensures given { Gives typed_view (table.logical at operator (typed_view operands.0) (typed_view operands.1)) result }
+    ensures given { Gives typed_view
+        (table.logical at operator (typed_view operands.0) (typed_view operands.1)) result }
     ensures told { IfErr result (Tells (refused TypeMismatch at)) }
 {
     let (left, right) = operands;
@@ -94,7 +95,8 @@ fn integral(
     operator: Arithmetic,
     operands: (Typed, Typed),
 ) -> Result<Typed, NameFault>
-    ensures given { Gives typed_view (table.integral at operator (typed_view operands.0) (typed_view operands.1)) result }
+    ensures given { Gives typed_view
+        (table.integral at operator (typed_view operands.0) (typed_view operands.1)) result }
     ensures told { IfErr result (Tells (refused TypeMismatch at)) }
 {
     let (left, right) = operands;
@@ -139,8 +141,10 @@ fn arithmetic(
     by: Numeric,
     operands: (Typed, Typed),
 ) -> Result<Typed, NameFault>
-    ensures given { Gives typed_view (table.arithmetic numbers at operator by (typed_view operands.0) (typed_view operands.1)) result }
-    ensures told { IfErr result (Tells (refused (arithmetic_problem (typed_view operands.0) (typed_view operands.1)) at)) }
+    ensures given { Gives typed_view
+        (table.arithmetic numbers at operator by (typed_view operands.0) (typed_view operands.1)) result }
+    ensures told { IfErr result (Tells
+        (refused (arithmetic_problem (typed_view operands.0) (typed_view operands.1)) at)) }
 {
     let (left, right) = operands;
     let problem = NameProblem::TypeMismatch;
@@ -186,7 +190,8 @@ fn same(
     left: Value,
     right: Value,
 ) -> Result<Typed, AllocError>
-    ensures { IfOk result (λ t. typed_view t ≡ table.truth (same_by at comparison (value_view left) (value_view right))) }
+    ensures { IfOk result (λ t. typed_view t ≡
+        table.truth (same_by at comparison (value_view left) (value_view right))) }
 {
     let test = match comparison {
         Cmp::Ne => Test::unlike(alloc, at, left, right)?,
@@ -202,7 +207,8 @@ fn equality(
     comparison: Cmp,
     operands: (Typed, Typed),
 ) -> Result<Typed, NameFault>
-    ensures given { Gives typed_view (table.equality at comparison (same_by at comparison) (typed_view operands.0) (typed_view operands.1)) result }
+    ensures given { Gives typed_view
+        (table.equality at comparison (same_by at comparison) (typed_view operands.0) (typed_view operands.1)) result }
     ensures told { IfErr result (Tells (refused TypeMismatch at)) }
 {
     let (left, right) = operands;
@@ -262,7 +268,8 @@ fn is_left_out(operand: &Typed) -> bool
 
 /// What is wrong with operands that are no numbers.
 fn unordered(operands: &(Typed, Typed)) -> NameProblem
-    ensures { result ≡ if is_unordered (typed_view operands.now.0) || is_unordered (typed_view operands.now.1) then LeftOut else TypeMismatch }
+    ensures { result ≡ if is_unordered (typed_view operands.now.0) || is_unordered (typed_view operands.now.1)
+        then LeftOut else TypeMismatch }
 {
     if is_left_out(&operands.0) || is_left_out(&operands.1) {
         NameProblem::LeftOut
@@ -280,8 +287,11 @@ fn ordered(
     problem: NameProblem,
     operands: (Typed, Typed),
 ) -> Result<Typed, NameFault>
-    ensures given { Gives typed_view (table.ordering numbers at comparison (typed_view operands.0) (typed_view operands.1)) result }
-    ensures told { IfErr result (Tells (refused (if is_numeric (typed_view operands.0) && is_numeric (typed_view operands.1) then NotVisible else problem) at)) }
+    ensures given { Gives typed_view
+        (table.ordering numbers at comparison (typed_view operands.0) (typed_view operands.1)) result }
+    ensures told { IfErr result (Tells
+        (refused (if is_numeric (typed_view operands.0) && is_numeric (typed_view operands.1) then NotVisible
+        else problem) at)) }
 {
     let (left, right) = operands;
     match left {
@@ -316,7 +326,8 @@ fn ordering(
     comparison: Cmp,
     operands: (Typed, Typed),
 ) -> Result<Typed, NameFault>
-    ensures given { Gives typed_view (table.ordering numbers at comparison (typed_view operands.0) (typed_view operands.1)) result }
+    ensures given { Gives typed_view
+        (table.ordering numbers at comparison (typed_view operands.0) (typed_view operands.1)) result }
     ensures told { IfErr result (Tells (refused (order_problem (typed_view operands.0) (typed_view operands.1)) at)) }
 {
     let problem = unordered(&operands);
@@ -335,7 +346,9 @@ pub fn operated(
     right: Typed,
 ) -> Result<Typed, NameFault>
     ensures given { Gives typed_view (table.operated numbers at operator (typed_view left) (typed_view right)) result }
-    ensures told { IfErr result (Tells (lacking (operator_problem operator (typed_view left) (typed_view right)) at (table.operated numbers at operator (typed_view left) (typed_view right)))) }
+    ensures told { IfErr result (Tells
+        (lacking (operator_problem operator (typed_view left) (typed_view right)) at
+        (table.operated numbers at operator (typed_view left) (typed_view right)))) }
 {
     let operands = (left, right);
     match operator {

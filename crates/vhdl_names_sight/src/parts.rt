@@ -1,4 +1,5 @@
-//! Parts of objects: indexed and slice names (IEEE 1076-2008, 8.4, 8.5), and arguments that stand alone.
+//! Parts of objects: indexed and slice names (IEEE 1076-2008, 8.4, 8.5), and arguments that stand
+//! alone.
 
 ghost use Rattle.vhdl_names_rules.specs.problems.Broken.{Tells, refused};
 ghost use Rattle.vhdl_names_rules.specs.declared.fault.NameProblem.TheVariants.{TypeMismatch};

@@ -78,7 +78,8 @@ impl Drop for Sight {
 /// What a name means among parameters of which the last is the innermost.
 #[tactic(auto, using(crate::proofs::Sights::innermost_more))]
 fn innermost<'a>(parameters: &'a [Declared], name: &[u8]) -> Option<&'a Meaning>
-    ensures { found (reverse (map declared_view parameters.now)) name.now ≡ option_map meaning_view (option_copied result) }
+    ensures { found (reverse (map declared_view parameters.now)) name.now ≡
+        option_map meaning_view (option_copied result) }
 {
     let mut last = None;
     for parameter in parameters {
@@ -234,8 +235,8 @@ fn missing(name: &[u8]) -> NameProblem
     }
 }
 
-/// What a name means here. Where it means nothing, it is NotVisible if a package declares it that no
-/// use clause names, LeftOut if a package declares what the language leaves out, as `boolean`,
+/// What a name means here. Where it means nothing, it is NotVisible if a package declares it that
+/// no use clause names, LeftOut if a package declares what the language leaves out, as `boolean`,
 /// `signed` and `to_integer`, and else Undeclared.
 pub fn meaning_of<'a>(sight: &'a Sight, name: &Identifier) -> Result<&'a Meaning, NameFault>
     ensures meant { Gives (λ m. meaning_view m.now) (visibility.meaning sight.now name.now.text.items) result }

@@ -41,7 +41,8 @@ fn assigning(
     label: &Option<Identifier>,
     statement: Statement,
 ) -> Result<Process, AllocError>
-    ensures { IfOk result (λ p. one_process p ≡ rules.assigning at (option_map tree.ident_view label.now) (views.statement_view statement)) }
+    ensures { IfOk result (λ p. one_process p ≡
+        rules.assigning at (option_map tree.ident_view label.now) (views.statement_view statement)) }
 {
     let statements = single(alloc, statement)?;
     let label = copied_label(alloc, label)?;
@@ -60,8 +61,10 @@ fn alone(
     target: &syntax::Name,
     value: &syntax::Value,
 ) -> Result<Vec<Statement>, NameFault>
-    ensures given { Gives views.statements_view (steps.alone sight.now (tree.name_view target.now) (tree.value_view value.now)) result }
-    ensures told { IfErr result (Tells (broken.assigned sight.now (tree.name_view target.now) (tree.value_view value.now))) }
+    ensures given { Gives views.statements_view
+        (steps.alone sight.now (tree.name_view target.now) (tree.value_view value.now)) result }
+    ensures told { IfErr result (Tells
+        (broken.assigned sight.now (tree.name_view target.now) (tree.value_view value.now))) }
 {
     let statement = assigned(sight, target, value)?;
     Ok(single(sight.alloc, statement)?)
@@ -73,8 +76,10 @@ fn waveform(
     target: &syntax::Name,
     item: &syntax::Branch,
 ) -> Result<Branch, NameFault>
-    ensures given { Gives views.branch_view (steps.waveform sight.now (tree.name_view target.now) (tree.branch_view item.now)) result }
-    ensures told { IfErr result (Tells (problems.branch sight.now (tree.name_view target.now) (tree.branch_view item.now))) }
+    ensures given { Gives views.branch_view
+        (steps.waveform sight.now (tree.name_view target.now) (tree.branch_view item.now)) result }
+    ensures told { IfErr result (Tells
+        (problems.branch sight.now (tree.name_view target.now) (tree.branch_view item.now))) }
 {
     let statements = alone(sight, target, &item.value)?;
     let condition = condition(sight, &item.condition)?;
@@ -88,8 +93,10 @@ fn waveforms(
     target: &syntax::Name,
     list: &[syntax::Branch],
 ) -> Result<Vec<Branch>, NameFault>
-    ensures given { Gives views.branches_view (each (steps.waveform sight.now (tree.name_view target.now)) (map tree.branch_view list.now)) result }
-    ensures told { IfErr result (Tells (any_of (problems.branch sight.now (tree.name_view target.now)) (map tree.branch_view list.now))) }
+    ensures given { Gives views.branches_view
+        (each (steps.waveform sight.now (tree.name_view target.now)) (map tree.branch_view list.now)) result }
+    ensures told { IfErr result (Tells
+        (any_of (problems.branch sight.now (tree.name_view target.now)) (map tree.branch_view list.now))) }
 {
     let mut all = Vec::new(sight.alloc);
     for item in list {
@@ -107,7 +114,8 @@ fn otherwise(
 ) -> Result<Option<Vec<Statement>>, NameFault>
     ensures given { Gives views.option_statements_view
         (if_any (steps.alone sight.now (tree.name_view target.now)) (option_map tree.value_view value.now)) result }
-    ensures told { IfErr result (Tells (of_any (broken.assigned sight.now (tree.name_view target.now)) (option_map tree.value_view value.now))) }
+    ensures told { IfErr result (Tells
+        (of_any (broken.assigned sight.now (tree.name_view target.now)) (option_map tree.value_view value.now))) }
 {
     match value {
         None => Ok(None),
@@ -124,7 +132,9 @@ fn conditional(
 ) -> Result<Statement, NameFault>
     ensures given { Gives views.statement_view (steps.conditional sight.now (tree.name_view target.now)
         (map tree.branch_view list.now) (option_map tree.value_view value.now)) result }
-    ensures told { IfErr result (Tells (told.conditional sight.now (tree.name_view target.now) (map tree.branch_view list.now) (option_map tree.value_view value.now))) }
+    ensures told { IfErr result (Tells
+        (told.conditional sight.now (tree.name_view target.now) (map tree.branch_view list.now)
+        (option_map tree.value_view value.now))) }
 {
     let branches = waveforms(sight, target, list)?;
     let otherwise = otherwise(sight, target, value)?;
@@ -140,7 +150,9 @@ fn body(
 ) -> Result<Statement, NameFault>
     ensures given { Gives views.statement_view (steps.body sight.now (tree.name_view target.now)
         (map tree.branch_view list.now) (option_map tree.value_view value.now)) result }
-    ensures told { IfErr result (Tells (told.conditional sight.now (tree.name_view target.now) (map tree.branch_view list.now) (option_map tree.value_view value.now))) }
+    ensures told { IfErr result (Tells
+        (told.conditional sight.now (tree.name_view target.now) (map tree.branch_view list.now)
+        (option_map tree.value_view value.now))) }
 {
     match (list, value) {
         ([], Some(value)) => assigned(sight, target, value),
@@ -171,8 +183,10 @@ fn chosen(
     target: &syntax::Name,
     item: &syntax::Waveform,
 ) -> Result<Alternative, NameFault>
-    ensures given { Gives views.alternative_view (steps.chosen sight.now selected (tree.name_view target.now) (tree.waveform_view item.now)) result }
-    ensures told { IfErr result (Tells (problems.waveform sight.now selected (tree.name_view target.now) (tree.waveform_view item.now))) }
+    ensures given { Gives views.alternative_view
+        (steps.chosen sight.now selected (tree.name_view target.now) (tree.waveform_view item.now)) result }
+    ensures told { IfErr result (Tells
+        (problems.waveform sight.now selected (tree.name_view target.now) (tree.waveform_view item.now))) }
 {
     let statements = alone(sight, target, &item.value)?;
     let choices = choices(sight, selected, &item.choices)?;
@@ -189,7 +203,8 @@ fn all_chosen(
 ) -> Result<Vec<Alternative>, NameFault>
     ensures given { Gives views.alternatives_view
         (each (steps.chosen sight.now selected (tree.name_view target.now)) (map tree.waveform_view list.now)) result }
-    ensures told { IfErr result (Tells (any_of (problems.waveform sight.now selected (tree.name_view target.now)) (map tree.waveform_view list.now))) }
+    ensures told { IfErr result (Tells
+        (any_of (problems.waveform sight.now selected (tree.name_view target.now)) (map tree.waveform_view list.now))) }
 {
     let mut all = Vec::new(sight.alloc);
     for item in list {
@@ -221,7 +236,8 @@ fn selected_parts(
 ) -> Result<(Vec<Alternative>, Vec<Statement>), NameFault>
     ensures given { Gives (λ p. cases.divided (views.alternatives_view p.0) (views.statements_view p.1))
         (steps.parts sight.now by (tree.selected_assignment_view assignment.now)) result }
-    ensures told { IfErr result (Tells (problems.waveforms sight.now by (tree.selected_assignment_view assignment.now))) }
+    ensures told { IfErr result (Tells
+        (problems.waveforms sight.now by (tree.selected_assignment_view assignment.now))) }
 {
     let _ = target(sight, &assignment.target)?;
     let lists = choice_lists(sight.alloc, &assignment.waveforms)?;
@@ -237,7 +253,8 @@ fn selected_in_turn(
     assignment: &syntax::SelectedAssignment,
 ) -> Result<Process, NameFault>
     ensures given { Gives one_process
-        (steps.selected sight.now (option_map tree.ident_view label.now) (tree.selected_assignment_view assignment.now)) result }
+        (steps.selected sight.now (option_map tree.ident_view label.now) (tree.selected_assignment_view assignment.now))
+        result }
     ensures told { IfErr result (Tells (problems.selected sight.now (tree.selected_assignment_view assignment.now))) }
 {
     let (by, value) = selector(sight, &assignment.selector)?;
@@ -265,7 +282,8 @@ pub fn selected(
     assignment: &syntax::SelectedAssignment,
 ) -> Result<Process, NameFault>
     ensures given { Gives one_process
-        (rules.selected sight.now (option_map tree.ident_view label.now) (tree.selected_assignment_view assignment.now)) result }
+        (rules.selected sight.now (option_map tree.ident_view label.now) (tree.selected_assignment_view assignment.now))
+        result }
     ensures told { IfErr result (Tells (problems.selected sight.now (tree.selected_assignment_view assignment.now))) }
 {
     selected_in_turn(sight, label, assignment)

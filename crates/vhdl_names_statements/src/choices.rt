@@ -44,7 +44,8 @@ fn key(alloc: Global, choice: &Choice) -> Result<Vec<usize>, AllocError>
 
 /// One more choice, which none before it is. It stands at byte `at`.
 fn add_choice(alloc: Global, keys: &mut Keys, choice: &Choice, at: usize) -> Result<(), NameFault>
-    ensures given { Gives (λ _. names_view keys.new) (one_name (names_view keys.old) (key_of (choice_view choice.now))) result }
+    ensures given { Gives (λ _. names_view keys.new) (one_name (names_view keys.old) (key_of (choice_view choice.now)))
+        result }
     ensures told { IfErr result (Tells (refused ChoiceTwice at)) }
 {
     let key = key(alloc, choice)?;
@@ -72,9 +73,12 @@ fn add_written(
     keys: &mut Keys,
     written: &syntax::Choice,
 ) -> Result<(), NameFault>
-    ensures added { IfOk result (λ _. names_view keys.new ≡ told.with_choice sight.now selected (names_view keys.old) (tree.choice_view written.now)) }
-    ensures kept { IfOk result (λ _. told.once sight.now selected (names_view keys.old) (tree.choice_view written.now) ≡ nothing) }
-    ensures told { IfErr result (Tells (told.once sight.now selected (names_view keys.old) (tree.choice_view written.now))) }
+    ensures added { IfOk result (λ _. names_view keys.new ≡
+        told.with_choice sight.now selected (names_view keys.old) (tree.choice_view written.now)) }
+    ensures kept { IfOk result (λ _. told.once sight.now selected (names_view keys.old) (tree.choice_view written.now) ≡
+        nothing) }
+    ensures told { IfErr result (Tells
+        (told.once sight.now selected (names_view keys.old) (tree.choice_view written.now))) }
 {
     let analysed = choice(sight, selected, written)?;
     add_choice(sight.alloc, keys, &analysed, place(written))
@@ -87,9 +91,12 @@ fn add_each(
     keys: &mut Keys,
     list: &[syntax::Choice],
 ) -> Result<(), NameFault>
-    ensures added { IfOk result (λ _. names_view keys.new ≡ told.with_list sight.now selected (names_view keys.old) (map tree.choice_view list.now)) }
-    ensures kept { IfOk result (λ _. told.each_once sight.now selected (names_view keys.old) (map tree.choice_view list.now) ≡ nothing) }
-    ensures told { IfErr result (Tells (told.each_once sight.now selected (names_view keys.old) (map tree.choice_view list.now))) }
+    ensures added { IfOk result (λ _. names_view keys.new ≡
+        told.with_list sight.now selected (names_view keys.old) (map tree.choice_view list.now)) }
+    ensures kept { IfOk result (λ _.
+        told.each_once sight.now selected (names_view keys.old) (map tree.choice_view list.now) ≡ nothing) }
+    ensures told { IfErr result (Tells
+        (told.each_once sight.now selected (names_view keys.old) (map tree.choice_view list.now))) }
 {
     for written in list {
         add_written(sight, selected, keys, written)?;
@@ -127,9 +134,13 @@ fn add_list(
     is_last: bool,
     list: &[syntax::Choice],
 ) -> Result<(), NameFault>
-    ensures added { IfOk result (λ _. names_view keys.new ≡ told.with_list sight.now selected (names_view keys.old) (map tree.choice_view list.now)) }
-    ensures kept { IfOk result (λ _. told.alternative_in_place sight.now selected (names_view keys.old) is_last (map tree.choice_view list.now) ≡ nothing) }
-    ensures told { IfErr result (Tells (told.alternative_in_place sight.now selected (names_view keys.old) is_last (map tree.choice_view list.now))) }
+    ensures added { IfOk result (λ _. names_view keys.new ≡
+        told.with_list sight.now selected (names_view keys.old) (map tree.choice_view list.now)) }
+    ensures kept { IfOk result (λ _.
+        told.alternative_in_place sight.now selected (names_view keys.old) is_last (map tree.choice_view list.now) ≡
+        nothing) }
+    ensures told { IfErr result (Tells
+        (told.alternative_in_place sight.now selected (names_view keys.old) is_last (map tree.choice_view list.now))) }
 {
     match others_alone(list) {
         None => add_each(sight, selected, keys, list),
@@ -144,7 +155,8 @@ fn told_apart(
     selected: ObjectType,
     lists: &[&[syntax::Choice]],
 ) -> Result<Keys, NameFault>
-    ensures added { IfOk result (λ keys. names_view keys ≡ told.with_lists sight.now selected [] (steps.all_lists lists.now)) }
+    ensures added { IfOk result (λ keys. names_view keys ≡
+        told.with_lists sight.now selected [] (steps.all_lists lists.now)) }
     ensures kept { IfOk result (λ _. told.in_place sight.now selected [] (steps.all_lists lists.now) ≡ nothing) }
     ensures told { IfErr result (Tells (told.in_place sight.now selected [] (steps.all_lists lists.now))) }
 {
@@ -211,8 +223,12 @@ fn complete(
     lists: &[&[syntax::Choice]],
     keys: &Keys,
 ) -> Result<(), NameFault>
-    ensures given { Gives (λ _. tt) (rule NoOthers (rules.is_last_others (steps.all_lists lists.now) || steps.has_all selected (names_view keys.now))) result }
-    ensures told { IfErr result (Tells (unless NoOthers at (rules.is_last_others (steps.all_lists lists.now) || steps.has_all selected (names_view keys.now)))) }
+    ensures given { Gives (λ _. tt)
+        (rule NoOthers (rules.is_last_others (steps.all_lists lists.now)
+        || steps.has_all selected (names_view keys.now))) result }
+    ensures told { IfErr result (Tells
+        (unless NoOthers at (rules.is_last_others (steps.all_lists lists.now)
+        || steps.has_all selected (names_view keys.now)))) }
 {
     if ends_in_others(lists) || names_all(selected, keys) {
         Ok(())
@@ -231,9 +247,11 @@ pub(crate) fn covered(
     lists: &[&[syntax::Choice]],
     all: Result<Vec<Alternative>, NameFault>,
 ) -> Result<Vec<Alternative>, NameFault>
-    ensures given { (found : Option (List Chosen)) → Gives views.alternatives_view found all → IfOk all (told.HasChoices sight.now selected (steps.all_lists lists.now))
+    ensures given { (found : Option (List Chosen)) → Gives views.alternatives_view found all
+        → IfOk all (told.HasChoices sight.now selected (steps.all_lists lists.now))
         → Gives views.alternatives_view (steps.covering selected (steps.all_lists lists.now) found) result }
-    ensures told { (b : Broken) → IfErr all (Tells b) → IfOk all (λ _. b ≡ nothing) → IfOk all (told.HasChoices sight.now selected (steps.all_lists lists.now))
+    ensures told { (b : Broken) → IfErr all (Tells b) → IfOk all (λ _. b ≡ nothing)
+        → IfOk all (told.HasChoices sight.now selected (steps.all_lists lists.now))
         → IfErr result (Tells (broken.covered sight.now selected at (steps.all_lists lists.now) b)) }
 {
     match told_apart(sight, selected, lists) {
@@ -251,7 +269,8 @@ pub(crate) fn but_last(
     at: usize,
     alternatives: Vec<Alternative>,
 ) -> Result<(Vec<Alternative>, Vec<Statement>), NameFault>
-    ensures given { Gives (λ p. steps.divided (views.alternatives_view p.0) (views.statements_view p.1)) (steps.but_last (views.alternatives_view alternatives)) result }
+    ensures given { Gives (λ p. steps.divided (views.alternatives_view p.0) (views.statements_view p.1))
+        (steps.but_last (views.alternatives_view alternatives)) result }
     ensures told { IfErr result (Tells (broken.any_alternative at (views.alternatives_view alternatives))) }
 {
     let mut rest = alternatives;
@@ -266,7 +285,8 @@ pub(crate) fn choice_lists(
     alloc: Global,
     alternatives: &[syntax::Alternative],
 ) -> Result<Vec<&[syntax::Choice]>, AllocError>
-    ensures { IfOk result (λ v. steps.all_lists v.items ≡ steps.choice_lists (map tree.alternative_view alternatives.now)) }
+    ensures { IfOk result (λ v. steps.all_lists v.items ≡
+        steps.choice_lists (map tree.alternative_view alternatives.now)) }
 {
     let mut lists: Vec<&[syntax::Choice]> = Vec::new(alloc);
     for alternative in alternatives {

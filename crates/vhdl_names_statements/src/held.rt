@@ -1,4 +1,5 @@
-//! What was analysed, and the end label behind it. Where it is refused, what was analysed is let go here.
+//! What was analysed, and the end label behind it. Where it is refused, what was analysed is let go
+//! here.
 
 ghost use Rattle.std.specs.Prelude.{◌≡◌, IfErr, IfOk, option_map};
 ghost use Rattle.vhdl_names_rules.specs.problems.Broken.{Tells};
@@ -20,8 +21,11 @@ pub(crate) fn ended<T: Drop>(
     found: T,
 ) -> Result<T, NameFault>
     ensures same { IfOk result (λ x. x ≡ found) }
-    ensures asked { Gives (λ _. tt) (rule WrongKind (visibility.label_ends (option_map tree.ident_view label.now) (option_map tree.ident_view end.now))) result }
-    ensures told { IfErr result (Tells (end_label (option_map tree.ident_view label.now) (option_map tree.ident_view end.now))) }
+    ensures asked { Gives (λ _. tt)
+        (rule WrongKind (visibility.label_ends (option_map tree.ident_view label.now)
+        (option_map tree.ident_view end.now))) result }
+    ensures told { IfErr result (Tells
+        (end_label (option_map tree.ident_view label.now) (option_map tree.ident_view end.now))) }
 {
     label_ends(label, end)?;
     Ok(found)

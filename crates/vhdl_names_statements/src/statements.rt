@@ -32,8 +32,10 @@ pub(crate) fn assigned(
     name: &syntax::Name,
     value: &syntax::Value,
 ) -> Result<Statement, NameFault>
-    ensures given { Gives views.statement_view (steps.assigned sight.now (tree.name_view name.now) (tree.value_view value.now)) result }
-    ensures told { IfErr result (Tells (broken.assigned sight.now (tree.name_view name.now) (tree.value_view value.now))) }
+    ensures given { Gives views.statement_view
+        (steps.assigned sight.now (tree.name_view name.now) (tree.value_view value.now)) result }
+    ensures told { IfErr result (Tells
+        (broken.assigned sight.now (tree.name_view name.now) (tree.value_view value.now))) }
 {
     let signal = target(sight, name)?;
     let value = given(sight, signal.object_type, value)?;
@@ -45,8 +47,10 @@ pub(crate) fn assigned(
 
 /// An assignment to a variable.
 fn set(sight: &Sight, name: &syntax::Name, value: &syntax::Value) -> Result<Statement, NameFault>
-    ensures given { Gives views.statement_view (steps.set sight.now (tree.name_view name.now) (tree.value_view value.now)) result }
-    ensures told { IfErr result (Tells (broken.variable_assigned sight.now (tree.name_view name.now) (tree.value_view value.now))) }
+    ensures given { Gives views.statement_view
+        (steps.set sight.now (tree.name_view name.now) (tree.value_view value.now)) result }
+    ensures told { IfErr result (Tells
+        (broken.variable_assigned sight.now (tree.name_view name.now) (tree.value_view value.now))) }
 {
     let variable = variable(sight, name)?;
     let value = given(sight, variable.object_type, value)?;
@@ -60,7 +64,8 @@ fn set(sight: &Sight, name: &syntax::Name, value: &syntax::Value) -> Result<Stat
 
 /// The sight within a loop.
 fn enter_loop(sight: &mut Sight, parameter: &Identifier) -> Result<(), NameFault>
-    ensures given { Gives (λ _. sight.new) (Some (visibility.within_loop sight.old (tree.ident_view parameter.now))) result }
+    ensures given { Gives (λ _. sight.new) (Some (visibility.within_loop sight.old (tree.ident_view parameter.now)))
+        result }
     ensures refused { OnErr result (sight.new ≡ sight.old) }
     ensures told { IfErr result (Tells (nothing)) }
 {
@@ -72,7 +77,8 @@ fn enter_loop(sight: &mut Sight, parameter: &Identifier) -> Result<(), NameFault
 
 /// The sight outside again.
 fn leave_loop(sight: &mut Sight)
-    ensures { (outer : visibility.Sight) (d : visibility.Declared) → sight.old ≡ steps.in_loop outer d → sight.new ≡ outer }
+    ensures { (outer : visibility.Sight) (d : visibility.Declared) → sight.old ≡ steps.in_loop outer d
+        → sight.new ≡ outer }
 {
     sight.loops.pop();
 }
@@ -81,9 +87,11 @@ fn leave_loop(sight: &mut Sight)
 /// sight of them, and is as before afterwards. It fails at the first byte where a rule is broken,
 /// or where memory is refused.
 pub fn analysed(sight: &mut Sight, list: &[syntax::Sequential]) -> Result<Vec<Statement>, NameFault>
-    ensures given { Gives views.body_view (rules.statements sight.old (t.statements_of (map tree.sequential_view list.now))) result }
+    ensures given { Gives views.body_view
+        (rules.statements sight.old (t.statements_of (map tree.sequential_view list.now))) result }
     ensures kept { sight.new ≡ sight.old }
-    ensures told { IfErr result (Tells (broken.statements sight.old (t.statements_of (map tree.sequential_view list.now)))) }
+    ensures told { IfErr result (Tells
+        (broken.statements sight.old (t.statements_of (map tree.sequential_view list.now)))) }
 {
     statements(sight, list)
 }
@@ -92,9 +100,11 @@ pub fn analysed(sight: &mut Sight, list: &[syntax::Sequential]) -> Result<Vec<St
 #[cycle(statements)]
 #[tactic(auto, using(vhdl_names_units::proofs::Lists::each_in_turn))]
 fn statements(sight: &mut Sight, list: &[syntax::Sequential]) -> Result<Vec<Statement>, NameFault>
-    ensures given { Gives views.statements_view (steps.all_labelled sight.old (map tree.sequential_view list.now)) result }
+    ensures given { Gives views.statements_view (steps.all_labelled sight.old (map tree.sequential_view list.now))
+        result }
     ensures kept { sight.new ≡ sight.old }
-    ensures told { IfErr result (Tells (broken.statements sight.old (t.statements_of (map tree.sequential_view list.now)))) }
+    ensures told { IfErr result (Tells
+        (broken.statements sight.old (t.statements_of (map tree.sequential_view list.now)))) }
 {
     let mut all = Vec::new(sight.alloc);
     for item in list {
@@ -110,7 +120,8 @@ fn statements(sight: &mut Sight, list: &[syntax::Sequential]) -> Result<Vec<Stat
 fn statement(sight: &mut Sight, item: &syntax::Sequential) -> Result<Statement, NameFault>
     ensures given { Gives views.statement_view (steps.labelled sight.old (tree.sequential_view item.now)) result }
     ensures kept { sight.new ≡ sight.old }
-    ensures told { IfErr result (Tells (broken.statement sight.old (tree.option_ident_view item.now.label) (tree.statement_view item.now.statement))) }
+    ensures told { IfErr result (Tells
+        (broken.statement sight.old (tree.option_ident_view item.now.label) (tree.statement_view item.now.statement))) }
 {
     match &item.statement {
         syntax::Statement::Null { .. } => Ok(Statement::Null),
@@ -130,10 +141,13 @@ fn if_statement(
     conditional: &syntax::If,
 ) -> Result<Statement, NameFault>
     ensures given { Gives views.statement_view
-        (steps.conditional sight.old (option_map tree.ident_view label.now) (out-If conditional.now).at (tree.conditionals_view (out-If conditional.now).branches)
-        (tree.option_sequentials_view (out-If conditional.now).otherwise) (tree.option_ident_view (out-If conditional.now).end_label)) result }
+        (steps.conditional sight.old (option_map tree.ident_view label.now) (out-If conditional.now).at
+        (tree.conditionals_view (out-If conditional.now).branches)
+        (tree.option_sequentials_view (out-If conditional.now).otherwise)
+        (tree.option_ident_view (out-If conditional.now).end_label)) result }
     ensures kept { sight.new ≡ sight.old }
-    ensures told { IfErr result (Tells (broken.statement sight.old (option_map tree.ident_view label.now) (tree.if_view conditional.now))) }
+    ensures told { IfErr result (Tells
+        (broken.statement sight.old (option_map tree.ident_view label.now) (tree.if_view conditional.now))) }
 {
     let branches = branches(sight, &conditional.branches)?;
     let otherwise = otherwise(sight, conditional)?;
@@ -145,9 +159,11 @@ fn if_statement(
 #[cycle(statements)]
 #[tactic(auto, using(vhdl_names_units::proofs::Lists::each_in_turn))]
 fn branches(sight: &mut Sight, list: &[syntax::Conditional]) -> Result<Vec<Branch>, NameFault>
-    ensures given { Gives views.branches_view (each (steps.guarded sight.old) (map tree.conditional_view list.now)) result }
+    ensures given { Gives views.branches_view (each (steps.guarded sight.old) (map tree.conditional_view list.now))
+        result }
     ensures kept { sight.new ≡ sight.old }
-    ensures told { IfErr result (Tells (broken.conditionals sight.old (t.conditionals_of (map tree.conditional_view list.now)))) }
+    ensures told { IfErr result (Tells
+        (broken.conditionals sight.old (t.conditionals_of (map tree.conditional_view list.now)))) }
 {
     let mut all = Vec::new(sight.alloc);
     for item in list {
@@ -178,7 +194,8 @@ fn otherwise(
     ensures given { Gives views.option_statements_view
         (if_any (steps.all_labelled sight.old) (tree.option_sequentials_view (out-If conditional.now).otherwise)) result }
     ensures kept { sight.new ≡ sight.old }
-    ensures told { IfErr result (Tells (broken.otherwise sight.old (t.otherwise_of (tree.option_sequentials_view (out-If conditional.now).otherwise)))) }
+    ensures told { IfErr result (Tells
+        (broken.otherwise sight.old (t.otherwise_of (tree.option_sequentials_view (out-If conditional.now).otherwise)))) }
 {
     match &conditional.otherwise {
         None => Ok(None),
@@ -194,10 +211,13 @@ fn case_statement(
     case: &syntax::Case,
 ) -> Result<Statement, NameFault>
     ensures given { Gives views.statement_view
-        (cases.selection sight.old (option_map tree.ident_view label.now) (out-Case case.now).at (tree.view (out-Case case.now).selector)
-        (tree.alternatives_view (out-Case case.now).alternatives) (tree.option_ident_view (out-Case case.now).end_label)) result }
+        (cases.selection sight.old (option_map tree.ident_view label.now) (out-Case case.now).at
+        (tree.view (out-Case case.now).selector)
+        (tree.alternatives_view (out-Case case.now).alternatives)
+        (tree.option_ident_view (out-Case case.now).end_label)) result }
     ensures kept { sight.new ≡ sight.old }
-    ensures told { IfErr result (Tells (broken.statement sight.old (option_map tree.ident_view label.now) (tree.case_view case.now))) }
+    ensures told { IfErr result (Tells
+        (broken.statement sight.old (option_map tree.ident_view label.now) (tree.case_view case.now))) }
 {
     let (selected, value) = selector(sight, &case.selector)?;
     let (alternatives, others) = case_parts(sight, selected, label, case)?;
@@ -214,10 +234,12 @@ fn case_parts(
 ) -> Result<(Vec<Alternative>, Vec<Statement>), NameFault>
     ensures given { Gives (λ p. cases.divided (views.alternatives_view p.0) (views.statements_view p.1))
         (cases.parts sight.old selected (option_map tree.ident_view label.now)
-        (tree.alternatives_view (out-Case case.now).alternatives) (tree.option_ident_view (out-Case case.now).end_label)) result }
+        (tree.alternatives_view (out-Case case.now).alternatives)
+        (tree.option_ident_view (out-Case case.now).end_label)) result }
     ensures kept { sight.new ≡ sight.old }
     ensures told { IfErr result (Tells (told.parts sight.old selected (option_map tree.ident_view label.now)
-        (out-Case case.now).at (tree.alternatives_view (out-Case case.now).alternatives) (tree.option_ident_view (out-Case case.now).end_label))) }
+        (out-Case case.now).at (tree.alternatives_view (out-Case case.now).alternatives)
+        (tree.option_ident_view (out-Case case.now).end_label))) }
 {
     let lists = choice_lists(sight.alloc, &case.alternatives)?;
     let all = alternatives(sight, selected, &case.alternatives);
@@ -234,9 +256,11 @@ fn alternatives(
     selected: ObjectType,
     list: &[syntax::Alternative],
 ) -> Result<Vec<Alternative>, NameFault>
-    ensures given { Gives views.alternatives_view (each (cases.chosen sight.old selected) (map tree.alternative_view list.now)) result }
+    ensures given { Gives views.alternatives_view
+        (each (cases.chosen sight.old selected) (map tree.alternative_view list.now)) result }
     ensures kept { sight.new ≡ sight.old }
-    ensures told { IfErr result (Tells (broken.alternatives sight.old selected (t.alternatives_of (map tree.alternative_view list.now)))) }
+    ensures told { IfErr result (Tells
+        (broken.alternatives sight.old selected (t.alternatives_of (map tree.alternative_view list.now)))) }
 {
     let mut all = Vec::new(sight.alloc);
     for item in list {
@@ -253,7 +277,8 @@ fn alternative(
     selected: ObjectType,
     item: &syntax::Alternative,
 ) -> Result<Alternative, NameFault>
-    ensures given { Gives views.alternative_view (cases.chosen sight.old selected (tree.alternative_view item.now)) result }
+    ensures given { Gives views.alternative_view (cases.chosen sight.old selected (tree.alternative_view item.now))
+        result }
     ensures kept { sight.new ≡ sight.old }
     ensures told { IfErr result (Tells (told.alternative sight.old selected (tree.alternative_view item.now))) }
 {
@@ -270,10 +295,13 @@ fn for_loop(
     repeated: &syntax::For,
 ) -> Result<Statement, NameFault>
     ensures given { Gives views.statement_view
-        (steps.repetition sight.old (option_map tree.ident_view label.now) (out-For repeated.now).at (tree.ident_view (out-For repeated.now).parameter)
-        (tree.range_view (out-For repeated.now).range) (tree.sequentials_view (out-For repeated.now).statements) (tree.option_ident_view (out-For repeated.now).end_label)) result }
+        (steps.repetition sight.old (option_map tree.ident_view label.now) (out-For repeated.now).at
+        (tree.ident_view (out-For repeated.now).parameter)
+        (tree.range_view (out-For repeated.now).range) (tree.sequentials_view (out-For repeated.now).statements)
+        (tree.option_ident_view (out-For repeated.now).end_label)) result }
     ensures kept { sight.new ≡ sight.old }
-    ensures told { IfErr result (Tells (broken.statement sight.old (option_map tree.ident_view label.now) (tree.for_view repeated.now))) }
+    ensures told { IfErr result (Tells
+        (broken.statement sight.old (option_map tree.ident_view label.now) (tree.for_view repeated.now))) }
 {
     let range = static_range(sight, &repeated.range)?;
     let turn = turn(sight, repeated)?;
@@ -285,9 +313,11 @@ fn for_loop(
 #[cycle(statements)]
 fn turn(sight: &mut Sight, repeated: &syntax::For) -> Result<Vec<Statement>, NameFault>
     ensures given { Gives views.statements_view
-        (steps.turn sight.old (tree.ident_view (out-For repeated.now).parameter) (tree.sequentials_view (out-For repeated.now).statements)) result }
+        (steps.turn sight.old (tree.ident_view (out-For repeated.now).parameter)
+        (tree.sequentials_view (out-For repeated.now).statements)) result }
     ensures kept { sight.new ≡ sight.old }
-    ensures told { IfErr result (Tells (broken.statements (visibility.within_loop sight.old (tree.ident_view (out-For repeated.now).parameter))
+    ensures told { IfErr result (Tells
+        (broken.statements (visibility.within_loop sight.old (tree.ident_view (out-For repeated.now).parameter))
         (t.statements_of (tree.sequentials_view (out-For repeated.now).statements)))) }
 {
     enter_loop(sight, &repeated.parameter)?;

@@ -17,9 +17,9 @@ impl<T: Drop> Drop for Actual<T> {
     }
 }
 
-/// The actual of each generic or port of an instance, in their order. A formal whose actual is open or
-/// not associated has none. A short source may leave most formals so: they are counted, and take no
-/// memory. `open` counts those behind the last actual.
+/// The actual of each generic or port of an instance, in their order. A formal whose actual is open
+/// or not associated has none. A short source may leave most formals so: they are counted, and take
+/// no memory. `open` counts those behind the last actual.
 pub struct Actuals<T> {
     pub given: Vec<Actual<T>>,
     pub open: usize,

@@ -1,5 +1,5 @@
-//! Declarations as they are analysed (IEEE 1076-2008, clauses 5 and 6). One declaration of several names stands once, with its
-//! names in order: its range and default are computed once.
+//! Declarations as they are analysed (IEEE 1076-2008, clauses 5 and 6). One declaration of several
+//! names stands once, with its names in order: its range and default are computed once.
 
 use crate::answers::{Fixed, Form};
 use vhdl_names_rules::{IntegerType, Static};

@@ -26,7 +26,8 @@ pub fn earlier(fault: NameFault, other: NameFault) -> NameFault
 pub fn earlier_in<T: Drop>(fault: NameFault, answer: Result<T, NameFault>) -> NameFault
     ensures given { result ≢ NoMemory → fault ≢ NoMemory }
     ensures other { IfErr answer (λ other. result ≢ NoMemory → other ≢ NoMemory) }
-    ensures told { (a b : Broken) → Tells a fault → IfErr answer (Tells b) → IfOk answer (λ _. b ≡ nothing) → Tells (broken.earlier a b) result }
+    ensures told { (a b : Broken) → Tells a fault → IfErr answer (Tells b) → IfOk answer (λ _. b ≡ nothing)
+        → Tells (broken.earlier a b) result }
 {
     match answer {
         Ok(_) => fault,

@@ -23,7 +23,8 @@ pub fn is_text(text: &[u8], other: &[u8]) -> bool
 
 /// An end name, if there is one, repeats the name at the beginning.
 pub fn ends(name: &Identifier, end: &Option<Identifier>) -> Result<(), NameFault>
-    ensures given { Gives (λ _. tt) (rule WrongKind (visibility.ends name.now.text.items (option_map tree.ident_view end.now))) result }
+    ensures given { Gives (λ _. tt)
+        (rule WrongKind (visibility.ends name.now.text.items (option_map tree.ident_view end.now))) result }
     ensures told { IfErr result (Tells (end_name (tree.ident_view name.now) (option_map tree.ident_view end.now))) }
 {
     match end {
@@ -40,8 +41,11 @@ pub fn ends(name: &Identifier, end: &Option<Identifier>) -> Result<(), NameFault
 
 /// An end label repeats the label; where no label stands, none stands at the end.
 pub fn label_ends(label: &Option<Identifier>, end: &Option<Identifier>) -> Result<(), NameFault>
-    ensures given { Gives (λ _. tt) (rule WrongKind (visibility.label_ends (option_map tree.ident_view label.now) (option_map tree.ident_view end.now))) result }
-    ensures told { IfErr result (Tells (end_label (option_map tree.ident_view label.now) (option_map tree.ident_view end.now))) }
+    ensures given { Gives (λ _. tt)
+        (rule WrongKind (visibility.label_ends (option_map tree.ident_view label.now)
+        (option_map tree.ident_view end.now))) result }
+    ensures told { IfErr result (Tells
+        (end_label (option_map tree.ident_view label.now) (option_map tree.ident_view end.now))) }
 {
     match (label, end) {
         (Some(label), _) => ends(label, end),

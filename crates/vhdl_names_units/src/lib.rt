@@ -1,6 +1,8 @@
-//! The units of a file as they are analysed (IEEE 1076-2008, clauses 3, 6, 10, 11 and 13): declarations, statements, entities and
-//! architectures. `specs/views` says what contracts see of them: the units of vhdl_names_rules. Beside them stands what statements,
-//! instances and files share of these rules: labels and end names, names that stand once, and which of several faults is told first.
+//! The units of a file as they are analysed (IEEE 1076-2008, clauses 3, 6, 10, 11 and 13):
+//! declarations, statements, entities and architectures. `specs/views` says what contracts see of
+//! them: the units of vhdl_names_rules. Beside them stands what statements, instances and files
+//! share of these rules: labels and end names, names that stand once, and which of several faults
+//! is told first.
 #![tactic(auto)]
 
 mod actuals;

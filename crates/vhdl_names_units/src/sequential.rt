@@ -164,7 +164,8 @@ impl Branch {
 impl Alternative {
     /// Choices, and the statements that they guard.
     pub fn new(choices: Vec<Choice>, statements: Vec<Statement>) -> Alternative
-        ensures { views.alternative_view result ≡ views.chosen_by (choices_view choices) (views.statements_view statements) }
+        ensures { views.alternative_view result ≡
+            views.chosen_by (choices_view choices) (views.statements_view statements) }
     {
         Alternative {
             choices,
@@ -181,7 +182,8 @@ impl Statement {
         otherwise: Option<Vec<Statement>>,
     ) -> Statement
         ensures { views.statement_view result
-            ≡ units.if_of at (views.branches_of (views.branches_view branches) (views.last_of (views.option_statements_view otherwise))) }
+            ≡ units.if_of at (views.branches_of (views.branches_view branches)
+            (views.last_of (views.option_statements_view otherwise))) }
     {
         Statement::If(If {
             at,
@@ -198,7 +200,9 @@ impl Statement {
         others: Vec<Statement>,
     ) -> Statement
         ensures { views.statement_view result
-            ≡ units.case_of at (value_view selector) (views.alternatives_of (views.alternatives_view alternatives) (views.statements_of (views.statements_view others))) }
+            ≡ units.case_of at (value_view selector)
+            (views.alternatives_of (views.alternatives_view alternatives)
+            (views.statements_of (views.statements_view others))) }
     {
         Statement::Case(Case {
             at,
@@ -210,7 +214,8 @@ impl Statement {
 
     /// A for loop, which starts at byte `at`.
     pub fn repetition(at: usize, range: StaticRange, statements: Vec<Statement>) -> Statement
-        ensures { views.statement_view result ≡ units.for_of at (range_view range) (views.statements_of (views.statements_view statements)) }
+        ensures { views.statement_view result ≡
+            units.for_of at (range_view range) (views.statements_of (views.statements_view statements)) }
     {
         Statement::Loop(Loop {
             at,

@@ -135,7 +135,8 @@ pub fn concurrents(parser: &mut Parser<'_>, levels: usize) -> Result<Vec<Concurr
 #[cycle(concurrent)]
 #[tactic(auto, unfolding(crate::specs::reader::Concurrent::concurrent))]
 fn concurrent(parser: &mut Parser<'_>, levels: usize) -> Result<Concurrent, Stop>
-    ensures { Reads concurrent_view (read.concurrent levels (read.deeper_concurrents levels) parser.old) result parser.new }
+    ensures { Reads concurrent_view (read.concurrent levels (read.deeper_concurrents levels) parser.old) result
+        parser.new }
 {
     match optional_label(parser)? {
         None => unlabelled(parser, levels),
@@ -146,7 +147,8 @@ fn concurrent(parser: &mut Parser<'_>, levels: usize) -> Result<Concurrent, Stop
 #[cycle(concurrent)]
 #[tactic(auto, unfolding(crate::specs::reader::Concurrent::labelled))]
 fn labelled(parser: &mut Parser<'_>, levels: usize, label: Identifier) -> Result<Concurrent, Stop>
-    ensures { Reads concurrent_view (read.labelled levels (read.deeper_concurrents levels) (ident_view label) parser.old) result parser.new }
+    ensures { Reads concurrent_view
+        (read.labelled levels (read.deeper_concurrents levels) (ident_view label) parser.old) result parser.new }
 {
     match parser.peek() {
         Some(TokenKind::With) => selected(parser, levels, Some(label)),
@@ -178,7 +180,8 @@ fn for_generate(
     levels: usize,
     label: Identifier,
 ) -> Result<Concurrent, Stop>
-    ensures { Reads concurrent_view (read.for_generate levels (read.deeper_concurrents levels) (ident_view label) parser.old) result parser.new }
+    ensures { Reads concurrent_view
+        (read.for_generate levels (read.deeper_concurrents levels) (ident_view label) parser.old) result parser.new }
 {
     let at = parser.expect(TokenKind::For)?;
     let inner = below(levels)?;
@@ -193,7 +196,8 @@ fn if_generate(
     levels: usize,
     label: Identifier,
 ) -> Result<Concurrent, Stop>
-    ensures { Reads concurrent_view (read.if_generate levels (read.deeper_concurrents levels) (ident_view label) parser.old) result parser.new }
+    ensures { Reads concurrent_view
+        (read.if_generate levels (read.deeper_concurrents levels) (ident_view label) parser.old) result parser.new }
 {
     let at = parser.expect(TokenKind::If)?;
     let inner = below(levels)?;
@@ -211,7 +215,9 @@ fn generated(
     at: usize,
     scheme: Scheme,
 ) -> Result<Concurrent, Stop>
-    ensures { Reads concurrent_view (read.generate_rest (read.concurrents levels) (ident_view label) at (scheme_view scheme) parser.old) result parser.new }
+    ensures { Reads concurrent_view
+        (read.generate_rest (read.concurrents levels) (ident_view label) at (scheme_view scheme) parser.old) result
+        parser.new }
 {
     let (begin_word, statements, end_label) = generate_body(parser, levels)?;
     Ok(Concurrent::generated(label, at, scheme, begin_word, statements, end_label))

@@ -22,10 +22,10 @@ use vhdl_tree::File;
 
 /// The tree that the tokens of a source spell, by the grammar of docs/LANGUAGE.md.
 ///
-/// `tokens` are places in `source`, in order, as `vhdl_lexer::lex` finds them. The tree takes memory
-/// in proportion to the tokens, and the call's stack is bounded by the levels, of which 64 may be
-/// open at once. So is the tree's height, and with it the stack of whoever walks the tree: no more than
-/// 524 expressions, statements, declarations and units stand one in another.
+/// `tokens` are places in `source`, in order, as `vhdl_lexer::lex` finds them. The tree takes
+/// memory in proportion to the tokens, and the call's stack is bounded by the levels, of which 64
+/// may be open at once. So is the tree's height, and with it the stack of whoever walks the tree:
+/// no more than 524 expressions, statements, declarations and units stand one in another.
 ///
 /// # Errors
 ///
@@ -34,9 +34,9 @@ use vhdl_tree::File;
 /// - `NoMemory` where a part of the tree could not grow.
 ///
 /// `Unexpected` stands at the first token with which no file goes on: those before it begin a file,
-/// and with it they begin none. `EndOfFile` stands at the source's end, where all tokens begin a file
-/// and are none. `TooDeep` stands at a token or at the end. Of a source that is too deep and wrong too,
-/// the fault that the parser meets first is given.
+/// and with it they begin none. `EndOfFile` stands at the source's end, where all tokens begin a
+/// file and are none. `TooDeep` stands at a token or at the end. Of a source that is too deep and
+/// wrong too, the fault that the parser meets first is given.
 pub fn parse(alloc: Global, source: &[u8], tokens: &[Token]) -> Result<File, SyntaxFault>
     requires { AreWithin source.now tokens.now }
 

@@ -24,7 +24,8 @@ fn chosen_architecture(parser: &mut Parser<'_>, levels: usize) -> Result<Identif
 
 #[tactic(auto, unfolding(vhdl_parser_expressions::specs::reader::Input::optional))]
 fn optional_architecture(parser: &mut Parser<'_>, levels: usize) -> Result<Option<Identifier>, Stop>
-    ensures { Reads option_ident_view (input.optional (input.is_kind k.LeftParen) (read.chosen levels) parser.old) result parser.new }
+    ensures { Reads option_ident_view (input.optional (input.is_kind k.LeftParen) (read.chosen levels) parser.old)
+        result parser.new }
 {
     if parser.sees(TokenKind::LeftParen) {
         Ok(Some(chosen_architecture(parser, levels)?))
@@ -82,7 +83,8 @@ fn optional_map(
     levels: usize,
     word: TokenKind,
 ) -> Result<Option<Vec<Association>>, Stop>
-    ensures { Reads (option_map associations_view) (input.optional (input.is_kind word) (read.map_of levels word) parser.old) result parser.new }
+    ensures { Reads (option_map associations_view)
+        (input.optional (input.is_kind word) (read.map_of levels word) parser.old) result parser.new }
 {
     if parser.sees(word) {
         Ok(Some(map_of(parser, levels, word)?))

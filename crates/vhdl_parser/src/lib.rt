@@ -1,4 +1,5 @@
-//! From tokens to the syntax tree of a file: context clauses, generics and ports, declarations, concurrent statements and units.
+//! From tokens to the syntax tree of a file: context clauses, generics and ports, declarations,
+//! concurrent statements and units.
 #![tactic(auto)]
 
 mod concurrent;

@@ -36,7 +36,8 @@ impl Parser<'_> {
     /// `' id`, if it comes next.
     #[tactic(auto, unfolding(crate::specs::reader::Input::optional, crate::specs::reader::Expressions::attribute))]
     fn optional_attribute(&mut self) -> Result<Option<Identifier>, Stop>
-        ensures { Reads (option_map ident_view) (input.optional (input.is_kind k.Tick) read.attribute self.old) result self.new }
+        ensures { Reads (option_map ident_view) (input.optional (input.is_kind k.Tick) read.attribute self.old) result
+            self.new }
     {
         if !self.sees(TokenKind::Tick) {
             return Ok(None);
@@ -94,7 +95,8 @@ impl Parser<'_> {
         left: Expr,
         direction: Direction,
     ) -> Result<Suffix, Stop>
-        ensures { Reads suffix_view (read.range_from (read.inside levels) (view left) direction self.old) result self.new }
+        ensures { Reads suffix_view (read.range_from (read.inside levels) (view left) direction self.old) result
+            self.new }
     {
         self.expect(direction.kind())?;
         let right = self.inside(levels)?;
@@ -121,7 +123,8 @@ impl Parser<'_> {
 
     #[cycle(expr)]
     fn arguments(&mut self, levels: usize, mut found: Vec<Expr>) -> Result<Vec<Expr>, Stop>
-        ensures { Reads exprs_view (input.many (input.is_kind k.Comma) (read.argument (read.inside levels)) (exprs_view found) self.old) result self.new }
+        ensures { Reads exprs_view (input.many (input.is_kind k.Comma) (read.argument (read.inside levels))
+            (exprs_view found) self.old) result self.new }
     {
         for _turn in 0..self.left() {
             if !self.sees(TokenKind::Comma) {
@@ -196,7 +199,8 @@ impl Parser<'_> {
     /// What follows the last operator of a chain and its operand, whatever stands before.
     #[cycle(expr)]
     fn links(&mut self, levels: usize, level: Level, last: Operator) -> Result<Vec<Link>, Stop>
-        ensures { (left : Tree) → Reads (λ ls. all_joined left (pairs_view ls)) (read.more (read.operand_of (read.inside levels) level) level last left self.old) result self.new }
+        ensures { (left : Tree) → Reads (λ ls. all_joined left (pairs_view ls))
+            (read.more (read.operand_of (read.inside levels) level) level last left self.old) result self.new }
     {
         let mut found = Vec::new(self.alloc);
         let mut last = last;
@@ -214,7 +218,8 @@ impl Parser<'_> {
     #[cycle(expr)]
     #[tactic(auto, unfolding(crate::specs::reader::Expressions::pair))]
     fn link(&mut self, levels: usize, level: Level, operator: Operator) -> Result<Link, Stop>
-        ensures { Reads pair_view (read.pair (read.operand_of (read.inside levels) level) operator self.old) result self.new }
+        ensures { Reads pair_view (read.pair (read.operand_of (read.inside levels) level) operator self.old) result
+            self.new }
     {
         let at = self.expect(operator.kind())?;
         let operand = self.operand(levels, level)?;
@@ -281,7 +286,8 @@ impl Parser<'_> {
         Ok(Expr::in_parens(self.alloc, at, inner)?)
     }
 
-    /// The expression behind a `(`, where so many levels may be opened, that parenthesis among them.
+    /// The expression behind a `(`, where so many levels may be opened, that parenthesis among
+    /// them.
     #[cycle(expr)]
     #[tactic(auto, unfolding(crate::specs::reader::Expressions::inside))]
     pub fn inside(&mut self, levels: usize) -> Result<Expr, Stop>

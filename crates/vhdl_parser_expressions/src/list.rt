@@ -9,8 +9,8 @@ use crate::stop::Stop;
 use vhdl_lexer::TokenKind;
 
 /// The items found so far, and behind them those that `item` reads while `begins` says that one
-/// begins: at most as many as tokens are ahead. Where `item` stops, so does this. It takes the memory
-/// of the list.
+/// begins: at most as many as tokens are ahead. Where `item` stops, so does this. It takes the
+/// memory of the list.
 pub fn many<T, B, I>(
     parser: &mut Parser<'_>,
     begins: B,
@@ -23,7 +23,8 @@ where
     I: Fn(&mut Parser<'_>) -> Result<T, Stop> + Drop,
     requires begins { B.IsAlwaysCallable begins }
     requires item { I.IsAlwaysCallable item }
-    ensures { Collects (FnReturnsAt B.Fn begins) (FnReturnsAtMut I.Fn item) (length parser.old) found.items parser.old result parser.new }
+    ensures { Collects (FnReturnsAt B.Fn begins) (FnReturnsAtMut I.Fn item) (length parser.old) found.items parser.old
+        result parser.new }
 {
     for _turn in 0..parser.left() {
         if !begins(parser) {
@@ -34,8 +35,8 @@ where
     Ok(found)
 }
 
-/// One item or more that `item` reads, with separators between them. Where `item` stops, so does this. It
-/// takes the memory of the list.
+/// One item or more that `item` reads, with separators between them. Where `item` stops, so does
+/// this. It takes the memory of the list.
 pub fn separated<T, I>(
     parser: &mut Parser<'_>,
     separator: TokenKind,

@@ -16,9 +16,9 @@ use vhdl_tree::{Identifier, Literal};
 
 /// A place among the tokens of a source. Contracts see it as the lexemes that are ahead.
 ///
-/// A call that reads takes the tokens that it reads, and answers what they spell, which takes memory
-/// in proportion to them. Where `levels` is given, no more levels than these are opened in what is read
-/// (docs/LANGUAGE.md).
+/// A call that reads takes the tokens that it reads, and answers what they spell, which takes
+/// memory in proportion to them. Where `levels` is given, no more levels than these are opened in
+/// what is read (docs/LANGUAGE.md).
 ///
 /// # Errors
 ///
@@ -187,7 +187,8 @@ impl<'a> Parser<'a> {
     /// An identifier, if one comes next.
     #[tactic(auto, unfolding(crate::specs::reader::Input::optional))]
     pub fn optional_identifier(&mut self) -> Result<Option<Identifier>, Stop>
-        ensures { Reads option_ident_view (read.optional (read.is_kind k.Identifier) read.identifier self.old) result self.new }
+        ensures { Reads option_ident_view (read.optional (read.is_kind k.Identifier) read.identifier self.old) result
+            self.new }
     {
         if self.sees(TokenKind::Identifier) {
             Ok(Some(self.identifier()?))

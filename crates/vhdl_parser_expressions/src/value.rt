@@ -33,8 +33,8 @@ impl Parser<'_> {
         }
     }
 
-    /// A value, which is an expression or `( others => expression )` (9.3.3), in which so many levels may
-    /// be opened.
+    /// A value, which is an expression or `( others => expression )` (9.3.3), in which so many
+    /// levels may be opened.
     #[tactic(auto, unfolding(crate::specs::reader::Expressions::value))]
     pub fn value(&mut self, levels: usize) -> Result<Value, Stop>
         ensures { Reads value_view (read.value levels self.old) result self.new }
@@ -58,7 +58,8 @@ impl Parser<'_> {
         Ok(Value::Others { at, element })
     }
 
-    /// The choices of an alternative (10.9), with bars between, in which so many levels may be opened.
+    /// The choices of an alternative (10.9), with bars between, in which so many levels may be
+    /// opened.
     pub fn choices(&mut self, levels: usize) -> Result<Vec<Choice>, Stop>
         ensures { Reads choices_view (read.choices levels self.old) result self.new }
     {

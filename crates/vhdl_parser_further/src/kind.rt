@@ -77,7 +77,8 @@ pub fn is_boundary(last: TokenKind, kind: TokenKind) -> bool
         && (is_semicolon(kind) || !is_end(last))
 }
 
-/// Whether what begins with such a token may be taken out, in front of the architecture's `begin` or behind it.
+/// Whether what begins with such a token may be taken out, in front of the architecture's `begin`
+/// or behind it.
 pub fn may_go(begun: bool, kind: TokenKind) -> bool
     ensures { result ≡ spec.may_go begun kind }
 {

@@ -25,8 +25,8 @@ pub enum Next {
     NoMemory,
 }
 
-/// Takes out what is at fault at byte `at`, and reads what is left of the tokens of the source. It takes the memory of one more list of
-/// tokens, and that of their tree.
+/// Takes out what is at fault at byte `at`, and reads what is left of the tokens of the source. It
+/// takes the memory of one more list of tokens, and that of their tree.
 pub fn next_fault(alloc: Global, source: &[u8], tokens: &[Token], at: usize) -> Next
     requires { AreWithin source.now tokens.now }
     ensures { Finds source.now (spec.left tokens.now at) at result }

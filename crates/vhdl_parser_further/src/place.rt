@@ -7,7 +7,8 @@ use crate::kind::{is_begin, is_boundary, opens};
 use crate::unit::{begins_architecture, begins_entity};
 use vhdl_lexer::{Token, TokenKind, depth_behind, is_end};
 
-/// What stands before a token: of which unit it is, and where the statements begin in which it stands.
+/// What stands before a token: of which unit it is, and where the statements begin in which it
+/// stands.
 #[derive(Clone, Copy)]
 pub struct Place {
     /// How many tokens stand before.
@@ -22,7 +23,8 @@ pub struct Place {
     pub opened: usize,
     /// The kind of the token before.
     pub last: TokenKind,
-    /// Behind how many tokens the outermost statement or declaration begins in which the token stands.
+    /// Behind how many tokens the outermost statement or declaration begins in which the token
+    /// stands.
     pub outermost: usize,
     /// Behind how many tokens the innermost one begins.
     pub innermost: usize,
@@ -143,7 +145,8 @@ fn outer_behind(place: Place, kind: TokenKind) -> bool
     open_behind(place.opened, place.last, kind) == 0 && begins_behind(place, kind)
 }
 
-/// How many statements and declarations with an `end` are open behind a token, where so many are before it.
+/// How many statements and declarations with an `end` are open behind a token, where so many are
+/// before it.
 pub fn open_behind(opened: usize, last: TokenKind, kind: TokenKind) -> usize
     requires { opened < 2 ^ 63 }
     ensures { result ≡ spec.open_behind opened last kind }

@@ -11,7 +11,8 @@ use crate::unit::is_balanced;
 use crate::without::from;
 use vhdl_lexer::{Token, TokenKind, is_semicolon};
 
-/// Behind how many tokens the statement or declaration begins that is taken out, if one is; `ahead` is left of the unit.
+/// Behind how many tokens the statement or declaration begins that is taken out, if one is; `ahead`
+/// is left of the unit.
 #[tactic(auto, unfolding(crate::specs::Left::taken))]
 pub fn taken(place: Place, tokens: &[Token], ahead: &[Token]) -> Option<usize>
     requires { place.opened < 2 ^ 63 }
@@ -46,7 +47,8 @@ fn may_begin(begun: bool, tokens: &[Token]) -> bool
     }
 }
 
-/// What stands behind the statement or declaration with which these tokens begin, and that has to be followed so.
+/// What stands behind the statement or declaration with which these tokens begin, and that has to
+/// be followed so.
 pub fn behind_statement(sequel: Sequel, tokens: &[Token]) -> &[Token]
     ensures { result.now ≡ spec.behind_statement sequel 0 0 TokenKind.Semicolon tokens.now }
 {
@@ -83,7 +85,8 @@ fn parens_behind(parens: usize, kind: TokenKind) -> usize
     }
 }
 
-/// Whether a statement or declaration ends with a token, where so much with an `end` and so many parentheses are open, and this follows.
+/// Whether a statement or declaration ends with a token, where so much with an `end` and so many
+/// parentheses are open, and this follows.
 fn ends_behind(
     sequel: Sequel,
     opened: usize,

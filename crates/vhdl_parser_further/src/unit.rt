@@ -80,8 +80,8 @@ pub fn before_unit(tokens: &[Token]) -> usize
     before
 }
 
-/// Whether the rest of a unit, in which so many statements and declarations are open, has an `end` for each of them, for each that begins
-/// in it, and for the unit, and no other.
+/// Whether the rest of a unit, in which so many statements and declarations are open, has an `end`
+/// for each of them, for each that begins in it, and for the unit, and no other.
 #[tactic(auto, unfolding(crate::specs::Units::is_balanced))]
 pub fn is_balanced(opened: usize, last: TokenKind, tokens: &[Token]) -> bool
     requires { opened < 2 ^ 63 }
@@ -90,7 +90,8 @@ pub fn is_balanced(opened: usize, last: TokenKind, tokens: &[Token]) -> bool
     opened + 1 + beginnings(last, tokens) == ends(tokens)
 }
 
-/// How many statements and declarations with an `end` begin in these tokens, behind one of that kind.
+/// How many statements and declarations with an `end` begin in these tokens, behind one of that
+/// kind.
 fn beginnings(behind: TokenKind, tokens: &[Token]) -> usize
     ensures value { result ≡ spec.beginnings behind tokens.now }
     ensures within { result ≤ length tokens.now }

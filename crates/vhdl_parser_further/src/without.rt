@@ -24,7 +24,8 @@ pub fn left(alloc: Global, tokens: &[Token], at: usize) -> Result<Vec<Token>, Al
     }
 }
 
-/// The tokens without the statement or declaration that begins behind so many of them, and that has to be followed so.
+/// The tokens without the statement or declaration that begins behind so many of them, and that has
+/// to be followed so.
 fn without(
     alloc: Global,
     sequel: Sequel,

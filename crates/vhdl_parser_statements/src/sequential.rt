@@ -178,7 +178,9 @@ fn condition(parser: &mut Parser<'_>, levels: usize) -> Result<Conditional, Stop
 #[cycle(statement)]
 #[tactic(auto, unfolding(vhdl_parser_expressions::specs::reader::Input::optional, crate::specs::reader::Sequential::else_part))]
 fn otherwise(parser: &mut Parser<'_>, levels: usize) -> Result<Option<Vec<Sequential>>, Stop>
-    ensures { Reads option_sequentials_view (input.optional (input.is_kind k.Else) (read.else_part levels (read.statements levels)) parser.old) result parser.new }
+    ensures { Reads option_sequentials_view
+        (input.optional (input.is_kind k.Else) (read.else_part levels (read.statements levels)) parser.old) result
+        parser.new }
 {
     if !parser.sees(TokenKind::Else) {
         return Ok(None);
@@ -230,7 +232,8 @@ fn alternatives(parser: &mut Parser<'_>, levels: usize) -> Result<Vec<Alternativ
 #[cycle(statement)]
 #[tactic(auto, unfolding(crate::specs::reader::Sequential::alternative_part))]
 fn alternative(parser: &mut Parser<'_>, levels: usize) -> Result<Alternative, Stop>
-    ensures { Reads alternative_view (read.alternative_part levels (read.statements levels) parser.old) result parser.new }
+    ensures { Reads alternative_view (read.alternative_part levels (read.statements levels) parser.old) result
+        parser.new }
 {
     let choices = parser.choices(levels)?;
     let choices = followed(parser, choices, TokenKind::Arrow)?;

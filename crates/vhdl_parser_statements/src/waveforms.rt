@@ -1,4 +1,5 @@
-//! What concurrent assignments assign: conditional and selected waveforms (IEEE 1076-2008, 10.5, 11.6).
+//! What concurrent assignments assign: conditional and selected waveforms (IEEE 1076-2008, 10.5,
+//! 11.6).
 
 ghost use Rattle.std.specs.Prelude.{◌≡◌};
 ghost use Rattle.vhdl_lexer.specs.declared.token.TokenKind.TheVariants as k;
@@ -23,7 +24,8 @@ fn waveform_condition(parser: &mut Parser<'_>, levels: usize) -> Result<Expr, St
 
 #[tactic(auto, unfolding(vhdl_parser_expressions::specs::reader::Input::optional))]
 fn optional_condition(parser: &mut Parser<'_>, levels: usize) -> Result<Option<Expr>, Stop>
-    ensures { Reads option_expr_view (input.optional (input.is_kind k.When) (read.condition levels) parser.old) result parser.new }
+    ensures { Reads option_expr_view (input.optional (input.is_kind k.When) (read.condition levels) parser.old) result
+        parser.new }
 {
     if parser.sees(TokenKind::When) {
         Ok(Some(waveform_condition(parser, levels)?))

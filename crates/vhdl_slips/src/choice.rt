@@ -23,8 +23,8 @@ pub struct Statement<'a> {
     left: &'a [Token],
 }
 
-/// Writes a line with a choice that the case or selected assignment lacks with which these words begin, behind those; nothing where the text
-/// doesn't tell one.
+/// Writes a line with a choice that the case or selected assignment lacks with which these words
+/// begin, behind those; nothing where the text doesn't tell one.
 pub fn push_missing<S: Sink>(before: Lexed<'_>, statement: Lexed<'_>, sink: &mut S)
     ensures { Goes (S.state sink.old) (S.state sink.new)
         (spec.missing_line (read_of before.entry) (read_of statement.entry)) }

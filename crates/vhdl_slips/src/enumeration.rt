@@ -31,8 +31,8 @@ fn std_ulogic() -> Lexed<'static>
     }
 }
 
-/// The literals of the last enumeration that has this one, of the last architecture among these words; those of type
-/// std_ulogic where none has it.
+/// The literals of the last enumeration that has this one, of the last architecture among these
+/// words; those of type std_ulogic where none has it.
 pub fn type_of<'a>(words: Lexed<'a>, literal: &[u8]) -> Lexed<'a>
     ensures { read_of result ≡ spec.type_of (read_of words.entry) literal.now }
 {
@@ -45,8 +45,8 @@ pub fn type_of<'a>(words: Lexed<'a>, literal: &[u8]) -> Lexed<'a>
     found
 }
 
-/// The literals of the enumeration that a token begins, these tokens behind it, where it has this literal; an
-/// architecture begins without one; else those found before.
+/// The literals of the enumeration that a token begins, these tokens behind it, where it has this
+/// literal; an architecture begins without one; else those found before.
 fn type_at<'a>(
     found: Lexed<'a>,
     text: &'a [u8],
@@ -69,7 +69,8 @@ fn type_at<'a>(
     }
 }
 
-/// What stands in the parentheses of `NAME is ( LITERAL { , LITERAL } )`, with which these tokens begin.
+/// What stands in the parentheses of `NAME is ( LITERAL { , LITERAL } )`, with which these tokens
+/// begin.
 fn literals_of(tokens: &[Token]) -> &[Token]
     ensures { result.now ≡ spec.literals_of tokens.now }
 {

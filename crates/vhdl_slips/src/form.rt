@@ -30,7 +30,8 @@ pub enum Behind {
     Concurrent,
 }
 
-/// A form begins at this word, in letters of either case, behind that; the empty word stands for any.
+/// A form begins at this word, in letters of either case, behind that; the empty word stands for
+/// any.
 pub type FormWord = (&'static [u8], Behind, Said);
 
 pub const WHOLE_NUMBERS: Said = (

@@ -8,7 +8,8 @@ use crate::lexed::{is_same_kind, is_same_word, text_of};
 use crate::part::{begins, behind_last, from, has, past, up_to};
 use vhdl_lexer::{Token, TokenKind};
 
-/// The instance that isn't ended before a byte, these tokens standing before it; nothing where no map is open there.
+/// The instance that isn't ended before a byte, these tokens standing before it; nothing where no
+/// map is open there.
 pub fn open_instance(before: &[Token]) -> &[Token]
     ensures { result.now ≡ spec.open_instance before.now }
 {

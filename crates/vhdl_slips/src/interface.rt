@@ -7,7 +7,8 @@ use crate::lexed::{is_same_kind, is_same_word, text_of};
 use crate::part::{from, up_to};
 use vhdl_lexer::{Token, TokenKind};
 
-/// What stands behind the word entity of the first entity of this name, up to its first `end`; nothing where there is none.
+/// What stands behind the word entity of the first entity of this name, up to its first `end`;
+/// nothing where there is none.
 pub fn interface_of<'a>(text: &[u8], name: &[u8], tokens: &'a [Token]) -> &'a [Token]
     ensures { result.now ≡ spec.interface_of text.now name.now tokens.now }
 {

@@ -8,8 +8,8 @@ ghost use Rattle.vhdl_slips.specs.Words as spec;
 ghost use Rattle.vhdl_tree.specs.Lexeme.{same_kind};
 
 use byte_streams::{Sink, push_text};
-use vhdl_source_files::halves;
 use vhdl_lexer::{Token, TokenKind};
+use vhdl_source_files::halves;
 
 /// A text and tokens of it.
 #[derive(Clone, Copy)]

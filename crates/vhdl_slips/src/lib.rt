@@ -1,11 +1,13 @@
-//! The tokens of a text as words: what is said of one that can't stand where it stands, and of what is left out; and what
-//! stands in them: the entity of a name with its generics and ports, instances and what they leave open, lists of names,
-//! and the choices of a statement, with the one that it lacks.
+//! The tokens of a text as words: what is said of one that can't stand where it stands, and of what
+//! is left out; and what stands in them: the entity of a name with its generics and ports,
+//! instances and what they leave open, lists of names, and the choices of a statement, with the one
+//! that it lacks.
 //!
-//! `specs/Words.antt` says how tokens are looked at as words, and `specs/Parts.antt` has the words for parts of a list of
-//! them. `specs/Forms.antt` says which form is told, by what stands before the word: the texts of forms of VHDL that
-//! aren't read are in `form`, those of slips of the pen in `slip`, and the words at which each is told in `table`.
-//! `specs/Interfaces.antt`, `specs/Instances.antt`, `specs/Listings.antt` and `specs/Choices.antt` say what is found.
+//! `specs/Words.antt` says how tokens are looked at as words, and `specs/Parts.antt` has the words
+//! for parts of a list of them. `specs/Forms.antt` says which form is told, by what stands before
+//! the word: the texts of forms of VHDL that aren't read are in `form`, those of slips of the pen
+//! in `slip`, and the words at which each is told in `table`. `specs/Interfaces.antt`,
+//! `specs/Instances.antt`, `specs/Listings.antt` and `specs/Choices.antt` say what is found.
 #![tactic(auto)]
 
 mod choice;

@@ -36,7 +36,8 @@ pub fn push_names<S: Sink>(listing: Listing, words: Lexed<'_>, sink: &mut S)
     push_text(sink, closing(listing, is_first));
 }
 
-/// Writes the name that is listed where these tokens stand, if there is one, and answers whether there is still none.
+/// Writes the name that is listed where these tokens stand, if there is one, and answers whether
+/// there is still none.
 fn push_at<S: Sink>(
     listing: Listing,
     text: &[u8],

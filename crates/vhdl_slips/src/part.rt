@@ -97,7 +97,8 @@ fn later<'a>(kind: TokenKind, found: &'a [Token], token: Token, behind: &'a [Tok
     }
 }
 
-/// What stands in parentheses, with which these tokens begin, where no other opens in them; else nothing.
+/// What stands in parentheses, with which these tokens begin, where no other opens in them; else
+/// nothing.
 pub fn in_parentheses(tokens: &[Token]) -> &[Token]
     ensures { result.now ≡ spec.in_parentheses tokens.now }
 {

@@ -79,8 +79,8 @@ pub static SLIPS: [FormWord; 60] = [
     (b")", Behind::Kind(TokenKind::Semicolon), LIST_END),
 ];
 
-/// The words at which a form begins that the grammar hasn't, where none of these slips is told; of two lines that
-/// fit the first counts.
+/// The words at which a form begins that the grammar hasn't, where none of these slips is told; of
+/// two lines that fit the first counts.
 pub static UNREAD: [FormWord; 71] = [
     (b"range", Behind::Kind(TokenKind::Tick), RANGE_ATTRIBUTE),
     (b"range", Behind::Anything, NUMBER_RANGE),

@@ -84,7 +84,8 @@ fn holds(behind: Behind, context: Context) -> bool
     }
 }
 
-/// Whether a name stands before the token with which a statement begins, or a type in a declaration.
+/// Whether a name stands before the token with which a statement begins, or a type in a
+/// declaration.
 fn is_target(context: Context) -> bool
     ensures { result ≡ spec.is_target context }
 {
@@ -159,7 +160,8 @@ fn context_behind(context: Context, kind: TokenKind) -> Context
     }
 }
 
-/// Whether the statements of an architecture have begun behind this token: with its begin, up to the next unit.
+/// Whether the statements of an architecture have begun behind this token: with its begin, up to
+/// the next unit.
 fn has_begun_behind(context: Context, kind: TokenKind) -> bool
     ensures { result ≡ spec.has_begun_behind context kind }
 {
@@ -177,7 +179,8 @@ fn in_process_behind(context: Context, kind: TokenKind) -> bool
     }
 }
 
-/// Whether an entity or architecture begins with this token; an instance names its entity behind a colon.
+/// Whether an entity or architecture begins with this token; an instance names its entity behind a
+/// colon.
 fn begins_unit(context: Context, kind: TokenKind) -> bool
     ensures { result ≡ spec.begins_unit context kind }
 {

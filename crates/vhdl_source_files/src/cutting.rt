@@ -16,7 +16,8 @@ pub struct CutLine<'a> {
     pub more: &'static [u8],
 }
 
-/// A line that has these halves, as it is shown: whole, or where it has more than 200 bytes at most 100 of each half.
+/// A line that has these halves, as it is shown: whole, or where it has more than 200 bytes at most
+/// 100 of each half.
 pub fn cut_line<'a>(before: &'a [u8], after: &'a [u8]) -> CutLine<'a>
     ensures before { spec.before_text result ≡ spec.shown_before before.now after.now }
     ensures after { spec.after_text result ≡ spec.shown_after before.now after.now }

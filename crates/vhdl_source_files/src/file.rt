@@ -30,7 +30,8 @@ impl<'a> FilePlace<'a> {
     }
 }
 
-/// What stands before a byte of a text, and what stands from it on; the whole before a byte past its end.
+/// What stands before a byte of a text, and what stands from it on; the whole before a byte past
+/// its end.
 pub fn halves(text: &[u8], at: usize) -> (&[u8], &[u8])
     ensures before { result.0.now ≡ take at text.now }
     ensures after { result.1.now ≡ drop at text.now }

@@ -1,7 +1,9 @@
-//! A source of several files: their texts joined, and in which of them a byte stands; and long lines, cut round a byte.
+//! A source of several files: their texts joined, and in which of them a byte stands; and long
+//! lines, cut round a byte.
 //!
-//! `specs/Files.antt` says what the joined text is, and where a byte of it stands; `specs/Laws.antt` that a byte that is told by its own
-//! file is the byte of the source; `specs/Cutting.antt` what is shown of a line.
+//! `specs/Files.antt` says what the joined text is, and where a byte of it stands;
+//! `specs/Laws.antt` that a byte that is told by its own file is the byte of the source;
+//! `specs/Cutting.antt` what is shown of a line.
 #![tactic(auto)]
 
 mod cutting;

@@ -6,8 +6,8 @@ ghost use Rattle.vhdl_source_files.specs.Files.{file_view, spot_in, spot_view};
 
 use crate::file::{FilePlace, SourceFile};
 
-/// The file and its byte at which a byte of the joined text stands, or the end of that text. The line feed between two files is told at the
-/// end of the first.
+/// The file and its byte at which a byte of the joined text stands, or the end of that text. The
+/// line feed between two files is told at the end of the first.
 pub fn place_in<'a>(files: &[SourceFile<'a>], at: usize) -> FilePlace<'a>
     ensures { spot_view result ≡ spot_in (map file_view files.now) at }
 {

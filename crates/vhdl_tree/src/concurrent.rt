@@ -139,7 +139,8 @@ impl Concurrent {
         end_label: Option<Identifier>,
     ) -> Concurrent
         ensures { concurrent_view result
-            ≡ generated (ident_view label) at (scheme_view scheme) begin_word (concurrents_of (concurrents_view statements)) (option_ident_view end_label) }
+            ≡ generated (ident_view label) at (scheme_view scheme) begin_word
+            (concurrents_of (concurrents_view statements)) (option_ident_view end_label) }
     {
         Concurrent::Generate(Generate {
             label,

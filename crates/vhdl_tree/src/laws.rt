@@ -13,14 +13,14 @@ ghost use Rattle.vhdl_tree.specs.grammar.Expressions.{IsExpr};
 ghost use Rattle.vhdl_tree.specs.grammar.Units.{IsFile, spell_file};
 
 /// A well-formed expression is no higher than eight for each of its parentheses that stand one in
-/// another, and eight: so a walk over it needs a stack in proportion to these alone, however long its
-/// chains of operators are.
+/// another, and eight: so a walk over it needs a stack in proportion to these alone, however long
+/// its chains of operators are.
 pub fn height_is_bounded()
     ensures { (e : code.Expr) → IsExpr (view e) → height e ≤ 8 * (nesting (view e) + 1) }
 {}
 
-/// The tree of a file is no higher than eight for each level that is open at once in the tokens that it
-/// spells, and twelve, where it is well formed.
+/// The tree of a file is no higher than eight for each level that is open at once in the tokens
+/// that it spells, and twelve, where it is well formed.
 pub fn file_height_is_bounded()
     ensures { (f : file.File) → (n : ℕ) → (ts : List Lexeme) → IsFile (file_view f)
         → Spells (spell_file (file_view f)) ts [] → IsShallow n ts → file_height f ≤ 8 * n + 12 }

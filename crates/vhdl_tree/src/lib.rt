@@ -1,4 +1,5 @@
-//! The syntax tree of a file. `specs/grammar` says which tokens a tree spells, and which trees are well formed.
+//! The syntax tree of a file. `specs/grammar` says which tokens a tree spells, and which trees are
+//! well formed.
 #![tactic(auto)]
 
 mod concurrent;

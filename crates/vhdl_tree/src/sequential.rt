@@ -190,7 +190,8 @@ impl Statement {
         end_label: Option<Identifier>,
     ) -> Statement
         ensures { statement_view result
-            ≡ if_of at (conditionals_of (conditionals_view branches)) (otherwise_of (option_sequentials_view otherwise)) (option_ident_view end_label) }
+            ≡ if_of at (conditionals_of (conditionals_view branches)) (otherwise_of (option_sequentials_view otherwise))
+            (option_ident_view end_label) }
     {
         Statement::If(If {
             at,
@@ -208,7 +209,8 @@ impl Statement {
         end_label: Option<Identifier>,
     ) -> Statement
         ensures { statement_view result
-            ≡ case_of at (view selector) (alternatives_of (alternatives_view alternatives)) (option_ident_view end_label) }
+            ≡ case_of at (view selector) (alternatives_of (alternatives_view alternatives))
+            (option_ident_view end_label) }
     {
         Statement::Case(Case {
             at,
@@ -227,7 +229,8 @@ impl Statement {
         end_label: Option<Identifier>,
     ) -> Statement
         ensures { statement_view result
-            ≡ for_of at (ident_view parameter) (range_view range) (statements_of (sequentials_view statements)) (option_ident_view end_label) }
+            ≡ for_of at (ident_view parameter) (range_view range) (statements_of (sequentials_view statements))
+            (option_ident_view end_label) }
     {
         Statement::For(For {
             at,

@@ -44,7 +44,8 @@ impl Planes {
     /// The codes, and up to eight more to their right.
     fn and_group(self, group: &[u8]) -> Planes
         requires { length group.now ≤ 8 }
-        ensures { (codes : List ℕ) → length codes + length group.now ≤ 64 → Hold self codes → Hold result (codes ++ group.now) }
+        ensures { (codes : List ℕ) → length codes + length group.now ≤ 64 → Hold self codes
+            → Hold result (codes ++ group.now) }
     {
         let (word, len) = (packed(group), group.len());
         Planes {

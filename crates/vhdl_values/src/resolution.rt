@@ -5,8 +5,8 @@ ghost use Rattle.vhdl_values.specs.Resolution.{resolution_table, resolved};
 
 use crate::scalar::Nine;
 
-/// The value of a net that these values drive, one for each driver, at least one (std_logic_1164, function
-/// `resolved`). A single driver gives its value unchanged, `-` too. Takes no memory.
+/// The value of a net that these values drive, one for each driver, at least one (std_logic_1164,
+/// function `resolved`). A single driver gives its value unchanged, `-` too. Takes no memory.
 pub fn resolve(values: &[Nine]) -> Nine
     requires { 0 < length values.now }
     ensures { result ≡ resolved values.now }

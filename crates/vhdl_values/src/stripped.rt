@@ -8,8 +8,8 @@ ghost use Rattle.vhdl_values.specs.declared.scalar.Nine.{Nine};
 
 use crate::kinds::Logic;
 
-/// Which values of a vector the operators take for 1, for 0 and for U: bit k of each word stands for the value k
-/// places from the right. What none of them marks is taken for X.
+/// Which values of a vector the operators take for 1, for 0 and for U: bit k of each word stands
+/// for the value k places from the right. What none of them marks is taken for X.
 #[derive(Clone, Copy)]
 pub(crate) struct Stripped {
     pub(crate) ones: u64,

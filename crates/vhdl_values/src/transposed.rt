@@ -34,7 +34,8 @@ pub(crate) fn packed(codes: &[u8]) -> u64
 /// One plane of the codes that a word has as its bytes.
 pub(crate) fn gathered(word: u64, plane: usize) -> u64
     requires { plane < 8 }
-    ensures { (codes : List ℕ) → length codes ≤ 8 → All (λ code. code < 256) codes → word ≡ packed codes → result ≡ marks (code_has plane) codes }
+    ensures { (codes : List ℕ) → length codes ≤ 8 → All (λ code. code < 256) codes → word ≡ packed codes
+        → result ≡ marks (code_has plane) codes }
 {
     let bits = (word & (LOWEST << plane)) >> plane;
     bits.wrapping_mul(GATHER) >> 56
@@ -43,7 +44,8 @@ pub(crate) fn gathered(word: u64, plane: usize) -> u64
 /// The bits of a plane as the lowest bits of eight bytes, the leftmost bit in the lowest byte.
 pub(crate) fn spread(plane: u8) -> u64
     ensures room { result < 2 ^ 58 }
-    ensures bits { (marked : List Bool) → length marked ≡ 8 → plane ≡ marks (λ mark. mark) marked → result ≡ packed_low (map bit marked) }
+    ensures bits { (marked : List Bool) → length marked ≡ 8 → plane ≡ marks (λ mark. mark) marked
+        → result ≡ packed_low (map bit marked) }
 {
     SPREADS[usize::from(plane)]
 }

@@ -18,14 +18,17 @@ use crate::stripped::Stripped;
 use crate::words::{beside, bit, mask, part, with_bit};
 use std::marker::Model;
 
-/// A vector of 1 to 64 values, leftmost first: a `std_logic_vector` or an `unsigned`, whatever its index range.
+/// A vector of 1 to 64 values, leftmost first: a `std_logic_vector` or an `unsigned`, whatever its
+/// index range.
 ///
-/// It is copied, kept and passed without memory being taken, and none of its calls takes any. Contracts see it as
-/// the list of its values. A caller in another crate learns by `len` that the length is from 1 to 64.
+/// It is copied, kept and passed without memory being taken, and none of its calls takes any.
+/// Contracts see it as the list of its values. A caller in another crate learns by `len` that the
+/// length is from 1 to 64.
 ///
-/// A natural number as the other operand of `+`, `-` or `*` is `Vec9::of_nat(number, vector.len())`, a vector of
-/// the same length that stands for the number modulo 2 to the power of that length (numeric_std, A.5, A.11, A.17);
-/// for a relation there is `cmp_nat`, and a number on the left of it is the relation turned round.
+/// A natural number as the other operand of `+`, `-` or `*` is `Vec9::of_nat(number,
+/// vector.len())`, a vector of the same length that stands for the number modulo 2 to the power of
+/// that length (numeric_std, A.5, A.11, A.17); for a relation there is `cmp_nat`, and a number on
+/// the left of it is the relation turned round.
 #[derive(Clone, Copy, PartialEq, Eq)]
 pub struct Vec9 {
     first: u64,
@@ -46,7 +49,14 @@ impl Model for Vec9 {
 
     ghost invariant = { λ v. IsPlanes v.len v.first v.second v.third v.fourth };
 
-    ghost inverse = { λ vs. record { first = plane_of 0 vs; second = plane_of 1 vs; third = plane_of 2 vs; fourth = plane_of 3 vs; len = length vs } };
+    ghost inverse = { λ vs. record {
+      first = plane_of 0 vs;
+      second = plane_of 1 vs;
+      third = plane_of 2 vs;
+      fourth =
+          plane_of 3 vs;
+      len = length vs;
+    } };
 
     ghost inverse_ok = { λ v h. rw (
       plane_of-first v.len v.first v.second v.third v.fourth h,
@@ -124,8 +134,8 @@ impl Vec9 {
         }
     }
 
-    /// The part of this length, at least 1, that begins at a place, 0 being the leftmost, and ends within the vector
-    /// (IEEE 1076-2008, 8.5).
+    /// The part of this length, at least 1, that begins at a place, 0 being the leftmost, and ends
+    /// within the vector (IEEE 1076-2008, 8.5).
     pub fn slice(&self, at: usize, len: usize) -> Vec9
         requires some { 1 ≤ len }
         requires within { at + len ≤ length self.now }
@@ -142,7 +152,8 @@ impl Vec9 {
         }
     }
 
-    /// `&`: this vector, and the other to its right, at most 64 values together (IEEE 1076-2008, 9.2.5).
+    /// `&`: this vector, and the other to its right, at most 64 values together (IEEE 1076-2008,
+    /// 9.2.5).
     pub fn concat(&self, other: &Vec9) -> Vec9
         requires { length self.now + length other.now ≤ 64 }
         ensures list { result ≡ self.now ++ other.now }
@@ -166,8 +177,8 @@ impl Vec9 {
         Vec9::of_stripped(self.stripped().not(), self.len())
     }
 
-    /// The logical operator of two vectors of one length, value by value from the left (std_logic_1164;
-    /// numeric_std, L.2 to L.7).
+    /// The logical operator of two vectors of one length, value by value from the left
+    /// (std_logic_1164; numeric_std, L.2 to L.7).
     pub fn logic(&self, kind: Logic, other: &Vec9) -> Vec9
         requires { length self.now ≡ length other.now }
         ensures list { result ≡ logic_of_all kind self.now other.now }
@@ -177,8 +188,8 @@ impl Vec9 {
         Vec9::of_stripped(stripped, self.len())
     }
 
-    /// `=` of two `std_logic_vector`s (IEEE 1076-2008, 9.2.3): as long as each other, and equal value by value. An X
-    /// is equal to an X here; the relations of unsigned vectors are `cmp`'s.
+    /// `=` of two `std_logic_vector`s (IEEE 1076-2008, 9.2.3): as long as each other, and equal
+    /// value by value. An X is equal to an X here; the relations of unsigned vectors are `cmp`'s.
     pub fn same(&self, other: &Vec9) -> bool
         ensures meaning { IsTrue result ↔ (self.now ≡ other.now) }
         ensures test { result ≡ are_same self.now other.now }
@@ -186,8 +197,8 @@ impl Vec9 {
         self == other
     }
 
-    /// The last 1 to 64 binary digits of a number, as 0s and 1s: it stands for the number modulo 2 to the power of
-    /// the length (numeric_std, `TO_UNSIGNED`, D.3).
+    /// The last 1 to 64 binary digits of a number, as 0s and 1s: it stands for the number modulo 2
+    /// to the power of the length (numeric_std, `TO_UNSIGNED`, D.3).
     pub fn of_nat(number: u64, len: usize) -> Vec9
         requires some { 1 ≤ len }
         requires room { len ≤ 64 }
@@ -206,8 +217,8 @@ impl Vec9 {
         }
     }
 
-    /// `+` (numeric_std, A.3): as long as the longer one, modulo 2 to the power of that length; X everywhere where
-    /// a value of either is none of 0, L, 1 and H.
+    /// `+` (numeric_std, A.3): as long as the longer one, modulo 2 to the power of that length; X
+    /// everywhere where a value of either is none of 0, L, 1 and H.
     pub fn add(&self, other: &Vec9) -> Vec9
         ensures list { result ≡ sum_of self.now other.now }
         ensures len { length result ≡ max (length self.now) (length other.now) }
@@ -219,8 +230,8 @@ impl Vec9 {
         }
     }
 
-    /// `-` (numeric_std, A.9): as long as the longer one, modulo 2 to the power of that length; X everywhere where
-    /// a value of either is none of 0, L, 1 and H.
+    /// `-` (numeric_std, A.9): as long as the longer one, modulo 2 to the power of that length; X
+    /// everywhere where a value of either is none of 0, L, 1 and H.
     pub fn sub(&self, other: &Vec9) -> Vec9
         ensures list { result ≡ difference_of self.now other.now }
         ensures len { length result ≡ max (length self.now) (length other.now) }
@@ -232,8 +243,8 @@ impl Vec9 {
         }
     }
 
-    /// `*` (numeric_std, A.15): as long as both together, at most 64; X everywhere where a value of either is none
-    /// of 0, L, 1 and H.
+    /// `*` (numeric_std, A.15): as long as both together, at most 64; X everywhere where a value of
+    /// either is none of 0, L, 1 and H.
     pub fn mul(&self, other: &Vec9) -> Vec9
         requires { length self.now + length other.now ≤ 64 }
         ensures list { result ≡ product_of self.now other.now }
@@ -246,8 +257,8 @@ impl Vec9 {
         }
     }
 
-    /// A relation of the two numbers, whatever the lengths (numeric_std, C.1 to C.36). Where a value of either is
-    /// none of 0, L, 1 and H, `Ne` holds and no other does.
+    /// A relation of the two numbers, whatever the lengths (numeric_std, C.1 to C.36). Where a
+    /// value of either is none of 0, L, 1 and H, `Ne` holds and no other does.
     pub fn cmp(&self, kind: Cmp, other: &Vec9) -> bool
         ensures { result ≡ compares kind self.now other.now }
     {
@@ -267,8 +278,8 @@ impl Vec9 {
         }
     }
 
-    /// The vector at another length, 1 to 64 (numeric_std, `RESIZE`, R.2): with 0s to its left, or its rightmost
-    /// values alone.
+    /// The vector at another length, 1 to 64 (numeric_std, `RESIZE`, R.2): with 0s to its left, or
+    /// its rightmost values alone.
     pub fn resize(&self, len: usize) -> Vec9
         requires some { 1 ≤ len }
         requires room { len ≤ 64 }
@@ -282,8 +293,8 @@ impl Vec9 {
         }
     }
 
-    /// The values moved that many places to the left, with 0s to their right (numeric_std, `SHIFT_LEFT`, S.1): all
-    /// 0 from the length on.
+    /// The values moved that many places to the left, with 0s to their right (numeric_std,
+    /// `SHIFT_LEFT`, S.1): all 0 from the length on.
     pub fn shl(&self, count: usize) -> Vec9
         ensures list { result ≡ shifted_left count self.now }
         ensures len { length result ≡ length self.now }
@@ -299,8 +310,8 @@ impl Vec9 {
         }
     }
 
-    /// The values moved that many places to the right, with 0s to their left (numeric_std, `SHIFT_RIGHT`, S.2): all
-    /// 0 from the length on.
+    /// The values moved that many places to the right, with 0s to their left (numeric_std,
+    /// `SHIFT_RIGHT`, S.2): all 0 from the length on.
     pub fn shr(&self, count: usize) -> Vec9
         ensures list { result ≡ shifted_right count self.now }
         ensures len { length result ≡ length self.now }

@@ -51,8 +51,8 @@ impl Vec9 {
         }
     }
 
-    /// The four words that keep the vector: bit k of word j is bit j of the code of the value that stands k places
-    /// from the right, and a bit at the length or above is 0.
+    /// The four words that keep the vector: bit k of word j is bit j of the code of the value that
+    /// stands k places from the right, and a bit at the length or above is 0.
     pub fn planes(&self) -> [u64; 4]
         ensures { result ≡ planes_of self.now }
     {
@@ -78,7 +78,8 @@ impl Vec9 {
 
 /// The codes of up to eight values, in the last bytes, from a byte of each plane.
 fn codes_of_bytes(first: u8, second: u8, third: u8, fourth: u8) -> [u8; 8]
-    ensures { (values : List Value) → length values ≤ 8 → ArePlanes values first second third fourth → drop (8 - length values) result ≡ map code_of values }
+    ensures { (values : List Value) → length values ≤ 8 → ArePlanes values first second third fourth
+        → drop (8 - length values) result ≡ map code_of values }
 {
     let low = spread(first) + 2 * spread(second);
     let high = spread(third) + 2 * spread(fourth);
