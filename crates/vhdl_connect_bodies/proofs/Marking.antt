@@ -24,9 +24,8 @@ use Rattle.vhdl_connect_bodies.specs.declared.uses.Use.{Use}
 use Rattle.vhdl_connect_bodies.specs.Uses.{sources_of, one_more, use_of, AreUses, listed_by}
 
 more_sources : (n : ℕ) → one_more (sources_of n) ≡ sources_of (n + 1)
-more_sources zero = refl
-more_sources (suc zero) = refl
 more_sources (suc (suc n)) = ap sources_of (let e : suc (suc (suc n)) ≡ suc (suc n) + 1 = omega arith in e)
+more_sources _ = refl
 
 count-more : (ds : List ℕ) (d e : ℕ) → count_by (λ x. x == e) (ds ++ d ∷ []) ≡ count_by (λ x. x == e) ds + cond (d == e) 1 0
 count-more ds d e = sum_by-append (λ x. cond (x == e) 1 0) ds (d ∷ []) ∙ ap (λ n. count_by (λ x. x == e) ds + n) (let z : 0 + cond (d == e) 1 0 ≡ cond (d == e) 1 0 = omega arith in z)

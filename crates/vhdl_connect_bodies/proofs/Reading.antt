@@ -13,33 +13,25 @@ module _ (nets drives : List ℕ) where
   both xs ys as' bs h k = ap (λ zs. zs ++ ys) h ∙ ap (λ zs. map net as' ++ zs) k ∙ sym (map-append net as' bs)
 
   expr-net : (e : bodies.Expr) → expr_reads (connected_expr nets drives e) ≡ map net (expr_reads e)
-  expr-net (bodies.signal es) = refl
-  expr-net (bodies.variable es) = refl
-  expr-net (bodies.constant values) = refl
   expr-net (bodies.Expr.inverse e) = expr-net e
   expr-net (bodies.filled len e) = expr-net e
   expr-net (bodies.Expr.binary op d e) = both _ _ (expr_reads d) (expr_reads e) (expr-net d) (expr-net e)
   expr-net (bodies.Expr.counted op count e) = expr-net e
+  expr-net _ = refl
 
   value-net : (v : bodies.Value) → value_reads (connected_value nets drives v) ≡ map net (value_reads v)
   value-net (bodies.Value.elements e) = expr-net e
-  value-net (bodies.Value.position n) = refl
-  value-net (bodies.position_of e) = refl
-  value-net (bodies.position_in e) = refl
+  value-net _ = refl
 
   test-net : (t : bodies.Test) → test_reads (connected_test nets drives t) ≡ map net (test_reads t)
   test-net (bodies.condition e) = expr-net e
-  test-net (bodies.decided x) = refl
   test-net (bodies.equal v w) = both _ _ (value_reads v) (value_reads w) (value-net v) (value-net w)
   test-net (bodies.unequal v w) = both _ _ (value_reads v) (value_reads w) (value-net v) (value-net w)
-  test-net (bodies.level plain e x) = refl
   test-net (bodies.Test.compared op d e) = both _ _ (expr_reads d) (expr_reads e) (expr-net d) (expr-net e)
   test-net (bodies.compared_to op e n) = expr-net e
-  test-net (bodies.rising e) = refl
-  test-net (bodies.falling e) = refl
-  test-net (bodies.Test.event e) = refl
   test-net (bodies.Test.negated t) = test-net t
   test-net (bodies.combined op s t) = both _ _ (test_reads s) (test_reads t) (test-net s) (test-net t)
+  test-net _ = refl
 
   mutual
     stmt-net : (s : bodies.Stmt) → stmt_reads (connected_stmt nets drives s) ≡ map net (stmt_reads s)

@@ -82,12 +82,11 @@ next-place ds e rising h k =
     omega (arith, i, j, next-at ds h.0 k.0 e rising h.1 k.1 (at-itself ds e h) (at-itself ds (e + 1) k))
 
 run-found : (ds : List ℕ) (first len : ℕ) → IsRising ds → All (Contains ds) (range_with_len first len) → map (place_in ds) (range_with_len first len) ≡ range_with_len (place_in ds first) len
-run-found ds first zero rising h = refl
-run-found ds first (suc zero) rising h = refl
 run-found ds first (suc (suc n)) rising h =
     let others = All-tail (Contains ds) first (range_with_len (first + 1) (suc n)) h in
     let next = next-place ds first rising (All-head (Contains ds) first (range_with_len (first + 1) (suc n)) h) (All-head (Contains ds) (first + 1) (range_with_len (first + 1 + 1) n) others) in
     ap (λ ps. place_in ds first ∷ ps) (run-found ds (first + 1) (suc n) rising others ∙ ap (λ p. range_with_len p (suc n)) next)
+run-found ds first _ rising h = refl
 
 -- they all are there, and this is the place of the first
 pub run_places : (ds : List ℕ) (first len place : ℕ) → IsRising ds → All (Contains ds) (range_with_len first len) → (Contains ds first → place ≡ place_in ds first)

@@ -23,10 +23,9 @@ run_more f k old now x h e =
     ∙ ap (λ xs. old ++ xs) (sym (map-range_with_len_more f 0 k k (let z : 0 + k ≡ k = omega arith in z)))
 
 pub none_shown : {X Y : Type 0} (f : X → Y) (a : Option X) (found : Bool) → is_some a ≡ not found → found ≡ is_none (option_map f a)
-none_shown f None true h = refl
 none_shown f None false h = cc
 none_shown f (Some x) true h = cc
-none_shown f (Some x) false h = refl
+none_shown f _ _ h = refl
 
 -- ---- nets of their own
 

@@ -95,18 +95,8 @@ not-expanded (Ok d) h = subst (λ (t : Bool). IsErr (unless TooMany 0 t)) (sym (
     by false k = refl
 
 is-many : (p : ElabProblem) → (p ≡ TooMany) ⊎ (p ≢ TooMany)
-is-many problem.NoTop = inr (λ e. absurd cc)
-is-many problem.NoGeneric = inr (λ e. absurd cc)
-is-many problem.GenericRange = inr (λ e. absurd cc)
-is-many problem.StaticError = inr (λ e. absurd cc)
-is-many (problem.Length found needed) = inr (λ e. absurd cc)
-is-many problem.Index = inr (λ e. absurd cc)
-is-many problem.TooWide = inr (λ e. absurd cc)
-is-many problem.Unassociated = inr (λ e. absurd cc)
-is-many problem.TwoUnresolved = inr (λ e. absurd cc)
-is-many problem.ReadOfShared = inr (λ e. absurd cc)
-is-many problem.TooDeep = inr (λ e. absurd cc)
 is-many problem.TooMany = inl refl
+is-many _ = inr (λ e. absurd cc)
 
 -- where TooMany is told, the interface of the top isn't refused
 abbrev expanded-from : Units → Option Entity → Elab Design

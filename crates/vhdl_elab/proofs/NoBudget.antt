@@ -167,10 +167,7 @@ of-values : (here : Site) (at : ℕ) (kind : ObjectKind) (f : Fixed) → TellsNo
 of-values here at one f = after (fixed_values here at 1 f) _ (of-fixed here at 1 f) (λ vs. none _)
 of-values here at (vector b) f = after (fixed_values here at (size (vector b)) f) _ (of-fixed here at (size (vector b)) f) (λ vs. none _)
 of-values here at (enumeration count) (u.Fixed.position n) = none _
-of-values here at (enumeration count) (u.Fixed.literal vs) = after (fixed_values here at 1 (u.Fixed.literal vs)) _ (of-fixed here at 1 (u.Fixed.literal vs)) (λ ws. none _)
-of-values here at (enumeration count) (u.Fixed.constant n) = after (fixed_values here at 1 (u.Fixed.constant n)) _ (of-fixed here at 1 (u.Fixed.constant n)) (λ ws. none _)
-of-values here at (enumeration count) (u.Fixed.encoded s t) = after (fixed_values here at 1 (u.Fixed.encoded s t)) _ (of-fixed here at 1 (u.Fixed.encoded s t)) (λ ws. none _)
-of-values here at (enumeration count) (u.filled v) = after (fixed_values here at 1 (u.filled v)) _ (of-fixed here at 1 (u.filled v)) (λ ws. none _)
+of-values here at _ f = after (fixed_values here at 1 f) _ (of-fixed here at 1 f) (λ ws. none _)
 
 of-starts : (here : Site) (at : ℕ) (kind : ObjectKind) (d : Option Fixed) → TellsNoBudget (starts here at kind d)
 unfolding starts

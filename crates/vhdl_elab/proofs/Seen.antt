@@ -1,5 +1,5 @@
 -- The table of elements and their uses, as the definitions see it.
-use Rattle.std.proofs.Common.{◌≡◌, ℕ, zero, suc, Bool, true, false, not, cond, ◌&&◌, ◌||◌, ◌==◌, if◌then◌else◌, List, [], ◌∷◌, ◌++◌, map, Option, Some, None, All, refl, sym, ap, ◌∙◌, arith, ne_eqb}
+use Rattle.std.proofs.Common.{◌≡◌, ℕ, suc, Bool, true, false, not, cond, ◌&&◌, ◌||◌, ◌==◌, if◌then◌else◌, List, [], ◌∷◌, ◌++◌, map, Option, Some, None, All, refl, sym, ap, ◌∙◌, arith, ne_eqb}
 use Rattle.std.specs.Prelude.{nat_le, find, filter, flat_map, option_map, slice_index_or}
 use Rattle.std.specs.List.{list_any, zip, AllByRecursion}
 use Rattle.std.proofs.lemmas.Bool.{le-leb}
@@ -10,7 +10,7 @@ use Rattle.rtl_net.specs.declared.building.IdlePort.{IdlePort}
 use Rattle.rtl_net.specs.Parts.{idle_at}
 use Rattle.vhdl_elab_rules.specs.Numbering.{Placed}
 use Rattle.vhdl_elab_rules.specs.Wiring as wiring
-use Rattle.vhdl_elab_rules.specs.Wiring.{elements_of, is_input, is_output, is_top, inputs_of, idle_values}
+use Rattle.vhdl_elab_rules.specs.Wiring.{elements_of, is_input, is_output, is_top}
 use Rattle.vhdl_elab_rules.specs.Limits as limits
 use Rattle.vhdl_connect_bodies.specs.declared.uses.Use.{Use}
 use Rattle.vhdl_connect_bodies.specs.Uses.{sources_of}
@@ -135,14 +135,12 @@ module _ (p : Seen → Bool) (q : wiring.Element → Bool) where
 -- ---- what counts of sources say
 
 several-is : (n : ℕ) → has_several (sources_of n) ≡ nat_le 2 n
-several-is zero = refl
-several-is (suc zero) = refl
 several-is (suc (suc n)) = sym (le-leb 2 (suc (suc n)) (omega arith))
+several-is _ = refl
 
 none-is : (n : ℕ) → has_no_source (sources_of n) ≡ (n == 0)
-none-is zero = refl
-none-is (suc zero) = refl
 none-is (suc (suc n)) = sym (ne_eqb (suc (suc n)) 0 (λ e. absurd (omega (arith, e))))
+none-is _ = refl
 
 and-swap : (a b : Bool) → (a && b) ≡ (b && a)
 and-swap true true = refl

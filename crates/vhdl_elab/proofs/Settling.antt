@@ -8,7 +8,7 @@ use Rattle.rtl_net.specs.declared.process.Process.{Process}
 use Rattle.rtl_model.specs.nets.FlatNetlist.{FlatVariable}
 use Rattle.rtl_net.specs.declared.signal.SignalKind.{SignalKind}
 use Rattle.rtl_net.specs.Nets as nets
-use Rattle.rtl_net.specs.Nets.{driver_view, process_view}
+use Rattle.rtl_net.specs.Nets.{driver_view}
 use Rattle.rtl_net.specs.Elaborated.{ReadsOfBody}
 use Rattle.vhdl_expand_rules.specs.Kinds as kinds
 use Rattle.vhdl_expand_rules.specs.Prefixes.{in_order}
@@ -40,8 +40,7 @@ named_of v = (v.name, v.kind)
 
 same-type : (q : kinds.ObjectKind) → nets.element_type (kind_view q) ≡ kinds.element_type q
 same-type kinds.one = refl
-same-type (kinds.vector b) = refl
-same-type (kinds.enumeration n) = refl
+same-type _ = refl
 
 flat-variables : (vs : List Variable) (ws : List tree.Variable) → map net_variable vs ≡ map of_variable ws → map nets.variable_view vs ≡ map flat_variable ws
 flat-variables vs ws h =
@@ -88,10 +87,9 @@ indices-below count ns es l h = All-map (λ n. n < count) (slice_index ns) es (�
 
 pub as-they-are : (count : ℕ) (xs : List Located) (ps : List Process) → 0 < count → AllZip IsLocated xs ps → NetsAreBelow count xs → AllZip (IsSettled count) xs ps
 as-they-are count [] [] l h b = tt
-as-they-are count [] (p ∷ ps) l h b = elim h [ ]
-as-they-are count (x ∷ xs) [] l h b = elim h [ ]
 as-they-are count (x ∷ xs) (p ∷ ps) l h b =
     (settled count x p p h.0 refl (sym (h.0.wakes count (indices-below count x.round.nets (sensitive_to x.process) l b.0))), as-they-are count xs ps l h.1 b.1)
+as-they-are count _ _ l h b = elim h [ ]
 
 -- ---- where there are none
 
@@ -109,10 +107,9 @@ pub all-unwoken : (n : ℕ) (xs : List Located) (old now : List Process) → n �
     → AllZip (IsSettled n) xs now
 unfolding in_order
 all-unwoken n [] [] [] z h l u = tt
-all-unwoken n [] [] (q ∷ qs) z h l u = absurd (omega (arith, l))
 all-unwoken n [] (p ∷ ps) qs z h l u = elim h [ ]
 all-unwoken n (x ∷ xs) [] qs z h l u = elim h [ ]
-all-unwoken n (x ∷ xs) (p ∷ ps) [] z h l u = absurd (omega (arith, l))
 all-unwoken n (x ∷ xs) (p ∷ ps) (q ∷ qs) z h l u =
     let mine = u 0 p (omega arith) in
     (subst (λ m. IsSettled m x q) (sym z) (settled 0 x p q h.0 mine.same mine.none), all-unwoken n xs ps qs z h.1 (omega (arith, l)) (λ k d b. u (suc k) d (omega (arith, b))))
+all-unwoken n _ _ _ z h l u = absurd (omega (arith, l))

@@ -18,7 +18,7 @@ use Rattle.vhdl_expand_rules.specs.Bytes.{kept}
 use Rattle.vhdl_expand_rules.specs.Elab.{Told, Elab, ◌>>◌, unless}
 use Rattle.vhdl_elab_rules.specs.Numbering.{Placed, Located, Numbered}
 use Rattle.vhdl_elab_rules.specs.Wiring as wiring
-use Rattle.vhdl_elab_rules.specs.Wiring.{elements_of, own_elements, idle_values, inputs_of, is_output, is_top, flat_process, start_of, flat_net}
+use Rattle.vhdl_elab_rules.specs.Wiring.{elements_of, own_elements, idle_values, is_output, flat_process, start_of, flat_net}
 use Rattle.vhdl_elab_rules.specs.Limits as limits
 use Rattle.vhdl_elab_rules.specs.Limits.{elements, has_two_unresolved, has_read_of_shared, is_shared}
 use Rattle.vhdl_elab_rules.specs.Names as names
@@ -27,7 +27,7 @@ use Rattle.vhdl_elab_rules.specs.Elaboration.{net_of}
 use Rattle.vhdl_elab_rules.specs.laws.Scopes.{scope_views}
 use Rattle.vhdl_elab_rules.specs.Shown.{Shown, signal_shown, process_shown, net_process_shown, shown, as_shown, net_shown}
 use Rattle.vhdl_connect_bodies.specs.Held as held
-use Rattle.vhdl_connect_bodies.specs.Held.{Holds, processes_hold, idle_hold, items_at, start_with}
+use Rattle.vhdl_connect_bodies.specs.Held.{processes_hold, idle_hold, items_at, start_with}
 use Rattle.vhdl_connect_bodies.proofs.Sourced.{sources_hold, nets_start}
 use Rattle.vhdl_elab.specs.declared.made.Made.{Made}
 use Rattle.vhdl_elab.specs.Made.{element_view, statics_of, uses_of}
@@ -44,21 +44,18 @@ use Rattle.vhdl_elab.proofs.Seen.{Seen, seen_as, at_in, first_in, found-at, none
 
 flat-all : (count : ℕ) (xs : List Located) (ps : List Process) → AllZip (IsSettled count) xs ps → map process_view ps ≡ map (flat_process count) xs
 flat-all count [] [] h = refl
-flat-all count [] (p ∷ ps) h = elim h [ ]
-flat-all count (x ∷ xs) [] h = elim h [ ]
 flat-all count (x ∷ xs) (p ∷ ps) h = λ i. h.0.flat i ∷ flat-all count xs ps h.1 i
+flat-all count _ _ h = elim h [ ]
 
 shown-all : (count : ℕ) (xs : List Located) (ps : List Process) → AllZip (IsSettled count) xs ps → map net_process_shown ps ≡ map process_shown (map named_process xs)
 shown-all count [] [] h = refl
-shown-all count [] (p ∷ ps) h = elim h [ ]
-shown-all count (x ∷ xs) [] h = elim h [ ]
 shown-all count (x ∷ xs) (p ∷ ps) h = λ i. h.0.shown i ∷ shown-all count xs ps h.1 i
+shown-all count _ _ h = elim h [ ]
 
 pub reads-all : (count : ℕ) (xs : List Located) (ps : List Process) → AllZip (IsSettled count) xs ps → All ReadsOfBody ps
 reads-all count [] [] h = All-nil ReadsOfBody
-reads-all count [] (p ∷ ps) h = elim h [ ]
-reads-all count (x ∷ xs) [] h = elim h [ ]
 reads-all count (x ∷ xs) (p ∷ ps) h = All-cons ReadsOfBody p ps h.0.reads (reads-all count xs ps h.1)
+reads-all count _ _ h = elim h [ ]
 
 -- ---- signals
 

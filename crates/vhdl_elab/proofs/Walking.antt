@@ -10,7 +10,7 @@ use Rattle.vhdl_expand_rules.specs.Tree as tree
 use Rattle.vhdl_expand_rules.specs.Tree.{Instance, instance, Parts, no_parts, process, inner}
 use Rattle.vhdl_elab_rules.specs.Names.{scope_of, signals_from}
 use Rattle.vhdl_elab_rules.specs.Numbering as elab
-use Rattle.vhdl_elab_rules.specs.Numbering.{Placed, Located, Numbered, placed_instance, with_process, with_placed, with_instance, with_parts, element_nets, above_parts, own_sizes}
+use Rattle.vhdl_elab_rules.specs.Numbering.{Placed, Numbered, placed_instance, with_placed, with_instance, with_parts, element_nets, above_parts, own_sizes}
 use Rattle.vhdl_elab_rules.specs.Wiring.{defaults_of}
 use Rattle.vhdl_elab.specs.Signals.{signal_with_byte, shown_with_byte}
 use Rattle.vhdl_expand_tree.specs.declared.tree.Object.{Object}

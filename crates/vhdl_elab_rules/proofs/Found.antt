@@ -9,7 +9,7 @@ use Rattle.vhdl_tree.specs.declared.operator.Direction.TheVariants.{To, Downto}
 use Rattle.rtl_net.specs.Nets.{ScopeView, SignalView, NetlistView}
 use Rattle.rtl_net.specs.Names.{Element, place_in, element_or, element_from, path, index_at, index_suffix, name_of_element, signal_name, element_name, net_name}
 use Rattle.vhdl_expand_rules.specs.Integers.{extent}
-use Rattle.vhdl_expand_rules.specs.Kinds.{ObjectKind, one, vector, enumeration, size}
+use Rattle.vhdl_expand_rules.specs.Kinds.{ObjectKind, one, vector, size}
 use Rattle.vhdl_expand_rules.specs.Tree.{Object}
 use Rattle.vhdl_expand_rules.specs.laws.Trees.{IsKind}
 use Rattle.vhdl_expand_rules.proofs.laws.Places.{extent-downto}
@@ -156,9 +156,8 @@ same-index l To r k some below = ap (λ n. codes "(" ++ (decimal n ++ codes ")")
 same-index l Downto r k some below = ap (λ n. codes "(" ++ (decimal n ++ codes ")")) (index-downto l r k some below)
 
 pub same-suffix : (q : ObjectKind) (k : ℕ) → IsKind q → k < size q → index_suffix (kind_view q) k ≡ element_text q k
-same-suffix one k h l = refl
 same-suffix (vector b) k h l = same-index b.left b.direction b.right k h.0 l
-same-suffix (enumeration count) k h l = refl
+same-suffix _ k h l = refl
 
 -- ---- the objects of an instance
 

@@ -31,9 +31,8 @@ input_signals above first (o ∷ os) =
     cond (is_input o.role) (object_signal 0 (object_nets above first o) o ∷ input_signals above (first + own_size o) os) (input_signals above (first + own_size o) os)
 
 some-size : (k : kinds.ObjectKind) → IsKind k → 1 ≤ size k
-some-size kinds.one h = omega arith
 some-size (kinds.vector b) h = h.0
-some-size (kinds.enumeration n) h = omega arith
+some-size _ h = omega arith
 
 first-of-run : (first n : ℕ) → 1 ≤ n → slice_index (range_with_len first n) 0 ≡ first
 first-of-run first zero h = absurd (omega (arith, h))

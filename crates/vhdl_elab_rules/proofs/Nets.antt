@@ -15,7 +15,7 @@ use Rattle.rtl_net.specs.Names.{Element, element_from, path, net_name}
 use Rattle.rtl_net.specs.Elaborated.{width_of, VariableIsNamed, ProcessIsNamed, AreScopes, SignalInRange, ComesBefore, IsInOrOut, IsOfPort}
 use Rattle.vhdl_names_rules.specs.units.Units.{Units}
 use Rattle.vhdl_names_rules.specs.sound.Units.{are_sound}
-use Rattle.vhdl_expand_rules.specs.Kinds.{ObjectKind, one, vector, enumeration}
+use Rattle.vhdl_expand_rules.specs.Kinds.{ObjectKind, one}
 use Rattle.vhdl_expand_rules.specs.Kinds as k
 use Rattle.vhdl_expand_rules.specs.Expansion.{Design, expanded_design}
 use Rattle.vhdl_expand_rules.specs.Tree.{Object, objects_of}
@@ -111,8 +111,7 @@ processes-named scopes (x ∷ xs) (f ∷ fs) (p ∷ ps) e g fit named =
 
 same-type : (q : ObjectKind) → element_type (kind_view q) ≡ k.element_type q
 same-type one = refl
-same-type (vector b) = refl
-same-type (enumeration n) = refl
+same-type _ = refl
 
 signals-in-range : (types : List ElementType) (scopes : ℕ) (ss : List Signal) → All (SignalFits types scopes) ss → All (λ (s : Signal). s.name ≢ []) ss → All (SignalInRange types scopes) (map signal_shown ss)
 signals-in-range types scopes [] h g = All-nil (SignalInRange types scopes)

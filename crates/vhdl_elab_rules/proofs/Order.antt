@@ -4,7 +4,7 @@ use Rattle.std.specs.Prelude.{⊤}
 use Rattle.std.proofs.lemmas.List.Elements.{All-cons, All-nil, All-append, All-head, All-tail, All-weaker}
 use Rattle.rtl_net.specs.Nets.{SignalView}
 use Rattle.rtl_net.specs.Elaborated.{ComesBefore}
-use Rattle.vhdl_expand_rules.specs.Tree.{Role, input, output, internal, Object}
+use Rattle.vhdl_expand_rules.specs.Tree.{Role, input, Object}
 use Rattle.vhdl_expand_rules.specs.laws.Trees.{is_port}
 use Rattle.vhdl_elab_rules.specs.Numbering.{object_nets, own_size, Placed, own_sizes}
 use Rattle.vhdl_elab_rules.specs.Names.{is_port_role}
@@ -34,8 +34,7 @@ in-pairs R (x ∷ xs) h (suc i) (suc j) d lt l = in-pairs R xs h.1 i j d (omega 
 
 pub role-port : (r : Role) → is_port_role r ≡ is_port r
 role-port input = refl
-role-port output = refl
-role-port internal = refl
+role-port _ = refl
 
 abbrev InScope : ℕ → SignalView → Type 0
 InScope k s = s.scope ≡ k

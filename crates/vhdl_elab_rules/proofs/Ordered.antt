@@ -13,7 +13,7 @@ use Rattle.vhdl_expand_rules.specs.Elab.{Elab, unless, item_or, each, same_lengt
 use Rattle.vhdl_expand_rules.specs.Integers.{Integers, integer_of, decision, turns}
 use Rattle.vhdl_expand_rules.specs.Kinds.{size, kind_of}
 use Rattle.vhdl_expand_rules.specs.Site.{Site, no_integers, no_site, place_elements}
-use Rattle.vhdl_expand_rules.specs.Tree.{Role, input, output, internal, Object, Instance, Parts, no_parts, inner, followed_by, objects_of}
+use Rattle.vhdl_expand_rules.specs.Tree.{Role, internal, Object, Instance, Parts, no_parts, inner, followed_by, objects_of}
 use Rattle.vhdl_expand_rules.specs.Tree as t
 use Rattle.vhdl_expand_rules.specs.Declarations.{first_of, rest_of, generics, fixed_values, starts, object, role_of, InstanceObjects, with_port, with_signal, ports, interface, declaration, declarations, is_input, association, associations}
 use Rattle.vhdl_expand_rules.specs.Expansion.{Spot, in_turn, in_branch, process, joined_parts, instance, concurrent, concurrents, concurrents_turns, instance_of, entity_named, Design, expanded_design}
@@ -81,13 +81,12 @@ association-is above at p (Some place) o x h k =
 associations-are : (above : Site) (at : ℕ) (ps : List Port) (actuals : List (Option SignalPart)) (os xs : List Object) → AllZip PortOf ps os → associations above at ps actuals os ≡ Ok xs → AllZip PortOf ps xs
 unfolding associations
 associations-are above at [] actuals [] xs h k = subst (λ (ys : List Object). AllZip PortOf [] ys) (ok [] xs k) tt
-associations-are above at [] actuals (o ∷ os) xs h k = elim h [ ]
-associations-are above at (p ∷ ps) actuals [] xs h k = elim h [ ]
 associations-are above at (p ∷ ps) actuals (o ∷ os) xs h k =
     let y = bound (association above at p (first_of actuals) o) _ xs k in
     let ys = bound (associations above at ps (rest_of actuals) os) _ xs y.then_gave in
     subst (λ (zs : List Object). AllZip PortOf (p ∷ ps) zs) (ok (y.x ∷ ys.x) xs ys.then_gave)
     (association-is above at p (first_of actuals) o y.x h.0 y.gave, associations-are above at ps (rest_of actuals) os ys.x h.1 ys.gave)
+associations-are above at _ actuals _ xs h k = elim h [ ]
 
 -- with signals behind
 record WithSignals (before after : List Object) : Type 0 where
@@ -134,9 +133,8 @@ port-role Out = refl
 
 all-ports : (ps : List Port) (os : List Object) → AllZip PortOf ps os → All IsPort os
 all-ports [] [] h = All-nil IsPort
-all-ports [] (o ∷ os) h = elim h [ ]
-all-ports (p ∷ ps) [] h = elim h [ ]
 all-ports (p ∷ ps) (o ∷ os) h = All-cons IsPort o os (ap is_port h.0.0 ∙ port-role p.mode) (all-ports ps os h.1)
+all-ports _ _ h = elim h [ ]
 
 ports-then : (ps os : List Object) → All IsPort ps → WithSignals ps os → PortsFirst os
 ports-then ps os h w = record { ports = ps; signals = w.signals; are = w.are; are_ports = h; are_signals = w.are_signals }

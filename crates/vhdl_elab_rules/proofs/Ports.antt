@@ -14,7 +14,7 @@ use Rattle.rtl_stim_lines.specs.Times.{nets_of, all_nets}
 use Rattle.rtl_stim.specs.Ports.{is_in_port, element_on, input_of, inputs_of}
 use Rattle.vhdl_names_rules.specs.Visibility.{is_among, are_distinct}
 use Rattle.vhdl_names_rules.specs.units.Units.{Port, Entity, Units}
-use Rattle.vhdl_expand_rules.specs.Tree.{Role, input, output, internal, Object}
+use Rattle.vhdl_expand_rules.specs.Tree.{Role, input, Object}
 use Rattle.vhdl_expand_rules.specs.laws.Trees.{is_port}
 use Rattle.vhdl_elab_rules.specs.Numbering.{Placed, Numbered, numbered_design}
 use Rattle.vhdl_elab_rules.specs.Wiring.{is_input}
@@ -75,14 +75,12 @@ unmapped f (x ∷ xs) h = (unmapped-all f (f x) xs h.0, unmapped f xs h.1)
 
 port-names : (ps : List Port) (os : List Object) → AllZip PortOf ps os → map (λ (p : Port). small p.object.name) ps ≡ map (λ (o : Object). small o.name) os
 port-names [] [] h = refl
-port-names [] (o ∷ os) h = elim h [ ]
-port-names (p ∷ ps) [] h = elim h [ ]
 port-names (p ∷ ps) (o ∷ os) h = ap (λ (t : List ℕ). small t ∷ map (λ (q : Port). small q.object.name) ps) (sym h.0.1) ∙ ap (λ (ts : List (List ℕ)). small o.name ∷ ts) (port-names ps os h.1)
+port-names _ _ h = elim h [ ]
 
 not-input : (r : Role) → is_port r ≡ false → is_input r ≡ false
 not-input input h = absurd cc
-not-input output h = refl
-not-input internal h = refl
+not-input _ h = refl
 
 no-input : (os : List Object) → All IsSignal os → filter (λ (o : Object). is_input o.role) os ≡ []
 no-input [] h = refl

@@ -179,8 +179,7 @@ module _ (above : List ℕ) where
 
   input-is-port : (r : Role) → is_input r ≡ true → is_port_role r ≡ true
   input-is-port input h = refl
-  input-is-port output h = absurd cc
-  input-is-port internal h = absurd cc
+  input-is-port _ h = absurd cc
 
   are-of-ports : (os : List Object) (first : ℕ) → All (IsOfPort (object_signals 0 above first os)) (input_nets above first os)
   are-of-ports [] first = All-nil (IsOfPort [])

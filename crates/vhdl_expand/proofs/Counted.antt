@@ -31,8 +31,6 @@ module _ (units : Units) (go : ℕ → Entity → InstanceObjects → Elab Insta
     unfolding concurrent concurrents concurrent_turns concurrents_turns
 
     pub concurrent_counted : (here : Spot) (x : u.Concurrent) (ps : Parts) → concurrent units go here x ≡ Ok ps → (n : ℕ) × (concurrent_turns here x ≡ Ok n)
-    concurrent_counted here (u.process p) ps h = (0, refl)
-    concurrent_counted here (u.instance x) ps h = (0, refl)
     concurrent_counted here (u.generate_for at label r body) ps h =
         let is = bound (turns here.site.integers at r) _ ps h in
         let pss = bound (each (λ i. concurrents units go (in_turn here label i) body) is.x) _ ps is.then_gave in
@@ -45,6 +43,7 @@ module _ (units : Units) (go : ℕ → Entity → InstanceObjects → Elab Insta
     concurrent_counted here (u.generate_if at label t body) ps h =
         branch-counted (decision here.site.integers t) (concurrents units go (in_branch here label) body) (concurrents_turns (in_branch here label) body) ps
         (λ z e. concurrents_counted (in_branch here label) body z e) h
+    concurrent_counted here _ ps h = (0, refl)
 
     pub concurrents_counted : (here : Spot) (xs : u.Concurrents) (ps : Parts) → concurrents units go here xs ≡ Ok ps → (n : ℕ) × (concurrents_turns here xs ≡ Ok n)
     concurrents_counted here u.no_concurrents ps h = (0, refl)

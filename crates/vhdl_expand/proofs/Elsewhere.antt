@@ -14,7 +14,7 @@ use Rattle.vhdl_expand_rules.specs.declared.fault.ElabProblem.{ElabProblem}
 use Rattle.vhdl_expand_rules.specs.declared.fault.ElabProblem.TheVariants.{StaticError, GenericRange, Index, TooWide, Length}
 use Rattle.vhdl_expand_rules.specs.Elab.{Elab, ◌>>=◌, refused, unless, item_or, same_length}
 use Rattle.vhdl_expand_rules.specs.Integers.{Integers, checked_integer, integer, as_natural, natural, is_of, integer_of, is_null, extent}
-use Rattle.vhdl_expand_rules.specs.Kinds.{ObjectKind, one, vector, enumeration, size, declared_bounds, kind_of, as_size, size_of}
+use Rattle.vhdl_expand_rules.specs.Kinds.{ObjectKind, vector, enumeration, size, declared_bounds, kind_of, as_size, size_of}
 use Rattle.vhdl_expand_rules.specs.Site.{Site, Constant}
 use Rattle.vhdl_expand_rules.specs.Declarations.{as_long_as, fixed_values, given_starts, starts}
 use Rattle.vhdl_expand_rules.proofs.Steps.{given, bound}
@@ -56,8 +56,7 @@ module _ (at at' : ℕ) where
   integer-gives here (u.Static.constant k) = gives-item StaticError at at' (slice_get here.constants k)
   integer-gives here (u.generate_parameter k) = gives-item StaticError at at' (slice_get here.generates k)
   integer-gives here (u.loop_parameter k) = gives-item StaticError at at' (slice_get here.loops k)
-  integer-gives here (u.Static.negated sign s) = record { found = λ x h. h }
-  integer-gives here (u.Static.binary sign op s t) = record { found = λ x h. h }
+  integer-gives here _ = record { found = λ x h. h }
 
   natural-as-gives : (x : ℤ) → Gives (as_natural at x) (as_natural at' x)
   natural-as-gives (pos n) = gives-same (given n)
@@ -86,9 +85,8 @@ module _ (at at' : ℕ) where
 
   kind-gives : (here : Integers) (f : Form) → Gives (kind_of here at f) (kind_of here at' f)
   unfolding kind_of
-  kind-gives here units.element = record { found = λ x h. h }
   kind-gives here (units.vector r) = gives-then (declared_bounds here at r) (declared_bounds here at' r) _ _ (bounds-gives here r) (λ b. gives-same _)
-  kind-gives here (units.enumeration count) = record { found = λ x h. h }
+  kind-gives here _ = record { found = λ x h. h }
 
   size-gives : (n : ℕ) → Gives (as_size at n) (as_size at' n)
   size-gives n =
@@ -118,13 +116,9 @@ module _ (at at' : ℕ) where
   coded-gives here len f = gives-then (fixed_values here at len f) (fixed_values here at' len f) _ _ (fixed-gives here len f) (λ vs. gives-same _)
 
   values-gives : (here : Site) (kind : ObjectKind) (f : Fixed) → Gives (given_starts here at kind f) (given_starts here at' kind f)
-  values-gives here one f = coded-gives here 1 f
   values-gives here (vector b) f = coded-gives here (size (vector b)) f
   values-gives here (enumeration count) (units.Fixed.position n) = record { found = λ x h. h }
-  values-gives here (enumeration count) (units.Fixed.literal vs) = coded-gives here 1 (units.Fixed.literal vs)
-  values-gives here (enumeration count) (units.Fixed.constant k) = coded-gives here 1 (units.Fixed.constant k)
-  values-gives here (enumeration count) (units.Fixed.encoded s t) = coded-gives here 1 (units.Fixed.encoded s t)
-  values-gives here (enumeration count) (units.filled v) = coded-gives here 1 (units.filled v)
+  values-gives here _ f = coded-gives here 1 f
 
   starts-gives : (here : Site) (kind : ObjectKind) (d : Option Fixed) → Gives (starts here at kind d) (starts here at' kind d)
   unfolding starts

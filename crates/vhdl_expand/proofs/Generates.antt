@@ -7,7 +7,7 @@ use Rattle.vhdl_names_rules.specs.units.Expressions.{Range, StaticTest}
 use Rattle.vhdl_names_rules.specs.units.Units as u
 use Rattle.vhdl_names_rules.specs.units.Units.{Units}
 use Rattle.vhdl_expand_rules.specs.Elab.{Elab, ◌>>=◌, each, MayTell, Told}
-use Rattle.vhdl_expand_rules.specs.Integers.{turns, decision, numbers_from, next}
+use Rattle.vhdl_expand_rules.specs.Integers.{turns, decision, numbers_from}
 use Rattle.vhdl_expand_rules.specs.Parameters.{parameter}
 use Rattle.vhdl_expand_rules.specs.Tree.{Parts, no_parts, followed_by}
 use Rattle.vhdl_expand_rules.specs.Expansion as definition

@@ -14,9 +14,8 @@ use Rattle.vhdl_expand.specs.Stepwise.{stepwise}
 
 pub rest_behind : {A : Type 0} (n : ℕ) (xs : List A) → rest_of (drop n xs) ≡ drop (suc n) xs
 rest_behind zero [] = refl
-rest_behind zero (x ∷ xs) = refl
-rest_behind (suc n) [] = refl
 rest_behind (suc n) (x ∷ xs) = rest_behind n xs
+rest_behind _ _ = refl
 
 module _ (above : Integers) (actuals : List (Option u.Static)) where
   -- one more generic

@@ -12,7 +12,7 @@ use Rattle.vhdl_expand_rules.specs.declared.fault.ElabProblem.{ElabProblem}
 use Rattle.vhdl_expand_rules.specs.declared.fault.ElabProblem.TheVariants.{StaticError, GenericRange, Index}
 use Rattle.vhdl_expand_rules.specs.Elab.{◌>>=◌, item_or, unless}
 use Rattle.vhdl_expand_rules.specs.Integers.{Integers, checked_integer, integer_operation, integer, integer_of, is_of}
-use Rattle.vhdl_expand_rules.specs.Kinds.{ObjectKind, one, vector, enumeration, kind_of, size}
+use Rattle.vhdl_expand_rules.specs.Kinds.{ObjectKind, vector, enumeration, kind_of, size}
 use Rattle.vhdl_expand_rules.specs.Site.{Constant, Site}
 use Rattle.vhdl_expand_rules.specs.Declarations.{as_long_as, fixed_values, given_starts, starts, with_constant, with_integer}
 use Rattle.vhdl_expand_rules.proofs.Steps.{given, bound}
@@ -30,11 +30,7 @@ more here y = record here { constants = here.constants ++ y ∷ [] }
 
 integer-grows : (here : Integers) (at : ℕ) (y : ℤ) (s : Static) (x : ℤ) → integer here at s ≡ Ok x → integer (more here y) at s ≡ Ok x
 unfolding integer
-integer-grows here at y (u.number n) x h = h
-integer-grows here at y (u.generic k) x h = h
 integer-grows here at y (u.Static.constant k) x h = found-behind StaticError at here.constants (y ∷ []) k x h
-integer-grows here at y (u.generate_parameter k) x h = h
-integer-grows here at y (u.loop_parameter k) x h = h
 integer-grows here at y (u.Static.negated sign s) x h =
     let a = bound (integer here sign s) _ x h in
     ap (λ r. r >>= λ z. checked_integer sign (neg_ℤ z)) (integer-grows here sign y s a.x a.gave) ∙ a.then_gave
@@ -43,6 +39,7 @@ integer-grows here at y (u.Static.binary sign op s t) x h =
     let b = bound (integer here sign t) _ x a.then_gave in
     ap (λ r. r >>= λ z. integer (more here y) sign t >>= λ w. integer_operation sign op z w) (integer-grows here sign y s a.x a.gave)
     ∙ ap (λ r. r >>= λ w. integer_operation sign op a.x w) (integer-grows here sign y t b.x b.gave) ∙ b.then_gave
+integer-grows here at y _ x h = h
 
 pub integer_of_grows : (type : IntegerType) (here : Site) (at : ℕ) (y : ℤ) (s : Static) (x : ℤ) → integer_of type here.integers at s ≡ Ok x → integer_of type (with_integer here y).integers at s ≡ Ok x
 unfolding integer_of
@@ -54,13 +51,10 @@ integer_of_grows type here at y s x h =
 
 fixed-grows : (here : Site) (at : ℕ) (c : Constant) (len : ℕ) (f : Fixed) (vs : List Nine) → fixed_values here at len f ≡ Ok vs → fixed_values (with_constant here c) at len f ≡ Ok vs
 unfolding fixed_values
-fixed-grows here at c len (units.Fixed.literal xs) vs h = h
-fixed-grows here at c len (units.Fixed.position n) vs h = h
 fixed-grows here at c len (units.Fixed.constant k) vs h =
     let a = bound (item_or Index at (slice_get here.constants k)) _ vs h in
     ap (λ r. r >>= λ (d : Constant). as_long_as at len d.values) (found-behind Index at here.constants (c ∷ []) k a.x a.gave) ∙ a.then_gave
-fixed-grows here at c len (units.Fixed.encoded s t) vs h = h
-fixed-grows here at c len (units.filled v) vs h = h
+fixed-grows here at c len _ vs h = h
 
 pub constant_of_grows : (here : Site) (at : ℕ) (c : Constant) (form : Form) (f : Fixed) (d : Constant) → constant_of here at form f ≡ Ok d → constant_of (with_constant here c) at form f ≡ Ok d
 constant_of_grows here at c form f d h =
@@ -77,19 +71,12 @@ beside here ps ss = record here { ports = ps; signals = ss }
 fixed-stays : (here : Site) (ps ss : List ObjectKind) (at len : ℕ) (f : Fixed) → fixed_values (beside here ps ss) at len f ≡ fixed_values here at len f
 unfolding fixed_values
 fixed-stays here ps ss at len (units.Fixed.literal xs) = refl
-fixed-stays here ps ss at len (units.Fixed.position n) = refl
-fixed-stays here ps ss at len (units.Fixed.constant k) = refl
-fixed-stays here ps ss at len (units.Fixed.encoded s t) = refl
-fixed-stays here ps ss at len (units.filled v) = refl
+fixed-stays here ps ss at len _ = refl
 
 given-stays : (here : Site) (ps ss : List ObjectKind) (at : ℕ) (kind : ObjectKind) (f : Fixed) → given_starts (beside here ps ss) at kind f ≡ given_starts here at kind f
-given-stays here ps ss at one f = ap (λ r. r >>= λ vs. given (map code_of vs)) (fixed-stays here ps ss at 1 f)
 given-stays here ps ss at (vector b) f = ap (λ r. r >>= λ vs. given (map code_of vs)) (fixed-stays here ps ss at (size (vector b)) f)
 given-stays here ps ss at (enumeration n) (units.Fixed.position p) = refl
-given-stays here ps ss at (enumeration n) (units.Fixed.literal xs) = ap (λ r. r >>= λ vs. given (map code_of vs)) (fixed-stays here ps ss at 1 (units.Fixed.literal xs))
-given-stays here ps ss at (enumeration n) (units.Fixed.constant k) = ap (λ r. r >>= λ vs. given (map code_of vs)) (fixed-stays here ps ss at 1 (units.Fixed.constant k))
-given-stays here ps ss at (enumeration n) (units.Fixed.encoded s t) = ap (λ r. r >>= λ vs. given (map code_of vs)) (fixed-stays here ps ss at 1 (units.Fixed.encoded s t))
-given-stays here ps ss at (enumeration n) (units.filled v) = ap (λ r. r >>= λ vs. given (map code_of vs)) (fixed-stays here ps ss at 1 (units.filled v))
+given-stays here ps ss at _ f = ap (λ r. r >>= λ vs. given (map code_of vs)) (fixed-stays here ps ss at 1 f)
 
 pub starts_stay : (here : Site) (ps ss : List ObjectKind) (at : ℕ) (kind : ObjectKind) (default : Option Fixed) → starts (beside here ps ss) at kind default ≡ starts here at kind default
 unfolding starts

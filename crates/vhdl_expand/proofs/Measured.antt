@@ -185,15 +185,13 @@ step-turned (Ok x) (Ok xs) (Ok b) (Ok c) j k = ap given (sum_by-cons (λ n. n) x
 step-turned (Ok x) (Ok xs) (Ok b) (Err f) j k = absurd cc
 step-turned (Ok x) (Err e) (Ok b) (Ok c) j k = absurd cc
 step-turned (Ok x) (Err e) (Ok b) (Err f) j k = k
-step-turned (Ok x) rest (Err f) q j k = absurd cc
-step-turned (Err e) rest (Ok b) q j k = absurd cc
 step-turned (Err e) rest (Err f) q j k = j
+step-turned _ _ _ _ j k = absurd cc
 
 behind-turned : (n : ℕ) (rest : Elab (List ℕ)) (q : Elab Counts) → (rest >>= λ ns. given (sum ns)) ≡ turns_of q → (rest >>= λ ns. given (n + sum ns)) ≡ turns_of (both (given (costs.turns n)) q)
 behind-turned n (Ok ns) (Ok c) k = ap (λ m. given (n + m)) (ok (sum ns) c.turns k)
-behind-turned n (Ok ns) (Err f) k = absurd cc
-behind-turned n (Err e) (Ok c) k = absurd cc
 behind-turned n (Err e) (Err f) k = k
+behind-turned n _ _ k = absurd cc
 
 module _ (g : ℤ → Elab ℕ) (h : ℤ → Elab Counts) (same : (i : ℤ) → g i ≡ turns_of (h i)) where
   each-turned : (is : List ℤ) → (each g is >>= λ ns. given (sum ns)) ≡ turns_of (together h is)
@@ -208,13 +206,11 @@ mutual
   unfolding statement_turns statements_turns branches_turns alternatives_turns statement_costs statements_costs branches_costs alternatives_costs
 
   statement-turned : (here : Site) (s : u.Statement) → statement_turns here s ≡ turns_of (statement_costs here.integers s)
-  statement-turned here u.null_of = refl
-  statement-turned here (u.assign p g) = refl
-  statement-turned here (u.set at k part g) = refl
   statement-turned here (u.if_of at bs) = branches-turned here bs ∙ inside-turned (branches_costs here.integers bs)
   statement-turned here (u.case_of at v alts) = alternatives-turned here alts ∙ inside-turned (alternatives_costs here.integers alts)
   statement-turned here (u.for_of at r body) =
       loop-turned (λ i. statements_turns (in_loop here i) body) (λ i. statements_costs (in_turn here.integers i) body) (λ i. statements-turned (in_loop here i) body) (turns here.integers at r)
+  statement-turned here _ = refl
 
   pub statements-turned : (here : Site) (s : u.Statements) → statements_turns here s ≡ turns_of (statements_costs here.integers s)
   statements-turned here u.done = refl

@@ -14,9 +14,8 @@ named f (n ∷ ns) = ap (λ xs. f (ident_view n) ∷ xs) (named f ns)
 
 first-mapped : {A B : Type 0} (f : A → B) (n : ℕ) (xs : List (Option A)) → first_of (drop n (map (option_map f) xs)) ≡ option_map f (first_of (drop n xs))
 first-mapped f zero [] = refl
-first-mapped f zero (x ∷ xs) = refl
-first-mapped f (suc n) [] = refl
 first-mapped f (suc n) (x ∷ xs) = first-mapped f n xs
+first-mapped f _ _ = refl
 
 pub actual_seen : {A B : Type 0} (f : A → B) (n : ℕ) (xs : List (Option A)) (o : Option A) → o ≡ first_of (drop n xs)
     → option_map f o ≡ first_of (drop n (map (option_map f) xs))

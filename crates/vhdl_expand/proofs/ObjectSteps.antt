@@ -61,9 +61,8 @@ shape_stays d new x at form default e = ap (λ (n : InstanceObjects). shape_of n
     port = stays d.site (with_port d x).site at form default refl (λ kind. starts_stay d.site (d.site.ports ++ x.kind ∷ []) d.site.signals at kind default)
 
     by : (role : Role) → shape_of (with_object d (record x { role = role })).site at form default ≡ shape_of d.site at form default
-    by input = port
-    by output = port
     by internal = stays d.site (with_signal d x).site at form default refl (λ kind. starts_stay d.site d.site.ports (d.site.signals ++ x.kind ∷ []) at kind default)
+    by _ = port
 
 pub first_refused : {told : Told} → {X : Type 0} (role : Role) (d : InstanceObjects) (v : X → u.Object) (xs : List X) (x : X) → slice_get xs 0 ≡ Some x
     → (shape_of d.site (v x).at (v x).form (v x).default) ≡ Err told → (stepwise (next_object role) d (map v xs)) ≡ Err told

@@ -4,7 +4,7 @@ use Rattle.std.specs.Prelude.{ℤ}
 use Rattle.vhdl_tree.specs.declared.operator.Direction.{Direction}
 use Rattle.vhdl_expand_rules.specs.declared.fault.ElabFault.{ElabFault}
 use Rattle.vhdl_expand_rules.specs.Elab.{Elab, ◌>>=◌, MayTell, Told}
-use Rattle.vhdl_expand_rules.specs.Integers.{numbers_from, next}
+use Rattle.vhdl_expand_rules.specs.Integers.{numbers_from}
 use Rattle.vhdl_expand_rules.specs.Parameters.{parameter}
 use Rattle.vhdl_expand_rules.proofs.Parameters.{next-turn, no-turn}
 use Rattle.vhdl_expand_bodies.specs.Results.{Expands, Charges}

@@ -15,7 +15,7 @@ use Rattle.vhdl_expand_rules.specs.declared.fault.ElabProblem.{ElabProblem}
 use Rattle.vhdl_expand_rules.specs.declared.fault.ElabProblem.TheVariants.{StaticError, Index, TooMany}
 use Rattle.vhdl_expand_rules.specs.Elab.{Told, Elab, ◌>>=◌, unless, item_or, each, fault_told, MayTell}
 use Rattle.vhdl_expand_rules.specs.Integers.{Integers, checked_integer, division_with, modulus, integer_operation, integer, decision, is_null, extent, most_turns, turns}
-use Rattle.vhdl_expand_rules.specs.Kinds.{Bounds, ObjectKind, one, vector, enumeration, is_within, place_of, is_same_direction, slice_places, places}
+use Rattle.vhdl_expand_rules.specs.Kinds.{Bounds, ObjectKind, vector, is_within, place_of, is_same_direction, slice_places, places}
 use Rattle.vhdl_expand_rules.specs.Site.{Site, elements_count, part_elements, signal_elements, place_elements}
 use Rattle.vhdl_expand_rules.specs.Prefixes.{prefix, targets, names, names_elements, prefixes_elements}
 use Rattle.vhdl_expand_rules.specs.Expansion.{sensitivity}
@@ -149,10 +149,7 @@ module _ (bytes : List ℕ) where
   parts here at (vector b) (u.slice r) =
       then-places (integer here at r.left) _ (computed here at r.left) (λ x.
       then-places (integer here at r.right) _ (computed here at r.right) (λ y. sliced b at r.direction x y))
-  parts here at one (u.Part.element s) = other Index at index
-  parts here at one (u.slice r) = other Index at index
-  parts here at (enumeration n) (u.Part.element s) = other Index at index
-  parts here at (enumeration n) (u.slice r) = other Index at index
+  parts here at _ _ = other Index at index
 
   among-kinds : (here : Integers) (at from : ℕ) (kinds : List ObjectKind) (n : ℕ) (part : Part) → Places bytes (part_elements here at from kinds n part)
   among-kinds here at from kinds n part =

@@ -17,7 +17,7 @@ use Rattle.vhdl_names_rules.specs.units.Expressions.{Static, Part}
 use Rattle.vhdl_expand_rules.specs.declared.fault.ElabProblem.TheVariants.{Index, TooWide}
 use Rattle.vhdl_expand_rules.specs.Elab.{◌>>=◌, unless}
 use Rattle.vhdl_expand_rules.specs.Integers.{Integers, integer, natural, is_null, extent}
-use Rattle.vhdl_expand_rules.specs.Kinds.{ObjectKind, one, vector, enumeration, Bounds, bounds_size, size, is_within, place_of, slice_places, is_same_direction, places, size_of}
+use Rattle.vhdl_expand_rules.specs.Kinds.{ObjectKind, vector, Bounds, bounds_size, size, is_within, place_of, slice_places, is_same_direction, places, size_of}
 use Rattle.vhdl_expand_rules.specs.Elab.{item_or as found_kind}
 use Rattle.vhdl_expand_rules.specs.Site.{Site, Constant, elements_count, part_elements, constant_values, the_element}
 use Rattle.vhdl_expand_rules.proofs.Steps.{given, ok, bound, kept}
@@ -153,8 +153,7 @@ slice-down at l r x y f len s =
 slice-short : (at l r : ℕ) (d e : Direction) (x y : ℤ) (f len : ℕ) → Sliced (record { left = l; direction = d; right = r }) at e x y f len → Fits f len (extent d (pos l) (pos r))
 slice-short at l r To To x y f len s = slice-to at l r x y f len s
 slice-short at l r Downto Downto x y f len s = slice-down at l r x y f len s
-slice-short at l r To Downto x y f len s = absurd (let h = s.same in cc)
-slice-short at l r Downto To x y f len s = absurd (let h = s.same in cc)
+slice-short at l r _ _ x y f len s = absurd (let h = s.same in cc)
 
 -- ---- any part
 
@@ -182,10 +181,7 @@ places-short here at (vector b) (u.slice r) f len h e =
     let x = bound (integer here at r.left) _ _ e in
     let y = bound (integer here at r.right) _ _ x.then_gave in
     slice-short at b.left b.right b.direction r.direction x.x y.x f len (sliced b at r.direction x.x y.x f len y.then_gave)
-places-short here at one (u.Part.element s) f len h e = absurd cc
-places-short here at one (u.slice r) f len h e = absurd cc
-places-short here at (enumeration count) (u.Part.element s) f len h e = absurd cc
-places-short here at (enumeration count) (u.slice r) f len h e = absurd cc
+places-short here at _ _ f len h e = absurd cc
 
 -- ---- of one thing among several
 

@@ -1,5 +1,5 @@
 -- Conditions: what a chain of operators is not, levels, and chains of logical operators.
-use Rattle.std.proofs.Common.{◌≡◌, ℕ, zero, suc, ◌≤◌, ◌<◌, ◌+◌, Bool, List, [], ◌∷◌, ◌++◌, length, get_or, replicate, drop, drop-cons, add-one, None, Box, Vec, Global, Ok, Err, refl, sym, ap, ◌∙◌, subst, arith}
+use Rattle.std.proofs.Common.{◌≡◌, ℕ, suc, ◌≤◌, ◌<◌, ◌+◌, Bool, List, [], ◌∷◌, ◌++◌, length, get_or, replicate, drop, drop-cons, add-one, None, Box, Vec, Global, Ok, Err, refl, sym, ap, ◌∙◌, subst, arith}
 use Rattle.std.specs.List.{range_with_len}
 use Rattle.vhdl_values.specs.declared.scalar.Nine.{Nine}
 use Rattle.rtl_model.specs.bodies.Body as bodies
@@ -58,9 +58,8 @@ chain_is_no_character start links = ap character_in (rows.view_chain start links
 
 level-more : (plain : Bool) (f len : ℕ) (x : Nine) → 2 ≤ len
     → level_test plain (range_with_len f len) x ≡ bodies.equal (bodies.elements (bodies.signal (range_with_len f len))) (bodies.elements (bodies.constant (x ∷ [])))
-level-more plain f zero x h = absurd (omega arith)
-level-more plain f (suc zero) x h = absurd (omega arith)
 level-more plain f (suc (suc len)) x h = refl
+level-more plain f _ x h = absurd (omega arith)
 
 -- ---- chains
 

@@ -62,12 +62,9 @@ of_enumeration i counts n count (e.Value.position q) h c = record { selects = tt
 of_enumeration i counts n count (e.Value.elements y) h c =
     let g = shape_given (state count) (vector_shape i y) h in
     record { selects = selects_of (vector_shape i y) (Enumeration n count) g; fits = ap is_some g; counted = c }
-of_enumeration i counts n count (e.state_of y) h c =
-    let g = shape_given (state count) (value_shape i (e.state_of y)) h in
-    record { selects = selects_of (value_shape i (e.state_of y)) (Enumeration n count) g; fits = ap is_some g; counted = c }
-of_enumeration i counts n count (e.state_of_variable y) h c =
-    let g = shape_given (state count) (value_shape i (e.state_of_variable y)) h in
-    record { selects = selects_of (value_shape i (e.state_of_variable y)) (Enumeration n count) g; fits = ap is_some g; counted = c }
+of_enumeration i counts n count y h c =
+    let g = shape_given (state count) (value_shape i y) h in
+    record { selects = selects_of (value_shape i y) (Enumeration n count) g; fits = ap is_some g; counted = c }
 
 pub selector_is : (i : Inside) (counts : Counts) (y : Typed) (by : ObjectType × Value) → TypedFits i counts y → selector y ≡ Some by → Selected i counts by
 selector_is i counts (o.elements OpenVector y) by h q = subst (Selected i counts) (some_same (Elements LogicVector, e.Value.elements y) by q) (of_elements i counts LogicVector y h)
@@ -75,21 +72,16 @@ selector_is i counts (o.elements Element y) by h q = subst (Selected i counts) (
 selector_is i counts (o.elements LogicVector y) by h q = subst (Selected i counts) (some_same (Elements LogicVector, e.Value.elements y) by q) (of_elements i counts LogicVector y h)
 selector_is i counts (o.elements Unsigned y) by h q = subst (Selected i counts) (some_same (Elements Unsigned, e.Value.elements y) by q) (of_elements i counts Unsigned y h)
 selector_is i counts (o.enumerated n count y) by h q = subst (Selected i counts) (some_same (Enumeration n count, y) by q) (of_enumeration i counts n count y h.0 h.1)
-selector_is i counts (o.integer y) by h q = absurd cc
-selector_is i counts (o.truth y) by h q = absurd cc
+selector_is i counts _ by h q = absurd cc
 
 -- ---- choices
 
 values_chosen : (i : Inside) (kind : ElementKind) (vs : List Nine) → fixed_fits i (kind_shape kind) (u.Fixed.literal vs) ≡ true → choice_fits (Some (kind_shape kind)) (s.values vs) ≡ true
-values_chosen i Element [] h = absurd cc
 values_chosen i Element (v ∷ []) h = refl
-values_chosen i Element (v ∷ w ∷ vs) h = absurd cc
-values_chosen i LogicVector [] h = absurd cc
 values_chosen i LogicVector (v ∷ vs) h = refl
-values_chosen i Unsigned [] h = absurd cc
 values_chosen i Unsigned (v ∷ vs) h = refl
-values_chosen i OpenVector [] h = absurd cc
 values_chosen i OpenVector (v ∷ vs) h = refl
+values_chosen i _ _ h = absurd cc
 
 -- a choice of values, and of a literal, by what is selected
 of_values : (i : Inside) (w : Option Shape) (kind : ElementKind) (vs : List Nine) → Selects w (Elements kind) → fixed_fits i (kind_shape kind) (u.Fixed.literal vs) ≡ true
@@ -113,102 +105,7 @@ named_fits i counts w (Enumeration d count) (visibility.literal b size z) c f n 
     let a = p.given (b == d) (s.Choice.position z) c q in
     let g = same_count counts b d size count a.holds h.1 n in
     subst (λ c. choice_fits w c ≡ true) a.is (of_position w d count z f (ap (nat_lt z) (sym g) ∙ h.0))
-named_fits i counts w (Elements Element) (visibility.generic k) c f n h q = absurd cc
-named_fits i counts w (Elements Element) (visibility.integer_constant k) c f n h q = absurd cc
-named_fits i counts w (Elements Element) (visibility.generate_parameter k) c f n h q = absurd cc
-named_fits i counts w (Elements Element) (visibility.loop_parameter k) c f n h q = absurd cc
-named_fits i counts w (Elements Element) (visibility.port k mode kind) c f n h q = absurd cc
-named_fits i counts w (Elements Element) (visibility.signal k type) c f n h q = absurd cc
-named_fits i counts w (Elements Element) (visibility.variable k type) c f n h q = absurd cc
-named_fits i counts w (Elements Element) (visibility.integer_type y) c f n h q = absurd cc
-named_fits i counts w (Elements Element) (visibility.element_type y) c f n h q = absurd cc
-named_fits i counts w (Elements Element) (visibility.vector_type k y) c f n h q = absurd cc
-named_fits i counts w (Elements Element) (visibility.enumeration_type k y) c f n h q = absurd cc
-named_fits i counts w (Elements Element) (visibility.function y) c f n h q = absurd cc
-named_fits i counts w (Elements Element) (visibility.component k) c f n h q = absurd cc
-named_fits i counts w (Elements Element) visibility.label c f n h q = absurd cc
-named_fits i counts w (Elements Element) visibility.unfinished c f n h q = absurd cc
-named_fits i counts w (Elements Element) (visibility.literal b size z) c f n h q = absurd cc
-named_fits i counts w (Elements Element) (visibility.constant l Element None) c f n h q = absurd cc
-named_fits i counts w (Elements Element) (visibility.constant l LogicVector vs) c f n h q = absurd cc
-named_fits i counts w (Elements Element) (visibility.constant l Unsigned vs) c f n h q = absurd cc
-named_fits i counts w (Elements Element) (visibility.constant l OpenVector vs) c f n h q = absurd cc
-named_fits i counts w (Elements LogicVector) (visibility.generic k) c f n h q = absurd cc
-named_fits i counts w (Elements LogicVector) (visibility.integer_constant k) c f n h q = absurd cc
-named_fits i counts w (Elements LogicVector) (visibility.generate_parameter k) c f n h q = absurd cc
-named_fits i counts w (Elements LogicVector) (visibility.loop_parameter k) c f n h q = absurd cc
-named_fits i counts w (Elements LogicVector) (visibility.port k mode kind) c f n h q = absurd cc
-named_fits i counts w (Elements LogicVector) (visibility.signal k type) c f n h q = absurd cc
-named_fits i counts w (Elements LogicVector) (visibility.variable k type) c f n h q = absurd cc
-named_fits i counts w (Elements LogicVector) (visibility.integer_type y) c f n h q = absurd cc
-named_fits i counts w (Elements LogicVector) (visibility.element_type y) c f n h q = absurd cc
-named_fits i counts w (Elements LogicVector) (visibility.vector_type k y) c f n h q = absurd cc
-named_fits i counts w (Elements LogicVector) (visibility.enumeration_type k y) c f n h q = absurd cc
-named_fits i counts w (Elements LogicVector) (visibility.function y) c f n h q = absurd cc
-named_fits i counts w (Elements LogicVector) (visibility.component k) c f n h q = absurd cc
-named_fits i counts w (Elements LogicVector) visibility.label c f n h q = absurd cc
-named_fits i counts w (Elements LogicVector) visibility.unfinished c f n h q = absurd cc
-named_fits i counts w (Elements LogicVector) (visibility.literal b size z) c f n h q = absurd cc
-named_fits i counts w (Elements LogicVector) (visibility.constant l Element vs) c f n h q = absurd cc
-named_fits i counts w (Elements LogicVector) (visibility.constant l LogicVector None) c f n h q = absurd cc
-named_fits i counts w (Elements LogicVector) (visibility.constant l Unsigned vs) c f n h q = absurd cc
-named_fits i counts w (Elements LogicVector) (visibility.constant l OpenVector vs) c f n h q = absurd cc
-named_fits i counts w (Elements Unsigned) (visibility.generic k) c f n h q = absurd cc
-named_fits i counts w (Elements Unsigned) (visibility.integer_constant k) c f n h q = absurd cc
-named_fits i counts w (Elements Unsigned) (visibility.generate_parameter k) c f n h q = absurd cc
-named_fits i counts w (Elements Unsigned) (visibility.loop_parameter k) c f n h q = absurd cc
-named_fits i counts w (Elements Unsigned) (visibility.port k mode kind) c f n h q = absurd cc
-named_fits i counts w (Elements Unsigned) (visibility.signal k type) c f n h q = absurd cc
-named_fits i counts w (Elements Unsigned) (visibility.variable k type) c f n h q = absurd cc
-named_fits i counts w (Elements Unsigned) (visibility.integer_type y) c f n h q = absurd cc
-named_fits i counts w (Elements Unsigned) (visibility.element_type y) c f n h q = absurd cc
-named_fits i counts w (Elements Unsigned) (visibility.vector_type k y) c f n h q = absurd cc
-named_fits i counts w (Elements Unsigned) (visibility.enumeration_type k y) c f n h q = absurd cc
-named_fits i counts w (Elements Unsigned) (visibility.function y) c f n h q = absurd cc
-named_fits i counts w (Elements Unsigned) (visibility.component k) c f n h q = absurd cc
-named_fits i counts w (Elements Unsigned) visibility.label c f n h q = absurd cc
-named_fits i counts w (Elements Unsigned) visibility.unfinished c f n h q = absurd cc
-named_fits i counts w (Elements Unsigned) (visibility.literal b size z) c f n h q = absurd cc
-named_fits i counts w (Elements Unsigned) (visibility.constant l Element vs) c f n h q = absurd cc
-named_fits i counts w (Elements Unsigned) (visibility.constant l LogicVector vs) c f n h q = absurd cc
-named_fits i counts w (Elements Unsigned) (visibility.constant l Unsigned None) c f n h q = absurd cc
-named_fits i counts w (Elements Unsigned) (visibility.constant l OpenVector vs) c f n h q = absurd cc
-named_fits i counts w (Elements OpenVector) (visibility.generic k) c f n h q = absurd cc
-named_fits i counts w (Elements OpenVector) (visibility.integer_constant k) c f n h q = absurd cc
-named_fits i counts w (Elements OpenVector) (visibility.generate_parameter k) c f n h q = absurd cc
-named_fits i counts w (Elements OpenVector) (visibility.loop_parameter k) c f n h q = absurd cc
-named_fits i counts w (Elements OpenVector) (visibility.port k mode kind) c f n h q = absurd cc
-named_fits i counts w (Elements OpenVector) (visibility.signal k type) c f n h q = absurd cc
-named_fits i counts w (Elements OpenVector) (visibility.variable k type) c f n h q = absurd cc
-named_fits i counts w (Elements OpenVector) (visibility.integer_type y) c f n h q = absurd cc
-named_fits i counts w (Elements OpenVector) (visibility.element_type y) c f n h q = absurd cc
-named_fits i counts w (Elements OpenVector) (visibility.vector_type k y) c f n h q = absurd cc
-named_fits i counts w (Elements OpenVector) (visibility.enumeration_type k y) c f n h q = absurd cc
-named_fits i counts w (Elements OpenVector) (visibility.function y) c f n h q = absurd cc
-named_fits i counts w (Elements OpenVector) (visibility.component k) c f n h q = absurd cc
-named_fits i counts w (Elements OpenVector) visibility.label c f n h q = absurd cc
-named_fits i counts w (Elements OpenVector) visibility.unfinished c f n h q = absurd cc
-named_fits i counts w (Elements OpenVector) (visibility.literal b size z) c f n h q = absurd cc
-named_fits i counts w (Elements OpenVector) (visibility.constant l Element vs) c f n h q = absurd cc
-named_fits i counts w (Elements OpenVector) (visibility.constant l LogicVector vs) c f n h q = absurd cc
-named_fits i counts w (Elements OpenVector) (visibility.constant l Unsigned vs) c f n h q = absurd cc
-named_fits i counts w (Elements OpenVector) (visibility.constant l OpenVector vs) c f n h q = absurd cc
-named_fits i counts w (Enumeration d count) (visibility.generic k) c f n h q = absurd cc
-named_fits i counts w (Enumeration d count) (visibility.integer_constant k) c f n h q = absurd cc
-named_fits i counts w (Enumeration d count) (visibility.generate_parameter k) c f n h q = absurd cc
-named_fits i counts w (Enumeration d count) (visibility.loop_parameter k) c f n h q = absurd cc
-named_fits i counts w (Enumeration d count) (visibility.port k mode kind) c f n h q = absurd cc
-named_fits i counts w (Enumeration d count) (visibility.signal k type) c f n h q = absurd cc
-named_fits i counts w (Enumeration d count) (visibility.variable k type) c f n h q = absurd cc
-named_fits i counts w (Enumeration d count) (visibility.integer_type y) c f n h q = absurd cc
-named_fits i counts w (Enumeration d count) (visibility.element_type y) c f n h q = absurd cc
-named_fits i counts w (Enumeration d count) (visibility.vector_type k y) c f n h q = absurd cc
-named_fits i counts w (Enumeration d count) (visibility.enumeration_type k y) c f n h q = absurd cc
-named_fits i counts w (Enumeration d count) (visibility.function y) c f n h q = absurd cc
-named_fits i counts w (Enumeration d count) (visibility.component k) c f n h q = absurd cc
-named_fits i counts w (Enumeration d count) visibility.label c f n h q = absurd cc
-named_fits i counts w (Enumeration d count) visibility.unfinished c f n h q = absurd cc
-named_fits i counts w (Enumeration d count) (visibility.constant l j vs) c f n h q = absurd cc
+named_fits i counts w _ _ c f n h q = absurd cc
 
 literal_fits : (i : Inside) (w : Option Shape) (type : ObjectType) (d : Expr) (c : Choice) → Selects w type → literal_choice type d ≡ Some c → choice_fits w c ≡ true
 literal_fits i w (Elements k) d c f q =
@@ -221,17 +118,7 @@ chosen_fits : (i : Inside) (counts : Counts) (sight : Sight) → IsInside i coun
 chosen_fits i counts sight h w type f n (t.named a t.plain None) c q =
     let b = comes (meaning sight a.text) (named_choice type) c q in
     named_fits i counts w type b.value c f n (meant i counts sight h a.text b.value b.is) b.rest
-chosen_fits i counts sight h w type f n (t.named a t.plain (Some b)) c q = literal_fits i w type (t.named a t.plain (Some b)) c f q
-chosen_fits i counts sight h w type f n (t.named a (t.arguments es) b) c q = literal_fits i w type (t.named a (t.arguments es) b) c f q
-chosen_fits i counts sight h w type f n (t.named a (t.sliced l r y) b) c q = literal_fits i w type (t.named a (t.sliced l r y) b) c f q
-chosen_fits i counts sight h w type f n (t.integer a b) c q = literal_fits i w type (t.integer a b) c f q
-chosen_fits i counts sight h w type f n (t.character a b) c q = literal_fits i w type (t.character a b) c f q
-chosen_fits i counts sight h w type f n (t.string a b) c q = literal_fits i w type (t.string a b) c f q
-chosen_fits i counts sight h w type f n (t.bits a b) c q = literal_fits i w type (t.bits a b) c f q
-chosen_fits i counts sight h w type f n (t.parens a b) c q = literal_fits i w type (t.parens a b) c f q
-chosen_fits i counts sight h w type f n (t.negation a b) c q = literal_fits i w type (t.negation a b) c f q
-chosen_fits i counts sight h w type f n (t.signed a b d) c q = literal_fits i w type (t.signed a b d) c f q
-chosen_fits i counts sight h w type f n (t.binary a b d y z) c q = literal_fits i w type (t.binary a b d y z) c f q
+chosen_fits i counts sight h w type f n d c q = literal_fits i w type d c f q
 
 choice_is : (i : Inside) (counts : Counts) (sight : Sight) → IsInside i counts sight → (w : Option Shape) (type : ObjectType) → Selects w type → IsCounted counts type
     → (d : t.Choice) (c : Choice) → choice sight type d ≡ Some c → choice_fits w c ≡ true
@@ -249,10 +136,8 @@ each_all f test each_passes (x ∷ xs) ys q =
 
 choices_fit : (i : Inside) (counts : Counts) (sight : Sight) → IsInside i counts sight → (w : Option Shape) (type : ObjectType) → Selects w type → IsCounted counts type
     → (ds : List t.Choice) (cs : List Choice) → choices sight type ds ≡ Some cs → list_all (choice_fits w) cs ≡ true
-choices_fit i counts sight h w type f n [] cs q = each_all (choice sight type) (choice_fits w) (choice_is i counts sight h w type f n) [] cs q
-choices_fit i counts sight h w type f n (t.chosen d ∷ ds) cs q = each_all (choice sight type) (choice_fits w) (choice_is i counts sight h w type f n) (t.chosen d ∷ ds) cs q
 choices_fit i counts sight h w type f n (t.otherwise at ∷ []) cs q = subst (λ cs. list_all (choice_fits w) cs ≡ true) (some_same [] cs q) refl
-choices_fit i counts sight h w type f n (t.otherwise at ∷ d ∷ ds) cs q = each_all (choice sight type) (choice_fits w) (choice_is i counts sight h w type f n) (t.otherwise at ∷ d ∷ ds) cs q
+choices_fit i counts sight h w type f n ds cs q = each_all (choice sight type) (choice_fits w) (choice_is i counts sight h w type f n) ds cs q
 
 pub covered_fits : (i : Inside) (counts : Counts) (sight : Sight) → IsInside i counts sight → (w : Option Shape) (type : ObjectType) → Selects w type → IsCounted counts type
     → (dss : List (List t.Choice)) (css : List (List Choice)) → covered sight type dss ≡ Some css → list_all (list_all (choice_fits w)) css ≡ true
@@ -267,12 +152,8 @@ covered_fits i counts sight h w type f n dss css q =
 pub arranged_fits : (i : Inside) (w : Option Shape) (css : List (List Choice)) (bodies : List Statements) (alts : Alternatives) → list_all (list_all (choice_fits w)) css ≡ true
     → list_all (statements_fit i) bodies ≡ true → arranged css bodies ≡ Some alts → alternatives_fit i w alts ≡ true
 unfolding alternatives_fit
-arranged_fits i w [] bodies alts f h q = absurd cc
-arranged_fits i w (cs ∷ []) [] alts f h q = absurd cc
 arranged_fits i w (cs ∷ []) (b ∷ []) alts f h q =
     subst (λ alts. alternatives_fit i w alts ≡ true) (some_same (s.others b) alts q) (and_parts (statements_fit i b) true h).0
-arranged_fits i w (cs ∷ []) (b ∷ c ∷ bs) alts f h q = absurd cc
-arranged_fits i w (cs ∷ ds ∷ css) [] alts f h q = absurd cc
 arranged_fits i w (cs ∷ ds ∷ css) (b ∷ bs) alts f h q =
     let a = mapped (s.alternative cs b) (arranged (ds ∷ css) bs) alts q in
     let c = and_parts (list_all (choice_fits w) cs) (list_all (list_all (choice_fits w)) (ds ∷ css)) f in
@@ -280,3 +161,4 @@ arranged_fits i w (cs ∷ ds ∷ css) (b ∷ bs) alts f h q =
     subst (λ alts. alternatives_fit i w alts ≡ true) a.is
     (and_from (list_all (choice_fits w) cs && statements_fit i b) (alternatives_fit i w a.value) (and_from (list_all (choice_fits w) cs) (statements_fit i b) c.0 g.0)
     (arranged_fits i w (ds ∷ css) bs a.value c.1 g.1 a.from))
+arranged_fits i w _ _ alts f h q = absurd cc

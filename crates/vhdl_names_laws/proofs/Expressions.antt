@@ -5,7 +5,7 @@ use Rattle.vhdl_tree.specs.declared.operator.Sign.{Sign}
 use Rattle.vhdl_tree.specs.declared.operator.Sign.TheVariants.{Plus, Minus}
 use Rattle.vhdl_tree.specs.Tree as t
 use Rattle.vhdl_tree.specs.Tree.{Expr, Exprs}
-use Rattle.vhdl_names_rules.specs.declared.kind.ElementKind.TheVariants.{Element, LogicVector, Unsigned, OpenVector}
+use Rattle.vhdl_names_rules.specs.declared.kind.ElementKind.TheVariants.{Element, OpenVector}
 use Rattle.vhdl_names_rules.specs.units.Expressions as e
 use Rattle.vhdl_names_rules.specs.units.Expressions.{Static, Range, Vector}
 use Rattle.vhdl_names_rules.specs.Visibility.{Sight, meaning}
@@ -25,9 +25,7 @@ use Rattle.vhdl_names_rules.proofs.laws.Rules.{comes}
 
 pub as_integer_fits : (i : Inside) (counts : Counts) (x : Typed) (s : Static) → TypedFits i counts x → as_integer x ≡ Some s → static_fits i s ≡ true
 as_integer_fits i counts (o.integer r) s h g = subst (λ s. static_fits i s ≡ true) (some_same r s g) h
-as_integer_fits i counts (o.elements k x) s h g = absurd cc
-as_integer_fits i counts (o.enumerated d m x) s h g = absurd cc
-as_integer_fits i counts (o.truth x) s h g = absurd cc
+as_integer_fits i counts _ s h g = absurd cc
 
 signed_fits : (i : Inside) (at : ℕ) (sign : Sign) (s : Static) → static_fits i s ≡ true → static_fits i (signed at sign s) ≡ true
 signed_fits i at Plus s h = h
@@ -35,35 +33,12 @@ signed_fits i at Minus s h = h
 
 -- what stands in parentheses is as it was
 enclosed_fits : (i : Inside) (counts : Counts) (x : Typed) → TypedFits i counts x → TypedFits i counts (enclosed x)
-enclosed_fits i counts (o.integer r) h = h
 enclosed_fits i counts (o.elements Element (e.of_signal q)) h = h
-enclosed_fits i counts (o.elements Element (e.of_variable at k q)) h = h
-enclosed_fits i counts (o.elements Element (e.of_constant at k q)) h = h
-enclosed_fits i counts (o.elements Element (e.character c)) h = h
-enclosed_fits i counts (o.elements Element (e.enclosed_character c)) h = h
-enclosed_fits i counts (o.elements Element (e.Vector.literal at vs)) h = h
-enclosed_fits i counts (o.elements Element (e.Vector.inverse x)) h = h
-enclosed_fits i counts (o.elements Element (e.Vector.binary at c x y)) h = h
-enclosed_fits i counts (o.elements Element (e.with_integer at c x y)) h = h
-enclosed_fits i counts (o.elements Element (e.integer_with at c x y)) h = h
-enclosed_fits i counts (o.elements Element (e.Vector.encoded at x y)) h = h
-enclosed_fits i counts (o.elements Element (e.counted at c x y)) h = h
-enclosed_fits i counts (o.elements LogicVector x) h = h
-enclosed_fits i counts (o.elements Unsigned x) h = h
-enclosed_fits i counts (o.elements OpenVector x) h = h
-enclosed_fits i counts (o.enumerated d m x) h = h
-enclosed_fits i counts (o.truth x) h = h
+enclosed_fits i counts _ h = h
 
 beside_fits : (i : Inside) (counts : Counts) (d : Expr) (x : Typed) → TypedFits i counts x → TypedFits i counts (beside d x)
 beside_fits i counts (t.parens at d) x h = enclosed_fits i counts x h
-beside_fits i counts (t.integer at text) x h = h
-beside_fits i counts (t.character at c) x h = h
-beside_fits i counts (t.string at text) x h = h
-beside_fits i counts (t.bits at text) x h = h
-beside_fits i counts (t.named n s a) x h = h
-beside_fits i counts (t.negation at d) x h = h
-beside_fits i counts (t.signed sign at d) x h = h
-beside_fits i counts (t.binary begins op at d f) x h = h
+beside_fits i counts _ x h = h
 
 mutual
   unfolding typed

@@ -24,9 +24,8 @@ AreFormals (f ∷ fs) (p ∷ ps) = IsFormal f p × AreFormals fs ps
 
 formals_append : (fs gs : List Formal) (ps qs : List u.Port) → AreFormals fs ps → AreFormals gs qs → AreFormals (fs ++ gs) (ps ++ qs)
 formals_append [] gs [] qs h k = k
-formals_append [] gs (p ∷ ps) qs h k = absurd h
-formals_append (f ∷ fs) gs [] qs h k = absurd h
 formals_append (f ∷ fs) gs (p ∷ ps) qs h k = (h.0, formals_append fs gs ps qs h.1 k)
+formals_append _ gs _ qs h k = absurd h
 
 picked_append : {A B : Type 0} (pick : A → Option B) (ds es : List A) → filter_map pick (ds ++ es) ≡ filter_map pick ds ++ filter_map pick es
 picked_append pick [] es = refl

@@ -8,9 +8,9 @@ use Rattle.vhdl_tree.specs.declared.declaration.Mode.TheVariants.{In, Out}
 use Rattle.vhdl_tree.specs.Tree as t
 use Rattle.vhdl_tree.specs.Tree.{Ident, Expr}
 use Rattle.vhdl_names_rules.specs.declared.kind.ElementKind.{ElementKind}
-use Rattle.vhdl_names_rules.specs.declared.kind.ElementKind.TheVariants.{Element, LogicVector, Unsigned, OpenVector}
+use Rattle.vhdl_names_rules.specs.declared.kind.ElementKind.TheVariants.{Element, LogicVector, Unsigned}
 use Rattle.vhdl_names_rules.specs.declared.kind.ObjectType.{ObjectType}
-use Rattle.vhdl_names_rules.specs.declared.kind.ObjectType.TheVariants.{Elements, Enumeration}
+use Rattle.vhdl_names_rules.specs.declared.kind.ObjectType.TheVariants.{Elements}
 use Rattle.vhdl_names_rules.specs.units.Expressions.{SignalPart}
 use Rattle.vhdl_names_rules.specs.units.Units as u
 use Rattle.vhdl_names_rules.specs.units.Units.{Units}
@@ -50,19 +50,7 @@ kind_is : (k : ElementKind) (type : ObjectType) → is_kind k type ≡ true → 
 kind_is Element (Elements Element) h = refl
 kind_is LogicVector (Elements LogicVector) h = refl
 kind_is Unsigned (Elements Unsigned) h = refl
-kind_is Element (Elements LogicVector) h = absurd cc
-kind_is Element (Elements Unsigned) h = absurd cc
-kind_is Element (Elements OpenVector) h = absurd cc
-kind_is Element (Enumeration m c) h = absurd cc
-kind_is LogicVector (Elements Element) h = absurd cc
-kind_is LogicVector (Elements Unsigned) h = absurd cc
-kind_is LogicVector (Elements OpenVector) h = absurd cc
-kind_is LogicVector (Enumeration m c) h = absurd cc
-kind_is Unsigned (Elements Element) h = absurd cc
-kind_is Unsigned (Elements LogicVector) h = absurd cc
-kind_is Unsigned (Elements OpenVector) h = absurd cc
-kind_is Unsigned (Enumeration m c) h = absurd cc
-kind_is OpenVector type h = absurd cc
+kind_is _ _ h = absurd cc
 
 joins : (i : Inside) (counts : Counts) (mode : Mode) (x : SignalName) → SignalFits i counts x → n.may_join mode x.mode ≡ true → w.may_join i mode x.place.signal ≡ true
 joins i counts In x h k = refl
@@ -92,16 +80,15 @@ actual_is i counts sight f p (Some d) z h g q =
 actuals_are : (i : Inside) (counts : Counts) (sight : Sight) → IsInside i counts sight → (fs : List Formal) (ds : List (Option Expr)) (ps : List u.Port) (zs : List (Option SignalPart)) → AreFormals fs ps
     → length ds ≡ length fs → port_actuals sight fs ds ≡ Some zs → actuals_fit i ps zs ≡ true
 actuals_are i counts sight h [] [] [] zs a l q = subst (λ zs. actuals_fit i [] zs ≡ true) (some_same [] zs q) refl
-actuals_are i counts sight h [] (d ∷ ds) [] zs a l q = absurd (omega (arith, l))
 actuals_are i counts sight h [] ds (p ∷ ps) zs a l q = absurd a
 actuals_are i counts sight h (f ∷ fs) ds [] zs a l q = absurd a
-actuals_are i counts sight h (f ∷ fs) [] (p ∷ ps) zs a l q = absurd (omega (arith, l))
 actuals_are i counts sight h (f ∷ fs) (d ∷ ds) (p ∷ ps) zs a l q =
     let c = comes (if_any (port_actual sight f) d) _ zs q in
     let b = comes (port_actuals sight fs ds) _ zs c.rest in
     subst (λ zs. actuals_fit i (p ∷ ps) zs ≡ true) (some_same (c.value ∷ b.value) zs b.rest)
     (and_from (actual_fits i p c.value) (actuals_fit i ps b.value) (actual_is i counts sight f p d c.value h a.0 c.is)
     (actuals_are i counts sight h fs ds ps b.value a.1 (omega (arith, l)) b.is))
+actuals_are i counts sight h _ _ _ zs a l q = absurd (omega (arith, l))
 
 each_length : {A B : Type 0} (f : A → Option B) (xs : List A) (ys : List B) → each f xs ≡ Some ys → length ys ≡ length xs
 each_length f [] ys q = ap length (sym (some_same [] ys q))

@@ -106,22 +106,7 @@ ports_alone (p ∷ ps) i j h c k =
 
 formal_name : (n : Name) (d : Meaning) (f : Formal) → port_formal (declare n d) ≡ Some f → f.name ≡ n
 formal_name n (visibility.port k mode kind) f q = ap (λ (f : Formal). f.name) (sym (some_same _ f q))
-formal_name n (visibility.generic k) f q = absurd cc
-formal_name n (visibility.integer_constant k) f q = absurd cc
-formal_name n (visibility.generate_parameter k) f q = absurd cc
-formal_name n (visibility.loop_parameter k) f q = absurd cc
-formal_name n (visibility.signal k type) f q = absurd cc
-formal_name n (visibility.variable k type) f q = absurd cc
-formal_name n (visibility.constant k kind vs) f q = absurd cc
-formal_name n (visibility.literal a b c) f q = absurd cc
-formal_name n (visibility.integer_type y) f q = absurd cc
-formal_name n (visibility.element_type y) f q = absurd cc
-formal_name n (visibility.vector_type k y) f q = absurd cc
-formal_name n (visibility.enumeration_type k y) f q = absurd cc
-formal_name n (visibility.function y) f q = absurd cc
-formal_name n (visibility.component k) f q = absurd cc
-formal_name n visibility.label f q = absurd cc
-formal_name n visibility.unfinished f q = absurd cc
+formal_name n _ f q = absurd cc
 
 abbrev names_of_formals : List Declared → List Name
 names_of_formals ds = map (λ (f : Formal). f.name) (filter_map port_formal ds)
@@ -159,9 +144,8 @@ port_names ps = map (λ (p : u.Port). p.object.name) ps
 
 same_port_names : (fs : List Formal) (ps : List u.Port) → AreFormals fs ps → port_names ps ≡ map (λ (f : Formal). f.name) fs
 same_port_names [] [] h = refl
-same_port_names [] (p ∷ ps) h = absurd h
-same_port_names (f ∷ fs) [] h = absurd h
 same_port_names (f ∷ fs) (p ∷ ps) h = ap (λ n. n ∷ map (λ (p : u.Port). p.object.name) ps) h.0.name ∙ ap (λ ns. f.name ∷ ns) (same_port_names fs ps h.1)
+same_port_names _ _ h = absurd h
 
 -- ---- interfaces
 

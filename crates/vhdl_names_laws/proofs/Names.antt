@@ -48,14 +48,12 @@ SuffixFits i counts (n.range r) = range_fits i r ≡ true
 
 -- a vector's form has a range
 vector_form : (i : Inside) (f : Form) (s : Static) → shape_of f ≡ vector → static_fits i s ≡ true → part_shape i f (e.Part.element s) ≡ Some one
-vector_form i u.element s h t = absurd cc
 vector_form i (u.vector r) s h t = ap (λ b. then_some b one) t
-vector_form i (u.enumeration c) s h t = absurd cc
+vector_form i _ s h t = absurd cc
 
 slice_form : (i : Inside) (f : Form) (r : Range) → shape_of f ≡ vector → range_fits i r ≡ true → part_shape i f (e.slice r) ≡ Some vector
-slice_form i u.element s h t = absurd cc
 slice_form i (u.vector r) s h t = ap (λ b. then_some b vector) t
-slice_form i (u.enumeration c) s h t = absurd cc
+slice_form i _ s h t = absurd cc
 
 module _ (i : Inside) (counts : Counts) where
   -- a part of an object of a kind has the kind's shape
@@ -75,18 +73,7 @@ module _ (i : Inside) (counts : Counts) where
           → part_shape i f p.0 ≡ Some (kind_shape p.1)
       listed LogicVector v h b (o.integer s ∷ []) t c g = element_of LogicVector v h s t.0 g
       listed Unsigned v h b (o.integer s ∷ []) t c g = element_of Unsigned v h s t.0 g
-      listed LogicVector v h b [] t c g = absurd cc
-      listed LogicVector v h b (o.elements j x ∷ xs) t c g = absurd cc
-      listed LogicVector v h b (o.enumerated d m x ∷ xs) t c g = absurd cc
-      listed LogicVector v h b (o.truth x ∷ xs) t c g = absurd cc
-      listed LogicVector v h b (o.integer s ∷ y ∷ xs) t c g = absurd cc
-      listed Unsigned v h b [] t c g = absurd cc
-      listed Unsigned v h b (o.elements j x ∷ xs) t c g = absurd cc
-      listed Unsigned v h b (o.enumerated d m x ∷ xs) t c g = absurd cc
-      listed Unsigned v h b (o.truth x ∷ xs) t c g = absurd cc
-      listed Unsigned v h b (o.integer s ∷ y ∷ xs) t c g = absurd cc
-      listed Element v h b xs t c g = absurd cc
-      listed OpenVector v h b xs t c g = absurd cc
+      listed _ v h b _ t c g = absurd cc
 
       by : (k : ElementKind) (s : Suffix) → shape_of f ≡ kind_shape k → SuffixFits i counts s → part k s ≡ Some p → part_shape i f p.0 ≡ Some (kind_shape p.1)
       by k n.plain h t g = is (e.whole, k) g (ap Some h)
@@ -94,10 +81,7 @@ module _ (i : Inside) (counts : Counts) where
       by Unsigned (n.arguments b xs) h t g = listed Unsigned refl h b xs t (λ s. refl) g
       by LogicVector (n.range r) h t g = is (e.slice r, LogicVector) g (slice_form i f r h t)
       by Unsigned (n.range r) h t g = is (e.slice r, Unsigned) g (slice_form i f r h t)
-      by Element (n.arguments b xs) h t g = absurd cc
-      by OpenVector (n.arguments b xs) h t g = absurd cc
-      by Element (n.range r) h t g = absurd cc
-      by OpenVector (n.range r) h t g = absurd cc
+      by _ _ h t g = absurd cc
 
   -- likewise of any object
   pub part_of_fits : (f : Form) (type : ObjectType) (s : Suffix) (p : Part × ObjectType) → shape_of f ≡ type_shape type → IsCounted counts type → SuffixFits i counts s
@@ -107,8 +91,7 @@ module _ (i : Inside) (counts : Counts) where
       subst (λ (q : Part × ObjectType). (part_shape i f q.0 ≡ Some (type_shape q.1)) × IsCounted counts q.1) a.is (part_fits f k s a.value h t a.from, tt)
   part_of_fits f (Enumeration d count) n.plain p h c t g =
       subst (λ (q : Part × ObjectType). (part_shape i f q.0 ≡ Some (type_shape q.1)) × IsCounted counts q.1) (some_same (e.whole, Enumeration d count) p g) (ap Some h, c)
-  part_of_fits f (Enumeration d count) (n.arguments b xs) p h c t g = absurd cc
-  part_of_fits f (Enumeration d count) (n.range r) p h c t g = absurd cc
+  part_of_fits f _ _ p h c t g = absurd cc
 
   -- ---- objects that are read
 
@@ -140,86 +123,48 @@ module _ (i : Inside) (counts : Counts) where
 
   plain_fits : (s : Suffix) (x y : Typed) → TypedFits i counts x → if_plain s x ≡ Some y → TypedFits i counts y
   plain_fits n.plain x y h g = subst (TypedFits i counts) (some_same x y g) h
-  plain_fits (n.arguments b xs) x y h g = absurd cc
-  plain_fits (n.range r) x y h g = absurd cc
+  plain_fits _ x y h g = absurd cc
 
   -- ---- conversions and calls
 
   converted_fits : (k : ElementKind) (s : Suffix) (y : Typed) → kind_shape k ≡ vector → SuffixFits i counts s → converted k s ≡ Some y → TypedFits i counts y
-  converted_fits k n.plain y v t g = absurd cc
-  converted_fits k (n.range r) y v t g = absurd cc
-  converted_fits k (n.arguments b []) y v t g = absurd cc
   converted_fits k (n.arguments b (o.elements LogicVector x ∷ [])) y v t g = subst (TypedFits i counts) (some_same (o.elements k x) y g) (t.0 ∙ ap Some (sym v))
   converted_fits k (n.arguments b (o.elements Unsigned x ∷ [])) y v t g = subst (TypedFits i counts) (some_same (o.elements k x) y g) (t.0 ∙ ap Some (sym v))
   converted_fits k (n.arguments b (o.elements OpenVector x ∷ [])) y v t g = subst (TypedFits i counts) (some_same (o.elements k x) y g) (t.0 ∙ ap Some (sym v))
-  converted_fits k (n.arguments b (o.elements Element x ∷ [])) y v t g = absurd cc
-  converted_fits k (n.arguments b (o.elements Element x ∷ z ∷ zs)) y v t g = absurd cc
-  converted_fits k (n.arguments b (o.elements LogicVector x ∷ z ∷ zs)) y v t g = absurd cc
-  converted_fits k (n.arguments b (o.elements Unsigned x ∷ z ∷ zs)) y v t g = absurd cc
-  converted_fits k (n.arguments b (o.elements OpenVector x ∷ z ∷ zs)) y v t g = absurd cc
-  converted_fits k (n.arguments b (o.integer x ∷ zs)) y v t g = absurd cc
-  converted_fits k (n.arguments b (o.enumerated d m x ∷ zs)) y v t g = absurd cc
-  converted_fits k (n.arguments b (o.truth x ∷ zs)) y v t g = absurd cc
+  converted_fits k _ y v t g = absurd cc
 
   counted_fits : (f : Vector → Static → Vector) → ((x : Vector) (s : Static) → vector_shape i (f x s) ≡ with_static i (vector_shape i x) s)
       → (s : Suffix) (y : Typed) → SuffixFits i counts s → counted f s ≡ Some y → TypedFits i counts y
-  counted_fits f c n.plain y t g = absurd cc
-  counted_fits f c (n.range r) y t g = absurd cc
   counted_fits f c (n.arguments b (o.elements Unsigned x ∷ o.integer s ∷ [])) y t g =
       subst (TypedFits i counts) (some_same (o.elements Unsigned (f x s)) y g)
       (c x s ∙ ap (λ z. with_static i z s) t.0 ∙ ap (λ b. then_some b vector) t.1.0)
-  counted_fits f c (n.arguments b []) y t g = absurd cc
-  counted_fits f c (n.arguments b (o.integer x ∷ zs)) y t g = absurd cc
-  counted_fits f c (n.arguments b (o.enumerated d m x ∷ zs)) y t g = absurd cc
-  counted_fits f c (n.arguments b (o.truth x ∷ zs)) y t g = absurd cc
-  counted_fits f c (n.arguments b (o.elements Element x ∷ zs)) y t g = absurd cc
-  counted_fits f c (n.arguments b (o.elements LogicVector x ∷ zs)) y t g = absurd cc
-  counted_fits f c (n.arguments b (o.elements OpenVector x ∷ zs)) y t g = absurd cc
-  counted_fits f c (n.arguments b (o.elements Unsigned x ∷ [])) y t g = absurd cc
-  counted_fits f c (n.arguments b (o.elements Unsigned x ∷ o.elements k z ∷ zs)) y t g = absurd cc
-  counted_fits f c (n.arguments b (o.elements Unsigned x ∷ o.enumerated d m z ∷ zs)) y t g = absurd cc
-  counted_fits f c (n.arguments b (o.elements Unsigned x ∷ o.truth z ∷ zs)) y t g = absurd cc
-  counted_fits f c (n.arguments b (o.elements Unsigned x ∷ o.integer s ∷ z ∷ zs)) y t g = absurd cc
+  counted_fits f c _ y t g = absurd cc
 
   encoding_fits : (at : ℕ) (s : Suffix) (y : Typed) → SuffixFits i counts s → encoding at s ≡ Some y → TypedFits i counts y
-  encoding_fits at n.plain y t g = absurd cc
-  encoding_fits at (n.range r) y t g = absurd cc
   encoding_fits at (n.arguments b (o.integer s ∷ o.integer size ∷ [])) y t g =
       subst (TypedFits i counts) (some_same (o.elements Unsigned (e.Vector.encoded at s size)) y g)
       (ap (λ b. then_some b vector) (and_from (static_fits i s) (static_fits i size) t.0 t.1.0))
-  encoding_fits at (n.arguments b []) y t g = absurd cc
-  encoding_fits at (n.arguments b (o.elements k x ∷ zs)) y t g = absurd cc
-  encoding_fits at (n.arguments b (o.enumerated d m x ∷ zs)) y t g = absurd cc
-  encoding_fits at (n.arguments b (o.truth x ∷ zs)) y t g = absurd cc
-  encoding_fits at (n.arguments b (o.integer s ∷ [])) y t g = absurd cc
-  encoding_fits at (n.arguments b (o.integer s ∷ o.elements k x ∷ zs)) y t g = absurd cc
-  encoding_fits at (n.arguments b (o.integer s ∷ o.enumerated d m x ∷ zs)) y t g = absurd cc
-  encoding_fits at (n.arguments b (o.integer s ∷ o.truth x ∷ zs)) y t g = absurd cc
-  encoding_fits at (n.arguments b (o.integer s ∷ o.integer size ∷ z ∷ zs)) y t g = absurd cc
+  encoding_fits at _ y t g = absurd cc
 
   -- ---- edges
 
   -- an integer in which no loop's parameter stands is there without the loops
   outside_loops : (s : Static) → is_static s ≡ true → static_fits i s ≡ true → static_fits (record i { loops = 0 }) s ≡ true
   outside_loops (e.number k) h t = refl
-  outside_loops (e.generic k) h t = t
-  outside_loops (e.Static.constant k) h t = t
-  outside_loops (e.generate_parameter k) h t = t
   outside_loops (e.loop_parameter k) h t = absurd cc
   outside_loops (e.Static.negated at s) h t = outside_loops s h t
   outside_loops (e.Static.binary at by s r) h t =
       let a = and_parts (is_static s) (is_static r) h in
       let b = and_parts (static_fits i s) (static_fits i r) t in
       and_from (static_fits (record i { loops = 0 }) s) (static_fits (record i { loops = 0 }) r) (outside_loops s a.0 b.0) (outside_loops r a.1 b.1)
+  outside_loops _ h t = t
 
   part_outside : (f : Form) (p : Part) → is_static_part p ≡ true → part_shape i f p ≡ Some one → part_shape (record i { loops = 0 }) f p ≡ Some one
   part_outside f e.whole h t = t
-  part_outside u.element (e.Part.element s) h t = absurd cc
   part_outside (u.vector r) (e.Part.element s) h t =
       let g = given (static_fits i s) one one t in
       ap (λ b. then_some b one) (outside_loops s h g.holds)
-  part_outside (u.enumeration c) (e.Part.element s) h t = absurd cc
-  part_outside f (e.slice r) h t = absurd cc
+  part_outside _ _ h t = absurd cc
 
   same_signal : (z : Signal) → signal_form (record i { loops = 0 }) z ≡ signal_form i z
   same_signal (e.port k) = refl
@@ -231,12 +176,6 @@ module _ (i : Inside) (counts : Counts) where
       ap (λ w. w >>= λ f. part_shape (record i { loops = 0 }) f p.part) (same_signal p.signal ∙ c.is) ∙ part_outside c.value p.part h c.rest
 
   edge_place : (x : Typed) (p : SignalPart) → TypedFits i counts x → edge_signal x ≡ Some p → edge_fits i p ≡ true
-  edge_place (o.integer s) p t g = absurd cc
-  edge_place (o.enumerated d m x) p t g = absurd cc
-  edge_place (o.truth x) p t g = absurd cc
-  edge_place (o.elements LogicVector x) p t g = absurd cc
-  edge_place (o.elements Unsigned x) p t g = absurd cc
-  edge_place (o.elements OpenVector x) p t g = absurd cc
   edge_place (o.elements Element (e.of_signal q)) p t g = by (is_static_part q.part) refl g
     where
       by : (b : Bool) → is_static_part q.part ≡ b → cond b (Some q) None ≡ Some p → edge_fits i p ≡ true
@@ -246,27 +185,13 @@ module _ (i : Inside) (counts : Counts) where
           subst (λ p. edge_fits i p ≡ true) (some_same q p g)
           (fits_self one (place_shape (record i { loops = 0 }) q) (place_outside q h (c.is ∙ ap Some d.is)))
       by false h g = absurd cc
-  edge_place (o.elements Element (e.of_variable at k q)) p t g = absurd cc
-  edge_place (o.elements Element (e.of_constant at k q)) p t g = absurd cc
-  edge_place (o.elements Element (e.character c)) p t g = absurd cc
-  edge_place (o.elements Element (e.enclosed_character c)) p t g = absurd cc
-  edge_place (o.elements Element (e.Vector.literal at vs)) p t g = absurd cc
-  edge_place (o.elements Element (e.Vector.inverse x)) p t g = absurd cc
-  edge_place (o.elements Element (e.Vector.binary at c x y)) p t g = absurd cc
-  edge_place (o.elements Element (e.with_integer at c x y)) p t g = absurd cc
-  edge_place (o.elements Element (e.integer_with at c x y)) p t g = absurd cc
-  edge_place (o.elements Element (e.Vector.encoded at x y)) p t g = absurd cc
-  edge_place (o.elements Element (e.counted at c x y)) p t g = absurd cc
+  edge_place _ p t g = absurd cc
 
   edge_call_fits : (edge : Edge) (s : Suffix) (y : Typed) → SuffixFits i counts s → edge_of edge s ≡ Some y → TypedFits i counts y
-  edge_call_fits edge n.plain y t g = absurd cc
-  edge_call_fits edge (n.range r) y t g = absurd cc
-  edge_call_fits edge (n.arguments false xs) y t g = absurd cc
-  edge_call_fits edge (n.arguments true []) y t g = absurd cc
   edge_call_fits edge (n.arguments true (x ∷ [])) y t g =
       let c = mapped (λ p. o.truth (e.edge edge p)) (edge_signal x) y g in
       subst (TypedFits i counts) c.is (edge_place x c.value t.0 c.from)
-  edge_call_fits edge (n.arguments true (x ∷ z ∷ zs)) y t g = absurd cc
+  edge_call_fits edge _ y t g = absurd cc
 
   called_fits : (at : ℕ) (f : Function) (s : Suffix) (y : Typed) → SuffixFits i counts s → called at f s ≡ Some y → TypedFits i counts y
   called_fits at (EdgeCall edge) s y t g = edge_call_fits edge s y t g
@@ -302,12 +227,7 @@ module _ (i : Inside) (counts : Counts) where
   denoted_fits at (visibility.literal d count p) s y h t g = plain_fits s (o.enumerated d count (e.Value.position p)) y h g
   denoted_fits at (visibility.vector_type k r) s y h t g = converted_fits k s y h t g
   denoted_fits at (visibility.function f) s y h t g = called_fits at f s y t g
-  denoted_fits at (visibility.integer_type w) s y h t g = absurd cc
-  denoted_fits at (visibility.element_type r) s y h t g = absurd cc
-  denoted_fits at (visibility.enumeration_type d count) s y h t g = absurd cc
-  denoted_fits at (visibility.component k) s y h t g = absurd cc
-  denoted_fits at visibility.label s y h t g = absurd cc
-  denoted_fits at visibility.unfinished s y h t g = absurd cc
+  denoted_fits at _ s y h t g = absurd cc
 
   pub attributed_fits : (a : Option Ident) (x y : Typed) → TypedFits i counts x → attributed a x ≡ Some y → TypedFits i counts y
   attributed_fits None x y t g = subst (TypedFits i counts) (some_same x y g) t

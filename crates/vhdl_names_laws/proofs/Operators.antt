@@ -45,41 +45,31 @@ mapped f (Some x) y h = record { value = x; from = refl; is = some_same (f x) y 
 
 pub shape_elements : (k : ElementKind) → is_elements (kind_shape k) ≡ true
 shape_elements Element = refl
-shape_elements LogicVector = refl
-shape_elements Unsigned = refl
-shape_elements OpenVector = refl
+shape_elements _ = refl
 
 pub same_self : (x : Shape) → same_shape x x ≡ true
-same_self one = refl
-same_self vector = refl
 same_self (state n) = eq-eqb n n refl
+same_self _ = refl
 
 pub same_shapes : (x y : Shape) → same_shape x y ≡ true → x ≡ y
 same_shapes one one h = refl
-same_shapes one vector h = absurd cc
-same_shapes one (state n) h = absurd cc
-same_shapes vector one h = absurd cc
 same_shapes vector vector h = refl
-same_shapes vector (state n) h = absurd cc
-same_shapes (state m) one h = absurd cc
-same_shapes (state m) vector h = absurd cc
 same_shapes (state m) (state n) h = ap state (eqb-true m n h)
+same_shapes _ _ h = absurd cc
 
 pub fits_self : (x : Shape) (o : Option Shape) → o ≡ Some x → fits_shape x o ≡ true
 fits_self x o h = ap (fits_shape x) h ∙ same_self x
 
 -- a number is a vector
 number_shape : (k : ElementKind) → is_number k ≡ true → kind_shape k ≡ vector
-number_shape Element h = absurd cc
-number_shape LogicVector h = absurd cc
 number_shape Unsigned h = refl
 number_shape OpenVector h = refl
+number_shape _ h = absurd cc
 
 numbers_shape : (j k : ElementKind) → are_numbers j k ≡ true → (kind_shape j ≡ vector) × (kind_shape k ≡ vector)
-numbers_shape Element k h = absurd cc
-numbers_shape LogicVector k h = absurd cc
 numbers_shape Unsigned k h = (refl, number_shape k h)
 numbers_shape OpenVector k h = (refl, number_shape k h)
+numbers_shape _ k h = absurd cc
 
 record Common (j k c : ElementKind) : Type 0 where
   left : kind_shape j ≡ kind_shape c
@@ -93,21 +83,14 @@ common j k c h = by j k h
 
     by : (j k : ElementKind) → common_kind j k ≡ Some c → Common j k c
     by Element Element h = same Element Element Element h refl refl
-    by Element LogicVector h = absurd cc
-    by Element Unsigned h = absurd cc
-    by Element OpenVector h = absurd cc
-    by LogicVector Element h = absurd cc
     by LogicVector LogicVector h = same LogicVector LogicVector LogicVector h refl refl
-    by LogicVector Unsigned h = absurd cc
     by LogicVector OpenVector h = same LogicVector OpenVector LogicVector h refl refl
-    by Unsigned Element h = absurd cc
-    by Unsigned LogicVector h = absurd cc
     by Unsigned Unsigned h = same Unsigned Unsigned Unsigned h refl refl
     by Unsigned OpenVector h = same Unsigned OpenVector Unsigned h refl refl
-    by OpenVector Element h = absurd cc
     by OpenVector LogicVector h = same OpenVector LogicVector LogicVector h refl refl
     by OpenVector Unsigned h = same OpenVector Unsigned Unsigned h refl refl
     by OpenVector OpenVector h = same OpenVector OpenVector OpenVector h refl refl
+    by _ _ h = absurd cc
 
 -- a concatenation is a vector
 joined : (j k c : ElementKind) → joined_kind j k ≡ Some c → kind_shape c ≡ vector
@@ -118,21 +101,12 @@ joined j k c h = by j k h
 
     by : (j k : ElementKind) → joined_kind j k ≡ Some c → kind_shape c ≡ vector
     by Element Element h = is OpenVector h refl
-    by Element LogicVector h = is LogicVector h refl
-    by Element Unsigned h = is Unsigned h refl
-    by Element OpenVector h = is OpenVector h refl
-    by LogicVector Element h = is LogicVector h refl
-    by LogicVector LogicVector h = is LogicVector h refl
     by LogicVector Unsigned h = absurd cc
-    by LogicVector OpenVector h = is LogicVector h refl
-    by Unsigned Element h = is Unsigned h refl
     by Unsigned LogicVector h = absurd cc
-    by Unsigned Unsigned h = is Unsigned h refl
-    by Unsigned OpenVector h = is Unsigned h refl
-    by OpenVector Element h = is OpenVector h refl
     by OpenVector LogicVector h = is LogicVector h refl
     by OpenVector Unsigned h = is Unsigned h refl
-    by OpenVector OpenVector h = is OpenVector h refl
+    by Element k h = is k h refl
+    by j _ h = is j h refl
 
 -- ---- values of an enumeration
 
@@ -144,12 +118,10 @@ beside i count (Some z) y h t = ap (λ z. value_fits i z y) (sym (same_shapes (s
 
 pub states_fit : (i : Inside) (count : ℕ) (x y : Value) → value_fits i (state count) x ≡ true → value_fits i (state count) y ≡ true → values_fit i x y ≡ true
 states_fit i count (e.Value.position p) (e.Value.position q) h t = refl
-states_fit i count (e.Value.position p) (e.Value.elements y) h t = beside i count (value_shape i (e.Value.elements y)) (e.Value.position p) t h
-states_fit i count (e.Value.position p) (e.state_of y) h t = beside i count (value_shape i (e.state_of y)) (e.Value.position p) t h
-states_fit i count (e.Value.position p) (e.state_of_variable y) h t = beside i count (value_shape i (e.state_of_variable y)) (e.Value.position p) t h
 states_fit i count (e.Value.elements x) y h t = beside i count (value_shape i (e.Value.elements x)) y h t
 states_fit i count (e.state_of x) y h t = beside i count (value_shape i (e.state_of x)) y h t
 states_fit i count (e.state_of_variable x) y h t = beside i count (value_shape i (e.state_of_variable x)) y h t
+states_fit i count x y h t = beside i count (value_shape i y) x t h
 
 -- two of one shape
 pub elements_fit : (i : Inside) (x y : Vector) (z : Shape) → vector_shape i x ≡ Some z → vector_shape i y ≡ Some z
@@ -175,45 +147,17 @@ module _ (i : Inside) (counts : Counts) where
 
   pub both_fits : (op : Logic) (s t : Test) → test_fits i s ≡ true → test_fits i t ≡ true → test_fits i (both op s t) ≡ true
   both_fits op (e.Test.fixed s) (e.Test.fixed t) h k = and_from (static_test_fits i s) (static_test_fits i t) h k
-  both_fits op (e.Test.fixed s) (e.holds x) h k = and_from (static_test_fits i s) _ h k
-  both_fits op (e.Test.fixed s) (e.alike at x y) h k = and_from (static_test_fits i s) _ h k
-  both_fits op (e.Test.fixed s) (e.unlike at x y) h k = and_from (static_test_fits i s) _ h k
-  both_fits op (e.Test.fixed s) (e.Test.compared at c x y) h k = and_from (static_test_fits i s) _ h k
-  both_fits op (e.Test.fixed s) (e.compared_to at c x y) h k = and_from (static_test_fits i s) _ h k
-  both_fits op (e.Test.fixed s) (e.compared_with at c x y) h k = and_from (static_test_fits i s) _ h k
-  both_fits op (e.Test.fixed s) (e.edge c p) h k = and_from (static_test_fits i s) _ h k
-  both_fits op (e.Test.fixed s) (e.event p) h k = and_from (static_test_fits i s) _ h k
-  both_fits op (e.Test.fixed s) (e.Test.negated t) h k = and_from (static_test_fits i s) _ h k
-  both_fits op (e.Test.fixed s) (e.Test.both c t r) h k = and_from (static_test_fits i s) _ h k
-  both_fits op (e.holds x) t h k = and_from _ (test_fits i t) h k
-  both_fits op (e.alike at x y) t h k = and_from _ (test_fits i t) h k
-  both_fits op (e.unlike at x y) t h k = and_from _ (test_fits i t) h k
-  both_fits op (e.Test.compared at c x y) t h k = and_from _ (test_fits i t) h k
-  both_fits op (e.compared_to at c x y) t h k = and_from _ (test_fits i t) h k
-  both_fits op (e.compared_with at c x y) t h k = and_from _ (test_fits i t) h k
-  both_fits op (e.edge c p) t h k = and_from _ (test_fits i t) h k
-  both_fits op (e.event p) t h k = and_from _ (test_fits i t) h k
-  both_fits op (e.Test.negated s) t h k = and_from _ (test_fits i t) h k
-  both_fits op (e.Test.both c s r) t h k = and_from _ (test_fits i t) h k
+  both_fits op (e.Test.fixed s) _ h k = and_from (static_test_fits i s) _ h k
+  both_fits op _ t h k = and_from _ (test_fits i t) h k
 
   negated_fits : (t : Test) → test_fits i t ≡ true → test_fits i (negated t) ≡ true
   negated_fits (e.Test.fixed t) h = h
-  negated_fits (e.holds x) h = h
-  negated_fits (e.alike at x y) h = h
-  negated_fits (e.unlike at x y) h = h
-  negated_fits (e.Test.compared at c x y) h = h
-  negated_fits (e.compared_to at c x y) h = h
-  negated_fits (e.compared_with at c x y) h = h
-  negated_fits (e.edge c p) h = h
-  negated_fits (e.event p) h = h
-  negated_fits (e.Test.negated t) h = h
-  negated_fits (e.Test.both c t r) h = h
+  negated_fits _ h = h
 
   pub inverse_fits : (x y : Typed) → TypedFits i counts x → inverse x ≡ Some y → TypedFits i counts y
-  inverse_fits (o.integer s) y h t = absurd cc
   inverse_fits (o.elements k x) y h t = known (o.elements k (e.Vector.inverse x)) y t h
-  inverse_fits (o.enumerated n c x) y h t = absurd cc
   inverse_fits (o.truth s) y h t = known (o.truth (negated s)) y t (negated_fits s h)
+  inverse_fits _ y h t = absurd cc
 
   logical_shape : (op : Logic) (a : Shape) → is_elements a ≡ true → operated_shape (v.Logical op) a a ≡ Some a
   logical_shape op a h = ap (λ b. then_some b a) (and_from (same_shape a a) (is_elements a) (same_self a) h)
@@ -225,14 +169,7 @@ module _ (i : Inside) (counts : Counts) where
       subst (TypedFits i counts) c.is
       (two at x y (v.Logical op) (kind_shape c.value) (kind_shape c.value) (h ∙ ap Some s.left) (t ∙ ap Some s.right) ∙ logical_shape op (kind_shape c.value) (shape_elements c.value))
   logical_fits at op (o.truth s) (o.truth r) z h t g = known (o.truth (both op s r)) z g (both_fits op s r h t)
-  logical_fits at op (o.integer s) y z h t g = absurd cc
-  logical_fits at op (o.enumerated n c s) y z h t g = absurd cc
-  logical_fits at op (o.elements j x) (o.integer s) z h t g = absurd cc
-  logical_fits at op (o.elements j x) (o.enumerated n c s) z h t g = absurd cc
-  logical_fits at op (o.elements j x) (o.truth s) z h t g = absurd cc
-  logical_fits at op (o.truth s) (o.integer r) z h t g = absurd cc
-  logical_fits at op (o.truth s) (o.elements k r) z h t g = absurd cc
-  logical_fits at op (o.truth s) (o.enumerated n c r) z h t g = absurd cc
+  logical_fits at op _ _ z h t g = absurd cc
 
   concatenated_fits : (at : ℕ) (x y z : Typed) → TypedFits i counts x → TypedFits i counts y → concatenated at x y ≡ Some z → TypedFits i counts z
   concatenated_fits at (o.elements j x) (o.elements k y) z h t g =
@@ -241,21 +178,11 @@ module _ (i : Inside) (counts : Counts) where
       (two at x y v.Concatenate (kind_shape j) (kind_shape k) h t
       ∙ ap (λ b. then_some b vector) (and_from (is_elements (kind_shape j)) (is_elements (kind_shape k)) (shape_elements j) (shape_elements k))
       ∙ ap Some (sym (joined j k c.value c.from)))
-  concatenated_fits at (o.integer s) y z h t g = absurd cc
-  concatenated_fits at (o.enumerated n c s) y z h t g = absurd cc
-  concatenated_fits at (o.truth s) y z h t g = absurd cc
-  concatenated_fits at (o.elements j x) (o.integer s) z h t g = absurd cc
-  concatenated_fits at (o.elements j x) (o.enumerated n c s) z h t g = absurd cc
-  concatenated_fits at (o.elements j x) (o.truth s) z h t g = absurd cc
+  concatenated_fits at _ _ z h t g = absurd cc
 
   integral_fits : (at : ℕ) (op : Arithmetic) (x y z : Typed) → TypedFits i counts x → TypedFits i counts y → integral at op x y ≡ Some z → TypedFits i counts z
   integral_fits at op (o.integer s) (o.integer r) z h t g = known (o.integer (e.Static.binary at op s r)) z g (and_from (static_fits i s) (static_fits i r) h t)
-  integral_fits at op (o.integer s) (o.elements k y) z h t g = absurd cc
-  integral_fits at op (o.integer s) (o.enumerated n c y) z h t g = absurd cc
-  integral_fits at op (o.integer s) (o.truth y) z h t g = absurd cc
-  integral_fits at op (o.elements j x) y z h t g = absurd cc
-  integral_fits at op (o.enumerated n c x) y z h t g = absurd cc
-  integral_fits at op (o.truth x) y z h t g = absurd cc
+  integral_fits at op _ _ z h t g = absurd cc
 
   -- a result that is there where operators of numbers are in sight, and something holds
   ruled : (numbers b : Bool) (x y : Typed) → (met numbers >>= λ _. then_some b x) ≡ Some y → Given b x y
@@ -275,12 +202,7 @@ module _ (i : Inside) (counts : Counts) where
   arithmetic_fits numbers at op by (o.integer s) (o.elements k y) z h t g =
       let c = ruled numbers (is_number k) (o.elements Unsigned (e.integer_with at by s y)) z g in
       subst (TypedFits i counts) c.is (with_static_is (vector_shape i y) s (vector_is y k t (number_shape k c.holds)) h)
-  arithmetic_fits numbers at op by (o.integer s) (o.enumerated n c y) z h t g = absurd cc
-  arithmetic_fits numbers at op by (o.integer s) (o.truth y) z h t g = absurd cc
-  arithmetic_fits numbers at op by (o.elements j x) (o.enumerated n c y) z h t g = absurd cc
-  arithmetic_fits numbers at op by (o.elements j x) (o.truth y) z h t g = absurd cc
-  arithmetic_fits numbers at op by (o.enumerated n c x) y z h t g = absurd cc
-  arithmetic_fits numbers at op by (o.truth x) y z h t g = absurd cc
+  arithmetic_fits numbers at op by _ _ z h t g = absurd cc
 
   -- ---- relations
 
@@ -296,8 +218,7 @@ module _ (i : Inside) (counts : Counts) where
       → TypedFits i counts (equal_by at op same x y k)
   equal_fits at op same c x y Unsigned h t = compared_fits x y h t
   equal_fits at op same c x y Element h t = c (e.Value.elements x) (e.Value.elements y) ∙ elements_fit i x y one h t
-  equal_fits at op same c x y LogicVector h t = c (e.Value.elements x) (e.Value.elements y) ∙ elements_fit i x y vector h t
-  equal_fits at op same c x y OpenVector h t = c (e.Value.elements x) (e.Value.elements y) ∙ elements_fit i x y vector h t
+  equal_fits at op same c x y _ h t = c (e.Value.elements x) (e.Value.elements y) ∙ elements_fit i x y vector h t
 
   -- enumerations of one number have one count
   counted : (d e m n : ℕ) → (d == e) ≡ true → slice_get counts d ≡ Some m → slice_get counts e ≡ Some n → m ≡ n
@@ -312,26 +233,13 @@ module _ (i : Inside) (counts : Counts) where
       subst (TypedFits i counts) f.is (equal_fits at op same c x y f.value (h ∙ ap Some s.left) (t ∙ ap Some s.right))
   equality_fits at op same c (o.elements Unsigned x) (o.integer s) z h t g =
       known (o.truth (e.compared_to at op x s)) z g (and_from (fits_shape vector (vector_shape i x)) (static_fits i s) (fits_self vector (vector_shape i x) h) t)
-  equality_fits at op same c (o.elements Element x) (o.integer s) z h t g = absurd cc
-  equality_fits at op same c (o.elements LogicVector x) (o.integer s) z h t g = absurd cc
-  equality_fits at op same c (o.elements OpenVector x) (o.integer s) z h t g = absurd cc
   equality_fits at op same c (o.integer s) (o.elements Unsigned y) z h t g =
       known (o.truth (e.compared_with at op s y)) z g (and_from (static_fits i s) (fits_shape vector (vector_shape i y)) h (fits_self vector (vector_shape i y) t))
-  equality_fits at op same c (o.integer s) (o.elements Element y) z h t g = absurd cc
-  equality_fits at op same c (o.integer s) (o.elements LogicVector y) z h t g = absurd cc
-  equality_fits at op same c (o.integer s) (o.elements OpenVector y) z h t g = absurd cc
   equality_fits at op same c (o.enumerated d m x) (o.enumerated e n y) z h t g =
       let f = given (d == e) (o.truth (same x y)) z g in
       let s = counted d e m n f.holds h.1 t.1 in
       subst (TypedFits i counts) f.is (c x y ∙ states_fit i n x y (ap (λ m. value_fits i (state m) x) (sym s) ∙ h.0) t.0)
-  equality_fits at op same c (o.integer s) (o.enumerated n d y) z h t g = absurd cc
-  equality_fits at op same c (o.integer s) (o.truth y) z h t g = absurd cc
-  equality_fits at op same c (o.elements j x) (o.enumerated n d y) z h t g = absurd cc
-  equality_fits at op same c (o.elements j x) (o.truth y) z h t g = absurd cc
-  equality_fits at op same c (o.enumerated n d x) (o.integer s) z h t g = absurd cc
-  equality_fits at op same c (o.enumerated n d x) (o.elements k y) z h t g = absurd cc
-  equality_fits at op same c (o.enumerated n d x) (o.truth y) z h t g = absurd cc
-  equality_fits at op same c (o.truth x) y z h t g = absurd cc
+  equality_fits at op same c _ _ z h t g = absurd cc
 
   ordering_fits : (numbers : Bool) (at : ℕ) (op : Cmp) (x y z : Typed) → TypedFits i counts x → TypedFits i counts y → ordering numbers at op x y ≡ Some z → TypedFits i counts z
   ordering_fits numbers at op (o.integer s) (o.integer r) z h t g = known (integers_compared at op s r) z g (and_from (static_fits i s) (static_fits i r) h t)
@@ -347,20 +255,9 @@ module _ (i : Inside) (counts : Counts) where
       let c = ruled numbers (is_number k) (o.truth (e.compared_with at op s y)) z g in
       subst (TypedFits i counts) c.is
       (and_from (static_fits i s) (fits_shape vector (vector_shape i y)) h (fits_self vector (vector_shape i y) (vector_is y k t (number_shape k c.holds))))
-  ordering_fits numbers at op (o.integer s) (o.enumerated n d y) z h t g = absurd cc
-  ordering_fits numbers at op (o.integer s) (o.truth y) z h t g = absurd cc
-  ordering_fits numbers at op (o.elements j x) (o.enumerated n d y) z h t g = absurd cc
-  ordering_fits numbers at op (o.elements j x) (o.truth y) z h t g = absurd cc
-  ordering_fits numbers at op (o.enumerated n d x) y z h t g = absurd cc
-  ordering_fits numbers at op (o.truth x) y z h t g = absurd cc
+  ordering_fits numbers at op _ _ z h t g = absurd cc
 
   pub operated_fits : (numbers : Bool) (at : ℕ) (by : Operator) (x y z : Typed) → TypedFits i counts x → TypedFits i counts y → operated numbers at by x y ≡ Some z → TypedFits i counts z
-  operated_fits numbers at op.And x y z h t g = logical_fits at _ x y z h t g
-  operated_fits numbers at op.Or x y z h t g = logical_fits at _ x y z h t g
-  operated_fits numbers at op.Xor x y z h t g = logical_fits at _ x y z h t g
-  operated_fits numbers at op.Xnor x y z h t g = logical_fits at _ x y z h t g
-  operated_fits numbers at op.Nand x y z h t g = logical_fits at _ x y z h t g
-  operated_fits numbers at op.Nor x y z h t g = logical_fits at _ x y z h t g
   operated_fits numbers at op.Equal x y z h t g = equality_fits at _ (e.alike at) (λ x y. refl) x y z h t g
   operated_fits numbers at op.NotEqual x y z h t g = equality_fits at _ (e.unlike at) (λ x y. refl) x y z h t g
   operated_fits numbers at op.Less x y z h t g = ordering_fits numbers at _ x y z h t g
@@ -374,3 +271,4 @@ module _ (i : Inside) (counts : Counts) where
   operated_fits numbers at op.Divide x y z h t g = integral_fits at _ x y z h t g
   operated_fits numbers at op.Modulo x y z h t g = integral_fits at _ x y z h t g
   operated_fits numbers at op.Remainder x y z h t g = integral_fits at _ x y z h t g
+  operated_fits numbers at _ x y z h t g = logical_fits at _ x y z h t g

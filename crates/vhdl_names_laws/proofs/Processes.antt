@@ -219,8 +219,7 @@ chosen_is i counts sight at x bs o y h f q =
 body_is : (i : Inside) (counts : Counts) (sight : Sight) (at : ℕ) (x : SignalName) (bs : List t.Branch) (o : Option t.Value) (y : s.Statement) → IsInside i counts sight → TargetFits i counts x
     → assignment_body sight at x bs o ≡ Some y → statement_fits i y ≡ true
 body_is i counts sight at x [] (Some v) y h f q = assigned_is i counts sight x v y h f q
-body_is i counts sight at x [] None y h f q = chosen_is i counts sight at x [] None y h f q
-body_is i counts sight at x (b ∷ bs) o y h f q = chosen_is i counts sight at x (b ∷ bs) o y h f q
+body_is i counts sight at x bs o y h f q = chosen_is i counts sight at x bs o y h f q
 
 pub assignment_is : (units : Units) (i : Inside) (counts : Counts) (sight : Sight) (a : t.Assignment) (x : u.Concurrent) → IsOutside i counts sight → assignment sight a ≡ Some x
     → concurrent_fits units i x ≡ true

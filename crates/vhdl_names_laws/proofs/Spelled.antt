@@ -22,11 +22,8 @@ abbrev LexemeIsWord : Lexeme → Type 0
 LexemeIsWord l = l.kind ≡ k.Identifier → IsWord l.text
 
 piece_is : (x : Piece) (l : Lexeme) → LexemeIsWord l → Is x l → PieceIsWord x
-piece_is (p.some kind) l h g = tt
-piece_is (p.one_at kind at) l h g = tt
 piece_is (p.word_at at text) l h g = subst IsWord g.2 (h g.0)
-piece_is (p.literal_at at code) l h g = tt
-piece_is (p.text_at kind at text) l h g = tt
+piece_is _ l h g = tt
 
 spelled_words : (ps : List Piece) (ls : List Lexeme) → AllByRecursion LexemeIsWord ls → Spells ps ls [] → AreWords ps
 spelled_words [] ls h g = tt

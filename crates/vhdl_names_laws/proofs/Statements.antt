@@ -64,21 +64,7 @@ as_signal_fits i counts at (visibility.signal k type) suffix x h f q =
       counted = p.1;
       driven = λ n. refl;
     })
-as_signal_fits i counts at (visibility.generic k) suffix x h f q = absurd cc
-as_signal_fits i counts at (visibility.integer_constant k) suffix x h f q = absurd cc
-as_signal_fits i counts at (visibility.generate_parameter k) suffix x h f q = absurd cc
-as_signal_fits i counts at (visibility.loop_parameter k) suffix x h f q = absurd cc
-as_signal_fits i counts at (visibility.variable k type) suffix x h f q = absurd cc
-as_signal_fits i counts at (visibility.constant k kind vs) suffix x h f q = absurd cc
-as_signal_fits i counts at (visibility.literal n count p) suffix x h f q = absurd cc
-as_signal_fits i counts at (visibility.integer_type y) suffix x h f q = absurd cc
-as_signal_fits i counts at (visibility.element_type y) suffix x h f q = absurd cc
-as_signal_fits i counts at (visibility.vector_type k y) suffix x h f q = absurd cc
-as_signal_fits i counts at (visibility.enumeration_type n count) suffix x h f q = absurd cc
-as_signal_fits i counts at (visibility.function y) suffix x h f q = absurd cc
-as_signal_fits i counts at (visibility.component k) suffix x h f q = absurd cc
-as_signal_fits i counts at visibility.label suffix x h f q = absurd cc
-as_signal_fits i counts at visibility.unfinished suffix x h f q = absurd cc
+as_signal_fits i counts at _ suffix x h f q = absurd cc
 
 pub signal_fits : (i : Inside) (counts : Counts) (sight : Sight) (n : t.Name) (x : SignalName) → IsInside i counts sight → signal sight n ≡ Some x → SignalFits i counts x
 unfolding signal
@@ -112,22 +98,7 @@ as_variable_fits i counts at (visibility.variable k type) suffix x h f q =
     let g = the_form i counts type (slice_get i.variables k) h in
     let p = part_of_fits i counts g.0 type suffix a.value g.2 h.counted f a.from in
     subst (VariableFits i counts) a.is (record { shape = ap (λ w. w >>= λ f. part_shape i f a.value.0) g.1 ∙ p.0; counted = p.1 })
-as_variable_fits i counts at (visibility.port k mode kind) suffix x h f q = absurd cc
-as_variable_fits i counts at (visibility.signal k type) suffix x h f q = absurd cc
-as_variable_fits i counts at (visibility.generic k) suffix x h f q = absurd cc
-as_variable_fits i counts at (visibility.integer_constant k) suffix x h f q = absurd cc
-as_variable_fits i counts at (visibility.generate_parameter k) suffix x h f q = absurd cc
-as_variable_fits i counts at (visibility.loop_parameter k) suffix x h f q = absurd cc
-as_variable_fits i counts at (visibility.constant k kind vs) suffix x h f q = absurd cc
-as_variable_fits i counts at (visibility.literal n count p) suffix x h f q = absurd cc
-as_variable_fits i counts at (visibility.integer_type y) suffix x h f q = absurd cc
-as_variable_fits i counts at (visibility.element_type y) suffix x h f q = absurd cc
-as_variable_fits i counts at (visibility.vector_type k y) suffix x h f q = absurd cc
-as_variable_fits i counts at (visibility.enumeration_type n count) suffix x h f q = absurd cc
-as_variable_fits i counts at (visibility.function y) suffix x h f q = absurd cc
-as_variable_fits i counts at (visibility.component k) suffix x h f q = absurd cc
-as_variable_fits i counts at visibility.label suffix x h f q = absurd cc
-as_variable_fits i counts at visibility.unfinished suffix x h f q = absurd cc
+as_variable_fits i counts at _ suffix x h f q = absurd cc
 
 pub variable_fits : (i : Inside) (counts : Counts) (sight : Sight) (n : t.Name) (x : VariableName) → IsInside i counts sight → variable sight n ≡ Some x → VariableFits i counts x
 unfolding variable

@@ -7,7 +7,7 @@ use Rattle.std.specs.Str.{bytes_eq}
 use Rattle.std.proofs.lemmas.Bool.{and_parts, and_from, ltb-true, lt-ltb}
 use Rattle.vhdl_values.specs.declared.scalar.Nine.{Nine}
 use Rattle.vhdl_names_rules.specs.declared.kind.ElementKind.{ElementKind}
-use Rattle.vhdl_names_rules.specs.declared.kind.ElementKind.TheVariants.{Element, LogicVector, Unsigned, OpenVector}
+use Rattle.vhdl_names_rules.specs.declared.kind.ElementKind.TheVariants.{Element}
 use Rattle.vhdl_names_rules.specs.declared.kind.ObjectType.{ObjectType}
 use Rattle.vhdl_names_rules.specs.declared.kind.ObjectType.TheVariants.{Elements, Enumeration}
 use Rattle.vhdl_names_rules.specs.units.Expressions as e
@@ -83,15 +83,8 @@ range_more i j h r t =
 
 -- whether a literal has a kind doesn't hang on what is inside
 literal_more : (i j : Inside) (kind : ElementKind) (vs : List Nine) → fixed_fits i (kind_shape kind) (u.Fixed.literal vs) ≡ true → fixed_fits j (kind_shape kind) (u.Fixed.literal vs) ≡ true
-literal_more i j Element [] t = t
 literal_more i j Element (x ∷ []) t = t
-literal_more i j Element (x ∷ y ∷ ys) t = t
-literal_more i j LogicVector [] t = t
-literal_more i j LogicVector (x ∷ xs) t = t
-literal_more i j Unsigned [] t = t
-literal_more i j Unsigned (x ∷ xs) t = t
-literal_more i j OpenVector [] t = t
-literal_more i j OpenVector (x ∷ xs) t = t
+literal_more i j _ _ t = t
 
 pub literal_of_more : (i j : Inside) (kind : ElementKind) (vs : Option (List Nine)) → IsLiteralOf i kind vs → IsLiteralOf j kind vs
 literal_of_more i j kind None h = tt
@@ -122,12 +115,7 @@ meaning_more i j counts more h (visibility.constant k kind values) f =
 meaning_more i j counts more h (visibility.literal n count p) f = (f.0, h.counts n count f.1)
 meaning_more i j counts more h (visibility.vector_type kind r) f = f
 meaning_more i j counts more h (visibility.enumeration_type n count) f = (f.0, h.counts n count f.1)
-meaning_more i j counts more h (visibility.integer_type w) f = tt
-meaning_more i j counts more h (visibility.element_type r) f = tt
-meaning_more i j counts more h (visibility.function g) f = tt
-meaning_more i j counts more h (visibility.component k) f = tt
-meaning_more i j counts more h visibility.label f = tt
-meaning_more i j counts more h visibility.unfinished f = tt
+meaning_more i j counts more h _ f = tt
 
 pub all_more : (i j : Inside) (counts more : Counts) → HasMore i j counts more → (ds : List Declared) → AllFit i counts ds → AllFit j more ds
 all_more i j counts more h ds a = each_weaker (λ (d : Declared). MeaningFits i counts d.meaning) (λ (d : Declared). MeaningFits j more d.meaning) (λ d. meaning_more i j counts more h d.meaning) ds a

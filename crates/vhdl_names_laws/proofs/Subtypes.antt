@@ -7,10 +7,10 @@ use Rattle.std.proofs.lemmas.Bool.{and_parts, and_from}
 use Rattle.vhdl_tree.specs.Tree as t
 use Rattle.vhdl_tree.specs.Tree.{Ident, Expr}
 use Rattle.vhdl_names_rules.specs.declared.kind.ElementKind.{ElementKind}
-use Rattle.vhdl_names_rules.specs.declared.kind.ElementKind.TheVariants.{Element, LogicVector, Unsigned, OpenVector}
+use Rattle.vhdl_names_rules.specs.declared.kind.ElementKind.TheVariants.{Element, LogicVector, Unsigned}
 use Rattle.vhdl_names_rules.specs.declared.kind.ObjectType.{ObjectType}
 use Rattle.vhdl_names_rules.specs.declared.kind.ObjectType.TheVariants.{Elements, Enumeration}
-use Rattle.vhdl_names_rules.specs.declared.kind.Function.TheVariants.{EdgeCall, ByCount, ToUnsigned}
+use Rattle.vhdl_names_rules.specs.declared.kind.Function.TheVariants.{ToUnsigned}
 use Rattle.vhdl_names_rules.specs.units.Expressions.{Static, Range}
 use Rattle.vhdl_names_rules.specs.units.Units as u
 use Rattle.vhdl_names_rules.specs.units.Units.{Form, Fixed}
@@ -45,17 +45,9 @@ constant_more z None b h k = absurd cc
 constant_more z (Some f) b h k = ap (λ b. fits_shape z (option_map shape_of b)) (h f refl) ∙ k
 
 pub fixed_more : (i j : Inside) → HasNumbers i j → Keeps i.constants j.constants → (z : Shape) (v : Fixed) → fixed_fits i z v ≡ true → fixed_fits j z v ≡ true
-fixed_more i j h c one (u.Fixed.literal []) k = k
 fixed_more i j h c one (u.Fixed.literal (a ∷ [])) k = k
-fixed_more i j h c one (u.Fixed.literal (a ∷ b ∷ vs)) k = k
-fixed_more i j h c vector (u.Fixed.literal []) k = k
 fixed_more i j h c vector (u.Fixed.literal (a ∷ vs)) k = k
 fixed_more i j h c (state n) (u.Fixed.literal vs) k = absurd cc
-fixed_more i j h c one (u.Fixed.position p) k = k
-fixed_more i j h c vector (u.Fixed.position p) k = k
-fixed_more i j h c (state n) (u.Fixed.position p) k = k
-fixed_more i j h c one (u.Fixed.constant m) k = constant_more one (slice_get i.constants m) (slice_get j.constants m) (c m) k
-fixed_more i j h c vector (u.Fixed.constant m) k = constant_more vector (slice_get i.constants m) (slice_get j.constants m) (c m) k
 fixed_more i j h c (state n) (u.Fixed.constant m) k = absurd cc
 fixed_more i j h c one (u.Fixed.encoded a b) k = absurd cc
 fixed_more i j h c vector (u.Fixed.encoded a b) k =
@@ -65,6 +57,8 @@ fixed_more i j h c (state n) (u.Fixed.encoded a b) k = absurd cc
 fixed_more i j h c one (u.Fixed.filled v) k = absurd cc
 fixed_more i j h c vector (u.Fixed.filled v) k = refl
 fixed_more i j h c (state n) (u.Fixed.filled v) k = absurd cc
+fixed_more i j h c z (u.Fixed.constant m) k = constant_more z (slice_get i.constants m) (slice_get j.constants m) (c m) k
+fixed_more i j h c _ _ k = k
 
 pub default_more : (i j : Inside) → HasNumbers i j → Keeps i.constants j.constants → (z : Shape) (v : Option Fixed) → default_fits i z v ≡ true → default_fits j z v ≡ true
 default_more i j h c z None k = refl
@@ -101,23 +95,7 @@ marked_fits i counts (visibility.vector_type k b) (Some r) s h f q =
     subst (SubtypeFits i counts) (some_same _ s q) (record { form = f; resolved = refl; shape = sym h; counted = tt })
 marked_fits i counts (visibility.enumeration_type n count) None s h f q =
     subst (SubtypeFits i counts) (some_same _ s q) (record { form = h.0; resolved = refl; shape = refl; counted = h.1 })
-marked_fits i counts (visibility.element_type b) (Some r) s h f q = absurd cc
-marked_fits i counts (visibility.vector_type k b) None s h f q = absurd cc
-marked_fits i counts (visibility.enumeration_type n count) (Some r) s h f q = absurd cc
-marked_fits i counts (visibility.generic k) r s h f q = absurd cc
-marked_fits i counts (visibility.integer_constant k) r s h f q = absurd cc
-marked_fits i counts (visibility.generate_parameter k) r s h f q = absurd cc
-marked_fits i counts (visibility.loop_parameter k) r s h f q = absurd cc
-marked_fits i counts (visibility.port k mode kind) r s h f q = absurd cc
-marked_fits i counts (visibility.signal k type) r s h f q = absurd cc
-marked_fits i counts (visibility.variable k type) r s h f q = absurd cc
-marked_fits i counts (visibility.constant k kind vs) r s h f q = absurd cc
-marked_fits i counts (visibility.literal n count p) r s h f q = absurd cc
-marked_fits i counts (visibility.integer_type y) r s h f q = absurd cc
-marked_fits i counts (visibility.function y) r s h f q = absurd cc
-marked_fits i counts (visibility.component k) r s h f q = absurd cc
-marked_fits i counts visibility.label r s h f q = absurd cc
-marked_fits i counts visibility.unfinished r s h f q = absurd cc
+marked_fits i counts _ _ s h f q = absurd cc
 
 any_range : (i : Inside) (counts : Counts) (sight : Sight) (r : Option t.Range) (y : Option Range) → IsInside i counts sight → if_any (static_range sight) r ≡ Some y → RangeFits i y
 any_range i counts sight None y h q = subst (RangeFits i) (some_same None y q) tt
@@ -147,140 +125,19 @@ named_value_fits i counts (Enumeration e count) (visibility.literal d size p) v 
     let a = given (d == e) (u.Fixed.position p) v q in
     let g = same_count counts d e size count a.holds h.1 n in
     subst (λ v. fixed_fits i (state count) v ≡ true) a.is (ap (nat_lt p) (sym g) ∙ h.0)
-named_value_fits i counts (Elements Element) (visibility.generic k) v n h q = absurd cc
-named_value_fits i counts (Elements Element) (visibility.integer_constant k) v n h q = absurd cc
-named_value_fits i counts (Elements Element) (visibility.generate_parameter k) v n h q = absurd cc
-named_value_fits i counts (Elements Element) (visibility.loop_parameter k) v n h q = absurd cc
-named_value_fits i counts (Elements Element) (visibility.port k mode kind) v n h q = absurd cc
-named_value_fits i counts (Elements Element) (visibility.signal k type) v n h q = absurd cc
-named_value_fits i counts (Elements Element) (visibility.variable k type) v n h q = absurd cc
-named_value_fits i counts (Elements Element) (visibility.integer_type y) v n h q = absurd cc
-named_value_fits i counts (Elements Element) (visibility.element_type y) v n h q = absurd cc
-named_value_fits i counts (Elements Element) (visibility.vector_type k y) v n h q = absurd cc
-named_value_fits i counts (Elements Element) (visibility.enumeration_type k y) v n h q = absurd cc
-named_value_fits i counts (Elements Element) (visibility.function y) v n h q = absurd cc
-named_value_fits i counts (Elements Element) (visibility.component k) v n h q = absurd cc
-named_value_fits i counts (Elements Element) visibility.label v n h q = absurd cc
-named_value_fits i counts (Elements Element) visibility.unfinished v n h q = absurd cc
-named_value_fits i counts (Elements Element) (visibility.literal b size z) v n h q = absurd cc
-named_value_fits i counts (Elements Element) (visibility.constant l LogicVector vs) v n h q = absurd cc
-named_value_fits i counts (Elements Element) (visibility.constant l Unsigned vs) v n h q = absurd cc
-named_value_fits i counts (Elements Element) (visibility.constant l OpenVector vs) v n h q = absurd cc
-named_value_fits i counts (Elements LogicVector) (visibility.generic k) v n h q = absurd cc
-named_value_fits i counts (Elements LogicVector) (visibility.integer_constant k) v n h q = absurd cc
-named_value_fits i counts (Elements LogicVector) (visibility.generate_parameter k) v n h q = absurd cc
-named_value_fits i counts (Elements LogicVector) (visibility.loop_parameter k) v n h q = absurd cc
-named_value_fits i counts (Elements LogicVector) (visibility.port k mode kind) v n h q = absurd cc
-named_value_fits i counts (Elements LogicVector) (visibility.signal k type) v n h q = absurd cc
-named_value_fits i counts (Elements LogicVector) (visibility.variable k type) v n h q = absurd cc
-named_value_fits i counts (Elements LogicVector) (visibility.integer_type y) v n h q = absurd cc
-named_value_fits i counts (Elements LogicVector) (visibility.element_type y) v n h q = absurd cc
-named_value_fits i counts (Elements LogicVector) (visibility.vector_type k y) v n h q = absurd cc
-named_value_fits i counts (Elements LogicVector) (visibility.enumeration_type k y) v n h q = absurd cc
-named_value_fits i counts (Elements LogicVector) (visibility.function y) v n h q = absurd cc
-named_value_fits i counts (Elements LogicVector) (visibility.component k) v n h q = absurd cc
-named_value_fits i counts (Elements LogicVector) visibility.label v n h q = absurd cc
-named_value_fits i counts (Elements LogicVector) visibility.unfinished v n h q = absurd cc
-named_value_fits i counts (Elements LogicVector) (visibility.literal b size z) v n h q = absurd cc
-named_value_fits i counts (Elements LogicVector) (visibility.constant l Element vs) v n h q = absurd cc
-named_value_fits i counts (Elements LogicVector) (visibility.constant l Unsigned vs) v n h q = absurd cc
-named_value_fits i counts (Elements LogicVector) (visibility.constant l OpenVector vs) v n h q = absurd cc
-named_value_fits i counts (Elements Unsigned) (visibility.generic k) v n h q = absurd cc
-named_value_fits i counts (Elements Unsigned) (visibility.integer_constant k) v n h q = absurd cc
-named_value_fits i counts (Elements Unsigned) (visibility.generate_parameter k) v n h q = absurd cc
-named_value_fits i counts (Elements Unsigned) (visibility.loop_parameter k) v n h q = absurd cc
-named_value_fits i counts (Elements Unsigned) (visibility.port k mode kind) v n h q = absurd cc
-named_value_fits i counts (Elements Unsigned) (visibility.signal k type) v n h q = absurd cc
-named_value_fits i counts (Elements Unsigned) (visibility.variable k type) v n h q = absurd cc
-named_value_fits i counts (Elements Unsigned) (visibility.integer_type y) v n h q = absurd cc
-named_value_fits i counts (Elements Unsigned) (visibility.element_type y) v n h q = absurd cc
-named_value_fits i counts (Elements Unsigned) (visibility.vector_type k y) v n h q = absurd cc
-named_value_fits i counts (Elements Unsigned) (visibility.enumeration_type k y) v n h q = absurd cc
-named_value_fits i counts (Elements Unsigned) (visibility.function y) v n h q = absurd cc
-named_value_fits i counts (Elements Unsigned) (visibility.component k) v n h q = absurd cc
-named_value_fits i counts (Elements Unsigned) visibility.label v n h q = absurd cc
-named_value_fits i counts (Elements Unsigned) visibility.unfinished v n h q = absurd cc
-named_value_fits i counts (Elements Unsigned) (visibility.literal b size z) v n h q = absurd cc
-named_value_fits i counts (Elements Unsigned) (visibility.constant l Element vs) v n h q = absurd cc
-named_value_fits i counts (Elements Unsigned) (visibility.constant l LogicVector vs) v n h q = absurd cc
-named_value_fits i counts (Elements Unsigned) (visibility.constant l OpenVector vs) v n h q = absurd cc
-named_value_fits i counts (Elements OpenVector) (visibility.generic k) v n h q = absurd cc
-named_value_fits i counts (Elements OpenVector) (visibility.integer_constant k) v n h q = absurd cc
-named_value_fits i counts (Elements OpenVector) (visibility.generate_parameter k) v n h q = absurd cc
-named_value_fits i counts (Elements OpenVector) (visibility.loop_parameter k) v n h q = absurd cc
-named_value_fits i counts (Elements OpenVector) (visibility.port k mode kind) v n h q = absurd cc
-named_value_fits i counts (Elements OpenVector) (visibility.signal k type) v n h q = absurd cc
-named_value_fits i counts (Elements OpenVector) (visibility.variable k type) v n h q = absurd cc
-named_value_fits i counts (Elements OpenVector) (visibility.integer_type y) v n h q = absurd cc
-named_value_fits i counts (Elements OpenVector) (visibility.element_type y) v n h q = absurd cc
-named_value_fits i counts (Elements OpenVector) (visibility.vector_type k y) v n h q = absurd cc
-named_value_fits i counts (Elements OpenVector) (visibility.enumeration_type k y) v n h q = absurd cc
-named_value_fits i counts (Elements OpenVector) (visibility.function y) v n h q = absurd cc
-named_value_fits i counts (Elements OpenVector) (visibility.component k) v n h q = absurd cc
-named_value_fits i counts (Elements OpenVector) visibility.label v n h q = absurd cc
-named_value_fits i counts (Elements OpenVector) visibility.unfinished v n h q = absurd cc
-named_value_fits i counts (Elements OpenVector) (visibility.literal b size z) v n h q = absurd cc
-named_value_fits i counts (Elements OpenVector) (visibility.constant l Element vs) v n h q = absurd cc
-named_value_fits i counts (Elements OpenVector) (visibility.constant l LogicVector vs) v n h q = absurd cc
-named_value_fits i counts (Elements OpenVector) (visibility.constant l Unsigned vs) v n h q = absurd cc
-named_value_fits i counts (Elements OpenVector) (visibility.constant l OpenVector vs) v n h q = absurd cc
-named_value_fits i counts (Enumeration e count) (visibility.generic k) v n h q = absurd cc
-named_value_fits i counts (Enumeration e count) (visibility.integer_constant k) v n h q = absurd cc
-named_value_fits i counts (Enumeration e count) (visibility.generate_parameter k) v n h q = absurd cc
-named_value_fits i counts (Enumeration e count) (visibility.loop_parameter k) v n h q = absurd cc
-named_value_fits i counts (Enumeration e count) (visibility.port k mode kind) v n h q = absurd cc
-named_value_fits i counts (Enumeration e count) (visibility.signal k type) v n h q = absurd cc
-named_value_fits i counts (Enumeration e count) (visibility.variable k type) v n h q = absurd cc
-named_value_fits i counts (Enumeration e count) (visibility.integer_type y) v n h q = absurd cc
-named_value_fits i counts (Enumeration e count) (visibility.element_type y) v n h q = absurd cc
-named_value_fits i counts (Enumeration e count) (visibility.vector_type k y) v n h q = absurd cc
-named_value_fits i counts (Enumeration e count) (visibility.enumeration_type k y) v n h q = absurd cc
-named_value_fits i counts (Enumeration e count) (visibility.function y) v n h q = absurd cc
-named_value_fits i counts (Enumeration e count) (visibility.component k) v n h q = absurd cc
-named_value_fits i counts (Enumeration e count) visibility.label v n h q = absurd cc
-named_value_fits i counts (Enumeration e count) visibility.unfinished v n h q = absurd cc
-named_value_fits i counts (Enumeration e count) (visibility.constant l j vs) v n h q = absurd cc
+named_value_fits i counts _ _ v n h q = absurd cc
 
 -- to_unsigned
 encoded_of_unsigned : (i : Inside) (counts : Counts) (d : Meaning) (xs : List Typed) (v : Fixed) → EachFits i counts xs
     → encoded_value (Elements Unsigned) d xs ≡ Some v → fixed_fits i vector v ≡ true
 encoded_of_unsigned i counts (visibility.function ToUnsigned) (o.integer n ∷ o.integer size ∷ []) v h q =
     subst (λ v. fixed_fits i vector v ≡ true) (some_same (u.Fixed.encoded n size) v q) (and_from (static_fits i n) (static_fits i size) h.0 h.1.0)
-encoded_of_unsigned i counts (visibility.function ToUnsigned) [] v h q = absurd cc
-encoded_of_unsigned i counts (visibility.function ToUnsigned) (o.elements k x ∷ xs) v h q = absurd cc
-encoded_of_unsigned i counts (visibility.function ToUnsigned) (o.enumerated n c x ∷ xs) v h q = absurd cc
-encoded_of_unsigned i counts (visibility.function ToUnsigned) (o.truth x ∷ xs) v h q = absurd cc
-encoded_of_unsigned i counts (visibility.function ToUnsigned) (o.integer n ∷ []) v h q = absurd cc
-encoded_of_unsigned i counts (visibility.function ToUnsigned) (o.integer n ∷ o.elements k x ∷ xs) v h q = absurd cc
-encoded_of_unsigned i counts (visibility.function ToUnsigned) (o.integer n ∷ o.enumerated m c x ∷ xs) v h q = absurd cc
-encoded_of_unsigned i counts (visibility.function ToUnsigned) (o.integer n ∷ o.truth x ∷ xs) v h q = absurd cc
-encoded_of_unsigned i counts (visibility.function ToUnsigned) (o.integer n ∷ o.integer size ∷ x ∷ xs) v h q = absurd cc
-encoded_of_unsigned i counts (visibility.function (EdgeCall y)) xs v h q = absurd cc
-encoded_of_unsigned i counts (visibility.function (ByCount op)) xs v h q = absurd cc
-encoded_of_unsigned i counts (visibility.generic k) xs v h q = absurd cc
-encoded_of_unsigned i counts (visibility.integer_constant k) xs v h q = absurd cc
-encoded_of_unsigned i counts (visibility.generate_parameter k) xs v h q = absurd cc
-encoded_of_unsigned i counts (visibility.loop_parameter k) xs v h q = absurd cc
-encoded_of_unsigned i counts (visibility.port k mode kind) xs v h q = absurd cc
-encoded_of_unsigned i counts (visibility.signal k type) xs v h q = absurd cc
-encoded_of_unsigned i counts (visibility.variable k type) xs v h q = absurd cc
-encoded_of_unsigned i counts (visibility.integer_type y) xs v h q = absurd cc
-encoded_of_unsigned i counts (visibility.element_type y) xs v h q = absurd cc
-encoded_of_unsigned i counts (visibility.vector_type k y) xs v h q = absurd cc
-encoded_of_unsigned i counts (visibility.enumeration_type k y) xs v h q = absurd cc
-encoded_of_unsigned i counts (visibility.component k) xs v h q = absurd cc
-encoded_of_unsigned i counts visibility.label xs v h q = absurd cc
-encoded_of_unsigned i counts visibility.unfinished xs v h q = absurd cc
-encoded_of_unsigned i counts (visibility.constant l j vs) xs v h q = absurd cc
-encoded_of_unsigned i counts (visibility.literal b size z) xs v h q = absurd cc
+encoded_of_unsigned i counts _ _ v h q = absurd cc
 
 encoded_fits : (i : Inside) (counts : Counts) (type : ObjectType) (d : Meaning) (xs : List Typed) (v : Fixed) → EachFits i counts xs
     → encoded_value type d xs ≡ Some v → fixed_fits i (type_shape type) v ≡ true
 encoded_fits i counts (Elements Unsigned) d xs v h q = encoded_of_unsigned i counts d xs v h q
-encoded_fits i counts (Elements Element) d xs v h q = absurd cc
-encoded_fits i counts (Elements LogicVector) d xs v h q = absurd cc
-encoded_fits i counts (Elements OpenVector) d xs v h q = absurd cc
-encoded_fits i counts (Enumeration e count) d xs v h q = absurd cc
+encoded_fits i counts _ d xs v h q = absurd cc
 
 literal_value_fits : (i : Inside) (type : ObjectType) (d : Expr) (v : Fixed) → literal_value type d ≡ Some v → fixed_fits i (type_shape type) v ≡ true
 literal_value_fits i (Elements k) d v q =
@@ -297,32 +154,14 @@ fixed_is i counts sight type (t.named a (t.arguments es) None) v h n q =
     let b = comes (meaning sight a.text) _ v q in
     let c = comes (typed_each sight es) (encoded_value type b.value) v b.rest in
     encoded_fits i counts type b.value c.value v (each_fits es i counts sight c.value h c.is) c.rest
-fixed_is i counts sight type (t.named a t.plain (Some b)) v h n q = literal_value_fits i type (t.named a t.plain (Some b)) v q
-fixed_is i counts sight type (t.named a (t.arguments es) (Some b)) v h n q = literal_value_fits i type (t.named a (t.arguments es) (Some b)) v q
-fixed_is i counts sight type (t.named a (t.sliced l r y) b) v h n q = literal_value_fits i type (t.named a (t.sliced l r y) b) v q
-fixed_is i counts sight type (t.integer a b) v h n q = literal_value_fits i type (t.integer a b) v q
-fixed_is i counts sight type (t.character a b) v h n q = literal_value_fits i type (t.character a b) v q
-fixed_is i counts sight type (t.string a b) v h n q = literal_value_fits i type (t.string a b) v q
-fixed_is i counts sight type (t.bits a b) v h n q = literal_value_fits i type (t.bits a b) v q
-fixed_is i counts sight type (t.parens a b) v h n q = literal_value_fits i type (t.parens a b) v q
-fixed_is i counts sight type (t.negation a b) v h n q = literal_value_fits i type (t.negation a b) v q
-fixed_is i counts sight type (t.signed a b d) v h n q = literal_value_fits i type (t.signed a b d) v q
-fixed_is i counts sight type (t.binary a b d y z) v h n q = literal_value_fits i type (t.binary a b d y z) v q
+fixed_is i counts sight type d v h n q = literal_value_fits i type d v q
 
 filled_of : (i : Inside) (type : ObjectType) (d : Expr) (v : Fixed) → filled_value type d ≡ Some v → fixed_fits i (type_shape type) v ≡ true
 filled_of i (Elements k) (t.character at c) v q =
     let a = kept (x.is_vector k) _ v q in
     let b = comes (nine_of c) (λ v. Some (u.Fixed.filled v)) v a.1 in
     subst (λ v. fixed_fits i (kind_shape k) v ≡ true) (some_same (u.Fixed.filled b.value) v b.rest) (ap (λ z. fixed_fits i z (u.Fixed.filled b.value)) (kind_is_vector k a.0))
-filled_of i (Elements k) (t.integer a b) v q = absurd cc
-filled_of i (Elements k) (t.string a b) v q = absurd cc
-filled_of i (Elements k) (t.bits a b) v q = absurd cc
-filled_of i (Elements k) (t.named a b d) v q = absurd cc
-filled_of i (Elements k) (t.parens a b) v q = absurd cc
-filled_of i (Elements k) (t.negation a b) v q = absurd cc
-filled_of i (Elements k) (t.signed a b d) v q = absurd cc
-filled_of i (Elements k) (t.binary a b d y z) v q = absurd cc
-filled_of i (Enumeration e count) d v q = absurd cc
+filled_of i _ _ v q = absurd cc
 
 pub fixed_value_fits : (i : Inside) (counts : Counts) (sight : Sight) (type : ObjectType) (d : t.Value) (v : Fixed) → IsInside i counts sight → IsCounted counts type
     → fixed_value sight type d ≡ Some v → fixed_fits i (type_shape type) v ≡ true
@@ -359,7 +198,4 @@ object_is i counts sight s d v h f q =
 -- the literal that declares a constant
 pub declaring_fits : (i : Inside) (kind : ElementKind) (v : Fixed) → fixed_fits i (kind_shape kind) v ≡ true → IsLiteralOf i kind (declaring_literal v)
 declaring_fits i kind (u.Fixed.literal vs) h = h
-declaring_fits i kind (u.Fixed.position p) h = tt
-declaring_fits i kind (u.Fixed.constant k) h = tt
-declaring_fits i kind (u.Fixed.encoded a b) h = tt
-declaring_fits i kind (u.Fixed.filled v) h = tt
+declaring_fits i kind _ h = tt

@@ -62,46 +62,41 @@ in_parens ps qs g = after k.LeftParen (ps ++ p.some k.RightParen ∷ []) (qs ++ 
 
 word_text : (kind : TokenKind) (a b : Bool) → same_word a b ≡ true → AreSameText (spell_word kind a) (spell_word kind b)
 word_text kind true true e = alike (spell_word kind true)
-word_text kind true false e = absurd cc
-word_text kind false true e = absurd cc
 word_text kind false false e = alike []
+word_text kind _ _ e = absurd cc
 
 ident_text : (a b : Ident) → same_name a b ≡ true → AreSameText (spell_ident a) (spell_ident b)
 ident_text a b e = record { same = ap (λ x. x ∷ []) (name_same a b e) }
 
 attribute_text : (a b : Option Ident) → same_option same_name a b ≡ true → AreSameText (spell_attribute a) (spell_attribute b)
 attribute_text None None e = alike []
-attribute_text None (Some b) e = absurd cc
-attribute_text (Some a) None e = absurd cc
 attribute_text (Some a) (Some b) e = after k.Tick (spell_ident a) (spell_ident b) (ident_text a b e)
+attribute_text _ _ e = absurd cc
 
 -- ---- options and lists
 
 module _ {A : Type 0} (same : A → A → Bool) (spelled : A → List Piece) (one : (x y : A) → same x y ≡ true → AreSameText (spelled x) (spelled y)) where
   option_text : (a b : Option A) → same_option same a b ≡ true → AreSameText (spell_option spelled a) (spell_option spelled b)
   option_text None None e = alike []
-  option_text None (Some y) e = absurd cc
-  option_text (Some x) None e = absurd cc
   option_text (Some x) (Some y) e = one x y e
+  option_text _ _ e = absurd cc
 
   each_text : (xs ys : List A) → same_each same xs ys ≡ true → AreSameText (spell_each spelled xs) (spell_each spelled ys)
   each_text [] [] e = alike []
-  each_text [] (y ∷ ys) e = absurd cc
-  each_text (x ∷ xs) [] e = absurd cc
   each_text (x ∷ xs) (y ∷ ys) e =
       let f = both (same x y) (same_each same xs ys) e in
       one_by_one (spelled x) (spelled y) (spell_each spelled xs) (spell_each spelled ys) (one x y f.0) (each_text xs ys f.1)
+  each_text _ _ e = absurd cc
 
 list_text : {A : Type 0} (separator : TokenKind) (same : A → A → Bool) (spelled : A → List Piece)
     → ((x y : A) → same x y ≡ true → AreSameText (spelled x) (spelled y))
     → (xs ys : List A) → same_each same xs ys ≡ true → AreSameText (spell_list separator spelled xs) (spell_list separator spelled ys)
 list_text separator same spelled one [] [] e = alike []
-list_text separator same spelled one [] (y ∷ ys) e = absurd cc
-list_text separator same spelled one (x ∷ xs) [] e = absurd cc
 list_text separator same spelled one (x ∷ xs) (y ∷ ys) e =
     let f = both (same x y) (same_each same xs ys) e in
     one_by_one (spelled x) (spelled y) (spell_each (λ z. p.some separator ∷ spelled z) xs) (spell_each (λ z. p.some separator ∷ spelled z) ys) (one x y f.0)
     (each_text same (λ z. p.some separator ∷ spelled z) (λ x y g. after separator (spelled x) (spelled y) (one x y g)) xs ys f.1)
+list_text separator same spelled one _ _ e = absurd cc
 
 idents_text : (as' bs : List Ident) → same_each same_name as' bs ≡ true → AreSameText (spell_idents as') (spell_idents bs)
 idents_text = list_text k.Comma same_name spell_ident ident_text
@@ -111,94 +106,22 @@ idents_text = list_text k.Comma same_name spell_ident ident_text
 mutual
   expr_text : (x y : Expr) → same_expr x y ≡ true → AreSameText (spell x) (spell y)
   expr_text (t.integer at x) (t.integer at' x') e = record { same = ap (λ text. p.text_at k.Integer 0 text ∷ []) (bytes_equal x x' e) }
-  expr_text (t.integer at x) (t.character at' x') e = absurd cc
-  expr_text (t.integer at x) (t.string at' x') e = absurd cc
-  expr_text (t.integer at x) (t.bits at' x') e = absurd cc
-  expr_text (t.integer at x) (t.named n' s' a') e = absurd cc
-  expr_text (t.integer at x) (t.parens at' x') e = absurd cc
-  expr_text (t.integer at x) (t.negation at' x') e = absurd cc
-  expr_text (t.integer at x) (t.signed w' at' x') e = absurd cc
-  expr_text (t.integer at x) (t.binary g' o' at' x' y') e = absurd cc
-  expr_text (t.character at x) (t.integer at' x') e = absurd cc
   expr_text (t.character at x) (t.character at' x') e = record { same = ap (λ c. p.literal_at 0 c ∷ []) (eqb-true (to_ascii_lowercase x) (to_ascii_lowercase x') e) }
-  expr_text (t.character at x) (t.string at' x') e = absurd cc
-  expr_text (t.character at x) (t.bits at' x') e = absurd cc
-  expr_text (t.character at x) (t.named n' s' a') e = absurd cc
-  expr_text (t.character at x) (t.parens at' x') e = absurd cc
-  expr_text (t.character at x) (t.negation at' x') e = absurd cc
-  expr_text (t.character at x) (t.signed w' at' x') e = absurd cc
-  expr_text (t.character at x) (t.binary g' o' at' x' y') e = absurd cc
-  expr_text (t.string at x) (t.integer at' x') e = absurd cc
-  expr_text (t.string at x) (t.character at' x') e = absurd cc
   expr_text (t.string at x) (t.string at' x') e = record { same = ap (λ text. p.text_at k.String 0 text ∷ []) (bytes_equal x x' e) }
-  expr_text (t.string at x) (t.bits at' x') e = absurd cc
-  expr_text (t.string at x) (t.named n' s' a') e = absurd cc
-  expr_text (t.string at x) (t.parens at' x') e = absurd cc
-  expr_text (t.string at x) (t.negation at' x') e = absurd cc
-  expr_text (t.string at x) (t.signed w' at' x') e = absurd cc
-  expr_text (t.string at x) (t.binary g' o' at' x' y') e = absurd cc
-  expr_text (t.bits at x) (t.integer at' x') e = absurd cc
-  expr_text (t.bits at x) (t.character at' x') e = absurd cc
-  expr_text (t.bits at x) (t.string at' x') e = absurd cc
   expr_text (t.bits at x) (t.bits at' x') e = record { same = ap (λ text. p.text_at k.BitString 0 text ∷ []) (bytes_equal x x' e) }
-  expr_text (t.bits at x) (t.named n' s' a') e = absurd cc
-  expr_text (t.bits at x) (t.parens at' x') e = absurd cc
-  expr_text (t.bits at x) (t.negation at' x') e = absurd cc
-  expr_text (t.bits at x) (t.signed w' at' x') e = absurd cc
-  expr_text (t.bits at x) (t.binary g' o' at' x' y') e = absurd cc
-  expr_text (t.named n s a) (t.integer at' x') e = absurd cc
-  expr_text (t.named n s a) (t.character at' x') e = absurd cc
-  expr_text (t.named n s a) (t.string at' x') e = absurd cc
-  expr_text (t.named n s a) (t.bits at' x') e = absurd cc
   expr_text (t.named n s a) (t.named n' s' a') e =
       let f = both (same_name n n' && same_suffix s s') (same_option same_name a a') e in
       let g = both (same_name n n') (same_suffix s s') f.0 in
       behind (p.word_at n.at n.text) (p.word_at n'.at n'.text) (spell_suffix s ++ spell_attribute a) (spell_suffix s' ++ spell_attribute a')
       (name_same n n' g.0)
       (one_by_one (spell_suffix s) (spell_suffix s') (spell_attribute a) (spell_attribute a') (suffix_text s s' g.1) (attribute_text a a' f.1))
-  expr_text (t.named n s a) (t.parens at' x') e = absurd cc
-  expr_text (t.named n s a) (t.negation at' x') e = absurd cc
-  expr_text (t.named n s a) (t.signed w' at' x') e = absurd cc
-  expr_text (t.named n s a) (t.binary g' o' at' x' y') e = absurd cc
-  expr_text (t.parens at x) (t.integer at' x') e = absurd cc
-  expr_text (t.parens at x) (t.character at' x') e = absurd cc
-  expr_text (t.parens at x) (t.string at' x') e = absurd cc
-  expr_text (t.parens at x) (t.bits at' x') e = absurd cc
-  expr_text (t.parens at x) (t.named n' s' a') e = absurd cc
   expr_text (t.parens at x) (t.parens at' x') e =
       behind (p.one_at k.LeftParen at) (p.one_at k.LeftParen at') _ _ refl (closed (spell x) (spell x') (expr_text x x' e))
-  expr_text (t.parens at x) (t.negation at' x') e = absurd cc
-  expr_text (t.parens at x) (t.signed w' at' x') e = absurd cc
-  expr_text (t.parens at x) (t.binary g' o' at' x' y') e = absurd cc
-  expr_text (t.negation at x) (t.integer at' x') e = absurd cc
-  expr_text (t.negation at x) (t.character at' x') e = absurd cc
-  expr_text (t.negation at x) (t.string at' x') e = absurd cc
-  expr_text (t.negation at x) (t.bits at' x') e = absurd cc
-  expr_text (t.negation at x) (t.named n' s' a') e = absurd cc
-  expr_text (t.negation at x) (t.parens at' x') e = absurd cc
   expr_text (t.negation at x) (t.negation at' x') e = behind (p.one_at k.Not at) (p.one_at k.Not at') (spell x) (spell x') refl (expr_text x x' e)
-  expr_text (t.negation at x) (t.signed w' at' x') e = absurd cc
-  expr_text (t.negation at x) (t.binary g' o' at' x' y') e = absurd cc
-  expr_text (t.signed w at x) (t.integer at' x') e = absurd cc
-  expr_text (t.signed w at x) (t.character at' x') e = absurd cc
-  expr_text (t.signed w at x) (t.string at' x') e = absurd cc
-  expr_text (t.signed w at x) (t.bits at' x') e = absurd cc
-  expr_text (t.signed w at x) (t.named n' s' a') e = absurd cc
-  expr_text (t.signed w at x) (t.parens at' x') e = absurd cc
-  expr_text (t.signed w at x) (t.negation at' x') e = absurd cc
   expr_text (t.signed w at x) (t.signed w' at' x') e =
       let f = both (same_kind (sign_kind w) (sign_kind w')) (same_expr x x') e in
       behind (p.one_at (sign_kind w) at) (p.one_at (sign_kind w') at') (spell x) (spell x')
       (ap p.some (kind_same (sign_kind w) (sign_kind w') f.0)) (expr_text x x' f.1)
-  expr_text (t.signed w at x) (t.binary g' o' at' x' y') e = absurd cc
-  expr_text (t.binary g o at x y) (t.integer at' x') e = absurd cc
-  expr_text (t.binary g o at x y) (t.character at' x') e = absurd cc
-  expr_text (t.binary g o at x y) (t.string at' x') e = absurd cc
-  expr_text (t.binary g o at x y) (t.bits at' x') e = absurd cc
-  expr_text (t.binary g o at x y) (t.named n' s' a') e = absurd cc
-  expr_text (t.binary g o at x y) (t.parens at' x') e = absurd cc
-  expr_text (t.binary g o at x y) (t.negation at' x') e = absurd cc
-  expr_text (t.binary g o at x y) (t.signed w' at' x') e = absurd cc
   expr_text (t.binary g o at x y) (t.binary g' o' at' x' y') e =
       let f = both (same_word g g' && same_kind (kind_of o) (kind_of o') && same_expr x x') (same_expr y y') e in
       let h = both (same_word g g' && same_kind (kind_of o) (kind_of o')) (same_expr x x') f.0 in
@@ -206,47 +129,40 @@ mutual
       one_by_one (spell x) (spell x') (p.one_at (kind_of o) at ∷ spell y) (p.one_at (kind_of o') at' ∷ spell y') (expr_text x x' h.1)
       (behind (p.one_at (kind_of o) at) (p.one_at (kind_of o') at') (spell y) (spell y')
       (ap p.some (kind_same (kind_of o) (kind_of o') i.1)) (expr_text y y' f.1))
+  expr_text _ _ e = absurd cc
 
   suffix_text : (s s' : Suffix) → same_suffix s s' ≡ true → AreSameText (spell_suffix s) (spell_suffix s')
   suffix_text t.plain t.plain e = alike []
-  suffix_text t.plain (t.arguments ys) e = absurd cc
-  suffix_text t.plain (t.sliced x' d' y') e = absurd cc
-  suffix_text (t.arguments xs) t.plain e = absurd cc
   suffix_text (t.arguments xs) (t.arguments ys) e = in_parens (spell_exprs xs) (spell_exprs ys) (exprs_text xs ys e)
-  suffix_text (t.arguments xs) (t.sliced x' d' y') e = absurd cc
-  suffix_text (t.sliced x d y) t.plain e = absurd cc
-  suffix_text (t.sliced x d y) (t.arguments ys) e = absurd cc
   suffix_text (t.sliced x d y) (t.sliced x' d' y') e =
       let f = both (same_expr x x' && same_kind (direction_kind d) (direction_kind d')) (same_expr y y') e in
       let g = both (same_expr x x') (same_kind (direction_kind d) (direction_kind d')) f.0 in
       after k.LeftParen _ _ (one_by_one (spell x) (spell x') _ _ (expr_text x x' g.0)
       (behind (p.some (direction_kind d)) (p.some (direction_kind d')) _ _ (ap p.some (kind_same (direction_kind d) (direction_kind d') g.1))
       (closed (spell y) (spell y') (expr_text y y' f.1))))
+  suffix_text _ _ e = absurd cc
 
   exprs_text : (xs ys : Exprs) → same_exprs xs ys ≡ true → AreSameText (spell_exprs xs) (spell_exprs ys)
   exprs_text t.no_exprs t.no_exprs e = alike []
-  exprs_text t.no_exprs (t.expr y ys) e = absurd cc
-  exprs_text (t.expr x xs) t.no_exprs e = absurd cc
   exprs_text (t.expr x xs) (t.expr y ys) e =
       let f = both (same_expr x y) (same_exprs xs ys) e in
       one_by_one (spell x) (spell y) (spell_more xs) (spell_more ys) (expr_text x y f.0) (more_text xs ys f.1)
+  exprs_text _ _ e = absurd cc
 
   more_text : (xs ys : Exprs) → same_exprs xs ys ≡ true → AreSameText (spell_more xs) (spell_more ys)
   more_text t.no_exprs t.no_exprs e = alike []
-  more_text t.no_exprs (t.expr y ys) e = absurd cc
-  more_text (t.expr x xs) t.no_exprs e = absurd cc
   more_text (t.expr x xs) (t.expr y ys) e =
       let f = both (same_expr x y) (same_exprs xs ys) e in
       after k.Comma (spell x ++ spell_more xs) (spell y ++ spell_more ys)
       (one_by_one (spell x) (spell y) (spell_more xs) (spell_more ys) (expr_text x y f.0) (more_text xs ys f.1))
+  more_text _ _ e = absurd cc
 
 value_text : (v w : Value) → same_value v w ≡ true → AreSameText (spell_value v) (spell_value w)
 value_text (t.single x) (t.single y) e = expr_text x y e
-value_text (t.single x) (t.others at y) e = absurd cc
-value_text (t.others at x) (t.single y) e = absurd cc
 value_text (t.others at x) (t.others at' y) e =
     behind (p.one_at k.LeftParen at) (p.one_at k.LeftParen at') _ _ refl
     (after k.Others _ _ (after k.Arrow _ _ (closed (spell x) (spell y) (expr_text x y e))))
+value_text _ _ e = absurd cc
 
 range_text : (r s : Range) → same_range r s ≡ true → AreSameText (spell_constraint r) (spell_constraint s)
 range_text r s e =
@@ -265,10 +181,9 @@ subtype_text a b e =
     (ident_text a.mark b.mark f.0) (option_text same_range spell_constraint range_text a.range b.range f.1)
 
 mode_text : (a b : Mode) → same_mode a b ≡ true → AreSameText (spell_mode a) (spell_mode b)
-mode_text In In e = alike (spell_mode In)
 mode_text In Out e = absurd cc
 mode_text Out In e = absurd cc
-mode_text Out Out e = alike (spell_mode Out)
+mode_text a _ e = alike (spell_mode a)
 
 generic_text : (a b : Generic) → same_generic a b ≡ true → AreSameText (spell_generic a) (spell_generic b)
 generic_text a b e =

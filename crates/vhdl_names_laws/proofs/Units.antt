@@ -47,8 +47,7 @@ added_declarations (d ∷ ds) i = added_declarations ds (with_declaration i d)
 -- no variables are declared
 no_variables_with : (i : Inside) (d : u.Declaration) → i.variables ≡ [] → (with_declaration i d).variables ≡ []
 no_variables_with i (u.Declaration.integer at type n) h = h
-no_variables_with i (u.Declaration.constant at f x) h = h
-no_variables_with i (u.Declaration.signal o) h = h
+no_variables_with i _ h = h
 
 no_variables : (ds : List u.Declaration) (i : Inside) → i.variables ≡ [] → (with_declarations i ds).variables ≡ []
 no_variables [] i h = h

@@ -38,28 +38,17 @@ use Rattle.vhdl_names_rules.proofs.laws.Rules.{comes}
 -- ---- values of a type
 
 fitting_kinds : (k j : ElementKind) → fits k j ≡ true → kind_shape k ≡ kind_shape j
-fitting_kinds Element Element h = refl
 fitting_kinds Element LogicVector h = absurd cc
 fitting_kinds Element Unsigned h = absurd cc
 fitting_kinds Element OpenVector h = absurd cc
 fitting_kinds LogicVector Element h = absurd cc
-fitting_kinds LogicVector LogicVector h = refl
-fitting_kinds LogicVector Unsigned h = refl
-fitting_kinds LogicVector OpenVector h = refl
 fitting_kinds Unsigned Element h = absurd cc
-fitting_kinds Unsigned LogicVector h = refl
-fitting_kinds Unsigned Unsigned h = refl
-fitting_kinds Unsigned OpenVector h = refl
 fitting_kinds OpenVector Element h = absurd cc
-fitting_kinds OpenVector LogicVector h = refl
-fitting_kinds OpenVector Unsigned h = refl
-fitting_kinds OpenVector OpenVector h = refl
+fitting_kinds _ _ h = refl
 
 pub kind_is_vector : (k : ElementKind) → x.is_vector k ≡ true → kind_shape k ≡ vector
 kind_is_vector Element h = absurd cc
-kind_is_vector LogicVector h = refl
-kind_is_vector Unsigned h = refl
-kind_is_vector OpenVector h = refl
+kind_is_vector _ h = refl
 
 -- an enumeration of one number has one count
 pub same_count : (counts : Counts) (d e m n : ℕ) → (d == e) ≡ true → slice_get counts d ≡ Some m → slice_get counts e ≡ Some n → m ≡ n
@@ -74,12 +63,7 @@ as_value_fits i counts (Enumeration n count) (o.enumerated d size y) g c h q =
     let a = p.given (n == d) (s.single y) g q in
     let b = same_count counts n d count size a.holds c h.1 in
     subst (λ g. given_fits i (state count) g ≡ true) a.is (ap (λ m. value_fits i (state m) y) b ∙ h.0)
-as_value_fits i counts (Elements k) (o.integer y) g c h q = absurd cc
-as_value_fits i counts (Elements k) (o.enumerated d size y) g c h q = absurd cc
-as_value_fits i counts (Elements k) (o.truth y) g c h q = absurd cc
-as_value_fits i counts (Enumeration n count) (o.integer y) g c h q = absurd cc
-as_value_fits i counts (Enumeration n count) (o.elements j y) g c h q = absurd cc
-as_value_fits i counts (Enumeration n count) (o.truth y) g c h q = absurd cc
+as_value_fits i counts _ _ g c h q = absurd cc
 
 as_filled_fits : (i : Inside) (counts : Counts) (type : ObjectType) (y : Typed) (g : Given) → TypedFits i counts y
     → as_filled type y ≡ Some g → given_fits i (type_shape type) g ≡ true
@@ -87,13 +71,7 @@ as_filled_fits i counts (Elements k) (o.elements Element y) g h q =
     let a = p.given (x.is_vector k) (s.filled y) g q in
     subst (λ g. given_fits i (kind_shape k) g ≡ true) a.is
     (and_from (is_vector (kind_shape k)) (fits_shape one (vector_shape i y)) (ap is_vector (kind_is_vector k a.holds)) (fits_self one (vector_shape i y) h))
-as_filled_fits i counts (Elements k) (o.elements LogicVector y) g h q = absurd cc
-as_filled_fits i counts (Elements k) (o.elements Unsigned y) g h q = absurd cc
-as_filled_fits i counts (Elements k) (o.elements OpenVector y) g h q = absurd cc
-as_filled_fits i counts (Elements k) (o.integer y) g h q = absurd cc
-as_filled_fits i counts (Elements k) (o.enumerated d size y) g h q = absurd cc
-as_filled_fits i counts (Elements k) (o.truth y) g h q = absurd cc
-as_filled_fits i counts (Enumeration n count) y g h q = absurd cc
+as_filled_fits i counts _ _ g h q = absurd cc
 
 pub given_is : (i : Inside) (counts : Counts) (sight : Sight) (type : ObjectType) (w : t.Value) (g : Given) → IsInside i counts sight → IsCounted counts type
     → value_given sight type w ≡ Some g → given_fits i (type_shape type) g ≡ true
@@ -110,11 +88,7 @@ given_is i counts sight type (t.others at d) g h c q =
 as_test_fits : (i : Inside) (counts : Counts) (y : Typed) (r : Test) → TypedFits i counts y → as_test y ≡ Some r → test_fits i r ≡ true
 as_test_fits i counts (o.truth t) r h q = subst (λ r. test_fits i r ≡ true) (some_same t r q) h
 as_test_fits i counts (o.elements Element y) r h q = subst (λ r. test_fits i r ≡ true) (some_same (e.holds y) r q) (fits_self one (vector_shape i y) h)
-as_test_fits i counts (o.elements LogicVector y) r h q = absurd cc
-as_test_fits i counts (o.elements Unsigned y) r h q = absurd cc
-as_test_fits i counts (o.elements OpenVector y) r h q = absurd cc
-as_test_fits i counts (o.integer y) r h q = absurd cc
-as_test_fits i counts (o.enumerated d m y) r h q = absurd cc
+as_test_fits i counts _ r h q = absurd cc
 
 pub condition_fits : (i : Inside) (counts : Counts) (sight : Sight) (d : Expr) (r : Test) → IsInside i counts sight → condition sight d ≡ Some r → test_fits i r ≡ true
 unfolding condition
@@ -124,19 +98,7 @@ condition_fits i counts sight d r h q =
 
 pub static_condition_fits : (i : Inside) (counts : Counts) (y : Typed) (r : StaticTest) → TypedFits i counts y → as_static_test y ≡ Some r → static_test_fits i r ≡ true
 static_condition_fits i counts (o.truth (e.Test.fixed t)) r h q = subst (λ r. static_test_fits i r ≡ true) (some_same t r q) h
-static_condition_fits i counts (o.truth (e.holds y)) r h q = absurd cc
-static_condition_fits i counts (o.truth (e.alike at y z)) r h q = absurd cc
-static_condition_fits i counts (o.truth (e.unlike at y z)) r h q = absurd cc
-static_condition_fits i counts (o.truth (e.Test.compared at c y z)) r h q = absurd cc
-static_condition_fits i counts (o.truth (e.compared_to at c y z)) r h q = absurd cc
-static_condition_fits i counts (o.truth (e.compared_with at c y z)) r h q = absurd cc
-static_condition_fits i counts (o.truth (e.edge c z)) r h q = absurd cc
-static_condition_fits i counts (o.truth (e.event z)) r h q = absurd cc
-static_condition_fits i counts (o.truth (e.Test.negated z)) r h q = absurd cc
-static_condition_fits i counts (o.truth (e.Test.both c y z)) r h q = absurd cc
-static_condition_fits i counts (o.elements k y) r h q = absurd cc
-static_condition_fits i counts (o.integer y) r h q = absurd cc
-static_condition_fits i counts (o.enumerated d m y) r h q = absurd cc
+static_condition_fits i counts _ r h q = absurd cc
 
 -- ---- literals as they stand
 
@@ -160,26 +122,4 @@ literal_values_fit i LogicVector (t.string at text) vs q = string_fits i text vs
 literal_values_fit i LogicVector (t.bits at text) vs q = bits_fit i text vs q
 literal_values_fit i Unsigned (t.string at text) vs q = string_fits i text vs q
 literal_values_fit i Unsigned (t.bits at text) vs q = bits_fit i text vs q
-literal_values_fit i Element (t.integer at text) vs q = absurd cc
-literal_values_fit i Element (t.string at text) vs q = absurd cc
-literal_values_fit i Element (t.bits at text) vs q = absurd cc
-literal_values_fit i Element (t.named a b c) vs q = absurd cc
-literal_values_fit i Element (t.parens a b) vs q = absurd cc
-literal_values_fit i Element (t.negation a b) vs q = absurd cc
-literal_values_fit i Element (t.signed a b c) vs q = absurd cc
-literal_values_fit i Element (t.binary a b c d f) vs q = absurd cc
-literal_values_fit i LogicVector (t.integer at text) vs q = absurd cc
-literal_values_fit i LogicVector (t.character at c) vs q = absurd cc
-literal_values_fit i LogicVector (t.named a b c) vs q = absurd cc
-literal_values_fit i LogicVector (t.parens a b) vs q = absurd cc
-literal_values_fit i LogicVector (t.negation a b) vs q = absurd cc
-literal_values_fit i LogicVector (t.signed a b c) vs q = absurd cc
-literal_values_fit i LogicVector (t.binary a b c d f) vs q = absurd cc
-literal_values_fit i Unsigned (t.integer at text) vs q = absurd cc
-literal_values_fit i Unsigned (t.character at c) vs q = absurd cc
-literal_values_fit i Unsigned (t.named a b c) vs q = absurd cc
-literal_values_fit i Unsigned (t.parens a b) vs q = absurd cc
-literal_values_fit i Unsigned (t.negation a b) vs q = absurd cc
-literal_values_fit i Unsigned (t.signed a b c) vs q = absurd cc
-literal_values_fit i Unsigned (t.binary a b c d f) vs q = absurd cc
-literal_values_fit i OpenVector d vs q = absurd cc
+literal_values_fit i _ _ vs q = absurd cc

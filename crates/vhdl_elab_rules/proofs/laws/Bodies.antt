@@ -45,12 +45,10 @@ module _ (types : List ElementType) (os : List Object) (vs : List Variable) (net
 
   width-expr : (e : bodies.Expr) → width (connected_expr nets drives e) ≡ width e
   width-expr (bodies.signal es) = length-map es (net_of nets drives)
-  width-expr (bodies.variable es) = refl
-  width-expr (bodies.constant values) = refl
   width-expr (bodies.inverse e) = width-expr e
-  width-expr (bodies.filled len e) = refl
   width-expr (bodies.binary op d e) = ap (λ n. operated_width op n (width (connected_expr nets drives e))) (width-expr d) ∙ ap (operated_width op (width d)) (width-expr e)
   width-expr (bodies.counted op count e) = ap (counted_length op count) (width-expr e)
+  width-expr _ = refl
 
   nets-typed : (t : ElementType) (es : List ℕ) → All (HasType here.nets t) es → All (HasType types t) (map (net_of nets drives) es)
   nets-typed t es h = All-map (HasType types t) (net_of nets drives) es (All-weaker (HasType here.nets t) (λ e. HasType types t (net_of nets drives e)) (λ e k. typed e t k) es h)
@@ -60,8 +58,6 @@ module _ (types : List ElementType) (os : List Object) (vs : List Variable) (net
 
   expr-fits : (e : bodies.Expr) → FitsExpr here e → FitsExpr there (connected_expr nets drives e)
   expr-fits (bodies.signal es) h = (subst IsWidth (sym (length-map es (net_of nets drives))) h.0, nets-typed nine_valued es h.1)
-  expr-fits (bodies.variable es) h = h
-  expr-fits (bodies.constant values) h = h
   expr-fits (bodies.inverse e) h = expr-fits e h
   expr-fits (bodies.filled len e) h = (h.0, expr-fits e h.1, width-expr e ∙ h.2)
   expr-fits (bodies.binary op d e) h = (
@@ -71,22 +67,18 @@ module _ (types : List ElementType) (os : List Object) (vs : List Variable) (net
     operands op (width d) (width e) (width (connected_expr nets drives d)) (width (connected_expr nets drives e)) (width-expr d) (width-expr e) h.3,
   )
   expr-fits (bodies.counted op count e) h = (h.0, expr-fits e h.1)
+  expr-fits _ h = h
 
   width-value : (v : bodies.Value) → value_width (connected_value nets drives v) ≡ value_width v
   width-value (bodies.elements e) = width-expr e
-  width-value (bodies.position n) = refl
-  width-value (bodies.position_of e) = refl
-  width-value (bodies.position_in e) = refl
+  width-value _ = refl
 
   value-fits : (t : ElementType) (v : bodies.Value) → FitsAs here t v → FitsAs there t (connected_value nets drives v)
   value-fits nine_valued (bodies.elements e) h = expr-fits e h
   value-fits (enumeration n) (bodies.position p) h = h
   value-fits (enumeration n) (bodies.position_of e) h = typed e (enumeration n) h
   value-fits (enumeration n) (bodies.position_in e) h = h
-  value-fits nine_valued (bodies.position p) h = elim h [ ]
-  value-fits nine_valued (bodies.position_of e) h = elim h [ ]
-  value-fits nine_valued (bodies.position_in e) h = elim h [ ]
-  value-fits (enumeration n) (bodies.elements e) h = elim h [ ]
+  value-fits _ _ h = elim h [ ]
 
   test-fits : (t : bodies.Test) → FitsTest here t → FitsTest there (connected_test nets drives t)
   test-fits (bodies.condition e) h = (expr-fits e h.0, width-expr e ∙ h.1)

@@ -39,12 +39,11 @@ module _ (roles : List Role) where
   joined-kept : (n : ℕ) (r : Role) (outer : List Object) (above es : List ℕ) → AllZip Kept (object_roles outer) above → length es ≡ n → (is_input r ≡ false → All (MayBeDriven outer) es)
       → AllZip Kept (replicate n r) (map (slice_index above) es)
   joined-kept zero r outer above [] z l h = tt
-  joined-kept (suc n) r outer above [] z l h = absurd (omega (arith, l))
-  joined-kept zero r outer above (e ∷ es) z l h = absurd (omega (arith, l))
   joined-kept (suc n) r outer above (e ∷ es) z l h = (
     λ i. let m = All-head (MayBeDriven outer) e es (h i) in zip_read Kept (object_roles outer) above e m.0 z m.1 m.2,
     joined-kept n r outer above es z (omega (arith, l)) (λ i. All-tail (MayBeDriven outer) e es (h i)),
   )
+  joined-kept _ r outer above _ z l h = absurd (omega (arith, l))
 
   nets-kept : (os outer : List Object) (above : List ℕ) (first : ℕ) → All (ObjectIsSound outer) os → All ObjectFits os → AllZip Kept (object_roles outer) above → length roles ≤ first
       → AllZip Kept (object_roles os) (element_nets above first os)

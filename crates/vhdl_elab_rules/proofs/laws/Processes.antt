@@ -46,14 +46,12 @@ variable-fits v h = record {
     by (k.enumeration n) w = (omega arith, omega arith)
 
     byte : (q : ObjectKind) → IsKind q → IsByte (element_type q)
-    byte one w = omega arith
-    byte (vector b) w = omega arith
     byte (k.enumeration n) w = w.1
+    byte _ w = omega arith
 
     single : (q : ObjectKind) (n : ℕ) → element_type q ≡ enumeration n → size q ≡ 1
-    single one n e = refl
     single (vector b) n e = absurd cc
-    single (k.enumeration m) n e = refl
+    single _ n e = refl
 
 variable-types : (vs : List Variable) → All VariableIsSound vs → kinds_types (map (λ (v : Variable). v.kind) vs) ≡ element_types (map flat_variable vs)
 variable-types [] h = refl

@@ -39,13 +39,12 @@ rises-filter f (e ∷ es) a h =
     by false l r = rises-lower (suc e.net) a (map net (filter f es)) (omega (arith, l)) r
 
 pub rises-strictly : (ns : List ℕ) (a : ℕ) → Rises a ns → IsStrictlyIncreasing ns
-rises-strictly [] a h k l = absurd (omega (arith, l))
-rises-strictly (n ∷ []) a h k l = absurd (omega (arith, l))
 rises-strictly (n ∷ m ∷ ns) a h zero l = let k : suc n ≤ m = h.1.0 in omega (arith, k)
 rises-strictly (n ∷ m ∷ ns) a h (suc k) l =
     let more : slice_index (m ∷ ns) k < slice_index (m ∷ ns) (k + 1) = rises-strictly (m ∷ ns) (suc n) h.1 k (omega (arith, l)) in
     let at : suc k + 1 ≡ suc (k + 1) = omega arith in
     subst (λ j. slice_index (m ∷ ns) k < slice_index (n ∷ m ∷ ns) j) (sym at) more
+rises-strictly _ a h _ l = absurd (omega (arith, l))
 
 -- the nets of elements, where an instance's nets are a run from 0 on
 run-read : (len first : ℕ) (n k : ℕ) → first + k + n ≤ len → map (λ j. slice_index (range_with_len 0 len) (first + j)) (range_with_len k n) ≡ range_with_len (first + k) n

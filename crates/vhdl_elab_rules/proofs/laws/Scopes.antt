@@ -41,9 +41,8 @@ follows-more xs ys k h = record { parent = h.parent; is = parent-more xs ys (suc
 
 read-last : (xs : List (Option ℕ)) (o : Option ℕ) (k : ℕ) → length xs ≡ k → slice_index_or (xs ++ o ∷ []) k None ≡ o
 read-last [] o zero l = refl
-read-last [] o (suc k) l = absurd (omega (arith, l))
-read-last (x ∷ xs) o zero l = absurd (omega (arith, l))
 read-last (x ∷ xs) o (suc k) l = read-last xs o k (omega (arith, l))
+read-last _ o _ l = absurd (omega (arith, l))
 
 parent-last : (xs : List ScopeView) (s : ScopeView) (k : ℕ) → length xs ≡ k → parent_of (xs ++ s ∷ []) k ≡ s.parent
 parent-last xs s k l =

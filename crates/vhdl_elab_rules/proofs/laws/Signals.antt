@@ -11,8 +11,7 @@ use Rattle.rtl_model.specs.bodies.Types.{ElementType, HasType}
 use Rattle.rtl_model.specs.bodies.Fits.{IsWidth}
 use Rattle.rtl_net.specs.Elaborated.{width_of}
 use Rattle.vhdl_expand_rules.specs.Integers.{extent}
-use Rattle.vhdl_expand_rules.specs.Kinds.{Bounds, ObjectKind, one, vector, size, element_type}
-use Rattle.vhdl_expand_rules.specs.Kinds as k
+use Rattle.vhdl_expand_rules.specs.Kinds.{ObjectKind, one, vector, size, element_type}
 use Rattle.vhdl_expand_rules.specs.Tree.{Object, Variable}
 use Rattle.vhdl_expand_rules.specs.Expansion.{expanded_design}
 use Rattle.vhdl_expand_rules.specs.laws.Trees.{IsKind, object_types, ObjectIsSound, VariableIsSound}
@@ -54,14 +53,12 @@ some-bounds l Downto r h = by (cases_lt l r)
     by (inr le) = between-down l r le ∙ sym (extent-downto l r le)
 
 pub width-of_kind : (q : ObjectKind) → IsKind q → width_of (kind_view q) ≡ size q
-width-of_kind one h = refl
 width-of_kind (vector b) h = some-bounds b.left b.direction b.right h.0
-width-of_kind (k.enumeration n) h = refl
+width-of_kind _ h = refl
 
 kind-width : (q : ObjectKind) → IsKind q → IsWidth (size q)
-kind-width one h = (omega arith, omega arith)
 kind-width (vector b) h = h
-kind-width (k.enumeration n) h = (omega arith, omega arith)
+kind-width _ h = (omega arith, omega arith)
 
 -- ---- the nets of a name
 
@@ -81,9 +78,8 @@ cut {A} R (x ∷ xs) ys (n ∷ ns) h =
 
 block-typed : (types : List ElementType) (n : ℕ) (t : ElementType) (ns : List ℕ) → AllZip (HasType types) (replicate n t) ns → All (HasType types t) ns
 block-typed types zero t [] h = All-nil (HasType types t)
-block-typed types zero t (m ∷ ns) h = elim h [ ]
-block-typed types (suc n) t [] h = elim h [ ]
 block-typed types (suc n) t (m ∷ ns) h = All-cons (HasType types t) m ns h.0 (block-typed types n t ns h.1)
+block-typed types _ t _ h = elim h [ ]
 
 signals-fit : (types : List ElementType) (scopes scope : ℕ) (os outer : List Object) (front ns : List ℕ) (first : ℕ) → scope < scopes → All (ObjectIsSound outer) os → AllZip (HasType types) (object_types os) ns → length front ≡ first
     → All (SignalFits types scopes) (signals_from scope (front ++ ns) first os)

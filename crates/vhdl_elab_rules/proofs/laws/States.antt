@@ -9,7 +9,7 @@ use Rattle.std.proofs.lemmas.List.Elements.{All-head, All-tail}
 use Rattle.std.proofs.lemmas.List.FromFn.{length-map-range_with_len, get_or-map-range_with_len}
 use Rattle.std.proofs.lemmas.List.Sums.{sum_by-append, sum_by-cons}
 use Rattle.rtl_model.specs.bodies.Types.{ElementType, nine_valued, enumeration, HasType}
-use Rattle.vhdl_expand_rules.specs.Kinds.{ObjectKind, one, vector, size, element_type}
+use Rattle.vhdl_expand_rules.specs.Kinds.{ObjectKind, size, element_type}
 use Rattle.vhdl_expand_rules.specs.Kinds as k
 use Rattle.vhdl_expand_rules.specs.Tree.{output, Object, Parts, no_parts, process, inner, objects_of}
 use Rattle.vhdl_expand_rules.specs.laws.Lengths.{ObjectFits}
@@ -34,40 +34,35 @@ StatesRise low (nine_valued ∷ ts) (n ∷ ns) = StatesRise low ts ns
 StatesRise low (enumeration c ∷ ts) (n ∷ ns) = (low ≤ n) × StatesRise (suc n) ts ns
 
 states-lower : (a b : ℕ) (ts : List ElementType) (ns : List ℕ) → b ≤ a → StatesRise a ts ns → StatesRise b ts ns
-states-lower a b [] ns l h = tt
 states-lower a b (nine_valued ∷ ts) [] l h = tt
-states-lower a b (enumeration c ∷ ts) [] l h = tt
 states-lower a b (nine_valued ∷ ts) (n ∷ ns) l h = states-lower a b ts ns l h
 states-lower a b (enumeration c ∷ ts) (n ∷ ns) l h = let m : a ≤ n = h.0 in (omega (arith, m, l), h.1)
+states-lower a b _ _ l h = tt
 
 pub state-above : (ts : List ElementType) (ns : List ℕ) (low e c : ℕ) → length ts ≡ length ns → StatesRise low ts ns → slice_get ts e ≡ Some (enumeration c) → low ≤ slice_index ns e
-state-above [] ns low e c l h g = absurd cc
 state-above (t ∷ ts) [] low e c l h g = absurd (omega (arith, l))
-state-above (nine_valued ∷ ts) (n ∷ ns) low zero c l h g = absurd cc
 state-above (enumeration d ∷ ts) (n ∷ ns) low zero c l h g = h.0
 state-above (nine_valued ∷ ts) (n ∷ ns) low (suc e) c l h g = state-above ts ns low e c (omega (arith, l)) h g
 state-above (enumeration d ∷ ts) (n ∷ ns) low (suc e) c l h g =
     let m : low ≤ n = h.0 in
     let more : suc n ≤ slice_index ns e = state-above ts ns (suc n) e c (omega (arith, l)) h.1 g in
     omega (arith, m, more)
+state-above _ _ low _ c l h g = absurd cc
 
 pub state-once : (ts : List ElementType) (ns : List ℕ) (low e f c d : ℕ) → length ts ≡ length ns → StatesRise low ts ns → slice_get ts e ≡ Some (enumeration c) → slice_get ts f ≡ Some (enumeration d)
     → slice_index ns e ≡ slice_index ns f → e ≡ f
-state-once [] ns low e f c d l h g k same = absurd cc
 state-once (t ∷ ts) [] low e f c d l h g k same = absurd (omega (arith, l))
 state-once (t ∷ ts) (n ∷ ns) low zero zero c d l h g k same = refl
-state-once (nine_valued ∷ ts) (n ∷ ns) low zero (suc f) c d l h g k same = absurd cc
-state-once (nine_valued ∷ ts) (n ∷ ns) low (suc e) zero c d l h g k same = absurd cc
 state-once (enumeration b ∷ ts) (n ∷ ns) low zero (suc f) c d l h g k same = absurd (let m : suc n ≤ slice_index ns f = state-above ts ns (suc n) f d (omega (arith, l)) h.1 k in omega (arith, m, same))
 state-once (enumeration b ∷ ts) (n ∷ ns) low (suc e) zero c d l h g k same = absurd (let m : suc n ≤ slice_index ns e = state-above ts ns (suc n) e c (omega (arith, l)) h.1 g in omega (arith, m, same))
 state-once (nine_valued ∷ ts) (n ∷ ns) low (suc e) (suc f) c d l h g k same = ap suc (state-once ts ns low e f c d (omega (arith, l)) h g k same)
 state-once (enumeration b ∷ ts) (n ∷ ns) low (suc e) (suc f) c d l h g k same = ap suc (state-once ts ns (suc n) e f c d (omega (arith, l)) h.1 g k same)
+state-once _ _ low _ _ c d l h g k same = absurd cc
 
 nine-block : (n low : ℕ) (xs ns : List ℕ) (ts : List ElementType) → length xs ≡ n → StatesRise low ts ns → StatesRise low (replicate n nine_valued ++ ts) (xs ++ ns)
 nine-block zero low [] ns ts l h = h
-nine-block zero low (x ∷ xs) ns ts l h = absurd (omega (arith, l))
-nine-block (suc n) low [] ns ts l h = absurd (omega (arith, l))
 nine-block (suc n) low (x ∷ xs) ns ts l h = nine-block n low xs ns ts (omega (arith, l)) h
+nine-block _ low _ ns ts l h = absurd (omega (arith, l))
 
 -- an object of an enumeration is no port, and so has a net of its own
 alone : (outer : List Object) (o : Object) (c : ℕ) → ObjectIsSound outer o → element_type o.kind ≡ enumeration c → o.actual ≡ None
@@ -87,14 +82,6 @@ states-rise (o ∷ os) outer above first h fit =
 
     by : (q : ObjectKind) → o.kind ≡ q → length (object_nets above first o) ≡ size o.kind → StatesRise (first + own_size o) (object_types os) (element_nets above (first + own_size o) os)
         → StatesRise first (replicate (size o.kind) (element_type o.kind) ++ object_types os) (object_nets above first o ++ element_nets above (first + own_size o) os)
-    by one e l r =
-        subst (λ (t : ElementType). StatesRise first (replicate (size o.kind) t ++ object_types os) (object_nets above first o ++ element_nets above (first + own_size o) os)) (sym (ap element_type e))
-        (nine-block (size o.kind) first (object_nets above first o) (element_nets above (first + own_size o) os) (object_types os) l
-        (states-lower (first + own_size o) first (object_types os) (element_nets above (first + own_size o) os) (more (own_size o)) r))
-    by (vector b) e l r =
-        subst (λ (t : ElementType). StatesRise first (replicate (size o.kind) t ++ object_types os) (object_nets above first o ++ element_nets above (first + own_size o) os)) (sym (ap element_type e))
-        (nine-block (size o.kind) first (object_nets above first o) (element_nets above (first + own_size o) os) (object_types os) l
-        (states-lower (first + own_size o) first (object_types os) (element_nets above (first + own_size o) os) (more (own_size o)) r))
     by (k.enumeration c) e l r =
         let none : o.actual ≡ None = alone outer o c (All-head (ObjectIsSound outer) o os h) (ap element_type e) in
         let ns : List ℕ = element_nets above (first + own_size o) os in
@@ -106,6 +93,10 @@ states-rise (o ∷ os) outer above first h fit =
       where
         plus-one : (n : ℕ) → n + 1 ≡ suc n
         plus-one n = omega arith
+    by _ e l r =
+        subst (λ (t : ElementType). StatesRise first (replicate (size o.kind) t ++ object_types os) (object_nets above first o ++ element_nets above (first + own_size o) os)) (sym (ap element_type e))
+        (nine-block (size o.kind) first (object_nets above first o) (element_nets above (first + own_size o) os) (object_types os) l
+        (states-lower (first + own_size o) first (object_types os) (element_nets above (first + own_size o) os) (more (own_size o)) r))
 
 -- ---- hits: how many of these drivers are of this net
 

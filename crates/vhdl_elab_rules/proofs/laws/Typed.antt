@@ -6,7 +6,7 @@ use Rattle.std.proofs.lemmas.Option.{same_Some}
 use Rattle.std.proofs.lemmas.List.{length-append, length-replicate, map-append, get_or-append-add}
 use Rattle.std.proofs.lemmas.List.Elements.{All-nil, All-append, All-replicate, All-head, All-tail, filter-append}
 use Rattle.rtl_model.specs.bodies.Types.{ElementType, limit_of, IsByte, HasType}
-use Rattle.vhdl_expand_rules.specs.Kinds.{ObjectKind, one, vector, enumeration, size, element_type}
+use Rattle.vhdl_expand_rules.specs.Kinds.{ObjectKind, enumeration, size, element_type}
 use Rattle.vhdl_expand_rules.specs.Tree.{Object}
 use Rattle.vhdl_expand_rules.specs.laws.Lengths.{ObjectFits}
 use Rattle.vhdl_expand_rules.specs.laws.Trees.{IsKind, object_types, ObjectIsSound}
@@ -138,9 +138,8 @@ own-starts-from (o ∷ os) p start fit =
 -- ---- bytes, and values of types
 
 kind-byte : (k : ObjectKind) → IsKind k → IsByte (element_type k)
-kind-byte one h = omega arith
-kind-byte (vector b) h = omega arith
 kind-byte (enumeration n) h = h.1
+kind-byte _ h = omega arith
 
 own-bytes : (o : Object) → IsKind o.kind → All IsByte (object_own o)
 own-bytes o h = by o.actual
@@ -156,9 +155,8 @@ types-bytes above (o ∷ os) h =
 
 below-type : (t : ElementType) (n : ℕ) (vs : List ℕ) → length vs ≡ n → All (λ v. v < limit_of t) vs → AllZip IsBelow (replicate n t) vs
 below-type t zero [] l h = tt
-below-type t (suc n) [] l h = absurd (omega (arith, l))
-below-type t zero (v ∷ vs) l h = absurd (omega (arith, l))
 below-type t (suc n) (v ∷ vs) l h = (All-head (λ x. x < limit_of t) v vs h, below-type t n vs (omega (arith, l)) (All-tail (λ x. x < limit_of t) v vs h))
+below-type t _ _ l h = absurd (omega (arith, l))
 
 pub starts-below : (above os : List Object) → All (ObjectIsSound above) os → All ObjectFits os → AllZip IsBelow (own_types os) (own_starts os)
 starts-below above [] h fit = tt
@@ -197,10 +195,9 @@ run-typed (suc n) t types rest first l =
 joined-typed : (n : ℕ) (t : ElementType) (types ts : List ElementType) (above es : List ℕ) → AllZip (HasType types) ts above → All (HasType ts t) es → length es ≡ n
     → AllZip (HasType types) (replicate n t) (map (slice_index above) es)
 joined-typed zero t types ts above [] z h l = tt
-joined-typed (suc n) t types ts above [] z h l = absurd (omega (arith, l))
-joined-typed zero t types ts above (e ∷ es) z h l = absurd (omega (arith, l))
 joined-typed (suc n) t types ts above (e ∷ es) z h l =
     (zip_read (HasType types) ts above e t z (All-head (HasType ts t) e es h), joined-typed n t types ts above es z (All-tail (HasType ts t) e es h) (omega (arith, l)))
+joined-typed _ t types ts above _ z h l = absurd (omega (arith, l))
 
 -- an instance's elements have nets of their types, where those above have
 pub nets-typed : (os outer : List Object) (above : List ℕ) (types : List ElementType) (first : ℕ) → All (ObjectIsSound outer) os → All ObjectFits os → AllZip (HasType types) (object_types outer) above

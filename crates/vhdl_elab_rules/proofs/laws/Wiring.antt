@@ -15,7 +15,7 @@ use Rattle.rtl_model.specs.simulation.Netlist.{Source, Driver, Idle}
 use Rattle.rtl_model.specs.simulation.Cycle.{source_value}
 use Rattle.rtl_model.proofs.basics.Lists.{Contains-none, Contains-first}
 use Rattle.rtl_model.proofs.nets.Sources.{source_is_driver, source_is_idle}
-use Rattle.vhdl_expand_rules.specs.Tree.{Role, input, output, internal, Object, Instance, instance, objects_of}
+use Rattle.vhdl_expand_rules.specs.Tree.{Role, input, output, Object, Instance, instance, objects_of}
 use Rattle.vhdl_expand_rules.specs.Declarations as declared
 use Rattle.vhdl_expand_rules.specs.laws.Lengths.{InstanceFits}
 use Rattle.vhdl_expand_rules.specs.laws.Trees.{object_roles, is_port, MayBeDriven, InstanceIsSound}
@@ -36,23 +36,19 @@ use Rattle.vhdl_elab_rules.proofs.laws.Rising.{Rises, rises-run, rises-filter, r
 
 port-of-input : (r : Role) → is_input r ≡ true → is_port r ≡ true
 port-of-input input h = refl
-port-of-input output h = absurd cc
-port-of-input internal h = absurd cc
+port-of-input _ h = absurd cc
 
 port-of-output : (r : Role) → is_output r ≡ true → is_port r ≡ true
 port-of-output output h = refl
-port-of-output input h = absurd cc
-port-of-output internal h = absurd cc
+port-of-output _ h = absurd cc
 
 output-is-driven : (r : Role) → is_output r ≡ true → declared.is_input r ≡ false
 output-is-driven output h = refl
-output-is-driven input h = absurd cc
-output-is-driven internal h = absurd cc
+output-is-driven _ h = absurd cc
 
 not-both : (r : Role) → is_input r ≡ true → declared.is_input r ≡ false → ⊥
 not-both input h g = absurd cc
-not-both output h g = absurd cc
-not-both internal h g = absurd cc
+not-both _ h g = absurd cc
 
 -- ---- idle ports
 

@@ -195,9 +195,7 @@ pub associations-sound : (i : Inside) (here : Site) (at : ℕ) (ps ss : List Obj
     → actuals_fit i fs actuals ≡ true → associations here at fs actuals os ≡ Ok xs → AllJoined (ps ++ ss) fs os xs
 unfolding associations
 associations-sound i here at ps ss [] [] [] xs h w fit e = subst (AllJoined (ps ++ ss) [] []) (ok [] xs e) (record { kinds = refl; joined = tt })
-associations-sound i here at ps ss [] (a ∷ as') os xs h w fit e = absurd cc
 associations-sound i here at ps ss [] [] (o ∷ os) xs h w fit e = elim w [ ]
-associations-sound i here at ps ss (f ∷ fs) [] os xs h w fit e = absurd cc
 associations-sound i here at ps ss (f ∷ fs) (a ∷ as') [] xs h w fit e = elim w [ ]
 associations-sound i here at ps ss (f ∷ fs) (a ∷ as') (o ∷ os) xs h w fit e =
     let both = and_parts (actual_fits i f a) (actuals_fit i fs as') fit in
@@ -209,6 +207,7 @@ associations-sound i here at ps ss (f ∷ fs) (a ∷ as') (o ∷ os) xs h w fit 
       kinds = ap (λ (k : ObjectKind). k ∷ object_kinds ys.x) first.0 ∙ ap (λ (ks : List ObjectKind). o.kind ∷ ks) rest.kinds;
       joined = (first.1, rest.joined);
     })
+associations-sound i here at ps ss _ _ _ xs h w fit e = absurd cc
 
 -- ---- declarations of an architecture
 

@@ -77,28 +77,21 @@ pub is_kind : (f : Form) (k : ObjectKind) → IsOf f k → IsKind k
 is_kind u.element one h = tt
 is_kind (u.vector r) (vector b) h = h
 is_kind (u.enumeration m) (enumeration n) h = (h.1, h.2)
-is_kind u.element (vector b) h = elim h [ ]
-is_kind u.element (enumeration n) h = elim h [ ]
-is_kind (u.vector r) one h = elim h [ ]
-is_kind (u.vector r) (enumeration n) h = elim h [ ]
-is_kind (u.enumeration m) one h = elim h [ ]
-is_kind (u.enumeration m) (vector b) h = elim h [ ]
+is_kind _ _ h = elim h [ ]
 
 -- forms of elements are of the nine values, and so is what is resolved
 pub elements_kind : (f : Form) (k : ObjectKind) → IsOf f k → is_elements (shape_of f) ≡ true → element_type k ≡ nine_valued
-elements_kind f one h e = refl
-elements_kind f (vector b) h e = refl
 elements_kind (u.enumeration m) (enumeration n) h e = absurd cc
 elements_kind u.element (enumeration n) h e = elim h [ ]
 elements_kind (u.vector r) (enumeration n) h e = elim h [ ]
+elements_kind _ _ h e = refl
 
 pub resolved_kind : (f : Form) (k : ObjectKind) (resolved : Bool) → IsOf f k → may_be_resolved f resolved ≡ true → resolved ≡ true → element_type k ≡ nine_valued
-resolved_kind f one r h e g = refl
-resolved_kind f (vector b) r h e g = refl
 resolved_kind (u.enumeration m) (enumeration n) true h e g = absurd cc
 resolved_kind (u.enumeration m) (enumeration n) false h e g = absurd cc
 resolved_kind u.element (enumeration n) r h e g = elim h [ ]
 resolved_kind (u.vector r') (enumeration n) r h e g = elim h [ ]
+resolved_kind _ _ _ h e g = refl
 
 -- ---- what they start with
 
@@ -110,9 +103,8 @@ codes_below [] = All-nil (λ n. n < 9)
 codes_below (v ∷ vs) = All-cons (λ n. n < 9) (code_of v) (map code_of vs) (code_of_below v) (codes_below vs)
 
 some-value : (k : ObjectKind) → IsKind k → 0 < limit_of (element_type k)
-some-value one h = omega arith
-some-value (vector b) h = omega arith
 some-value (enumeration n) h = h.0
+some-value _ h = omega arith
 
 given-below : (i : Inside) (here : Site) (at : ℕ) (f : Form) (k : ObjectKind) (x : Fixed) (vs : List ℕ) → IsOf f k → fixed_fits i (shape_of f) x ≡ true → given_starts here at k x ≡ Ok vs → Below k vs
 given-below i here at f one x vs h e g =
@@ -124,12 +116,9 @@ given-below i here at f (vector b) x vs h e g =
 given-below i here at (u.enumeration m) (enumeration n) (u.Fixed.position p) vs h e g =
     let p-below : p < n = subst (λ k. p < k) h.0 (ltb-true p m e) in
     subst (Below (enumeration n)) (ok (p ∷ []) vs g) (All-cons (λ v. v < n) p [] p-below (All-nil (λ v. v < n)))
-given-below i here at (u.enumeration m) (enumeration n) (u.Fixed.literal xs) vs h e g = absurd cc
-given-below i here at (u.enumeration m) (enumeration n) (u.Fixed.constant j) vs h e g = absurd cc
-given-below i here at (u.enumeration m) (enumeration n) (u.Fixed.encoded s t) vs h e g = absurd cc
-given-below i here at (u.enumeration m) (enumeration n) (u.Fixed.filled v) vs h e g = absurd cc
 given-below i here at u.element (enumeration n) x vs h e g = elim h [ ]
 given-below i here at (u.vector r) (enumeration n) x vs h e g = elim h [ ]
+given-below i here at _ _ _ vs h e g = absurd cc
 
 pub starts_below : (i : Inside) (here : Site) (at : ℕ) (f : Form) (k : ObjectKind) (d : Option Fixed) (vs : List ℕ) → IsOf f k → default_fits i (shape_of f) d ≡ true → starts here at k d ≡ Ok vs → Below k vs
 unfolding starts

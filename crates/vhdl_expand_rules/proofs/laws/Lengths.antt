@@ -12,9 +12,9 @@ use Rattle.vhdl_names_rules.specs.units.Units.{Fixed, Port, Declaration, Entity,
 use Rattle.vhdl_expand_rules.specs.declared.fault.ElabProblem.TheVariants.{NoTop, Length, Index, Unassociated}
 use Rattle.vhdl_expand_rules.specs.Elab.{Elab, ◌>>=◌, unless, item_or, each, same_length}
 use Rattle.vhdl_expand_rules.specs.Integers.{Integers, natural, integer_of, decision, turns}
-use Rattle.vhdl_expand_rules.specs.Kinds.{ObjectKind, one, vector, enumeration, size, size_of, kind_of}
+use Rattle.vhdl_expand_rules.specs.Kinds.{ObjectKind, vector, enumeration, size, size_of, kind_of}
 use Rattle.vhdl_expand_rules.specs.Site.{Site, no_integers, no_site, place_elements}
-use Rattle.vhdl_expand_rules.specs.Tree.{Role, internal, Object, Process, Instance, Parts, no_parts, inner, followed_by}
+use Rattle.vhdl_expand_rules.specs.Tree.{Role, internal, Object, Instance, Parts, no_parts, inner, followed_by}
 use Rattle.vhdl_expand_rules.specs.Tree as t
 use Rattle.vhdl_expand_rules.specs.Declarations.{first_of, rest_of, generics, as_long_as, fixed_values, given_starts, starts, object, role_of, InstanceObjects, with_port, with_signal, ports, interface, declaration, declarations, is_input, association, associations}
 use Rattle.vhdl_expand_rules.specs.Expansion.{Spot, in_turn, in_branch, process, joined_parts, instance, concurrent, concurrents, concurrents_turns, instance_of, entity_named, Design, expanded_design}
@@ -48,13 +48,9 @@ codes-length here at len f vs h =
     subst (λ (ns : List ℕ). length ns ≡ len) (ok (map code_of x.x) vs x.then_gave) (length-map x.x code_of ∙ fixed-length here at len f x.x x.gave)
 
 given-length : (here : Site) (at : ℕ) (kind : ObjectKind) (f : Fixed) (vs : List ℕ) → given_starts here at kind f ≡ Ok vs → length vs ≡ size kind
-given-length here at one f vs h = codes-length here at 1 f vs h
 given-length here at (vector b) f vs h = codes-length here at (size (vector b)) f vs h
 given-length here at (enumeration count) (u.Fixed.position n) vs h = ap length (sym (ok (n ∷ []) vs h))
-given-length here at (enumeration count) (u.Fixed.literal xs) vs h = codes-length here at 1 (u.Fixed.literal xs) vs h
-given-length here at (enumeration count) (u.Fixed.constant k) vs h = codes-length here at 1 (u.Fixed.constant k) vs h
-given-length here at (enumeration count) (u.Fixed.encoded s t) vs h = codes-length here at 1 (u.Fixed.encoded s t) vs h
-given-length here at (enumeration count) (u.filled v) vs h = codes-length here at 1 (u.filled v) vs h
+given-length here at _ f vs h = codes-length here at 1 f vs h
 
 pub starts-length : (here : Site) (at : ℕ) (kind : ObjectKind) (d : Option Fixed) (vs : List ℕ) → starts here at kind d ≡ Ok vs → length vs ≡ size kind
 unfolding starts

@@ -10,11 +10,11 @@ use Rattle.std.proofs.lemmas.List.Sums.{sum_by-cons}
 use Rattle.rtl_model.specs.bodies.Types.{ElementType, enumeration, HasType}
 use Rattle.rtl_model.specs.bodies.Fits.{IsWidth}
 use Rattle.vhdl_names_rules.specs.units.Expressions as u
-use Rattle.vhdl_names_rules.specs.units.Expressions.{Signal, Part, SignalPart}
+use Rattle.vhdl_names_rules.specs.units.Expressions.{Signal, Part}
 use Rattle.vhdl_names_rules.specs.units.Units as units
 use Rattle.vhdl_names_rules.specs.units.Units.{Form}
 use Rattle.vhdl_names_rules.specs.sound.Expressions as sound
-use Rattle.vhdl_names_rules.specs.sound.Expressions.{Inside, Shape, state, static_fits, range_fits, shape_of, part_shape, port_form, signal_form, place_shape}
+use Rattle.vhdl_names_rules.specs.sound.Expressions.{Inside, Shape, static_fits, range_fits, shape_of, part_shape, port_form, place_shape}
 use Rattle.vhdl_expand_rules.specs.declared.fault.ElabProblem.{ElabProblem}
 use Rattle.vhdl_expand_rules.specs.declared.fault.ElabProblem.TheVariants.{Index}
 use Rattle.vhdl_expand_rules.specs.Elab.{item_or}
@@ -30,9 +30,8 @@ use Rattle.vhdl_expand_rules.proofs.laws.Places.{run-within, place_below, slice_
 -- ---- shapes
 
 pub is_width : (s : Shape) (n : ℕ) → HasShape s n → IsWidth n
-is_width sound.one n h = (omega (arith, h), omega (arith, h))
 is_width sound.vector n h = h
-is_width (state count) n h = (omega (arith, h), omega (arith, h))
+is_width _ n h = (omega (arith, h), omega (arith, h))
 
 pub width-le : (m n : ℕ) → 1 ≤ m → m ≤ n → IsWidth n → IsWidth m
 width-le m n a b h = let c : n ≤ 64 = h.1 in (a, omega (arith, b, c))
@@ -53,18 +52,13 @@ one-place n p h = All-cons (λ q. q < n) p [] h (All-nil (λ q. q < n))
 
 pub whole : (f : Form) (kind : ObjectKind) → IsOf f kind → PartPlaces kind (shape_of f) (range_with_len 0 (size kind))
 whole units.element one h = record { below = one-place 1 0 (omega arith); width = refl; type_is = refl }
-whole units.element (vector b) h = elim h [ ]
-whole units.element (enumeration n) h = elim h [ ]
 whole (units.vector r) (vector b) h =
     let n : ℕ = size (vector b) in
     let some : 1 ≤ n = h.0 in
     let w = run-within n 0 n n n refl refl some (omega arith) in
     record { below = w.below; width = subst IsWidth (sym (length-range_with_len 0 n)) h; type_is = refl }
-whole (units.vector r) one h = elim h [ ]
-whole (units.vector r) (enumeration n) h = elim h [ ]
 whole (units.enumeration m) (enumeration n) h = record { below = one-place 1 0 (omega arith); width = refl; type_is = ap enumeration h.0 }
-whole (units.enumeration m) one h = elim h [ ]
-whole (units.enumeration m) (vector b) h = elim h [ ]
+whole _ _ h = elim h [ ]
 
 pub part_places : (i : Inside) (here : Integers) (at : ℕ) (f : Form) (kind : ObjectKind) (part : Part) (s : Shape) (ps : List ℕ)
     → IsOf f kind → part_shape i f part ≡ Some s → places here at kind part ≡ Ok ps → PartPlaces kind s ps
@@ -84,14 +78,11 @@ part_places i here at (units.vector r) (vector b) (u.slice x) s ps h e g =
     let w = slice_within b at x.direction l.x m.x ps m.then_gave in
     subst (λ (y : Shape). PartPlaces (vector b) y ps) (given_some (range_fits i x) sound.vector s e).1
     (record { below = w.below; width = width-le (length ps) (size (vector b)) w.some w.most h; type_is = refl })
-part_places i here at (units.vector r) one (u.Part.element x) s ps h e g = elim h [ ]
-part_places i here at (units.vector r) one (u.slice x) s ps h e g = elim h [ ]
-part_places i here at (units.vector r) (enumeration n) (u.Part.element x) s ps h e g = elim h [ ]
-part_places i here at (units.vector r) (enumeration n) (u.slice x) s ps h e g = elim h [ ]
 part_places i here at units.element kind (u.Part.element x) s ps h e g = absurd cc
 part_places i here at units.element kind (u.slice x) s ps h e g = absurd cc
 part_places i here at (units.enumeration m) kind (u.Part.element x) s ps h e g = absurd cc
 part_places i here at (units.enumeration m) kind (u.slice x) s ps h e g = absurd cc
+part_places i here at _ _ _ s ps h e g = elim h [ ]
 
 -- ---- the types of elements
 

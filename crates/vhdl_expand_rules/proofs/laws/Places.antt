@@ -146,8 +146,7 @@ slice-within at l Downto r Downto x y ps s =
     let m = place-downto at l r x s.first s.begins in
     let n = place-downto at l r y s.last s.ends in
     subst (Within (bounds_size (bounds l Downto r))) s.is (slice-downto l r m.0 n.0 s.first x y m.1 n.1 m.3 n.2 m.4 s.some)
-slice-within at l To r Downto x y ps s = absurd (let e = s.same in cc)
-slice-within at l Downto r To x y ps s = absurd (let e = s.same in cc)
+slice-within at l _ r _ x y ps s = absurd (let e = s.same in cc)
 
 pub slice_within : (b : Bounds) (at : ℕ) (d : Direction) (x y : ℤ) (ps : List ℕ) → slice_places b at d x y ≡ Ok ps → Within (bounds_size b) ps
 slice_within b at d x y ps h = slice-within at b.left b.direction b.right d x y ps (slice-of b at d x y ps h)

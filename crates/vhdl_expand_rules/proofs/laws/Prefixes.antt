@@ -38,10 +38,7 @@ places_below here at (vector b) (u.slice x) ps h =
     let l = bound (integer here at x.left) _ ps h in
     let m = bound (integer here at x.right) _ ps l.then_gave in
     (slice_within b at x.direction l.x m.x ps m.then_gave).below
-places_below here at one (u.Part.element x) ps h = absurd cc
-places_below here at one (u.slice x) ps h = absurd cc
-places_below here at (enumeration n) (u.Part.element x) ps h = absurd cc
-places_below here at (enumeration n) (u.slice x) ps h = absurd cc
+places_below here at _ _ ps h = absurd cc
 
 -- ---- what is static is the same in each turn
 
@@ -54,29 +51,24 @@ within here loops variables = record here { integers = turned here.integers loop
 
 static-same : (here : Integers) (at : ℕ) (loops : List ℤ) (s : Static) → is_static s ≡ true → integer (turned here loops) at s ≡ integer here at s
 unfolding integer
-static-same here at loops (u.number n) h = refl
-static-same here at loops (u.generic k) h = refl
-static-same here at loops (u.Static.constant k) h = refl
-static-same here at loops (u.generate_parameter k) h = refl
 static-same here at loops (u.loop_parameter k) h = absurd cc
 static-same here at loops (u.Static.negated sign s) h = ap (λ (r : Elab ℤ). r >>= λ x. checked_integer sign (neg_ℤ x)) (static-same here sign loops s h)
 static-same here at loops (u.Static.binary sign op s t) h =
     let both = and_parts (is_static s) (is_static t) h in
     ap (λ (r : Elab ℤ). r >>= λ x. integer (turned here loops) sign t >>= λ y. integer_operation sign op x y) (static-same here sign loops s both.0)
     ∙ ap (λ (r : Elab ℤ). integer here sign s >>= λ x. r >>= λ y. integer_operation sign op x y) (static-same here sign loops t both.1)
+static-same here at loops _ h = refl
 
 places-same : (here : Integers) (at : ℕ) (loops : List ℤ) (kind : ObjectKind) (part : Part) → is_static_part part ≡ true → places (turned here loops) at kind part ≡ places here at kind part
 unfolding places
-places-same here at loops kind u.whole h = refl
 places-same here at loops (vector b) (u.Part.element s) h = ap (λ (r : Elab ℤ). r >>= λ i. place_of b at i >>= λ p. given (p ∷ [])) (static-same here at loops s h)
 places-same here at loops (vector b) (u.slice r) h =
     let both = and_parts (is_static r.left) (is_static r.right) h in
     ap (λ (e : Elab ℤ). e >>= λ x. integer (turned here loops) at r.right >>= λ y. slice_places b at r.direction x y) (static-same here at loops r.left both.0)
     ∙ ap (λ (e : Elab ℤ). integer here at r.left >>= λ x. e >>= λ y. slice_places b at r.direction x y) (static-same here at loops r.right both.1)
 places-same here at loops one (u.Part.element s) h = refl
-places-same here at loops one (u.slice r) h = refl
 places-same here at loops (enumeration n) (u.Part.element s) h = refl
-places-same here at loops (enumeration n) (u.slice r) h = refl
+places-same here at loops _ _ h = refl
 
 -- ---- elements of a part, and of the whole
 

@@ -12,9 +12,9 @@ use Rattle.rtl_model.specs.bodies.Types.{ElementType}
 use Rattle.rtl_model.specs.bodies.Body as bodies
 use Rattle.rtl_model.specs.bodies.Fits.{Fits}
 use Rattle.vhdl_names_rules.specs.units.Expressions as e
-use Rattle.vhdl_names_rules.specs.units.Expressions.{Static, Signal, SignalPart}
+use Rattle.vhdl_names_rules.specs.units.Expressions.{Signal, SignalPart}
 use Rattle.vhdl_names_rules.specs.units.Units as u
-use Rattle.vhdl_names_rules.specs.units.Units.{Units, Form, Port, Entity, Architecture}
+use Rattle.vhdl_names_rules.specs.units.Units.{Form}
 use Rattle.vhdl_names_rules.specs.sound.Expressions.{Inside, shape_of}
 use Rattle.vhdl_names_rules.specs.sound.Statements.{is_driven, statements_fit}
 use Rattle.vhdl_names_rules.specs.sound.Units.{form_fits, default_fits, may_be_resolved, object_fits, objects_fit, sensitivity_fits, process_fits}
@@ -24,7 +24,7 @@ use Rattle.vhdl_expand_rules.specs.Site.{Site, elements_count, place_elements}
 use Rattle.vhdl_expand_rules.specs.Statements.{statements, statements_turns}
 use Rattle.vhdl_expand_rules.specs.Prefixes.{targets, is_static_part, prefix, prefixes_elements, concatenation_of, is_among, in_order}
 use Rattle.vhdl_expand_rules.specs.Declarations.{starts, variable}
-use Rattle.vhdl_expand_rules.specs.Tree.{internal, Object, Variable, Instance, Parts, no_parts, inner, followed_by, objects_of}
+use Rattle.vhdl_expand_rules.specs.Tree.{Object, Variable}
 use Rattle.vhdl_expand_rules.specs.Tree as t
 use Rattle.vhdl_expand_rules.specs.Expansion.{Spot, sensitivity, with_variables, process}
 use Rattle.vhdl_expand_rules.specs.laws.Sites.{IsOf, IsSite, kinds_types}

@@ -16,7 +16,7 @@ use Rattle.vhdl_names_rules.specs.units.Expressions.{SignalPart, Part, Value}
 use Rattle.vhdl_names_rules.specs.units.Expressions as u
 use Rattle.vhdl_names_rules.specs.units.Statements as s
 use Rattle.vhdl_names_rules.specs.units.Units.{Form}
-use Rattle.vhdl_names_rules.specs.sound.Expressions.{Inside, Shape, vector, state, is_vector, part_shape, place_shape, vector_shape, value_shape, fits_shape, range_fits, value_fits, test_fits}
+use Rattle.vhdl_names_rules.specs.sound.Expressions.{Inside, Shape, vector, state, part_shape, place_shape, vector_shape, value_shape, range_fits, test_fits}
 use Rattle.vhdl_names_rules.specs.sound.Expressions as sound
 use Rattle.vhdl_names_rules.specs.sound.Statements.{given_fits, given_fits_target, is_driven, within_loop, choice_fits, statement_fits, statements_fit, branches_fit, alternatives_fit}
 use Rattle.vhdl_expand_rules.specs.declared.fault.ElabProblem.TheVariants.{Length}
@@ -55,8 +55,7 @@ given-fits i here at vector len (s.filled y) v h w k m =
     let same = bound (same_length at (width e.x) 1) _ v e.then_gave in
     let q = each-vector-fits i here y sound.one e.x h (has_shape sound.one (vector_shape i y) k) e.gave in
     subst (IsGiven here vector len) (ok (bodies.elements (bodies.filled len e.x)) v same.then_gave) (record { fits = (w, q.fits, q.width); width = refl })
-given-fits i here at sound.one len (s.filled y) v h w k m = absurd cc
-given-fits i here at (state count) len (s.filled y) v h w k m = absurd cc
+given-fits i here at _ len _ v h w k m = absurd cc
 
 record Target (i : Inside) (o : Option Shape) (g : s.Given) : Type 0 where
   shape : Shape

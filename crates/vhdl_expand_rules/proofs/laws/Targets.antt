@@ -197,12 +197,11 @@ mutual
   unfolding statement_fits
 
   statement-targets : (y : s.Statement) (i : Inside) → statement_fits i y ≡ true → All (IsDriven i) (statement_targets y)
-  statement-targets s.null_of i k = All-nil (IsDriven i)
   statement-targets (s.assign p g) i k = All-cons (IsDriven i) p [] (and_parts (is_driven i p.signal) (given_fits_target i (place_shape i p) g) k).0 (All-nil (IsDriven i))
-  statement-targets (s.set at n part g) i k = All-nil (IsDriven i)
   statement-targets (s.if_of at bs) i k = branches-targets bs i k
   statement-targets (s.case_of at v alts) i k = alternatives-targets alts i (value_shape i v) (and_parts (selector_fits i v) (alternatives_fit i (value_shape i v) alts) k).1
   statement-targets (s.for_of at r inner) i k = statements-targets inner (within_loop i) (and_parts (range_fits i r) (statements_fit (within_loop i) inner) k).1
+  statement-targets _ i k = All-nil (IsDriven i)
 
   statements-targets : (ys : s.Statements) (i : Inside) → statements_fit i ys ≡ true → All (IsDriven i) (targets ys)
   statements-targets s.done i k = All-nil (IsDriven i)

@@ -6,12 +6,12 @@ use Rattle.std.proofs.lemmas.Bool.{eqb-true, ltb-true, and_parts, not-true}
 use Rattle.std.proofs.lemmas.List.Elements.{All-head}
 use Rattle.vhdl_values.specs.declared.scalar.Nine.{Nine}
 use Rattle.vhdl_values.specs.declared.kinds.Edge.{Edge}
-use Rattle.vhdl_values.specs.declared.kinds.Edge.TheVariants.{Rising, Falling, To1, To0}
+use Rattle.vhdl_values.specs.declared.kinds.Edge.TheVariants.{To1, To0}
 use Rattle.rtl_model.specs.bodies.Types.{ElementType, nine_valued, enumeration, HasType}
 use Rattle.rtl_model.specs.bodies.Fits.{FitBoth, FitsTest}
 use Rattle.rtl_model.specs.bodies.Body as bodies
 use Rattle.vhdl_names_rules.specs.units.Expressions as u
-use Rattle.vhdl_names_rules.specs.units.Expressions.{Signal, SignalPart, Vector, Value, Test}
+use Rattle.vhdl_names_rules.specs.units.Expressions.{SignalPart, Value, Test}
 use Rattle.vhdl_names_rules.specs.units.Units.{Form}
 use Rattle.vhdl_names_rules.specs.Rules.{◌>>=◌}
 use Rattle.vhdl_names_rules.specs.sound.Expressions.{Inside, Shape, one, vector, state, shape_of, is_elements, same_shape, static_fits, part_shape, signal_form, place_shape, vector_shape}
@@ -35,12 +35,7 @@ same-shape : (s t : Shape) → same_shape s t ≡ true → s ≡ t
 same-shape one one h = refl
 same-shape vector vector h = refl
 same-shape (state m) (state n) h = ap state (eqb-true m n h)
-same-shape one vector h = absurd cc
-same-shape one (state n) h = absurd cc
-same-shape vector one h = absurd cc
-same-shape vector (state n) h = absurd cc
-same-shape (state m) one h = absurd cc
-same-shape (state m) vector h = absurd cc
+same-shape _ _ h = absurd cc
 
 pub has_shape : (s : Shape) (o : Option Shape) → fits_shape s o ≡ true → o ≡ Some s
 has_shape s None h = absurd cc
@@ -65,19 +60,16 @@ the-element at r e h =
 -- ---- values
 
 vector-value : (here : Site) (s : Shape) (e : bodies.Expr) → IsVector here s e → IsValue here s (bodies.elements e)
-vector-value here one e h = record { fits = h.fits; width = h.width }
-vector-value here vector e h = record { fits = h.fits; width = h.width }
 vector-value here (state count) e h = absurd (let k = h.of_elements in cc)
+vector-value here _ e h = record { fits = h.fits; width = h.width }
 
 state-of : (here : Site) (s : Shape) (e : ℕ) → is_elements s ≡ false → HasType (scope_at here).nets (type_of s) e → IsValue here s (bodies.position_of e)
 state-of here (state count) e h g = record { fits = g; width = refl }
-state-of here one e h g = absurd cc
-state-of here vector e h g = absurd cc
+state-of here _ e h g = absurd cc
 
 state-in : (here : Site) (s : Shape) (e : ℕ) → is_elements s ≡ false → HasType (kinds_types here.variables) (type_of s) e → IsValue here s (bodies.position_in e)
 state-in here (state count) e h g = record { fits = g; width = refl }
-state-in here one e h g = absurd cc
-state-in here vector e h g = absurd cc
+state-in here _ e h g = absurd cc
 
 pub value_of_shape : (i : Inside) (here : Site) (at : ℕ) (v : Value) (s : Shape) (e : bodies.Value) → IsSite i here → value_shape i v ≡ Some s → x.value here at v ≡ Ok e → IsValue here s e
 unfolding x.value
@@ -106,15 +98,12 @@ value_of_shape i here at (u.state_of_variable n) s e h k m =
 
 position-value : (here : Site) (s : Shape) (n : ℕ) → position_fits s n ≡ true → IsValue here s (bodies.position n)
 position-value here (state count) n h = record { fits = ltb-true n count h; width = refl }
-position-value here one n h = absurd cc
-position-value here vector n h = absurd cc
+position-value here _ n h = absurd cc
 
 pub each-value-fits : EachValueFits
 unfolding x.value
 each-value-fits i here at (u.Value.position n) s e h k m = subst (IsValue here s) (ok (bodies.position n) e m) (position-value here s n k)
-each-value-fits i here at (u.Value.elements y) s e h k m = value_of_shape i here at (u.Value.elements y) s e h (has_shape s (value_shape i (u.Value.elements y)) k) m
-each-value-fits i here at (u.state_of y) s e h k m = value_of_shape i here at (u.state_of y) s e h (has_shape s (value_shape i (u.state_of y)) k) m
-each-value-fits i here at (u.state_of_variable n) s e h k m = value_of_shape i here at (u.state_of_variable n) s e h (has_shape s (value_shape i (u.state_of_variable n)) k) m
+each-value-fits i here at x s e h k m = value_of_shape i here at x s e h (has_shape s (value_shape i x) k) m
 
 -- ---- two values of one type
 
@@ -144,12 +133,10 @@ unfolding x.value
 both_fit i here at (u.Value.position p) (u.Value.position q) d e h k m n =
     subst (λ (y : bodies.Value). FitBoth (scope_at here) y e) (ok (bodies.position p) d m)
     (subst (λ (y : bodies.Value). FitBoth (scope_at here) (bodies.position p) y) (ok (bodies.position q) e n) (enumeration (suc (p + q)), omega arith, omega arith))
-both_fit i here at (u.Value.position p) (u.Value.elements y) d e h k m n = right-first i here at (u.Value.position p) (u.Value.elements y) d e h k m n
-both_fit i here at (u.Value.position p) (u.state_of y) d e h k m n = right-first i here at (u.Value.position p) (u.state_of y) d e h k m n
-both_fit i here at (u.Value.position p) (u.state_of_variable y) d e h k m n = right-first i here at (u.Value.position p) (u.state_of_variable y) d e h k m n
 both_fit i here at (u.Value.elements y) w d e h k m n = left-first i here at (u.Value.elements y) w d e h k m n
 both_fit i here at (u.state_of y) w d e h k m n = left-first i here at (u.state_of y) w d e h k m n
 both_fit i here at (u.state_of_variable y) w d e h k m n = left-first i here at (u.state_of_variable y) w d e h k m n
+both_fit i here at v w d e h k m n = right-first i here at v w d e h k m n
 
 -- ---- equality
 
@@ -205,10 +192,9 @@ edge-element i here p e h k m =
     first_is (HasType (scope_at here).nets nine_valued) q.es e w.typed q.first
 
 edge-fits : (here : Site) (kind : Edge) (e : ℕ) → HasType (scope_at here).nets nine_valued e → FitsTest (scope_at here) (edge_test kind e)
-edge-fits here Rising e h = h
-edge-fits here Falling e h = h
 edge-fits here To1 e h = (h, h)
 edge-fits here To0 e h = (h, h)
+edge-fits here _ e h = h
 
 -- ---- all tests
 

@@ -8,7 +8,7 @@ use Rattle.std.proofs.lemmas.Option.{same_Some}
 use Rattle.std.proofs.lemmas.List.Elements.{All-cons, All-nil, All-head, All-tail, All-append, All-weaker}
 use Rattle.vhdl_names_rules.specs.units.Expressions.{Static}
 use Rattle.vhdl_names_rules.specs.units.Units as u
-use Rattle.vhdl_names_rules.specs.units.Units.{Units, Form, Port, Entity, Architecture}
+use Rattle.vhdl_names_rules.specs.units.Units.{Units, Port, Entity}
 use Rattle.vhdl_names_rules.specs.sound.Expressions.{Inside, range_fits, static_test_fits}
 use Rattle.vhdl_names_rules.specs.sound.Units.{objects_fit, port_fits, generics_fit, declarations_fit, with_declarations, static_default_fits, actuals_fit, instance_fits, within_generate, concurrent_fits, concurrents_fit, nothing_inside, architecture_fits, entity_fits, are_sound}
 use Rattle.vhdl_expand_rules.specs.declared.fault.ElabProblem.TheVariants.{NoTop}
@@ -16,7 +16,7 @@ use Rattle.vhdl_expand_rules.specs.Elab.{Elab, item_or, each}
 use Rattle.vhdl_expand_rules.specs.Integers.{Integers, decision, turns}
 use Rattle.vhdl_expand_rules.specs.Site.{Site, no_integers, in_generate}
 use Rattle.vhdl_expand_rules.specs.Declarations.{role_of, InstanceObjects, interface, declarations, associations}
-use Rattle.vhdl_expand_rules.specs.Tree.{internal, Object, Variable, Instance, Parts, no_parts, inner, followed_by, objects_of}
+use Rattle.vhdl_expand_rules.specs.Tree.{internal, Object, Instance, Parts, no_parts, inner, followed_by, objects_of}
 use Rattle.vhdl_expand_rules.specs.Tree as t
 use Rattle.vhdl_expand_rules.specs.Expansion.{Spot, in_turn, in_branch, process, joined_parts, instance, concurrent, concurrents, concurrents_turns, instance_of, entity_named, expanded_design}
 use Rattle.vhdl_expand_rules.specs.laws.Trees.{object_kinds, is_port, ObjectIsSound, InstanceIsSound, PartsAreSound, DesignIsSound, EachTreeIsSound}
@@ -62,21 +62,18 @@ record Begins (above : List Object) (unit : Entity) (d : InstanceObjects) : Type
 
 roles-of : (above : List Object) (fs : List Port) (os : List Object) → AllZip (Joined above) fs os → AllZip (λ (p : Port) (o : Object). o.role ≡ role_of p.mode) fs os
 roles-of above [] [] h = tt
-roles-of above [] (o ∷ os) h = elim h [ ]
-roles-of above (f ∷ fs) [] h = elim h [ ]
 roles-of above (f ∷ fs) (o ∷ os) h = (h.0.role_is, roles-of above fs os h.1)
+roles-of above _ _ h = elim h [ ]
 
 sound-of : (above : List Object) (fs : List Port) (os : List Object) → AllZip (Joined above) fs os → All (ObjectIsSound above) os
 sound-of above [] [] h = All-nil (ObjectIsSound above)
-sound-of above [] (o ∷ os) h = elim h [ ]
-sound-of above (f ∷ fs) [] h = elim h [ ]
 sound-of above (f ∷ fs) (o ∷ os) h = All-cons (ObjectIsSound above) o os h.0.sound (sound-of above fs os h.1)
+sound-of above _ _ h = elim h [ ]
 
 not-joined : (above : List Object) (fs : List Port) (os : List Object) → AllZip PortObject fs os → AllZip (Joined above) fs os
 not-joined above [] [] h = tt
-not-joined above [] (o ∷ os) h = elim h [ ]
-not-joined above (f ∷ fs) [] h = elim h [ ]
 not-joined above (f ∷ fs) (o ∷ os) h = (port-sound above f o h.0, not-joined above fs os h.1)
+not-joined above _ _ h = elim h [ ]
 
 begins : (above : List Object) (unit : Entity) (d : InstanceObjects) (os : List Object) → Interface (before_ports unit) unit.ports d → object_kinds os ≡ object_kinds d.objects → AllZip (Joined above) unit.ports os
     → Begins above unit (record d { objects = os })
@@ -199,9 +196,8 @@ instance_of-sound units (suc n) sound above at unit d i fit h e =
 
 none-joined : (fs : List Port) (os : List Object) → AllZip PortObject fs os → All (λ (o : Object). o.actual ≡ None) os
 none-joined [] [] h = All-nil (λ (o : Object). o.actual ≡ None)
-none-joined [] (o ∷ os) h = elim h [ ]
-none-joined (f ∷ fs) [] h = elim h [ ]
 none-joined (f ∷ fs) (o ∷ os) h = All-cons (λ (x : Object). x.actual ≡ None) o os h.0.plain.none (none-joined fs os h.1)
+none-joined _ _ h = elim h [ ]
 
 signals-alone : (os : List Object) → All Anywhere os → All (λ (o : Object). o.role ≡ internal) os → All (λ (o : Object). o.actual ≡ None) os
 signals-alone [] h k = All-nil (λ (o : Object). o.actual ≡ None)

@@ -7,7 +7,7 @@ use Rattle.std.proofs.lemmas.List.{length-map}
 use Rattle.vhdl_values.specs.declared.scalar.Nine.{Nine}
 use Rattle.vhdl_values.specs.declared.scalar.Nine.TheVariants.{X}
 use Rattle.vhdl_values.specs.declared.kinds.Counted.{Counted}
-use Rattle.vhdl_values.specs.declared.kinds.Counted.TheVariants.{Resize, ShiftLeft, ShiftRight}
+use Rattle.vhdl_values.specs.declared.kinds.Counted.TheVariants.{Resize}
 use Rattle.vhdl_values.specs.Numbers.{digits_of}
 use Rattle.vhdl_values.specs.Shifts.{IsCount}
 use Rattle.vhdl_values.proofs.Digits.{length-digits_of}
@@ -37,9 +37,8 @@ use Rattle.vhdl_expand_rules.proofs.Options.{step, given_some}
 use Rattle.vhdl_expand_rules.proofs.laws.Names.{is_width, was_found, part_places, zip_at, each-name-fits, variable_fits}
 
 pub elements_are_nine : (s : Shape) → is_elements s ≡ true → type_of s ≡ nine_valued
-elements_are_nine one h = refl
-elements_are_nine vector h = refl
 elements_are_nine (state count) h = absurd cc
+elements_are_nine _ h = refl
 
 pub vector_width : (here : Site) (s : Shape) (e : bodies.Expr) → IsVector here s e → IsWidth (width e)
 vector_width here s e h = is_width s (width e) h.width
@@ -71,8 +70,7 @@ size_is_width here at s n h =
 pub count_is_count : (op : Counted) (here : Integers) (at : ℕ) (s : Static) (n : ℕ) → count_of op here at s ≡ Ok n → IsCount op n
 unfolding count_of
 count_is_count Resize here at s n h = size_is_width here at s n h
-count_is_count ShiftLeft here at s n h = tt
-count_is_count ShiftRight here at s n h = tt
+count_is_count _ here at s n h = tt
 
 -- ---- operators
 

@@ -121,8 +121,6 @@ pub record IsActual (n : Name) (fs : List Name) (as' : List Association) : Type 
   pub is : actual_of n fs as' ≡ expression_of association.actual
 
 pub actual_from : (n : Name) (fs : List Name) (as' : List Association) → (actual_of n fs as' ≡ None) ⊎ IsActual n fs as'
-actual_from n [] as' = inl refl
-actual_from n (f ∷ fs) [] = inl refl
 actual_from n (f ∷ fs) (a ∷ as') = go (bytes_eq n f) refl (actual_from n fs as')
   where
     go : (b : Bool) → bytes_eq n f ≡ b → (actual_of n fs as' ≡ None) ⊎ IsActual n fs as' → (actual_of n (f ∷ fs) (a ∷ as') ≡ None) ⊎ IsActual n (f ∷ fs) (a ∷ as')
@@ -141,3 +139,4 @@ actual_from n (f ∷ fs) (a ∷ as') = go (bytes_eq n f) refl (actual_from n fs 
       at = x.at;
       is = ap (λ b. cond b (expression_of a.actual) (actual_of n fs as')) e ∙ x.is;
     })
+actual_from n _ _ = inl refl

@@ -180,11 +180,9 @@ same_empty (x ∷ xs) ys l e = refl
 
 long_arranged : (css : List (List Choice)) (bodies : List Statements) → length css ≡ length bodies → is_empty css ≡ false → IsGiven (arranged css bodies)
 long_arranged [] bodies l e = absurd cc
-long_arranged (cs ∷ []) [] l e = absurd (omega (arith, l))
 long_arranged (cs ∷ []) (b ∷ []) l e = this (others b)
-long_arranged (cs ∷ []) (b ∷ c ∷ bs) l e = absurd (omega (arith, l))
-long_arranged (cs ∷ ds ∷ css) [] l e = absurd (omega (arith, l))
 long_arranged (cs ∷ ds ∷ css) (b ∷ bs) l e = mapped_given (alternative cs b) (arranged (ds ∷ css) bs) (long_arranged (ds ∷ css) bs (omega (arith, l)) refl)
+long_arranged _ _ l e = absurd (omega (arith, l))
 
 -- one body for each alternative, of which there are some
 pub arranged_given : {A : Type 0} (at : ℕ) (xs : List A) (css : List (List Choice)) (bodies : List Statements) → IsKept (any_alternative at xs) → length css ≡ length xs

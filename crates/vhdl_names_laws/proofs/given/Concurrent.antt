@@ -60,8 +60,7 @@ module _ (sight : Sight) (n : t.Name) (x : SignalName) (is : target sight n ≡ 
   body_given : (bs : List t.Branch) (o : Option t.Value) → IsKept (any_of (broken.branch sight n) bs) → IsKept (of_any (sequential.assigned sight n) o)
       → IsGiven (are.assignment_body sight n.identifier.at x bs o)
   body_given [] (Some v) h l = value_is sight n x v is l
-  body_given [] None h l = mapped_given (s.if_of n.identifier.at) (are.branches sight x [] None) (branches_given [] None h l)
-  body_given (b ∷ bs) o h l = mapped_given (s.if_of n.identifier.at) (are.branches sight x (b ∷ bs) o) (branches_given (b ∷ bs) o h l)
+  body_given bs o h l = mapped_given (s.if_of n.identifier.at) (are.branches sight x bs o) (branches_given bs o h l)
 
   waveforms_given : (type : ObjectType) (ws : List t.Waveform) → IsKept (any_of (broken.waveform sight type n) ws)
       → IsGiven (each (λ (w : t.Waveform). option_map alone (are.assigned sight x w.value)) ws)

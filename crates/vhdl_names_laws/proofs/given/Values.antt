@@ -5,7 +5,7 @@ use Rattle.vhdl_tree.specs.declared.operator.Direction.{Direction}
 use Rattle.vhdl_tree.specs.Tree as t
 use Rattle.vhdl_tree.specs.Tree.{Expr, Ident}
 use Rattle.vhdl_names_rules.specs.declared.kind.ElementKind.{ElementKind}
-use Rattle.vhdl_names_rules.specs.declared.kind.ElementKind.TheVariants.{Element, LogicVector, Unsigned, OpenVector}
+use Rattle.vhdl_names_rules.specs.declared.kind.ElementKind.TheVariants.{Element, LogicVector, Unsigned}
 use Rattle.vhdl_names_rules.specs.declared.kind.ObjectType.{ObjectType}
 use Rattle.vhdl_names_rules.specs.declared.kind.ObjectType.TheVariants.{Elements, Enumeration}
 use Rattle.vhdl_names_rules.specs.declared.fault.NameProblem.TheVariants.{TypeMismatch, LeftOut}
@@ -38,15 +38,9 @@ use Rattle.vhdl_names_laws.proofs.given.Expressions.{meaning_given, suffix_given
 
 marked_given : (d : Meaning) (o : Option t.Range) (range : Option Range) → is_some range ≡ is_some o → is_marked d o ≡ true → IsGiven (marked d range)
 marked_given (visibility.element_type r) None None s h = this (record { type = Elements Element; form = u.element; is_resolved = r })
-marked_given (visibility.element_type r) None (Some z) s h = absurd cc
-marked_given (visibility.element_type r) (Some y) range s h = absurd cc
-marked_given (visibility.vector_type k r) None range s h = absurd cc
-marked_given (visibility.vector_type k r) (Some y) None s h = absurd cc
 marked_given (visibility.vector_type k r) (Some y) (Some z) s h = this (record { type = Elements k; form = u.vector z; is_resolved = r })
 marked_given (visibility.enumeration_type n count) None None s h = this (record { type = Enumeration n count; form = u.enumeration count; is_resolved = false })
-marked_given (visibility.enumeration_type n count) None (Some z) s h = absurd cc
-marked_given (visibility.enumeration_type n count) (Some y) range s h = absurd cc
-marked_given _ o range s h = absurd cc
+marked_given _ _ _ s h = absurd cc
 
 pub subtype_given : (sight : Sight) (s : t.Subtype) → IsKept (broken.subtype sight s) → IsGiven (subtypes.subtype sight s)
 unfolding subtypes.subtype
@@ -69,13 +63,9 @@ values_given LogicVector (t.string at text) h = given (string_problem text) at (
 values_given LogicVector (t.bits at text) h = given LeftOut at (values_of_bits text) (parts _ _ h).1
 values_given Unsigned (t.string at text) h = given (string_problem text) at (values_of_string text) (parts _ _ h).1
 values_given Unsigned (t.bits at text) h = given LeftOut at (values_of_bits text) (parts _ _ h).1
-values_given Element (t.string at text) h = absurd (fails TypeMismatch at _ h)
-values_given Element (t.bits at text) h = absurd (fails TypeMismatch at _ h)
-values_given LogicVector (t.character at c) h = absurd (fails TypeMismatch at _ h)
-values_given Unsigned (t.character at c) h = absurd (fails TypeMismatch at _ h)
-values_given OpenVector (t.character at c) h = absurd (fails TypeMismatch at _ h)
-values_given OpenVector (t.string at text) h = absurd (fails TypeMismatch at _ h)
-values_given OpenVector (t.bits at text) h = absurd (fails TypeMismatch at _ h)
+values_given _ (t.character at c) h = absurd (fails TypeMismatch at _ h)
+values_given _ (t.string at text) h = absurd (fails TypeMismatch at _ h)
+values_given _ (t.bits at text) h = absurd (fails TypeMismatch at _ h)
 values_given _ _ h = absurd cc
 
 -- no literal of this kind is of an enumeration

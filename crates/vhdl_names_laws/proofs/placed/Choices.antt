@@ -30,14 +30,7 @@ chosen_told P sight type (t.named n t.plain None) h =
 chosen_told P sight type (t.named n t.plain (Some a)) h = told_behind (meaning_told P sight n h.0) (told_refused LeftOut n.at h.0)
 chosen_told P sight type (t.named n (t.arguments es) a) h = told_behind (meaning_told P sight n h.0) (told_refused LeftOut n.at h.0)
 chosen_told P sight type (t.named n (t.sliced d direction e) a) h = told_behind (meaning_told P sight n h.0) (told_refused LeftOut n.at h.0)
-chosen_told P sight type (t.character at c) h = literal_told P type (t.character at c) h
-chosen_told P sight type (t.string at text) h = literal_told P type (t.string at text) h
-chosen_told P sight type (t.bits at text) h = literal_told P type (t.bits at text) h
-chosen_told P sight type (t.integer at text) h = literal_told P type (t.integer at text) h
-chosen_told P sight type (t.parens at e) h = literal_told P type (t.parens at e) h
-chosen_told P sight type (t.negation at e) h = literal_told P type (t.negation at e) h
-chosen_told P sight type (t.signed sign at e) h = literal_told P type (t.signed sign at e) h
-chosen_told P sight type (t.binary begins op at d e) h = literal_told P type (t.binary begins op at d e) h
+chosen_told P sight type e h = literal_told P type e h
 
 choice_told : (P : ℕ → Type 0) (sight : Sight) (type : ObjectType) (c : t.Choice) → Stand P (spell_choice c) → Told P (broken.choice sight type c)
 choice_told P sight type (t.chosen e) h = chosen_told P sight type e h
@@ -50,10 +43,9 @@ any_choice_told : (P : ℕ → Type 0) (sight : Sight) (type : ObjectType) (cs :
 any_choice_told P sight type cs h = told_any (λ c. Stand P (spell_choice c)) (broken.choice sight type) (choice_told P sight type) cs h
 
 pub choices_told : (P : ℕ → Type 0) (sight : Sight) (type : ObjectType) (cs : List t.Choice) → ChoicesStand P cs → Told P (broken.choices sight type cs)
-choices_told P sight type [] h = told_nothing
-choices_told P sight type (t.otherwise at ∷ []) h = told_nothing
 choices_told P sight type (t.otherwise at ∷ (c ∷ cs)) h = any_choice_told P sight type (t.otherwise at ∷ (c ∷ cs)) h
 choices_told P sight type (t.chosen e ∷ cs) h = any_choice_told P sight type (t.chosen e ∷ cs) h
+choices_told _ sight type _ h = told_nothing
 
 pub selected_by_told : (P : ℕ → Type 0) (sight : Sight) (e : Expr) → Stand P (spell e) → Told P (broken.selected_by sight e)
 selected_by_told P sight e h = asked_told P selector sight e h
@@ -74,8 +66,7 @@ alternative_told : (P : ℕ → Type 0) (sight : Sight) (type : ObjectType) (bef
     → Told P (alternative_in_place sight type before is_last cs)
 alternative_told P sight type before is_last [] h = told_nothing
 alternative_told P sight type before is_last (t.otherwise at ∷ []) h = told_unless WrongKind at is_last h.0.0
-alternative_told P sight type before is_last (t.otherwise at ∷ (c ∷ cs)) h = each_once_told P sight type (t.otherwise at ∷ (c ∷ cs)) before h
-alternative_told P sight type before is_last (t.chosen e ∷ cs) h = each_once_told P sight type (t.chosen e ∷ cs) before h
+alternative_told P sight type before is_last cs h = each_once_told P sight type cs before h
 
 in_place_told : (P : ℕ → Type 0) (sight : Sight) (type : ObjectType) (css : List (List t.Choice)) (before : List t.Choice) → AllByRecursion (ChoicesStand P) css
     → Told P (in_place sight type before css)

@@ -10,7 +10,7 @@ use Rattle.vhdl_names_rules.specs.Visibility as visibility
 use Rattle.vhdl_names_rules.specs.Visibility.{Meaning, Sight}
 use Rattle.vhdl_names_rules.specs.Literals.{number_of, nine_of, values_of_string, values_of_bits}
 use Rattle.vhdl_names_rules.specs.Operators.{Typed, inverse, operated}
-use Rattle.vhdl_names_rules.specs.Names.{Suffix, plain, arguments, range, denoted, edge_signal}
+use Rattle.vhdl_names_rules.specs.Names.{Suffix, plain, arguments, denoted, edge_signal}
 use Rattle.vhdl_names_rules.specs.Expressions as are
 use Rattle.vhdl_names_rules.specs.Expressions.{as_integer, beside, as_test, as_static_test, as_value, as_filled}
 use Rattle.vhdl_names_rules.specs.problems.Broken.{◌▸◌, lacking, where_given}
@@ -24,15 +24,8 @@ use Rattle.vhdl_names_laws.proofs.placed.Told.{Stand, first, behind, Told, told_
 -- ---- where a part starts
 
 pub start_stands : (P : ℕ → Type 0) (e : Expr) → Stand P (spell e) → P (start e)
-start_stands P (t.integer at text) h = h.0
-start_stands P (t.character at c) h = h.0
-start_stands P (t.string at text) h = h.0
-start_stands P (t.bits at text) h = h.0
-start_stands P (t.named n suffix a) h = h.0
-start_stands P (t.parens at e) h = h.0
-start_stands P (t.negation at e) h = h.0
-start_stands P (t.signed sign at e) h = h.0
 start_stands P (t.binary begins op at d e) h = start_stands P d (first P (spell d) _ h)
+start_stands _ _ h = h.0
 
 pub choice_stands : (P : ℕ → Type 0) (c : t.Choice) → Stand P (spell_choice c) → P (choice_place c)
 choice_stands P (t.chosen e) h = start_stands P e h
@@ -68,8 +61,7 @@ no_attribute_told P (Some a) h = told_refused LeftOut a.at h.1.0
 
 no_value_told : (P : ℕ → Type 0) (d : Meaning) (s : Suffix) (a : Option Ident) → Stand P (spell_attribute a) → Told P (broken.of_no_value d s a)
 no_value_told P d plain a h = told_if (is_no_value d) (attribute_told P a h) told_nothing
-no_value_told P d (arguments b xs) a h = told_nothing
-no_value_told P d (range r) a h = told_nothing
+no_value_told _ d _ a h = told_nothing
 
 with_suffix_told : (P : ℕ → Type 0) (at : ℕ) (a : Option Ident) (d : Meaning) (s : Suffix) → P at → Stand P (spell_attribute a) → Told P (broken.with_suffix at a d s)
 with_suffix_told P at a d s h g =

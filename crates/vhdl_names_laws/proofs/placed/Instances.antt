@@ -45,14 +45,7 @@ instantiated_told P entities sight (t.component_unit word n) h =
 -- the name that an expression is
 name_stands : (P : ℕ → Type 0) (e : Expr) → Stand P (spell e) → (b : t.Name → Broken) → ((n : t.Name) → Stand P (spell_name n) → Told P (b n)) → Told P (where_given (as_name e) b)
 name_stands P (t.named n suffix a) h b one = one (record { identifier = n; suffix = suffix; attribute = a }) h
-name_stands P (t.integer at text) h b one = told_nothing
-name_stands P (t.character at c) h b one = told_nothing
-name_stands P (t.string at text) h b one = told_nothing
-name_stands P (t.bits at text) h b one = told_nothing
-name_stands P (t.parens at e) h b one = told_nothing
-name_stands P (t.negation at e) h b one = told_nothing
-name_stands P (t.signed sign at e) h b one = told_nothing
-name_stands P (t.binary begins op at d e) h b one = told_nothing
+name_stands _ _ h b one = told_nothing
 
 actual_signal_told : (P : ℕ → Type 0) (sight : Sight) (n : t.Name) → Stand P (spell_name n) → Told P (broken.actual_signal sight n)
 actual_signal_told P sight n h =

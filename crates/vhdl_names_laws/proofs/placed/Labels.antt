@@ -19,8 +19,7 @@ label_of_stands : (P : ℕ → Type 0) (c : t.Concurrent) → Stand P (spell_con
 label_of_stands P (t.assignment a) h = label_stands P a.label (first P (spell_option spell_label a.label) _ h)
 label_of_stands P (t.selected label a) h = label_stands P label (first P (spell_option spell_label label) _ h)
 label_of_stands P (t.process label p) h = label_stands P label (first P (spell_option spell_label label) _ h)
-label_of_stands P (t.instance label i) h = ((h.0, tt), tt)
-label_of_stands P (t.generated label at scheme word cs end) h = ((h.0, tt), tt)
+label_of_stands _ _ h = ((h.0, tt), tt)
 
 pub labels_stand : (P : ℕ → Type 0) (cs : t.Concurrents) → Stand P (spell_concurrents cs) → NamesStand P (labels_of cs)
 labels_stand P t.no_concurrents h = tt
@@ -35,14 +34,12 @@ both P is js h g = all_of_both (λ i. Stand P (spell_ident i)) is js h g
 
 mutual
   inner_stand : (x : t.Statement) (P : ℕ → Type 0) → Stand P (spell_statement x) → NamesStand P (inner_labels x)
-  inner_stand (t.null_of at) P h = tt
-  inner_stand (t.assigned n v) P h = tt
-  inner_stand (t.variable_assigned n v) P h = tt
   inner_stand (t.if_of at bs o end) P h =
       both P (conditional_labels bs) (otherwise_labels o) (conditional_stand bs P (first P (spell_conditionals bs) _ h.1))
       (otherwise_stand o P (first P (spell_else o) _ (behind P (spell_conditionals bs) _ h.1)))
   inner_stand (t.case_of at e alts end) P h = alternatives_stand alts P (first P (spell_alternatives alts) _ (behind P (spell e) _ h.1).1)
   inner_stand (t.for_of at n r body end) P h = statements_stand body P (first P (spell_statements body) _ (behind P (spell_range r) _ h.1.1.1).1)
+  inner_stand _ _ h = tt
 
   pub statements_stand : (xs : t.Statements) (P : ℕ → Type 0) → Stand P (spell_statements xs) → NamesStand P (statement_labels xs)
   statements_stand t.done P h = tt

@@ -49,14 +49,7 @@ fixed_told P sight type (t.named n suffix a) h =
     (told_given (visibility.meaning sight n.text) (λ d. where_given (are.typed_suffix sight suffix) (λ s. lacking (suffixed_problem type d s) n.at (value_of type d s)))
     (λ d. told_given (are.typed_suffix sight suffix) (λ s. lacking (suffixed_problem type d s) n.at (value_of type d s))
     (λ s. told_lacking (suffixed_problem type d s) n.at (value_of type d s) h.0)))))
-fixed_told P sight type (t.character at c) h = literal_told P type (t.character at c) h
-fixed_told P sight type (t.string at text) h = literal_told P type (t.string at text) h
-fixed_told P sight type (t.bits at text) h = literal_told P type (t.bits at text) h
-fixed_told P sight type (t.integer at text) h = literal_told P type (t.integer at text) h
-fixed_told P sight type (t.parens at e) h = literal_told P type (t.parens at e) h
-fixed_told P sight type (t.negation at e) h = literal_told P type (t.negation at e) h
-fixed_told P sight type (t.signed sign at e) h = literal_told P type (t.signed sign at e) h
-fixed_told P sight type (t.binary begins op at d e) h = literal_told P type (t.binary begins op at d e) h
+fixed_told P sight type e h = literal_told P type e h
 
 pub fixed_value_told : (P : ℕ → Type 0) (sight : Sight) (type : ObjectType) (v : t.Value) → Stand P (spell_value v) → Told P (broken.fixed_value sight type v)
 fixed_value_told P sight type (t.single e) h = fixed_told P sight type e h

@@ -82,8 +82,7 @@ chosen_holds P sight at x bs o y w h f q =
 body_holds : (P : ℕ → Type 0) (sight : Sight) (at : ℕ) (x : SignalName) (bs : List t.Branch) (o : Option t.Value) (y : s.Statement) → P at → Hold P (place_bytes x.place)
     → BranchesStand P bs o → assignment_body sight at x bs o ≡ Some y → Hold P (statement_bytes y)
 body_holds P sight at x [] (Some v) y w h f q = assigned_holds P sight x v y h f.last q
-body_holds P sight at x [] None y w h f q = chosen_holds P sight at x [] None y w h f q
-body_holds P sight at x (b ∷ bs) o y w h f q = chosen_holds P sight at x (b ∷ bs) o y w h f q
+body_holds P sight at x bs o y w h f q = chosen_holds P sight at x bs o y w h f q
 
 assignment_holds : (P : ℕ → Type 0) (sight : Sight) (a : t.Assignment) (x : u.Concurrent) → Stand P (spell_assignment a) → assignment sight a ≡ Some x → Hold P (concurrent_bytes x)
 unfolding assignment

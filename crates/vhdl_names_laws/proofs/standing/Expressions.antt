@@ -6,7 +6,7 @@ use Rattle.vhdl_tree.specs.declared.operator.Sign.TheVariants.{Plus, Minus}
 use Rattle.vhdl_tree.specs.Tree as t
 use Rattle.vhdl_tree.specs.Tree.{Expr, Exprs}
 use Rattle.vhdl_tree.specs.grammar.Expressions.{spell, spell_suffix, spell_exprs, spell_more, spell_attribute, spell_range, spell_value}
-use Rattle.vhdl_names_rules.specs.declared.kind.ElementKind.TheVariants.{Element, LogicVector, Unsigned, OpenVector}
+use Rattle.vhdl_names_rules.specs.declared.kind.ElementKind.TheVariants.{Element, OpenVector}
 use Rattle.vhdl_names_rules.specs.declared.kind.ObjectType.{ObjectType}
 use Rattle.vhdl_names_rules.specs.declared.kind.ObjectType.TheVariants.{Elements, Enumeration}
 use Rattle.vhdl_names_rules.specs.units.Expressions as e
@@ -32,9 +32,7 @@ use Rattle.vhdl_names_laws.proofs.standing.Names.{denoted_holds, attributed_hold
 
 as_integer_holds : (P : ℕ → Type 0) (y : Typed) (s : Static) → TypedHolds P y → as_integer y ≡ Some s → Hold P (static_bytes s)
 as_integer_holds P (o.integer r) s h q = subst (λ s. Hold P (static_bytes s)) (some_same r s q) h
-as_integer_holds P (o.elements k y) s h q = absurd cc
-as_integer_holds P (o.enumerated d m y) s h q = absurd cc
-as_integer_holds P (o.truth y) s h q = absurd cc
+as_integer_holds _ _ s h q = absurd cc
 
 signed_holds : (P : ℕ → Type 0) (at : ℕ) (sign : Sign) (s : Static) → P at → Hold P (static_bytes s) → Hold P (static_bytes (signed at sign s))
 signed_holds P at Plus s g h = h
@@ -42,35 +40,12 @@ signed_holds P at Minus s g h = (g, h)
 
 -- what stands in parentheses has the bytes that it has
 enclosed_holds : (P : ℕ → Type 0) (y : Typed) → TypedHolds P y → TypedHolds P (enclosed y)
-enclosed_holds P (o.integer r) h = h
 enclosed_holds P (o.elements Element (e.of_signal q)) h = h
-enclosed_holds P (o.elements Element (e.of_variable at k q)) h = h
-enclosed_holds P (o.elements Element (e.of_constant at k q)) h = h
-enclosed_holds P (o.elements Element (e.character c)) h = h
-enclosed_holds P (o.elements Element (e.enclosed_character c)) h = h
-enclosed_holds P (o.elements Element (e.Vector.literal at vs)) h = h
-enclosed_holds P (o.elements Element (e.Vector.inverse y)) h = h
-enclosed_holds P (o.elements Element (e.Vector.binary at c y z)) h = h
-enclosed_holds P (o.elements Element (e.with_integer at c y z)) h = h
-enclosed_holds P (o.elements Element (e.integer_with at c y z)) h = h
-enclosed_holds P (o.elements Element (e.Vector.encoded at y z)) h = h
-enclosed_holds P (o.elements Element (e.counted at c y z)) h = h
-enclosed_holds P (o.elements LogicVector y) h = h
-enclosed_holds P (o.elements Unsigned y) h = h
-enclosed_holds P (o.elements OpenVector y) h = h
-enclosed_holds P (o.enumerated d m y) h = h
-enclosed_holds P (o.truth y) h = h
+enclosed_holds _ _ h = h
 
 beside_holds : (P : ℕ → Type 0) (d : Expr) (y : Typed) → TypedHolds P y → TypedHolds P (beside d y)
 beside_holds P (t.parens at d) y h = enclosed_holds P y h
-beside_holds P (t.integer at text) y h = h
-beside_holds P (t.character at c) y h = h
-beside_holds P (t.string at text) y h = h
-beside_holds P (t.bits at text) y h = h
-beside_holds P (t.named n s a) y h = h
-beside_holds P (t.negation at d) y h = h
-beside_holds P (t.signed sign at d) y h = h
-beside_holds P (t.binary begins op at d f) y h = h
+beside_holds _ _ y h = h
 
 mutual
   unfolding typed
@@ -162,11 +137,7 @@ static_range_holds P sight r y h q =
 as_test_holds : (P : ℕ → Type 0) (y : Typed) (r : Test) → TypedHolds P y → as_test y ≡ Some r → Hold P (test_bytes r)
 as_test_holds P (o.truth s) r h q = subst (λ r. Hold P (test_bytes r)) (some_same s r q) h
 as_test_holds P (o.elements Element y) r h q = subst (λ r. Hold P (test_bytes r)) (some_same (e.holds y) r q) h
-as_test_holds P (o.elements LogicVector y) r h q = absurd cc
-as_test_holds P (o.elements Unsigned y) r h q = absurd cc
-as_test_holds P (o.elements OpenVector y) r h q = absurd cc
-as_test_holds P (o.integer y) r h q = absurd cc
-as_test_holds P (o.enumerated d m y) r h q = absurd cc
+as_test_holds _ _ r h q = absurd cc
 
 pub condition_holds : (P : ℕ → Type 0) (sight : Sight) (d : Expr) (r : Test) → Stand P (spell d) → condition sight d ≡ Some r → Hold P (test_bytes r)
 unfolding condition
@@ -176,19 +147,7 @@ condition_holds P sight d r h q =
 
 pub static_condition_holds : (P : ℕ → Type 0) (y : Typed) (r : StaticTest) → TypedHolds P y → as_static_test y ≡ Some r → Hold P (static_test_bytes r)
 static_condition_holds P (o.truth (e.Test.fixed s)) r h q = subst (λ r. Hold P (static_test_bytes r)) (some_same s r q) h
-static_condition_holds P (o.truth (e.holds y)) r h q = absurd cc
-static_condition_holds P (o.truth (e.alike at y z)) r h q = absurd cc
-static_condition_holds P (o.truth (e.unlike at y z)) r h q = absurd cc
-static_condition_holds P (o.truth (e.Test.compared at c y z)) r h q = absurd cc
-static_condition_holds P (o.truth (e.compared_to at c y z)) r h q = absurd cc
-static_condition_holds P (o.truth (e.compared_with at c y z)) r h q = absurd cc
-static_condition_holds P (o.truth (e.edge c z)) r h q = absurd cc
-static_condition_holds P (o.truth (e.event z)) r h q = absurd cc
-static_condition_holds P (o.truth (e.Test.negated z)) r h q = absurd cc
-static_condition_holds P (o.truth (e.Test.both c y z)) r h q = absurd cc
-static_condition_holds P (o.elements k y) r h q = absurd cc
-static_condition_holds P (o.integer y) r h q = absurd cc
-static_condition_holds P (o.enumerated d m y) r h q = absurd cc
+static_condition_holds _ _ r h q = absurd cc
 
 -- ---- values that are given
 
@@ -199,24 +158,13 @@ as_value_holds P (Elements k) (o.elements j y) g h q =
 as_value_holds P (Enumeration d count) (o.enumerated c size y) g h q =
     let a = given _ (s.single y) g q in
     subst (λ g. Hold P (given_bytes g)) a.is h
-as_value_holds P (Elements k) (o.integer y) g h q = absurd cc
-as_value_holds P (Elements k) (o.enumerated d size y) g h q = absurd cc
-as_value_holds P (Elements k) (o.truth y) g h q = absurd cc
-as_value_holds P (Enumeration d count) (o.integer y) g h q = absurd cc
-as_value_holds P (Enumeration d count) (o.elements j y) g h q = absurd cc
-as_value_holds P (Enumeration d count) (o.truth y) g h q = absurd cc
+as_value_holds _ _ _ g h q = absurd cc
 
 as_filled_holds : (P : ℕ → Type 0) (type : ObjectType) (y : Typed) (g : Given) → TypedHolds P y → as_filled type y ≡ Some g → Hold P (given_bytes g)
 as_filled_holds P (Elements k) (o.elements Element y) g h q =
     let a = given (x.is_vector k) (s.filled y) g q in
     subst (λ g. Hold P (given_bytes g)) a.is h
-as_filled_holds P (Elements k) (o.elements LogicVector y) g h q = absurd cc
-as_filled_holds P (Elements k) (o.elements Unsigned y) g h q = absurd cc
-as_filled_holds P (Elements k) (o.elements OpenVector y) g h q = absurd cc
-as_filled_holds P (Elements k) (o.integer y) g h q = absurd cc
-as_filled_holds P (Elements k) (o.enumerated d size y) g h q = absurd cc
-as_filled_holds P (Elements k) (o.truth y) g h q = absurd cc
-as_filled_holds P (Enumeration d count) y g h q = absurd cc
+as_filled_holds _ _ _ g h q = absurd cc
 
 pub value_given_holds : (P : ℕ → Type 0) (sight : Sight) (type : ObjectType) (w : t.Value) (g : Given) → Stand P (spell_value w) → value_given sight type w ≡ Some g
     → Hold P (given_bytes g)

@@ -41,10 +41,9 @@ either P true x y h g = h
 either P false x y h g = g
 
 actual_stands : (P : ℕ → Type 0) (n : Name) (fs : List Name) (as' : List Association) → EachStands P spell_association as' → ActualStands P (actual_of n fs as')
-actual_stands P n [] as' h = tt
-actual_stands P n (f ∷ fs) [] h = tt
 actual_stands P n (f ∷ fs) (a ∷ as') h =
     either P (bytes_eq n f) (expression_of a.actual) (actual_of n fs as') (expression_stands P a.actual (behind P (spell_option spell_formal a.formal) _ h.0)) (actual_stands P n fs as' h.1)
+actual_stands _ n _ _ h = tt
 
 each_stands : (P : ℕ → Type 0) (fs : List Name) (as' : List Association) (ns : List Name) → EachStands P spell_association as'
     → AllByRecursion (ActualStands P) (map (λ n. actual_of n fs as') ns)
@@ -81,14 +80,7 @@ generics_hold P sight (d ∷ ds) gs h q =
 
 name_stands : (P : ℕ → Type 0) (d : Expr) (m : t.Name) → Stand P (spell d) → as_name d ≡ Some m → Stand P (spell_name m)
 name_stands P (t.named n suffix a) m h q = subst (λ m. Stand P (spell_name m)) (some_same (record { identifier = n; suffix = suffix; attribute = a }) m q) h
-name_stands P (t.integer at text) m h q = absurd cc
-name_stands P (t.character at c) m h q = absurd cc
-name_stands P (t.string at text) m h q = absurd cc
-name_stands P (t.bits at text) m h q = absurd cc
-name_stands P (t.parens at d) m h q = absurd cc
-name_stands P (t.negation at d) m h q = absurd cc
-name_stands P (t.signed sign at d) m h q = absurd cc
-name_stands P (t.binary begins op at d e) m h q = absurd cc
+name_stands _ _ m h q = absurd cc
 
 place_holds : (P : ℕ → Type 0) (sight : Sight) (f : Formal) (d : Expr) (z : SignalPart) → Stand P (spell d) → port_actual sight f d ≡ Some z → Hold P (place_bytes z)
 unfolding port_actual

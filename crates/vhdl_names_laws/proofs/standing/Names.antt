@@ -39,20 +39,7 @@ module _ (P : ℕ → Type 0) where
       by Unsigned (n.arguments b (o.integer s ∷ [])) t g = is (e.Part.element s, Element) g t.0
       by LogicVector (n.range r) t g = is (e.slice r, LogicVector) g t
       by Unsigned (n.range r) t g = is (e.slice r, Unsigned) g t
-      by LogicVector (n.arguments b []) t g = absurd cc
-      by LogicVector (n.arguments b (o.elements j x ∷ xs)) t g = absurd cc
-      by LogicVector (n.arguments b (o.enumerated d m x ∷ xs)) t g = absurd cc
-      by LogicVector (n.arguments b (o.truth x ∷ xs)) t g = absurd cc
-      by LogicVector (n.arguments b (o.integer s ∷ y ∷ xs)) t g = absurd cc
-      by Unsigned (n.arguments b []) t g = absurd cc
-      by Unsigned (n.arguments b (o.elements j x ∷ xs)) t g = absurd cc
-      by Unsigned (n.arguments b (o.enumerated d m x ∷ xs)) t g = absurd cc
-      by Unsigned (n.arguments b (o.truth x ∷ xs)) t g = absurd cc
-      by Unsigned (n.arguments b (o.integer s ∷ y ∷ xs)) t g = absurd cc
-      by Element (n.arguments b xs) t g = absurd cc
-      by OpenVector (n.arguments b xs) t g = absurd cc
-      by Element (n.range r) t g = absurd cc
-      by OpenVector (n.range r) t g = absurd cc
+      by _ _ t g = absurd cc
 
   -- likewise of any object
   pub part_of_holds : (type : ObjectType) (s : Suffix) (p : Part × ObjectType) → SuffixHolds P s → part_of type s ≡ Some p → Hold P (part_bytes p.0)
@@ -60,8 +47,7 @@ module _ (P : ℕ → Type 0) where
       let a = mapped (λ (q : Part × ElementKind). (q.0, Elements q.1)) (part k s) p g in
       subst (λ (q : Part × ObjectType). Hold P (part_bytes q.0)) a.is (part_holds k s a.value t a.from)
   part_of_holds (Enumeration d count) n.plain p t g = subst (λ (q : Part × ObjectType). Hold P (part_bytes q.0)) (some_same (e.whole, Enumeration d count) p g) tt
-  part_of_holds (Enumeration d count) (n.arguments b xs) p t g = absurd cc
-  part_of_holds (Enumeration d count) (n.range r) p t g = absurd cc
+  part_of_holds _ _ p t g = absurd cc
 
   -- ---- objects that are read
 
@@ -73,95 +59,41 @@ module _ (P : ℕ → Type 0) where
 
   plain_holds : (s : Suffix) (x y : Typed) → TypedHolds P x → if_plain s x ≡ Some y → TypedHolds P y
   plain_holds n.plain x y h g = subst (TypedHolds P) (some_same x y g) h
-  plain_holds (n.arguments b xs) x y h g = absurd cc
-  plain_holds (n.range r) x y h g = absurd cc
+  plain_holds _ x y h g = absurd cc
 
   -- ---- conversions and calls
 
   converted_holds : (k : ElementKind) (s : Suffix) (y : Typed) → SuffixHolds P s → converted k s ≡ Some y → TypedHolds P y
-  converted_holds k n.plain y t g = absurd cc
-  converted_holds k (n.range r) y t g = absurd cc
-  converted_holds k (n.arguments b []) y t g = absurd cc
   converted_holds k (n.arguments b (o.elements LogicVector x ∷ [])) y t g = subst (TypedHolds P) (some_same (o.elements k x) y g) t.0
   converted_holds k (n.arguments b (o.elements Unsigned x ∷ [])) y t g = subst (TypedHolds P) (some_same (o.elements k x) y g) t.0
   converted_holds k (n.arguments b (o.elements OpenVector x ∷ [])) y t g = subst (TypedHolds P) (some_same (o.elements k x) y g) t.0
-  converted_holds k (n.arguments b (o.elements Element x ∷ [])) y t g = absurd cc
-  converted_holds k (n.arguments b (o.elements Element x ∷ z ∷ zs)) y t g = absurd cc
-  converted_holds k (n.arguments b (o.elements LogicVector x ∷ z ∷ zs)) y t g = absurd cc
-  converted_holds k (n.arguments b (o.elements Unsigned x ∷ z ∷ zs)) y t g = absurd cc
-  converted_holds k (n.arguments b (o.elements OpenVector x ∷ z ∷ zs)) y t g = absurd cc
-  converted_holds k (n.arguments b (o.integer x ∷ zs)) y t g = absurd cc
-  converted_holds k (n.arguments b (o.enumerated d m x ∷ zs)) y t g = absurd cc
-  converted_holds k (n.arguments b (o.truth x ∷ zs)) y t g = absurd cc
+  converted_holds k _ y t g = absurd cc
 
   counted_holds : (at : ℕ) (f : Vector → Static → Vector) → ((x : Vector) (s : Static) → vector_bytes (f x s) ≡ at ∷ (vector_bytes x ++ static_bytes s)) → P at
       → (s : Suffix) (y : Typed) → SuffixHolds P s → counted f s ≡ Some y → TypedHolds P y
-  counted_holds at f c h n.plain y t g = absurd cc
-  counted_holds at f c h (n.range r) y t g = absurd cc
   counted_holds at f c h (n.arguments b (o.elements Unsigned x ∷ o.integer s ∷ [])) y t g =
       subst (TypedHolds P) (some_same (o.elements Unsigned (f x s)) y g)
       (subst (Hold P) (sym (c x s)) (h, hold_both P (vector_bytes x) (static_bytes s) t.0 t.1.0))
-  counted_holds at f c h (n.arguments b []) y t g = absurd cc
-  counted_holds at f c h (n.arguments b (o.integer x ∷ zs)) y t g = absurd cc
-  counted_holds at f c h (n.arguments b (o.enumerated d m x ∷ zs)) y t g = absurd cc
-  counted_holds at f c h (n.arguments b (o.truth x ∷ zs)) y t g = absurd cc
-  counted_holds at f c h (n.arguments b (o.elements Element x ∷ zs)) y t g = absurd cc
-  counted_holds at f c h (n.arguments b (o.elements LogicVector x ∷ zs)) y t g = absurd cc
-  counted_holds at f c h (n.arguments b (o.elements OpenVector x ∷ zs)) y t g = absurd cc
-  counted_holds at f c h (n.arguments b (o.elements Unsigned x ∷ [])) y t g = absurd cc
-  counted_holds at f c h (n.arguments b (o.elements Unsigned x ∷ o.elements k z ∷ zs)) y t g = absurd cc
-  counted_holds at f c h (n.arguments b (o.elements Unsigned x ∷ o.enumerated d m z ∷ zs)) y t g = absurd cc
-  counted_holds at f c h (n.arguments b (o.elements Unsigned x ∷ o.truth z ∷ zs)) y t g = absurd cc
-  counted_holds at f c h (n.arguments b (o.elements Unsigned x ∷ o.integer s ∷ z ∷ zs)) y t g = absurd cc
+  counted_holds at f c h _ y t g = absurd cc
 
   encoding_holds : (at : ℕ) → P at → (s : Suffix) (y : Typed) → SuffixHolds P s → encoding at s ≡ Some y → TypedHolds P y
-  encoding_holds at h n.plain y t g = absurd cc
-  encoding_holds at h (n.range r) y t g = absurd cc
   encoding_holds at h (n.arguments b (o.integer s ∷ o.integer size ∷ [])) y t g =
       subst (TypedHolds P) (some_same (o.elements Unsigned (e.Vector.encoded at s size)) y g) (h, hold_both P (static_bytes s) (static_bytes size) t.0 t.1.0)
-  encoding_holds at h (n.arguments b []) y t g = absurd cc
-  encoding_holds at h (n.arguments b (o.elements k x ∷ zs)) y t g = absurd cc
-  encoding_holds at h (n.arguments b (o.enumerated d m x ∷ zs)) y t g = absurd cc
-  encoding_holds at h (n.arguments b (o.truth x ∷ zs)) y t g = absurd cc
-  encoding_holds at h (n.arguments b (o.integer s ∷ [])) y t g = absurd cc
-  encoding_holds at h (n.arguments b (o.integer s ∷ o.elements k x ∷ zs)) y t g = absurd cc
-  encoding_holds at h (n.arguments b (o.integer s ∷ o.enumerated d m x ∷ zs)) y t g = absurd cc
-  encoding_holds at h (n.arguments b (o.integer s ∷ o.truth x ∷ zs)) y t g = absurd cc
-  encoding_holds at h (n.arguments b (o.integer s ∷ o.integer size ∷ z ∷ zs)) y t g = absurd cc
+  encoding_holds at h _ y t g = absurd cc
 
   edge_place : (x : Typed) (p : SignalPart) → TypedHolds P x → edge_signal x ≡ Some p → Hold P (place_bytes p)
-  edge_place (o.integer s) p t g = absurd cc
-  edge_place (o.enumerated d m x) p t g = absurd cc
-  edge_place (o.truth x) p t g = absurd cc
-  edge_place (o.elements LogicVector x) p t g = absurd cc
-  edge_place (o.elements Unsigned x) p t g = absurd cc
-  edge_place (o.elements OpenVector x) p t g = absurd cc
   edge_place (o.elements Element (e.of_signal q)) p t g = by (is_static_part q.part) g
     where
       by : (b : Bool) → cond b (Some q) None ≡ Some p → Hold P (place_bytes p)
       by true g = subst (λ p. Hold P (place_bytes p)) (some_same q p g) t
       by false g = absurd cc
-  edge_place (o.elements Element (e.of_variable at k q)) p t g = absurd cc
-  edge_place (o.elements Element (e.of_constant at k q)) p t g = absurd cc
-  edge_place (o.elements Element (e.character c)) p t g = absurd cc
-  edge_place (o.elements Element (e.enclosed_character c)) p t g = absurd cc
-  edge_place (o.elements Element (e.Vector.literal at vs)) p t g = absurd cc
-  edge_place (o.elements Element (e.Vector.inverse x)) p t g = absurd cc
-  edge_place (o.elements Element (e.Vector.binary at c x y)) p t g = absurd cc
-  edge_place (o.elements Element (e.with_integer at c x y)) p t g = absurd cc
-  edge_place (o.elements Element (e.integer_with at c x y)) p t g = absurd cc
-  edge_place (o.elements Element (e.Vector.encoded at x y)) p t g = absurd cc
-  edge_place (o.elements Element (e.counted at c x y)) p t g = absurd cc
+  edge_place _ p t g = absurd cc
 
   edge_call_holds : (edge : Edge) (s : Suffix) (y : Typed) → SuffixHolds P s → edge_of edge s ≡ Some y → TypedHolds P y
-  edge_call_holds edge n.plain y t g = absurd cc
-  edge_call_holds edge (n.range r) y t g = absurd cc
-  edge_call_holds edge (n.arguments false xs) y t g = absurd cc
-  edge_call_holds edge (n.arguments true []) y t g = absurd cc
   edge_call_holds edge (n.arguments true (x ∷ [])) y t g =
       let c = mapped (λ p. o.truth (e.edge edge p)) (edge_signal x) y g in
       subst (TypedHolds P) c.is (edge_place x c.value t.0 c.from)
-  edge_call_holds edge (n.arguments true (x ∷ z ∷ zs)) y t g = absurd cc
+  edge_call_holds edge _ y t g = absurd cc
 
   called_holds : (at : ℕ) → P at → (f : Function) (s : Suffix) (y : Typed) → SuffixHolds P s → called at f s ≡ Some y → TypedHolds P y
   called_holds at h (EdgeCall edge) s y t g = edge_call_holds edge s y t g
@@ -184,12 +116,7 @@ module _ (P : ℕ → Type 0) where
   denoted_holds at h (visibility.literal d count p) s y t g = plain_holds s (o.enumerated d count (e.Value.position p)) y tt g
   denoted_holds at h (visibility.vector_type k r) s y t g = converted_holds k s y t g
   denoted_holds at h (visibility.function f) s y t g = called_holds at h f s y t g
-  denoted_holds at h (visibility.integer_type w) s y t g = absurd cc
-  denoted_holds at h (visibility.element_type r) s y t g = absurd cc
-  denoted_holds at h (visibility.enumeration_type d count) s y t g = absurd cc
-  denoted_holds at h (visibility.component k) s y t g = absurd cc
-  denoted_holds at h visibility.label s y t g = absurd cc
-  denoted_holds at h visibility.unfinished s y t g = absurd cc
+  denoted_holds at h _ s y t g = absurd cc
 
   pub attributed_holds : (a : Option Ident) (x y : Typed) → TypedHolds P x → attributed a x ≡ Some y → TypedHolds P y
   attributed_holds None x y t g = subst (TypedHolds P) (some_same x y g) t

@@ -5,7 +5,7 @@ use Rattle.vhdl_values.specs.declared.kinds.Cmp.{Cmp}
 use Rattle.vhdl_tree.specs.declared.operator.Operator.{Operator}
 use Rattle.vhdl_tree.specs.declared.operator.Operator.TheVariants as op
 use Rattle.vhdl_names_rules.specs.declared.kind.ElementKind.{ElementKind}
-use Rattle.vhdl_names_rules.specs.declared.kind.ElementKind.TheVariants.{Element, LogicVector, Unsigned, OpenVector}
+use Rattle.vhdl_names_rules.specs.declared.kind.ElementKind.TheVariants.{Unsigned}
 use Rattle.vhdl_names_rules.specs.declared.operator.Arithmetic.{Arithmetic}
 use Rattle.vhdl_names_rules.specs.declared.operator.Numeric.{Numeric}
 use Rattle.vhdl_names_rules.specs.declared.operator.VectorOperator.TheVariants as v
@@ -25,45 +25,17 @@ module _ (P : ℕ → Type 0) where
 
   both_hold : (op : Logic) (s t : Test) → Hold P (test_bytes s) → Hold P (test_bytes t) → Hold P (test_bytes (both op s t))
   both_hold op (e.Test.fixed s) (e.Test.fixed t) h k = hold_both P (static_test_bytes s) (static_test_bytes t) h k
-  both_hold op (e.Test.fixed s) (e.holds x) h k = hold_both P (static_test_bytes s) (test_bytes (e.holds x)) h k
-  both_hold op (e.Test.fixed s) (e.alike pos x y) h k = hold_both P (static_test_bytes s) (test_bytes (e.alike pos x y)) h k
-  both_hold op (e.Test.fixed s) (e.unlike pos x y) h k = hold_both P (static_test_bytes s) (test_bytes (e.unlike pos x y)) h k
-  both_hold op (e.Test.fixed s) (e.Test.compared pos c x y) h k = hold_both P (static_test_bytes s) (test_bytes (e.Test.compared pos c x y)) h k
-  both_hold op (e.Test.fixed s) (e.compared_to pos c x y) h k = hold_both P (static_test_bytes s) (test_bytes (e.compared_to pos c x y)) h k
-  both_hold op (e.Test.fixed s) (e.compared_with pos c x y) h k = hold_both P (static_test_bytes s) (test_bytes (e.compared_with pos c x y)) h k
-  both_hold op (e.Test.fixed s) (e.edge c p) h k = hold_both P (static_test_bytes s) (test_bytes (e.edge c p)) h k
-  both_hold op (e.Test.fixed s) (e.event p) h k = hold_both P (static_test_bytes s) (test_bytes (e.event p)) h k
-  both_hold op (e.Test.fixed s) (e.Test.negated r) h k = hold_both P (static_test_bytes s) (test_bytes (e.Test.negated r)) h k
-  both_hold op (e.Test.fixed s) (e.Test.both c r q) h k = hold_both P (static_test_bytes s) (test_bytes (e.Test.both c r q)) h k
-  both_hold op (e.holds x) t h k = hold_both P (test_bytes (e.holds x)) (test_bytes t) h k
-  both_hold op (e.alike pos x y) t h k = hold_both P (test_bytes (e.alike pos x y)) (test_bytes t) h k
-  both_hold op (e.unlike pos x y) t h k = hold_both P (test_bytes (e.unlike pos x y)) (test_bytes t) h k
-  both_hold op (e.Test.compared pos c x y) t h k = hold_both P (test_bytes (e.Test.compared pos c x y)) (test_bytes t) h k
-  both_hold op (e.compared_to pos c x y) t h k = hold_both P (test_bytes (e.compared_to pos c x y)) (test_bytes t) h k
-  both_hold op (e.compared_with pos c x y) t h k = hold_both P (test_bytes (e.compared_with pos c x y)) (test_bytes t) h k
-  both_hold op (e.edge c p) t h k = hold_both P (test_bytes (e.edge c p)) (test_bytes t) h k
-  both_hold op (e.event p) t h k = hold_both P (test_bytes (e.event p)) (test_bytes t) h k
-  both_hold op (e.Test.negated r) t h k = hold_both P (test_bytes (e.Test.negated r)) (test_bytes t) h k
-  both_hold op (e.Test.both c r q) t h k = hold_both P (test_bytes (e.Test.both c r q)) (test_bytes t) h k
+  both_hold op (e.Test.fixed s) t h k = hold_both P (static_test_bytes s) (test_bytes t) h k
+  both_hold op s t h k = hold_both P (test_bytes s) (test_bytes t) h k
 
   negated_hold : (t : Test) → Hold P (test_bytes t) → Hold P (test_bytes (negated t))
   negated_hold (e.Test.fixed t) h = h
-  negated_hold (e.holds x) h = h
-  negated_hold (e.alike pos x y) h = h
-  negated_hold (e.unlike pos x y) h = h
-  negated_hold (e.Test.compared pos c x y) h = h
-  negated_hold (e.compared_to pos c x y) h = h
-  negated_hold (e.compared_with pos c x y) h = h
-  negated_hold (e.edge c p) h = h
-  negated_hold (e.event p) h = h
-  negated_hold (e.Test.negated r) h = h
-  negated_hold (e.Test.both c r q) h = h
+  negated_hold _ h = h
 
   pub inverse_holds : (x y : Typed) → TypedHolds P x → inverse x ≡ Some y → TypedHolds P y
-  inverse_holds (o.integer s) y h t = absurd cc
   inverse_holds (o.elements k x) y h t = known (o.elements k (e.Vector.inverse x)) y t h
-  inverse_holds (o.enumerated n c x) y h t = absurd cc
   inverse_holds (o.truth s) y h t = known (o.truth (negated s)) y t (negated_hold s h)
+  inverse_holds _ y h t = absurd cc
 
   -- a result that is there where operators of numbers are in sight, and something holds
   ruled : (numbers b : Bool) (x y : Typed) → (met numbers >>= λ _. then_some b x) ≡ Some y → Given b x y
@@ -79,35 +51,18 @@ module _ (P : ℕ → Type 0) where
         let c = mapped (binary at (v.Logical op) x y) (common_kind j k) z g in
         subst (TypedHolds P) c.is (two x y h t)
     logical_holds op (o.truth s) (o.truth r) z h t g = known (o.truth (both op s r)) z g (both_hold op s r h t)
-    logical_holds op (o.integer s) y z h t g = absurd cc
-    logical_holds op (o.enumerated n c s) y z h t g = absurd cc
-    logical_holds op (o.elements j x) (o.integer s) z h t g = absurd cc
-    logical_holds op (o.elements j x) (o.enumerated n c s) z h t g = absurd cc
-    logical_holds op (o.elements j x) (o.truth s) z h t g = absurd cc
-    logical_holds op (o.truth s) (o.integer r) z h t g = absurd cc
-    logical_holds op (o.truth s) (o.elements k r) z h t g = absurd cc
-    logical_holds op (o.truth s) (o.enumerated n c r) z h t g = absurd cc
+    logical_holds op _ _ z h t g = absurd cc
 
     concatenated_holds : (x y z : Typed) → TypedHolds P x → TypedHolds P y → concatenated at x y ≡ Some z → TypedHolds P z
     concatenated_holds (o.elements j x) (o.elements k y) z h t g =
         let c = mapped (binary at v.Concatenate x y) (joined_kind j k) z g in
         subst (TypedHolds P) c.is (two x y h t)
-    concatenated_holds (o.integer s) y z h t g = absurd cc
-    concatenated_holds (o.enumerated n c s) y z h t g = absurd cc
-    concatenated_holds (o.truth s) y z h t g = absurd cc
-    concatenated_holds (o.elements j x) (o.integer s) z h t g = absurd cc
-    concatenated_holds (o.elements j x) (o.enumerated n c s) z h t g = absurd cc
-    concatenated_holds (o.elements j x) (o.truth s) z h t g = absurd cc
+    concatenated_holds _ _ z h t g = absurd cc
 
     integral_holds : (op : Arithmetic) (x y z : Typed) → TypedHolds P x → TypedHolds P y → integral at op x y ≡ Some z → TypedHolds P z
     integral_holds op (o.integer s) (o.integer r) z h t g =
         known (o.integer (e.Static.binary at op s r)) z g (stands, hold_both P (static_bytes s) (static_bytes r) h t)
-    integral_holds op (o.integer s) (o.elements k y) z h t g = absurd cc
-    integral_holds op (o.integer s) (o.enumerated n c y) z h t g = absurd cc
-    integral_holds op (o.integer s) (o.truth y) z h t g = absurd cc
-    integral_holds op (o.elements j x) y z h t g = absurd cc
-    integral_holds op (o.enumerated n c x) y z h t g = absurd cc
-    integral_holds op (o.truth x) y z h t g = absurd cc
+    integral_holds op _ _ z h t g = absurd cc
 
     arithmetic_holds : (numbers : Bool) (op : Arithmetic) (by : Numeric) (x y z : Typed) → TypedHolds P x → TypedHolds P y → arithmetic numbers at op by x y ≡ Some z
         → TypedHolds P z
@@ -122,12 +77,7 @@ module _ (P : ℕ → Type 0) where
     arithmetic_holds numbers op by (o.integer s) (o.elements k y) z h t g =
         let c = ruled numbers (is_number k) (o.elements Unsigned (e.integer_with at by s y)) z g in
         subst (TypedHolds P) c.is (stands, hold_both P (static_bytes s) (vector_bytes y) h t)
-    arithmetic_holds numbers op by (o.integer s) (o.enumerated n c y) z h t g = absurd cc
-    arithmetic_holds numbers op by (o.integer s) (o.truth y) z h t g = absurd cc
-    arithmetic_holds numbers op by (o.elements j x) (o.enumerated n c y) z h t g = absurd cc
-    arithmetic_holds numbers op by (o.elements j x) (o.truth y) z h t g = absurd cc
-    arithmetic_holds numbers op by (o.enumerated n c x) y z h t g = absurd cc
-    arithmetic_holds numbers op by (o.truth x) y z h t g = absurd cc
+    arithmetic_holds numbers op by _ _ z h t g = absurd cc
 
     -- ---- relations
 
@@ -141,9 +91,7 @@ module _ (P : ℕ → Type 0) where
     equal_holds : (op : Cmp) (same : Value → Value → Test) → Compares same → (x y : Vector) (k : ElementKind) → Hold P (vector_bytes x) → Hold P (vector_bytes y)
         → TypedHolds P (equal_by at op same x y k)
     equal_holds op same c x y Unsigned h t = two x y h t
-    equal_holds op same c x y Element h t = compared_holds same c (e.Value.elements x) (e.Value.elements y) h t
-    equal_holds op same c x y LogicVector h t = compared_holds same c (e.Value.elements x) (e.Value.elements y) h t
-    equal_holds op same c x y OpenVector h t = compared_holds same c (e.Value.elements x) (e.Value.elements y) h t
+    equal_holds op same c x y _ h t = compared_holds same c (e.Value.elements x) (e.Value.elements y) h t
 
     equality_holds : (op : Cmp) (same : Value → Value → Test) → Compares same → (x y z : Typed) → TypedHolds P x → TypedHolds P y → equality at op same x y ≡ Some z
         → TypedHolds P z
@@ -154,25 +102,12 @@ module _ (P : ℕ → Type 0) where
         subst (TypedHolds P) f.is (equal_holds op same c x y f.value h t)
     equality_holds op same c (o.elements Unsigned x) (o.integer s) z h t g =
         known (o.truth (e.compared_to at op x s)) z g (stands, hold_both P (vector_bytes x) (static_bytes s) h t)
-    equality_holds op same c (o.elements Element x) (o.integer s) z h t g = absurd cc
-    equality_holds op same c (o.elements LogicVector x) (o.integer s) z h t g = absurd cc
-    equality_holds op same c (o.elements OpenVector x) (o.integer s) z h t g = absurd cc
     equality_holds op same c (o.integer s) (o.elements Unsigned y) z h t g =
         known (o.truth (e.compared_with at op s y)) z g (stands, hold_both P (static_bytes s) (vector_bytes y) h t)
-    equality_holds op same c (o.integer s) (o.elements Element y) z h t g = absurd cc
-    equality_holds op same c (o.integer s) (o.elements LogicVector y) z h t g = absurd cc
-    equality_holds op same c (o.integer s) (o.elements OpenVector y) z h t g = absurd cc
     equality_holds op same c (o.enumerated d m x) (o.enumerated f n y) z h t g =
         let w = given (d == f) (o.truth (same x y)) z g in
         subst (TypedHolds P) w.is (compared_holds same c x y h t)
-    equality_holds op same c (o.integer s) (o.enumerated n d y) z h t g = absurd cc
-    equality_holds op same c (o.integer s) (o.truth y) z h t g = absurd cc
-    equality_holds op same c (o.elements j x) (o.enumerated n d y) z h t g = absurd cc
-    equality_holds op same c (o.elements j x) (o.truth y) z h t g = absurd cc
-    equality_holds op same c (o.enumerated n d x) (o.integer s) z h t g = absurd cc
-    equality_holds op same c (o.enumerated n d x) (o.elements k y) z h t g = absurd cc
-    equality_holds op same c (o.enumerated n d x) (o.truth y) z h t g = absurd cc
-    equality_holds op same c (o.truth x) y z h t g = absurd cc
+    equality_holds op same c _ _ z h t g = absurd cc
 
     ordering_holds : (numbers : Bool) (op : Cmp) (x y z : Typed) → TypedHolds P x → TypedHolds P y → ordering numbers at op x y ≡ Some z → TypedHolds P z
     ordering_holds numbers op (o.integer s) (o.integer r) z h t g =
@@ -186,20 +121,9 @@ module _ (P : ℕ → Type 0) where
     ordering_holds numbers op (o.integer s) (o.elements k y) z h t g =
         let c = ruled numbers (is_number k) (o.truth (e.compared_with at op s y)) z g in
         subst (TypedHolds P) c.is (stands, hold_both P (static_bytes s) (vector_bytes y) h t)
-    ordering_holds numbers op (o.integer s) (o.enumerated n d y) z h t g = absurd cc
-    ordering_holds numbers op (o.integer s) (o.truth y) z h t g = absurd cc
-    ordering_holds numbers op (o.elements j x) (o.enumerated n d y) z h t g = absurd cc
-    ordering_holds numbers op (o.elements j x) (o.truth y) z h t g = absurd cc
-    ordering_holds numbers op (o.enumerated n d x) y z h t g = absurd cc
-    ordering_holds numbers op (o.truth x) y z h t g = absurd cc
+    ordering_holds numbers op _ _ z h t g = absurd cc
 
     pub operated_holds : (numbers : Bool) (by : Operator) (x y z : Typed) → TypedHolds P x → TypedHolds P y → operated numbers at by x y ≡ Some z → TypedHolds P z
-    operated_holds numbers op.And x y z h t g = logical_holds _ x y z h t g
-    operated_holds numbers op.Or x y z h t g = logical_holds _ x y z h t g
-    operated_holds numbers op.Xor x y z h t g = logical_holds _ x y z h t g
-    operated_holds numbers op.Xnor x y z h t g = logical_holds _ x y z h t g
-    operated_holds numbers op.Nand x y z h t g = logical_holds _ x y z h t g
-    operated_holds numbers op.Nor x y z h t g = logical_holds _ x y z h t g
     operated_holds numbers op.Equal x y z h t g = equality_holds _ (e.alike at) (λ x y. refl) x y z h t g
     operated_holds numbers op.NotEqual x y z h t g = equality_holds _ (e.unlike at) (λ x y. refl) x y z h t g
     operated_holds numbers op.Less x y z h t g = ordering_holds numbers _ x y z h t g
@@ -213,3 +137,4 @@ module _ (P : ℕ → Type 0) where
     operated_holds numbers op.Divide x y z h t g = integral_holds _ x y z h t g
     operated_holds numbers op.Modulo x y z h t g = integral_holds _ x y z h t g
     operated_holds numbers op.Remainder x y z h t g = integral_holds _ x y z h t g
+    operated_holds numbers _ x y z h t g = logical_holds _ x y z h t g

@@ -40,21 +40,7 @@ as_signal_holds P at (visibility.port k mode kind) suffix x h f q =
 as_signal_holds P at (visibility.signal k type) suffix x h f q =
     let a = mapped (named_part at (e.Signal.signal k) None) (part_of type suffix) x q in
     subst (λ (x : SignalName). Hold P (place_bytes x.place)) a.is (h, part_of_holds P type suffix a.value f a.from)
-as_signal_holds P at (visibility.variable k type) suffix x h f q = absurd cc
-as_signal_holds P at (visibility.generic k) suffix x h f q = absurd cc
-as_signal_holds P at (visibility.integer_constant k) suffix x h f q = absurd cc
-as_signal_holds P at (visibility.generate_parameter k) suffix x h f q = absurd cc
-as_signal_holds P at (visibility.loop_parameter k) suffix x h f q = absurd cc
-as_signal_holds P at (visibility.constant k kind vs) suffix x h f q = absurd cc
-as_signal_holds P at (visibility.literal n count p) suffix x h f q = absurd cc
-as_signal_holds P at (visibility.integer_type y) suffix x h f q = absurd cc
-as_signal_holds P at (visibility.element_type y) suffix x h f q = absurd cc
-as_signal_holds P at (visibility.vector_type k y) suffix x h f q = absurd cc
-as_signal_holds P at (visibility.enumeration_type n count) suffix x h f q = absurd cc
-as_signal_holds P at (visibility.function y) suffix x h f q = absurd cc
-as_signal_holds P at (visibility.component k) suffix x h f q = absurd cc
-as_signal_holds P at visibility.label suffix x h f q = absurd cc
-as_signal_holds P at visibility.unfinished suffix x h f q = absurd cc
+as_signal_holds _ at _ suffix x h f q = absurd cc
 
 pub signal_holds : (P : ℕ → Type 0) (sight : Sight) (n : t.Name) (x : SignalName) → Stand P (spell_name n) → signal sight n ≡ Some x → Hold P (place_bytes x.place)
 unfolding signal
@@ -81,22 +67,7 @@ as_variable_holds P at (visibility.variable k type) suffix x h f q =
     let make : Part × ObjectType → VariableName = λ p. record { at = at; number = k; part = p.0; type = p.1 } in
     let a = mapped make (part_of type suffix) x q in
     subst (VariableHolds P) a.is (h, part_of_holds P type suffix a.value f a.from)
-as_variable_holds P at (visibility.port k mode kind) suffix x h f q = absurd cc
-as_variable_holds P at (visibility.signal k type) suffix x h f q = absurd cc
-as_variable_holds P at (visibility.generic k) suffix x h f q = absurd cc
-as_variable_holds P at (visibility.integer_constant k) suffix x h f q = absurd cc
-as_variable_holds P at (visibility.generate_parameter k) suffix x h f q = absurd cc
-as_variable_holds P at (visibility.loop_parameter k) suffix x h f q = absurd cc
-as_variable_holds P at (visibility.constant k kind vs) suffix x h f q = absurd cc
-as_variable_holds P at (visibility.literal n count p) suffix x h f q = absurd cc
-as_variable_holds P at (visibility.integer_type y) suffix x h f q = absurd cc
-as_variable_holds P at (visibility.element_type y) suffix x h f q = absurd cc
-as_variable_holds P at (visibility.vector_type k y) suffix x h f q = absurd cc
-as_variable_holds P at (visibility.enumeration_type n count) suffix x h f q = absurd cc
-as_variable_holds P at (visibility.function y) suffix x h f q = absurd cc
-as_variable_holds P at (visibility.component k) suffix x h f q = absurd cc
-as_variable_holds P at visibility.label suffix x h f q = absurd cc
-as_variable_holds P at visibility.unfinished suffix x h f q = absurd cc
+as_variable_holds _ at _ suffix x h f q = absurd cc
 
 variable_holds : (P : ℕ → Type 0) (sight : Sight) (n : t.Name) (x : VariableName) → Stand P (spell_name n) → variable sight n ≡ Some x → VariableHolds P x
 unfolding variable
@@ -115,23 +86,19 @@ selector_holds P (o.elements Element x) by h q = subst (λ (by : ObjectType × V
 selector_holds P (o.elements LogicVector x) by h q = subst (λ (by : ObjectType × Value). Hold P (value_bytes by.1)) (some_same (Elements LogicVector, e.Value.elements x) by q) h
 selector_holds P (o.elements Unsigned x) by h q = subst (λ (by : ObjectType × Value). Hold P (value_bytes by.1)) (some_same (Elements Unsigned, e.Value.elements x) by q) h
 selector_holds P (o.enumerated d count x) by h q = subst (λ (by : ObjectType × Value). Hold P (value_bytes by.1)) (some_same (Enumeration d count, x) by q) h
-selector_holds P (o.integer x) by h q = absurd cc
-selector_holds P (o.truth x) by h q = absurd cc
+selector_holds _ _ by h q = absurd cc
 
 abbrev pub BodiesHold : (ℕ → Type 0) → List s.Statements → Type 0
 BodiesHold P = AllByRecursion (λ (b : s.Statements). Hold P (statements_bytes b))
 
 pub arranged_holds : (P : ℕ → Type 0) (css : List (List s.Choice)) (bodies : List s.Statements) (alts : s.Alternatives) → BodiesHold P bodies → arranged css bodies ≡ Some alts
     → Hold P (alternatives_bytes alts)
-arranged_holds P [] bodies alts h q = absurd cc
-arranged_holds P (cs ∷ []) [] alts h q = absurd cc
 arranged_holds P (cs ∷ []) (b ∷ []) alts h q = subst (λ alts. Hold P (alternatives_bytes alts)) (some_same (s.others b) alts q) h.0
-arranged_holds P (cs ∷ []) (b ∷ c ∷ bs) alts h q = absurd cc
-arranged_holds P (cs ∷ ds ∷ css) [] alts h q = absurd cc
 arranged_holds P (cs ∷ ds ∷ css) (b ∷ bs) alts h q =
     let a = mapped (s.alternative cs b) (arranged (ds ∷ css) bs) alts q in
     subst (λ alts. Hold P (alternatives_bytes alts)) a.is
     (hold_both P (statements_bytes b) (alternatives_bytes a.value) h.0 (arranged_holds P (ds ∷ css) bs a.value h.1 a.from))
+arranged_holds _ _ _ alts h q = absurd cc
 
 -- ---- statements
 

@@ -7,10 +7,10 @@ use Rattle.vhdl_tree.specs.Pieces.{spell_option}
 use Rattle.vhdl_tree.specs.grammar.Expressions.{spell, spell_suffix, spell_exprs, spell_attribute, spell_range, spell_value}
 use Rattle.vhdl_tree.specs.grammar.Subtypes.{spell_constraint, spell_subtype, spell_default}
 use Rattle.vhdl_tree.specs.grammar.Declarations.{spell_generic_default}
-use Rattle.vhdl_names_rules.specs.declared.kind.ElementKind.TheVariants.{Element, LogicVector, Unsigned, OpenVector}
+use Rattle.vhdl_names_rules.specs.declared.kind.ElementKind.TheVariants.{Element, LogicVector, Unsigned}
 use Rattle.vhdl_names_rules.specs.declared.kind.ObjectType.{ObjectType}
 use Rattle.vhdl_names_rules.specs.declared.kind.ObjectType.TheVariants.{Elements, Enumeration}
-use Rattle.vhdl_names_rules.specs.declared.kind.Function.TheVariants.{EdgeCall, ByCount, ToUnsigned}
+use Rattle.vhdl_names_rules.specs.declared.kind.Function.TheVariants.{ToUnsigned}
 use Rattle.vhdl_names_rules.specs.units.Expressions.{Static, Range}
 use Rattle.vhdl_names_rules.specs.units.Units as u
 use Rattle.vhdl_names_rules.specs.units.Units.{Fixed}
@@ -44,23 +44,7 @@ marked_holds : (P : ℕ → Type 0) (d : Meaning) (r : Option Range) (s : Subtyp
 marked_holds P (visibility.element_type b) None s h q = subst (λ (s : Subtype). Hold P (form_bytes s.form)) (some_same _ s q) tt
 marked_holds P (visibility.vector_type k b) (Some r) s h q = subst (λ (s : Subtype). Hold P (form_bytes s.form)) (some_same _ s q) h
 marked_holds P (visibility.enumeration_type n count) None s h q = subst (λ (s : Subtype). Hold P (form_bytes s.form)) (some_same _ s q) tt
-marked_holds P (visibility.element_type b) (Some r) s h q = absurd cc
-marked_holds P (visibility.vector_type k b) None s h q = absurd cc
-marked_holds P (visibility.enumeration_type n count) (Some r) s h q = absurd cc
-marked_holds P (visibility.generic k) r s h q = absurd cc
-marked_holds P (visibility.integer_constant k) r s h q = absurd cc
-marked_holds P (visibility.generate_parameter k) r s h q = absurd cc
-marked_holds P (visibility.loop_parameter k) r s h q = absurd cc
-marked_holds P (visibility.port k mode kind) r s h q = absurd cc
-marked_holds P (visibility.signal k type) r s h q = absurd cc
-marked_holds P (visibility.variable k type) r s h q = absurd cc
-marked_holds P (visibility.constant k kind vs) r s h q = absurd cc
-marked_holds P (visibility.literal n count p) r s h q = absurd cc
-marked_holds P (visibility.integer_type y) r s h q = absurd cc
-marked_holds P (visibility.function y) r s h q = absurd cc
-marked_holds P (visibility.component k) r s h q = absurd cc
-marked_holds P visibility.label r s h q = absurd cc
-marked_holds P visibility.unfinished r s h q = absurd cc
+marked_holds _ _ _ s h q = absurd cc
 
 pub subtype_holds : (P : ℕ → Type 0) (sight : Sight) (d : t.Subtype) (s : Subtype) → Stand P (spell_subtype d) → subtype sight d ≡ Some s → Hold P (form_bytes s.form)
 unfolding subtype
@@ -78,140 +62,19 @@ named_value_holds P (Elements Unsigned) (visibility.constant l Unsigned vs) v q 
 named_value_holds P (Enumeration e count) (visibility.literal d size p) v q =
     let a = given (d == e) (u.Fixed.position p) v q in
     subst (λ v. Hold P (fixed_bytes v)) a.is tt
-named_value_holds P (Elements Element) (visibility.generic k) v q = absurd cc
-named_value_holds P (Elements Element) (visibility.integer_constant k) v q = absurd cc
-named_value_holds P (Elements Element) (visibility.generate_parameter k) v q = absurd cc
-named_value_holds P (Elements Element) (visibility.loop_parameter k) v q = absurd cc
-named_value_holds P (Elements Element) (visibility.port k mode kind) v q = absurd cc
-named_value_holds P (Elements Element) (visibility.signal k type) v q = absurd cc
-named_value_holds P (Elements Element) (visibility.variable k type) v q = absurd cc
-named_value_holds P (Elements Element) (visibility.integer_type y) v q = absurd cc
-named_value_holds P (Elements Element) (visibility.element_type y) v q = absurd cc
-named_value_holds P (Elements Element) (visibility.vector_type k y) v q = absurd cc
-named_value_holds P (Elements Element) (visibility.enumeration_type k y) v q = absurd cc
-named_value_holds P (Elements Element) (visibility.function y) v q = absurd cc
-named_value_holds P (Elements Element) (visibility.component k) v q = absurd cc
-named_value_holds P (Elements Element) visibility.label v q = absurd cc
-named_value_holds P (Elements Element) visibility.unfinished v q = absurd cc
-named_value_holds P (Elements Element) (visibility.literal b size z) v q = absurd cc
-named_value_holds P (Elements Element) (visibility.constant l LogicVector vs) v q = absurd cc
-named_value_holds P (Elements Element) (visibility.constant l Unsigned vs) v q = absurd cc
-named_value_holds P (Elements Element) (visibility.constant l OpenVector vs) v q = absurd cc
-named_value_holds P (Elements LogicVector) (visibility.generic k) v q = absurd cc
-named_value_holds P (Elements LogicVector) (visibility.integer_constant k) v q = absurd cc
-named_value_holds P (Elements LogicVector) (visibility.generate_parameter k) v q = absurd cc
-named_value_holds P (Elements LogicVector) (visibility.loop_parameter k) v q = absurd cc
-named_value_holds P (Elements LogicVector) (visibility.port k mode kind) v q = absurd cc
-named_value_holds P (Elements LogicVector) (visibility.signal k type) v q = absurd cc
-named_value_holds P (Elements LogicVector) (visibility.variable k type) v q = absurd cc
-named_value_holds P (Elements LogicVector) (visibility.integer_type y) v q = absurd cc
-named_value_holds P (Elements LogicVector) (visibility.element_type y) v q = absurd cc
-named_value_holds P (Elements LogicVector) (visibility.vector_type k y) v q = absurd cc
-named_value_holds P (Elements LogicVector) (visibility.enumeration_type k y) v q = absurd cc
-named_value_holds P (Elements LogicVector) (visibility.function y) v q = absurd cc
-named_value_holds P (Elements LogicVector) (visibility.component k) v q = absurd cc
-named_value_holds P (Elements LogicVector) visibility.label v q = absurd cc
-named_value_holds P (Elements LogicVector) visibility.unfinished v q = absurd cc
-named_value_holds P (Elements LogicVector) (visibility.literal b size z) v q = absurd cc
-named_value_holds P (Elements LogicVector) (visibility.constant l Element vs) v q = absurd cc
-named_value_holds P (Elements LogicVector) (visibility.constant l Unsigned vs) v q = absurd cc
-named_value_holds P (Elements LogicVector) (visibility.constant l OpenVector vs) v q = absurd cc
-named_value_holds P (Elements Unsigned) (visibility.generic k) v q = absurd cc
-named_value_holds P (Elements Unsigned) (visibility.integer_constant k) v q = absurd cc
-named_value_holds P (Elements Unsigned) (visibility.generate_parameter k) v q = absurd cc
-named_value_holds P (Elements Unsigned) (visibility.loop_parameter k) v q = absurd cc
-named_value_holds P (Elements Unsigned) (visibility.port k mode kind) v q = absurd cc
-named_value_holds P (Elements Unsigned) (visibility.signal k type) v q = absurd cc
-named_value_holds P (Elements Unsigned) (visibility.variable k type) v q = absurd cc
-named_value_holds P (Elements Unsigned) (visibility.integer_type y) v q = absurd cc
-named_value_holds P (Elements Unsigned) (visibility.element_type y) v q = absurd cc
-named_value_holds P (Elements Unsigned) (visibility.vector_type k y) v q = absurd cc
-named_value_holds P (Elements Unsigned) (visibility.enumeration_type k y) v q = absurd cc
-named_value_holds P (Elements Unsigned) (visibility.function y) v q = absurd cc
-named_value_holds P (Elements Unsigned) (visibility.component k) v q = absurd cc
-named_value_holds P (Elements Unsigned) visibility.label v q = absurd cc
-named_value_holds P (Elements Unsigned) visibility.unfinished v q = absurd cc
-named_value_holds P (Elements Unsigned) (visibility.literal b size z) v q = absurd cc
-named_value_holds P (Elements Unsigned) (visibility.constant l Element vs) v q = absurd cc
-named_value_holds P (Elements Unsigned) (visibility.constant l LogicVector vs) v q = absurd cc
-named_value_holds P (Elements Unsigned) (visibility.constant l OpenVector vs) v q = absurd cc
-named_value_holds P (Elements OpenVector) (visibility.generic k) v q = absurd cc
-named_value_holds P (Elements OpenVector) (visibility.integer_constant k) v q = absurd cc
-named_value_holds P (Elements OpenVector) (visibility.generate_parameter k) v q = absurd cc
-named_value_holds P (Elements OpenVector) (visibility.loop_parameter k) v q = absurd cc
-named_value_holds P (Elements OpenVector) (visibility.port k mode kind) v q = absurd cc
-named_value_holds P (Elements OpenVector) (visibility.signal k type) v q = absurd cc
-named_value_holds P (Elements OpenVector) (visibility.variable k type) v q = absurd cc
-named_value_holds P (Elements OpenVector) (visibility.integer_type y) v q = absurd cc
-named_value_holds P (Elements OpenVector) (visibility.element_type y) v q = absurd cc
-named_value_holds P (Elements OpenVector) (visibility.vector_type k y) v q = absurd cc
-named_value_holds P (Elements OpenVector) (visibility.enumeration_type k y) v q = absurd cc
-named_value_holds P (Elements OpenVector) (visibility.function y) v q = absurd cc
-named_value_holds P (Elements OpenVector) (visibility.component k) v q = absurd cc
-named_value_holds P (Elements OpenVector) visibility.label v q = absurd cc
-named_value_holds P (Elements OpenVector) visibility.unfinished v q = absurd cc
-named_value_holds P (Elements OpenVector) (visibility.literal b size z) v q = absurd cc
-named_value_holds P (Elements OpenVector) (visibility.constant l Element vs) v q = absurd cc
-named_value_holds P (Elements OpenVector) (visibility.constant l LogicVector vs) v q = absurd cc
-named_value_holds P (Elements OpenVector) (visibility.constant l Unsigned vs) v q = absurd cc
-named_value_holds P (Elements OpenVector) (visibility.constant l OpenVector vs) v q = absurd cc
-named_value_holds P (Enumeration e count) (visibility.generic k) v q = absurd cc
-named_value_holds P (Enumeration e count) (visibility.integer_constant k) v q = absurd cc
-named_value_holds P (Enumeration e count) (visibility.generate_parameter k) v q = absurd cc
-named_value_holds P (Enumeration e count) (visibility.loop_parameter k) v q = absurd cc
-named_value_holds P (Enumeration e count) (visibility.port k mode kind) v q = absurd cc
-named_value_holds P (Enumeration e count) (visibility.signal k type) v q = absurd cc
-named_value_holds P (Enumeration e count) (visibility.variable k type) v q = absurd cc
-named_value_holds P (Enumeration e count) (visibility.integer_type y) v q = absurd cc
-named_value_holds P (Enumeration e count) (visibility.element_type y) v q = absurd cc
-named_value_holds P (Enumeration e count) (visibility.vector_type k y) v q = absurd cc
-named_value_holds P (Enumeration e count) (visibility.enumeration_type k y) v q = absurd cc
-named_value_holds P (Enumeration e count) (visibility.function y) v q = absurd cc
-named_value_holds P (Enumeration e count) (visibility.component k) v q = absurd cc
-named_value_holds P (Enumeration e count) visibility.label v q = absurd cc
-named_value_holds P (Enumeration e count) visibility.unfinished v q = absurd cc
-named_value_holds P (Enumeration e count) (visibility.constant l j vs) v q = absurd cc
+named_value_holds _ _ _ v q = absurd cc
 
 -- to_unsigned
 encoded_of_unsigned : (P : ℕ → Type 0) (d : Meaning) (xs : List Typed) (v : Fixed) → AllByRecursion (TypedHolds P) xs → encoded_value (Elements Unsigned) d xs ≡ Some v
     → Hold P (fixed_bytes v)
 encoded_of_unsigned P (visibility.function ToUnsigned) (o.integer n ∷ o.integer size ∷ []) v h q =
     subst (λ v. Hold P (fixed_bytes v)) (some_same (u.Fixed.encoded n size) v q) (hold_both P (static_bytes n) (static_bytes size) h.0 h.1.0)
-encoded_of_unsigned P (visibility.function ToUnsigned) [] v h q = absurd cc
-encoded_of_unsigned P (visibility.function ToUnsigned) (o.elements k x ∷ xs) v h q = absurd cc
-encoded_of_unsigned P (visibility.function ToUnsigned) (o.enumerated n c x ∷ xs) v h q = absurd cc
-encoded_of_unsigned P (visibility.function ToUnsigned) (o.truth x ∷ xs) v h q = absurd cc
-encoded_of_unsigned P (visibility.function ToUnsigned) (o.integer n ∷ []) v h q = absurd cc
-encoded_of_unsigned P (visibility.function ToUnsigned) (o.integer n ∷ o.elements k x ∷ xs) v h q = absurd cc
-encoded_of_unsigned P (visibility.function ToUnsigned) (o.integer n ∷ o.enumerated m c x ∷ xs) v h q = absurd cc
-encoded_of_unsigned P (visibility.function ToUnsigned) (o.integer n ∷ o.truth x ∷ xs) v h q = absurd cc
-encoded_of_unsigned P (visibility.function ToUnsigned) (o.integer n ∷ o.integer size ∷ x ∷ xs) v h q = absurd cc
-encoded_of_unsigned P (visibility.function (EdgeCall y)) xs v h q = absurd cc
-encoded_of_unsigned P (visibility.function (ByCount op)) xs v h q = absurd cc
-encoded_of_unsigned P (visibility.generic k) xs v h q = absurd cc
-encoded_of_unsigned P (visibility.integer_constant k) xs v h q = absurd cc
-encoded_of_unsigned P (visibility.generate_parameter k) xs v h q = absurd cc
-encoded_of_unsigned P (visibility.loop_parameter k) xs v h q = absurd cc
-encoded_of_unsigned P (visibility.port k mode kind) xs v h q = absurd cc
-encoded_of_unsigned P (visibility.signal k type) xs v h q = absurd cc
-encoded_of_unsigned P (visibility.variable k type) xs v h q = absurd cc
-encoded_of_unsigned P (visibility.integer_type y) xs v h q = absurd cc
-encoded_of_unsigned P (visibility.element_type y) xs v h q = absurd cc
-encoded_of_unsigned P (visibility.vector_type k y) xs v h q = absurd cc
-encoded_of_unsigned P (visibility.enumeration_type k y) xs v h q = absurd cc
-encoded_of_unsigned P (visibility.component k) xs v h q = absurd cc
-encoded_of_unsigned P visibility.label xs v h q = absurd cc
-encoded_of_unsigned P visibility.unfinished xs v h q = absurd cc
-encoded_of_unsigned P (visibility.constant l j vs) xs v h q = absurd cc
-encoded_of_unsigned P (visibility.literal b size z) xs v h q = absurd cc
+encoded_of_unsigned _ _ _ v h q = absurd cc
 
 encoded_holds : (P : ℕ → Type 0) (type : ObjectType) (d : Meaning) (xs : List Typed) (v : Fixed) → AllByRecursion (TypedHolds P) xs → encoded_value type d xs ≡ Some v
     → Hold P (fixed_bytes v)
 encoded_holds P (Elements Unsigned) d xs v h q = encoded_of_unsigned P d xs v h q
-encoded_holds P (Elements Element) d xs v h q = absurd cc
-encoded_holds P (Elements LogicVector) d xs v h q = absurd cc
-encoded_holds P (Elements OpenVector) d xs v h q = absurd cc
-encoded_holds P (Enumeration e count) d xs v h q = absurd cc
+encoded_holds _ _ d xs v h q = absurd cc
 
 literal_value_holds : (P : ℕ → Type 0) (type : ObjectType) (d : Expr) (v : Fixed) → literal_value type d ≡ Some v → Hold P (fixed_bytes v)
 literal_value_holds P (Elements k) d v q =
@@ -228,32 +91,14 @@ fixed_holds P sight type (t.named a (t.arguments es) None) v h q =
     let c = comes (typed_each sight es) (encoded_value type b.value) v b.rest in
     let inner = first P (spell_suffix (t.arguments es)) (spell_attribute None) h.1 in
     encoded_holds P type b.value c.value v (exprs_hold es P sight c.value (first P (spell_exprs es) _ inner.1) c.is) c.rest
-fixed_holds P sight type (t.named a t.plain (Some b)) v h q = literal_value_holds P type (t.named a t.plain (Some b)) v q
-fixed_holds P sight type (t.named a (t.arguments es) (Some b)) v h q = literal_value_holds P type (t.named a (t.arguments es) (Some b)) v q
-fixed_holds P sight type (t.named a (t.sliced l r y) b) v h q = literal_value_holds P type (t.named a (t.sliced l r y) b) v q
-fixed_holds P sight type (t.integer a b) v h q = literal_value_holds P type (t.integer a b) v q
-fixed_holds P sight type (t.character a b) v h q = literal_value_holds P type (t.character a b) v q
-fixed_holds P sight type (t.string a b) v h q = literal_value_holds P type (t.string a b) v q
-fixed_holds P sight type (t.bits a b) v h q = literal_value_holds P type (t.bits a b) v q
-fixed_holds P sight type (t.parens a b) v h q = literal_value_holds P type (t.parens a b) v q
-fixed_holds P sight type (t.negation a b) v h q = literal_value_holds P type (t.negation a b) v q
-fixed_holds P sight type (t.signed a b d) v h q = literal_value_holds P type (t.signed a b d) v q
-fixed_holds P sight type (t.binary a b d y z) v h q = literal_value_holds P type (t.binary a b d y z) v q
+fixed_holds P sight type d v h q = literal_value_holds P type d v q
 
 filled_holds : (P : ℕ → Type 0) (type : ObjectType) (d : Expr) (v : Fixed) → filled_value type d ≡ Some v → Hold P (fixed_bytes v)
 filled_holds P (Elements k) (t.character at c) v q =
     let a = kept (x.is_vector k) _ v q in
     let b = comes (nine_of c) (λ v. Some (u.Fixed.filled v)) v a.1 in
     subst (λ v. Hold P (fixed_bytes v)) (some_same (u.Fixed.filled b.value) v b.rest) tt
-filled_holds P (Elements k) (t.integer a b) v q = absurd cc
-filled_holds P (Elements k) (t.string a b) v q = absurd cc
-filled_holds P (Elements k) (t.bits a b) v q = absurd cc
-filled_holds P (Elements k) (t.named a b d) v q = absurd cc
-filled_holds P (Elements k) (t.parens a b) v q = absurd cc
-filled_holds P (Elements k) (t.negation a b) v q = absurd cc
-filled_holds P (Elements k) (t.signed a b d) v q = absurd cc
-filled_holds P (Elements k) (t.binary a b d y z) v q = absurd cc
-filled_holds P (Enumeration e count) d v q = absurd cc
+filled_holds _ _ _ v q = absurd cc
 
 pub fixed_value_holds : (P : ℕ → Type 0) (sight : Sight) (type : ObjectType) (d : t.Value) (v : Fixed) → Stand P (spell_value d) → fixed_value sight type d ≡ Some v
     → Hold P (fixed_bytes v)

@@ -73,10 +73,7 @@ module _ (P : ℕ → Type 0) where
   values-tell here at one f h k = tells_then P (fixed_values here at 1 f) _ (fixed-tells here at 1 f h k) (λ vs. tells_none P _)
   values-tell here at (vector b) f h k = tells_then P (fixed_values here at (size (vector b)) f) _ (fixed-tells here at (size (vector b)) f h k) (λ vs. tells_none P _)
   values-tell here at (enumeration count) (u.Fixed.position n) h k = tells_none P _
-  values-tell here at (enumeration count) (u.Fixed.literal vs) h k = tells_then P (fixed_values here at 1 (u.Fixed.literal vs)) _ (fixed-tells here at 1 (u.Fixed.literal vs) h k) (λ ws. tells_none P _)
-  values-tell here at (enumeration count) (u.Fixed.constant n) h k = tells_then P (fixed_values here at 1 (u.Fixed.constant n)) _ (fixed-tells here at 1 (u.Fixed.constant n) h k) (λ ws. tells_none P _)
-  values-tell here at (enumeration count) (u.Fixed.encoded s t) h k = tells_then P (fixed_values here at 1 (u.Fixed.encoded s t)) _ (fixed-tells here at 1 (u.Fixed.encoded s t) h k) (λ ws. tells_none P _)
-  values-tell here at (enumeration count) (u.filled v) h k = tells_then P (fixed_values here at 1 (u.filled v)) _ (fixed-tells here at 1 (u.filled v) h k) (λ ws. tells_none P _)
+  values-tell here at _ f h k = tells_then P (fixed_values here at 1 f) _ (fixed-tells here at 1 f h k) (λ ws. tells_none P _)
 
   starts-tell : (here : Site) (at : ℕ) (kind : ObjectKind) (d : Option Fixed) → P at → MayStand fixed_bytes d → Tells P (starts here at kind d)
   unfolding starts

@@ -112,8 +112,6 @@ module _ (P : ℕ → Type 0) where
     unfolding concurrent_turns
 
     concurrent-turns : (x : u.Concurrent) (here : Spot) → All P (concurrent_bytes x) → Tells P (concurrent_turns here x)
-    concurrent-turns (u.process p) here k = tells_none P _
-    concurrent-turns (u.instance x) here k = tells_none P _
     concurrent-turns (u.generate_for at label r body) here k =
         let own : P at = All-head P at (range_bytes r ++ concurrents_bytes body) k in
         let rest : All P (range_bytes r ++ concurrents_bytes body) = All-tail P at (range_bytes r ++ concurrents_bytes body) k in
@@ -125,6 +123,7 @@ module _ (P : ℕ → Type 0) where
         let rest : All P (static_test_bytes t ++ concurrents_bytes body) = All-tail P at (static_test_bytes t ++ concurrents_bytes body) k in
         tells_then P (decision here.site.integers t) _ (decision_tells P here.site.integers t (all_left P (static_test_bytes t) (concurrents_bytes body) rest)) (λ holds.
         chosen-tells holds (concurrents_turns (in_branch here label) body) 0 (concurrents-turns body (in_branch here label) (all_right P (static_test_bytes t) (concurrents_bytes body) rest)))
+    concurrent-turns _ here k = tells_none P _
 
     concurrents-turns : (xs : u.Concurrents) (here : Spot) → All P (concurrents_bytes xs) → Tells P (concurrents_turns here xs)
     concurrents-turns u.no_concurrents here k = tells_none P _

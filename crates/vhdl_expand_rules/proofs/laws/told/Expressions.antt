@@ -23,10 +23,9 @@ module _ (P : ℕ → Type 0) where
 
   fit-tells : (at : ℕ) (op : bodies.Operator) (m n : ℕ) → P at → Tells P (operands_fit at op m n)
   fit-tells at (bodies.logical op) m n h = tells_unless P (Length m n) at _ h
-  fit-tells at bodies.joined m n h = tells_unless P TooWide at (nat_le (m + n) 64) h
   fit-tells at bodies.plus m n h = tells_none P tt
   fit-tells at bodies.minus m n h = tells_none P tt
-  fit-tells at bodies.times m n h = tells_unless P TooWide at (nat_le (m + n) 64) h
+  fit-tells at _ m n h = tells_unless P TooWide at (nat_le (m + n) 64) h
 
   operation-tells : (at : ℕ) (op : bodies.Operator) (d e : bodies.Expr) → P at → Tells P (operation_on at op d e)
   operation-tells at op d e h = tells_then P (operands_fit at op (width d) (width e)) _ (fit-tells at op (width d) (width e) h) (λ fit. tells_none P _)
@@ -38,8 +37,6 @@ module _ (P : ℕ → Type 0) where
       tells_then P (variable_elements here at n part) _ (variable_tells P here at n part (All-head P at (part_bytes part) k) (All-tail P at (part_bytes part) k)) (λ es. tells_none P _)
   vector_tells here (u.of_constant at n part) k =
       tells_then P (constant_values here at n part) _ (constant_tells P here at n part (All-head P at (part_bytes part) k) (All-tail P at (part_bytes part) k)) (λ vs. tells_none P _)
-  vector_tells here (u.character y) k = tells_none P _
-  vector_tells here (u.enclosed_character y) k = tells_none P _
   vector_tells here (u.Vector.literal at ys) k = tells_then P (as_size at (length ys)) _ (size_tells P at (length ys) (All-head P at [] k)) (λ n. tells_none P _)
   vector_tells here (u.Vector.inverse v) k = tells_then P (x.vector here v) _ (vector_tells here v k) (λ e. tells_none P _)
   vector_tells here (u.Vector.binary at op v w) k =
@@ -69,6 +66,7 @@ module _ (P : ℕ → Type 0) where
       let rest : All P (vector_bytes v ++ static_bytes s) = All-tail P at (vector_bytes v ++ static_bytes s) k in
       tells_then P (x.vector here v) _ (vector_tells here v (all_left P (vector_bytes v) (static_bytes s) rest)) (λ e.
       tells_then P (count_of op here.integers at s) _ (count_tells P op here.integers at s own (all_right P (vector_bytes v) (static_bytes s) rest)) (λ n. tells_none P _))
+  vector_tells here _ k = tells_none P _
 
   -- ---- values
 

@@ -24,12 +24,11 @@ module _ (P : ℕ → Type 0) where
 
   mutual
     statement-targets : (y : s.Statement) → All P (statement_bytes y) → All Stands (statement_targets y)
-    statement-targets s.null_of k = All-nil Stands
     statement-targets (s.assign p g) k = one-name p (all_left P (place_bytes p) (given_bytes g) k)
-    statement-targets (s.set at n part g) k = All-nil Stands
     statement-targets (s.if_of at bs) k = branches-targets bs (All-tail P at (branches_bytes bs) k)
     statement-targets (s.case_of at v alts) k = alternatives-targets alts (all_right P (value_bytes v) (alternatives_bytes alts) (All-tail P at (value_bytes v ++ alternatives_bytes alts) k))
     statement-targets (s.for_of at r body) k = targets_stand body (all_right P (range_bytes r) (statements_bytes body) (All-tail P at (range_bytes r ++ statements_bytes body) k))
+    statement-targets _ k = All-nil Stands
 
     pub targets_stand : (ys : s.Statements) → All P (statements_bytes ys) → All Stands (targets ys)
     targets_stand s.done k = All-nil Stands
@@ -55,26 +54,20 @@ module _ (P : ℕ → Type 0) where
 
   vector-names : (v : Vector) → All P (vector_bytes v) → All Stands (vector_names v)
   vector-names (e.of_signal p) k = one-name p k
-  vector-names (e.of_variable at n part) k = All-nil Stands
-  vector-names (e.of_constant at n part) k = All-nil Stands
-  vector-names (e.character y) k = All-nil Stands
-  vector-names (e.enclosed_character y) k = All-nil Stands
-  vector-names (e.Vector.literal at ys) k = All-nil Stands
   vector-names (e.Vector.inverse v) k = vector-names v k
   vector-names (e.Vector.binary at op v w) k =
       let rest : All P (vector_bytes v ++ vector_bytes w) = All-tail P at (vector_bytes v ++ vector_bytes w) k in
       All-append Stands (vector_names v) (vector_names w) (vector-names v (all_left P (vector_bytes v) (vector_bytes w) rest)) (vector-names w (all_right P (vector_bytes v) (vector_bytes w) rest))
   vector-names (e.with_integer at op v n) k = vector-names v (all_left P (vector_bytes v) (static_bytes n) (All-tail P at (vector_bytes v ++ static_bytes n) k))
   vector-names (e.integer_with at op n v) k = vector-names v (all_right P (static_bytes n) (vector_bytes v) (All-tail P at (static_bytes n ++ vector_bytes v) k))
-  vector-names (e.Vector.encoded at n size) k = All-nil Stands
   vector-names (e.counted at op v n) k = vector-names v (all_left P (vector_bytes v) (static_bytes n) (All-tail P at (vector_bytes v ++ static_bytes n) k))
+  vector-names _ k = All-nil Stands
 
   module _ (zero-stands : P 0) where
     value-names : (v : Value) → All P (value_bytes v) → All Stands (value_names v)
     value-names (e.Value.elements v) k = vector-names v k
-    value-names (e.Value.position n) k = All-nil Stands
     value-names (e.state_of x) k = one-name (whole_of x) (All-cons P 0 [] zero-stands (All-nil P))
-    value-names (e.state_of_variable n) k = All-nil Stands
+    value-names _ k = All-nil Stands
 
     two-values : (v w : Value) → All P (value_bytes v ++ value_bytes w) → All Stands (value_names v ++ value_names w)
     two-values v w k =

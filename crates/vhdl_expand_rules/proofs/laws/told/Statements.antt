@@ -90,9 +90,6 @@ module _ (P : ℕ → Type 0) where
     unfolding statement_turns
 
     statement-turns : (y : s.Statement) (here : Site) → All P (statement_bytes y) → Tells P (statement_turns here y)
-    statement-turns s.null_of here k = tells_none P _
-    statement-turns (s.assign p g) here k = tells_none P _
-    statement-turns (s.set at n part g) here k = tells_none P _
     statement-turns (s.if_of at bs) here k = branches-turns bs here (All-tail P at (branches_bytes bs) k)
     statement-turns (s.case_of at v alts) here k =
         alternatives-turns alts here (all_right P (value_bytes v) (alternatives_bytes alts) (All-tail P at (value_bytes v ++ alternatives_bytes alts) k))
@@ -103,6 +100,7 @@ module _ (P : ℕ → Type 0) where
         tells_then P (each (λ i. statements_turns (in_loop here i) body) is) _
         (tells_all P (λ i. statements_turns (in_loop here i) body) is (λ i. turns_of_statements_tells body (in_loop here i) (all_right P (range_bytes r) (statements_bytes body) rest))) (λ ns.
         tells_none P _))
+    statement-turns _ here k = tells_none P _
 
     pub turns_of_statements_tells : (ys : s.Statements) (here : Site) → All P (statements_bytes ys) → Tells P (statements_turns here ys)
     turns_of_statements_tells s.done here k = tells_none P _

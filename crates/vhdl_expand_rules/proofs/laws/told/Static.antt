@@ -3,7 +3,7 @@ use Rattle.std.proofs.Common.{ℕ, Bool, true, false, cond, not, ◌==◌, List,
 use Rattle.std.specs.Prelude.{ℤ, pos, negsuc, ◌+ℤ◌, ◌-ℤ◌, ◌*ℤ◌, nat_le, nat_abs, neg_ℤ, int_rem, int_div, slice_get}
 use Rattle.std.proofs.lemmas.List.Elements.{All-head, All-tail}
 use Rattle.vhdl_values.specs.declared.kinds.Counted.{Counted}
-use Rattle.vhdl_values.specs.declared.kinds.Counted.TheVariants.{Resize, ShiftLeft, ShiftRight}
+use Rattle.vhdl_values.specs.declared.kinds.Counted.TheVariants.{Resize}
 use Rattle.vhdl_tree.specs.declared.operator.Direction.{Direction}
 use Rattle.vhdl_lexer.specs.Literals.{greatest_integer}
 use Rattle.vhdl_names_rules.specs.declared.operator.Arithmetic.{Arithmetic}
@@ -125,8 +125,7 @@ module _ (P : ℕ → Type 0) where
   pub count_tells : (op : Counted) (here : Integers) (at : ℕ) (s : Static) → P at → All P (static_bytes s) → Tells P (count_of op here at s)
   unfolding count_of
   count_tells Resize here at s h k = size_of_tells here at s h k
-  count_tells ShiftLeft here at s h k = natural_tells here at s h k
-  count_tells ShiftRight here at s h k = natural_tells here at s h k
+  count_tells _ here at s h k = natural_tells here at s h k
 
   -- ---- parts
 
@@ -150,10 +149,7 @@ module _ (P : ℕ → Type 0) where
       tells_then P (integer here at r.left) _ (integer_tells here at r.left h (all_left P (static_bytes r.left) (static_bytes r.right) k)) (λ x.
       tells_then P (integer here at r.right) _ (integer_tells here at r.right h (all_right P (static_bytes r.left) (static_bytes r.right) k)) (λ y.
       slice-tells b at r.direction x y h))
-  places-tells here at one (u.Part.element s) h k = tells_one P (Index, at) h
-  places-tells here at one (u.slice r) h k = tells_one P (Index, at) h
-  places-tells here at (enumeration n) (u.Part.element s) h k = tells_one P (Index, at) h
-  places-tells here at (enumeration n) (u.slice r) h k = tells_one P (Index, at) h
+  places-tells here at _ _ h k = tells_one P (Index, at) h
 
   part-tells : (here : Integers) (at from : ℕ) (kinds : List ObjectKind) (n : ℕ) (part : Part) → P at → All P (part_bytes part) → Tells P (part_elements here at from kinds n part)
   part-tells here at from kinds n part h k =

@@ -1,7 +1,7 @@
 use mir.Syntax.{w32}
 use mir.Val.{SFits, to_z, of_z}
 use Rattle.std.proofs.lemmas.Int.{ints}
-use Rattle.std.proofs.Common.{◌≡◌, suc, ◌-◌, ◌<◌, true, false, [], ◌∷◌, ◌++◌, length, map, drop, ap, ◌∙◌, sym, subst, arith, rules, Ok, Some, None}
+use Rattle.std.proofs.Common.{◌≡◌, suc, ◌-◌, ◌<◌, true, false, [], ◌∷◌, ◌++◌, length, map, drop, ap, ◌∙◌, sym, subst, arith, rules, Ok, None}
 use Rattle.std.proofs.lemmas.Grind.{common_steps}
 use Rattle.std.specs.Prelude.{◌≢◌, option_map, flat_map, codes}
 use Rattle.std.specs.Fmt.{signed_decimal}

@@ -93,76 +93,27 @@ module _ (here : Site) (at : ℕ) where
   -- a name and any value
   of_name : (p : SignalPart) (w : Value) → steps.alike here at (u.Value.elements (u.of_signal p)) w ≡ definition.alike here at (u.Value.elements (u.of_signal p)) w
   of_name p (u.Value.elements (u.of_signal q)) = refl
-  of_name p (u.Value.elements (u.of_variable b k r)) = refl
-  of_name p (u.Value.elements (u.of_constant b k r)) = refl
-  of_name p (u.Value.elements (u.character y)) = refl
-  of_name p (u.Value.elements (u.enclosed_character y)) = refl
-  of_name p (u.Value.elements (u.Vector.literal b ys)) = refl
-  of_name p (u.Value.elements (u.Vector.inverse y)) = refl
-  of_name p (u.Value.elements (u.Vector.binary b op y z)) = refl
-  of_name p (u.Value.elements (u.with_integer b op y s)) = refl
-  of_name p (u.Value.elements (u.integer_with b op s y)) = refl
-  of_name p (u.Value.elements (u.Vector.encoded b s t)) = refl
-  of_name p (u.Value.elements (u.counted b op y s)) = refl
-  of_name p (u.Value.position n) = refl
-  of_name p (u.state_of s) = refl
-  of_name p (u.state_of_variable k) = refl
+  of_name p _ = refl
 
   -- a character literal and any value
   of_character : (x : Nine) (w : Value) → steps.alike here at (u.Value.elements (u.character x)) w ≡ definition.alike here at (u.Value.elements (u.character x)) w
   of_character x (u.Value.elements (u.of_signal q)) = refl
-  of_character x (u.Value.elements (u.of_variable b k r)) = refl
-  of_character x (u.Value.elements (u.of_constant b k r)) = refl
-  of_character x (u.Value.elements (u.character y)) = refl
-  of_character x (u.Value.elements (u.enclosed_character y)) = refl
-  of_character x (u.Value.elements (u.Vector.literal b ys)) = refl
-  of_character x (u.Value.elements (u.Vector.inverse y)) = refl
-  of_character x (u.Value.elements (u.Vector.binary b op y z)) = refl
-  of_character x (u.Value.elements (u.with_integer b op y s)) = refl
-  of_character x (u.Value.elements (u.integer_with b op s y)) = refl
-  of_character x (u.Value.elements (u.Vector.encoded b s t)) = refl
-  of_character x (u.Value.elements (u.counted b op y s)) = refl
-  of_character x (u.Value.position n) = refl
-  of_character x (u.state_of s) = refl
-  of_character x (u.state_of_variable k) = refl
+  of_character x _ = refl
 
   -- an enclosed one and any value
   of_enclosed : (x : Nine) (w : Value) → steps.alike here at (u.Value.elements (u.enclosed_character x)) w ≡ definition.alike here at (u.Value.elements (u.enclosed_character x)) w
   of_enclosed x (u.Value.elements (u.of_signal q)) = refl
-  of_enclosed x (u.Value.elements (u.of_variable b k r)) = refl
-  of_enclosed x (u.Value.elements (u.of_constant b k r)) = refl
-  of_enclosed x (u.Value.elements (u.character y)) = refl
-  of_enclosed x (u.Value.elements (u.enclosed_character y)) = refl
-  of_enclosed x (u.Value.elements (u.Vector.literal b ys)) = refl
-  of_enclosed x (u.Value.elements (u.Vector.inverse y)) = refl
-  of_enclosed x (u.Value.elements (u.Vector.binary b op y z)) = refl
-  of_enclosed x (u.Value.elements (u.with_integer b op y s)) = refl
-  of_enclosed x (u.Value.elements (u.integer_with b op s y)) = refl
-  of_enclosed x (u.Value.elements (u.Vector.encoded b s t)) = refl
-  of_enclosed x (u.Value.elements (u.counted b op y s)) = refl
-  of_enclosed x (u.Value.position n) = refl
-  of_enclosed x (u.state_of s) = refl
-  of_enclosed x (u.state_of_variable k) = refl
+  of_enclosed x _ = refl
 
   of_vector : (x : Vector) (w : Value) → steps.alike here at (u.Value.elements x) w ≡ definition.alike here at (u.Value.elements x) w
   of_vector (u.of_signal q) w = of_name q w
-  of_vector (u.of_variable b k r) w = refl
-  of_vector (u.of_constant b k r) w = refl
   of_vector (u.character y) w = of_character y w
   of_vector (u.enclosed_character y) w = of_enclosed y w
-  of_vector (u.Vector.literal b ys) w = refl
-  of_vector (u.Vector.inverse y) w = refl
-  of_vector (u.Vector.binary b op y z) w = refl
-  of_vector (u.with_integer b op y s) w = refl
-  of_vector (u.integer_with b op s y) w = refl
-  of_vector (u.Vector.encoded b s t) w = refl
-  of_vector (u.counted b op y s) w = refl
+  of_vector _ w = refl
 
   same_alike : (v w : Value) → steps.alike here at v w ≡ definition.alike here at v w
   same_alike (u.Value.elements x) w = of_vector x w
-  same_alike (u.Value.position n) w = refl
-  same_alike (u.state_of s) w = refl
-  same_alike (u.state_of_variable k) w = refl
+  same_alike _ w = refl
 
 pub expanded_test-returns-in-Alike : goal.expanded_test-returns-in-Alike
 unfolding definition.test
