@@ -65,8 +65,9 @@ fn body(sight: &mut Sight, list: &[syntax::Sequential]) -> Result<Vec<Statement>
     ensures kept { sight.new ≡ sight.old }
     ensures told { IfErr result (Tells (broken.body sight.old (statements_of (map tree.sequential_view list.now)))) }
 {
+    let alloc = sight.alloc;
     let statements = analysed(sight, list);
-    match statement_labels_are_distinct(sight.alloc, list) {
+    match statement_labels_are_distinct(alloc, list) {
         Ok(()) => statements,
         Err(fault) => Err(earlier_in(fault, statements)),
     }

@@ -145,8 +145,9 @@ fn labelled(
     ensures told { (all : List EntityView) → AreEntities entities.now all
         → IfErr result (Tells (told.labelled all sight.old (map tree.concurrent_view list.now))) }
 {
+    let alloc = sight.alloc;
     let all = statements(entities, sight, list);
-    match labels_are_distinct(sight.alloc, list) {
+    match labels_are_distinct(alloc, list) {
         Ok(()) => all,
         Err(fault) => Err(earlier_in(fault, all)),
     }

@@ -126,6 +126,22 @@ pub is_once : (es : List (Vec ℕ Global × CodeMeaning)) (key : Vec ℕ Global)
     is_some (lookup (λ k. bytes_eq key.items k.items) es) ≡ false → is_new (map entry_view es) key.items ≡ Some tt
 is_once es key unique h = ap (λ o. o >>= λ _. there) (grown es (es ++ (key, Unfinished) ∷ []) key.items key Unfinished unique h refl refl)
 
+-- ---- a component's own region, which trades places with the one round it
+
+abbrev pub swapped : Sight → Sight
+swapped s = record s { region = s.enclosing; enclosing = s.region }
+
+pub swapped_is : (s : Sight) (r e : List Declared) → r ≡ s.enclosing → e ≡ s.region → record s { region = r; enclosing = e } ≡ swapped s
+swapped_is s r e at by = ap (λ r. record s { region = r; enclosing = e }) at ∙ ap (λ e. record s { region = s.enclosing; enclosing = e }) by
+
+pub swapped_inner : (s : Sight) → s.enclosing ≡ [] → swapped s ≡ inner s
+swapped_inner s h =
+    ap (λ ds. record s { region = ds; enclosing = s.region }) h
+    ∙ ap (λ ds. record s { region = []; enclosing = ds }) (sym (ap (λ ds. s.region ++ ds) h ∙ append-nil s.region))
+
+pub swapped_back : (s t : Sight) → s.enclosing ≡ [] → t ≡ record (swapped s) { region = t.region } → record t { region = t.enclosing; enclosing = [] } ≡ s
+swapped_back s t h kept = ap (λ (x : Sight). record x { region = x.enclosing; enclosing = [] }) kept ∙ ap (λ ds. record s { enclosing = ds }) (sym h)
+
 -- ---- what is analysed
 
 pub none_more : (v : Vec Declaration Global) → declarations_view v ≡ declarations_view v ++ []

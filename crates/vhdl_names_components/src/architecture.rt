@@ -10,7 +10,6 @@ ghost use Rattle.vhdl_names_rules.specs.Files as rules;
 ghost use Rattle.vhdl_names_rules.specs.Gives.{Gives};
 ghost use Rattle.vhdl_names_rules.specs.Visibility.{with_declared};
 ghost use Rattle.vhdl_tree.specs.View as tree;
-ghost use Rattle.vhdl_names_sight.specs.Views.{region_view};
 ghost use Rattle.vhdl_names_units.specs.views.Declarations.{declarations_view};
 ghost use Rattle.vhdl_names_rules.specs.problems.Broken.{Tells};
 ghost use Rattle.vhdl_names_rules.specs.problems.Declarations as declarations_broken;

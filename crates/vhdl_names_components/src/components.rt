@@ -11,7 +11,6 @@ ghost use Rattle.vhdl_names_rules.specs.SameText.{same_generics, same_ports};
 ghost use Rattle.vhdl_names_rules.specs.declared.fault.NameFault.TheVariants.{At};
 ghost use Rattle.vhdl_names_rules.specs.declared.fault.NameProblem.TheVariants.{Twice, WrongKind};
 ghost use Rattle.vhdl_tree.specs.View.{component_view, ident_view, option_generics_view, option_ports_view};
-ghost use Rattle.vhdl_names_sight.specs.Views.{region_view};
 ghost use Rattle.vhdl_names_rules.specs.problems.Broken.{Tells, unless};
 ghost use Rattle.vhdl_names_rules.specs.problems.Interfaces as broken;
 ghost use Rattle.vhdl_names_rules.specs.problems.Declarations.{standing_twice};
@@ -22,17 +21,17 @@ use crate::interfaces::has_interface;
 use std::mem;
 use vhdl_names_declarations::{declare, ends};
 use vhdl_names_rules::{NameFault, NameProblem};
-use vhdl_names_sight::{Meaning, Region, Sight, names_are_apart};
+use vhdl_names_sight::{Meaning, Sight, names_are_apart};
 use vhdl_tree::{Component, Entity, Identifier};
 
-/// A name that stands in a region is Twice in it if it is declared once more.
-fn is_new(region: &Region, name: &Identifier) -> Result<(), NameFault>
-    ensures given { Gives (λ x. x) (spec.is_new (region_view region.now) name.now.text.items) result }
+/// A name that stands in the region is Twice in it if it is declared once more.
+fn is_new(sight: &Sight, name: &Identifier) -> Result<(), NameFault>
+    ensures given { Gives (λ x. x) (spec.is_new sight.now.region name.now.text.items) result }
     ensures fault { IfErr result (λ f. f ≡ At Twice name.now.at) }
-    ensures told { IfErr result (Tells (standing_twice (region_view region.now) (ident_view name.now ∷ []))) }
+    ensures told { IfErr result (Tells (standing_twice sight.now.region (ident_view name.now ∷ []))) }
 {
-    names_are_apart(region);
-    if region.contains_key(name.text.as_slice()) {
+    names_are_apart(&sight.region);
+    if sight.region.contains_key(name.text.as_slice()) {
         Err(NameProblem::Twice.at(name.at))
     } else {
         Ok(())
@@ -91,7 +90,7 @@ pub fn component(
         (component_view component.now))) }
 {
     let name = &component.name;
-    is_new(&sight.region, name)?;
+    is_new(sight, name)?;
     let (number, entity) = entity_named(entities, name)?;
     is_entity(component, entity.tree)?;
     own_region(sight, component)?;

@@ -2,11 +2,14 @@
 use Rattle.std.proofs.Common.{◌≡◌, ℕ, ◌+◌, ◌<◌, ◌≤◌, Bool, true, false, List, [], ◌∷◌, ◌++◌, map, flat_map, length, take, get_or, Option, Some, None, refl, sym, ap, subst, ◌∙◌, append_assoc, append-nil, arith}
 use Rattle.std.proofs.Math.Seq.{take-append_seam}
 use Rattle.std.proofs.lemmas.Grind.{flat_map-append}
-use Rattle.std.proofs.lemmas.List.{length-append}
+use Rattle.std.proofs.lemmas.List.{length-map, length-append}
 use Rattle.vhdl_names_rules.specs.Rules.{◌>>=◌, met}
 use Rattle.vhdl_names_rules.specs.Visibility.{Declared, Sight, Declares, are_distinct, with_declared, with_variables}
 use Rattle.vhdl_names_rules.specs.Declarations.{in_order}
 use Rattle.vhdl_names_rules.specs.Interfaces.{declared_names}
+use Rattle.vhdl_names_sight.specs.declared.sight.Sight.TheInside.{Inside}
+use Rattle.vhdl_names_sight.specs.Seen.{sight_view}
+use Rattle.vhdl_names_sight.specs.Views.{entry_view}
 use Rattle.vhdl_names_declarations.specs.declared.counts.Counts.{Counts}
 use Rattle.vhdl_names_declarations.specs.Counts.{AreCounts}
 use Rattle.vhdl_names_declarations.specs.Entered.{entering, entering_variables}
@@ -103,6 +106,13 @@ module _ {A B : Type 0} (declares : Sight → A → Option (Declares B)) where
       let e = ap length g.1 in
       let l = length-append s.region g.0 in
       omega (arith, e, l)
+
+-- how many a region has, by what is seen of it
+pub region_size : (i : Inside) (s : Sight) → sight_view i ≡ s → length s.region ≡ length i.region.entries
+region_size i s e = ap (λ (s : Sight). length s.region) (sym e) ∙ length-map i.region.entries entry_view
+
+pub variables_size : (i : Inside) (s : Sight) → sight_view i ≡ s → length s.variables ≡ length i.variables.entries
+variables_size i s e = ap (λ (s : Sight). length s.variables) (sym e) ∙ length-map i.variables.entries entry_view
 
 -- one more
 pub all_more : {X Y : Type 0} (f : X → List Y) (xs : List X) (x : X) → flat_map f (xs ++ x ∷ []) ≡ flat_map f xs ++ f x

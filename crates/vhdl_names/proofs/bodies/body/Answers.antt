@@ -9,6 +9,7 @@ use Rattle.vhdl_names_rules.specs.problems.Labels.{labels_of}
 use Rattle.vhdl_names_rules.proofs.Telling.{told_left, told_right, told_same}
 use Rattle.vhdl_names_rules.proofs.kept.Keeping.{among_kept}
 use Rattle.vhdl_names_rules.proofs.kept.Concurrent.{concurrents_kept}
+use Rattle.vhdl_names_sight.specs.Seen.{sight_view}
 use Rattle.vhdl_names_sight.specs.Views.{region_view}
 use Rattle.vhdl_names.specs.steps.Concurrents.{body_view}
 use Rattle.vhdl_names.specs.steps.Architectures.{with_region}
@@ -17,8 +18,8 @@ use Rattle.vhdl_names.proofs.Standing.{body_same, ok_memory}
 use Rattle.vhdl_names.proofs.bodies.body.Goals as goal
 
 pub returns-in_err-statements-clause-told : goal.returns-in_err-statements-clause-told
-returns-in_err-statements-clause-told c = λ all are.
-    let s = c.args.sight.now in
+returns-in_err-statements-clause-told c = λ all are. rw (← c.sight.view_is) (
+    let s = sight_view c.sight.inside in
     let a = view.architecture_view c.args.tree.now in
     let f = c.in_err-statements.field-0.0 in
     let r = region_view c.declare_each-labels.new.region in
@@ -33,12 +34,12 @@ returns-in_err-statements-clause-told c = λ all are.
     (c.declare_each-labels.ensures.past (c.in_err-statements.ensures.memory n).0))
     (c.in_err-statements.ensures.told labelled stated c.declare_each-labels.ensures.told
     (gives_finds body_view _ stated c.concurrents.result
-    (λ xs g. concurrents_kept (t.concurrents_of (map view.concurrent_view c.deref-2.result.now)) all (with_region s r) xs c.requires.outside g)
-    (c.concurrents.ensures.given all are) (c.concurrents.ensures.told all are))))))
+    (λ xs g. concurrents_kept (t.concurrents_of (map view.concurrent_view c.deref-2.result.now)) all (with_region s r) xs (rw (← c.sight.view_is) at c.requires.outside) g)
+    (c.concurrents.ensures.given all are) (c.concurrents.ensures.told all are)))))))
 
 pub returns-in_err-ends-clause-told : goal.returns-in_err-ends-clause-told
-returns-in_err-ends-clause-told c = λ all are.
-    let s = c.args.sight.now in
+returns-in_err-ends-clause-told c = λ all are. rw (← c.sight.view_is) (
+    let s = sight_view c.sight.inside in
     let a = view.architecture_view c.args.tree.now in
     let f = c.in_err-ends.field-0.0 in
     let r = region_view c.declare_each-labels.new.region in
@@ -53,6 +54,6 @@ returns-in_err-ends-clause-told c = λ all are.
     (told_right whole end f
     (sym same
     ∙ among_kept labelled stated (found_ok labelled c.declare_each-labels.result tt both.0 c.declare_each-labels.ensures.told)
-    (concurrents_kept (t.concurrents_of (map view.concurrent_view c.deref-2.result.now)) all (with_region s r) _ c.requires.outside
+    (concurrents_kept (t.concurrents_of (map view.concurrent_view c.deref-2.result.now)) all (with_region s r) _ (rw (← c.sight.view_is) at c.requires.outside)
     (given_ok body_view _ c.concurrents.result _ both.1 (c.concurrents.ensures.given all are))))
-    c.in_err-ends.ensures.told)
+    c.in_err-ends.ensures.told))

@@ -6,6 +6,7 @@ use Rattle.vhdl_tree.specs.View.{component_view}
 use Rattle.vhdl_names_rules.specs.problems.Broken.{Tells}
 use Rattle.vhdl_names_rules.specs.problems.Interfaces as broken
 use Rattle.vhdl_names_rules.proofs.Telling.{told_left, told_on}
+use Rattle.vhdl_names_sight.specs.Seen.{sight_view}
 use Rattle.vhdl_names_components.specs.Views.{entities_view, named_view}
 use Rattle.vhdl_names_components.specs.Components.{has_interface}
 use Rattle.vhdl_names_components.proofs.Interfacing.{passed_on}
@@ -123,7 +124,7 @@ pub returns-clause-told : goal.returns-clause-told
 returns-clause-told c =
     let es = entities_view c.args.entities.now in
     let s = c.args.sight.now in
-    let w = c.own_region.new.sight in
+    let w = sight_view c.sight.inside in
     let d = component_view c.args.component.now in
     told_on (named_twice w d) (broken.component es s d) c.declare.result
-    (λ f h. named_last es s d c.in_ok-is_new.ensures.given f (subst (λ (x : Sight). Tells (named_twice x d) f) c.in_ok-own_region.ensures.kept h)) c.declare.ensures.told
+    (λ f h. named_last es s d c.in_ok-is_new.ensures.given f (subst (λ (x : Sight). Tells (named_twice x d) f) (c.sight.view_is ∙ c.in_ok-own_region.ensures.kept) h)) c.declare.ensures.told

@@ -2,6 +2,7 @@ use Rattle.std.proofs.Common.{option_map, Some, Vec, Global, sym, ap, ◌∙◌}
 use Rattle.vhdl_names_units.specs.declared.declaration.Generics.{Generics}
 use Rattle.vhdl_names_units.specs.declared.declaration.Ports.{Ports}
 use Rattle.vhdl_names_rules.specs.Rules.{◌>>=◌}
+use Rattle.vhdl_names_rules.specs.Visibility.{Sight}
 use Rattle.vhdl_names_rules.specs.problems.Declarations.{end_name}
 use Rattle.vhdl_names_rules.specs.problems.Interfaces as broken
 use Rattle.vhdl_names_rules.proofs.Telling.{told_left, told_right}
@@ -53,4 +54,5 @@ returns-clause-given c =
     let i = interface_in c.interface_of.new.sight.region made in
     ap (behind_interface k e name) c.in_ok-generics.ensures.given
     ∙ ap (λ o. o >>= λ _. Some (entity_of k i e name)) c.in_ok-ends.ensures.given
+    ∙ ap (λ (s : Sight). Some (entity_of k (interface_in s.region made) e name)) (sym c.sight.view_is)
     ∙ ap (λ r. Some (entity_of k (interface_in (region_view r) made) e name)) (sym c.replace.ensures.value)

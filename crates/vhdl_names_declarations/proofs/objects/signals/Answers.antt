@@ -10,6 +10,7 @@ use Rattle.vhdl_names_rules.specs.Visibility as visibility
 use Rattle.vhdl_names_rules.specs.Visibility.{names_of, all_declared, with_declared}
 use Rattle.vhdl_tree.specs.View as tree
 use Rattle.vhdl_tree.specs.View.{ident_view}
+use Rattle.vhdl_names_sight.specs.Seen.{sight_view}
 use Rattle.vhdl_names_sight.specs.Views.{region_view, entry_view}
 use Rattle.vhdl_names_units.specs.views.Answers.{subtype_view, fixed_view}
 use Rattle.vhdl_names_declarations.specs.Entered.{more, entering}
@@ -27,58 +28,58 @@ use Rattle.vhdl_names_declarations.proofs.Breaking.{standing_once}
 use Rattle.vhdl_names_declarations.proofs.Regions.{names-all}
 
 pub returns-in_err-hide-clause-given : goal.returns-in_err-hide-clause-given
-returns-in_err-hide-clause-given c =
-    let s = c.args.sight.now in
+returns-in_err-hide-clause-given c = rw (← c.sight.view_is) (
+    let s = sight_view c.sight.inside in
     let g = tree.signals_view c.args.declaration.now in
-    let f : c.in_err-hide.field-0.0 ≢ NoMemory → entering d.signals c.args.sight.now (tree.signals_view c.args.declaration.now) ≡ None =
-    λ n. signals_is s g c.args.number c.requires
+    let f : c.in_err-hide.field-0.0 ≢ NoMemory → entering d.signals (sight_view c.sight.inside) (tree.signals_view c.args.declaration.now) ≡ None =
+    λ n. signals_is s g c.args.number (rw (← c.sight.view_is) at c.requires)
     ∙ refused (λ s. s.region) with_declared s (names_of g.names) (λ x. c.args.number) signal_class (signals_of g)
     (ap (λ l. more s.region (all_declared visibility.unfinished (names_of (map ident_view l)))) (sym c.deref.ensures.value) ∙ c.in_err-hide.ensures.given n) (typed_object (within s g.names) g.subtype g.default) in
-    gives_none _ _ c.in_err-hide.field-0.0 _ c.from_residual.result c.from_residual.ensures.1 (λ e p. p) f
+    gives_none _ _ c.in_err-hide.field-0.0 _ c.from_residual.result c.from_residual.ensures.1 (λ e p. p) f)
 
 pub returns-in_err-subtype-clause-given : goal.returns-in_err-subtype-clause-given
-returns-in_err-subtype-clause-given c =
-    let s = c.args.sight.now in
+returns-in_err-subtype-clause-given c = rw (← c.sight.view_is) (
+    let s = sight_view c.sight.inside in
     let g = tree.signals_view c.args.declaration.now in
-    let hid : more c.args.sight.now.region (all_declared visibility.unfinished (names_of (tree.signals_view c.args.declaration.now).names)) ≡ Some (region_view c.hide.new.region) =
-    ap (λ l. more c.args.sight.now.region (all_declared visibility.unfinished (names_of (map ident_view l)))) (sym c.deref.ensures.value) ∙ c.in_ok-hide.ensures.given in
+    let hid : more (region_view c.sight.inside.region) (all_declared visibility.unfinished (names_of (tree.signals_view c.args.declaration.now).names)) ≡ Some (region_view c.hide.new.region) =
+    ap (λ l. more (region_view c.sight.inside.region) (all_declared visibility.unfinished (names_of (map ident_view l)))) (sym c.deref.ensures.value) ∙ c.in_ok-hide.ensures.given in
     let along = ap (λ r. typed_object (record s { region = r }) g.subtype g.default) (more_is s.region (all_declared visibility.unfinished (names_of g.names)) (region_view c.hide.new.region) hid) in
-    let f : c.in_err-subtype.field-0.0 ≢ NoMemory → entering d.signals c.args.sight.now (tree.signals_view c.args.declaration.now) ≡ None =
-    λ n. signals_is s g c.args.number c.requires
+    let f : c.in_err-subtype.field-0.0 ≢ NoMemory → entering d.signals (sight_view c.sight.inside) (tree.signals_view c.args.declaration.now) ≡ None =
+    λ n. signals_is s g c.args.number (rw (← c.sight.view_is) at c.requires)
     ∙ unknown (λ s. s.region) with_declared s (names_of g.names) (λ x. c.args.number) signal_class (signals_of g) (typed_object (within s g.names) g.subtype g.default) (sym along ∙ c.in_err-subtype.ensures.given n) in
-    gives_none _ _ c.in_err-subtype.field-0.0 _ c.from_residual-in_err-subtype.result c.from_residual-in_err-subtype.ensures.1 (λ e p. p) f
+    gives_none _ _ c.in_err-subtype.field-0.0 _ c.from_residual-in_err-subtype.result c.from_residual-in_err-subtype.ensures.1 (λ e p. p) f)
 
 pub returns-clause-given : goal.returns-clause-given
-returns-clause-given c =
-    let s = c.args.sight.now in
+returns-clause-given c = rw (← c.sight.view_is) (
+    let s = sight_view c.sight.inside in
     let g = tree.signals_view c.args.declaration.now in
-    let hid : more c.args.sight.now.region (all_declared visibility.unfinished (names_of (tree.signals_view c.args.declaration.now).names)) ≡ Some (region_view c.hide.new.region) =
-    ap (λ l. more c.args.sight.now.region (all_declared visibility.unfinished (names_of (map ident_view l)))) (sym c.deref.ensures.value) ∙ c.in_ok-hide.ensures.given in
+    let hid : more (region_view c.sight.inside.region) (all_declared visibility.unfinished (names_of (tree.signals_view c.args.declaration.now).names)) ≡ Some (region_view c.hide.new.region) =
+    ap (λ l. more (region_view c.sight.inside.region) (all_declared visibility.unfinished (names_of (map ident_view l)))) (sym c.deref.ensures.value) ∙ c.in_ok-hide.ensures.given in
     let along = ap (λ r. typed_object (record s { region = r }) g.subtype g.default) (more_is s.region (all_declared visibility.unfinished (names_of g.names)) (region_view c.hide.new.region) hid) in
-    let size : c.len-first.result ≡ length (region_view c.args.sight.now.region) = c.len-first.ensures.len ∙ sym (length-map c.args.sight.now.region.entries entry_view) in
+    let size : c.len-first.result ≡ length (region_view c.sight.inside.region) = c.len-first.ensures.len ∙ sym (length-map c.sight.inside.region.entries entry_view) in
     let x : Subtype × Option Fixed = (subtype_view c.in_ok-subtype.subtype, option_map fixed_view c.in_ok-subtype.default) in
-    signals_is s g c.args.number c.requires
+    signals_is s g c.args.number (rw (← c.sight.view_is) at c.requires)
     ∙ known (λ s. s.region) with_declared s (names_of g.names) (λ x. c.args.number) signal_class (signals_of g) (region_view c.hide.new.region) hid (typed_object (within s g.names) g.subtype g.default) x (sym along ∙ c.in_ok-subtype.ensures.given)
     ∙ ap (λ r. Some (record s { region = r }, (signals_of g) x)) (settled_region (signal_class x) c.args.number c.len-first.result s.region (region_view c.hide.new.region) (region_view c.settle.new.region) (names_of g.names) size hid c.in_ok-settle.ensures)
     ∙ ap (λ l. Some (record s { region = region_view c.settle.new.region }, l))
-    (sym (ap (map u.signal) (c.in_ok-objects.ensures ∙ ap (λ l. for_each (object x.0 x.1) (map ident_view l)) c.deref-2.ensures.value) ∙ map-map u.signal (object x.0 x.1) g.names))
+    (sym (ap (map u.signal) (c.in_ok-objects.ensures ∙ ap (λ l. for_each (object x.0 x.1) (map ident_view l)) c.deref-2.ensures.value) ∙ map-map u.signal (object x.0 x.1) g.names)))
 
 pub returns-in_err-hide-clause-told : goal.returns-in_err-hide-clause-told
-returns-in_err-hide-clause-told c =
-    let s = c.args.sight.now in
+returns-in_err-hide-clause-told c = rw (← c.sight.view_is) (
+    let s = sight_view c.sight.inside in
     let g = tree.signals_view c.args.declaration.now in
-    let f : Tells (broken.signals c.args.sight.now (tree.signals_view c.args.declaration.now)) c.in_err-hide.field-0.0 =
+    let f : Tells (broken.signals (sight_view c.sight.inside) (tree.signals_view c.args.declaration.now)) c.in_err-hide.field-0.0 =
     told_left (standing_twice s.region g.names) (broken.object (within s g.names) g.subtype g.default) c.in_err-hide.field-0.0
     (subst (λ l. Tells (standing_twice s.region (map ident_view l)) c.in_err-hide.field-0.0) c.deref.ensures.value c.in_err-hide.ensures.told) in
-    passed_on _ c.in_err-hide.field-0.0 _ c.from_residual.result c.from_residual.ensures.1 (λ e p. p) f
+    passed_on _ c.in_err-hide.field-0.0 _ c.from_residual.result c.from_residual.ensures.1 (λ e p. p) f)
 
 pub returns-in_err-subtype-clause-told : goal.returns-in_err-subtype-clause-told
-returns-in_err-subtype-clause-told c =
-    let s = c.args.sight.now in
+returns-in_err-subtype-clause-told c = rw (← c.sight.view_is) (
+    let s = sight_view c.sight.inside in
     let g = tree.signals_view c.args.declaration.now in
-    let hid : more c.args.sight.now.region (all_declared visibility.unfinished (names_of (tree.signals_view c.args.declaration.now).names)) ≡ Some (region_view c.hide.new.region) =
-    ap (λ l. more c.args.sight.now.region (all_declared visibility.unfinished (names_of (map ident_view l)))) (sym c.deref.ensures.value) ∙ c.in_ok-hide.ensures.given in
+    let hid : more (region_view c.sight.inside.region) (all_declared visibility.unfinished (names_of (tree.signals_view c.args.declaration.now).names)) ≡ Some (region_view c.hide.new.region) =
+    ap (λ l. more (region_view c.sight.inside.region) (all_declared visibility.unfinished (names_of (map ident_view l)))) (sym c.deref.ensures.value) ∙ c.in_ok-hide.ensures.given in
     let once = standing_once s.region (all_declared visibility.unfinished (names_of g.names)) g.names (names-all visibility.unfinished (names_of g.names)) (region_view c.hide.new.region) hid in
-    let f : Tells (broken.signals c.args.sight.now (tree.signals_view c.args.declaration.now)) c.in_err-subtype.field-0.0 =
+    let f : Tells (broken.signals (sight_view c.sight.inside) (tree.signals_view c.args.declaration.now)) c.in_err-subtype.field-0.0 =
     told_right (standing_twice s.region g.names) (broken.object (within s g.names) g.subtype g.default) c.in_err-subtype.field-0.0 once (subst (λ r. Tells (broken.object (record s { region = r }) g.subtype g.default) c.in_err-subtype.field-0.0) (more_is s.region (all_declared visibility.unfinished (names_of g.names)) (region_view c.hide.new.region) hid) c.in_err-subtype.ensures.told) in
-    passed_on _ c.in_err-subtype.field-0.0 _ c.from_residual-in_err-subtype.result c.from_residual-in_err-subtype.ensures.1 (λ e p. p) f
+    passed_on _ c.in_err-subtype.field-0.0 _ c.from_residual-in_err-subtype.result c.from_residual-in_err-subtype.ensures.1 (λ e p. p) f)

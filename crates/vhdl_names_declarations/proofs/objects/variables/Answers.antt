@@ -1,17 +1,15 @@
 use Rattle.std.proofs.Common.{arith, ◌≡◌, ◌≢◌, ◌<◌, map, flat_map, length, None, ap, sym, ◌∙◌}
-use Rattle.std.proofs.lemmas.List.{length-map}
 use Rattle.vhdl_names_rules.specs.declared.fault.NameFault.TheVariants.{NoMemory}
 use Rattle.vhdl_names_rules.specs.Declarations.{in_order, variables}
 use Rattle.vhdl_names_rules.specs.Visibility.{with_variables}
 use Rattle.vhdl_tree.specs.View.{variables_view}
-use Rattle.vhdl_names_sight.specs.Views.{entry_view}
 use Rattle.vhdl_names_units.specs.views.Declarations.{object_view, objects_view}
 use Rattle.vhdl_names_declarations.specs.Entered.{entering_variables}
 use Rattle.vhdl_names_rules.specs.problems.Broken.{Tells}
 use Rattle.vhdl_names_rules.specs.problems.Declarations as broken
 use Rattle.vhdl_names_declarations.proofs.Breaking.{told_at, told_behind}
 use Rattle.vhdl_names_rules.proofs.kept.Declarations.{variables_kept}
-use Rattle.vhdl_names_declarations.proofs.Listed.{of_process, left_variables, begins_variables, fails_variables, goes_variables, ends_variables, counts_before_variables, place_within_variables, all_more}
+use Rattle.vhdl_names_declarations.proofs.Listed.{of_process, left_variables, begins_variables, fails_variables, goes_variables, ends_variables, counts_before_variables, place_within_variables, all_more, variables_size}
 use Rattle.vhdl_names_declarations.proofs.Regions.{names_apart}
 use Rattle.vhdl_names_declarations.proofs.Breaking.{passed_on}
 use Rattle.vhdl_names_declarations.proofs.Passing.{gives_none}
@@ -19,9 +17,9 @@ use Rattle.vhdl_names_declarations.proofs.objects.variables.Goals as goal
 
 pub loop-one-init : goal.loop-one-init
 loop-one-init c = (
-  begins_variables variables variables_view c.args.sight.now c.args.all.now (names_apart c.args.sight.now.variables.entries c.names_are_apart.ensures)
+  begins_variables variables variables_view c.args.sight.now c.args.all.now (rw (← c.sight.view_is) (names_apart c.sight.inside.variables.entries c.names_are_apart.ensures))
       ∙ ap (λ l. left_variables variables variables_view c.args.sight.now (flat_map object_view l) c.args.all.now 0) (sym c.new-done.ensures.items),
-  c.of-counts.ensures,
+  rw (← c.sight.view_is) c.of-counts.ensures,
   λ f h. h,
 )
 
@@ -36,14 +34,15 @@ returns-in_err-next-clause-given c =
 pub of-counts-requires-in-loop-one-clause-place : goal.of-counts-requires-in-loop-one-clause-place
 of-counts-requires-in-loop-one-clause-place c =
     let h = place_within_variables variables c.loop-one.sight c.variables_of_one.new.sight (variables_view c.one-item.result) (object_view c.in_ok-next.next) c.in_ok-next.ensures.given in
-    let p = length-map c.loop-one.sight.variables.entries entry_view in
-    let q = length-map c.variables_of_one.new.sight.variables.entries entry_view in
+    let p = variables_size c.sight-in-loop-one.inside _ c.sight-in-loop-one.view_is in
+    let q = variables_size c.sight-in-loop-one-2.inside _ c.sight-in-loop-one-2.view_is in
     omega (arith, h, p, q, c.len-first.ensures.len)
 
 pub of-counts-requires-in-loop-one-clause-before : goal.of-counts-requires-in-loop-one-clause-before
 of-counts-requires-in-loop-one-clause-before c =
-    counts_before_variables variables c.loop-one.counts c.loop-one.sight c.variables_of_one.new.sight (variables_view c.one-item.result) (object_view c.in_ok-next.next) c.len-first.result
-    c.in_ok-next.ensures.given (c.len-first.ensures.len ∙ sym (length-map c.loop-one.sight.variables.entries entry_view)) c.loop-one.invariant.1
+    rw (← c.sight-in-loop-one-2.view_is) at
+    (counts_before_variables variables c.loop-one.counts c.loop-one.sight c.variables_of_one.new.sight (variables_view c.one-item.result) (object_view c.in_ok-next.next) c.len-first.result
+    c.in_ok-next.ensures.given (c.len-first.ensures.len ∙ sym (variables_size c.sight-in-loop-one.inside _ c.sight-in-loop-one.view_is)) c.loop-one.invariant.1)
 
 pub loop-one-preserved : goal.loop-one-preserved
 loop-one-preserved c =
@@ -52,7 +51,7 @@ loop-one-preserved c =
           ∙ goes_variables variables variables_view c.loop-one.sight c.variables_of_one.new.sight (objects_view c.loop-one.done) (object_view c.in_ok-next.next) (objects_view c.push.new.self)
           c.args.all.now c.loop-one.one-index c.one-item.result lt c.one-item.is c.in_ok-next.ensures.given
           (ap (flat_map object_view) c.in_ok-push.ensures.items ∙ all_more object_view c.loop-one.done.items c.in_ok-next.next),
-      c.of-counts-in-loop-one.ensures,
+      rw (← c.sight-in-loop-one-2.view_is) c.of-counts-in-loop-one.ensures,
       λ f h. c.loop-one.invariant.2 f
           (told_behind of_process with_variables variables broken.variables variables_kept variables_view c.loop-one.sight c.variables_of_one.new.sight c.args.all.now c.loop-one.one-index c.one-item.result (object_view c.in_ok-next.next) f lt c.one-item.is c.in_ok-next.ensures.given h),
     )

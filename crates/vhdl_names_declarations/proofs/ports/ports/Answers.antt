@@ -1,11 +1,8 @@
 use Rattle.std.proofs.Common.{arith, ◌≡◌, ◌≢◌, ◌<◌, map, flat_map, length, None, refl, ap, sym, ◌∙◌}
-use Rattle.std.proofs.lemmas.List.{length-map}
 use Rattle.vhdl_names_rules.specs.declared.fault.NameFault.TheVariants.{NoMemory}
 use Rattle.vhdl_names_rules.specs.Declarations.{in_order, port}
-use Rattle.vhdl_names_rules.specs.Visibility.{with_declared}
+use Rattle.vhdl_names_rules.specs.Visibility.{Sight, with_declared}
 use Rattle.vhdl_tree.specs.View.{port_view}
-use Rattle.vhdl_names_sight.specs.declared.sight.Sight.{Sight}
-use Rattle.vhdl_names_sight.specs.Views.{entry_view}
 use Rattle.vhdl_names_units.specs.views.Declarations.{ports_view, all_ports_view}
 use Rattle.vhdl_names_declarations.specs.Entered.{entering}
 use Rattle.vhdl_names_rules.specs.problems.Broken.{Tells}
@@ -13,7 +10,7 @@ use Rattle.vhdl_names_rules.specs.problems.Declarations as broken
 use Rattle.vhdl_names_rules.specs.problems.Interfaces as interfaces_broken
 use Rattle.vhdl_names_declarations.proofs.Breaking.{told_at, told_behind}
 use Rattle.vhdl_names_rules.proofs.kept.Declarations.{port_kept}
-use Rattle.vhdl_names_declarations.proofs.Listed.{in_region, left, begins, fails, goes, ends, counts_before, place_within, all_more}
+use Rattle.vhdl_names_declarations.proofs.Listed.{in_region, left, begins, fails, goes, ends, counts_before, place_within, all_more, region_size}
 use Rattle.vhdl_names_declarations.proofs.Regions.{names_apart}
 use Rattle.vhdl_names_declarations.proofs.Breaking.{passed_on}
 use Rattle.vhdl_names_declarations.proofs.Passing.{gives_none}
@@ -21,9 +18,9 @@ use Rattle.vhdl_names_declarations.proofs.ports.ports.Goals as goal
 
 pub loop-one-init : goal.loop-one-init
 loop-one-init c = (
-  begins port port_view c.args.sight.now c.args.all.now (names_apart c.args.sight.now.region.entries c.names_are_apart.ensures)
+  begins port port_view c.args.sight.now c.args.all.now (rw (← c.sight.view_is) (names_apart c.sight.inside.region.entries c.names_are_apart.ensures))
       ∙ ap (λ l. left port port_view c.args.sight.now (flat_map ports_view l) c.args.all.now 0) (sym c.new-done.ensures.items),
-  c.of-counts.ensures,
+  rw (← c.sight.view_is) c.of-counts.ensures,
   refl,
   λ f h. h,
 )
@@ -39,14 +36,15 @@ returns-in_err-next-clause-given c =
 pub of-counts-requires-in-loop-one-clause-place : goal.of-counts-requires-in-loop-one-clause-place
 of-counts-requires-in-loop-one-clause-place c =
     let h = place_within port c.loop-one.sight c.port.new.sight (port_view c.one-item.result) (ports_view c.in_ok-next.next) c.in_ok-next.ensures.given in
-    let p = length-map c.loop-one.sight.region.entries entry_view in
-    let q = length-map c.port.new.sight.region.entries entry_view in
+    let p = region_size c.sight-in-loop-one.inside _ c.sight-in-loop-one.view_is in
+    let q = region_size c.sight-in-loop-one-2.inside _ c.sight-in-loop-one-2.view_is in
     omega (arith, h, p, q, c.len-first.ensures.len)
 
 pub of-counts-requires-in-loop-one-clause-before : goal.of-counts-requires-in-loop-one-clause-before
 of-counts-requires-in-loop-one-clause-before c =
-    counts_before port c.loop-one.counts c.loop-one.sight c.port.new.sight (port_view c.one-item.result) (ports_view c.in_ok-next.next) c.len-first.result
-    c.in_ok-next.ensures.given (c.len-first.ensures.len ∙ sym (length-map c.loop-one.sight.region.entries entry_view)) c.loop-one.invariant.1
+    rw (← c.sight-in-loop-one-2.view_is) at
+    (counts_before port c.loop-one.counts c.loop-one.sight c.port.new.sight (port_view c.one-item.result) (ports_view c.in_ok-next.next) c.len-first.result
+    c.in_ok-next.ensures.given (c.len-first.ensures.len ∙ sym (region_size c.sight-in-loop-one.inside _ c.sight-in-loop-one.view_is)) c.loop-one.invariant.1)
 
 pub loop-one-preserved : goal.loop-one-preserved
 loop-one-preserved c =
@@ -55,7 +53,7 @@ loop-one-preserved c =
           ∙ goes port port_view c.loop-one.sight c.port.new.sight (all_ports_view c.loop-one.done) (ports_view c.in_ok-next.next) (all_ports_view c.push.new.self)
           c.args.all.now c.loop-one.one-index c.one-item.result lt c.one-item.is c.in_ok-next.ensures.given
           (ap (flat_map ports_view) c.in_ok-push.ensures.items ∙ all_more ports_view c.loop-one.done.items c.in_ok-next.next),
-      c.of-counts-in-loop-one.ensures,
+      rw (← c.sight-in-loop-one-2.view_is) c.of-counts-in-loop-one.ensures,
       c.in_ok-next.ensures.kept ∙ ap (λ (s : Sight). record s { region = c.port.new.sight.region }) c.loop-one.invariant.2,
       λ f h. c.loop-one.invariant.3 f
           (told_behind in_region with_declared port broken.port port_kept port_view c.loop-one.sight c.port.new.sight c.args.all.now c.loop-one.one-index c.one-item.result (ports_view c.in_ok-next.next) f lt c.one-item.is c.in_ok-next.ensures.given h),
