@@ -1,6 +1,7 @@
 -- What is told of a refused token: of trials in a fixed order what is said of the first with which the text goes on.
-use Rattle.std.specs.Prelude.{◌≡◌, ℕ, zero, suc, ◌+◌, ◌-◌, ◌==◌, ◌&&◌, nat_le, Bool, true, false, if◌then◌else◌, List, [], ◌∷◌, ◌++◌, ◌⊎◌, length, map, flat_map, drop, slice_range, min, Option, Some, None}
+use Rattle.std.specs.Prelude.{◌≡◌, ℕ, zero, suc, ◌+◌, ◌-◌, ◌==◌, ◌&&◌, ◌||◌, not, nat_le, Bool, true, false, if◌then◌else◌, List, [], ◌∷◌, ◌++◌, ◌⊎◌, length, map, flat_map, drop, slice_range, min, Option, Some, None}
 use Rattle.std.specs.Borrow.{Bor}
+use Rattle.std.specs.List.{list_any}
 use Rattle.vhdl_lexer.specs.declared.token.Token.{Token}
 use Rattle.vhdl_lexer.specs.declared.token.TokenKind.{TokenKind}
 use Rattle.vhdl_lexer.specs.declared.token.TokenKind.TheVariants as k
@@ -14,8 +15,11 @@ use Rattle.vhdl_expected.specs.declared.telling.Expected as code
 use Rattle.vhdl_expected.specs.declared.telling.Expected.TheVariants as variant
 use Rattle.vhdl_expected.specs.declared.reading.TheConstants.{MOST_TOKENS}
 use Rattle.vhdl_expected.specs.declared.respelling.TheConstants.{MOST_PLACES}
-use Rattle.vhdl_expected.specs.declared.table.TheConstants.{OTHERWISE, SLIPS, ENDED, JOINTS, DECLARED, HEADS, CLOSED, PLACES}
+use Rattle.vhdl_expected.specs.declared.otherwise.TheConstants.{OTHERWISE}
+use Rattle.vhdl_expected.specs.declared.table.TheConstants.{SLIPS, ENDED, OPERANDS, JOINTS, DECLARED, HEADS, CLOSED, PLACES}
 use Rattle.vhdl_expected.specs.declared.word.TheConstants.{EARLY, LATE, JOINED}
+use Rattle.vhdl_expected.specs.declared.reserved.TheConstants.{NO_NAMES}
+use Rattle.vhdl_expected.specs.declared.texts.TheConstants.{RESERVED}
 
 pub data Expected : Type 0 where
   nothing : Expected
@@ -53,11 +57,6 @@ abbrev pub is_wrong : SyntaxFault → Bool
 is_wrong (fault.Unexpected at) = true
 is_wrong (fault.TooDeep at) = true
 is_wrong _ = false
-
--- the text goes on with it, or it doesn't
-abbrev pub Answers : Reading → Trial → Bool → Type 0
-Answers r t true = GoesOn r.source (tried r t)
-Answers r t false = Breaks r.source (tried r t)
 
 -- ---- words that are meant by others
 
@@ -126,6 +125,26 @@ respelt_back r (suc places) place = respelt_first r place (drop place r.tokens) 
 abbrev pub respelt : Reading → List Trial
 respelt r = respelt_back r (min MOST_PLACES (r.refused + 1)) r.refused
 
+-- ---- a reserved word as a name
+
+-- neither a reserved word, nor a name that is meant: an end ends something, and others is a choice
+abbrev pub is_no_name : TokenKind → Bool
+is_no_name kind = list_any (same_kind kind) NO_NAMES
+
+-- a name may stand between these, but for that of an attribute, what is ended, or what has an operand or index in parentheses
+abbrev pub is_between : (last next : TokenKind) → Bool
+is_between last next = not (same_kind last k.Tick || same_kind last k.End || same_kind next k.LeftParen)
+
+-- the second of these tokens is a reserved word where a name may stand
+abbrev pub is_reserved : List Token → Bool
+is_reserved (last ∷ t ∷ next ∷ ts) = is_between last.kind next.kind && not (is_no_name t.kind)
+is_reserved _ = false
+
+-- a name in place of the refused token, where that is a reserved word
+abbrev pub named : Reading → List Trial
+named r =
+    if is_reserved (drop (r.refused - 1) r.tokens) then at r.refused (change (k.Identifier ∷ []) 1 (RESERVED.0.now, RESERVED.1.now)) ∷ [] else []
+
 -- ---- changes where certain tokens stand
 
 -- a row: how far before the refused token, the kinds of tokens that have to stand there, and the change
@@ -171,6 +190,9 @@ slips = map (λ c. row c.0 c.1.now c.2.now c.3 (c.4.0.now, c.4.1.now)) SLIPS
 unfoldable pub ended : List Row
 ended = map (λ c. row c.0 c.1.now c.2.now c.3 (c.4.0.now, c.4.1.now)) ENDED
 
+unfoldable pub operands : List Row
+operands = map (λ c. row c.0 c.1.now c.2.now c.3 (c.4.0.now, c.4.1.now)) OPERANDS
+
 unfoldable pub joints : List Row
 joints = map (λ c. row c.0 c.1.now c.2.now c.3 (c.4.0.now, c.4.1.now)) JOINTS
 
@@ -190,7 +212,7 @@ unfoldable pub other_rows : List Row
 other_rows = map (λ c. row c.0 c.1.now c.2.now c.3 (c.4.0.now, c.4.1.now)) OTHERWISE
 
 abbrev pub missing_tables : List (List Row)
-missing_tables = slips ∷ ended ∷ joints ∷ declared ∷ heads ∷ closed ∷ places ∷ []
+missing_tables = slips ∷ ended ∷ operands ∷ joints ∷ declared ∷ heads ∷ closed ∷ places ∷ []
 
 abbrev pub missing : Reading → List Trial
 missing r = flat_map (tried_in r) missing_tables
@@ -202,13 +224,17 @@ abbrev pub perhaps_said : Option Said → Expected
 perhaps_said None = nothing
 perhaps_said (Some said) = perhaps said
 
+-- what is told whatever stands at the token
+abbrev pub sure : Reading → List Trial
+sure r = respelt r ++ (missing r ++ named r)
+
 -- surely what is found first; where nothing is, perhaps what is found otherwise
 abbrev pub IsToldBehind : Reading → Option Said → Expected → Type 0
 IsToldBehind r (Some said) found = found ≡ surely said
 IsToldBehind r None found = (said : Option Said) × Finds r (otherwise r) said × (found ≡ perhaps_said said)
 
 abbrev pub IsTold : Reading → Expected → Type 0
-IsTold r found = (said : Option Said) × Finds r (respelt r ++ missing r) said × IsToldBehind r said found
+IsTold r found = (said : Option Said) × Finds r (sure r) said × IsToldBehind r said found
 
 -- ---- of a token of a source
 

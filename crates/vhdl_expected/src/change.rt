@@ -3,7 +3,7 @@
 ghost use Rattle.std.specs.Prelude.{◌≡◌, ◌≤◌, ◌++◌, drop, IfOk, OnOk, length, map};
 ghost use Rattle.vhdl_expected.specs.Changes as spec;
 
-use crate::table::Change;
+use crate::row::Change;
 use std::alloc::{AllocError, Global};
 use vhdl_lexer::{Token, TokenKind};
 

@@ -1,16 +1,20 @@
 //! What was expected at a token with which no file goes on: a reserved word for a word that is
-//! nearly the same, what lacks before the token, what stands in its place, or nothing.
+//! nearly the same, what lacks before the token, what stands in its place, a name, or nothing.
 //!
 //! `specs/Reading.antt` says which tokens are looked at, `specs/Changes.antt` how they are changed
 //! and when they then go on, and `specs/Told.antt` in which order that is tried and what is told.
 //! `specs/Near.antt` says which words are nearly the same. The words and the changes stand in
-//! `word` and `table`, with what is told of each.
+//! `word`, `table` and `otherwise`, with what is told of each in `texts` and `help`.
 #![tactic(auto)]
 
 mod change;
+mod help;
 mod near;
+mod otherwise;
 mod reading;
+mod reserved;
 mod respelling;
+mod row;
 mod table;
 mod telling;
 mod texts;

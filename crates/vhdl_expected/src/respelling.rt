@@ -7,9 +7,9 @@ ghost use Rattle.vhdl_expected.specs.Told as spec;
 
 use crate::near::is_near;
 use crate::reading::Reading;
-use crate::table::Change;
+use crate::row::Change;
 use crate::texts::Said;
-use crate::trial::goes_on_with;
+use crate::trial::tried;
 use crate::word::{Word, words};
 use std::alloc::{AllocError, Global};
 use vhdl_lexer::{Token, TokenKind};
@@ -143,9 +143,12 @@ fn respelt_as(
     if !is_near(text, word.0.as_bytes()) {
         return Ok(None);
     }
-    let change = in_place(place == reading.refused, word);
-    let goes_on = goes_on_with(alloc, reading, place, change)?;
-    Ok(if goes_on { Some(change.2) } else { None })
+    tried(
+        alloc,
+        reading,
+        place,
+        in_place(place == reading.refused, word),
+    )
 }
 
 /// A word in place of the refused token or of another.

@@ -3,104 +3,21 @@
 ghost use Rattle.std.specs.Prelude.{◌≡◌, map};
 ghost use Rattle.vhdl_expected.specs.Told as spec;
 
+use crate::help::{
+    ALL, ALTERNATIVE, ARROW, BEGIN, CASE, CLOSE, CLOSE_LIST, COLON, COMMA, COMPONENT, CONDITIONAL,
+    DOT, END, END_CASE, END_COMPONENT, END_GENERATE, END_IF, END_IT, END_LOOP, END_PROCESS,
+    END_UNIT, ENTITY, GENERATE, IF, IN, IS, IS_PORT, LABEL, LIBRARY, LOOP, MAP, OBJECT, OF, OPEN,
+    PORT, PROCESS, SELECT, SIGNAL, SPARE_END, THEN, TO, TYPE, VARIABLE,
+};
+use crate::row::{Row, bare, before, before_name, row, spare_end, unended};
 use crate::texts::{
-    ACTUAL, ALL, ALTERNATIVE, ARGUMENT, AROUND, ARROW, ASSIGN, ASSIGNED, AT_MOST, BEGIN, BLANK,
-    CASE, CLOSE, CLOSE_LIST, COLON, COMMA, COMPARE, COMPONENT, CONDITION, CONDITIONAL, DOT, EITHER,
-    ELSIF, END, END_CASE, END_COMPONENT, END_GENERATE, END_IF, END_IT, END_LOOP, END_PROCESS,
-    END_STATEMENT, END_UNIT, ENTITY, FORMAL, GENERATE, GENERATE_OR_PROCESS, IF, IN, INDEX, IS,
-    LABEL, LAST_COMMA, LEFT_OUT, LIBRARY, LIST_END, LITERAL, LOOP, LOOP_OR_END, MAP, MODE, NO_CASE,
-    NO_END, NO_IF, NO_PROCESS, OBJECT, OF, OPEN, OPEN_PROCESS, OPERATOR, POINTS, PORT, PROCESS,
-    SELECT, SELECTED, SENSITIVITY, SIGNAL, SPARE, SPARE_BEFORE, Said, TARGET, THEN, THEN_OR_END,
-    TO, TWICE, TWO_MODES, TWO_NAMES, TYPE, UNEQUAL, UNFINISHED, UNIT, UNREAD, VALUE, VARIABLE,
-    WORK,
+    ACTUAL, AROUND, ASSIGNED, ASSOCIATIONS, AT_MOST, BITS, BLANK, BOUND, CLOSED_BEFORE, CONDITION,
+    EITHER, ELSIF, END_ARCHITECTURE, END_ENTITY, FORMAL, INDEX, LAST_COMMA, LIST_END, LITERAL,
+    LOOP_OR_END, MODE_IN, MODE_OUT, NEGATED, NO_CASE, NO_END, NO_IF, NO_PORT, NO_PROCESS,
+    OPEN_PROCESS, OTHERS, POINTS, PORT_MAP, RELATION, SELECTED, SENSITIVITY, SHIFT, SIGN, SPARE,
+    SPARE_BEFORE, STEP, TARGET, THEN_OR_END, TWICE, TWO_MODES, UNEQUAL, UNTYPED, VALUE, WORD, WORK,
 };
 use vhdl_lexer::TokenKind;
-
-/// A change of a token: what is put before it, how many tokens from it on are taken away, and what
-/// is told where the text then goes on.
-pub type Change = (&'static [TokenKind], usize, Said);
-
-/// A row: how many tokens before the refused one the changed one stands, the kinds of tokens that
-/// have to stand there, and the change.
-pub type Row = (
-    usize,
-    &'static [TokenKind],
-    &'static [TokenKind],
-    usize,
-    Said,
-);
-
-macro_rules! row {
-    ($said:ident, $back:literal, [$($stands:ident)*] $taken:literal, [$($put:ident)*]) => {
-        (
-            $back,
-            &[$(TokenKind::$stands),*],
-            &[$(TokenKind::$put),*],
-            $taken,
-            $said,
-        )
-    };
-}
-
-macro_rules! before {
-    ($what:literal, $help:ident, [$($stands:ident)*] $($put:ident)+) => {
-        (
-            0,
-            &[$(TokenKind::$stands),*],
-            &[$(TokenKind::$put),+],
-            0,
-            (concat!("can't stand here: ", $what, " is expected before it"), $help),
-        )
-    };
-}
-
-macro_rules! before_name {
-    ($what:literal, $help:ident, [$($stands:ident)+] $($put:ident)+) => {
-        (
-            1,
-            &[$(TokenKind::$stands),+],
-            &[$(TokenKind::$put),+],
-            0,
-            (concat!("can't stand here: ", $what, " is expected before the name before it"), $help),
-        )
-    };
-}
-
-macro_rules! in_place {
-    ($what:literal, $help:ident, [$($stands:ident)*] $($put:ident)+) => {
-        (
-            0,
-            &[$(TokenKind::$stands),*],
-            &[$(TokenKind::$put),+],
-            1,
-            (concat!("can't stand here: ", $what, " is expected in its place"), $help),
-        )
-    };
-}
-
-macro_rules! bare {
-    ($what:literal, $help:ident, $kind:ident) => {
-        (
-            1,
-            &[TokenKind::End],
-            &[TokenKind::End, TokenKind::$kind],
-            1,
-            (concat!("can't follow this end: ", $what, " is expected here, or before it"), $help),
-        )
-    };
-}
-
-macro_rules! unended {
-    ($what:literal, $help:ident, $kind:ident) => {
-        (
-            1,
-            &[TokenKind::End],
-            &[TokenKind::End, TokenKind::$kind, TokenKind::Semicolon],
-            0,
-            (concat!("can't follow this end: ", $what, " is expected before that"), $help),
-        )
-    };
-}
 
 /// What is written otherwise, or one too many.
 pub static SLIPS: [Row; 26] = [
@@ -132,8 +49,8 @@ pub static SLIPS: [Row; 26] = [
     row!(TWO_MODES, 1, [Out In] 1, []),
 ];
 
-/// What lacks at an end.
-pub static ENDED: [Row; 12] = [
+/// What lacks at an end, or is one too many.
+pub static ENDED: [Row; 19] = [
     bare!("`end if;`", END_IF, If),
     bare!("`end loop;`", END_LOOP, Loop),
     bare!("`end case;`", END_CASE, Case),
@@ -146,6 +63,37 @@ pub static ENDED: [Row; 12] = [
     unended!("`end process;`", END_PROCESS, Process),
     unended!("`end generate;`", END_GENERATE, Generate),
     unended!("`end component;`", END_COMPONENT, Component),
+    row!(END_ENTITY, 1, [End Architecture] 2, [End Entity]),
+    row!(END_ARCHITECTURE, 1, [End Entity] 2, [End Architecture]),
+    spare_end!("if", If),
+    spare_end!("loop", Loop),
+    spare_end!("case", Case),
+    spare_end!("process", Process),
+    spare_end!("generate", Generate),
+];
+
+/// What is wrong with an operand, an operator or a value.
+pub static OPERANDS: [Row; 20] = [
+    row!(TWICE, 1, [And And] 1, []),
+    row!(TWICE, 1, [Or Or] 1, []),
+    row!(TWICE, 1, [Xor Xor] 1, []),
+    row!(NEGATED, 1, [Not Not] 1, []),
+    row!(SHIFT, 1, [Greater Greater] 1, []),
+    row!(SHIFT, 1, [Less Less] 1, []),
+    row!(SIGN, 0, [Minus] 0, [Identifier]),
+    row!(SIGN, 0, [Plus] 0, [Identifier]),
+    row!(BOUND, 0, [Downto] 0, [Integer]),
+    row!(BOUND, 0, [To] 0, [Integer]),
+    row!(RELATION, 0, [Equal] 1, [And]),
+    row!(RELATION, 0, [NotEqual] 1, [And]),
+    row!(RELATION, 0, [Less] 1, [And]),
+    row!(RELATION, 0, [Greater] 1, [And]),
+    row!(BITS, 1, [Integer Tick Identifier] 3, [BitString]),
+    row!(OTHERS, 1, [LessEqual Others Arrow] 3, [LessEqual]),
+    row!(OTHERS, 1, [Assign Others Arrow] 3, [Assign]),
+    row!(STEP, 0, [Plus Equal] 2, [LessEqual]),
+    row!(STEP, 0, [Minus Equal] 2, [LessEqual]),
+    row!(WORD, 1, [Identifier Identifier Equal] 3, [Identifier LessEqual]),
 ];
 
 /// What lacks between two parts.
@@ -178,7 +126,7 @@ pub static JOINTS: [Row; 20] = [
 ];
 
 /// What lacks in a declaration, or in a list.
-pub static DECLARED: [Row; 19] = [
+pub static DECLARED: [Row; 24] = [
     before!("`signal` or `constant`", OBJECT, [Identifier] Constant),
     before!("`signal`", SIGNAL, [Identifier] Signal),
     before!("`variable`", VARIABLE, [Identifier] Variable),
@@ -186,6 +134,10 @@ pub static DECLARED: [Row; 19] = [
     before!("`begin`", BEGIN, [] Begin),
     row!(TARGET, 0, [Identifier LessEqual] 0, [Colon]),
     row!(TARGET, 0, [Identifier Assign] 0, [Colon]),
+    row!(UNTYPED, 0, [Assign] 1, [Colon Identifier Assign]),
+    row!(UNTYPED, 0, [LessEqual] 1, [Colon Identifier Assign]),
+    row!(UNTYPED, 0, [Equal Integer] 1, [Colon Identifier Assign]),
+    row!(UNTYPED, 0, [Equal Character] 1, [Colon Identifier Assign]),
     before!("`:`", COLON, [] Colon),
     // Behind a slice: so an index in an expression, or in the name that is assigned, isn't taken
     // for a list of names.
@@ -193,6 +145,7 @@ pub static DECLARED: [Row; 19] = [
     row!(INDEX, 0, [] 0, [To Integer RightParen LessEqual Integer Semicolon Identifier LeftParen Integer Comma]),
     before!("`,`", COMMA, [] Comma),
     before!("`of`", OF, [] Of),
+    before!("`of`, and the name of its entity,", OF, [Is] Of Identifier),
     before!("`in`", IN, [] In),
     before!("`to` or `downto`", TO, [] To),
     before!("`map`", MAP, [] Map),
@@ -203,7 +156,7 @@ pub static DECLARED: [Row; 19] = [
 ];
 
 /// What lacks at the beginning of a statement, a list or a unit.
-pub static HEADS: [Row; 20] = [
+pub static HEADS: [Row; 23] = [
     before!("`if`", IF, [] If),
     row!(ELSIF, 2, [Else Identifier] 1, [Elsif]),
     row!(CONDITION, 0, [] 0, [LessEqual Integer Semicolon If Identifier]),
@@ -211,7 +164,10 @@ pub static HEADS: [Row; 20] = [
     before_name!("`case`", CASE, [Identifier] Case),
     before!("`component`", COMPONENT, [Identifier] Component),
     before!("`port` or `generic`", PORT, [] Port),
+    before!("`is port`", IS_PORT, [LeftParen] Is Port),
     before!("`port map`", MAP, [LeftParen] Port Map),
+    row!(PORT_MAP, 0, [Map Port] 2, [Port Map]),
+    row!(ASSOCIATIONS, 1, [Map Identifier Arrow] 3, [Map LeftParen Identifier RightParen Semicolon Identifier LessEqual]),
     before!("`entity`", ENTITY, [] Entity),
     before!("`architecture`", OF, [] Architecture),
     before!("`.`", DOT, [] Dot),
@@ -226,8 +182,14 @@ pub static HEADS: [Row; 20] = [
     row!(FORMAL, 0, [Dot Identifier LeftParen] 1, [Identifier Arrow]),
 ];
 
-/// What isn't closed.
-pub static CLOSED: [Row; 14] = [
+/// What is closed or ended too early, or isn't.
+pub static CLOSED: [Row; 20] = [
+    row!(SPARE_BEFORE, 1, [Semicolon And] 1, []),
+    row!(SPARE_BEFORE, 1, [Semicolon Or] 1, []),
+    row!(SPARE_BEFORE, 1, [Semicolon Ampersand] 1, []),
+    row!(SPARE_BEFORE, 1, [Semicolon Plus] 1, []),
+    row!(SPARE, 1, [RightParen Semicolon Begin] 2, [RightParen]),
+    row!(CLOSED_BEFORE, 2, [RightParen Semicolon Identifier] 1, []),
     before!("`end`", END, [] End),
     row!(NO_END, 1, [If Semicolon] 0, [End]),
     row!(NO_END, 1, [Case Semicolon] 0, [End]),
@@ -245,7 +207,7 @@ pub static CLOSED: [Row; 14] = [
 ];
 
 /// What stands in another place than its own.
-pub static PLACES: [Row; 27] = [
+pub static PLACES: [Row; 29] = [
     row!(OPEN_PROCESS, 0, [Process] 0, [Null Semicolon End Process Semicolon]),
     row!(OPEN_PROCESS, 0, [Entity] 0, [Null Semicolon End Process Semicolon Identifier Colon]),
     row!(OPEN_PROCESS, 0, [Component] 0, [Null Semicolon End Process Semicolon Identifier Colon]),
@@ -267,68 +229,26 @@ pub static PLACES: [Row; 27] = [
     row!(NO_IF, 0, [Elsif] 0, [If Identifier Then]),
     row!(NO_CASE, 1, [Begin When] 1, [Begin Case Identifier Is]),
     row!(NO_CASE, 1, [Then When] 1, [Then Case Identifier Is]),
-    row!(MODE, 1, [Identifier In] 2, [In Identifier]),
-    row!(MODE, 1, [Identifier Out] 2, [Out Identifier]),
-    row!(MODE, 0, [In Colon] 2, [Colon In]),
-    row!(MODE, 0, [Out Colon] 2, [Colon Out]),
-    row!(MODE, 0, [In] 1, [Signal]),
-    row!(MODE, 0, [Out] 1, [Signal]),
-];
-
-/// What else the token may be: the first counts with which the text goes on.
-pub static OTHERWISE: [Row; 42] = [
-    row!(UNIT, 1, [Integer Identifier] 1, [Integer Ampersand]),
-    row!(ARGUMENT, 2, [Tick Identifier LeftParen] 2, []),
-    row!(OPERATOR, 0, [] 0, [Ampersand]),
-    row!(OPERATOR, 0, [] 0, [And]),
-    row!(OPERATOR, 0, [] 0, [Or]),
-    row!(OPERATOR, 0, [] 0, [Xor]),
-    row!(TWO_NAMES, 0, [Identifier] 0, [Assign]),
-    in_place!("`to` or `downto`", TO, [Colon] To),
-    in_place!("`=>`", ARROW, [] Arrow),
-    in_place!("`,`", COMMA, [] Comma),
-    in_place!("`then`", THEN, [] Then),
-    in_place!("`is`", IS, [Equal] Is),
-    in_place!("`is`", IS, [Colon] Is),
-    in_place!("`is`", IS, [Semicolon] Is),
-    in_place!("`loop`", LOOP, [] Loop),
-    row!(GENERATE_OR_PROCESS, 0, [Then] 1, [Generate]),
-    in_place!("`generate`", GENERATE, [] Generate),
-    in_place!("`in`", IN, [Equal] In),
-    in_place!("`in`", IN, [Assign] In),
-    in_place!("`in`", IN, [Of] In),
-    in_place!("`:=`", ASSIGN, [LessEqual] Assign),
-    in_place!("`:=`", ASSIGN, [Colon] Assign),
-    in_place!("`:=`", ASSIGN, [Equal] Assign),
-    in_place!("`=`", COMPARE, [Assign] Equal),
-    in_place!("`<=`", ASSIGN, [Assign] LessEqual LeftParen Others Arrow Integer RightParen When Integer Else Integer Equal),
-    in_place!("`;`", END_STATEMENT, [] Semicolon),
-    in_place!("`:`", COLON, [Equal] Colon),
-    in_place!("`:`", COLON, [Is] Colon),
-    in_place!("`of`", OF, [] Of),
-    before!("`when`", CONDITIONAL, [] When),
-    row!(UNREAD, 0, [New] 1, []),
-    row!(UNREAD, 0, [Postponed] 1, []),
-    row!(SPARE, 1, [Then Semicolon] 2, [Then]),
-    row!(SPARE, 1, [Else Semicolon] 2, [Else]),
-    row!(SPARE, 1, [Is Semicolon] 2, [Is]),
-    row!(SPARE, 1, [Begin Semicolon] 2, [Begin]),
-    row!(SPARE, 1, [Loop Semicolon] 2, [Loop]),
-    row!(SPARE, 1, [Generate Semicolon] 2, [Generate]),
-    row!(UNFINISHED, 0, [Semicolon] 1, []),
-    row!(SPARE, 0, [Semicolon] 1, []),
-    row!(SPARE, 0, [Comma] 1, []),
-    row!(LEFT_OUT, 0, [] 1, []),
+    row!(MODE_IN, 1, [Identifier In] 2, [In Identifier]),
+    row!(MODE_OUT, 1, [Identifier Out] 2, [Out Identifier]),
+    row!(MODE_IN, 0, [In Colon] 2, [Colon In]),
+    row!(MODE_OUT, 0, [Out Colon] 2, [Colon Out]),
+    // Behind another port: so a declaration isn't taken for one.
+    row!(MODE_IN, 0, [In] 1, [Identifier Colon In Identifier Semicolon]),
+    row!(MODE_OUT, 0, [Out] 1, [Identifier Colon Out Identifier Semicolon]),
+    row!(NO_PORT, 0, [In] 1, [Signal]),
+    row!(NO_PORT, 0, [Out] 1, [Signal]),
 ];
 
 /// The tables of what lacks, or of what else is wrong, at the token or shortly before it; the first
 /// row counts with which the text goes on.
-pub(crate) fn missing() -> [&'static [Row]; 7]
+pub(crate) fn missing() -> [&'static [Row]; 8]
     ensures { map spec.rows_of result ≡ spec.missing_tables }
 {
     [
         slips(),
         ended(),
+        operands(),
         joints(),
         declared(),
         heads(),
@@ -349,6 +269,13 @@ fn ended() -> &'static [Row]
     ensures { spec.rows_of result ≡ spec.ended }
 {
     &ENDED
+}
+
+#[tactic(auto, unfolding(crate::specs::Told::operands))]
+fn operands() -> &'static [Row]
+    ensures { spec.rows_of result ≡ spec.operands }
+{
+    &OPERANDS
 }
 
 #[tactic(auto, unfolding(crate::specs::Told::joints))]
@@ -384,12 +311,4 @@ fn places() -> &'static [Row]
     ensures { spec.rows_of result ≡ spec.places }
 {
     &PLACES
-}
-
-/// What else the token may be.
-#[tactic(auto, unfolding(crate::specs::Told::other_rows))]
-pub(crate) fn otherwise() -> &'static [Row]
-    ensures { spec.rows_of result ≡ spec.other_rows }
-{
-    &OTHERWISE
 }

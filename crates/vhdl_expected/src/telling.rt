@@ -6,9 +6,11 @@ ghost use Rattle.vhdl_expected.specs.Changes.{said_of};
 ghost use Rattle.vhdl_expected.specs.Reading.{IsWithin, reading_of};
 ghost use Rattle.vhdl_expected.specs.Told as spec;
 
+use crate::otherwise::otherwise;
 use crate::reading::{MOST_TOKENS, Reading, halves_at, joined};
+use crate::reserved::named;
 use crate::respelling::respelt;
-use crate::table::{missing, otherwise};
+use crate::table::missing;
 use crate::texts::Said;
 use crate::trial::{first_among, first_said};
 use std::alloc::{AllocError, Global};
@@ -82,19 +84,32 @@ fn told(alloc: Global, reading: Reading<'_>) -> Result<Expected, AllocError>
     }
 }
 
-/// What is said of a word that is meant, or else of what lacks.
+/// What is said of a word that is meant, or else of what lacks or is a reserved word.
 fn surely(alloc: Global, reading: Reading<'_>) -> Result<Option<Said>, AllocError>
     requires within { IsWithin reading }
     requires place { reading.refused ≤ length reading.tokens.now }
-    ensures { IfOk result (λ said. spec.Finds (reading_of reading.entry)
-        (spec.respelt (reading_of reading.entry) ++ spec.missing (reading_of reading.entry))
+    ensures { IfOk result (λ said. spec.Finds (reading_of reading.entry) (spec.sure (reading_of reading.entry))
         (option_map said_of said)) }
 {
     let said = respelt(alloc, reading)?;
     if said.is_some() {
         return Ok(said);
     }
-    first_among(alloc, reading, &missing())
+    lacking(alloc, reading)
+}
+
+/// What is said of what lacks, or else of a reserved word.
+fn lacking(alloc: Global, reading: Reading<'_>) -> Result<Option<Said>, AllocError>
+    requires within { IsWithin reading }
+    requires place { reading.refused ≤ length reading.tokens.now }
+    ensures { IfOk result (λ said. spec.Finds (reading_of reading.entry)
+        (spec.missing (reading_of reading.entry) ++ spec.named (reading_of reading.entry)) (option_map said_of said)) }
+{
+    let said = first_among(alloc, reading, &missing())?;
+    if said.is_some() {
+        return Ok(said);
+    }
+    named(alloc, reading)
 }
 
 /// What is told where neither is.

@@ -1,109 +1,117 @@
 //! What is told of a change: what is wrong, and what helps.
 
+use crate::help::{ASSIGN, CLOSE_LIST, COMPARE, END, IF, MAP, OUTSIDE, OUTSIDE_IF, TO};
+
 /// What is wrong, and what a designer does about it.
 pub type Said = (&'static str, &'static str);
 
-pub const THEN: &str = "an if and each elsif go on with then behind the condition";
-
-pub const IS: &str = "write entity e is, architecture a of e is, case s is, type t is";
-
-pub const LOOP: &str = "write for i in 0 to 3 loop, and end loop; behind its statements";
-
-pub const GENERATE: &str =
-    "write g : for i in 0 to 3 generate, or g : if n = 1 generate, and end generate; behind its statements";
-
-pub const END_IT: &str =
-    "end by it what stands before: where this begins a line, at the end of the line before";
-
-pub const CLOSE: &str = "close the parenthesis that is open here";
-
-pub const OPEN: &str = "open the parenthesis that is closed behind it";
-
-pub const ARROW: &str =
-    "write => behind a choice, behind others, and between a formal and its actual";
-
-pub const ASSIGN: &str =
-    "assign a signal by <= and a variable by :=, and write := before the value in a declaration";
-
-pub const SIGNAL: &str = "begin the declaration of a signal with that word";
-
-pub const OBJECT: &str =
-    "begin the declaration of a signal with signal, and that of a constant with constant";
-
-pub const VARIABLE: &str = "begin the declaration of a variable with that word";
-
-pub const TYPE: &str = "write type t is (a, b, c);";
-
-pub const BEGIN: &str =
-    "write begin between the declarations and the statements of an architecture or a process";
-
-pub const COLON: &str = "write : between a name and its type, and behind a label";
-
-pub const COMMA: &str = "part names, associations and selected values by commas";
-
-pub const OF: &str = "write architecture a of e is";
-
-pub const IN: &str = "write for i in 0 to 3";
-
-pub const TO: &str = "write (7 downto 0), or (0 to 7)";
-
-pub const MAP: &str = "write port map (..) and generic map (..)";
-
-pub const SELECT: &str = "write with s select y <= a when '0', b when others;";
-
-pub const CONDITIONAL: &str = "write y <= a when s = '1' else b;";
-
-pub const ALTERNATIVE: &str = "begin each alternative of a case with when";
-
-pub const PROCESS: &str =
-    "write process before the sensitivity list, and end process; behind the last statement";
-
-pub const IF: &str = "begin an if with if, and each further condition of it with elsif";
-
-pub const CASE: &str = "write case s is, and when before each choice";
-
-pub const COMPONENT: &str =
-    "write component k before its generics and ports, and end component; behind them";
-
-pub const PORT: &str =
-    "write generic before a list of generics, port before one of ports, and map behind them in an instance";
-
-pub const ENTITY: &str = "write entity e is, and entity work.e in an instance";
-
-pub const DOT: &str = "write use ieee.std_logic_1164.all; and entity work.e";
-
-pub const ALL: &str = "write use ieee.std_logic_1164.all;";
-
-pub const LIBRARY: &str = "write library ieee; and use ieee.std_logic_1164.all;";
-
-pub const END: &str =
-    "each if, case, loop, process, generate, component, entity and architecture has an end of its own";
-
-pub const END_UNIT: &str = "end the entity or architecture before the next one begins";
-
-pub const CLOSE_LIST: &str = "close the list of ports or generics, and end it by a `;`";
-
-pub const END_IF: &str =
-    "each if has an end if; of its own, and else if begins another one: write elsif";
-
-pub const END_CASE: &str = "each case has an end case; of its own";
-
-pub const END_LOOP: &str = "each loop has an end loop; of its own";
-
-pub const END_PROCESS: &str = "each process has an end process; of its own";
-
-pub const END_GENERATE: &str = "each generate has an end generate; of its own";
-
-pub const END_COMPONENT: &str = "each component has an end component; of its own";
-
-pub const END_STATEMENT: &str = "end each statement and declaration by a `;`";
-
-pub const COMPARE: &str = "two values are compared by =, and by /= where they differ";
-
-pub const LABEL: &str = "write g : for i in 0 to 3 generate, and u : entity work.e port map (..)";
-
 /// What is told where two tokens are the same.
 pub const TWICE: Said = ("is written twice", "leave one of the two out");
+
+/// What is told of a second `not`.
+pub const NEGATED: Said = (
+    "can't stand here: `not` stands before a name, a literal or a parenthesis",
+    "write not (not a), or a",
+);
+
+/// What is told of a shift by a delimiter.
+pub const SHIFT: Said = (
+    "can't stand here: a shift is a function of unsigned",
+    "write shift_left(u, 1) or shift_right(u, 1)",
+);
+
+/// What is told of a sign behind an operator.
+pub const SIGN: Said = (
+    "can't stand here: no sign stands behind an operator",
+    "write u - 1 for u + -1, and u + 1 for u - -1",
+);
+
+/// What is told of a range with one bound.
+pub const BOUND: Said = ("can't stand here: a bound is expected before it", TO);
+
+/// What is told of a relation behind another.
+pub const RELATION: Said = (
+    "can't stand here: a relation stands before it, and none follows another",
+    "join relations by and or or: a = '1' and b = '0'",
+);
+
+/// What is told of a literal with a length and a base.
+pub const BITS: Said = (
+    "can't stand here: a literal of bits has no length before it",
+    "write \"0101\", b\"0101\" or x\"5\" for a vector, and '1' for one element",
+);
+
+/// What is told of an aggregate without parentheses.
+pub const OTHERS: Said = (
+    "can't stand here: parentheses are expected around it and its value",
+    "write (others => '0')",
+);
+
+/// What is told of an operator within an assignment.
+pub const STEP: Said = (
+    "can't stand here: an assignment has no operator in it",
+    "write n <= n + 1; for a signal, and n := n + 1; for a variable",
+);
+
+/// What is told of a word before an assignment with `=`.
+pub const WORD: Said = (
+    "can't stand here: an assignment begins with its target, and no word before that",
+    "write y <= a;",
+);
+
+/// What is told where an operand lacks.
+pub const OPERAND: Said = (
+    "can't stand here: a name or a value is expected before it",
+    "write what lacks there",
+);
+
+/// What is told of a `)` of its own.
+pub const NOT_OPEN: Said = (
+    "can't stand here: no parenthesis is open before it",
+    "open it where it has to begin, or leave this one out",
+);
+
+/// What is told of a declaration without a type.
+pub const UNTYPED: Said = (
+    "can't stand here: `:` and a type are expected before the value",
+    "write constant n : integer := 9; or signal s : std_logic := '0';",
+);
+
+/// What is told of an architecture's end at an entity.
+pub const END_ENTITY: Said = (
+    "can't follow this end: it ends an entity",
+    "write end entity;",
+);
+
+/// What is told of an entity's end at an architecture.
+pub const END_ARCHITECTURE: Said = (
+    "can't follow this end: it ends an architecture",
+    "write end architecture;",
+);
+
+/// What is told where two words stand the other way round.
+pub const PORT_MAP: Said = (
+    "can't stand here: `port map` is expected in place of it and the word behind it",
+    MAP,
+);
+
+/// What is told where a map has no parentheses.
+pub const ASSOCIATIONS: Said = (
+    "can't stand here: `(` is expected before it",
+    "write port map (a => b, c => d)",
+);
+
+/// What is told where a list is closed before its end.
+pub const CLOSED_BEFORE: Said = (
+    "can't stand here: the `)` before the `;` before it closes the list too early",
+    "leave that `)` out, and close the list behind its last declaration",
+);
+
+/// What is told of a reserved word where a name has to stand.
+pub const RESERVED: Said = (
+    "is a reserved word, and no name",
+    "take another name, wherever it stands",
+);
 
 /// What is told where a range has points.
 pub const POINTS: Said = (
@@ -195,10 +203,22 @@ pub const AROUND: Said = (
     "write process (a, b)",
 );
 
-/// What is told where the mode of a port stands before its names.
-pub const MODE: Said = (
+/// What is told where the mode of an in port stands before or behind its names.
+pub const MODE_IN: Said = (
+    "can't stand here: the mode of a port stands between its `:` and its type",
+    "write a : in std_logic",
+);
+
+/// The same of an out port.
+pub const MODE_OUT: Said = (
     "can't stand here: the mode of a port stands between its `:` and its type",
     "write y : out std_logic",
+);
+
+/// What is told where a port is declared in an architecture.
+pub const NO_PORT: Said = (
+    "can't stand here: ports are declared in the entity",
+    "declare it in the port list of the entity, or as a signal: signal a : std_logic;",
 );
 
 /// What is told where a port has two modes.
@@ -246,7 +266,7 @@ pub const NO_END: Said = (
 /// What is told where no if goes on.
 pub const NO_IF: Said = (
     "can't stand here: no if is open above it, or the else of that has begun",
-    "write if .. then above it, move it before the end if; that is above it, or put the else last",
+    "write if .. then above it, move it before the end if; that is above it, or put the else last; in a case write when others =>",
 );
 
 /// What is told where no case is begun.
@@ -290,11 +310,6 @@ pub const SELECTED: Said = (
     "can't stand in a process: a selected assignment stands outside of one",
     "end the process before it, or write case s is in place of it",
 );
-
-pub const OUTSIDE_IF: &str = "write g : if n = 1 generate, or process (all) begin above the if";
-
-pub const OUTSIDE: &str =
-    "end a process by end process; before the next one, an instance, a generate or a selected assignment";
 
 /// What is told where an operator lacks.
 pub const OPERATOR: Said = (

@@ -1,6 +1,6 @@
 //! Trials: whether a text goes on with a change of one of its tokens.
 
-ghost use Rattle.std.specs.Prelude.{◌≡◌, ◌≤◌, true, false, flat_map, length, map, option_map, IfOk};
+ghost use Rattle.std.specs.Prelude.{◌≡◌, ◌≤◌, ◌∷◌, [], true, false, flat_map, length, map, option_map, IfOk};
 ghost use Rattle.vhdl_lexer.specs.Cut.{AreWithin};
 ghost use Rattle.vhdl_tree.specs.Lexeme.{same_kind};
 ghost use Rattle.vhdl_expected.specs.Changes.{GoesOn, Breaks, change_of, said_of};
@@ -9,7 +9,7 @@ ghost use Rattle.vhdl_expected.specs.Told as spec;
 
 use crate::change::{behind, changed};
 use crate::reading::Reading;
-use crate::table::{Change, Row};
+use crate::row::{Change, Row};
 use crate::texts::Said;
 use std::alloc::{AllocError, Global};
 use vhdl_lexer::{Token, TokenKind};
@@ -71,8 +71,7 @@ fn tried_as(alloc: Global, reading: Reading<'_>, row: Row) -> Result<Option<Said
     if !stand(kinds, behind(reading.tokens, place)) {
         return Ok(None);
     }
-    let goes_on = goes_on_with(alloc, reading, place, (put, taken, said))?;
-    Ok(if goes_on { Some(said) } else { None })
+    tried(alloc, reading, place, (put, taken, said))
 }
 
 /// Whether tokens of these kinds stand first.
@@ -93,26 +92,28 @@ fn stand(mut kinds: &[TokenKind], mut tokens: &[Token]) -> bool
 }
 
 #[tactic(auto, unfolding(vhdl_tree::specs::Lexeme::same_kind))]
-fn is_same_kind(first: TokenKind, second: TokenKind) -> bool
+pub(crate) fn is_same_kind(first: TokenKind, second: TokenKind) -> bool
     ensures { result ≡ same_kind first second }
 {
     first == second
 }
 
-/// Whether the text goes on with a change of the token at a place. Where too many levels are open,
-/// it counts as one that doesn't.
-pub(crate) fn goes_on_with(
+/// What is said of a change of the token at a place, where the text goes on with it. Where too many
+/// levels are open, it counts as one that doesn't.
+pub(crate) fn tried(
     alloc: Global,
     reading: Reading<'_>,
     place: usize,
     change: Change,
-) -> Result<bool, AllocError>
+) -> Result<Option<Said>, AllocError>
     requires within { IsWithin reading }
     requires place { place ≤ length reading.tokens.now }
-    ensures { IfOk result (λ on. spec.Answers (reading_of reading.entry) (spec.at place (change_of change.entry)) on) }
+    ensures { IfOk result (λ said. spec.Finds (reading_of reading.entry) (spec.at place (change_of change.entry) ∷ [])
+        (option_map said_of said)) }
 {
     let tokens = changed(alloc, reading.tokens, place, change)?;
-    goes_on(alloc, reading.source, &tokens)
+    let goes_on = goes_on(alloc, reading.source, &tokens)?;
+    Ok(if goes_on { Some(change.2) } else { None })
 }
 
 /// Whether some tokens behind these make a file of them.

@@ -129,7 +129,8 @@ pub const OTHER_LOOP: Said = (
 
 pub const AGGREGATE: Said = (
     "isn't read here: the only aggregate is (others => value), and a formal is a whole port",
-    "write a & b for (a, b); assign (others => '0') first and then the element that differs",
+    "write a & b for (a, b), and \"0001\" for (0 => '1', others => '0'); or assign (others => '0') first and then \
+     the element that differs",
 );
 
 /// A logical operator before one vector.
@@ -173,6 +174,12 @@ pub const ACTUAL: Said = (
 pub const DEFAULT: Said = (
     "can't stand here: the value of a constant and a default are one literal, another constant or (others => value)",
     "write the value itself, and assign what is computed to a signal",
+);
+
+/// What is no literal, behind `when` or `|`.
+pub const CHOICE: Said = (
+    "is no choice: that is a literal of the selector's type, or a constant",
+    "write when \"0000\" of a vector or unsigned, '0' of one element, and a literal of an enumeration",
 );
 
 /// Vector types without a range.

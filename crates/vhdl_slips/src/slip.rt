@@ -13,8 +13,19 @@ pub const GENERATE: Said = (
 );
 
 pub const ELSE_GENERATE: Said = (
-    "can't stand here: else follows a condition, with no `;` between, and a generate has none",
+    "can't stand here: a generate has no else or elsif, and in an assignment else follows a condition, with no `;` between",
     "write y <= a when s = '1' else b;, and in place of else generate another generate of the opposite condition",
+);
+
+pub const CASE_GENERATE: Said = (
+    "can't stand here: a case stands in a process, and no generate is one",
+    "write process (all) begin above it, and end process; below its end; in place of case generate write an if \
+     generate for each choice: g0 : if n = 0 generate",
+);
+
+pub const GENERICS: Said = (
+    "can't stand here: generics stand before ports",
+    "move it before the ports: generic (..); port (..); in an entity, generic map (..) port map (..) in an instance",
 );
 
 pub const UNENDED: Said = (

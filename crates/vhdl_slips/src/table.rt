@@ -1,22 +1,22 @@
 //! The words at which forms of VHDL begin that aren't read, and slips of the pen.
 
 use crate::form::{
-    ABSOLUTE, ACTUAL, AGGREGATE, ALIAS, ARRAY, ATTRIBUTE, BLOCK, Behind, DEFAULT, DELAY,
+    ABSOLUTE, ACTUAL, AGGREGATE, ALIAS, ARRAY, ATTRIBUTE, BLOCK, Behind, CHOICE, DEFAULT, DELAY,
     DYNAMIC_INDEX, ELEMENT, FormWord, INSTANCE, MESSAGE, MODE, NUMBER_RANGE, ORDER, OTHER_LOOP,
     OTHER_TYPE, PACKAGE, POWER, QUALIFIED, RANGE_ATTRIBUTE, RECORD, REDUCTION, SECOND_INDEX, SHIFT,
     SIGNED, SUBPROGRAM, SUBTYPE, VECTOR, WAIT, WHOLE_NUMBERS,
 };
 use crate::slip::{
-    ALTERNATIVE, ARROW, BEGIN, BEGIN_LINE, CASE_IS, CHOICE_RANGE, CHOICES, COMMA, COMMENT,
-    CONDITIONAL, DECLARATION, DECLARATION_LINE, ELSE_CONDITION, ELSE_GENERATE, EQUALITIES,
-    EQUALITY, FORMAL, GENERATE, LIST_END, LOGIC, LOOP_RANGE, MIXED_LOGIC, NAME, NAMES, NEW_LINE,
-    OTHERS, PORT_MAP, QUOTES, SELECTED, SLIP, TARGET, UNENDED, VARIABLE, VECTOR_GENERIC, WHEN,
-    WHEN_LINE,
+    ALTERNATIVE, ARROW, BEGIN, BEGIN_LINE, CASE_GENERATE, CASE_IS, CHOICE_RANGE, CHOICES, COMMA,
+    COMMENT, CONDITIONAL, DECLARATION, DECLARATION_LINE, ELSE_CONDITION, ELSE_GENERATE, EQUALITIES,
+    EQUALITY, FORMAL, GENERATE, GENERICS, LIST_END, LOGIC, LOOP_RANGE, MIXED_LOGIC, NAME, NAMES,
+    NEW_LINE, OTHERS, PORT_MAP, QUOTES, SELECTED, SLIP, TARGET, UNENDED, VARIABLE, VECTOR_GENERIC,
+    WHEN, WHEN_LINE,
 };
 use vhdl_lexer::TokenKind;
 
 /// The words at which slips of the pen are told; of two lines that fit the first counts.
-pub static SLIPS: [FormWord; 60] = [
+pub static SLIPS: [FormWord; 64] = [
     (b"", Behind::Kind(TokenKind::Signal), NAME),
     (b"", Behind::Kind(TokenKind::Variable), NAME),
     (b"", Behind::Kind(TokenKind::Constant), NAME),
@@ -24,6 +24,10 @@ pub static SLIPS: [FormWord; 60] = [
     (b"loop", Behind::Concurrent, GENERATE),
     (b"loop", Behind::Operand, LOOP_RANGE),
     (b"else", Behind::Concurrent, ELSE_GENERATE),
+    (b"elsif", Behind::Concurrent, ELSE_GENERATE),
+    (b"case", Behind::Concurrent, CASE_GENERATE),
+    (b"generic", Behind::Kind(TokenKind::Semicolon), GENERICS),
+    (b"generic", Behind::Kind(TokenKind::RightParen), GENERICS),
     (b"if", Behind::Kind(TokenKind::Else), ELSE_CONDITION),
     (b"when", Behind::Kind(TokenKind::Else), ELSE_CONDITION),
     (b"when", Behind::Target, SELECTED),
@@ -81,7 +85,7 @@ pub static SLIPS: [FormWord; 60] = [
 
 /// The words at which a form begins that the grammar hasn't, where none of these slips is told; of
 /// two lines that fit the first counts.
-pub static UNREAD: [FormWord; 71] = [
+pub static UNREAD: [FormWord; 73] = [
     (b"range", Behind::Kind(TokenKind::Tick), RANGE_ATTRIBUTE),
     (b"range", Behind::Anything, NUMBER_RANGE),
     (b"array", Behind::Anything, ARRAY),
@@ -122,6 +126,8 @@ pub static UNREAD: [FormWord; 71] = [
     (b"next", Behind::Anything, OTHER_LOOP),
     (b"exit", Behind::Anything, OTHER_LOOP),
     (b"when", Behind::Anything, CONDITIONAL),
+    (b"to", Behind::Opener(TokenKind::LeftParen), AGGREGATE),
+    (b"downto", Behind::Opener(TokenKind::LeftParen), AGGREGATE),
     (b"=>", Behind::Opener(TokenKind::LeftParen), AGGREGATE),
     (b"=>", Behind::Opener(TokenKind::Comma), AGGREGATE),
     (b"=>", Behind::Anything, ARROW),
@@ -156,7 +162,7 @@ pub static UNREAD: [FormWord; 71] = [
 ];
 
 /// The names of packages, types and attributes that are left out.
-pub static LEFT_OUT: [FormWord; 29] = [
+pub static LEFT_OUT: [FormWord; 31] = [
     (b"", Behind::Kind(TokenKind::Arrow), ACTUAL),
     (b"", Behind::Opener(TokenKind::Map), ACTUAL),
     (b"high", Behind::Kind(TokenKind::Tick), RANGE_ATTRIBUTE),
@@ -186,4 +192,6 @@ pub static LEFT_OUT: [FormWord; 29] = [
     (b"character", Behind::Anything, OTHER_TYPE),
     (b"time", Behind::Anything, OTHER_TYPE),
     (b"", Behind::Kind(TokenKind::Assign), DEFAULT),
+    (b"", Behind::Kind(TokenKind::When), CHOICE),
+    (b"", Behind::Kind(TokenKind::Bar), CHOICE),
 ];

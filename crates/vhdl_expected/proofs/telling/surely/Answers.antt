@@ -1,22 +1,22 @@
-use Rattle.std.proofs.Common.{◌++◌, List, Option, flat_map, map, option_map, sym, subst, ◌∙◌}
+use Rattle.std.proofs.Common.{◌++◌, Option, option_map, sym, ◌∙◌}
 use Rattle.std.proofs.lemmas.Result.{IfOk-weaker}
 use Rattle.vhdl_expected.specs.Changes.{Texts, said_of}
 use Rattle.vhdl_expected.specs.Reading.{reading_of}
-use Rattle.vhdl_expected.specs.Told.{Finds, Row, missing, respelt, rows_of, tried_in}
+use Rattle.vhdl_expected.specs.Told.{Finds, missing, named, respelt, sure}
 use Rattle.vhdl_expected.proofs.Trials.{some_first, none_first}
 use Rattle.vhdl_expected.proofs.telling.surely.Goals as goal
 
 pub returns-then-is_some : goal.returns-then-is_some
 returns-then-is_some c =
     let r = reading_of c.args.reading in
-    some_first r said_of c.in_ok-said.said (respelt r) (missing r) (sym c.is_some.ensures ∙ c.if-is_some.true) c.in_ok-said.ensures
+    some_first r said_of c.in_ok-said.said (respelt r) (missing r ++ named r) (sym c.is_some.ensures ∙ c.if-is_some.true) c.in_ok-said.ensures
 
 pub returns : goal.returns
 returns c =
     let r = reading_of c.args.reading in
-    IfOk-weaker c.first_among.result
-    (λ (said : Option Texts). Finds r (flat_map (tried_in r) (map rows_of c.missing.result)) (option_map said_of said))
-    (λ (said : Option Texts). Finds r (respelt r ++ missing r) (option_map said_of said))
-    (λ said h. none_first r said_of c.in_ok-said.said (respelt r) (missing r) (option_map said_of said) (sym c.is_some.ensures ∙ c.if-is_some.false) c.in_ok-said.ensures
-    (subst (λ (tables : List (List Row)). Finds r (flat_map (tried_in r) tables) (option_map said_of said)) c.missing.ensures h))
-    c.first_among.ensures
+    IfOk-weaker c.lacking.result
+    (λ (said : Option Texts). Finds r (missing r ++ named r) (option_map said_of said))
+    (λ (said : Option Texts). Finds r (sure r) (option_map said_of said))
+    (λ said h. none_first r said_of c.in_ok-said.said (respelt r) (missing r ++ named r) (option_map said_of said) (sym c.is_some.ensures ∙ c.if-is_some.false)
+    c.in_ok-said.ensures h)
+    c.lacking.ensures

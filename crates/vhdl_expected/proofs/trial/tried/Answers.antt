@@ -1,6 +1,6 @@
 use Rattle.vhdl_expected.specs.Changes.{change_of}
 use Rattle.vhdl_expected.proofs.Within.{within_changed}
-use Rattle.vhdl_expected.proofs.trial.goes_on_with.Goals as goal
+use Rattle.vhdl_expected.proofs.trial.tried.Goals as goal
 
 pub goes_on-requires : goal.goes_on-requires
 goes_on-requires c =

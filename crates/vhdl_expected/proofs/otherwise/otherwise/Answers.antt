@@ -1,6 +1,6 @@
 use Rattle.std.proofs.Common.{refl}
 use Rattle.vhdl_expected.specs.Told.{other_rows}
-use Rattle.vhdl_expected.proofs.table.otherwise.Goals as goal
+use Rattle.vhdl_expected.proofs.otherwise.otherwise.Goals as goal
 
 pub returns : goal.returns
 unfolding other_rows
