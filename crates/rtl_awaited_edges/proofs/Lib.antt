@@ -1,3 +1,3 @@
 pub mod Edges
 pub mod Leading
-pub mod Following
+pub mod FirstAwaited

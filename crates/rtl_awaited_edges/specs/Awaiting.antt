@@ -1,5 +1,6 @@
 -- The edges without which clocked processes assign nothing.
 use Rattle.std.specs.Prelude.{◌≡◌, ℕ, ◌<◌, Bool, true, false, List, [], ◌∷◌, length, slice_index, slice_index_or, Option, Some, None}
+use Rattle.std.specs.Option.{option_or}
 use Rattle.vhdl_values.specs.Edges.{has_edge}
 use Rattle.vhdl_values.specs.Scalar.{value_of_code}
 use Rattle.rtl_model.specs.simulation.Netlist as m
@@ -35,21 +36,16 @@ pub record AreLeaders (edges : List (Option ClockEdge)) (leaders : List ℕ) : T
   pub there : (p : ℕ) → p < length edges → slice_index leaders p < length edges
   pub alike : (p : ℕ) → p < length edges → slice_index_or edges (slice_index leaders p) None ≡ slice_index_or edges p None
 
--- the first of two edges, where it is one
-abbrev pub or_else : Option ClockEdge → Option ClockEdge → Option ClockEdge
-or_else (Some e) other = Some e
-or_else None other = other
-
--- the edge of the first of these processes that awaits one
+-- the first edge that one of these processes awaits
 abbrev pub first_edge : List m.Process → Option ClockEdge
 first_edge [] = None
-first_edge (p ∷ ps) = or_else (edge_of_kind p.kind) (first_edge ps)
+first_edge (p ∷ ps) = option_or (edge_of_kind p.kind) (first_edge ps)
 
--- that of all processes, and marks of processes that await just that one
-pub record AreFollowers (net : m.Netlist) (awaited : Option ClockEdge) (followers : List Bool) : Type 0 where
+-- the first edge that a process of the netlist awaits, and marks of processes that await it
+pub record AwaitFirst (net : m.Netlist) (awaited : Option ClockEdge) (await_it : List Bool) : Type 0 where
   pub first : awaited ≡ first_edge net.processes
-  pub each_process : length followers ≡ length net.processes
-  pub each : (p : ℕ) → slice_index_or followers p false ≡ true → awaited_edge net p ≡ awaited
+  pub each_process : length await_it ≡ length net.processes
+  pub each : (p : ℕ) → slice_index_or await_it p false ≡ true → awaited_edge net p ≡ awaited
 
 -- there is an edge that is awaited, and it isn't there
 abbrev pub IsAsleep : Option ClockEdge → (before now : List ℕ) → Type 0

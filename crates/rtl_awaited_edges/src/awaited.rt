@@ -2,9 +2,9 @@
 
 ghost use Rattle.std.specs.Prelude.{◌≡◌, ◌<◌, length, slice_index_or, IfSome, IfOk, IsSome, None, true};
 ghost use Rattle.rtl_net.specs.Core.{core};
-ghost use Rattle.rtl_awaited_edges.specs.Awaiting.{AreEdges, AreFollowers, AreLeaders, IsAsleep, edge_alone, or_else};
+ghost use Rattle.rtl_awaited_edges.specs.Awaiting.{AreEdges, AreLeaders, AwaitFirst, IsAsleep, edge_alone};
 
-use rtl_body_facts::{ProcessKind, kind_of};
+use rtl_body_facts::{Clocking, ProcessKind, kind_of};
 use rtl_eval::nine;
 use rtl_net::Net;
 use std::alloc::{AllocError, Global};
@@ -31,32 +31,19 @@ pub fn edges_of(alloc: Global, net: &Net) -> Result<Vec<Option<ClockEdge>>, Allo
     Ok(edges)
 }
 
-/// The edge of the first process that awaits one, and for each process whether it awaits just that
-/// one.
-pub fn followers_of(alloc: Global, net: &Net) -> Result<(Option<ClockEdge>, Vec<bool>), AllocError>
-    ensures { IfOk result (λ r. AreFollowers (core net.now) r.0 r.1.items) }
+/// The first edge that a process awaits, and for each process whether it awaits that one.
+pub fn first_awaited(alloc: Global, net: &Net) -> Result<(Option<ClockEdge>, Vec<bool>), AllocError>
+    ensures { IfOk result (λ r. AwaitFirst (core net.now) r.0 r.1.items) }
 {
-    net.is_elaborated();
-    let inputs = net.inputs();
-    let processes = net.processes();
+    let edges = edges_of(alloc, net)?;
     let mut awaited = None;
-    let mut followers = Vec::with_capacity(alloc, processes.len())?;
-    for process in processes {
-        let edge = edge_alone(kind_of(inputs, &process.body));
-        awaited = or_else(awaited, edge);
-        followers.push(are_alike(edge, awaited))?;
+    let mut await_it = Vec::with_capacity(alloc, edges.len())?;
+    for process in 0..edges.len() {
+        let edge = edges[process];
+        awaited = awaited.or(edge);
+        await_it.push(are_alike(edge, awaited))?;
     }
-    Ok((awaited, followers))
-}
-
-/// The first of two edges, where it is one.
-fn or_else(first: Option<ClockEdge>, other: Option<ClockEdge>) -> Option<ClockEdge>
-    ensures { result ≡ or_else first other }
-{
-    match first {
-        Some(_) => first,
-        None => other,
-    }
+    Ok((awaited, await_it))
 }
 
 /// The edge of a clocked process that has no reset.
@@ -64,13 +51,14 @@ fn edge_alone(kind: ProcessKind) -> Option<ClockEdge>
     ensures { result ≡ edge_alone kind }
 {
     match kind {
-        ProcessKind::Clocked(clocking) => match clocking.reset {
-            Some(_) => None,
-            None => Some(ClockEdge {
-                clock: clocking.clock,
-                edge: clocking.edge,
-            }),
-        },
+        ProcessKind::Clocked(
+            Clocking {
+                clock,
+                edge,
+                reset: None,
+                ..
+            },
+        ) => Some(ClockEdge { clock, edge }),
         _ => None,
     }
 }
@@ -125,12 +113,9 @@ fn are_alike(one: Option<ClockEdge>, other: Option<ClockEdge>) -> bool
     ensures alike { result ≡ true → one ≡ other }
     ensures some { result ≡ true → IsSome one }
 {
-    match one {
-        Some(one) => match other {
-            Some(other) => one.clock == other.clock && is_edge(one.edge, other.edge),
-            None => false,
-        },
-        None => false,
+    match (one, other) {
+        (Some(one), Some(other)) => one.clock == other.clock && is_edge(one.edge, other.edge),
+        _ => false,
     }
 }
 
@@ -138,23 +123,10 @@ fn are_alike(one: Option<ClockEdge>, other: Option<ClockEdge>) -> bool
 fn is_edge(one: Edge, other: Edge) -> bool
     ensures { result ≡ true → one ≡ other }
 {
-    match one {
-        Edge::Rising => match other {
-            Edge::Rising => true,
-            _ => false,
-        },
-        Edge::Falling => match other {
-            Edge::Falling => true,
-            _ => false,
-        },
-        Edge::To1 => match other {
-            Edge::To1 => true,
-            _ => false,
-        },
-        Edge::To0 => match other {
-            Edge::To0 => true,
-            _ => false,
-        },
+    match (one, other) {
+        (Edge::Rising, Edge::Rising) | (Edge::Falling, Edge::Falling) => true,
+        (Edge::To1, Edge::To1) | (Edge::To0, Edge::To0) => true,
+        _ => false,
     }
 }
 

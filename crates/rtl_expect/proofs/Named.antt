@@ -1,5 +1,5 @@
 -- Signals found by a table of their names.
-use Rattle.std.proofs.Common.{◌≡◌, ℕ, suc, ◌+◌, ◌<◌, ◌≤◌, ◌-◌, Bool, true, false, List, [], ◌∷◌, ◌++◌, length, map, drop, get_or, slice_get, Option, Some, None, Vec, refl, sym, ap, ◌∙◌, append_assoc, arith}
+use Rattle.std.proofs.Common.{◌≡◌, ℕ, suc, ◌+◌, ◌<◌, ◌≤◌, ◌-◌, Bool, true, false, List, [], ◌∷◌, length, map, drop, get_or, slice_get, Option, Some, None, Vec, refl, sym, ap, ◌∙◌, arith}
 use Rattle.std.specs.Prelude.{if◌then◌else◌, bytes_eq, option_map}
 use Rattle.std.specs.Global.{Global}
 use Rattle.std.specs.HashMap.{HashMap, Updates, get_by}
@@ -132,11 +132,3 @@ found_signal net signals name number s views F is =
     let kept = signal_at net signals views number s s (number_there net signals name number views F) is in
     let same : F.signal ≡ signal_view s = one_signal F.signal (signal_view s) (slice_get net.signals F.place) F.there (ap (slice_get net.signals) (sym at) ∙ kept) in
     sym (F.is ∙ ap (λ (x : SignalView). Some (number, x)) same)
-
--- ---- texts
-
-pub behind_labels : (old first second new before label dot whole : List ℕ) → first ≡ old ++ before → second ≡ first ++ label → new ≡ second ++ dot → whole ≡ before ++ label ++ dot
-    → new ≡ old ++ whole
-behind_labels old first second new before label dot whole a b c is =
-    c ∙ ap (λ (xs : List ℕ). xs ++ dot) (b ∙ ap (λ (xs : List ℕ). xs ++ label) a ∙ append_assoc old before label) ∙ append_assoc old (before ++ label) dot
-    ∙ ap (λ (xs : List ℕ). old ++ xs) (sym is)

@@ -1,7 +1,8 @@
 //! Signals by their full names.
 
-ghost use Rattle.std.specs.Prelude.{◌≡◌, ◌<◌, ◌++◌, if◌then◌else◌, Some, length, map, option_map, IfOk, OnOk, IfSome};
+ghost use Rattle.std.specs.Prelude.{◌≡◌, ◌<◌, if◌then◌else◌, Some, length, map, option_map, IfOk, OnOk, IfSome};
 ghost use Rattle.rtl_model.specs.bodies.Fits.{IsWidth};
+ghost use Rattle.byte_streams.specs.Written.{Goes};
 ghost use Rattle.rtl_net.specs.Nets.{scope_view, signal_view};
 ghost use Rattle.rtl_net.specs.Elaborated.{AreScopes};
 ghost use Rattle.rtl_stim_lines.specs.Lines.{Word};
@@ -9,6 +10,7 @@ ghost use Rattle.rtl_expect.specs.Names as names;
 ghost use Rattle.rtl_expect.specs.Lines as lines;
 ghost use Rattle.rtl_expect.specs.Naming.{HasNumbers, kept_number};
 
+use byte_streams::{Out, Sink, push_text};
 use rtl_net::{Net, Scope, Signal};
 use std::alloc::{AllocError, Global};
 use std::collections::HashMap;
@@ -59,26 +61,37 @@ fn full_name(alloc: Global, scopes: &[Scope], signal: &Signal) -> Result<Vec<u8>
     requires there { signal.now.scope < length scopes.now }
     ensures { IfOk result (λ name. name.items ≡ names.full_name (map scope_view scopes.now) (signal_view signal.now)) }
 {
-    let mut name = Vec::new(alloc);
-    add_labels(scopes, signal.scope, &mut name)?;
-    name.extend_from_slice(&signal.name)?;
-    Ok(name)
+    let mut name = Out::new(Vec::new(alloc));
+    push_name(scopes, signal, &mut name);
+    if name.failed() {
+        return Err(AllocError);
+    }
+    Ok(name.into_inner())
 }
 
-/// Puts the labels from the top to a scope, each before a dot, behind a text.
-fn add_labels(scopes: &[Scope], scope: usize, text: &mut Vec<u8>) -> Result<(), AllocError>
+/// Writes a signal's full name.
+pub(crate) fn push_name<S: Sink>(scopes: &[Scope], signal: &Signal, sink: &mut S)
+    requires scopes { AreScopes (map scope_view scopes.now) }
+    requires there { signal.now.scope < length scopes.now }
+    ensures { Goes (S.state sink.old) (S.state sink.new)
+        (names.full_name (map scope_view scopes.now) (signal_view signal.now)) }
+{
+    push_labels(scopes, signal.scope, sink);
+    push_text(sink, &signal.name);
+}
+
+/// Writes the labels from the top to a scope, each before a dot.
+fn push_labels<S: Sink>(scopes: &[Scope], scope: usize, sink: &mut S)
     requires scopes { AreScopes (map scope_view scopes.now) }
     requires there { scope < length scopes.now }
-    ensures { OnOk result (text.new.items ≡ text.old.items ++ names.labels (map scope_view scopes.now) scope) }
+    ensures { Goes (S.state sink.old) (S.state sink.new) (names.labels (map scope_view scopes.now) scope) }
 {
     let found = &scopes[scope];
-    let Some(parent) = found.parent else {
-        return Ok(());
-    };
-    add_labels(scopes, parent, text)?;
-    text.extend_from_slice(&found.label)?;
-    text.push(b'.')?;
-    Ok(())
+    if let Some(parent) = found.parent {
+        push_labels(scopes, parent, sink);
+        push_text(sink, &found.label);
+        push_text(sink, b".");
+    }
 }
 
 /// The signal with a full name, in letters of either case, and its number. It takes memory for the

@@ -1,17 +1,15 @@
 //! The line that tells what differs.
 
-ghost use Rattle.std.specs.Prelude.{◌≡◌, ◌<◌, ◌≤◌, length, map, slice_get, slice_index};
+ghost use Rattle.std.specs.Prelude.{◌≡◌, ◌≤◌, length, slice_get, slice_index};
 ghost use Rattle.vhdl_values.specs.Scalar.{letter_of, value_of_code};
 ghost use Rattle.byte_streams.specs.Written.{Goes};
-ghost use Rattle.rtl_net.specs.Nets.{scope_view, signal_view};
-ghost use Rattle.rtl_net.specs.Elaborated.{AreScopes};
-ghost use Rattle.rtl_expect.specs.Names as names;
 ghost use Rattle.rtl_expect.specs.Telling as spec;
 ghost use Rattle.rtl_expect.specs.Watching.{difference_view};
 
 use crate::difference::{Codes, Difference};
+use crate::naming::push_name;
 use byte_streams::{Sink, push_number, push_text};
-use rtl_net::{Net, Scope, Signal, SignalKind};
+use rtl_net::{Net, SignalKind};
 use vhdl_values::Nine;
 
 /// Writes the line that tells a difference from what a netlist's signals were expected to be:
@@ -56,31 +54,6 @@ fn push_found<S: Sink>(net: &Net, time: u64, number: usize, found: &Codes, sink:
     push_name(net.scopes(), signal, sink);
     push_text(sink, b" is ");
     push_value(signal.kind, found, sink);
-}
-
-/// Writes a signal's full name.
-fn push_name<S: Sink>(scopes: &[Scope], signal: &Signal, sink: &mut S)
-    requires scopes { AreScopes (map scope_view scopes.now) }
-    requires there { signal.now.scope < length scopes.now }
-    ensures { Goes (S.state sink.old) (S.state sink.new)
-        (names.full_name (map scope_view scopes.now) (signal_view signal.now)) }
-{
-    push_labels(scopes, signal.scope, sink);
-    push_text(sink, &signal.name);
-}
-
-/// Writes the labels from the top to a scope, each before a dot.
-fn push_labels<S: Sink>(scopes: &[Scope], scope: usize, sink: &mut S)
-    requires scopes { AreScopes (map scope_view scopes.now) }
-    requires there { scope < length scopes.now }
-    ensures { Goes (S.state sink.old) (S.state sink.new) (names.labels (map scope_view scopes.now) scope) }
-{
-    let found = &scopes[scope];
-    if let Some(parent) = found.parent {
-        push_labels(scopes, parent, sink);
-        push_text(sink, &found.label);
-        push_text(sink, b".");
-    }
 }
 
 /// Writes the value of a signal of this kind.

@@ -13,7 +13,7 @@ use Rattle.rtl_model.proofs.simulation.Order.{waits_in}
 use Rattle.vhdl_values.specs.declared.scalar.Nine.{Nine}
 use Rattle.rtl_awaited_edges.specs.declared.awaited.ClockEdge.{ClockEdge}
 use Rattle.rtl_awaited_edges.specs.Awaiting.{IsAsleep}
-use Rattle.rtl_awaited_edges.proofs.Following.{first_there, follower_left}
+use Rattle.rtl_awaited_edges.proofs.FirstAwaited.{first_there, asleep_left}
 use Rattle.rtl_eval.specs.Runs.{IsOf}
 use Rattle.rtl_net_groups.specs.Groups.{Grouping}
 use Rattle.rtl_net.specs.Nets.{NetlistView, flat, process_view}
@@ -69,10 +69,10 @@ module _ {E : Type 0} {process : E → FlatProcess} {types : E → List ElementT
 
   -- the clock of the edge is there
   pub clock_now : IfSome k.awaited (λ (e : ClockEdge). e.clock < length v.current)
-  clock_now = first_there net K.of_net.in_range v.current K.sound.in_range.now.each_net k.awaited K.of_net.follow.first
+  clock_now = first_there net K.of_net.in_range v.current K.sound.in_range.now.each_net k.awaited K.of_net.awaits.first
 
   pub clock_before : IfSome k.awaited (λ (e : ClockEdge). e.clock < length v.before)
-  clock_before = first_there net K.of_net.in_range v.before K.sound.in_range.before.each_net k.awaited K.of_net.follow.first
+  clock_before = first_there net K.of_net.in_range v.before K.sound.in_range.before.each_net k.awaited K.of_net.awaits.first
 
   -- the processes that wake on nets are there
   pub wakers_there : (groups : Grouping) → groups ≡ v.groups → (n p : ℕ) → Contains (get_or (wakers_of groups) n []) p → p < length r.waiting
@@ -86,8 +86,8 @@ module _ {E : Type 0} {process : E → FlatProcess} {types : E → List ElementT
     pub in_processes : p < length (flat net).processes
     in_processes = rw (← K.sound.each_process) (waits_in r.waiting p waits)
 
-    pub in_followers : p < length k.followers
-    in_followers = rw (K.of_net.follow.each_process, length-map) in_processes
+    pub in_await_it : p < length k.await_it
+    in_await_it = rw (K.of_net.awaits.each_process, length-map) in_processes
 
     pub in_bodies : p < length bodies
     in_bodies = rw (K.of_net.run_bodies.as_many) in_processes
@@ -106,11 +106,11 @@ module _ {E : Type 0} {process : E → FlatProcess} {types : E → List ElementT
       pub each_outcome : length r'.waiting ≤ length t.outcomes
       each_outcome = omega (arith, ap length waiting, length-set r.waiting p false, K.sound.each_process, K.room.as_many)
 
-      module _ (follows : get_or k.followers p false ≡ true) (asleep : IsAsleep k.awaited v.before v.current) where
+      module _ (awaits_it : get_or k.await_it p false ≡ true) (asleep : IsAsleep k.awaited v.before v.current) where
         pub is_asleep : state_of v t r' ≡ after_run core_net p before_step
         is_asleep =
             state_asleep (flat net) v t r r' p in_outcomes (K.room.own p in_outcomes)
-            (follower_left net (connected_is_elaborated (flat net) K.of_net.in_range K.of_net.connected) k.awaited k.followers K.of_net.follow v.before v.current p follows asleep) waiting
+            (asleep_left net (connected_is_elaborated (flat net) K.of_net.in_range K.of_net.connected) k.awaited k.await_it K.of_net.awaits v.before v.current p awaits_it asleep) waiting
 
         pub kept_asleep : IsKernel process types most bodies (record k { resumed = r' })
         kept_asleep = record {
@@ -150,8 +150,8 @@ module _ {E : Type 0} {process : E → FlatProcess} {types : E → List ElementT
   -- ---- new values
 
   -- what stays fits on
-  of_same : (groups : Grouping) → groups ≡ v.groups → AreOfNet process types net groups bodies k.cuts k.awaited k.followers
-  of_same groups same = subst (λ (g : Grouping). AreOfNet process types net g bodies k.cuts k.awaited k.followers) (sym same) K.of_net
+  of_same : (groups : Grouping) → groups ≡ v.groups → AreOfNet process types net groups bodies k.cuts k.awaited k.await_it
+  of_same groups same = subst (λ (g : Grouping). AreOfNet process types net g bodies k.cuts k.awaited k.await_it) (sym same) K.of_net
 
   wakes_same : (groups : Grouping) (before now : List ℕ) (waiting : List Bool) → groups ≡ v.groups → length waiting ≡ length r.waiting → AreWoken (wakers_of groups) before now waiting
       → waiting ≡ resumed_processes core_net before now

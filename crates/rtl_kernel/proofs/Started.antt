@@ -16,7 +16,7 @@ use Rattle.rtl_model.specs.simulation.Laws.{IsConsistent}
 use Rattle.rtl_model.specs.simulation.Range.{AreInputs, StateInRange}
 use Rattle.rtl_model.proofs.basics.Lists.{contains_in, in_contains, get_or-map_within}
 use Rattle.rtl_model.proofs.nets.InRange.{keeps_range, limit-at}
-use Rattle.rtl_awaited_edges.specs.Awaiting.{AreFollowers}
+use Rattle.rtl_awaited_edges.specs.Awaiting.{AwaitFirst}
 use Rattle.rtl_eval.specs.Runs.{Outcome}
 use Rattle.rtl_net_groups.specs.Cuts.{AreCutsOf}
 use Rattle.rtl_net.specs.Core.{core}
@@ -171,9 +171,9 @@ module _ {E : Type 0} (process : E → FlatProcess) (types : E → List ElementT
     fresh = λ p waits a. none_fresh net.processes p (subst (λ (rows : List (List (Option ℕ))). (place : ℕ) × IsSome (get_or (get_or rows p []) place None)) F.entries a);
   }
 
-  pub kept_started : AreCutsOf v.groups.of_net (all_targets net.processes) k.cuts → AreFollowers (core net) k.awaited k.followers
+  pub kept_started : AreCutsOf v.groups.of_net (all_targets net.processes) k.cuts → AwaitFirst (core net) k.awaited k.await_it
       → IsKernel process types most bodies k
-  kept_started are_cuts follow =
+  kept_started are_cuts awaits =
       subst (λ (n : NotedNets). IsKernel process types most bodies (record k { nets = n })) same (record {
         of_net = record {
           in_range = R;
@@ -181,7 +181,7 @@ module _ {E : Type 0} (process : E → FlatProcess) (types : E → List ElementT
           run_bodies = B;
           is_index = N.is_index;
           are_cuts = cuts_there net v.groups k.cuts (nets_there net R) are_cuts;
-          follow = follow;
+          awaits = awaits;
         };
         room = have_room most net bodies k.drivers.outcomes B.as_many F;
         sound = sound;

@@ -183,7 +183,7 @@ fn update_process(process: usize, cuts: &Cuts, outcome: &Drives, values: &mut [u
             let assigned = outcome.values(*span);
             nets.take(own[0], span.first, assigned, values);
         } else {
-            let row = Row {
+            let row = OwnCuts {
                 process,
                 cuts: own,
                 numbers,
@@ -195,7 +195,7 @@ fn update_process(process: usize, cuts: &Cuts, outcome: &Drives, values: &mut [u
 
 /// A process and its drivers' cuts.
 #[derive(Clone, Copy)]
-struct Row<'a> {
+struct OwnCuts<'a> {
     process: usize,
     cuts: &'a [Cut],
     /// For each place the number of its cut.
@@ -205,20 +205,20 @@ struct Row<'a> {
 /// Takes over the transactions of one process at the places of a span, each of which has one, cut
 /// by cut.
 #[inline(always)]
-fn update_span(row: Row, outcome: &Drives, span: Span, values: &mut [u8], nets: &mut Nets)
-    requires row { IsRow nets.old.net.processes row.process outcome.now.entries values.old }
+fn update_span(own: OwnCuts, outcome: &Drives, span: Span, values: &mut [u8], nets: &mut Nets)
+    requires row { IsRow nets.old.net.processes own.process outcome.now.entries values.old }
     requires within { span.first + span.len ≤ length outcome.now.entries }
     requires all { (k : ℕ) → k < span.len → IsSome (slice_index_or outcome.now.entries (span.first + k) None) }
-    requires cuts { AreCutsThere nets.old.net nets.old.values.groups (targets_of nets.old.net.processes row.process)
-        row.cuts.now row.numbers.now }
-    ensures takes { TakesEntries (targets_of nets.old.net.processes row.entry.process) outcome.now.entries
+    requires cuts { AreCutsThere nets.old.net nets.old.values.groups (targets_of nets.old.net.processes own.process)
+        own.cuts.now own.numbers.now }
+    ensures takes { TakesEntries (targets_of nets.old.net.processes own.entry.process) outcome.now.entries
         values.old nets.old values.new nets.new }
     ensures taken { (k : ℕ) → k < span.len → IsTaken outcome.now.entries values.new (span.first + k) }
 {
     let end = span.first + span.len;
     let mut first = span.first;
     while first < end {
-        let cut = row.cuts[row.numbers[first]];
+        let cut = own.cuts[own.numbers[first]];
         let beyond = end.min(cut.place + cut.len);
         let assigned = outcome.values(Span {
             first,

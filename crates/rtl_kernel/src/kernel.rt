@@ -20,7 +20,7 @@ use crate::drivers::Drivers;
 use crate::nets::Nets;
 use crate::pick::Pick;
 use crate::resumed::Resumed;
-use rtl_awaited_edges::{ClockEdge, followers_of, is_asleep};
+use rtl_awaited_edges::{ClockEdge, first_awaited, is_asleep};
 use rtl_eval::Exec;
 use rtl_net::Net;
 use rtl_net_groups::{Cuts, Touched};
@@ -36,10 +36,9 @@ pub struct Kernel<'a, E: Exec> {
     cuts: Cuts,
     drivers: Drivers,
     resumed: Resumed,
-    /// The edge that the first process awaits of those that await one, and who awaits just that
-    /// one.
+    /// The first edge that a process awaits, and for each process whether it awaits that one.
     awaited: Option<ClockEdge>,
-    followers: Vec<bool>,
+    await_it: Vec<bool>,
     /// What was read of the process that is to run next: so it comes from memory while the present
     /// one runs. Nothing asks for it.
     ahead: usize,
@@ -54,13 +53,13 @@ impl<E: Exec> Drop for Kernel<'_, E> {
             drivers: _,
             resumed: _,
             awaited: _,
-            followers: _,
+            await_it: _,
             ahead: _,
         } = self;
     }
 }
 
-/// No number of delta cycles up to the limit leaves no driver active.
+/// After each number of delta cycles up to the limit a driver is active.
 #[derive(Clone, Copy)]
 pub struct NoSettling;
 
@@ -83,15 +82,13 @@ impl<'a, E: Exec> Model for Kernel<'a, E> {
       drivers = k.drivers;
       resumed = k.resumed;
       awaited = k.awaited;
-      followers = k.followers.items;
+      await_it = k.await_it.items;
     }) };
 }
 
 impl<'a, E: Exec> Kernel<'a, E> {
     /// A simulation that is to be started: of this netlist, whose k-th process the k-th body runs,
     /// with a value for each of the netlist's inputs, in their order.
-    ///
-    /// It takes the room of all later calls.
     pub fn new(
         alloc: Global,
         net: &'a Net,
@@ -112,8 +109,8 @@ impl<'a, E: Exec> Kernel<'a, E> {
         let drivers = Drivers::new(alloc, processes, bodies);
         let resumed = Resumed::all(alloc, processes.len());
         let parts = both(cuts, drivers);
-        let waits = both(resumed, followers_of(alloc, net));
-        let ((cuts, drivers), (resumed, (awaited, followers))) = both(parts, waits)?;
+        let waits = both(resumed, first_awaited(alloc, net));
+        let ((cuts, drivers), (resumed, (awaited, await_it))) = both(parts, waits)?;
         Ok(Kernel {
             bodies,
             nets,
@@ -121,7 +118,7 @@ impl<'a, E: Exec> Kernel<'a, E> {
             drivers,
             resumed,
             awaited,
-            followers,
+            await_it,
             ahead: 0,
         })
     }
@@ -171,9 +168,9 @@ impl<'a, E: Exec> Kernel<'a, E> {
         self.drivers.is_quiet()
     }
 
-    /// Initialization (IEEE 1076-2008, 14.7.5.2): each process has its turn once, in the order that
-    /// the picker answers. The body of one that is asleep isn't called, since it would assign
-    /// nothing: the state is as if it had run.
+    /// Initialization (IEEE 1076-2008, 14.7.5.2): each process that is to run has its turn, in the
+    /// order that the picker answers; straight behind `new` that is each. The body of one that is
+    /// asleep isn't called, since it would assign nothing: the state is as if it had run.
     pub fn start<P: Pick>(&mut self, pick: &mut P)
         ensures net { self.new.net ≡ self.old.net }
         ensures ran { HasRun (core_netlist (flat self.old.net)) self.old.state self.new.state }
@@ -183,8 +180,8 @@ impl<'a, E: Exec> Kernel<'a, E> {
         self.run_all(pick);
     }
 
-    /// A cycle in which in ports of the top get new values (14.7.5.3), where no driver is active
-    /// and no process is to run.
+    /// A cycle in which some in ports of the top get new values (14.7.5.3). Before it no driver is
+    /// active, and no process is to run.
     pub fn apply<P: Pick>(&mut self, changes: &[(usize, Nine)], pick: &mut P)
         requires inputs { All (λ c. Contains self.old.net.inputs c.0) changes.now }
         requires ready { HasNoneToRun self.old.state }
@@ -215,9 +212,9 @@ impl<'a, E: Exec> Kernel<'a, E> {
         self.run_all(pick);
     }
 
-    /// Delta cycles until no driver is active, at most so many, where no process is to run. The
-    /// answer is the number of delta cycles; where that is above the limit, the state is the one
-    /// after as many as the limit.
+    /// Delta cycles until no driver is active, at most as many as the limit. Before them no process
+    /// is to run. The answer is how many there were; where the limit doesn't suffice, the state is
+    /// the one behind it.
     pub fn settle<P: Pick>(&mut self, limit: u32, pick: &mut P) -> Result<u32, NoSettling>
         requires ready { HasNoneToRun self.old.state }
         ensures net { self.new.net ≡ self.old.net }
@@ -245,9 +242,9 @@ impl<'a, E: Exec> Kernel<'a, E> {
         }
     }
 
-    /// Runs the process at a place among those that are to run, in order of number. One that would
-    /// assign nothing, since the edge that it acts at isn't there, is only taken off their list.
-    /// The next one is brought from memory meanwhile.
+    /// Runs one of the processes that are to run: `place` is its place among them, in order of
+    /// number. One that would assign nothing, since the edge that it awaits isn't there, is only
+    /// taken off their list. The next one is brought from memory meanwhile.
     #[inline(always)]
     fn run_one(&mut self, place: usize, asleep: bool)
         requires place { place < count_by (λ b. b) self.old.state.waiting }
@@ -258,7 +255,7 @@ impl<'a, E: Exec> Kernel<'a, E> {
             × (self.new.state ≡ after_run (core_netlist (flat self.old.net)) process self.old.state) }
     {
         let process = self.resumed.take(place);
-        if asleep && self.followers[process] {
+        if asleep && self.await_it[process] {
             return;
         }
         let bodies = self.bodies;

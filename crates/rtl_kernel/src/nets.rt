@@ -103,8 +103,8 @@ impl<'a> Nets<'a> {
         self.values.set_all(changes);
     }
 
-    /// Gives the drivers from a place of a cut on these values. If they are their nets' one source
-    /// each, so are the nets; else the nets' group is noted where the values are new.
+    /// The drivers of a cut, from `place` on, get these values. Where each is its net's one source
+    /// the nets get them too; else their group is noted, if a value is new.
     #[inline(always)]
     pub fn take(&mut self, cut: Cut, place: usize, assigned: &[u8], values: &mut [u8])
         requires cut { IsCutThere self.old.net self.old.values.groups cut }
@@ -115,6 +115,7 @@ impl<'a> Nets<'a> {
         ensures brings { (targets : List ℕ) → IsCut self.old.values.groups.of_net targets cut
             → Brings targets values.old values.new self.old self.new }
     {
+        // That their number is a `usize` keeps the sum below from wrapping.
         let _nets = self.wiring.nets();
         let net = cut.net + (place - cut.place);
         if self.alone[cut.group] {

@@ -1,4 +1,4 @@
--- States whose changes are followed.
+-- States whose changes are have_readers.
 use Rattle.std.proofs.Common.{ℕ, refl, sym, ◌∙◌}
 use Rattle.rtl_model.specs.simulation.Range.{IsValuation}
 use Rattle.rtl_model.specs.simulation.Netlist.{Netlist}
@@ -6,7 +6,7 @@ use Rattle.rtl_net_groups.specs.Groups.{Grouping}
 use Rattle.rtl_levels.specs.declared.schedule.Schedule.{Schedule}
 use Rattle.rtl_levels.specs.declared.state.State.{State}
 use Rattle.rtl_levels.specs.Kept.{IsPlanned, IsStateOf}
-use Rattle.rtl_levels.specs.States.{Advances, IsFollowed, StandTogether}
+use Rattle.rtl_levels.specs.States.{Advances, HaveReaders, StandTogether}
 use Rattle.rtl_levels.proofs.Marking.{marks_same, marks_then, marks_wider}
 use Rattle.rtl_levels.proofs.Sweeping.{readers_below}
 use Rattle.rtl_levels.proofs.Touching.{touches_none, touches_then}
@@ -34,19 +34,19 @@ module _ (readers : Grouping) where
   }
 
   module _ (nets : ℕ → Type 0) (a b : State) (F : Advances readers nets a b) where
-    pub still_followed : IsFollowed readers a → IsFollowed readers b
-    still_followed I = record {
+    pub still_have_readers : HaveReaders readers a → HaveReaders readers b
+    still_have_readers I = record {
       each_net = I.each_net ∙ sym F.as_many;
       below = λ n k f. rw (F.marks.as_many) (I.below n k f);
       each_chunk = F.touched.nets_stay ∙ I.each_chunk ∙ sym F.as_many;
     }
 
     pub still_together : (first many : ℕ) → StandTogether readers first many a → StandTogether readers first many b
-    still_together first many T = record { followed = still_followed T.followed; there = rw (F.as_many) T.there; together = T.together }
+    still_together first many T = record { have_readers = still_have_readers T.have_readers; there = rw (F.as_many) T.there; together = T.together }
 
 module _ (net : Netlist) (schedule : Schedule) where
-  pub followed : IsPlanned net schedule → (s : State) → IsStateOf net schedule s → IsFollowed schedule.readers s
-  followed P s S = record {
+  pub have_readers : IsPlanned net schedule → (s : State) → IsStateOf net schedule s → HaveReaders schedule.readers s
+  have_readers P s S = record {
     each_net = P.each_reader ∙ sym S.in_range.each_net;
     below = readers_below net schedule P _ S.each_rank;
     each_chunk = S.each_chunk;

@@ -26,7 +26,7 @@ use Rattle.rtl_kernel.proofs.Inputs.{inputs_there, named}
 use Rattle.rtl_levels.specs.declared.schedule.Schedule.{Schedule}
 use Rattle.rtl_levels.specs.declared.state.State.{State}
 use Rattle.rtl_levels.specs.Kept.{AreSensitive, IsMachine, IsPlanned, IsStateOf}
-use Rattle.rtl_levels.specs.Marks.{AllFollow, HasNoMark, IsGiven, Marks}
+use Rattle.rtl_levels.specs.Marks.{AllAreReaders, HasNoMark, IsGiven, Marks}
 use Rattle.rtl_levels.specs.Scheduled.{without_level}
 use Rattle.rtl_levels.specs.States.{Advances, AreOthersSettled}
 use Rattle.rtl_levels.specs.Steps.{ComesToRest}
@@ -79,7 +79,7 @@ module _ (flat : FlatNetlist) (R : IsInRange flat) (schedule : Schedule) (before
 
     module _ (woken' : List Bool) (W : Marks (wakers_of schedule.clocked) (IsGiven (changes_of cs)) v now.values.items woken woken') where
       pub sensitive_now : AreSensitive (wakers_of schedule.clocked) cs woken'
-      sensitive_now = record { there = λ k d l. rw (K.planned.each_clocked ∙ R.each_starts) (inputs_there flat R cs inputs k d l); follow = λ p h. by p (W.no_other p h) }
+      sensitive_now = record { there = λ k d l. rw (K.planned.each_clocked ∙ R.each_starts) (inputs_there flat R cs inputs k d l); readers = λ p h. by p (W.no_other p h) }
         where
           by : (p : ℕ) → (get_or woken p false ≡ true) ⊎ ((n : ℕ) × IsGiven (changes_of cs) n × Contains (get_or (wakers_of schedule.clocked) n []) p)
               → (n : ℕ) × IsGiven (changes_of cs) n × Contains (get_or (wakers_of schedule.clocked) n []) p
@@ -130,7 +130,7 @@ module _ (net : Netlist) (levels : List (Option ℕ)) (greatest : ℕ) (V : AreL
 
   -- those follow their clocks, which are inputs
   pub marked_follow : (schedule : Schedule) → IsPlanned net schedule → (nets : ℕ → Type 0) → ((n : ℕ) → IsInput net n → nets n)
-      → AllFollow (wakers_of schedule.clocked) nets (map without_level levels)
+      → AllAreReaders (wakers_of schedule.clocked) nets (map without_level levels)
   marked_follow schedule P nets inputs p h = by (cases_lt p (length net.processes))
     where
       F : Faultless net

@@ -16,7 +16,7 @@ use Rattle.rtl_levels.specs.declared.state.State.{State}
 use Rattle.rtl_levels.specs.Kept.{IsPlanned}
 use Rattle.rtl_levels.specs.Pieces.{AreCutFor}
 use Rattle.rtl_levels.specs.Scheduled.{whole_first}
-use Rattle.rtl_levels.specs.States.{IsFollowed, StandTogether}
+use Rattle.rtl_levels.specs.States.{HaveReaders, StandTogether}
 use Rattle.rtl_levels.proofs.Settling.{one_place}
 use Rattle.rtl_levels.proofs.Whole.{in_one_group, nets_there, targets_are}
 use Rattle.rtl_levels.proofs.Wired.{driven_many, processes_many}
@@ -58,9 +58,9 @@ module _ (net : NetlistView) (schedule : Schedule) (P : IsPlanned (core net) sch
     pub whole_are : range_with_len first (length o.entries) ≡ drives
     whole_are = sym (targets_are of_net drives _ _ cut_for.cuts first told ∙ ap (range_with_len first) (driven_many net p o own))
 
-    pub whole_together : (s : State) → IsFollowed schedule.readers s → StandTogether schedule.readers first (length o.entries) s
+    pub whole_together : (s : State) → HaveReaders schedule.readers s → StandTogether schedule.readers first (length o.entries) s
     whole_together s I = record {
-      followed = I;
+      have_readers = I;
       there = omega (arith, nets_there of_net drives _ _ cut_for.cuts first told (length of_net) cut_for.nets, driven_many net p o own, each_net, P.each_reader, I.each_net);
       together = λ k l. in_one_group of_net drives _ _ cut_for.cuts first told k (omega (arith, l, driven_many net p o own));
     }

@@ -14,10 +14,10 @@ use Rattle.rtl_levels.proofs.Marking.{marks_run, marks_same}
 use Rattle.rtl_levels.proofs.Touching.{touches_run, touches_same}
 
 module _ (readers : Grouping) (first : ℕ) (given : List ℕ) (a : State) where
-  pub get_new : (b : State) → StandTogether readers first (length given) a → IsWritten first given a.values.items b.values.items → 0 < length given → (followers : List ℕ)
-      → followers ≡ get_or (wakers_of readers) first [] → length b.dirty.items ≡ length a.dirty.items → AddsPlaces followers a.dirty.items b.dirty.items
+  pub get_new : (b : State) → StandTogether readers first (length given) a → IsWritten first given a.values.items b.values.items → 0 < length given → (listed : List ℕ)
+      → listed ≡ get_or (wakers_of readers) first [] → length b.dirty.items ≡ length a.dirty.items → AddsPlaces listed a.dirty.items b.dirty.items
       → MarksRun first (first + length given) a.touched b.touched → GetValues readers first given a b
-  get_new b T W some followers are lasting adds M = record {
+  get_new b T W some listed are lasting adds M = record {
     written = W;
     advances = record {
       as_many = W.as_many;
@@ -28,7 +28,7 @@ module _ (readers : Grouping) (first : ℕ) (given : List ℕ) (a : State) where
   }
     where
       in_nets : (n : ℕ) → n < length a.values.items → n < length readers.of_net
-      in_nets n l = omega (arith, l, T.followed.each_net, length-map readers.of_net (λ (g : ℕ). get_or readers.listed g []))
+      in_nets n l = omega (arith, l, T.have_readers.each_net, length-map readers.of_net (λ (g : ℕ). get_or readers.listed g []))
 
       alike : (k : ℕ) → k < length given → get_or (wakers_of readers) (first + k) [] ≡ get_or (wakers_of readers) first []
       alike k l =

@@ -15,7 +15,7 @@ use Rattle.rtl_kernel.proofs.Updating.{left_all, left_one, none_left, taken_more
 use Rattle.rtl_levels.specs.declared.state.State.{State}
 use Rattle.rtl_levels.specs.Marks.{IsOfRun}
 use Rattle.rtl_levels.specs.Running.{TakesPart, at_targets}
-use Rattle.rtl_levels.specs.States.{Advances, GetValues, StandTogether, TakeEntries, TakeSome}
+use Rattle.rtl_levels.specs.States.{Advances, GetValues, StandTogether, StateTakesOver, StateTakesPart}
 use Rattle.rtl_levels.proofs.Advancing.{advances_none, advances_then, advances_wider}
 use Rattle.rtl_levels.proofs.Taking.{part_all, part_none, part_run, part_then, taken_here}
 use Rattle.rtl_levels.proofs.Whole.{run_differs}
@@ -24,10 +24,10 @@ abbrev pub no_span : Span
 no_span = record { first = 0; len = 0 }
 
 module _ (readers : Grouping) (targets : List ℕ) (entries : List (Option ℕ)) where
-  pub some_none : (from : ℕ) (a : State) → TakeSome readers targets entries from from a a
+  pub some_none : (from : ℕ) (a : State) → StateTakesPart readers targets entries from from a a
   some_none from a = record { part = part_none targets entries a.values.items; taken = λ q l k. absurd (omega (arith, l, k)); advances = advances_none readers (Contains targets) a }
 
-  pub some_then : (from middle end : ℕ) (a b c : State) → TakeSome readers targets entries from middle a b → TakeSome readers targets entries middle end b c → TakeSome readers targets entries from end a c
+  pub some_then : (from middle end : ℕ) (a b c : State) → StateTakesPart readers targets entries from middle a b → StateTakesPart readers targets entries middle end b c → StateTakesPart readers targets entries from end a c
   some_then from middle end a b c S T = record {
     part = part_then targets entries a.values.items b.values.items c.values.items S.part T.part;
     taken = λ q low high. by q low high (cases_lt q middle);
@@ -41,7 +41,7 @@ module _ (readers : Grouping) (targets : List ℕ) (entries : List (Option ℕ))
   -- those of places whose nets stand one behind the other
   pub some_run : AreDifferent targets → (first net : ℕ) (given : List ℕ) → first + length given ≤ length targets → ((k : ℕ) → k < length given → get_or targets (first + k) 0 ≡ net + k)
       → ((k : ℕ) → k < length given → get_or entries (first + k) None ≡ Some (get_or given k 0)) → (a b : State) → GetValues readers net given a b
-      → TakeSome readers targets entries first (first + length given) a b
+      → StateTakesPart readers targets entries first (first + length given) a b
   some_run differ first net given within is are a b G = record {
     part = part;
     taken = taken_more entries (at_targets targets a.values.items) (at_targets targets b.values.items) first first given are
@@ -70,7 +70,7 @@ module _ (readers : Grouping) (targets : List ℕ) (entries : List (Option ℕ))
     }
 
     pub taking_more : (i : ℕ) (d : Span) → i < length spans → (a b c : State) → IsTaking spans i a b
-        → TakeSome readers targets entries (get_or spans i d).first ((get_or spans i d).first + (get_or spans i d).len) b c → IsTaking spans (i + 1) a c
+        → StateTakesPart readers targets entries (get_or spans i d).first ((get_or spans i d).first + (get_or spans i d).len) b c → IsTaking spans (i + 1) a c
     taking_more i d l a b c I S = record {
       part = part_then targets entries a.values.items b.values.items c.values.items I.part S.part;
       left = left_one entries (at_targets targets b.values.items) (at_targets targets c.values.items) spans i d l S.part.stay
@@ -78,7 +78,7 @@ module _ (readers : Grouping) (targets : List ℕ) (entries : List (Option ℕ))
       advances = advances_then readers (Contains targets) a b c I.advances S.advances;
     }
 
-    pub taking_all : (i : ℕ) → length spans ≤ i → (a b : State) → IsTaking spans i a b → TakeEntries readers targets entries a b
+    pub taking_all : (i : ℕ) → length spans ≤ i → (a b : State) → IsTaking spans i a b → StateTakesOver readers targets entries a b
     taking_all i done a b I = record {
       taken = part_all targets entries a.values.items b.values.items I.part (none_left entries (at_targets targets b.values.items) spans i done I.left);
       advances = I.advances;
@@ -92,7 +92,7 @@ module _ (readers : Grouping) (base : ℕ) (entries : List (Option ℕ)) (spans 
 
   pub span_together : (s : State) → StandTogether readers base (length entries) s → StandTogether readers (base + first) (length assigned) s
   span_together s T = record {
-    followed = T.followed;
+    have_readers = T.have_readers;
     there = omega (arith, within i d l, as_many, T.there);
     together = λ k m. ap (λ (n : ℕ). get_or readers.of_net n 0) (at k) ∙ T.together (first + k) (omega (arith, within i d l, m, as_many)) ∙ sym (T.together first (omega (arith, within i d l, m, as_many)));
   }
@@ -102,9 +102,9 @@ module _ (readers : Grouping) (base : ℕ) (entries : List (Option ℕ)) (spans 
 
   pub span_taken : AreAssigned entries (places_of spans)
       → ((k : ℕ) → k < (get_or spans i d).len → IsSome (get_or entries (first + k) None) → get_or entries (first + k) None ≡ Some (get_or assigned k 0))
-      → (a b : State) → GetValues readers (base + first) assigned a b → TakeSome readers (range_with_len base (length entries)) entries first (first + (get_or spans i d).len) a b
+      → (a b : State) → GetValues readers (base + first) assigned a b → StateTakesPart readers (range_with_len base (length entries)) entries first (first + (get_or spans i d).len) a b
   span_taken A has a b G =
-      subst (λ (n : ℕ). TakeSome readers (range_with_len base (length entries)) entries first (first + n) a b) as_many
+      subst (λ (n : ℕ). StateTakesPart readers (range_with_len base (length entries)) entries first (first + n) a b) as_many
       (some_run readers (range_with_len base (length entries)) entries (run_differs base (length entries)) first (base + first) assigned short is are a b G)
     where
       short : first + length assigned ≤ length (range_with_len base (length entries))

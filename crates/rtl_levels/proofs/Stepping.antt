@@ -18,7 +18,7 @@ use Rattle.rtl_model.proofs.simulation.Starting.{inputs_at, others_at, target_no
 use Rattle.rtl_kernel.specs.wakes.Woken.{wakers_of}
 use Rattle.rtl_levels.specs.declared.schedule.Schedule.{Schedule}
 use Rattle.rtl_levels.specs.Kept.{AreSensitive, IsAtRest, IsPlanned}
-use Rattle.rtl_levels.specs.Marks.{AreBelow, Follows, Marks}
+use Rattle.rtl_levels.specs.Marks.{AreBelow, IsReader, Marks}
 use Rattle.rtl_levels.specs.Scheduled.{clocked_wakes}
 use Rattle.rtl_levels.specs.Steps.{ComesToRest, IsCombinationallyDriven, IsDrivenByMarked}
 use Rattle.rtl_levels.proofs.Edges as edges
@@ -60,23 +60,23 @@ module _ (net : Netlist) (schedule : Schedule) (P : IsPlanned net schedule) wher
 
   -- ---- a step
 
-  -- a clocked process follows what it is sensitive to
-  pub clocked_follows : (p n clock : ℕ) (edge : Edge) → IsClockedBy net p clock edge → p < length net.processes → Contains (process net p).wakes n → Follows clocked n p
+  -- a clocked process is a reader of what it is sensitive to
+  pub clocked_follows : (p n clock : ℕ) (edge : Edge) → IsClockedBy net p clock edge → p < length net.processes → Contains (process net p).wakes n → IsReader clocked n p
   clocked_follows p n clock edge (reset, is) l c =
       let k : is_clocked (process net p).kind ≡ true = ap is_clocked is in
       let row : get_or (map clocked_wakes net.processes) p [] ≡ (process net p).wakes = get_or-map_within clocked_wakes net.processes p no_process [] l ∙ rw k refl in
       P.schedule.clocked_are.all_are_in p n (subst (λ (xs : List ℕ). Contains xs n) (sym row) c)
 
-  -- those that follow are clocked
-  followers_clocked : (n p : ℕ) → Follows clocked n p → IsCombinational net p → ⊥
-  followers_clocked n p f (l, is) =
+  -- those readers are clocked
+  woken_are_clocked : (n p : ℕ) → IsReader clocked n p → IsCombinational net p → ⊥
+  woken_are_clocked n p f (l, is) =
       let k : is_clocked (process net p).kind ≡ false = ap is_clocked is in
       let row : get_or (map clocked_wakes net.processes) p [] ≡ [] = get_or-map_within clocked_wakes net.processes p no_process [] l ∙ rw k refl in
       let (j, within, e) = subst (λ (xs : List ℕ). Contains xs n) row (P.schedule.clocked_are.no_other n p f) in
       absurd (omega (arith, within))
 
   pub woken_clocked : (cs : List (ℕ × Nine)) (woken : List Bool) → AreSensitive clocked cs woken → (p : ℕ) → get_or woken p false ≡ true → IsCombinational net p → ⊥
-  woken_clocked cs woken S p m c = let (n, _, f) = S.follow p m in followers_clocked n p f c
+  woken_clocked cs woken S p m c = let (n, _, f) = S.readers p m in woken_are_clocked n p f c
 
   -- and processes
   pub clocked_below : (many : ℕ) → many ≡ length net.processes → AreBelow clocked many
@@ -104,7 +104,7 @@ module _ (net : Netlist) (schedule : Schedule) (P : IsPlanned net schedule) wher
       where
         by : (get_or v n 0 ≡ get_or now n 0) ⊎ (get_or v n 0 ≡ get_or now n 0 → ⊥) → get_or v n 0 ≡ inputs n
         by (inl e) = e ∙ now_input n input
-        by (inr differs) = let h = M.followed n p differs (clocked_follows p n clock edge is l wakes) in cc
+        by (inr differs) = let h = M.readers_marked n p differs (clocked_follows p n clock edge is l wakes) in cc
 
     next : (p place clock : ℕ) (edge : Edge) → IsClockedBy net p clock edge → HasPlace net p place → get_or w (target net p place) 0 ≡ register_next net p place clock edge v inputs
     next p place clock edge is h = by (cases_Bool (get_or woken p false))

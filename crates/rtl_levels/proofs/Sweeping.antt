@@ -12,7 +12,7 @@ use Rattle.rtl_levels.specs.declared.schedule.Schedule.{Schedule}
 use Rattle.rtl_levels.specs.Kept.{IsPlanned}
 use Rattle.rtl_levels.specs.Running.{IsSettled, IsWritten}
 use Rattle.rtl_net_groups.specs.NextMarks.{AreUnmarked}
-use Rattle.rtl_levels.specs.Marks.{Marks, Follows, AreBelow, HasNoMark}
+use Rattle.rtl_levels.specs.Marks.{Marks, IsReader, AreBelow, HasNoMark}
 use Rattle.rtl_levels.specs.Scheduled.{wakes_by_rank}
 use Rattle.rtl_levels.specs.Steps.{IsSwept, IsCombinationallyDriven}
 use Rattle.rtl_levels.proofs.Settling.{each_run_settles}
@@ -39,12 +39,12 @@ module _ (net : Netlist) (schedule : Schedule) (P : IsPlanned net schedule) wher
   row_is : (k : ℕ) → k < length order → get_or (wakes_by_rank net order) k [] ≡ (process net (at k)).wakes
   row_is k l = get_or-map_within (λ (p : ℕ). (process net p).wakes) order k 0 [] l
 
-  -- a rank follows just what its process is sensitive to
-  follows : (n k : ℕ) → k < length order → Contains (process net (at k)).wakes n → Follows readers n k
+  -- a rank is a reader of just what its process is sensitive to
+  follows : (n k : ℕ) → k < length order → Contains (process net (at k)).wakes n → IsReader readers n k
   follows n k l c = P.schedule.readers_are.all_are_in k n (subst (λ (xs : List ℕ). Contains xs n) (sym (row_is k l)) c)
 
-  followed : (n k : ℕ) → Follows readers n k → (k < length order) × Contains (process net (at k)).wakes n
-  followed n k f = by (cases_lt k (length order))
+  reader_is : (n k : ℕ) → IsReader readers n k → (k < length order) × Contains (process net (at k)).wakes n
+  reader_is n k f = by (cases_lt k (length order))
     where
       c : Contains (get_or (wakes_by_rank net order) k []) n
       c = P.schedule.readers_are.no_other n k f
@@ -54,7 +54,7 @@ module _ (net : Netlist) (schedule : Schedule) (P : IsPlanned net schedule) wher
       by (inr l) = absurd (Contains-none n (subst (λ (xs : List ℕ). Contains xs n) (get_or_past (wakes_by_rank net order) k [] (rw length-map l)) c))
 
   pub readers_below : (many : ℕ) → many ≡ length order → AreBelow readers many
-  readers_below many is n k f = rw is (followed n k f).0
+  readers_below many is n k f = rw is (reader_is n k f).0
 
   pub at_rank : (k : ℕ) → k < length order → IsCombinational net (at k)
   at_rank k l = P.schedule.order_is.combinational k 0 l
@@ -66,7 +66,7 @@ module _ (net : Netlist) (schedule : Schedule) (P : IsPlanned net schedule) wher
     where
       by : (get_or v n 0 ≡ get_or w n 0) ⊎ (get_or v n 0 ≡ get_or w n 0 → ⊥) → get_or v n 0 ≡ get_or w n 0
       by (inl e) = e
-      by (inr differs) = let h = M.followed n k differs (follows n k l ((faultless net P.accepted).reads_wake (at k) n (at_rank k l) reads)) in cc
+      by (inr differs) = let h = M.readers_marked n k differs (follows n k l ((faultless net P.accepted).reads_wake (at k) n (at_rank k l) reads)) in cc
 
   module _ (from : ℕ) (v w : List ℕ) (dirty : List Bool) (I : IsSweeping net order from v w dirty) where
     -- none of the next ranks is marked
@@ -104,14 +104,14 @@ module _ (net : Netlist) (schedule : Schedule) (P : IsPlanned net schedule) wher
             was (inr f) = f
 
         ahead : (k : ℕ) → get_or dirty' k false ≡ true
-            → (get_or (set dirty from false) k false ≡ true) ⊎ ((n : ℕ) × Contains (process net (at from)).drives n × Follows readers n k) → from + 1 ≤ k
+            → (get_or (set dirty from false) k false ≡ true) ⊎ ((n : ℕ) × Contains (process net (at from)).drives n × IsReader readers n k) → from + 1 ≤ k
         ahead k h (inl old) = by (cases_eq k from)
           where
             by : (k ≡ from) ⊎ (k ≡ from → ⊥) → from + 1 ≤ k
             by (inl e) = let f = get_or-set_same dirty from false false there in let g = rw e at old in cc
             by (inr ne) = let l = I.ahead k (sym (get_or-set_other dirty from k false false ne) ∙ old) in omega arith
         ahead k h (inr (n, (place, l, is), f)) =
-            let (m, wakes) = followed n k f in
+            let (m, wakes) = reader_is n k f in
             let t : target net (at from) place ≡ n = get_or_default (process net (at from)).drives place 0 n l ∙ is in
             let feeds : Feeds net (at from) (at k) = record { feeder = comb; fed = at_rank k m; place = place; drives = l; wakes = subst (λ (x : ℕ). Contains (process net (at k)).wakes x) (sym t) wakes } in
             let less = P.schedule.order_is.feeders_first from k within m feeds in

@@ -20,7 +20,7 @@ use Rattle.rtl_net.specs.Core.{core}
 use Rattle.rtl_net.specs.Nets.{NetlistView, flat}
 use Rattle.rtl_levels.specs.declared.schedule.Schedule.{Schedule}
 use Rattle.rtl_levels.specs.declared.state.State.{State}
-use Rattle.rtl_levels.specs.Marks.{AllFollow, HasNoMark, IsGiven}
+use Rattle.rtl_levels.specs.Marks.{AllAreReaders, HasNoMark, IsGiven}
 use Rattle.rtl_levels.specs.Running.{KeepsResets}
 use Rattle.rtl_levels.specs.Scheduled.{IsSchedule, whole_first}
 
@@ -55,7 +55,7 @@ pub record IsStateOf (net : Netlist) (schedule : Schedule) (s : State) : Type 0 
 -- each marked process is sensitive to a net that one of these changes gives a value
 pub record AreSensitive (clocked : List (List ℕ)) (changes : List (ℕ × Nine)) (marked : List Bool) : Type 0 where
   pub there : All (λ (c : ℕ × Nine). c.0 < length clocked) changes
-  pub follow : AllFollow clocked (IsGiven (changes_of changes)) marked
+  pub readers : AllAreReaders clocked (IsGiven (changes_of changes)) marked
 
 -- the entries that the run of this process has left
 abbrev pub entries_of : List Outcome → (process : ℕ) → List (Option ℕ)

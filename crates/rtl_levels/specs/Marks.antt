@@ -4,25 +4,25 @@ use Rattle.std.specs.Prelude.{◌≡◌, ℕ, ◌+◌, ◌<◌, ◌⊎◌, Bool,
 
 -- Of an index: for each net the numbers of those that are sensitive to it.
 module _ (index : List (List ℕ)) where
-  -- this number is sensitive to the net
-  abbrev pub Follows : (net number : ℕ) → Type 0
-  Follows net number = Contains (slice_index_or index net []) number
+  -- this number is sensitive to the net: it is a reader of it
+  abbrev pub IsReader : (net number : ℕ) → Type 0
+  IsReader net number = Contains (slice_index_or index net []) number
 
   -- all such numbers are below this
   abbrev pub AreBelow : ℕ → Type 0
-  AreBelow many = (net number : ℕ) → Follows net number → number < many
+  AreBelow many = (net number : ℕ) → IsReader net number → number < many
 
-  -- Whatever follows a net that changes from v to w is marked. What gets marked follows one of
-  -- these nets, changed or not: a net that is set twice may have its old value again.
+  -- The readers of each net that changes from v to w are marked. What gets marked is a reader of
+  -- one of these nets, changed or not: a net that is set twice may have its old value again.
   pub record Marks (nets : ℕ → Type 0) (v w : List ℕ) (old new : List Bool) : Type 0 where
     pub as_many : length new ≡ length old
     pub kept : (k : ℕ) → IsTrue (slice_index_or old k false) → IsTrue (slice_index_or new k false)
-    pub followed : (net k : ℕ) → (slice_index v net ≡ slice_index w net → ⊥) → Follows net k → IsTrue (slice_index_or new k false)
-    pub no_other : (k : ℕ) → IsTrue (slice_index_or new k false) → IsTrue (slice_index_or old k false) ⊎ ((net : ℕ) × nets net × Follows net k)
+    pub readers_marked : (net k : ℕ) → (slice_index v net ≡ slice_index w net → ⊥) → IsReader net k → IsTrue (slice_index_or new k false)
+    pub no_other : (k : ℕ) → IsTrue (slice_index_or new k false) → IsTrue (slice_index_or old k false) ⊎ ((net : ℕ) × nets net × IsReader net k)
 
-  -- all that are marked follow one of these nets
-  abbrev pub AllFollow : (nets : ℕ → Type 0) → List Bool → Type 0
-  AllFollow nets marks = (k : ℕ) → IsTrue (slice_index_or marks k false) → (net : ℕ) × nets net × Follows net k
+  -- all that are marked are readers of these nets
+  abbrev pub AllAreReaders : (nets : ℕ → Type 0) → List Bool → Type 0
+  AllAreReaders nets marks = (k : ℕ) → IsTrue (slice_index_or marks k false) → (net : ℕ) × nets net × IsReader net k
 
 -- one of these changes gives the net a value
 abbrev pub IsGiven : List (ℕ × ℕ) → (net : ℕ) → Type 0

@@ -2,7 +2,7 @@
 use Rattle.std.specs.Prelude.{◌≡◌, ℕ, ◌+◌, ◌<◌, ◌≤◌, false, List, length, slice_index, slice_index_or, Option, Contains}
 use Rattle.rtl_model.specs.simulation.Netlist.{Netlist}
 use Rattle.rtl_kernel.specs.drivers.Updates.{IsTaken}
-use Rattle.rtl_net_groups.specs.Written.{IsWritten as HasRun}
+use Rattle.rtl_net_groups.specs.Written.{IsWritten}
 use Rattle.rtl_kernel.specs.wakes.Woken.{wakers_of}
 use Rattle.rtl_net_groups.specs.Groups.{Grouping}
 use Rattle.rtl_net_groups.specs.Touching.{Touches}
@@ -11,7 +11,7 @@ use Rattle.rtl_levels.specs.Marks.{AreBelow, IsOfRun, Marks}
 use Rattle.rtl_levels.specs.Running.{IsSettled, TakesOver, TakesPart, at_targets}
 
 -- each net has its readers, each reader a mark, and each net a chunk
-pub record IsFollowed (readers : Grouping) (s : State) : Type 0 where
+pub record HaveReaders (readers : Grouping) (s : State) : Type 0 where
   pub each_net : length (wakers_of readers) ≡ length s.values.items
   pub below : AreBelow (wakers_of readers) (length s.dirty.items)
   pub each_chunk : s.touched.nets ≡ length s.values.items
@@ -25,23 +25,24 @@ pub record Advances (readers : Grouping) (nets : ℕ → Type 0) (a b : State) :
 
 -- so many nets from the first on, one behind the other, are in one group
 pub record StandTogether (readers : Grouping) (first many : ℕ) (s : State) : Type 0 where
-  pub followed : IsFollowed readers s
+  pub have_readers : HaveReaders readers s
   pub there : first + many ≤ length s.values.items
   pub together : (k : ℕ) → k < many → slice_index readers.of_net (first + k) ≡ slice_index readers.of_net first
 
 -- from a to b the nets from the first on get these values
 pub record GetValues (readers : Grouping) (first : ℕ) (given : List ℕ) (a b : State) : Type 0 where
-  pub written : HasRun first given a.values.items b.values.items
+  pub written : IsWritten first given a.values.items b.values.items
   pub advances : Advances readers (IsOfRun first (length given)) a b
 
 -- from a to b the nets of these targets take over the entries of a run
-pub record TakeEntries (readers : Grouping) (targets : List ℕ) (entries : List (Option ℕ)) (a b : State) : Type 0 where
+pub record StateTakesOver (readers : Grouping) (targets : List ℕ) (entries : List (Option ℕ)) (a b : State)
+    : Type 0 where
   pub taken : TakesOver targets entries a.values.items b.values.items
   pub advances : Advances readers (Contains targets) a b
 
--- the same of some targets, among which are those of the places from one on and before an end
-pub record TakeSome (readers : Grouping) (targets : List ℕ) (entries : List (Option ℕ)) (from end : ℕ) (a b : State)
-    : Type 0 where
+-- the same of some targets, among which are those of the places from `from` on and before `end`
+pub record StateTakesPart (readers : Grouping) (targets : List ℕ) (entries : List (Option ℕ)) (from end : ℕ)
+    (a b : State) : Type 0 where
   pub part : TakesPart targets entries a.values.items b.values.items
   pub taken : (place : ℕ) → from ≤ place → place < end → IsTaken entries (at_targets targets b.values.items) place
   pub advances : Advances readers (Contains targets) a b

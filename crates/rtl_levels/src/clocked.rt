@@ -10,7 +10,7 @@ ghost use Rattle.rtl_levels.specs.States.{Advances};
 ghost use Rattle.rtl_levels.specs.Steps.{AllTakeOver, HaveRun, SomeHaveRun, SomeTakeOver};
 
 use crate::entries::take_over;
-use crate::marks::followers_of;
+use crate::marks::readers_of;
 use crate::running::run;
 use crate::schedule::Schedule;
 use crate::state::State;
@@ -51,7 +51,7 @@ pub fn run_marked<E: Exec>(
         (entries_of runs.new.items) }
 {
     for (changed, _value) in changes {
-        let processes = followers_of(&schedule.clocked, *changed);
+        let processes = readers_of(&schedule.clocked, *changed);
         run_each(
             net, bodies, schedule, processes, marked, before, values, runs, ahead,
         );
@@ -140,7 +140,7 @@ pub fn take_marked(
     ensures none_marked { HasNoMark marked.new.items }
 {
     for (changed, _value) in changes {
-        let processes = followers_of(&schedule.clocked, *changed);
+        let processes = readers_of(&schedule.clocked, *changed);
         take_each(net, runs, schedule, processes, marked, state);
     }
 }

@@ -10,7 +10,7 @@ ghost use Rattle.rtl_net.specs.Core.{core};
 ghost use Rattle.rtl_net.specs.Nets.{flat};
 ghost use Rattle.rtl_levels.specs.Kept.{IsPlanned};
 ghost use Rattle.rtl_levels.specs.Pieces.{AreCutFor, IsPiece};
-ghost use Rattle.rtl_levels.specs.States.{IsFollowed, StandTogether, TakeEntries, TakeSome};
+ghost use Rattle.rtl_levels.specs.States.{HaveReaders, StandTogether, StateTakesOver, StateTakesPart};
 
 use crate::schedule::Schedule;
 use crate::state::State;
@@ -18,16 +18,15 @@ use rtl_eval::{Drives, Span};
 use rtl_net::{Driver, Net};
 use rtl_net_groups::Groups;
 
-/// Gives the nets of a process's drivers the entries that a run has left, and marks what is
-/// sensitive to those that change, and their chunks. If its drivers are one cut, nothing is looked
-/// up for a place.
+/// Gives the nets of a process's drivers the entries that a run has left, and marks the readers and
+/// the chunks of those that change. If its drivers are one cut, nothing is looked up for a place.
 #[inline(always)]
 pub fn take_over(net: &Net, schedule: &Schedule, number: usize, outcome: &Drives, state: &mut State)
     requires planned { IsPlanned (core net.now) schedule.now }
     requires there { number < length net.now.processes }
     requires own { IsOf (process_at (flat net.now) number) outcome.now }
-    requires followed { IsFollowed schedule.now.readers state.old }
-    ensures { TakeEntries schedule.now.readers (process (core net.now) number).drives outcome.now.entries
+    requires have_readers { HaveReaders schedule.now.readers state.old }
+    ensures { StateTakesOver schedule.now.readers (process (core net.now) number).drives outcome.now.entries
         state.old state.new }
 {
     match schedule.wholes[number] {
@@ -45,7 +44,7 @@ pub fn take_over(net: &Net, schedule: &Schedule, number: usize, outcome: &Drives
 fn take_whole(readers: &Groups, first: usize, outcome: &Drives, state: &mut State)
     requires { StandTogether readers.now first (length outcome.now.entries) state.old }
     ensures { let entries = outcome.now.entries in
-        TakeEntries readers.now (range_with_len first (length entries)) entries state.old state.new }
+        StateTakesOver readers.now (range_with_len first (length entries)) entries state.old state.new }
 {
     let spans = outcome.assigned();
     if spans.len() == 1 {
@@ -62,7 +61,7 @@ fn take_whole(readers: &Groups, first: usize, outcome: &Drives, state: &mut Stat
 fn take_each(readers: &Groups, first: usize, outcome: &Drives, state: &mut State)
     requires { StandTogether readers.now first (length outcome.now.entries) state.old }
     ensures { let entries = outcome.now.entries in
-        TakeEntries readers.now (range_with_len first (length entries)) entries state.old state.new }
+        StateTakesOver readers.now (range_with_len first (length entries)) entries state.old state.new }
 {
     for span in outcome.assigned() {
         let assigned = outcome.values(*span);
@@ -81,8 +80,8 @@ fn take_spans(
 )
     requires each_driver { length drives.now ≡ length outcome.now.entries }
     requires cuts { AreCutFor schedule.now (nets_of drives.now) number }
-    requires followed { IsFollowed schedule.now.readers state.old }
-    ensures { TakeEntries schedule.now.readers (nets_of drives.now) outcome.now.entries state.old state.new }
+    requires have_readers { HaveReaders schedule.now.readers state.old }
+    ensures { StateTakesOver schedule.now.readers (nets_of drives.now) outcome.now.entries state.old state.new }
 {
     for span in outcome.assigned() {
         take_span(drives, schedule, number, outcome, *span, state);
@@ -102,9 +101,9 @@ fn take_span(
     requires within { span.first + span.len ≤ length outcome.now.entries }
     requires all { (k : ℕ) → k < span.len → IsSome (slice_index_or outcome.now.entries (span.first + k) None) }
     requires cuts { AreCutFor schedule.now (nets_of drives.now) number }
-    requires followed { IsFollowed schedule.now.readers state.old }
-    ensures { TakeSome schedule.now.readers (nets_of drives.now) outcome.now.entries span.first (span.first + span.len)
-        state.old state.new }
+    requires have_readers { HaveReaders schedule.now.readers state.old }
+    ensures { StateTakesPart schedule.now.readers (nets_of drives.now) outcome.now.entries
+        span.first (span.first + span.len) state.old state.new }
 {
     let end = span.first + span.len;
     let mut first = span.first;

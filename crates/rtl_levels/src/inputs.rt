@@ -5,9 +5,9 @@ ghost use Rattle.rtl_kernel.specs.kernel.Simulation.{changes_of, each_given};
 ghost use Rattle.rtl_kernel.specs.values.TwoValues.{AreChanged};
 ghost use Rattle.rtl_kernel.specs.wakes.Woken.{wakers_of};
 ghost use Rattle.rtl_levels.specs.Marks.{AreBelow, IsGiven, Marks};
-ghost use Rattle.rtl_levels.specs.States.{Advances, IsFollowed};
+ghost use Rattle.rtl_levels.specs.States.{Advances, HaveReaders};
 
-use crate::marks::mark_followers;
+use crate::marks::mark_readers;
 use crate::schedule::Schedule;
 use crate::state::State;
 use std::alloc::{AllocError, Global};
@@ -39,8 +39,8 @@ pub fn changes_to(
     Ok(changes)
 }
 
-/// Gives nets values, one after the other, and marks what is sensitive to those that change, and
-/// their chunks.
+/// Gives nets values, one after the other, and marks the readers and the chunks of those that
+/// change.
 pub fn take_inputs(
     schedule: &Schedule,
     changes: &[(usize, Nine)],
@@ -48,7 +48,7 @@ pub fn take_inputs(
     state: &mut State,
 )
     requires there { All (λ c. c.0 < length state.old.values.items) changes.now }
-    requires followed { IsFollowed schedule.now.readers state.old }
+    requires have_readers { HaveReaders schedule.now.readers state.old }
     requires each_clocked { length (wakers_of schedule.now.clocked) ≡ length state.old.values.items }
     requires clocked { AreBelow (wakers_of schedule.now.clocked) (length woken.old.items) }
     ensures values { AreChanged (changes_of changes.now) state.old.values.items state.new.values.items }
@@ -58,7 +58,7 @@ pub fn take_inputs(
 {
     for (net, value) in changes {
         let code = value.code();
-        mark_followers(&schedule.clocked, &state.values, *net, code, woken);
+        mark_readers(&schedule.clocked, &state.values, *net, code, woken);
         state.set(&schedule.readers, *net, code);
     }
 }

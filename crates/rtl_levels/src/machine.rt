@@ -183,9 +183,9 @@ fn clocked_marks(alloc: Global, levels: &[Option<u32>]) -> Result<Vec<bool>, All
     Ok(marks)
 }
 
-/// Runs the marked processes, which follow nets of these changes, together, and then those
-/// combinational ones that are marked or that get marked, each once. The other combinational ones
-/// are settled before.
+/// Runs the woken clocked processes together, each of which is sensitive to a net that changes;
+/// then, each once, the combinational ones that are dirty or get dirty. Those that aren't are
+/// settled.
 fn come_to_rest<E: Exec>(
     net: &Net,
     bodies: &[E],

@@ -6,9 +6,9 @@ ghost use Rattle.rtl_levels.specs.Marks.{AreBelow, Marks};
 
 use rtl_net_groups::Groups;
 
-/// What is sensitive to a net.
+/// The readers of a net: what is sensitive to it.
 #[inline(always)]
-pub fn followers_of(groups: &Groups, net: usize) -> &[usize]
+pub fn readers_of(groups: &Groups, net: usize) -> &[usize]
     requires { net < length (wakers_of groups.now) }
     ensures { result.now ≡ slice_index_or (wakers_of groups.now) net [] }
 {
@@ -41,8 +41,8 @@ fn mark_each(marks: &mut Vec<bool>, numbers: &[usize])
     }
 }
 
-/// Marks what is sensitive to a net, if the net is to get another value than it has.
-pub fn mark_followers(groups: &Groups, values: &[u8], net: usize, value: u8, marks: &mut Vec<bool>)
+/// Marks the readers of a net, if the value that the net is to get is new.
+pub fn mark_readers(groups: &Groups, values: &[u8], net: usize, value: u8, marks: &mut Vec<bool>)
     requires there { net < length values.now }
     requires each_net { length (wakers_of groups.now) ≡ length values.now }
     requires below { AreBelow (wakers_of groups.now) (length marks.old.items) }
@@ -50,6 +50,6 @@ pub fn mark_followers(groups: &Groups, values: &[u8], net: usize, value: u8, mar
         marks.old.items marks.new.items }
 {
     if values[net] != value {
-        mark(marks, followers_of(groups, net));
+        mark(marks, readers_of(groups, net));
     }
 }

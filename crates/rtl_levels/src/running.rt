@@ -6,7 +6,7 @@ ghost use Rattle.rtl_model.specs.simulation.Range.{IsValuation};
 ghost use Rattle.rtl_kernel.specs.drivers.Transactions.{HasRunOf};
 ghost use Rattle.rtl_net.specs.Core.{core};
 ghost use Rattle.rtl_levels.specs.Kept.{IsPlanned, IsStateOf, MayRun};
-ghost use Rattle.rtl_levels.specs.States.{TakeEntries};
+ghost use Rattle.rtl_levels.specs.States.{StateTakesOver};
 
 use crate::entries::take_over;
 use crate::schedule::Schedule;
@@ -50,7 +50,7 @@ pub fn settle<E: Exec>(
     ensures may { MayRun E.process E.types E.most net.now bodies.now runs.new.items }
     ensures state { IsStateOf (core net.now) schedule.now state.new }
     ensures written { let p = process (core net.now) number in let v = state.old.values.items in
-        TakeEntries schedule.now.readers p.drives (p.effect v v) state.old state.new }
+        StateTakesOver schedule.now.readers p.drives (p.effect v v) state.old state.new }
 {
     run(net, bodies, number, &state.values, &state.values, runs);
     take_over(net, schedule, number, &runs[number], state);

@@ -1,14 +1,14 @@
 //! The values of the nets, and what their changes mark.
 
 ghost use Rattle.std.specs.Prelude.{◌≡◌, ℕ, ◌<◌, true, false, length, slice_index_or, slice_set, IfOk};
-ghost use Rattle.rtl_levels.specs.States.{Advances, GetValues, IsFollowed, StandTogether};
+ghost use Rattle.rtl_levels.specs.States.{Advances, GetValues, HaveReaders, StandTogether};
 
-use crate::marks::{followers_of, mark, mark_followers};
+use crate::marks::{mark, mark_readers, readers_of};
 use rtl_net_groups::{Groups, Touched, replace};
 use std::alloc::{AllocError, Global};
 
 /// The values of all nets, as codes, with marks of the combinational processes that are to run, by
-/// rank, and of the chunks of the nets that the step under way may have changed.
+/// rank, and of the chunks of the nets that the last step, or the one under way, may have changed.
 pub struct State {
     pub values: Vec<u8>,
     pub dirty: Vec<bool>,
@@ -42,29 +42,28 @@ impl State {
         })
     }
 
-    /// Gives a net a value, and marks what is sensitive to it, if it is another than it has, and
-    /// its chunk.
+    /// Gives a net a value and marks its chunk; if the value is new, marks the net's readers too.
     #[inline(always)]
     pub fn set(&mut self, readers: &Groups, net: usize, value: u8)
         requires there { net < length self.old.values.items }
-        requires followed { IsFollowed readers.now self.old }
+        requires have_readers { HaveReaders readers.now self.old }
         ensures value { self.new.values.items ≡ slice_set self.old.values.items net value }
         ensures advances { Advances readers.now (λ n. n ≡ net) self.old self.new }
     {
-        mark_followers(readers, &self.values, net, value, &mut self.dirty);
+        mark_readers(readers, &self.values, net, value, &mut self.dirty);
         self.values[net] = value;
         self.touched.mark_run(net, net + 1);
     }
 
-    /// Gives nets that stand one behind the other in one group these values, and marks what is
-    /// sensitive to them, and their chunks, if one gets another value than it has.
+    /// Gives nets that stand one behind the other in one group these values. If one of these is new,
+    /// marks the nets' readers and their chunks.
     #[inline(always)]
     fn set_here(&mut self, readers: &Groups, first: usize, given: &[u8])
         requires { StandTogether readers.now first (length given.now) self.old }
         ensures { GetValues readers.now first given.now self.old self.new }
     {
         if replace(&mut self.values, first, given) {
-            mark(&mut self.dirty, followers_of(readers, first));
+            mark(&mut self.dirty, readers_of(readers, first));
             self.touched.mark_run(first, first + given.len());
         }
     }

@@ -13,7 +13,7 @@ use Rattle.rtl_run.specs.simulations.Simulated.{Settled, SettlesAs, AreMoments, 
 use Rattle.rtl_run.specs.simulations.Traced.{text_so_far, whole_text}
 use Rattle.rtl_run.specs.simulations.Answered.{WritesAll, StopsAt, LeavesBeginning}
 use Rattle.rtl_run.specs.simulations.Engines.{CourseView, ComesTo}
-use Rattle.rtl_run.specs.simulations.Running.{last_values, last_printed_of, HasCome, IsNextMoment}
+use Rattle.rtl_run.specs.simulations.Progress.{last_values, last_printed_of, HasCome, IsNextMoment}
 use Rattle.rtl_run.proofs.MomentTexts.{text_more, last_more, text_end, values_more}
 use Rattle.rtl_run.proofs.Moments.{are_more, are_none}
 use Rattle.rtl_run.proofs.Stands.{one_more}

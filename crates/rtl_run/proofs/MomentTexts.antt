@@ -8,7 +8,7 @@ use Rattle.rtl_vcd.specs.Trace.{Moment, first_text, moment_text, moments_text, e
 use Rattle.rtl_stim.specs.Stimuli.{StimulusView, moments}
 use Rattle.rtl_run.specs.simulations.Simulated.{Settled}
 use Rattle.rtl_run.specs.simulations.Traced.{behind_first, at_times, changes_text, text_so_far, whole_text}
-use Rattle.rtl_run.specs.simulations.Running.{last_values, last_printed, last_printed_of}
+use Rattle.rtl_run.specs.simulations.Progress.{last_values, last_printed, last_printed_of}
 
 -- of the same netlist and the same values
 module _ (own net : NetlistView) (same : own ≡ net) (was before is now : List ℕ) (was_before : was ≡ before) (is_now : is ≡ now) where

@@ -1,4 +1,4 @@
--- What `run` and `eval` answer on a netlist: nothing is written before the checker, the stimulus and the search for a
+-- What `run_watched` and `eval` answer on a netlist: nothing is written before the checker, the stimulus and the search for a
 -- race have passed.
 use Rattle.std.specs.Prelude.{◌≡◌, ℕ, ◌⊎◌, List, Result, Err}
 use Rattle.rtl_net.specs.Nets.{NetlistView}

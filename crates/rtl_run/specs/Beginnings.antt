@@ -15,7 +15,8 @@ use Rattle.rtl_run.specs.declared.admission.Admitted.{Admitted}
 use Rattle.rtl_run.specs.Admitted.{IsAdmitted}
 use Rattle.rtl_run.specs.Synchronous.{SaysYes, IsRaceless}
 
--- the stimulus that the text says is admitted, these are the bodies of the netlist's processes, and nothing waits
+-- the stimulus that the text says is admitted, with the levels of the netlist's processes, these are their bodies, and
+-- nothing waits
 pub record IsPrepared (net : NetlistView) (text : List ℕ) (a : Admitted) (codes : List CodeOf) (agenda : AgendaState)
     : Type 0 where
   pub admitted : IsAdmitted net text a.bound a.stimulus
@@ -24,8 +25,8 @@ pub record IsPrepared (net : NetlistView) (text : List ℕ) (a : Admitted) (code
   pub waiting : agenda.waiting ≡ []
   pub last : agenda.last ≡ None
 
--- The checker says yes with this bound, the stimulus is of the netlist's inputs and has no race, these bodies run
--- its processes, nothing waits, and the output is intact.
+-- The checker says yes with this bound, the netlist's ports have names of their own, the stimulus is of its inputs and
+-- has no race, these bodies run its processes, nothing waits, and the output is intact.
 pub record IsReady {E : Type 0} (process : E → FlatProcess) (types : E → List ElementType) (net : NetlistView)
     (bodies : List E) (s : StimulusView) (bound : ℕ) (agenda : AgendaState) (out : SinkState) : Type 0 where
   pub accepted : SaysYes (core net) bound

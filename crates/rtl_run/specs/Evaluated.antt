@@ -50,7 +50,7 @@ module _ (net : NetlistView) (s : StimulusView) (bound : ℕ) where
   Prints old new (Err Output) = HasFailed new × (text : List ℕ) × AreFirstLines text × TakesBeginning old new text
   Prints old new (Err _) = ⊥
 
--- `eval` refuses what `run` refuses under the stimulus that the words say.
+-- `eval` refuses what `run_watched` refuses under the stimulus that the words say.
 abbrev pub Evaluates : NetlistView → (words : List (List ℕ)) → (old new : SinkState)
     → Result (Unit {0}) MachineFault → Type 0
 Evaluates net words old new answer =

@@ -11,7 +11,7 @@ abbrev pub of_stim : StimFault → MachineFault
 of_stim NoMemory = machine.Memory
 of_stim fault = machine.Stim fault
 
--- where each moment settles
+-- of a run whose moments all settle, so that NoSettling doesn't come
 abbrev pub of_run : RunFault → MachineFault
 of_run run.Output = machine.Output
 of_run fault = machine.Memory

@@ -16,8 +16,9 @@ IsComplete (Err Memory) = ⊥
 IsComplete (Err Output) = ⊥
 
 -- the answers are the same, and both sinks took one text
-pub record AreAlike (old one other : SinkState) (answer also : Result Summary RunFault) : Type 0 where
-  pub same : answer ≡ also
+pub record AreAlike (old one other : SinkState) (one_answer other_answer : Result Summary RunFault)
+    : Type 0 where
+  pub same : one_answer ≡ other_answer
   pub text : List ℕ
   pub one_took : TakesAll old one text
   pub other_took : TakesAll old other text
@@ -26,6 +27,6 @@ pub record AreAlike (old one other : SinkState) (answer also : Result Summary Ru
 abbrev pub EachOrderIsWrittenAlike : Type 0
 EachOrderIsWrittenAlike =
     (net : NetlistView) (s : StimulusView) (limit : ℕ) (old one other : SinkState)
-    (answer also : Result Summary RunFault)
-    → Answers net s limit old one answer → Answers net s limit old other also → IsComplete answer → IsComplete also
-    → AreAlike old one other answer also
+    (one_answer other_answer : Result Summary RunFault)
+    → Answers net s limit old one one_answer → Answers net s limit old other other_answer
+    → IsComplete one_answer → IsComplete other_answer → AreAlike old one other one_answer other_answer

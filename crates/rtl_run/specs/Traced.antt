@@ -56,6 +56,7 @@ module _ (net : NetlistView) (s : StimulusView) (bound : ℕ) where
   Leaves old new Output = TracesBeginning old new × HasFailed new
   Leaves old new _ = ⊥
 
+  -- what of the trace went out where this is the answer
   abbrev pub Traces : (old new : SinkState) → Result Summary MachineFault → Type 0
   Traces old new (Ok summary) = TracesAll old new summary
   Traces old new (Err fault) = Leaves old new fault

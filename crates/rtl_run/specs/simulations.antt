@@ -4,4 +4,4 @@ pub mod Answered
 pub mod Watched
 pub mod Engines
 pub mod Ended
-pub mod Running
+pub mod Progress

@@ -19,7 +19,7 @@ use std::alloc::Global;
 /// at each moment the clocked processes that the inputs wake run, and then the combinational ones
 /// once in order of level. It writes the trace that `run_watched` writes. Nothing is written before
 /// the checker, the stimulus and the search for a race have passed. The watch is told the machine's
-/// valuation at each moment, as soon as it is known until when that stands.
+/// valuation at each moment, once the time of the next one is known, until which it stands.
 ///
 /// It takes the checker's memory, the stimulus's, the machine's, that of the names' blocks, and a
 /// byte for each net.
@@ -27,8 +27,7 @@ use std::alloc::Global;
 /// # Errors
 ///
 /// `Rejected` with what the checker found; then `Stim` with the first bad line of the text, or with
-/// the earliest race. Nothing is written till here. `Memory` and `Output` leave a beginning of the
-/// trace.
+/// the earliest race. `Memory` and `Output` leave a beginning of the trace.
 pub fn run_levels_watched<V: Watch, W: Sink>(
     alloc: Global,
     net: &Net,

@@ -5,7 +5,7 @@ ghost use Rattle.rtl_net_groups.specs.Touching.{KeepsLeft};
 ghost use Rattle.byte_streams.specs.Written.{SinkState, IsIntact};
 ghost use Rattle.rtl_run.specs.simulations.Engines.{course_of};
 ghost use Rattle.rtl_run.specs.simulations.Ended.{EndsAll, EndsBefore};
-ghost use Rattle.rtl_run.specs.simulations.Running.{HasCome, IsNextMoment, GoesOn};
+ghost use Rattle.rtl_run.specs.simulations.Progress.{HasCome, IsNextMoment, GoesOn};
 
 use crate::engine::Engine;
 use crate::progress::Progress;
@@ -25,10 +25,8 @@ pub(crate) struct Course<'a> {
 }
 
 impl Course<'_> {
-    /// Lets an engine compute each moment, from 0 to the stimulus's stop, and writes the trace. The
-    /// agenda is new: nothing waits in it. The watch is told what each moment settles to, as soon
-    /// as it is known until when that stands; and where a moment doesn't settle, the values before
-    /// the last delta cycle allowed and after it. It answers how many moments there were.
+    /// Lets an engine compute each moment, from 0 to the stimulus's stop, and writes the trace, as
+    /// `Simulation::run_watched` says. It answers how many moments there were.
     ///
     /// It takes the agenda's memory, that of the names' blocks, and a byte for each net.
     pub(crate) fn trace<G: Engine, A: Agenda, V: Watch, W: Sink>(

@@ -2,8 +2,7 @@
 
 ghost use Rattle.std.specs.Prelude.{◌≡◌, ℕ, suc, List, length, OnOk, MatchResult};
 ghost use Rattle.rtl_net_groups.specs.Touching.{Chunks, KeepsLeft};
-ghost use Rattle.byte_streams.specs.Stands.{Stand};
-ghost use Rattle.rtl_run.specs.simulations.Engines.{CourseView, Follows, IsStuck, Shows};
+ghost use Rattle.rtl_run.specs.simulations.Engines.{CourseView, Follows, IsStuck, Shows, TellsStuck};
 
 use crate::summary::RunFault;
 use byte_streams::Watch;
@@ -38,10 +37,9 @@ pub(crate) trait Engine {
     fn start<V: Watch>(&mut self, watch: &mut V) -> Result<(), RunFault>
         requires { (r : CourseView) × has_begun self.old r }
         ensures starts { (r : CourseView) → has_begun self.old r
-            → MatchResult result (λ _. is_at self.new r 0) (IsStuck r 0 0 (λ before now.
-            (first : V) (stands : List Stand) → V.told first stands watch.old
-            → V.stuck first stands before now 0 watch.new)) }
-        ensures untold { OnOk result (watch.new ≡ watch.old) };
+            → MatchResult result (λ _. is_at self.new r 0)
+            (IsStuck r 0 0 (TellsStuck V.told V.stuck watch.old watch.new 0)) }
+        ensures watch_stays { OnOk result (watch.new ≡ watch.old) };
 
     /// Lets the next moment settle, at this time, at which inputs get new values. The watch is told
     /// where it doesn't.
@@ -55,10 +53,9 @@ pub(crate) trait Engine {
             × Follows r m time changes.now (valuation self.old) }
         ensures steps { (r : CourseView) (m : ℕ) → is_at self.old r m
             → Follows r m time changes.now (valuation self.old)
-            → MatchResult result (λ _. is_at self.new r (suc m)) (IsStuck r (suc m) time (λ before now.
-            (first : V) (stands : List Stand) → V.told first stands watch.old
-            → V.stuck first stands before now time watch.new)) }
+            → MatchResult result (λ _. is_at self.new r (suc m))
+            (IsStuck r (suc m) time (TellsStuck V.told V.stuck watch.old watch.new time)) }
         ensures left { OnOk result
             (KeepsLeft (chunks self.new) (valuation self.old) (valuation self.new)) }
-        ensures untold { OnOk result (watch.new ≡ watch.old) };
+        ensures watch_stays { OnOk result (watch.new ≡ watch.old) };
 }

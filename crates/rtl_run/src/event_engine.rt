@@ -1,15 +1,14 @@
 //! The engine that simulates by events.
 
-ghost use Rattle.std.specs.Prelude.{◌≡◌, ℕ, ◌≤◌, List, length, IfOk, IfErr, MatchResult};
+ghost use Rattle.std.specs.Prelude.{◌≡◌, ◌≤◌, length, IfOk, IfErr, MatchResult};
 ghost use Rattle.rtl_model.specs.simulation.Moments.{HasNoneToRun, IsUnsettled, SettlesTo};
 ghost use Rattle.rtl_kernel.specs.kernel.Kept.{RunBodies};
 ghost use Rattle.rtl_net.specs.Core.{core};
 ghost use Rattle.rtl_net.specs.Nets.{flat};
 ghost use Rattle.rtl_net_groups.specs.Touching.{Touches};
-ghost use Rattle.byte_streams.specs.Stands.{Stand};
 ghost use Rattle.rtl_stim.specs.Ports.{HasOwnPorts, inputs_of};
 ghost use Rattle.rtl_run.specs.declared.summary.RunFault.TheVariants.{NoSettling};
-ghost use Rattle.rtl_run.specs.simulations.Engines.{KernelBegins, KernelSettled, course_of};
+ghost use Rattle.rtl_run.specs.simulations.Engines.{KernelBegins, KernelSettled, TellsStuck, course_of};
 
 use crate::course::Course;
 use crate::engine::Engine;
@@ -134,9 +133,9 @@ fn settle<E: Exec, P: Pick, V: Watch>(
         (λ fault. (fault ≡ NoSettling time)
         × IsUnsettled (core kernel.old.net) kernel.old.state limit kernel.new.state) }
     ensures touched { Touches touched.old touched.new kernel.old.state.now kernel.new.state.now }
-    ensures untold { IfOk result (λ _. watch.new ≡ watch.old) }
-    ensures stuck { IfErr result (λ _. (start : V) (stands : List Stand) → V.told start stands watch.old
-        → V.stuck start stands kernel.new.state.before kernel.new.state.now time watch.new) }
+    ensures watch_stays { IfOk result (λ _. watch.new ≡ watch.old) }
+    ensures stuck { IfErr result (λ _. TellsStuck V.told V.stuck watch.old watch.new time
+        kernel.new.state.before kernel.new.state.now) }
 {
     for deltas in 0..limit {
         if kernel.is_quiet() {

@@ -11,7 +11,7 @@ use rtl_check::CheckFault;
 use rtl_stim::StimFault;
 use std::alloc::AllocError;
 
-/// Why a netlist is not simulated, or what is written of it not the whole.
+/// Why a netlist is not simulated, or why its trace was not written whole.
 #[derive(Drop)]
 pub enum MachineFault {
     /// What the checker found, in order.

@@ -19,7 +19,7 @@
 //! Both go through one loop over the moments (`course`), with an engine that lets each moment
 //! settle (`engine`): by events (`event_engine`) or by levels (`level_engine`).
 //! `specs/simulations/Engines.antt` says what is so of an engine at a moment, and
-//! `specs/simulations/Running.antt` how far the loop has come.
+//! `specs/simulations/Progress.antt` how far the loop has come.
 //!
 //! These calls ask that the ports of the netlist's top have names of their own, and that the
 //! elements of its in ports are the netlist's inputs, in their order (`HasOwnPorts` of rtl_stim). A

@@ -24,16 +24,15 @@ use std::alloc::Global;
 /// Simulates a netlist under the stimulus that a text says, and writes the trace: that of the
 /// synchronous machine's run, whatever order of processes `pick` picks. Each moment settles within
 /// the bound of the checker's report. Nothing is written before the checker, the stimulus and the
-/// search for a race have passed. The watch is told the machine's valuation at each moment, as soon
-/// as it is known until when that stands.
+/// search for a race have passed. The watch is told the machine's valuation at each moment, once
+/// the time of the next one is known, until which it stands.
 ///
 /// It takes the checker's memory, the stimulus's and the simulation's.
 ///
 /// # Errors
 ///
 /// `Rejected` with what the checker found; then `Stim` with the first bad line of the text, or with
-/// the earliest race. Nothing is written till here. `Memory` and `Output` leave a beginning of the
-/// trace.
+/// the earliest race. `Memory` and `Output` leave a beginning of the trace.
 pub fn run_watched<P: Pick, V: Watch, W: Sink>(
     alloc: Global,
     net: &Net,

@@ -30,9 +30,9 @@ pub struct Simulation<'a, E: Exec> {
 
 impl<E: Exec> Simulation<'_, E> {
     /// Simulates from 0 to the stimulus's stop, and writes the trace. The agenda is new: nothing
-    /// waits in it. The watch is told what each moment settles to, as soon as it is known until
-    /// when that stands; and where a moment doesn't settle, the values before the last delta cycle
-    /// allowed and after it.
+    /// waits in it. The watch is told what each moment settles to, once the time of the next moment
+    /// is known, until which it stands; and where a moment doesn't settle, the values before the
+    /// last delta cycle allowed and after it.
     ///
     /// It takes the kernel's memory, the agenda's, that of the names' blocks, a byte for each net,
     /// and one for each 256.

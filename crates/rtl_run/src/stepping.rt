@@ -19,8 +19,8 @@ use rtl_net::Net;
 use rtl_stim::{Agenda, Stimulus};
 use std::alloc::Global;
 
-/// What is simulated: an accepted netlist, whose k-th process the k-th body runs and the k-th level
-/// is of, under a stimulus without a race, with the bound of its report.
+/// What is simulated: an accepted netlist, whose k-th process has the k-th body and the k-th level,
+/// under a stimulus without a race, with the bound of its report.
 #[derive(Drop)]
 pub struct Stepping<'a, E: Exec> {
     pub net: &'a Net,
@@ -32,8 +32,8 @@ pub struct Stepping<'a, E: Exec> {
 
 impl<E: Exec> Stepping<'_, E> {
     /// Simulates from 0 to the stimulus's stop, and writes the trace. The agenda is new: nothing
-    /// waits in it. The watch is told the machine's valuation at each moment, as soon as it is
-    /// known until when that stands.
+    /// waits in it. The watch is told the machine's valuation at each moment, once the time of the
+    /// next one is known, until which it stands.
     ///
     /// It takes the machine's memory, the agenda's, that of the names' blocks, and a byte for each
     /// net.

@@ -10,7 +10,7 @@ use Rattle.rtl_model.specs.simulation.Cycle.{State, IsToRun}
 use Rattle.rtl_model.specs.simulation.Laws.{IsConsistent}
 use Rattle.rtl_model.specs.simulation.Range.{StateInRange}
 use Rattle.rtl_awaited_edges.specs.declared.awaited.ClockEdge.{ClockEdge}
-use Rattle.rtl_awaited_edges.specs.Awaiting.{AreFollowers}
+use Rattle.rtl_awaited_edges.specs.Awaiting.{AwaitFirst}
 use Rattle.rtl_eval.specs.Runs.{Outcome, IsOf}
 use Rattle.rtl_kernel.specs.drivers.Brought.{NotedNets}
 use Rattle.rtl_kernel.specs.drivers.DriverCuts.{AreDriverCuts}
@@ -37,12 +37,13 @@ pub record RunBodies {E : Type 0} (process : E → FlatProcess) (types : E → L
   pub each : (p : ℕ) (e : E) → p < length bodies → process (slice_index_or bodies p e) ≡ process_at net p
   pub among : (p : ℕ) (e : E) → p < length bodies → types (slice_index_or bodies p e) ≡ net.types
 
--- each process has the room that its body's run wants
+-- each outcome is of its process, and has the room that its body's run wants
 pub record HaveRoom {E : Type 0} (most : E → ℕ) (net : FlatNetlist) (bodies : List E) (outcomes : List Outcome) : Type 0 where
   pub as_many : length outcomes ≡ length net.processes
   pub own : (p : ℕ) → p < length outcomes → IsOf (process_at net p) (slice_index_or outcomes p no_outcome)
   pub room : (p : ℕ) (e : E) → p < length bodies → most (slice_index_or bodies p e) ≤ (slice_index_or outcomes p no_outcome).room
 
+-- The state is one of this netlist: its values are in range, and its drivers' rows and its processes are the netlist's.
 pub record IsSound (net : FlatNetlist) (s : State) : Type 0 where
   pub each_process : length s.waiting ≡ length net.processes
   pub each_row : length s.drivers ≡ length net.processes
@@ -58,22 +59,22 @@ pub record Parts : Type 0 where
   pub drivers : Transactions
   pub resumed : ToRun
   pub awaited : Option ClockEdge
-  pub followers : List Bool
+  pub await_it : List Bool
 
 -- what stays as it is from step to step is of this netlist, whose nets are in these groups
 pub record AreOfNet {E : Type 0} (process : E → FlatProcess) (types : E → List ElementType) (net : NetlistView) (groups : Grouping)
-    (bodies : List E) (cuts : Cutting) (awaited : Option ClockEdge) (followers : List Bool) : Type 0 where
+    (bodies : List E) (cuts : Cutting) (awaited : Option ClockEdge) (await_it : List Bool) : Type 0 where
   pub in_range : IsInRange (flat net)
   pub connected : IsConnected (flat net)
   pub run_bodies : RunBodies process types (flat net) bodies
   pub is_index : IsIndex (map (λ (p : Process). p.wakes.items) net.processes) (wakers_of groups)
   pub are_cuts : AreDriverCuts net groups cuts
-  pub follow : AreFollowers (core net) awaited followers
+  pub awaits : AwaitFirst (core net) awaited await_it
 
 -- what a kernel keeps is of its netlist, and fits together
 pub record IsKernel {E : Type 0} (process : E → FlatProcess) (types : E → List ElementType) (most : E → ℕ) (bodies : List E)
     (k : Parts) : Type 0 where
-  pub of_net : AreOfNet process types k.nets.net k.nets.values.groups bodies k.cuts k.awaited k.followers
+  pub of_net : AreOfNet process types k.nets.net k.nets.values.groups bodies k.cuts k.awaited k.await_it
   pub room : HaveRoom most (flat k.nets.net) bodies k.drivers.outcomes
   pub sound : IsSound (flat k.nets.net) (state_of k.nets.values k.drivers k.resumed)
   -- no group is left over from an update

@@ -22,7 +22,7 @@ Orders {P} picks waiting (process ∷ order) old new =
 abbrev pub HasRunAsPicked : {P : Type 0} → (picks : P → (count place : ℕ) → P → Type 0) → Netlist → (old new : P) → State → State → Type 0
 HasRunAsPicked picks net old new s t = (order : List ℕ) × Runs net order s t × Orders picks s.waiting order old new
 
--- so do so many delta cycles
+-- so many delta cycles in the orders that the picker gives lead from s to t
 abbrev pub HasDeltasAsPicked : {P : Type 0} → (picks : P → (count place : ℕ) → P → Type 0) → Netlist → (deltas : ℕ) → (old new : P) → State → State → Type 0
 HasDeltasAsPicked picks net zero old new s t = (new ≡ old) × (t ≡ s)
 HasDeltasAsPicked {P} picks net (suc deltas) old new s t =

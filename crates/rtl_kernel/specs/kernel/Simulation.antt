@@ -11,14 +11,14 @@ pub record Simulation : Type 0 where
   pub net : NetlistView
   pub state : State
 
--- a change of a net, by its code
+-- a change of a net, by the code of its value
 abbrev pub change_of : ℕ × Nine → ℕ × ℕ
 change_of c = (c.0, code_of c.1)
 
 abbrev pub changes_of : List (ℕ × Nine) → List (ℕ × ℕ)
 changes_of cs = map {B = ℕ × ℕ} change_of cs
 
--- one change for each of these nets, and each of these values
+-- a change for each of these nets, to the value at the same place
 abbrev pub each_given : (nets : List ℕ) → List Nine → List (ℕ × ℕ)
 each_given [] values = []
 each_given (n ∷ nets) [] = []

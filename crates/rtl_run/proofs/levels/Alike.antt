@@ -15,7 +15,7 @@ use Rattle.rtl_run.specs.Admitted.{IsAdmitted}
 use Rattle.rtl_run.specs.Answered.{Admits, RunsNet}
 use Rattle.rtl_run.specs.declared.level_summary.LevelSummary.{LevelSummary}
 use Rattle.rtl_run.specs.levels.Answered.{RunsLevels, TracesLevels}
-use Rattle.rtl_run.specs.levels.Laws.{EachTraceIsTheOne, EachRunIsWrittenAlike, AreAlike}
+use Rattle.rtl_run.specs.levels.Laws.{EachTraceIsTheOne, EachRunIsWrittenAlike, WriteAlike}
 
 pub each_trace_is_the_one : EachNetMeetsTheLaws → OneMachineRun → EachTraceIsTheOne
 each_trace_is_the_one meets one net s is_net accepted bound other_bound text other T U =
@@ -36,7 +36,7 @@ same_stimulus net text a b s t A B = λ i. record { inputs = (A.says.0 ∙ sym B
 
 module _ (one : EachTraceIsTheOne) (reports : OneReport) (net : NetlistView) (text : List ℕ) (is_net : IsNet net) (old left right : SinkState) (summary : Summary) (levels : LevelSummary) where
   both : (A : Admits net text (λ s bound. Traces net s bound old left (Ok summary))) (B : Admits net text (λ s bound. TracesLevels net s bound old right (Ok levels)))
-      → AreAlike old left right summary levels
+      → WriteAlike old left right summary levels
   both A B = record {
     text = A.done.all.text;
     one_took = A.done.all.taken;
@@ -59,7 +59,7 @@ module _ (one : EachTraceIsTheOne) (reports : OneReport) (net : NetlistView) (te
           let also = B.admitted.accepted in
           (reports (core net) yes.accepted yes.levels also.levels yes.from also.from yes.clocks also.clocks A.bound B.bound yes.report also.report).3
 
-  pub alike : RunsNet net text old left (Ok summary) → RunsLevels net text old right (Ok levels) → AreAlike old left right summary levels
+  pub alike : RunsNet net text old left (Ok summary) → RunsLevels net text old right (Ok levels) → WriteAlike old left right summary levels
   alike (inl A) (inl B) = both A B
   alike (inl A) (inr R) = let is = R.is in cc
   alike (inr R) either = let is = R.is in cc

@@ -1,4 +1,4 @@
--- `run` and `run_levels` write the same.
+-- `run_watched` and `run_levels_watched` write the same.
 use Rattle.std.specs.Prelude.{◌≡◌, ℕ, ◌≤◌, List, Ok}
 use Rattle.rtl_model.specs.simulation.Accepted.{IsAccepted}
 use Rattle.rtl_net.specs.Nets.{NetlistView}
@@ -21,18 +21,18 @@ EachTraceIsTheOne =
 
 -- Both sinks took one text. Both answers tell the same number of moments, and the bound that one tells is none below
 -- the greatest number of delta cycles that the other tells.
-pub record AreAlike (old one other : SinkState) (summary : Summary) (levels : LevelSummary) : Type 0 where
+pub record WriteAlike (old one other : SinkState) (summary : Summary) (levels : LevelSummary) : Type 0 where
   pub text : List ℕ
   pub one_took : TakesAll old one text
   pub other_took : TakesAll old other text
   pub count : summary.moments ≡ levels.moments
   pub within : summary.most_deltas ≤ levels.bound
 
--- Of one netlist and one text, `run` and `run_levels` into sinks that are alike before: where both come to their end,
--- they have written the same bytes.
+-- Of one netlist and one text, `run_watched` and `run_levels_watched` into sinks that are alike before: where both come
+-- to their end, they have written the same bytes.
 abbrev pub EachRunIsWrittenAlike : Type 0
 EachRunIsWrittenAlike =
     (net : NetlistView) (text : List ℕ) → IsNet net
     → (old one other : SinkState) (summary : Summary) (levels : LevelSummary)
     → RunsNet net text old one (Ok summary) → RunsLevels net text old other (Ok levels)
-    → AreAlike old one other summary levels
+    → WriteAlike old one other summary levels

@@ -49,11 +49,13 @@ module _ (net : NetlistView) (s : StimulusView) (limit : ℕ) (old new : SinkSta
     pub is : IsTextOf net s settled text
     pub taken : TakesBeginning old new text
 
+  -- what has gone out where the simulation ends in this fault
   abbrev pub Fails : RunFault → Type 0
   Fails (NoSettling time) = StopsAt time
   Fails Memory = LeavesBeginning × IsIntact new
   Fails Output = LeavesBeginning × HasFailed new
 
+  -- what has gone out, and what the summary tells, where the simulation answers this
   abbrev pub Answers : Result Summary RunFault → Type 0
   Answers (Ok summary) = IsWhole summary
   Answers (Err fault) = Fails fault

@@ -11,7 +11,7 @@ use Rattle.rtl_run.specs.simulations.Watched.{IsToldAll, WasTold}
 abbrev pub EndsAll : CourseView → (old new : SinkState) → (Told : List Stand → Type 0) → (count : ℕ) → Type 0
 EndsAll r old new Told count = WritesAll r.net r.stimulus r.limit old new count × IsToldAll r.net r.stimulus Told
 
--- some of them
+-- the first of them, and then this fault: it may be the output's, behind the last one
 abbrev pub EndsBefore : CourseView → (old new : SinkState) → (Told : List Stand → Type 0)
     → (Stuck : List Stand → (before now : List ℕ) → (time : ℕ) → Type 0) → RunFault → Type 0
 EndsBefore r old new Told Stuck fault =

@@ -6,6 +6,7 @@ use Rattle.rtl_net.specs.Core.{core}
 use Rattle.rtl_net.specs.Elaborated.{IsNet}
 use Rattle.rtl_net.specs.Nets.{NetlistView}
 use Rattle.rtl_net_groups.specs.Touching.{Chunks}
+use Rattle.byte_streams.specs.Stands.{Stand}
 use Rattle.rtl_agenda.specs.Agenda.{Change}
 use Rattle.rtl_kernel.specs.kernel.Simulation.{Simulation}
 use Rattle.rtl_levels.specs.Machine.{MachineView}
@@ -27,7 +28,7 @@ pub record CourseView : Type 0 where
 abbrev pub course_of : Course → CourseView
 course_of c = record { net = c.net.now; stimulus = c.stimulus.now; limit = c.limit }
 
--- the netlist's parts fit, and the stimulus is of its inputs
+-- the netlist's parts fit, its top's ports have names of their own, and the stimulus is of its inputs
 pub record IsCourse (r : CourseView) : Type 0 where
   pub is_net : IsNet r.net
   pub ports : HasOwnPorts r.net
@@ -39,17 +40,25 @@ pub record ComesTo (r : CourseView) (m : ℕ) (values : List ℕ) : Type 0 where
   pub settles : SettlesAs r.net r.stimulus m (record { deltas = deltas; values = values })
   pub within : deltas ≤ r.limit
 
+-- these values, one for each net, are what the moment m settles to
 pub record Shows (r : CourseView) (m : ℕ) (values : List ℕ) : Type 0 where
   pub comes : ComesTo r m values
   pub as_many : length values ≡ length r.net.types
 
--- behind the moment m, at which the nets have these values, comes this time with these changes
+-- behind the moment m comes this time with these changes; there is a value for each net
 pub record Follows (r : CourseView) (m time : ℕ) (changes : List Change) (values : List ℕ) : Type 0 where
   pub gives : GivesNext r.stimulus m time changes
   pub as_many : length values ≡ length r.net.types
 
--- The moment m, at this time, doesn't settle, and this is so of the values before the last delta cycle
--- allowed and after it.
+-- whatever the watch had been told, it is told this of a moment at this time that doesn't settle
+abbrev pub TellsStuck : {V : Type 0} → (told : V → List Stand → V → Type 0)
+    → (stuck : V → List Stand → (before now : List ℕ) → (time : ℕ) → V → Type 0)
+    → (old new : V) → (time : ℕ) → (before now : List ℕ) → Type 0
+TellsStuck {V} told stuck old new time before now =
+    (first : V) (stands : List Stand) → told first stands old → stuck first stands before now time new
+
+-- The moment m, at this time, doesn't settle, and Tells holds of the values before the last delta
+-- cycle allowed and after it.
 pub record IsStuck (r : CourseView) (m time : ℕ) (Tells : (before now : List ℕ) → Type 0) (fault : RunFault)
     : Type 0 where
   pub is : fault ≡ NoSettling time

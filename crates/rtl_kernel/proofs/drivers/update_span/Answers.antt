@@ -49,7 +49,7 @@ module _ (net : NetlistView) (groups : Grouping) (targets : List ℕ) (cuts : Li
 pub take-requires-clause-cut : goal.take-requires-clause-cut
 take-requires-clause-cut c =
     let R = c.requires.row in
-    still (λ n g. IsCutThere n g (get_or c.args.row.cuts.now (get_or c.args.row.numbers.now c.loop-first.first 0) no_cut)) c.args.nets.now c.loop-first.nets
+    still (λ n g. IsCutThere n g (get_or c.args.own.cuts.now (get_or c.args.own.numbers.now c.loop-first.first 0) no_cut)) c.args.nets.now c.loop-first.nets
     c.loop-first.invariant.takes.brings.stay (is_there _ _ _ _ _ c.requires.cuts c.args.outcome.now.entries R.each_entry c.loop-first.first _ 0 c.loop-first-test.true c.requires.within)
 
 pub take-requires-clause-from : goal.take-requires-clause-from
@@ -70,7 +70,7 @@ take-requires-clause-drivers c =
 
 pub loop-first-preserved : goal.loop-first-preserved
 loop-first-preserved c =
-    let targets = targets_of c.args.nets.now.net.processes c.args.row.process in
+    let targets = targets_of c.args.nets.now.net.processes c.args.own.process in
     let entries = c.args.outcome.now.entries in
     let first = c.loop-first.first in
     let I = c.loop-first.invariant in
@@ -85,7 +85,7 @@ loop-first-preserved c =
     let long : first + length assigned ≡ c.min-beyond.result = omega (arith, V.as_many, s) in
     let are : (k : ℕ) → k < length assigned → get_or entries (first + k) None ≡ Some (get_or assigned k 0) =
     λ k l. entry_of entries c.args.span.first c.args.span.len first k I.from (omega (arith, l, long, t.0)) c.requires.all (V.entries k (omega (arith, l, V.as_many))) in
-    let cut = still (λ n g. IsCut g.of_net targets (get_or c.args.row.cuts.now (get_or c.args.row.numbers.now first 0) no_cut)) c.args.nets.now c.loop-first.nets I.takes.brings.stay
+    let cut = still (λ n g. IsCut g.of_net targets (get_or c.args.own.cuts.now (get_or c.args.own.numbers.now first 0) no_cut)) c.args.nets.now c.loop-first.nets I.takes.brings.stay
     (is_cut _ _ _ _ _ c.requires.cuts entries R.each_entry first _ 0 c.loop-first-test.true c.requires.within) in
     let T = takes_run targets entries values new c.loop-first.nets c.take.new.self first assigned are E.written (E.brings targets cut) in
     record {

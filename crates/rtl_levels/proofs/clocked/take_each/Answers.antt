@@ -10,8 +10,8 @@ use Rattle.rtl_kernel.specs.drivers.Transactions.{no_outcome}
 use Rattle.rtl_net.specs.Core.{core}
 use Rattle.rtl_net.specs.Nets.{flat}
 use Rattle.rtl_levels.specs.Kept.{entries_of}
-use Rattle.rtl_levels.specs.States.{TakeEntries}
-use Rattle.rtl_levels.proofs.Advancing.{advances_none, advances_then, advances_wider, followed, still_state}
+use Rattle.rtl_levels.specs.States.{StateTakesOver}
+use Rattle.rtl_levels.proofs.Advancing.{advances_none, advances_then, advances_wider, have_readers, still_state}
 use Rattle.rtl_levels.proofs.Together.{none_takes_over, one_takes_over, others_take_over, stays_off, taken_in_range}
 use Rattle.rtl_levels.proofs.Wired.{processes_many}
 use Rattle.rtl_levels.proofs.clocked.take_each.Goals as goal
@@ -37,8 +37,8 @@ take_over-requires-clause-own c =
     let in_runs : p < length c.args.runs.now = omega (arith, in_marked, c.requires.runs.each_process, c.requires.runs.each_run, processes_many c.args.net.now) in
     subst (λ (x : Outcome). IsOf (process_at (flat c.args.net.now) p) x) (sym (c.index-runs-process.is ∙ get_or_default c.args.runs.now p o no_outcome in_runs)) (c.requires.runs.own p in_runs)
 
-pub take_over-requires-clause-followed : goal.take_over-requires-clause-followed
-take_over-requires-clause-followed c = followed (core c.args.net.now) c.args.schedule.now c.requires.planned c.loop-process.state c.loop-process.invariant.state
+pub take_over-requires-clause-have_readers : goal.take_over-requires-clause-have_readers
+take_over-requires-clause-have_readers c = have_readers (core c.args.net.now) c.args.schedule.now c.requires.planned c.loop-process.state c.loop-process.invariant.state
 
 pub loop-process-preserved : goal.loop-process-preserved
 loop-process-preserved c =
@@ -69,7 +69,7 @@ loop-process-preserved c =
           let new = w.take_over.new.state in
           let u' = new.values.items in
           let outcome : o.entries ≡ entries p = ap (λ (x : Outcome). x.entries) (w.index-runs-process.is ∙ get_or_default runs p o no_outcome in_runs) in
-          let O = subst (λ (es : List (Option ℕ)). TakeEntries readers (process net p).drives es old new) outcome w.take_over.ensures in
+          let O = subst (λ (es : List (Option ℕ)). StateTakesOver readers (process net p).drives es old new) outcome w.take_over.ensures in
           let T = one_takes_over net entries p marked u u' in_marked mark O.taken in
           let F = advances_wider readers (Contains (process net p).drives) (λ n. ⊤) (λ n h. tt) old new O.advances in
           record {

@@ -7,11 +7,11 @@ use Rattle.rtl_model.proofs.simulation.Leveled.{leveled}
 use Rattle.rtl_kernel.specs.wakes.Woken.{wakers_of}
 use Rattle.rtl_net.specs.Core.{core}
 use Rattle.rtl_levels.specs.Kept.{entries_of}
-use Rattle.rtl_levels.specs.Marks.{Follows}
+use Rattle.rtl_levels.specs.Marks.{IsReader}
 use Rattle.rtl_levels.proofs.Advancing.{advances_none, advances_then}
 use Rattle.rtl_levels.proofs.Stepping.{clocked_below}
 use Rattle.rtl_levels.proofs.Together.{all_take_over, none_takes_over, others_take_over, stays_off}
-use Rattle.rtl_levels.proofs.Visiting.{IsComeBy, followers_below, none_come_by, none_left, one_more_come_by}
+use Rattle.rtl_levels.proofs.Visiting.{IsComeBy, listed_below, none_come_by, none_left, one_more_come_by}
 use Rattle.rtl_levels.proofs.clocked.take_marked.Goals as goal
 
 pub loop-changed-init : goal.loop-changed-init
@@ -22,8 +22,8 @@ loop-changed-init c = record {
   advances = advances_none c.args.schedule.now.readers (λ n. ⊤) c.args.state.now;
 }
 
-pub followers_of-processes-requires : goal.followers_of-processes-requires
-followers_of-processes-requires c = c.requires.sensitive.there c.loop-changed.changed-index (0, U) c.loop-changed-test.true
+pub readers_of-processes-requires : goal.readers_of-processes-requires
+readers_of-processes-requires c = c.requires.sensitive.there c.loop-changed.changed-index (0, U) c.loop-changed-test.true
 
 pub take_each-requires-clause-runs : goal.take_each-requires-clause-runs
 take_each-requires-clause-runs c =
@@ -33,8 +33,8 @@ take_each-requires-clause-runs c =
 
 pub take_each-requires-clause-there : goal.take_each-requires-clause-there
 take_each-requires-clause-there c =
-    followers_below (wakers_of c.args.schedule.now.clocked) _ _ (clocked_below _ _ c.requires.planned _ (c.loop-changed.invariant.taken.as_many ∙ c.requires.runs.each_process))
-    c.followers_of-processes.result.now c.followers_of-processes.ensures
+    listed_below (wakers_of c.args.schedule.now.clocked) _ _ (clocked_below _ _ c.requires.planned _ (c.loop-changed.invariant.taken.as_many ∙ c.requires.runs.each_process))
+    c.readers_of-processes.result.now c.readers_of-processes.ensures
 
 pub loop-changed-preserved : goal.loop-changed-preserved
 loop-changed-preserved c =
@@ -52,19 +52,19 @@ loop-changed-preserved c =
     index : List (List ℕ)
     index = wakers_of c.args.schedule.now.clocked
 
-    off : (p : ℕ) → IsComeBy index c.args.changes.now c.loop-changed.changed-index p ⊎ Follows index (get_or c.args.changes.now c.loop-changed.changed-index (0, U)).0 p
+    off : (p : ℕ) → IsComeBy index c.args.changes.now c.loop-changed.changed-index p ⊎ IsReader index (get_or c.args.changes.now c.loop-changed.changed-index (0, U)).0 p
         → get_or c.take_each.new.marked.items p false ≡ false
     off p (inl come) =
         stays_off (core c.args.net.now) (entries_of c.args.runs.now) c.loop-changed.marked.items c.take_each.new.marked.items c.loop-changed.state.values.items c.take_each.new.state.values.items
         c.take_each.ensures.taken p (c.loop-changed.invariant.off p come)
     off p (inr f) =
-        All-contains (λ (q : ℕ). get_or c.take_each.new.marked.items q false ≡ false) c.followers_of-processes.result.now p c.take_each.ensures.off
-        (subst (λ (xs : List ℕ). Contains xs p) (sym c.followers_of-processes.ensures) f)
+        All-contains (λ (q : ℕ). get_or c.take_each.new.marked.items q false ≡ false) c.readers_of-processes.result.now p c.take_each.ensures.off
+        (subst (λ (xs : List ℕ). Contains xs p) (sym c.readers_of-processes.ensures) f)
 
 pub returns-clause-none_marked : goal.returns-clause-none_marked
 returns-clause-none_marked c =
     none_left (wakers_of c.args.schedule.now.clocked) c.args.changes.now c.loop-changed.changed-index (omega (arith, c.loop-changed-test.false)) c.args.marked.now.items c.loop-changed.marked.items
-    c.requires.sensitive.follow c.loop-changed.invariant.taken.fewer c.loop-changed.invariant.off
+    c.requires.sensitive.readers c.loop-changed.invariant.taken.fewer c.loop-changed.invariant.off
 
 pub returns-clause-taken : goal.returns-clause-taken
 returns-clause-taken c =

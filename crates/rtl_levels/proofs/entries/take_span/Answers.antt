@@ -7,8 +7,8 @@ use Rattle.rtl_net.specs.declared.process.Driver.{Driver}
 use Rattle.rtl_net_groups.specs.Groups.{Grouping}
 use Rattle.rtl_levels.specs.declared.state.State.{State}
 use Rattle.rtl_levels.specs.Pieces.{IsPiece}
-use Rattle.rtl_levels.specs.States.{IsFollowed, StandTogether, TakeSome}
-use Rattle.rtl_levels.proofs.Advancing.{still_followed}
+use Rattle.rtl_levels.specs.States.{HaveReaders, StandTogether, StateTakesPart}
+use Rattle.rtl_levels.proofs.Advancing.{still_have_readers}
 use Rattle.rtl_levels.proofs.Spanned.{some_none, some_run, some_then}
 use Rattle.rtl_levels.proofs.entries.take_span.Goals as goal
 
@@ -24,13 +24,13 @@ entry_of entries from len first k low high all has =
 
 -- the nets of a piece stand together
 piece_together : (readers : Grouping) (targets : List ℕ) (first end beyond net many : ℕ) → IsPiece readers.of_net targets first end beyond → All (λ (n : ℕ). n < length readers.of_net) targets
-    → get_or targets first 0 ≡ net → many ≡ beyond - first → (s : State) → IsFollowed readers s → StandTogether readers net many s
+    → get_or targets first 0 ≡ net → many ≡ beyond - first → (s : State) → HaveReaders readers s → StandTogether readers net many s
 piece_together readers targets first end beyond net many P nets at as_many s I =
     let last = beyond - first - 1 in
     let is = P.nets last (omega (arith, P.some)) in
     let below = nets (first + last) 0 (omega (arith, P.some, P.within)) in
     record {
-      followed = I;
+      have_readers = I;
       there = omega (arith, is, below, at, as_many, P.some, I.each_net, length-map readers.of_net (λ (g : ℕ). get_or readers.listed g []));
       together = λ k l. subst (λ (n : ℕ). get_or readers.of_net (n + k) 0 ≡ get_or readers.of_net n 0) at (P.in_group k (omega (arith, l, as_many)));
     }
@@ -46,7 +46,7 @@ set_run-requires c =
     let in_drives : first < length drives = omega (arith, c.loop-first-test.true, c.requires.within, c.requires.each_driver) in
     piece_together readers (nets_of drives) first _ c.piece_end-beyond.result (get_or drives first none).net (length c.values-assigned.result.now) c.piece_end-beyond.ensures c.requires.cuts.nets
     (net_at drives first none in_drives) c.values-assigned.ensures.as_many c.loop-first.state
-    (still_followed readers (Contains (nets_of drives)) c.args.state.now c.loop-first.state c.loop-first.invariant.some.advances c.requires.followed)
+    (still_have_readers readers (Contains (nets_of drives)) c.args.state.now c.loop-first.state c.loop-first.invariant.some.advances c.requires.have_readers)
 
 pub loop-first-preserved : goal.loop-first-preserved
 loop-first-preserved c =
@@ -71,11 +71,11 @@ loop-first-preserved c =
       from = omega (arith, I.from, P.some);
       to = P.to;
       some = some_then readers targets entries c.args.span.first first c.piece_end-beyond.result c.args.state.now c.loop-first.state c.set_run.new.self I.some
-          (subst (λ (n : ℕ). TakeSome readers targets entries first n c.loop-first.state c.set_run.new.self) long one);
+          (subst (λ (n : ℕ). StateTakesPart readers targets entries first n c.loop-first.state c.set_run.new.self) long one);
     }
 
 pub returns : goal.returns
 returns c =
     let I = c.loop-first.invariant in
     let done : c.loop-first.first ≡ c.args.span.first + c.args.span.len = omega (arith, I.to, c.loop-first-test.false) in
-    subst (λ (n : ℕ). TakeSome c.args.schedule.now.readers (nets_of c.args.drives.now) c.args.outcome.now.entries c.args.span.first n c.args.state.now c.loop-first.state) done I.some
+    subst (λ (n : ℕ). StateTakesPart c.args.schedule.now.readers (nets_of c.args.drives.now) c.args.outcome.now.entries c.args.span.first n c.args.state.now c.loop-first.state) done I.some

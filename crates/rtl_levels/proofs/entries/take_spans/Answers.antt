@@ -2,7 +2,7 @@ use Rattle.std.proofs.Common.{arith}
 use Rattle.std.specs.Prelude.{Contains}
 use Rattle.rtl_eval.proofs.Places.{place_assigned}
 use Rattle.rtl_kernel.specs.drivers.Transactions.{nets_of}
-use Rattle.rtl_levels.proofs.Advancing.{still_followed}
+use Rattle.rtl_levels.proofs.Advancing.{still_have_readers}
 use Rattle.rtl_levels.proofs.Spanned.{no_span, taking_all, taking_more, taking_none}
 use Rattle.rtl_levels.proofs.entries.take_spans.Goals as goal
 
@@ -16,9 +16,9 @@ take_span-requires-clause-within c = c.assigned-span-items.ensures.within c.loop
 pub take_span-requires-clause-all : goal.take_span-requires-clause-all
 take_span-requires-clause-all c = λ k l. place_assigned _ _ c.assigned-span-items.ensures.places c.loop-span.span-index k no_span c.loop-span-test.true l
 
-pub take_span-requires-clause-followed : goal.take_span-requires-clause-followed
-take_span-requires-clause-followed c =
-    still_followed c.args.schedule.now.readers (Contains (nets_of c.args.drives.now)) c.args.state.now c.loop-span.state c.loop-span.invariant.advances c.requires.followed
+pub take_span-requires-clause-have_readers : goal.take_span-requires-clause-have_readers
+take_span-requires-clause-have_readers c =
+    still_have_readers c.args.schedule.now.readers (Contains (nets_of c.args.drives.now)) c.args.state.now c.loop-span.state c.loop-span.invariant.advances c.requires.have_readers
 
 pub loop-span-preserved : goal.loop-span-preserved
 loop-span-preserved c =

@@ -53,7 +53,7 @@ take_marked-requires-clause-runs g c =
     }
 
 pub take_marked-requires-clause-sensitive : goal.take_marked-requires-clause-sensitive
-take_marked-requires-clause-sensitive g c = record { there = c.requires.sensitive.there; follow = λ p m. c.requires.sensitive.follow p (c.run_marked.ensures.ran.fewer p m) }
+take_marked-requires-clause-sensitive g c = record { there = c.requires.sensitive.there; readers = λ p m. c.requires.sensitive.readers p (c.run_marked.ensures.ran.fewer p m) }
 
 pub take_marked-requires-clause-state : goal.take_marked-requires-clause-state
 take_marked-requires-clause-state g c = c.requires.state

@@ -7,8 +7,8 @@ use Rattle.rtl_eval.specs.Runs.{IsOf, Outcome}
 use Rattle.rtl_kernel.specs.drivers.Transactions.{no_outcome}
 use Rattle.rtl_net.specs.Nets.{flat}
 use Rattle.rtl_net.specs.Core.{core}
-use Rattle.rtl_levels.specs.States.{TakeEntries}
-use Rattle.rtl_levels.proofs.Advancing.{followed, still_state}
+use Rattle.rtl_levels.specs.States.{StateTakesOver}
+use Rattle.rtl_levels.proofs.Advancing.{have_readers, still_state}
 use Rattle.rtl_levels.proofs.Together.{taken_in_range}
 use Rattle.rtl_levels.proofs.Wired.{combinational_there, ran_entries, runs_many}
 use Rattle.rtl_levels.proofs.running.settle.Goals as goal
@@ -38,8 +38,8 @@ take_over-requires-clause-own g c =
     subst (λ (o : Outcome). IsOf (process_at (flat c.args.net.now) p) o) (sym (c.index.ensures ∙ get_or_default c.run.new.runs.items p c.index.result.now no_outcome in_new))
     (c.run.ensures.may.room.own p in_new)
 
-pub take_over-requires-clause-followed : goal.take_over-requires-clause-followed
-take_over-requires-clause-followed g c = followed (core c.args.net.now) c.args.schedule.now c.requires.planned c.args.state.now c.requires.state
+pub take_over-requires-clause-have_readers : goal.take_over-requires-clause-have_readers
+take_over-requires-clause-have_readers g c = have_readers (core c.args.net.now) c.args.schedule.now c.requires.planned c.args.state.now c.requires.state
 
 pub returns-clause-may : goal.returns-clause-may
 returns-clause-may g c = c.run.ensures.may
@@ -57,7 +57,7 @@ returns-clause-written g c =
     ∙ ran_entries ((process net p).effect c.deref.result.now c.deref-2.result.now) p c.args.runs.now.items c.run.new.runs.items c.run.ensures.ran in_runs
     ∙ ap (λ (u : List ℕ). (process net p).effect u c.deref-2.result.now) c.deref.ensures.value
     ∙ ap (λ (u : List ℕ). (process net p).effect v u) c.deref-2.ensures.value in
-    subst (λ (es : List (Option ℕ)). TakeEntries c.args.schedule.now.readers (process net p).drives es c.args.state.now c.take_over.new.state) entries c.take_over.ensures
+    subst (λ (es : List (Option ℕ)). StateTakesOver c.args.schedule.now.readers (process net p).drives es c.args.state.now c.take_over.new.state) entries c.take_over.ensures
 
 pub returns-clause-state : goal.returns-clause-state
 returns-clause-state g c =

@@ -22,13 +22,13 @@ invariant_of-result g c =
     let drivers = rw (parts.1) at c.new-drivers.ensures.drivers in
     let outcomes = rw (parts.1) at c.new-drivers.ensures.outcomes in
     let resumed = rw (waits.0) at c.all-resumed.ensures in
-    let follow = rw (waits.1) at c.followers_of.ensures in
+    let awaits = rw (waits.1) at c.first_awaited.ensures in
     kept_started _ _ _ c.args.bodies.now net _ c.args.initial.now N.in_range N.connected c.requires.bodies c.in_ok-nets.ensures
     (drivers ∙ ap (map start_row) c.processes-processes.ensures)
     (rw (c.processes-processes.ensures) at outcomes)
     (ap (λ (r : ToRun). r.waiting) resumed ∙ ap (λ (ps : List Process). replicate (length ps) true) c.processes-processes.ensures)
     (rw (c.processes-processes.ensures, c.of_net.ensures.value, c.groups.ensures.value, c.values.ensures.value) at cuts)
-    follow
+    awaits
 
 pub returns : goal.returns
 returns g c =
@@ -45,7 +45,7 @@ returns g c =
       drivers = c.in_ok-cuts.drivers;
       resumed = c.in_ok-cuts.resumed;
       awaited = c.in_ok-cuts.awaited;
-      followers = c.in_ok-cuts.followers.items;
+      await_it = c.in_ok-cuts.await_it.items;
     } in
     let state = is_started g.E.Exec.process g.E.Exec.types g.E.Exec.most c.args.bodies.now net k c.args.initial.now
     N.in_range N.connected c.requires.bodies c.in_ok-nets.ensures

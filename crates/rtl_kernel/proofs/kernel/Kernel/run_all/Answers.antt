@@ -24,7 +24,7 @@ loop-left-init g c = record {
   net = refl;
   asleep = λ e.
       rw (← c.self.view_is)
-      (subst (λ (o : Option ClockEdge). IsAsleep o c.self.inside.nets.values.before c.self.inside.nets.values.current) c.self.invariant.of_net.follow.first
+      (subst (λ (o : Option ClockEdge). IsAsleep o c.self.inside.nets.values.before c.self.inside.nets.values.current) c.self.invariant.of_net.awaits.first
       (rw (c.before-2.ensures.value, c.now.ensures, c.values-values.ensures.value) at (c.is_asleep-asleep.ensures e)));
   rest = λ t last h. h;
 }

@@ -55,23 +55,23 @@ run-requires-clause-room g c = kept.room c.self.invariant c.take-process.result 
 pub invariant_of-self : goal.invariant_of-self
 invariant_of-self g c =
     let v = c.self.inside.nets.values in
-    let follows = get_or_default c.self.inside.followers.items c.take-process.result false c.index.result.now
-    (kept.in_followers c.self.invariant c.take-process.result c.take-process.ensures.at.0) ∙ sym c.index.ensures ∙ c.if-index.true in
+    let awaits_it = get_or_default c.self.inside.await_it.items c.take-process.result false c.index.result.now
+    (kept.in_await_it c.self.invariant c.take-process.result c.take-process.ensures.at.0) ∙ sym c.index.ensures ∙ c.if-index.true in
     let told = rw (← c.self.view_is) at (c.requires.asleep c.if-asleep.true) in
-    let asleep = subst (λ (o : Option ClockEdge). IsAsleep o v.before v.current) (sym c.self.invariant.of_net.follow.first) told in
-    kept.kept_asleep c.self.invariant c.take-process.result c.take-process.ensures.at.0 c.take-process.new.self (ap (λ (r : ToRun). r.waiting) c.take-process.ensures.rest) follows asleep
+    let asleep = subst (λ (o : Option ClockEdge). IsAsleep o v.before v.current) (sym c.self.invariant.of_net.awaits.first) told in
+    kept.kept_asleep c.self.invariant c.take-process.result c.take-process.ensures.at.0 c.take-process.new.self (ap (λ (r : ToRun). r.waiting) c.take-process.ensures.rest) awaits_it asleep
 
 pub returns-then-index-clause-ran : goal.returns-then-index-clause-ran
 returns-then-index-clause-ran g c =
     let v = c.self.inside.nets.values in
-    let follows = get_or_default c.self.inside.followers.items c.take-process.result false c.index.result.now
-    (kept.in_followers c.self.invariant c.take-process.result c.take-process.ensures.at.0) ∙ sym c.index.ensures ∙ c.if-index.true in
+    let awaits_it = get_or_default c.self.inside.await_it.items c.take-process.result false c.index.result.now
+    (kept.in_await_it c.self.invariant c.take-process.result c.take-process.ensures.at.0) ∙ sym c.index.ensures ∙ c.if-index.true in
     let told = rw (← c.self.view_is) at (c.requires.asleep c.if-asleep.true) in
-    let asleep = subst (λ (o : Option ClockEdge). IsAsleep o v.before v.current) (sym c.self.invariant.of_net.follow.first) told in
+    let asleep = subst (λ (o : Option ClockEdge). IsAsleep o v.before v.current) (sym c.self.invariant.of_net.awaits.first) told in
     rw (← c.self.view_is) (
       c.take-process.result,
       c.take-process.ensures.at,
-      kept.is_asleep c.self.invariant c.take-process.result c.take-process.ensures.at.0 c.take-process.new.self (ap (λ (r : ToRun). r.waiting) c.take-process.ensures.rest) follows asleep,
+      kept.is_asleep c.self.invariant c.take-process.result c.take-process.ensures.at.0 c.take-process.new.self (ap (λ (r : ToRun). r.waiting) c.take-process.ensures.rest) awaits_it asleep,
     )
 
 pub invariant_of-self-2 : goal.invariant_of-self-2

@@ -51,7 +51,7 @@ come_to_rest-requires-clause-sensitive g c =
       there = rw (c.deref-3.ensures.value, c.in_ok-schedule.ensures.each_clocked)
           (changes_below net.inputs c.args.initial.now c.requires.initial c.in_ok-changes.changes.items (rw (c.inputs.ensures) at c.in_ok-changes.ensures) (length net.starts)
           (inputs_below (flat net) c.is_elaborated.ensures.in_range));
-      follow = rw (c.deref-3.ensures.value, c.in_ok-changes.ensures, c.inputs.ensures, c.in_ok-woken.ensures)
+      readers = rw (c.deref-3.ensures.value, c.in_ok-changes.ensures, c.inputs.ensures, c.in_ok-woken.ensures)
           (marked_follow (core net) c.args.levels.now greatest V c.in_ok-schedule.schedule c.in_ok-schedule.ensures (IsGiven (each_given net.inputs c.args.initial.now))
           (λ n is. each_is_given net.inputs c.args.initial.now c.requires.initial n (in_contains net.inputs n is)));
     }

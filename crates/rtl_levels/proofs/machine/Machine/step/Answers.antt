@@ -1,5 +1,5 @@
 use Rattle.std.proofs.Common.{sym, ◌∙◌}
-use Rattle.rtl_levels.proofs.Advancing.{followed}
+use Rattle.rtl_levels.proofs.Advancing.{have_readers}
 use Rattle.rtl_levels.proofs.Machines as machines
 use Rattle.rtl_levels.proofs.Stepping.{clocked_below}
 use Rattle.rtl_levels.proofs.Touching.{touches_then}
@@ -10,10 +10,10 @@ take_inputs-requires-clause-there g c =
     let K = c.self.invariant.1 in
     machines.changes_there _ c.self.invariant.0.in_range c.args.changes.now (rw (← c.self.view_is) at c.requires.inputs) c.self.inside.state.values.items K.state_is.in_range.each_net
 
-pub take_inputs-requires-clause-followed : goal.take_inputs-requires-clause-followed
-take_inputs-requires-clause-followed g c =
+pub take_inputs-requires-clause-have_readers : goal.take_inputs-requires-clause-have_readers
+take_inputs-requires-clause-have_readers g c =
     let K = c.self.invariant.1 in
-    followed _ _ K.planned _ (machines.forgotten _ c.self.invariant.0.in_range _ _ _ _ K c.args.changes.now (rw (← c.self.view_is) at c.requires.inputs) _ c.forget.ensures.nets)
+    have_readers _ _ K.planned _ (machines.forgotten _ c.self.invariant.0.in_range _ _ _ _ K c.args.changes.now (rw (← c.self.view_is) at c.requires.inputs) _ c.forget.ensures.nets)
 
 pub take_inputs-requires-clause-each_clocked : goal.take_inputs-requires-clause-each_clocked
 take_inputs-requires-clause-each_clocked g c = let K = c.self.invariant.1 in K.planned.each_clocked ∙ sym K.state_is.in_range.each_net

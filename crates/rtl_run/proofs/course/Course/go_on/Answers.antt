@@ -5,7 +5,7 @@ use Rattle.rtl_net_groups.specs.Touching.{Chunks, IsLeft}
 use Rattle.rtl_vcd.specs.Trace.{moment_text}
 use Rattle.byte_streams.specs.Written.{Goes}
 use Rattle.rtl_run.specs.simulations.Engines.{course_of}
-use Rattle.rtl_run.specs.simulations.Running.{GoesOn}
+use Rattle.rtl_run.specs.simulations.Progress.{GoesOn}
 use Rattle.rtl_run.proofs.Results.{err_with}
 use Rattle.rtl_run.proofs.MomentTexts.{moment_goes, some_change}
 use Rattle.rtl_run.proofs.Going.{next_leaves, goes_further}

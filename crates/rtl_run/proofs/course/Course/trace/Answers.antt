@@ -10,7 +10,7 @@ use Rattle.rtl_vcd.specs.Trace.{end_text}
 use Rattle.rtl_run.specs.declared.summary.RunFault.TheVariants.{Memory, Output}
 use Rattle.rtl_run.specs.simulations.Answered.{LeavesBeginning}
 use Rattle.rtl_run.specs.simulations.Engines.{Follows, Shows, course_of}
-use Rattle.rtl_run.specs.simulations.Running.{IsNextMoment}
+use Rattle.rtl_run.specs.simulations.Progress.{IsNextMoment}
 use Rattle.rtl_run.specs.simulations.Simulated.{NeverSettles}
 use Rattle.rtl_run.specs.simulations.Watched.{StandsFrom}
 use Rattle.rtl_run.proofs.Results.{fails_with}
@@ -66,8 +66,8 @@ shows : (g : Over) (c : After-values g) → Shows (course_of c.args.self.now) 0 
 shows g c = c.values.ensures.shows (course_of c.args.self.now) 0 (c.in_ok-start.ensures.starts (course_of c.args.self.now) c.requires.begun)
 
 -- it isn't told of the first moment yet
-untold : (g : Over) (c : After-values g) → g.V.Watch.told c.args.watch.now [] c.start.new.watch
-untold g c = subst (λ w. g.V.Watch.told c.args.watch.now [] w) (sym c.in_ok-start.ensures.untold) (g.met.V.Watch.nothing c.args.watch.now)
+none_told : (g : Over) (c : After-values g) → g.V.Watch.told c.args.watch.now [] c.start.new.watch
+none_told g c = subst (λ w. g.V.Watch.told c.args.watch.now [] w) (sym c.in_ok-start.ensures.watch_stays) (g.met.V.Watch.nothing c.args.watch.now)
 
 pub first-requires : goal.first-requires
 first-requires g c = record { intact = c.in_ok-header.ensures.ok; valuation = (shows g (goal.at.first-requires g c).After-values).as_many }
@@ -85,7 +85,7 @@ returns-in_err-first g c =
     let r = course_of c.args.self.now in
     fails_with _ _ c.from_residual-in_err-first.result Output c.from_residual-in_err-first.ensures.1 (
       (left g (goal.at.returns-in_err-first g c).After-first, c.in_err-first.ensures.err),
-      told_nothing r.net r.stimulus _ (untold g (goal.at.returns-in_err-first g c).After-values),
+      told_nothing r.net r.stimulus _ (none_told g (goal.at.returns-in_err-first g c).After-values),
     )
 
 pub returns-in_err-from_slice : goal.returns-in_err-from_slice
@@ -93,7 +93,7 @@ returns-in_err-from_slice g c =
     let r = course_of c.args.self.now in
     fails_with _ _ c.from_residual-in_err-from_slice.result Memory c.from_residual-in_err-from_slice.ensures.1 (
       (left g (goal.at.returns-in_err-from_slice g c).After-first, c.in_ok-first.ensures.ok),
-      told_nothing r.net r.stimulus _ (untold g (goal.at.returns-in_err-from_slice g c).After-values),
+      told_nothing r.net r.stimulus _ (none_told g (goal.at.returns-in_err-from_slice g c).After-values),
     )
 
 pub loop-time-init : goal.loop-time-init
@@ -118,7 +118,7 @@ loop-time-init g c =
         at = last.0;
         waits = c.in_ok-load.ensures.waits;
       };
-      heard = hears_nothing (StandsFrom r.net r.stimulus) _ (untold g at);
+      heard = hears_nothing (StandsFrom r.net r.stimulus) _ (none_told g at);
     }
 
 -- ---- a turn
@@ -198,7 +198,7 @@ returns-in_err-refill g c =
     let there = I.last.there in
     fails_with _ _ c.from_residual-in_err-refill.result Memory c.from_residual-in_err-refill.ensures.1 (
       (come_leaves r (g.W.Sink.state c.args.out.now) (g.W.Sink.state c.loop-time.out) c.loop-time.progress I.come c.requires.intact, I.come.intact),
-      heard_first r.net r.stimulus _ (suc I.m) (heard_on g at.After-step (heard g at.After-changes) c.in_ok-step.ensures.untold) (omega (arith, there)),
+      heard_first r.net r.stimulus _ (suc I.m) (heard_on g at.After-step (heard g at.After-changes) c.in_ok-step.ensures.watch_stays) (omega (arith, there)),
     )
 
 pub go_on-requires : goal.go_on-requires
@@ -225,7 +225,7 @@ returns-in_err-go_on g c =
     let there = I.last.there in
     fails_with _ _ c.from_residual-in_err-go_on.result Output c.from_residual-in_err-go_on.ensures.1 (
       c.in_err-go_on.ensures.goes_on (g.W.Sink.state c.args.out.now) I.come (next g at.After-changes),
-      heard_first r.net r.stimulus _ (suc I.m) (heard_on g at.After-step (heard g at.After-changes) c.in_ok-step.ensures.untold) (omega (arith, there)),
+      heard_first r.net r.stimulus _ (suc I.m) (heard_on g at.After-step (heard g at.After-changes) c.in_ok-step.ensures.watch_stays) (omega (arith, there)),
     )
 
 pub loop-time-smaller : goal.loop-time-smaller
@@ -259,7 +259,7 @@ loop-time-preserved g c =
         at = last.0;
         waits = subst (λ (now : ℕ). Waits s.inputs s.schedule now (g.A.Agenda.state c.refill.new.agenda).waiting) (sym has.2) c.in_ok-refill.ensures.waits;
       };
-      heard = heard_on g at.After-step (heard g at.After-changes) c.in_ok-step.ensures.untold;
+      heard = heard_on g at.After-step (heard g at.After-changes) c.in_ok-step.ensures.watch_stays;
     }
 
 -- ---- the end

@@ -1,6 +1,6 @@
 use Rattle.std.proofs.Common.{◌≡◌, ℕ, ◌-◌, length}
 use Rattle.rtl_run.specs.simulations.Engines.{course_of}
-use Rattle.rtl_run.specs.simulations.Running.{HasCome}
+use Rattle.rtl_run.specs.simulations.Progress.{HasCome}
 use Rattle.rtl_run.specs.simulations.Watched.{StandsFrom}
 use Rattle.rtl_run.proofs.Stands.{HasHeard}
 use Rattle.rtl_run.proofs.Turns.{IsLast}

@@ -6,7 +6,7 @@ use Rattle.rtl_net.specs.declared.signal.Scope.{Scope}
 use Rattle.rtl_net.specs.Nets.{scope_view, parent_of, label_at}
 use Rattle.rtl_net.proofs.Naming.{parent-at, label-at, parent-before}
 use Rattle.rtl_expect.proofs.Labels.{labels-of_top, labels-in_parent}
-use Rattle.rtl_expect.proofs.telling.+push_labels.Goals as goal
+use Rattle.rtl_expect.proofs.naming.+push_labels.Goals as goal
 
 pub push_labels-requires : goal.push_labels-requires
 push_labels-requires g t c κs within =

@@ -10,12 +10,12 @@ use Rattle.rtl_run.specs.simulations.Engines.{CourseView}
 use Rattle.rtl_run.specs.simulations.Simulated.{Settled, AreMoments}
 use Rattle.rtl_run.specs.simulations.Traced.{behind_first, at_times, text_so_far}
 
--- the values behind these, which were there before
+-- the values of the last moment, or `before` where there is none
 abbrev pub last_values : (before : List ℕ) → List Settled → List ℕ
 last_values before [] = before
 last_values before (x ∷ xs) = last_values x.values xs
 
--- the last time that is printed of these moments, where it is this one before them
+-- the last time that these moments print, or `last` where they print nothing
 abbrev pub last_printed : List SignalView → (last : ℕ) → (before : List ℕ) → List Moment → ℕ
 last_printed signals last before [] = last
 last_printed signals last before (m ∷ ms) =
@@ -26,7 +26,7 @@ last_printed_of net s [] = 0
 last_printed_of net s (x ∷ xs) = last_printed net.signals 0 x.values (at_times xs (behind_first (moments s)))
 
 module _ (r : CourseView) where
-  -- The moments so far, the last one's among them, settle as was told, and their trace went out.
+  -- Some moments have come, and at least the first: they settle so, and their trace went out.
   pub record HasCome (old new : SinkState) (p : Progress) : Type 0 where
     pub first : Settled
     pub rest : List Settled
@@ -43,7 +43,7 @@ module _ (r : CourseView) where
     pub there : p.moments < length (moments r.stimulus)
     pub is : slice_index (moments r.stimulus) p.moments ≡ time
 
-  -- it went out as well, or the output failed
+  -- what this moment prints went out as well, or the output failed
   abbrev pub GoesOn : {F : Type 0} → (old new : SinkState) → (before : Progress) → (time : ℕ) → (p : Progress)
       → Result (Unit {0}) F → Type 0
   GoesOn old new before time p (Ok _) = HasCome old new p × (p.moments ≡ suc before.moments) × (p.now ≡ time)

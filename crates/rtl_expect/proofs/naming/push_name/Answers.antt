@@ -1,7 +1,7 @@
 use Rattle.std.proofs.Common.{List, ℕ, subst}
 use Rattle.byte_streams.specs.Written.{Goes}
 use Rattle.byte_streams.proofs.Writing.{Goes-append}
-use Rattle.rtl_expect.proofs.telling.push_name.Goals as goal
+use Rattle.rtl_expect.proofs.naming.push_name.Goals as goal
 
 pub returns : goal.returns
 returns g c =

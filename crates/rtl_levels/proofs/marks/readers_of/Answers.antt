@@ -1,7 +1,7 @@
 use Rattle.std.proofs.Common.{◌<◌, ℕ, List, [], get_or, length, ap, sym, ◌∙◌, arith}
 use Rattle.std.proofs.lemmas.List.{length-map}
 use Rattle.rtl_kernel.proofs.Grouped.{wakers_at}
-use Rattle.rtl_levels.proofs.marks.followers_of.Goals as goal
+use Rattle.rtl_levels.proofs.marks.readers_of.Goals as goal
 
 pub returns : goal.returns
 returns c =
