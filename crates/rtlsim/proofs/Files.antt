@@ -5,17 +5,13 @@ use Rattle.rtlsim.specs.Inputs.{GivesFile, GivesWhole, IsEndless, IsTooLong}
 use Rattle.rtlsim.specs.declared.inputs.InputFault.{InputFault}
 use Rattle.rtlsim.specs.declared.inputs.InputFault.TheVariants.{Failed}
 use Rattle.rtlsim.specs.declared.problem.InputProblem.{InputProblem}
-use Rattle.rtlsim.specs.declared.problem.InputProblem.TheVariants.{Missing, Denied, Folder, NotOpened, ReadFailed, TooLong, Endless}
+use Rattle.rtlsim.specs.declared.problem.InputProblem.TheVariants.{Folder, TooLong, Endless}
 
 module _ {File : Type 0} (remaining : File → Option (List ℕ)) (file : File) (old new : ReaderState) (left : old.left ≡ remaining file) where
   of_whole : (problem : InputProblem) → GivesWhole old new (Err problem) → GivesFile remaining (Err problem)
   of_whole TooLong h = (file, subst IsTooLong left h)
   of_whole Endless h = (file, subst IsEndless left h)
-  of_whole Missing h = tt
-  of_whole Denied h = tt
-  of_whole Folder h = tt
-  of_whole NotOpened h = tt
-  of_whole ReadFailed h = tt
+  of_whole _ h = tt
 
   -- a file that is opened fails as its reader does, or is a folder
   pub file_fails : (fault told : InputFault) → ((problem : InputProblem) → fault ≡ Failed problem → GivesWhole old new (Err problem))

@@ -1,5 +1,5 @@
 -- What holds of what was seen of a run, by what else does.
-use Rattle.std.proofs.Common.{◌≡◌, ℕ, Bool, true, false, List, Option, Result, Ok, Err, inl, inr, ◌++◌, sym, subst}
+use Rattle.std.proofs.Common.{◌≡◌, ℕ, Bool, true, false, List, Option, Result, inl, inr, ◌++◌, sym, subst}
 use Rattle.rtl_net.specs.Nets.{NetlistView}
 use Rattle.rtl_progress.specs.Shown.{HasShown, shown_after, shown_text, text_of_end, whole_text}
 use Rattle.rtl_progress.specs.Stops.{stop_of}
@@ -10,23 +10,17 @@ use Rattle.rtlsim.specs.Served.{ServesBy, ServesEvents, ServesLevels, ServesMach
 use Rattle.rtlsim.specs.Sinks.{Sinks, ShowsIf}
 use Rattle.rtlsim_commands.specs.Served.{Outputs, Serves}
 use Rattle.rtlsim_commands.specs.Told.{Done}
-use Rattle.rtlsim_commands.specs.Watched.{IfWhole, OfEvents, OfMachine, Watched}
+use Rattle.rtlsim_commands.proofs.Watched.{if_whole_so, of_events_so, of_machine_so}
+use Rattle.rtlsim_commands.specs.Watched.{Watched}
 use Rattle.rtlsim_command_faults.specs.declared.faults.Fault.{Fault}
-use Rattle.rtlsim_command_faults.specs.declared.faults.Fault.TheVariants.{Differs}
 use Rattle.rtlsim_command_faults.specs.declared.status.Status.{Status}
 use Rattle.rtlsim_command_faults.specs.declared.telling.Telling.{Telling}
 use Rattle.rtlsim_command_line.specs.declared.call.Request.{Request}
-use Rattle.rtlsim_command_line.specs.declared.call.Request.TheVariants.{Eval, Net, Check, Dot, Json, Run, Levels}
-
--- of an answer with the whole trace, or of another
-whole_more : {A P Q : Type 0} → (P → Q) → (answer : Result A Fault) → IfWhole answer P → IfWhole answer Q
-whole_more f (Ok x) p = f p
-whole_more f (Err (Differs d)) p = f p
-whole_more f (Err _) p = tt
+use Rattle.rtlsim_command_line.specs.declared.call.Request.TheVariants.{Run, Levels}
 
 watched_more : {A : Type 0} {Does : NetlistView → Result A Fault → SinkState → SinkState → Type 0} {P Q : NetlistView → Type 0} → ((net : NetlistView) → P net → Q net)
     → (net : NetlistView) (answer : Result A Fault) (old new : SinkState) → Watched Does P net answer old new → Watched Does Q net answer old new
-watched_more f net answer old new w = record { does = w.does; sees = whole_more (f net) answer w.sees }
+watched_more {P = P} {Q = Q} f net answer old new w = record { does = w.does; sees = if_whole_so (P net) (Q net) answer (f net) w.sees }
 
 serves_more : {A : Type 0} {Does : NetlistView → Result A Fault → SinkState → SinkState → Type 0} {P Q : NetlistView → Type 0} {done : Done A} {telling : Telling}
     {source top : List ℕ} {outcome : Status} {o : Outputs} → ((net : NetlistView) → P net → Q net)
@@ -41,49 +35,23 @@ serves_more {o = o} f s = record {
 }
 
 module _ {P Q : List Stand → Type 0} (f : (stands : List Stand) → P stands → Q stands) where
-  machine_more : (text : List ℕ) (net : NetlistView) → OfMachine text P net → OfMachine text Q net
-  machine_more text net m =
-      let told = m.done in
-      record {
-        bound = m.bound;
-        stimulus = m.stimulus;
-        admitted = m.admitted;
-        done = record {
-          run = told.run;
-          synchronous = told.synchronous;
-          stands = told.stands;
-          are = told.are;
-          all = told.all;
-          told = f told.stands told.told;
-        };
-      }
-
-  events_more : (text : List ℕ) (net : NetlistView) → OfEvents text P net → OfEvents text Q net
-  events_more text net e =
-      let told = e.all in
-      record { stimulus = e.stimulus; said = e.said; all = record { stands = told.stands; are = told.are; all = told.all; told = f told.stands told.told } }
-
   module _ (telling : Telling) (source top : List ℕ) (outcome : Status) (o : Outputs) where
     serves_machine : (text : List ℕ) (expected : Option (List ℕ)) → ServesMachine telling source top outcome o P text expected → ServesMachine telling source top outcome o Q text expected
-    serves_machine text expected s = serves_more (machine_more text) s
+    serves_machine text expected s = serves_more (λ net. of_machine_so text net P Q f) s
 
     serves_events : (text : List ℕ) (expected : Option (List ℕ)) → ServesEvents telling source top outcome o P text expected → ServesEvents telling source top outcome o Q text expected
-    serves_events text expected s = serves_more (events_more text) s
+    serves_events text expected s = serves_more (λ net. of_events_so text net P Q f) s
 
     serves_levels : (text : List ℕ) (expected : Option (List ℕ)) → ServesLevels telling source top outcome o P text expected → ServesLevels telling source top outcome o Q text expected
-    serves_levels text expected s = serves_more (machine_more text) s
+    serves_levels text expected s = serves_more (λ net. of_machine_so text net P Q f) s
 
     -- this holds of what was seen, and so that does
     pub serves_by : (request : Request) (sets : List (List ℕ)) (text : List ℕ) (expected : Option (List ℕ))
         → ServesBy telling source top outcome o P request sets text expected → ServesBy telling source top outcome o Q request sets text expected
-    serves_by Eval sets text expected s = s
-    serves_by Net sets text expected s = s
-    serves_by Check sets text expected s = s
-    serves_by Dot sets text expected s = s
-    serves_by Json sets text expected s = s
     serves_by (Run true order) sets text expected s = serves_events text expected s
     serves_by (Run false order) sets text expected s = serves_machine text expected s
     serves_by Levels sets text expected s = serves_levels text expected s
+    serves_by _ sets text expected s = s
 
 -- nothing is to be shown
 pub shows_none : (shows : Bool) → shows ≡ false → (stimulus : List ℕ) (s : Sinks) (stands : List Stand) → ShowsIf shows stimulus s stands

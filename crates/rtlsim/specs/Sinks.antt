@@ -4,7 +4,7 @@ use Rattle.rtl_progress.specs.Shown.{whole_text}
 use Rattle.rtl_progress.specs.Stops.{stop_of}
 use Rattle.byte_streams.specs.Written.{SinkState, Goes}
 use Rattle.byte_streams.specs.Stands.{Stand}
-use Rattle.rtlsim_commands.specs.Served.{Outputs}
+use Rattle.rtlsim_commands.specs.Served.{Outputs, both}
 
 -- each before the call and after it
 pub record Sinks : Type 0 where
@@ -15,9 +15,14 @@ pub record Sinks : Type 0 where
   pub progress : SinkState
   pub progress_after : SinkState
 
+-- of these states
+abbrev pub sinks : (out out_after err err_after progress progress_after : SinkState) → Sinks
+sinks out out_after err err_after progress progress_after =
+    record { out = out; out_after = out_after; err = err; err_after = err_after; progress = progress; progress_after = progress_after }
+
 -- those of a command
 abbrev pub outputs : Sinks → Outputs
-outputs s = record { out = s.out; out_after = s.out_after; err = s.err; err_after = s.err_after }
+outputs s = both s.out s.out_after s.err s.err_after
 
 -- nothing is shown
 abbrev pub IsSilent : Sinks → Type 0

@@ -8,7 +8,7 @@ use Rattle.rtlsim_command_faults.specs.declared.status.Status.TheVariants as sta
 use Rattle.byte_streams.specs.Read.{ReaderState}
 use Rattle.byte_streams.specs.Written.{SinkState, Goes}
 use Rattle.rtlsim.specs.Inputs.{Reading}
-use Rattle.rtlsim.specs.Sinks.{Sinks}
+use Rattle.rtlsim.specs.Sinks.{Sinks, sinks}
 use Rattle.rtlsim.specs.Tools.{RefusesWords, ServesWords, Silently}
 
 -- what the writers of the two streams, and that of how far a run is, hold before a call and after it, where it is known
@@ -19,6 +19,11 @@ pub record Writers : Type 0 where
   pub err_after : Option (List ℕ)
   pub progress : Option (List ℕ)
   pub progress_after : Option (List ℕ)
+
+-- of what these hold
+abbrev pub writers : (out out_after err err_after progress progress_after : Option (List ℕ)) → Writers
+writers out out_after err err_after progress progress_after =
+    record { out = out; out_after = out_after; err = err; err_after = err_after; progress = progress; progress_after = progress_after }
 
 -- what was taken is in the writer: all of it, or where the writer failed a beginning
 abbrev pub GoesOut : (is_out : Bool) → (taken held : Option (List ℕ)) → Type 0
@@ -52,7 +57,7 @@ pub record GoesToWriters (Does : Status → Sinks → Type 0) (result : Status) 
   pub out_after : SinkState
   pub err_after : SinkState
   pub progress_after : SinkState
-  pub does : Does outcome (record { out = out; out_after = out_after; err = err; err_after = err_after; progress = progress; progress_after = progress_after })
+  pub does : Does outcome (sinks out out_after err err_after progress progress_after)
   pub shown : progress_after.taken ≡ progress_held
   pub ends : Ends outcome out_after err_after result out_held err_held
 

@@ -4,6 +4,7 @@ ghost use Rattle.std.specs.Prelude.{◌≡◌, false, IfOk, List, Option, map, s
 ghost use Rattle.byte_streams.specs.Read.{ReaderState};
 ghost use Rattle.byte_streams.specs.Written.{IsIntact};
 ghost use Rattle.rtlsim.specs.Inputs.{GivesNamed};
+ghost use Rattle.rtlsim.specs.Sinks.{sinks};
 ghost use Rattle.rtlsim.specs.Streams.{ServesArguments};
 ghost use Rattle.rtlsim.specs.Tools.{ServesWords};
 
@@ -32,15 +33,8 @@ pub(crate) fn serve_arguments<
     requires err { IsIntact (E.state err.old) }
     ensures { (words : Option (List (List ℕ)))
         × ServesArguments (GivesNamed T.File.remaining) words (R.remaining reader) result
-        (record {
-          out = O.state out.old;
-          out_after = O.state out.new;
-          err = E.state err.old;
-          err_after = E.state
-              err.new;
-          progress = G.state progress.old;
-          progress_after = G.state progress.new;
-        }) }
+        (sinks (O.state out.old) (O.state out.new) (E.state err.old) (E.state err.new)
+        (G.state progress.old) (G.state progress.new)) }
 {
     match words_of(rt) {
         Ok(words) => serve_words::<F, _, _, _, _, _>(
@@ -84,15 +78,8 @@ fn serve_words<F: Front, T: Files, R: Read + Drop, O: Sink, E: Sink, G: Sink>(
     requires err { IsIntact (E.state err.old) }
     ensures { (after : ReaderState) × ServesWords (GivesNamed T.File.remaining) (map string_bytes args.now)
         (record { left = R.remaining reader; failed = false }) after result
-        (record {
-          out = O.state out.old;
-          out_after = O.state out.new;
-          err = E.state err.old;
-          err_after = E.state
-              err.new;
-          progress = G.state progress.old;
-          progress_after = G.state progress.new;
-        }) }
+        (sinks (O.state out.old) (O.state out.new) (E.state err.old) (E.state err.new)
+        (G.state progress.old) (G.state progress.new)) }
 {
     let mut reader = In::new(reader);
     if args.is_empty() {

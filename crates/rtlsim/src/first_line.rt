@@ -8,6 +8,7 @@ ghost use Rattle.rtlsim.specs.Inputs.{GivesNamed, GivesStandardAlone};
 ghost use Rattle.rtl_stim_lines.specs.Lines as lines;
 ghost use Rattle.rtl_stim_lines.specs.Lines.{ends_line};
 ghost use Rattle.rtlsim.specs.Lines.{first_line_of};
+ghost use Rattle.rtlsim.specs.Sinks.{sinks};
 ghost use Rattle.rtlsim.specs.Tools.{ServesFirstLine, ServesLine, words_in};
 
 use crate::inputs::{Inputs, Named, Standard, read_input};
@@ -34,15 +35,8 @@ pub fn tool_first_line<F: Front, T: Files, R: Reader, O: Sink, E: Sink, G: Sink>
     requires out { IsIntact (O.state out.old) }
     requires err { IsIntact (E.state err.old) }
     ensures { ServesFirstLine (GivesNamed T.File.remaining) (R.state reader.old) (R.state reader.new) result
-        (record {
-          out = O.state out.old;
-          out_after = O.state out.new;
-          err = E.state err.old;
-          err_after = E.state
-              err.new;
-          progress = G.state progress.old;
-          progress_after = G.state progress.new;
-        }) }
+        (sinks (O.state out.old) (O.state out.new) (E.state err.old) (E.state err.new)
+        (G.state progress.old) (G.state progress.new)) }
 {
     match read_input(alloc, reader) {
         Ok(all) => {
@@ -68,15 +62,8 @@ pub(crate) fn serve_reader_line<F: Front, R: Reader, O: Sink, E: Sink, G: Sink>(
     requires out { IsIntact (O.state out.old) }
     requires err { IsIntact (E.state err.old) }
     ensures { ServesFirstLine GivesStandardAlone (R.state reader.old) (R.state reader.new) result
-        (record {
-          out = O.state out.old;
-          out_after = O.state out.new;
-          err = E.state err.old;
-          err_after = E.state
-              err.new;
-          progress = G.state progress.old;
-          progress_after = G.state progress.new;
-        }) }
+        (sinks (O.state out.old) (O.state out.new) (E.state err.old) (E.state err.new)
+        (G.state progress.old) (G.state progress.new)) }
 {
     match read_input(alloc, reader) {
         Ok(all) => {
@@ -100,15 +87,8 @@ fn serve_line<F: Front, I: Inputs, O: Sink, E: Sink, G: Sink>(
     requires out { IsIntact (O.state out.old) }
     requires err { IsIntact (E.state err.old) }
     ensures { ServesLine I.gives line.now (I.state inputs.old) (I.state inputs.new) result
-        (record {
-          out = O.state out.old;
-          out_after = O.state out.new;
-          err = E.state err.old;
-          err_after = E.state
-              err.new;
-          progress = G.state progress.old;
-          progress_after = G.state progress.new;
-        }) }
+        (sinks (O.state out.old) (O.state out.new) (E.state err.old) (E.state err.new)
+        (G.state progress.old) (G.state progress.new)) }
 {
     match read_words(alloc, line) {
         Ok(words) => tool_with::<F, _, _, _, _>(alloc, &words, inputs, out, err, progress),

@@ -4,7 +4,8 @@ ghost use Rattle.std.specs.Prelude.{◌≡◌, ◌⊎◌, false, map, option_map
 ghost use Rattle.byte_streams.specs.Written.{IsIntact};
 ghost use Rattle.rtlsim.specs.Requests as requests;
 ghost use Rattle.rtlsim.specs.Served.{ServesBy, ServesTexts};
-ghost use Rattle.rtlsim.specs.Sinks.{Sinks, ShowsIf, outputs};
+ghost use Rattle.rtlsim.specs.Sinks.{ShowsIf, outputs, sinks};
+ghost use Rattle.rtlsim_commands.specs.Served.{both};
 ghost use Rattle.rtlsim.specs.Texts.{texts_view};
 ghost use Rattle.rtlsim.specs.Tools.{Silently, TellsInput};
 ghost use Rattle.rtlsim_command_line.specs.Words.{call_view};
@@ -20,7 +21,7 @@ use crate::unread::ReadFault;
 use byte_streams::{Sink, Unwatched, Watch};
 use rtl_progress::{Progress, stop_of};
 use rtlsim_command_line::{Call, Request};
-use rtlsim_commands::{CheckNet, DrawNet, EvalNet, Front, ListNet, Status, Telling, describe};
+use rtlsim_commands::{CheckNet, EvalNet, Form, Front, ListNet, Status, Telling, describe};
 use std::alloc::Global;
 
 /// Does what is asked for with what was read, or tells that memory was refused before.
@@ -34,14 +35,8 @@ pub(crate) fn perform_texts<'b, F: Front, O: Sink, E: Sink, G: Sink>(
 ) -> Status
     requires out { IsIntact (O.state out.old) }
     requires err { IsIntact (E.state err.old) }
-    ensures { let s : Sinks = record {
-      out = O.state out.old;
-      out_after = O.state out.new;
-      err = E.state err.old;
-      err_after = E.state err.new;
-      progress = G.state progress.old;
-      progress_after = G.state progress.new;
-    } in
+    ensures { let s = sinks (O.state out.old) (O.state out.new) (E.state err.old) (E.state err.new)
+        (G.state progress.old) (G.state progress.new) in
         Silently (TellsInput memory_line status.Memory result) s
         ⊎ ServesTexts (call_view call.now) (texts_view texts.now) result s }
 {
@@ -96,14 +91,8 @@ fn perform_shown<F: Front, O: Sink, E: Sink, G: Sink>(
 ) -> Status
     requires out { IsIntact (O.state out.old) }
     requires err { IsIntact (E.state err.old) }
-    ensures serves { let s : Sinks = record {
-      out = O.state out.old;
-      out_after = O.state out.new;
-      err = E.state err.old;
-      err_after = E.state err.new;
-      progress = G.state progress.old;
-      progress_after = G.state progress.new;
-    } in
+    ensures serves { let s = sinks (O.state out.old) (O.state out.new) (E.state err.old) (E.state err.new)
+        (G.state progress.old) (G.state progress.new) in
         ServesBy job.now.telling.now job.now.source.now job.now.top.now result (outputs s)
         (ShowsIf shows job.now.stimulus.now s) request
         (map (λ set. set.now) job.now.sets.now) job.now.stimulus.now (option_map (λ text. text.now) job.now.expected) }
@@ -130,29 +119,24 @@ fn perform_job<F: Front, V: Watch, O: Sink, E: Sink>(
     requires out { IsIntact (O.state out.old) }
     requires err { IsIntact (E.state err.old) }
     ensures { ServesBy job.now.telling.now job.now.source.now job.now.top.now result
-        (record {
-          out = O.state out.old;
-          out_after = O.state out.new;
-          err = E.state err.old;
-          err_after = E.state err.new;
-        })
+        (both (O.state out.old) (O.state out.new) (E.state err.old) (E.state err.new))
         (λ stands. V.told watch.old stands watch.new) request
         (map (λ set. set.now) job.now.sets.now) job.now.stimulus.now (option_map (λ text. text.now) job.now.expected) }
 {
     let telling = job.telling;
     match request {
         Request::Eval => {
-            let mut command = EvalNet { sets: job.sets };
-            serve_job::<F, _, _, _, _>(alloc, &mut command, job, watch, out, err)
+            let sets = job.sets;
+            serve_job::<F, _, _, _, _>(alloc, &mut EvalNet { sets }, job, watch, out, err)
         }
         Request::Net => serve_job::<F, _, _, _, _>(alloc, &mut ListNet, job, watch, out, err),
         Request::Check => {
-            let mut command = CheckNet { telling };
-            serve_job::<F, _, _, _, _>(alloc, &mut command, job, watch, out, err)
+            let form = Form::ToldLines(telling);
+            serve_job::<F, _, _, _, _>(alloc, &mut CheckNet { form }, job, watch, out, err)
         }
         Request::Dot => {
-            let mut command = DrawNet { telling };
-            serve_job::<F, _, _, _, _>(alloc, &mut command, job, watch, out, err)
+            let form = Form::ToldGraph(telling);
+            serve_job::<F, _, _, _, _>(alloc, &mut CheckNet { form }, job, watch, out, err)
         }
         Request::Json => describe::<F, _, _>(alloc, job.source, job.top, telling, out, err),
         Request::Run { is_event, order } => {

@@ -1,7 +1,7 @@
 //! What is told where the words are refused, or an input isn't read.
 
 ghost use Rattle.std.specs.Prelude.{◌≡◌};
-ghost use Rattle.rtlsim_commands.specs.Served.{ended};
+ghost use Rattle.rtlsim_commands.specs.Served.{both, ended};
 ghost use Rattle.byte_streams.specs.Written.{Goes};
 ghost use Rattle.rtlsim_command_line.specs.Words.{IsOfWords};
 ghost use Rattle.rtlsim.specs.Tools.{RefusesWords};
@@ -17,12 +17,7 @@ use std::alloc::Global;
 /// Tells why the words are refused, and answers the status.
 pub(crate) fn refuse_words<O: Sink, E: Sink>(refused: &Refused, out: &O, err: &mut E) -> Status
     ensures { RefusesWords (IsOfWords refused.now) result
-        (record {
-          out = O.state out.now;
-          out_after = O.state out.now;
-          err = E.state err.old;
-          err_after = E.state err.new;
-        }) }
+        (both (O.state out.now) (O.state out.now) (E.state err.old) (E.state err.new)) }
 {
     match refused {
         Refused::NoMemory => {

@@ -2,7 +2,7 @@
 
 ghost use Rattle.std.specs.Prelude.{option_map};
 ghost use Rattle.byte_streams.specs.Written.{IsIntact};
-ghost use Rattle.rtlsim_commands.specs.Served.{Serves};
+ghost use Rattle.rtlsim_commands.specs.Served.{Serves, both};
 ghost use Rattle.rtlsim_commands.specs.Sights.{Seeing, events_of};
 ghost use Rattle.rtlsim.specs.Served.{ServesLevels, ServesRun};
 
@@ -29,12 +29,7 @@ pub(crate) fn simulate<F: Front, V: Watch, O: Sink, E: Sink>(
     requires out { IsIntact (O.state out.old) }
     requires err { IsIntact (E.state err.old) }
     ensures { ServesRun job.now.telling.now job.now.source.now job.now.top.now result
-        (record {
-          out = O.state out.old;
-          out_after = O.state out.new;
-          err = E.state err.old;
-          err_after = E.state err.new;
-        })
+        (both (O.state out.old) (O.state out.new) (E.state err.old) (E.state err.new))
         (λ stands. V.told watch.old stands watch.new) is_event job.now.stimulus.now
         (option_map (λ text. text.now) job.now.expected) }
 {
@@ -61,12 +56,7 @@ fn simulate_by<F: Front, P: Pick, V: Watch, O: Sink, E: Sink>(
     requires out { IsIntact (O.state out.old) }
     requires err { IsIntact (E.state err.old) }
     ensures { ServesRun job.now.telling.now job.now.source.now job.now.top.now result
-        (record {
-          out = O.state out.old;
-          out_after = O.state out.new;
-          err = E.state err.old;
-          err_after = E.state err.new;
-        })
+        (both (O.state out.old) (O.state out.new) (E.state err.old) (E.state err.new))
         (λ stands. V.told watch.old stands watch.new) is_event job.now.stimulus.now
         (option_map (λ text. text.now) job.now.expected) }
 {
@@ -91,12 +81,7 @@ pub(crate) fn simulate_levels<F: Front, V: Watch, O: Sink, E: Sink>(
     requires out { IsIntact (O.state out.old) }
     requires err { IsIntact (E.state err.old) }
     ensures { ServesLevels job.now.telling.now job.now.source.now job.now.top.now result
-        (record {
-          out = O.state out.old;
-          out_after = O.state out.new;
-          err = E.state err.old;
-          err_after = E.state err.new;
-        })
+        (both (O.state out.old) (O.state out.new) (E.state err.old) (E.state err.new))
         (λ stands. V.told watch.old stands watch.new) job.now.stimulus.now
         (option_map (λ text. text.now) job.now.expected) }
 {
@@ -119,12 +104,7 @@ pub(crate) fn serve_job<F: Front, C: Command, V: Watch, O: Sink, E: Sink>(
     ensures { Serves (Seeing (C.sight command.old) (C.does command.old) (λ stands. V.told watch.old stands watch.new))
         (record { text = C.Answer.text; status = C.Answer.said; events = events_of (C.sight command.old) })
         job.now.telling.now job.now.source.now job.now.top.now result
-        (record {
-          out = O.state out.old;
-          out_after = O.state out.new;
-          err = E.state err.old;
-          err_after = E.state err.new;
-        }) }
+        (both (O.state out.old) (O.state out.new) (E.state err.old) (E.state err.new)) }
 {
     let (source, top, telling) = (job.source, job.top, job.telling);
     serve::<F, _, _, _, _>(alloc, source, top, telling, command, watch, out, err)

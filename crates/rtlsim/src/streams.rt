@@ -4,7 +4,7 @@ ghost use Rattle.std.specs.Prelude.{◌≡◌, Option, List, ℕ};
 ghost use Rattle.std.specs.Process.{exit_status};
 ghost use Rattle.byte_streams.specs.Written.{IsIntact};
 ghost use Rattle.rtlsim.specs.Inputs.{GivesNamed};
-ghost use Rattle.rtlsim.specs.Streams.{Ends, GoesOut, GoesToWriters, RunsArguments, ServesArguments, TellsLoss, TellsMemory};
+ghost use Rattle.rtlsim.specs.Streams.{Ends, GoesOut, GoesToWriters, RunsArguments, ServesArguments, TellsLoss, TellsMemory, writers};
 ghost use Rattle.rtlsim_commands.specs.Served as served;
 ghost use Rattle.rtlsim_command_faults.specs.Status.{code_of};
 ghost use Rattle.rtlsim_command_faults.specs.declared.status.Status.{Status};
@@ -43,15 +43,8 @@ pub fn program<
     P: Write + Drop,
 >(rt: &T, reader: R, stdout: O, stderr: E, progress: P) -> Ended<O, E, P>
     ensures { RunsArguments (GivesNamed T.File.remaining) (R.remaining reader) result.status
-        (record {
-          out = O.contents stdout;
-          out_after = O.contents result.stdout;
-          err = E.contents stderr;
-          err_after =
-              E.contents result.stderr;
-          progress = P.contents progress;
-          progress_after = P.contents result.progress;
-        }) }
+        (writers (O.contents stdout) (O.contents result.stdout) (E.contents stderr) (E.contents result.stderr)
+        (P.contents progress) (P.contents result.progress)) }
 {
     let Ok(output) = BufWriter::with_capacity(rt.alloc(), OUTPUT, stdout) else {
         return refuse_memory(stdout, stderr, progress);
@@ -81,15 +74,7 @@ pub fn exit_code<
     ensures { (status : Status) × (out : Option (List ℕ)) × (err : Option (List ℕ)) × (shown : Option (List ℕ))
         × (exit_status result ≡ code_of status)
         × RunsArguments (GivesNamed T.File.remaining) (R.remaining reader) status
-        (record {
-          out = O.contents stdout;
-          out_after = out;
-          err = E.contents stderr;
-          err_after = err;
-          progress =
-              P.contents progress;
-          progress_after = shown;
-        }) }
+        (writers (O.contents stdout) out (E.contents stderr) err (P.contents progress) shown) }
 {
     let ended = program::<F, _, _, _, _, _>(rt, reader, stdout, stderr, progress);
     ExitCode::from(ended.status.code())

@@ -5,6 +5,7 @@ ghost use Rattle.rtlsim_command_faults.specs.Status.{code_of};
 ghost use Rattle.rtlsim_command_faults.specs.declared.status.Status.{Status};
 ghost use Rattle.byte_streams.specs.Written.{IsIntact};
 ghost use Rattle.rtlsim.specs.Inputs.{GivesStandardAlone};
+ghost use Rattle.rtlsim.specs.Sinks.{sinks};
 ghost use Rattle.rtlsim.specs.Tools.{Performs, ServesCall, ServesWords};
 ghost use Rattle.rtlsim_command_line.specs.Words.{call_view};
 
@@ -34,15 +35,8 @@ pub fn tool<F: Front, R: Reader, O: Sink, E: Sink, G: Sink>(
     ensures { (outcome : Status) × (result ≡ code_of outcome)
         × ServesWords GivesStandardAlone (map (λ word. word.now) words.now) (R.state input.old.reader)
         (R.state input.new.reader) outcome
-        (record {
-          out = O.state out.old;
-          out_after = O.state out.new;
-          err = E.state err.old;
-          err_after = E.state
-              err.new;
-          progress = G.state progress.old;
-          progress_after = G.state progress.new;
-        }) }
+        (sinks (O.state out.old) (O.state out.new) (E.state err.old) (E.state err.new)
+        (G.state progress.old) (G.state progress.new)) }
 {
     if words.is_empty() {
         return serve_reader_line::<F, _, _, _, _>(
@@ -72,15 +66,8 @@ pub fn tool_with<F: Front, I: Inputs, O: Sink, E: Sink, G: Sink>(
     requires out { IsIntact (O.state out.old) }
     requires err { IsIntact (E.state err.old) }
     ensures { ServesCall I.gives (map (λ word. word.now) words.now) (I.state inputs.old) (I.state inputs.new) result
-        (record {
-          out = O.state out.old;
-          out_after = O.state out.new;
-          err = E.state err.old;
-          err_after = E.state
-              err.new;
-          progress = G.state progress.old;
-          progress_after = G.state progress.new;
-        }) }
+        (sinks (O.state out.old) (O.state out.new) (E.state err.old) (E.state err.new)
+        (G.state progress.old) (G.state progress.new)) }
 {
     match parse_words(alloc, words) {
         Ok(call) => perform::<F, _, _, _, _>(alloc, &call, inputs, out, err, progress),
@@ -104,14 +91,8 @@ pub fn perform<F: Front, I: Inputs, O: Sink, E: Sink, G: Sink>(
     requires out { IsIntact (O.state out.old) }
     requires err { IsIntact (E.state err.old) }
     ensures { Performs I.gives (call_view call.now) (I.state inputs.old) (I.state inputs.new) result
-        (record {
-          out = O.state out.old;
-          out_after = O.state out.new;
-          err = E.state err.old;
-          err_after = E.state err.new;
-          progress = G.state progress.old;
-          progress_after = G.state progress.new;
-        }) }
+        (sinks (O.state out.old) (O.state out.new) (E.state err.old) (E.state err.new)
+        (G.state progress.old) (G.state progress.new)) }
 {
     match read_texts(alloc, call, inputs) {
         Ok(texts) => perform_texts::<F, _, _, _>(alloc, call, &texts, out, err, progress),

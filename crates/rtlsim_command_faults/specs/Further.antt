@@ -20,10 +20,6 @@ use Rattle.vhdl_front_rules.specs.Refusals.{Refuses}
 use Rattle.vhdl_front_rules.specs.declared.fault.SourceFault.{SourceFault}
 use Rattle.vhdl_front_rules.specs.declared.fault.SourceFault.TheVariants.{Name, NoMemory}
 
--- the most faults that are told of a source, its first among them
-abbrev pub most_told : ℕ
-most_told = 20
-
 -- how many times the source is read once more at most
 abbrev pub most_steps : ℕ
 most_steps = 100

@@ -7,7 +7,7 @@ use Rattle.rtlsim_commands.specs.Watched.{IfWhole}
 use Rattle.rtlsim_commands.proofs.Sights.{seeing_of}
 use Rattle.rtlsim_commands.proofs.Watched.{watched_failed}
 use Rattle.rtlsim_command_faults.specs.declared.faults.Fault.{Fault}
-use Rattle.rtlsim_command_faults.specs.declared.faults.Fault.TheVariants.{Lex, Syntax, Name, Elab, Rejected, Stim, Expect, Differs, NoSettling, Memory, Output}
+use Rattle.rtlsim_command_faults.specs.declared.faults.Fault.TheVariants.{Expect, Differs, Memory}
 use Rattle.rtl_expect.specs.Differences.{first_difference}
 use Rattle.rtl_expect.specs.Expected.{Expectation}
 use Rattle.rtl_expect.specs.Lines.{expectations_of}
@@ -23,30 +23,14 @@ module _ {A : Type 0} (Runs : NetlistView → Result A Fault → (old new : Sink
     -- the run fails
     module _ (of_run : (fault : Fault) → Runs net (Err fault) old new → IsOfRun fault) where
       unrun : (fault : Fault) → Runs net (Err fault) old new → RunsExpecting Runs Sees expected net (Err fault) old new
-      unrun (Lex x) h = record { expectations = es; read = read; holds = h }
-      unrun (Syntax x) h = record { expectations = es; read = read; holds = h }
-      unrun (Name x) h = record { expectations = es; read = read; holds = h }
-      unrun (Elab x) h = record { expectations = es; read = read; holds = h }
-      unrun (Rejected x) h = record { expectations = es; read = read; holds = h }
-      unrun (Stim x) h = record { expectations = es; read = read; holds = h }
       unrun (Expect f) h = absurd (of_run (Expect f) h)
       unrun (Differs d) h = absurd (of_run (Differs d) h)
-      unrun (NoSettling time) h = record { expectations = es; read = read; holds = h }
       unrun Memory h = inl (record { expectations = es; read = read; holds = h })
-      unrun Output h = record { expectations = es; read = read; holds = h }
+      unrun _ h = record { expectations = es; read = read; holds = h }
 
       unrun_part : (So : Type 0) (fault : Fault) → Runs net (Err fault) old new → IfWhole {A = A} (Err fault) So
-      unrun_part So (Lex x) h = tt
-      unrun_part So (Syntax x) h = tt
-      unrun_part So (Name x) h = tt
-      unrun_part So (Elab x) h = tt
-      unrun_part So (Rejected x) h = tt
-      unrun_part So (Stim x) h = tt
-      unrun_part So (Expect f) h = tt
       unrun_part So (Differs d) h = absurd (of_run (Differs d) h)
-      unrun_part So (NoSettling time) h = tt
-      unrun_part So Memory h = tt
-      unrun_part So Output h = tt
+      unrun_part So _ h = tt
 
       pub failed : (So : Type 0) (answer : Result A Fault) (fault : Fault) → IsErrAnd answer (λ f. f ≡ fault) → Runs net (Err fault) old new
           → RunsExpecting Runs Sees expected net answer old new × IfWhole answer So

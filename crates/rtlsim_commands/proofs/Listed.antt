@@ -7,7 +7,7 @@ use Rattle.rtl_check.specs.declared.checking.Verdict.{Verdict}
 use Rattle.rtlsim_command_faults.specs.Faults.{of_listing}
 use Rattle.rtlsim_commands.specs.Listed.{Writes, ListsNet, AnswersVerdict}
 use Rattle.rtlsim_command_faults.specs.declared.faults.Fault.{Fault}
-use Rattle.rtlsim_command_faults.specs.declared.faults.Fault.TheVariants.{Lex, Syntax, Name, Elab, Rejected, Stim, Expect, Differs, NoSettling, Memory, Output}
+use Rattle.rtlsim_command_faults.specs.declared.faults.Fault.TheVariants.{Memory, Output}
 use Rattle.rtlsim_listing.specs.Printing.{IsListed}
 use Rattle.rtlsim_listing.specs.declared.fault.ListingFault.{ListingFault}
 use Rattle.rtlsim_listing.specs.declared.fault.ListingFault.TheVariants as listing
@@ -41,17 +41,9 @@ module _ (text_of : NetlistView → Verdict → List ℕ) (net : NetlistView) wh
 
 module _ (So : Fault → Type 0) (memory : So Memory) (output : So Output) where
   writes_fault : (A : Type 0) (text : List ℕ) (fault : Fault) (old new : SinkState) → Writes {A = A} text (Err fault) old new → So fault
-  writes_fault A text (Lex x) old new h = absurd h
-  writes_fault A text (Syntax x) old new h = absurd h
-  writes_fault A text (Name x) old new h = absurd h
-  writes_fault A text (Elab x) old new h = absurd h
-  writes_fault A text (Rejected x) old new h = absurd h
-  writes_fault A text (Stim x) old new h = absurd h
-  writes_fault A text (Expect x) old new h = absurd h
-  writes_fault A text (Differs x) old new h = absurd h
-  writes_fault A text (NoSettling x) old new h = absurd h
   writes_fault A text Memory old new h = memory
   writes_fault A text Output old new h = output
+  writes_fault A text _ old new h = absurd h
 
   pub lists_fault : (net : NetlistView) (answer : Result (Unit {0}) Fault) (old new : SinkState) → ListsNet net answer old new → IfErr answer So
   lists_fault net (Ok x) old new h = tt

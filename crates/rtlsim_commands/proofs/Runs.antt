@@ -21,7 +21,7 @@ use Rattle.rtl_stim_lines.specs.declared.faults.StimFault.TheVariants as stim
 use Rattle.byte_streams.specs.Stands.{Stand}
 use Rattle.rtlsim_command_faults.specs.Faults.{of_machine, of_run, of_stim}
 use Rattle.rtlsim_command_faults.specs.declared.faults.Fault.{Fault}
-use Rattle.rtlsim_command_faults.specs.declared.faults.Fault.TheVariants.{Lex, Syntax, Name, Elab, Rejected, Stim, Expect, Differs, NoSettling, Memory, Output}
+use Rattle.rtlsim_command_faults.specs.declared.faults.Fault.TheVariants.{Lex, Syntax, Name, Elab, Rejected, Stim, Differs, NoSettling, Memory, Output}
 use Rattle.rtlsim_commands.specs.Sights.{events, IsOfNet}
 use Rattle.rtlsim_commands.specs.Simulated.{HasNoneStored, RefusesStored, Simulates, RunsEvents, most_deltas}
 use Rattle.rtlsim_commands.specs.Watched.{IfWhole}
@@ -54,36 +54,18 @@ pub began : (text : List ℕ) (net : NetlistView) (s : StimulusView) (answer : R
 began text net s answer old new none said answers = record { none_stored = none; stimulus = s; said = said; answers = answers }
 
 pub failed_run : (text : List ℕ) (net : NetlistView) (fault : RunFault) (old new : SinkState) → Simulates text net (Err fault) old new → RunsEvents text net (Err (of_run fault)) old new
-failed_run text net (run.NoSettling time) old new h = h
 failed_run text net run.Memory old new h = inl h
-failed_run text net run.Output old new h = h
+failed_run text net _ old new h = h
 
 -- a netlist with stored variables, or want of memory for them: nothing is written
 pub refused : (text : List ℕ) (net : NetlistView) (fault : Fault) (old : SinkState) → RefusesStored net (Err fault) → RunsEvents text net (Err fault) old old
-refused text net (Lex x) old h = absurd h
-refused text net (Syntax x) old h = absurd h
-refused text net (Name x) old h = absurd h
-refused text net (Elab x) old h = absurd h
 refused text net (Rejected x) old h = (h.0, h.1, refl)
-refused text net (Stim x) old h = absurd h
-refused text net (Expect x) old h = absurd h
-refused text net (Differs x) old h = absurd h
-refused text net (NoSettling x) old h = absurd h
 refused text net Memory old h = inr refl
-refused text net Output old h = absurd h
+refused text net _ old h = absurd h
 
 pub refused_part : (net : NetlistView) (fault : Fault) (So : Type 0) → RefusesStored net (Err fault) → IfWhole {A = Summary} (Err fault) So
-refused_part net (Lex x) So h = tt
-refused_part net (Syntax x) So h = tt
-refused_part net (Name x) So h = tt
-refused_part net (Elab x) So h = tt
-refused_part net (Rejected x) So h = tt
-refused_part net (Stim x) So h = tt
-refused_part net (Expect x) So h = tt
 refused_part net (Differs x) So h = absurd h
-refused_part net (NoSettling x) So h = tt
-refused_part net Memory So h = tt
-refused_part net Output So h = tt
+refused_part net _ So h = tt
 
 pub refused_fault : (text : List ℕ) (Holds : List Stand → (before now : List ℕ) → (time : ℕ) → Type 0) (net : NetlistView) (fault : Fault) → RefusesStored net (Err fault)
     → IsOfNet (events text) Holds net fault
@@ -91,13 +73,8 @@ refused_fault text Holds net (Lex x) h = absurd h
 refused_fault text Holds net (Syntax x) h = absurd h
 refused_fault text Holds net (Name x) h = absurd h
 refused_fault text Holds net (Elab x) h = absurd h
-refused_fault text Holds net (Rejected x) h = tt
-refused_fault text Holds net (Stim x) h = tt
-refused_fault text Holds net (Expect x) h = tt
-refused_fault text Holds net (Differs x) h = tt
 refused_fault text Holds net (NoSettling x) h = absurd h
-refused_fault text Holds net Memory h = tt
-refused_fault text Holds net Output h = tt
+refused_fault text Holds net _ h = tt
 
 -- want of memory for the stored variables
 pub unknown_stored : (net : NetlistView) (answer : Result (Unit {0}) Fault) → IsErrAnd answer (λ f. f ≡ Memory) → RefusesStored net answer
@@ -107,18 +84,12 @@ unknown_stored net (Err f) is = let So : Fault → Type 0 = λ f. RefusesStored 
 -- a stimulus that isn't read
 pub unread : (text : List ℕ) (net : NetlistView) (fault : StimFault) (old : SinkState) → HasNoneStored net → IsRead net text (Err fault) → RunsEvents text net (Err (of_stim fault)) old old
 unread text net stim.NoMemory old none read = inr refl
-unread text net (stim.InLine problem line) old none read = (none, read (λ e. cc), refl)
-unread text net stim.NoStop old none read = (none, read (λ e. cc), refl)
-unread text net (stim.Race time input clock) old none read = (none, read (λ e. cc), refl)
+unread text net _ old none read = (none, read (λ e. cc), refl)
 
 pub unread_part : (fault : StimFault) (So : Type 0) → IfWhole {A = Summary} (Err (of_stim fault)) So
 unread_part stim.NoMemory So = tt
-unread_part (stim.InLine problem line) So = tt
-unread_part stim.NoStop So = tt
-unread_part (stim.Race time input clock) So = tt
+unread_part _ So = tt
 
 pub unread_fault : (text : List ℕ) (Holds : List Stand → (before now : List ℕ) → (time : ℕ) → Type 0) (net : NetlistView) (fault : StimFault) → IsOfNet (events text) Holds net (of_stim fault)
 unread_fault text Holds net stim.NoMemory = tt
-unread_fault text Holds net (stim.InLine problem line) = tt
-unread_fault text Holds net stim.NoStop = tt
-unread_fault text Holds net (stim.Race time input clock) = tt
+unread_fault text Holds net _ = tt

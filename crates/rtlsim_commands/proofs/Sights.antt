@@ -6,7 +6,7 @@ use Rattle.rtl_net.specs.Nets.{NetlistView}
 use Rattle.byte_streams.specs.Written.{SinkState}
 use Rattle.byte_streams.specs.Stands.{Stand}
 use Rattle.rtlsim_command_faults.specs.declared.faults.Fault.{Fault}
-use Rattle.rtlsim_command_faults.specs.declared.faults.Fault.TheVariants.{Lex, Syntax, Name, Elab, Rejected, Stim, Expect, Differs, NoSettling, Memory, Output}
+use Rattle.rtlsim_command_faults.specs.declared.faults.Fault.TheVariants.{Lex, Syntax, Name, Elab, Differs, NoSettling}
 use Rattle.rtlsim_commands.specs.Expected.{unless_differs}
 use Rattle.rtlsim_commands.specs.Sights.{Sight, nothing, machine, events, Seen, Seeing, OfUnsettled, StuckIn, IsOfNet}
 use Rattle.rtlsim_commands.specs.Watched.{IfWhole}
@@ -21,16 +21,7 @@ seen_so (events text) net P Q go h = of_events_so text net P Q go h
 if_unseen : {A : Type 0} (answer : Result A Fault) (net : NetlistView) (P : List Stand → Type 0) → IfWhole answer (Seen nothing P net)
 if_unseen (Ok x) net P = tt
 if_unseen (Err (Lex x)) net P = tt
-if_unseen (Err (Syntax x)) net P = tt
-if_unseen (Err (Name x)) net P = tt
-if_unseen (Err (Elab x)) net P = tt
-if_unseen (Err (Rejected x)) net P = tt
-if_unseen (Err (Stim x)) net P = tt
-if_unseen (Err (Expect x)) net P = tt
-if_unseen (Err (Differs x)) net P = tt
-if_unseen (Err (NoSettling x)) net P = tt
-if_unseen (Err Memory) net P = tt
-if_unseen (Err Output) net P = tt
+if_unseen (Err _) net P = tt
 
 -- what the command does, and what is seen of it
 module _ {A : Type 0} where
@@ -92,13 +83,8 @@ of_net_so sight net P Q (Err (Lex x)) go h = absurd h
 of_net_so sight net P Q (Err (Syntax x)) go h = absurd h
 of_net_so sight net P Q (Err (Name x)) go h = absurd h
 of_net_so sight net P Q (Err (Elab x)) go h = absurd h
-of_net_so sight net P Q (Err (Rejected x)) go h = tt
-of_net_so sight net P Q (Err (Stim x)) go h = tt
-of_net_so sight net P Q (Err (Expect x)) go h = tt
-of_net_so sight net P Q (Err (Differs x)) go h = tt
 of_net_so sight net P Q (Err (NoSettling time)) go h = stuck_so sight time net P Q go h
-of_net_so sight net P Q (Err Memory) go h = tt
-of_net_so sight net P Q (Err Output) go h = tt
+of_net_so sight net P Q (Err _) go h = tt
 
 -- of an answer that is this fault
 pub fault_by : {A : Type 0} (So : Fault → Type 0) (answer : Result A Fault) (fault : Fault) → IsErrAnd answer (λ f. f ≡ fault) → So fault → IfErr answer So

@@ -5,7 +5,7 @@ use Rattle.rtlsim_command_faults.specs.Places.{IsTold}
 use Rattle.rtlsim_command_faults.specs.Told.{TellsFault}
 use Rattle.rtlsim_command_faults.specs.declared.telling.Telling.{Telling}
 use Rattle.rtlsim_command_faults.specs.declared.faults.Fault.{Fault}
-use Rattle.rtlsim_command_faults.specs.declared.faults.Fault.TheVariants.{Lex, Syntax, Name, Elab, Rejected, Stim, Expect, Differs, NoSettling, Memory, Output}
+use Rattle.rtlsim_command_faults.specs.declared.faults.Fault.TheVariants.{NoSettling}
 use Rattle.rtlsim_command_faults.specs.declared.status.Status.{Status}
 use Rattle.rtlsim_command_faults.proofs.Refused.{nameless, source_told}
 use Rattle.rtlsim_commands.specs.Refused.{RefusesSource}
@@ -25,27 +25,15 @@ use Rattle.vhdl_front_rules.specs.declared.fault.SourceFault.TheVariants as fron
 -- what is told behind the fault of a source that has a netlist
 behind_nets : (events : Option (List ℕ)) (telling : Telling) (source top : List ℕ) (fault : Fault) (said : Status) (old new : SinkState)
     → TellsNets events telling source top fault old new → TellsBehind events telling source top fault said old new
-behind_nets events telling source top (Lex x) said old new h = inl h
-behind_nets events telling source top (Syntax x) said old new h = inl h
-behind_nets events telling source top (Name x) said old new h = inl h
-behind_nets events telling source top (Elab x) said old new h = inl h
-behind_nets events telling source top (Rejected x) said old new h = inl h
-behind_nets events telling source top (Stim x) said old new h = inl h
-behind_nets events telling source top (Expect x) said old new h = inl h
-behind_nets events telling source top (Differs x) said old new h = inl h
 behind_nets events telling source top (NoSettling time) said old new h = h
-behind_nets events telling source top Memory said old new h = inl h
-behind_nets events telling source top Output said old new h = inl h
+behind_nets events telling source top _ said old new h = inl h
 
 -- behind that of one that is refused
 behind_others : (events : Option (List ℕ)) (telling : Telling) (source top : List ℕ) (fault : SourceFault) (said : Status) (old new : SinkState)
     → TellsOthers (asks_others telling.explains (of_source fault) said) telling source top (of_source fault) old new
     → TellsBehind events telling source top (of_source fault) said old new
 behind_others events telling source top (front.Lex x) said old new h = inr h
-behind_others events telling source top (front.Syntax x) said old new h = inr h
-behind_others events telling source top (front.Name x) said old new h = inr h
-behind_others events telling source top (front.Elab x) said old new h = inr h
-behind_others events telling source top front.NoMemory said old new h = inr h
+behind_others events telling source top _ said old new h = inr h
 
 no_net : NetlistView
 no_net = record { types = []; starts = []; idle = []; inputs = []; processes = []; scopes = []; signals = [] }

@@ -8,11 +8,10 @@ use Rattle.byte_streams.specs.Written.{SinkState, Goes}
 use Rattle.byte_streams.specs.Stands.{Stand}
 use Rattle.rtlsim_findings.specs.Ranges.{follows, range_text}
 use Rattle.rtlsim_command_faults.specs.Changing.{names_from, changing_line}
-use Rattle.rtlsim_command_faults.specs.Lines.{memory_line}
 use Rattle.rtlsim_command_faults.specs.Places.{IsTold}
 use Rattle.rtlsim_command_faults.specs.declared.faults.Fault.{Fault}
-use Rattle.rtlsim_command_faults.specs.declared.faults.Fault.TheVariants.{Lex, Syntax, Name, Elab, Rejected, Stim, Expect, Differs, NoSettling, Memory, Output}
-use Rattle.rtlsim_commands.specs.Sights.{Sight, nothing, machine, events, IsOfNet, events_of}
+use Rattle.rtlsim_command_faults.specs.declared.faults.Fault.TheVariants.{Lex, Syntax, Name, Elab, NoSettling}
+use Rattle.rtlsim_commands.specs.Sights.{Sight, events, IsOfNet, events_of}
 use Rattle.rtlsim_commands.proofs.Sights.{of_unsettled_so}
 use Rattle.rtlsim_commands.specs.Unsettled.{Names, NamesIf, TellsStuck, TellsChanging}
 
@@ -32,10 +31,6 @@ line_first : (net : NetlistView) (numbers : List ℕ) → changing_line net (tak
 line_first net [] = refl
 line_first net (number ∷ numbers) = ap (λ (text : List ℕ). codes "still changing: " ++ text ++ codes "\n") (names_first net (net_name net number) number 15 numbers)
 
-pub names_nets : (net : NetlistView) (numbers : List ℕ) (whole : Bool) (old new : SinkState) → Goes old new (if whole then changing_line net numbers else memory_line) → Names net numbers old new
-names_nets net numbers true old new h = inl h
-names_nets net numbers false old new h = inr h
-
 names_all : (net : NetlistView) (first numbers : List ℕ) (old new : SinkState) → first ≡ take 17 numbers → Names net first old new → Names net numbers old new
 names_all net first numbers old new is (inl h) = inl (subst (λ (text : List ℕ). Goes old new text) (ap (changing_line net) is ∙ line_first net numbers) h)
 names_all net first numbers old new is (inr h) = inr h
@@ -48,39 +43,23 @@ AreNoted sight numbers net fault = IsOfNet sight (λ stands before now at. numbe
 
 tells_stuck : (sight : Sight) (net : NetlistView) (numbers : List ℕ) (time : ℕ) (old new : SinkState) → AreNoted sight numbers net (NoSettling time)
     → Names net numbers old new → TellsStuck (events_of sight) time net old new
-tells_stuck nothing net numbers time old new noted h = absurd noted
-tells_stuck (machine text) net numbers time old new noted h = absurd noted
 tells_stuck (events text) net numbers time old new noted h =
     of_unsettled_so text time net (λ stands before now at. numbers ≡ take 17 (changing before now)) (λ stands before now at. Names net (changing before now) old new)
     (λ stands before now at is. names_all net numbers (changing before now) old new is h) noted
+tells_stuck _ net numbers time old new noted h = absurd noted
 
 tells_of : (sight : Sight) (explains : Bool) (net : NetlistView) (numbers : List ℕ) (fault : Fault) (old new : SinkState) → AreNoted sight numbers net fault
     → NamesIf explains net numbers fault old new → TellsChanging (events_of sight) explains net fault old new
 tells_of sight false net numbers fault old new noted h = h
-tells_of sight true net numbers (Lex x) old new noted h = h
-tells_of sight true net numbers (Syntax x) old new noted h = h
-tells_of sight true net numbers (Name x) old new noted h = h
-tells_of sight true net numbers (Elab x) old new noted h = h
-tells_of sight true net numbers (Rejected x) old new noted h = h
-tells_of sight true net numbers (Stim x) old new noted h = h
-tells_of sight true net numbers (Expect x) old new noted h = h
-tells_of sight true net numbers (Differs x) old new noted h = h
 tells_of sight true net numbers (NoSettling time) old new noted h = tells_stuck sight net numbers time old new noted h
-tells_of sight true net numbers Memory old new noted h = h
-tells_of sight true net numbers Output old new noted h = h
+tells_of sight true net numbers _ old new noted h = h
 
 byteless : (sight : Sight) (Holds : List Stand → (before now : List ℕ) → (time : ℕ) → Type 0) (net : NetlistView) (fault : Fault) (size : ℕ) → IsOfNet sight Holds net fault → IsTold size fault
 byteless sight Holds net (Lex x) size h = absurd h
 byteless sight Holds net (Syntax x) size h = absurd h
 byteless sight Holds net (Name x) size h = absurd h
 byteless sight Holds net (Elab x) size h = absurd h
-byteless sight Holds net (Rejected x) size h = tt
-byteless sight Holds net (Stim x) size h = tt
-byteless sight Holds net (Expect x) size h = tt
-byteless sight Holds net (Differs x) size h = tt
-byteless sight Holds net (NoSettling x) size h = tt
-byteless sight Holds net Memory size h = tt
-byteless sight Holds net Output size h = tt
+byteless sight Holds net _ size h = tt
 
 -- of an answer that is this fault
 pub tells_changing : {A : Type 0} (sight : Sight) (explains : Bool) (net : NetlistView) (numbers shown : List ℕ) (answer : Result A Fault) (fault : Fault) (old new : SinkState)

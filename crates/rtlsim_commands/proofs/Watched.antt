@@ -4,7 +4,7 @@ use Rattle.std.specs.Prelude.{IsErrAnd}
 use Rattle.rtlsim_commands.specs.Watched.{OfMachine, OfEvents, IfWhole, Watched}
 use Rattle.rtlsim_command_faults.specs.Faults.{of_machine, of_run}
 use Rattle.rtlsim_command_faults.specs.declared.faults.Fault.{Fault}
-use Rattle.rtlsim_command_faults.specs.declared.faults.Fault.TheVariants.{Lex, Syntax, Name, Elab, Rejected, Stim, Expect, Differs, NoSettling, Memory, Output}
+use Rattle.rtlsim_command_faults.specs.declared.faults.Fault.TheVariants.{Differs, Memory}
 use Rattle.rtl_run.specs.declared.fault.MachineFault.{MachineFault}
 use Rattle.rtl_run.specs.declared.fault.MachineFault.TheVariants as machine
 use Rattle.rtl_net.specs.Nets.{NetlistView}
@@ -39,15 +39,12 @@ of_events_so text net P Q go h = record {
 -- ---- faults that end a run come without the whole trace
 
 pub machine_part : (A : Type 0) (fault : MachineFault) (So : Type 0) → IfWhole {A = A} (Err (of_machine fault)) So
-machine_part A (machine.Rejected faults) So = tt
-machine_part A (machine.Stim fault) So = tt
 machine_part A machine.Memory So = tt
-machine_part A machine.Output So = tt
+machine_part A _ So = tt
 
 pub run_part : (A : Type 0) (fault : RunFault) (So : Type 0) → IfWhole {A = A} (Err (of_run fault)) So
-run_part A (run.NoSettling time) So = tt
 run_part A run.Memory So = tt
-run_part A run.Output So = tt
+run_part A _ So = tt
 
 pub watched_failed : {A : Type 0} (Does : NetlistView → Result A Fault → SinkState → SinkState → Type 0) (So : Type 0) (net : NetlistView) (answer : Result A Fault) (fault : Fault)
     (old new : SinkState) → IsErrAnd answer (λ f. f ≡ fault) → Does net (Err fault) old new → IfWhole {A = A} (Err fault) So → Does net answer old new × IfWhole answer So
@@ -62,14 +59,5 @@ watched_so Does Sees net answer old new h = record { does = h.0; sees = h.1 }
 -- what is so of it is so of what follows
 pub if_whole_so : {A : Type 0} (P Q : Type 0) (answer : Result A Fault) → (P → Q) → IfWhole answer P → IfWhole answer Q
 if_whole_so P Q (Ok x) go h = go h
-if_whole_so P Q (Err (Lex x)) go h = tt
-if_whole_so P Q (Err (Syntax x)) go h = tt
-if_whole_so P Q (Err (Name x)) go h = tt
-if_whole_so P Q (Err (Elab x)) go h = tt
-if_whole_so P Q (Err (Rejected x)) go h = tt
-if_whole_so P Q (Err (Stim x)) go h = tt
-if_whole_so P Q (Err (Expect x)) go h = tt
 if_whole_so P Q (Err (Differs x)) go h = go h
-if_whole_so P Q (Err (NoSettling x)) go h = tt
-if_whole_so P Q (Err Memory) go h = tt
-if_whole_so P Q (Err Output) go h = tt
+if_whole_so P Q (Err _) go h = tt

@@ -14,6 +14,8 @@ use Rattle.rtlsim_findings_text.specs.RemarkText.{remarks_text}
 use Rattle.rtlsim_listing.specs.NetText.{net_text}
 use Rattle.rtl_net.specs.Nets.{NetlistView}
 use Rattle.byte_streams.specs.Written.{SinkState, IsIntact, HasFailed, TakesAll, TakesBeginning}
+use Rattle.rtlsim_commands.specs.declared.listing.Form.{Form}
+use Rattle.rtlsim_commands.specs.declared.listing.Form.TheVariants.{Lines, Graph, ToldLines, ToldGraph, Object}
 
 -- The text went out; or a beginning of it, since the sink has failed, or since memory was refused.
 abbrev pub Writes : {A : Type 0} → (text : List ℕ) → Result A Fault → (old new : SinkState) → Type 0
@@ -60,3 +62,11 @@ ChecksNetJson telling net answer old new = AnswersVerdict (json_text (files_of t
 -- the graph, or the lines with explanations; a graph stays one, so no remarks stand below it
 abbrev pub DrawsNetTold : Telling → NetlistView → Result Bool Fault → (old new : SinkState) → Type 0
 DrawsNetTold telling net answer old new = AnswersVerdict (with_explanation dot_text telling) net answer old new
+
+-- what is written of a verdict in each form
+abbrev pub form_text : Form → NetlistView → Verdict → List ℕ
+form_text Lines = check_text
+form_text Graph = dot_text
+form_text (ToldLines telling) = with_remarks telling.now
+form_text (ToldGraph telling) = with_explanation dot_text telling.now
+form_text (Object telling) = json_text (files_of telling.now)

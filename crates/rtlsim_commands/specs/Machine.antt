@@ -20,7 +20,7 @@ as_answer (Err fault) = Err (of_machine fault)
 abbrev pub RunsMachine : (text : List ℕ) → NetlistView → Result Summary Fault → (old new : SinkState) → Type 0
 RunsMachine text net answer old new = (given : Result Summary MachineFault) × (answer ≡ as_answer given) × RunsNet net text old new given
 
--- The same trace, each process run once a moment in order of level, or why there is none.
+-- The same trace, by levels and without delta cycles, or why there is none.
 abbrev pub RunsMachineByLevels : (text : List ℕ) → NetlistView → Result LevelSummary Fault → (old new : SinkState) → Type 0
 RunsMachineByLevels text net answer old new =
     (given : Result LevelSummary MachineFault) × (answer ≡ as_answer given) × RunsLevels net text old new given

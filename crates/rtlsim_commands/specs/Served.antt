@@ -22,6 +22,10 @@ pub record Outputs : Type 0 where
   pub err : SinkState
   pub err_after : SinkState
 
+-- of these states
+abbrev pub both : (out out_after err err_after : SinkState) → Outputs
+both out out_after err err_after = record { out = out; out_after = out_after; err = err; err_after = err_after }
+
 -- a failed write overrules each status
 abbrev pub ended_by : Bool → Status → Status
 ended_by true outcome = status.Failed

@@ -29,11 +29,11 @@ pub use byte_streams::{Sink, Unwatched, Watch};
 pub use command::{Answer, Command, Run};
 pub use comparing::Compared;
 pub use ending::ended_by_writes;
-pub use listing::{check_net, check_net_dot};
+pub use listing::Form;
 pub use opening::{
     eval, on_source, run, run_event, run_levels, show_check, show_check_dot, show_net,
 };
-pub use printing::{CheckNet, DrawNet, EvalNet, ListNet};
+pub use printing::{CheckNet, EvalNet, ListNet};
 pub use rtl_check::CheckFault;
 pub use rtl_kernel::{Forward, Pick, Reverse};
 pub use rtl_net::Net;

@@ -3,7 +3,7 @@
 ghost use Rattle.std.specs.Prelude.{◌≡◌, [], if◌then◌else◌};
 ghost use Rattle.rtl_check.specs.Verdicts as verdicts;
 ghost use Rattle.byte_streams.specs.Written.{IsIntact};
-ghost use Rattle.rtlsim_commands.specs.Listed.{ListsNet, ChecksNet, ChecksNetJson, ChecksNetTold, DrawsNet, DrawsNetTold, with_remarks};
+ghost use Rattle.rtlsim_commands.specs.Listed.{AnswersVerdict, ListsNet, form_text, with_remarks};
 ghost use Rattle.rtlsim_command_faults.specs.Explanations.{files_of, verdict_explained, with_explanation};
 ghost use Rattle.rtlsim_listing.specs.CheckText.{check_text};
 ghost use Rattle.rtlsim_listing.specs.DotText.{dot_text};
@@ -15,8 +15,7 @@ use rtl_check::{Verdict, check};
 use rtl_net::Net;
 use rtlsim_command_faults::{Fault, Telling};
 use rtlsim_findings_text::{explain_rejection, show_check_json, show_remarks};
-use rtlsim_listing;
-use rtlsim_listing::ListingFault;
+use rtlsim_listing::{ListingFault, show_check, show_dot, show_net};
 use std::alloc::Global;
 
 /// Writes the lines of a netlist. It takes memory for one name at a time.
@@ -28,97 +27,63 @@ pub(crate) fn list_net<S: Sink>(net: &Net, out: &mut S) -> Result<(), Fault>
     requires intact { IsIntact (S.state out.old) }
     ensures { ListsNet net.now result (S.state out.old) (S.state out.new) }
 {
-    Ok(rtlsim_listing::show_net(net, out)?)
+    Ok(show_net(net, out)?)
 }
 
-/// Checks a netlist, writes the lines of the verdict, and answers whether it is yes. It takes
+/// In which form a verdict is written.
+#[derive(Clone, Copy)]
+pub enum Form<'a, 'b> {
+    /// Its lines.
+    Lines,
+    /// The graph of the levels where it is yes, and else its lines.
+    Graph,
+    /// Its lines, and below them the explanation of its faults and the remarks on the netlist,
+    /// where these are asked for.
+    ToldLines(&'a Telling<'b>),
+    /// The graph, or the lines and the explanation of its faults, where that is asked for.
+    ToldGraph(&'a Telling<'b>),
+    /// An object of JSON, in which places are told by the files.
+    Object(&'a Telling<'b>),
+}
+
+/// Checks a netlist, writes the verdict in this form, and answers whether it is yes. It takes
 /// memory in proportion to the netlist.
 ///
 /// # Errors
 ///
-/// `Memory` and `Output`, where a beginning of the lines was written.
-pub fn check_net<S: Sink>(alloc: Global, net: &Net, out: &mut S) -> Result<bool, Fault>
-    requires intact { IsIntact (S.state out.old) }
-    ensures { ChecksNet net.now result (S.state out.old) (S.state out.new) }
-{
-    let verdict = check(alloc, net)?;
-    rtlsim_listing::show_check(alloc, net, &verdict, out)?;
-    Ok(is_yes(&verdict))
-}
-
-/// Checks a netlist, draws its levels where the verdict is yes and writes its lines else, and
-/// answers whether it is yes. It takes memory in proportion to the netlist.
-///
-/// # Errors
-///
 /// `Memory` and `Output`, where a beginning of the text was written.
-pub fn check_net_dot<S: Sink>(alloc: Global, net: &Net, out: &mut S) -> Result<bool, Fault>
-    requires intact { IsIntact (S.state out.old) }
-    ensures { DrawsNet net.now result (S.state out.old) (S.state out.new) }
-{
-    let verdict = check(alloc, net)?;
-    rtlsim_listing::show_dot(alloc, net, &verdict, out)?;
-    Ok(is_yes(&verdict))
-}
-
-/// Checks a netlist and writes the lines of the verdict, as `check_net` does, and below them the
-/// explanation of its faults and the remarks on the netlist, where these are asked for.
-///
-/// # Errors
-///
-/// As `check_net`.
-pub(crate) fn check_net_told<S: Sink>(
+pub(crate) fn check_net<S: Sink>(
     alloc: Global,
-    telling: &Telling<'_>,
+    form: &Form<'_, '_>,
     net: &Net,
     out: &mut S,
 ) -> Result<bool, Fault>
     requires intact { IsIntact (S.state out.old) }
-    ensures { ChecksNetTold telling.now net.now result (S.state out.old) (S.state out.new) }
+    ensures { AnswersVerdict (form_text form.now) net.now result (S.state out.old) (S.state out.new) }
 {
     let verdict = check(alloc, net)?;
-    show_told(alloc, telling, net, &verdict, out)?;
+    show_verdict(alloc, form, net, &verdict, out)?;
     Ok(is_yes(&verdict))
 }
 
-/// Checks a netlist and draws its levels where the verdict is yes, as `check_net_dot` does; else
-/// writes what `check_net_told` does.
-///
-/// # Errors
-///
-/// As `check_net`.
-pub(crate) fn check_net_dot_told<S: Sink>(
+/// Writes a verdict in this form.
+fn show_verdict<S: Sink>(
     alloc: Global,
-    telling: &Telling<'_>,
+    form: &Form<'_, '_>,
     net: &Net,
+    verdict: &Verdict,
     out: &mut S,
-) -> Result<bool, Fault>
+) -> Result<(), ListingFault>
     requires intact { IsIntact (S.state out.old) }
-    ensures { DrawsNetTold telling.now net.now result (S.state out.old) (S.state out.new) }
+    ensures { IsListed result (S.state out.old) (S.state out.new) (form_text form.now net.now verdict.now) }
 {
-    let verdict = check(alloc, net)?;
-    show_graph(alloc, telling, net, &verdict, out)?;
-    Ok(is_yes(&verdict))
-}
-
-/// Checks a netlist, writes the verdict as an object of JSON, and answers whether it is yes. Places
-/// are told by the files. It takes memory in proportion to the netlist.
-///
-/// # Errors
-///
-/// As `check_net`.
-pub(crate) fn check_net_json<S: Sink>(
-    alloc: Global,
-    telling: &Telling<'_>,
-    net: &Net,
-    out: &mut S,
-) -> Result<bool, Fault>
-    requires intact { IsIntact (S.state out.old) }
-    ensures { ChecksNetJson telling.now net.now result (S.state out.old) (S.state out.new) }
-{
-    let verdict = check(alloc, net)?;
-    show_check_json(alloc, telling.files, net, &verdict, out)?;
-    Ok(is_yes(&verdict))
+    match form {
+        Form::Lines => show_check(alloc, net, verdict, out),
+        Form::Graph => show_dot(alloc, net, verdict, out),
+        Form::ToldLines(telling) => show_told(alloc, telling, net, verdict, out),
+        Form::ToldGraph(telling) => show_graph(alloc, telling, net, verdict, out),
+        Form::Object(telling) => show_check_json(alloc, telling.files, net, verdict, out),
+    }
 }
 
 /// Writes the lines of a verdict, and the explanation of its faults and the remarks where they are
@@ -167,7 +132,7 @@ fn show_lines<S: Sink>(
     ensures { IsListed result (S.state out.old) (S.state out.new)
         (with_explanation check_text telling.now net.now verdict.now) }
 {
-    rtlsim_listing::show_check(alloc, net, verdict, out)?;
+    show_check(alloc, net, verdict, out)?;
     show_explanation(alloc, telling, net, verdict, out)
 }
 
@@ -184,7 +149,7 @@ fn show_graph<S: Sink>(
     ensures { IsListed result (S.state out.old) (S.state out.new)
         (with_explanation dot_text telling.now net.now verdict.now) }
 {
-    rtlsim_listing::show_dot(alloc, net, verdict, out)?;
+    show_dot(alloc, net, verdict, out)?;
     show_explanation(alloc, telling, net, verdict, out)
 }
 

@@ -9,8 +9,8 @@ ghost use Rattle.rtlsim_commands.specs.Simulated.{RunsEvents};
 ghost use Rattle.rtlsim_commands.specs.Opened.{Opens};
 
 use crate::command::Command;
-use crate::listing::{check_net, check_net_dot};
-use crate::printing::{EvalNet, ListNet};
+use crate::listing::Form;
+use crate::printing::{CheckNet, EvalNet, ListNet};
 use crate::running::{RunEvents, RunLevels, RunMachine};
 use byte_streams::{Sink, Unwatched};
 use rtl_kernel::Pick;
@@ -42,14 +42,13 @@ pub fn on_source<F: Front, C: Command, S: Sink>(
     command.on_net(alloc, &net, &mut Unwatched, out)
 }
 
-/// Writes the lines of the netlist of a source: `source` has the bytes of the file, `top` the name
-/// of an entity in it, in letters of either case. It takes memory for the source's netlist, and
-/// then for one name at a time.
+/// Writes the lines of the netlist of a source. It takes memory for that, and then for one name at
+/// a time.
 ///
 /// # Errors
 ///
-/// - `Lex`, `Syntax`, `Name`, `Elab`: the source is refused, and nothing was written.
-/// - `Memory`: memory was refused. `Output`: `out` failed. In both a beginning of the lines was
+/// - As `on_source` where the source is refused.
+/// - `Memory`: memory was refused. `Output`: `out` failed. In both a beginning of the text was
 ///   written.
 pub fn show_net<F: Front, S: Sink>(
     alloc: Global,
@@ -64,15 +63,12 @@ pub fn show_net<F: Front, S: Sink>(
     on_source::<F, _, S>(alloc, source, top, &mut ListNet, out)
 }
 
-/// Checks the netlist of a source, writes the lines of the verdict, and answers whether it is yes:
-/// `source` has the bytes of the file, `top` the name of an entity in it, in letters of either
-/// case. It takes memory for the source's netlist, and in proportion to it.
+/// Checks the netlist of a source, writes the lines of the verdict, and answers whether it is yes.
+/// It takes memory for the netlist, and in proportion to it.
 ///
 /// # Errors
 ///
-/// - `Lex`, `Syntax`, `Name`, `Elab`: the source is refused, and nothing was written.
-/// - `Memory`: memory was refused. `Output`: `out` failed. In both a beginning of the lines was
-///   written.
+/// As `show_net`.
 pub fn show_check<F: Front, S: Sink>(
     alloc: Global,
     source: &[u8],
@@ -83,8 +79,8 @@ pub fn show_check<F: Front, S: Sink>(
     ensures checks { Opens ChecksNet source.now top.now result (S.state out.old) (S.state out.new) }
     ensures told { IfErr result (IsTold (length source.now)) }
 {
-    let net = F::open(alloc, source, top)?;
-    check_net(alloc, &net, out)
+    let form = Form::Lines;
+    on_source::<F, _, S>(alloc, source, top, &mut CheckNet { form }, out)
 }
 
 /// Checks the netlist of a source, draws its levels where the verdict is yes and writes its lines
@@ -92,7 +88,7 @@ pub fn show_check<F: Front, S: Sink>(
 ///
 /// # Errors
 ///
-/// As `show_check`.
+/// As `show_net`.
 pub fn show_check_dot<F: Front, S: Sink>(
     alloc: Global,
     source: &[u8],
@@ -103,13 +99,12 @@ pub fn show_check_dot<F: Front, S: Sink>(
     ensures checks { Opens DrawsNet source.now top.now result (S.state out.old) (S.state out.new) }
     ensures told { IfErr result (IsTold (length source.now)) }
 {
-    let net = F::open(alloc, source, top)?;
-    check_net_dot(alloc, &net, out)
+    let form = Form::Graph;
+    on_source::<F, _, S>(alloc, source, top, &mut CheckNet { form }, out)
 }
 
 /// Simulates the netlist of a source under a stimulus, where the checker accepts it and the
-/// stimulus has no race, and writes the trace: that of the synchronous machine. `source` has the
-/// bytes of the file, `top` the name of an entity in it, in letters of either case, `stimulus` the
+/// stimulus has no race, and writes the trace: that of the synchronous machine. `stimulus` has the
 /// lines of the stimulus, with times in ns; `pick` chooses the order of processes within a cycle.
 /// It answers the number of moments and the greatest number of delta cycles of one, which is the
 /// checker's bound at most. It takes memory for the source's netlist, for the stimulus and for the
@@ -117,11 +112,9 @@ pub fn show_check_dot<F: Front, S: Sink>(
 ///
 /// # Errors
 ///
-/// - `Lex`, `Syntax`, `Name`, `Elab`: the source is refused. `Rejected`: the checker says no, with
-///   all faults. `Stim`: a line of the stimulus is refused, none says when to stop, or there is a
-///   race. Nothing is written till here.
-/// - `Memory`: memory was refused. `Output`: `out` failed. In both a beginning of the trace was
-///   written.
+/// - As `show_net`.
+/// - `Rejected`: the checker says no, with all faults. `Stim`: a line of the stimulus is refused,
+///   none says when to stop, or there is a race. Nothing was written.
 pub fn run<F: Front, P: Pick, S: Sink>(
     alloc: Global,
     source: &[u8],
@@ -139,10 +132,8 @@ pub fn run<F: Front, P: Pick, S: Sink>(
 
 /// Simulates the netlist of a source under a stimulus, where `run` does, and writes the trace that
 /// it writes: at each moment the clocked processes that an input wakes run once, and then the
-/// combinational ones in order of level. `source` has the bytes of the file, `top` the name of an
-/// entity in it, in letters of either case, `stimulus` the lines of the stimulus, with times in ns.
-/// It answers the number of moments, and the checker's bound. It takes memory for the source's
-/// netlist, for the stimulus and for the values of the nets.
+/// combinational ones in order of level. It answers the number of moments, and the checker's bound.
+/// It takes memory as `run` does.
 ///
 /// # Errors
 ///
@@ -162,22 +153,17 @@ pub fn run_levels<F: Front, S: Sink>(
     on_source::<F, _, S>(alloc, source, top, &mut RunLevels { stimulus }, out)
 }
 
-/// Simulates the netlist of a source under a stimulus, by events, and writes the trace: `source`
-/// has the bytes of the file, `top` the name of an entity in it, in letters of either case,
-/// `stimulus` the lines of the stimulus, with times in ns; `pick` chooses the order of processes
-/// within a cycle. It answers the number of moments and the greatest number of delta cycles of one,
-/// each of which takes 1,000 at most. Neither checker nor races are asked. It takes memory for the
-/// source's netlist, for the stimulus and for the values of the nets.
+/// Simulates the netlist of a source under a stimulus as `run` does, but by events: neither checker
+/// nor races are asked. Of the delta cycles of a moment there are 1,000 at most.
 ///
 /// # Errors
 ///
-/// - `Lex`, `Syntax`, `Name`, `Elab`: the source is refused. `Rejected`: processes read variables
-///   that they haven't assigned in the same run, all of which are listed. `Stim`: a line of the
-///   stimulus is refused, or none says when to stop. Nothing is written till here.
+/// - As `show_net`.
+/// - `Rejected`: processes read variables that they haven't assigned in the same run, all of which
+///   are listed. `Stim`: a line of the stimulus is refused, or none says when to stop. Nothing was
+///   written.
 /// - `NoSettling`: the first moment that doesn't settle; the trace of those before it was written
 ///   (at 0, its header).
-/// - `Memory`: memory was refused. `Output`: `out` failed. In both a beginning of the trace was
-///   written.
 pub fn run_event<F: Front, P: Pick, S: Sink>(
     alloc: Global,
     source: &[u8],
@@ -194,17 +180,14 @@ pub fn run_event<F: Front, P: Pick, S: Sink>(
 }
 
 /// Writes, for each out port of the top in order of declaration, the line `NAME=VALUE` with its
-/// value once the netlist of the source has settled under these inputs: `source` has the bytes of
-/// the file, `top` the name of an entity in it, in letters of either case, and each of `sets` is a
-/// text NAME=VALUE. It takes memory for the source's netlist and for the values of the nets.
+/// value once the netlist of the source has settled under these inputs, each of which is a text
+/// NAME=VALUE. It takes memory for the source's netlist and for the values of the nets.
 ///
 /// # Errors
 ///
-/// - `Lex`, `Syntax`, `Name`, `Elab`: the source is refused. `Rejected`: the checker says no, with
-///   all faults. `Stim`: a text NAME=VALUE is refused, told by its place, from 1. Nothing is
-///   written till here.
-/// - `Memory`: memory was refused. `Output`: `out` failed. In both a beginning of the lines was
-///   written.
+/// - As `show_net`.
+/// - `Rejected`: the checker says no, with all faults. `Stim`: a text NAME=VALUE is refused, told
+///   by its place, from 1. Nothing was written.
 pub fn eval<F: Front, S: Sink>(
     alloc: Global,
     source: &[u8],

@@ -1,16 +1,16 @@
 //! Commands that print what is known of a netlist without a run.
 
 ghost use Rattle.std.specs.Prelude.{map};
-ghost use Rattle.rtlsim_commands.specs.Listed.{ListsNet, ChecksNetJson, ChecksNetTold, DrawsNetTold};
+ghost use Rattle.rtlsim_commands.specs.Listed.{AnswersVerdict, ListsNet, form_text};
 ghost use Rattle.rtlsim_commands.specs.Machine.{EvaluatesMachine};
 ghost use Rattle.rtlsim_commands.specs.Sights.{nothing};
 
 use crate::command::Command;
-use crate::listing::{check_net_dot_told, check_net_json, check_net_told, list_net};
+use crate::listing::{Form, check_net, list_net};
 use byte_streams::{Sink, Watch};
 use rtl_net::Net;
 use rtl_run;
-use rtlsim_command_faults::{Fault, Telling};
+use rtlsim_command_faults::Fault;
 use std::alloc::Global;
 
 /// `net`: the lines of a netlist.
@@ -35,16 +35,16 @@ impl Command for ListNet {
     }
 }
 
-/// `check`: the lines of the verdict.
+/// `check`: the verdict in this form.
 #[derive(Drop)]
 pub struct CheckNet<'a, 'b> {
-    pub telling: &'a Telling<'b>,
+    pub form: Form<'a, 'b>,
 }
 
 impl Command for CheckNet<'_, '_> {
     type Answer = bool;
 
-    ghost does = { λ command. ChecksNetTold command.telling.now };
+    ghost does = { λ command. AnswersVerdict (form_text command.form) };
 
     ghost sight = { λ command. nothing };
 
@@ -55,55 +55,7 @@ impl Command for CheckNet<'_, '_> {
         _watch: &mut V,
         out: &mut S,
     ) -> Result<bool, Fault> {
-        check_net_told(alloc, self.telling, net, out)
-    }
-}
-
-/// `check --dot`: the graph of the levels, or the lines of another verdict.
-#[derive(Drop)]
-pub struct DrawNet<'a, 'b> {
-    pub telling: &'a Telling<'b>,
-}
-
-impl Command for DrawNet<'_, '_> {
-    type Answer = bool;
-
-    ghost does = { λ command. DrawsNetTold command.telling.now };
-
-    ghost sight = { λ command. nothing };
-
-    fn on_net<V: Watch, S: Sink>(
-        &mut self,
-        alloc: Global,
-        net: &Net,
-        _watch: &mut V,
-        out: &mut S,
-    ) -> Result<bool, Fault> {
-        check_net_dot_told(alloc, self.telling, net, out)
-    }
-}
-
-/// `check --json`: the verdict as an object.
-#[derive(Drop)]
-pub(crate) struct DescribeNet<'a, 'b> {
-    pub(crate) telling: &'a Telling<'b>,
-}
-
-impl Command for DescribeNet<'_, '_> {
-    type Answer = bool;
-
-    ghost does = { λ command. ChecksNetJson command.telling.now };
-
-    ghost sight = { λ command. nothing };
-
-    fn on_net<V: Watch, S: Sink>(
-        &mut self,
-        alloc: Global,
-        net: &Net,
-        _watch: &mut V,
-        out: &mut S,
-    ) -> Result<bool, Fault> {
-        check_net_json(alloc, self.telling, net, out)
+        check_net(alloc, &self.form, net, out)
     }
 }
 

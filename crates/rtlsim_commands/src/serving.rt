@@ -5,12 +5,13 @@ ghost use Rattle.rtl_run.specs.simulations.Simulated as spec;
 ghost use Rattle.byte_streams.specs.Written.{IsIntact};
 ghost use Rattle.rtl_stim.specs.Ports.{HasOwnPorts};
 ghost use Rattle.rtlsim_commands.specs.Sights.{Seeing, IsOfNet, events_of};
-ghost use Rattle.rtlsim_commands.specs.Served.{Serves, ServesNet, ServesObject};
+ghost use Rattle.rtlsim_commands.specs.Served.{Serves, ServesNet, ServesObject, both};
 
 use crate::command::{Answer, Command};
 use crate::ending::{ended_by_writes, refuse_net, refuse_source};
+use crate::listing::Form;
 use crate::noting::{Noting, Numbers};
-use crate::printing::DescribeNet;
+use crate::printing::CheckNet;
 use crate::remarking::tell_remarks;
 use byte_streams::{Sink, Unwatched, Watch};
 use rtl_net::Net;
@@ -36,12 +37,7 @@ pub fn serve<F: Front, C: Command, V: Watch, O: Sink, E: Sink>(
     ensures { Serves (Seeing (C.sight command.old) (C.does command.old) (λ stands. V.told watch.old stands watch.new))
         (record { text = C.Answer.text; status = C.Answer.said; events = events_of (C.sight command.old) }) telling.now
         source.now top.now result
-        (record {
-          out = O.state out.old;
-          out_after = O.state out.new;
-          err = E.state err.old;
-          err_after = E.state err.new;
-        }) }
+        (both (O.state out.old) (O.state out.new) (E.state err.old) (E.state err.new)) }
 {
     match F::open(alloc, source, top) {
         Ok(net) => serve_net(alloc, telling, &net, command, watch, out, err),
@@ -63,16 +59,12 @@ pub fn describe<F: Front, O: Sink, E: Sink>(
     requires out { IsIntact (O.state out.old) }
     requires err { IsIntact (E.state err.old) }
     ensures { ServesObject telling.now source.now top.now result
-        (record {
-          out = O.state out.old;
-          out_after = O.state out.new;
-          err = E.state err.old;
-          err_after = E.state err.new;
-        }) }
+        (both (O.state out.old) (O.state out.new) (E.state err.old) (E.state err.new)) }
 {
     match F::open(alloc, source, top) {
         Ok(net) => {
-            let mut command = DescribeNet { telling };
+            let form = Form::Object(telling);
+            let mut command = CheckNet { form };
             serve_net(alloc, telling, &net, &mut command, &mut Unwatched, out, err)
         }
         Err(fault) => {
@@ -99,12 +91,7 @@ fn serve_net<C: Command, V: Watch, O: Sink, E: Sink>(
         (λ stands. V.told watch.old stands watch.new))
         (record { text = C.Answer.text; status = C.Answer.said; events = events_of (C.sight command.old) }) telling.now
         net.now result
-        (record {
-          out = O.state out.old;
-          out_after = O.state out.new;
-          err = E.state err.old;
-          err_after = E.state err.new;
-        }) }
+        (both (O.state out.old) (O.state out.new) (E.state err.old) (E.state err.new)) }
 {
     let (answer, changing) = on_net_noting(alloc, net, command, watch, out);
     match answer {
