@@ -21,7 +21,8 @@ pub enum CheckRule {
 /// What is said of each, in their order.
 static CHECKING: [Words<&str>; 9] = [
     rule! { fault 1 TwoDrivers: PROCESSES " both drive " NET
-        => "let one of them drive it, or give each a signal of its own and choose between these" },
+        => "let one of them drive it, with all of its assignments, or give each a signal of its own and choose \
+            between these" },
     rule! { fault 2 Mixed: "process " PROCESS " has an edge or an event, and is none of the registers that are read"
         => "write a register as one if: its asynchronous reset first, the edge as the only other branch, and enables \
             inside that; a second edge takes a process of its own; the reset is tested as rst = '1' or rst = '0', and \
@@ -36,11 +37,12 @@ static CHECKING: [Words<&str>; 9] = [
         => "add it to the sensitivity list, or write process (all); a register tests rising_edge(clk)" },
     rule! { fault 7 Latch: "process " PROCESS " leaves out, on some path, the assignment of " NET ", so that it would \
         keep its value"
-        => "in a process assign a default before the if or case; or add, behind a when too, the else or the choice \
-            that leaves it out; a register tests rising_edge(clk)" },
+        => "in a process assign a default before the if or case; or add the missing else or choice, in a when .. else \
+            too; a register tests rising_edge(clk)" },
     rule! { fault 8 Loop: "in a circle of processes each is sensitive to what the next drives, and the last to what \
         the first drives: " CIRCLE
-        => "put a register into the circle, or split the process whose outputs don't depend on all of its inputs" },
+        => "put a register into the circle, or split the process whose outputs don't depend on all of its inputs; one \
+            that reads what it drives computes it in a variable, as v := v xor a(i), and assigns v at its end" },
     rule! { fault 9 StoredVariable: "process " PROCESS " may read, before it assigns it, the variable " VARIABLE ", \
         which would so keep its value from run to run"
         => "assign it at the beginning of the process, or make it a signal" },

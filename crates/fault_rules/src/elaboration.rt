@@ -29,12 +29,14 @@ static ELABORATION: [Words<&str>; 12] = [
         => "give it a value in the generic map of each instance of this entity, or a default here; the top has no \
             generic map, so that its generics need defaults" },
     rule! { elab 3 GenericRange: WORD "is a value outside of its type"
-        => "a natural is at least 0, a positive at least 1, and all are at most 2147483647" },
+        => "see its default and what each generic map gives it: a natural is at least 0, a positive at least 1, and \
+            all are at most 2147483647" },
     rule! { elab 4 StaticError: WORD "can't be computed"
         => "see whether it divides by 0, goes past what an integer holds, or is negative where a length or count \
             stands" },
     rule! { elab 5 Length: WORD "stands where lengths of " LENGTHS " meet that have to be equal"
-        => "write both sides with one length: slices, a & at the end, or resize(n, length)" },
+        => "write both sides with one length: slices, a & at the end, or resize(n, length); a product is as long as \
+            both factors together, and is cut by resize" },
     rule! { elab 6 Index: WORD "has an index or slice outside of what is declared or against its direction, or a range \
         without elements"
         => "see the bounds and their direction: (7 downto 0) or (0 to 7); both sides of and, and branches that are \

@@ -38,8 +38,8 @@ static NAMING: [Words<&str>; 11] = [
         operand, index or argument"
         => "convert an operand or a value by unsigned(v) or std_logic_vector(n); unsigned has no /, mod and rem here: \
             n mod 4 is n(1 downto 0); `&` joins, `and` computes; one element is '0', several are \"0101\" or (others \
-            => '0'), a number is to_unsigned(n, length), a test '1' when a = b else '0'; an index is static: for v(p) \
-            write a loop that compares p; values are in capitals, as 'Z'" },
+            => '0'), a number is to_unsigned(n, length), a test '1' when a = b else '0', and en as a test en = '1'; \
+            an index is static: for v(p) write a loop that compares p; values are in capitals, as 'Z'" },
     rule! { name 5 NotVisible: WORD "is in a package that no use clause names"
         => "write library ieee; use ieee.std_logic_1164.all; and, for unsigned, use ieee.numeric_std.all; before the \
             entity" },
@@ -51,7 +51,7 @@ static NAMING: [Words<&str>; 11] = [
     rule! { name 8 ChoiceTwice: WORD "is a choice that an earlier one has already"
         => "drop one of the two choices" },
     rule! { name 9 SecondArchitecture: WORD "is a second architecture of its entity"
-        => "keep one architecture of the entity in all files together" },
+        => "keep one architecture of the entity in all files together, or name behind `of` the entity that is meant" },
     rule! { name 10 NoSensitivity: WORD "has no sensitivity list"
         => "write process (all), or the clock and the asynchronous reset of a register: process (clk, rst)" },
     rule! { name 11 LeftOut },

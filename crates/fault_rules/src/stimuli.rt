@@ -20,12 +20,13 @@ pub enum StimRule {
 /// What is said of each, in their order.
 static STIMULI: [Words<&str>; 8] = [
     rule! { stim 1 BadLine: "the line isn't understood"
-        => "write at TIME NAME VALUE, clock NAME FIRST HALF or, once, stop TIME, all in small letters; # begins a line \
-            of comment" },
+        => "write at TIME NAME VALUE, clock NAME FIRST HALF or, once, stop TIME, a line each and in small letters; a \
+            time is a number alone, in ns; a comment is a line of its own that begins with #" },
     rule! { stim 2 NotAnInput: "the name is no in port of the top"
-        => "see the spelling of the port; only in ports of the top are set" },
+        => "see the spelling of the port; in ports of the top alone are set, and no out port" },
     rule! { stim 3 BadValue: "the value doesn't fit the input"
-        => "write for each element one of U X 0 1 Z W L H -, the leftmost first; a clock has one element" },
+        => "write for each element one of U X 0 1 Z W L H -, the leftmost first, with no quotation mark and no x; a \
+            clock has one element" },
     rule! { stim 4 SetTwice: "the input is set a second time at this time, or has a second clock"
         => "drop one of the two" },
     rule! { stim 5 ClockAndSet: "the input is a clock, and is set too"

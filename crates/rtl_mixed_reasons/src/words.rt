@@ -72,7 +72,7 @@ pub const RESET_NO_INPUT: Note<&str> = Note {
 /// A reset's branch that reads a net.
 pub const RESET_READS: Note<&str> = Note {
     opening: "the reset's branch reads ",
-    middle: "; a reset assigns constants",
+    middle: "; a reset assigns constants, and other values are assigned inside the edge",
     closing: "",
 };
 
@@ -99,7 +99,7 @@ pub const SEVERAL_RESETS: Note<&str> = Note {
 
 /// An else or an elsif behind the edge.
 pub const BEHIND_EDGE: Note<&str> = Note {
-    opening: "an else or an elsif stands behind the edge; a register has none",
+    opening: "an else or an elsif stands behind the edge; leave it out, since a register keeps its value without one",
     middle: "",
     closing: "",
 };
