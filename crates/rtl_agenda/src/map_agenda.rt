@@ -9,21 +9,12 @@ use crate::time_map::TimeMap;
 use std::alloc::Global;
 
 /// An agenda that keeps its times in an ordered map.
+#[derive(Drop)]
 pub struct MapAgenda {
     waiting: TimeMap,
     last: Option<u64>,
     taken: Vec<Change>,
     ghost orderly: { IsOrderly (state_of waiting.times last taken) },
-}
-
-impl Drop for MapAgenda {
-    fn drop(self) {
-        let MapAgenda {
-            waiting: _,
-            last: _,
-            taken: _,
-        } = self;
-    }
 }
 
 impl MapAgenda {

@@ -7,15 +7,10 @@ use crate::agenda::NoMemory;
 use std::alloc::Global;
 
 /// A row of slots, each occupied or not, a bit for each.
+#[derive(Drop)]
 pub struct Occupied {
     pub words: Vec<u64>,
     pub ghost bounded: { length words.items ≤ 1024 },
-}
-
-impl Drop for Occupied {
-    fn drop(self) {
-        let Occupied { words: _ } = self;
-    }
 }
 
 impl Occupied {

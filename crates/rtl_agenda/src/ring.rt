@@ -11,23 +11,13 @@ use std::alloc::Global;
 use std::mem;
 
 /// A ring of slots: each time stands in the slot of its remainder modulo their number.
+#[derive(Drop)]
 pub struct Ring {
     alloc: Global,
     pub slots: Vec<Slot>,
     pub occupied: Occupied,
     spare: Vec<Change>,
     pub ghost ring: { IsRing (entries_of slots.items) occupied.words.items },
-}
-
-impl Drop for Ring {
-    fn drop(self) {
-        let Ring {
-            alloc: _,
-            slots: _,
-            occupied: _,
-            spare: _,
-        } = self;
-    }
 }
 
 impl Ring {

@@ -7,18 +7,10 @@ use crate::agenda::{Change, NoMemory};
 use std::mem;
 
 /// A time and the changes that wait for it, if there are some.
+#[derive(Drop)]
 pub struct Slot {
     pub time: u64,
     pub changes: Vec<Change>,
-}
-
-impl Drop for Slot {
-    fn drop(self) {
-        let Slot {
-            time: _,
-            changes: _,
-        } = self;
-    }
 }
 
 impl Slot {

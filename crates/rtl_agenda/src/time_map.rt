@@ -11,16 +11,11 @@ use std::alloc::Global;
 use std::collections::BTreeMap;
 
 /// The changes of each time for which some wait.
+#[derive(Drop)]
 pub struct TimeMap {
     alloc: Global,
     pub times: BTreeMap<u64, Vec<Change>>,
     pub ghost in_order: { IsInOrder (waiting_of times.entries) },
-}
-
-impl Drop for TimeMap {
-    fn drop(self) {
-        let TimeMap { alloc: _, times: _ } = self;
-    }
 }
 
 impl TimeMap {

@@ -13,6 +13,7 @@ use std::alloc::Global;
 
 /// An agenda that keeps the times of one turn in a ring of slots, each in the slot of its remainder
 /// modulo their number, and later times in an ordered map. A turn is as many ns as there are slots.
+#[derive(Drop)]
 pub struct Wheel {
     near: Ring,
     far: TimeMap,
@@ -21,17 +22,6 @@ pub struct Wheel {
     ghost parted: { IsParted (waiting_of far.times.entries) (entries_of near.slots.items) (unwrap_or last 0) },
     ghost orderly: { IsOrderly
         (turned_to (waiting_of far.times.entries) (entries_of near.slots.items) last taken.items) },
-}
-
-impl Drop for Wheel {
-    fn drop(self) {
-        let Wheel {
-            near: _,
-            far: _,
-            last: _,
-            taken: _,
-        } = self;
-    }
 }
 
 impl Wheel {

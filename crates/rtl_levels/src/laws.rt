@@ -1,7 +1,8 @@
 //! The laws of running processes one by one (`specs/Laws.antt`), each the contract of a function
 //! that does nothing.
 
-ghost use Rattle.rtl_levels.specs.Laws.{EachReaderIsLater, EachStaysSettled, EachRunSettles, EachStartIsTaken, EachEdgeIsTaken, EachResetIsKept, EachMachineGoesOnAlike};
+ghost use Rattle.rtl_levels.specs.Laws.{EachReaderIsLater, EachStaysSettled, EachRunSettles, EachStartIsTaken};
+ghost use Rattle.rtl_levels.specs.Laws.{EachEdgeIsTaken, EachResetIsKept, EachMachineGoesOnAlike};
 
 /// A combinational process that reads what another drives has a greater level.
 pub fn each_reader_is_later()

@@ -20,6 +20,7 @@ use std::alloc::{AllocError, Global};
 /// over nets that the same combinational ones are sensitive to, and where there is one alone its
 /// first net; and of each process the edge without which it assigns nothing, if it is clocked and
 /// has no reset, and a process that awaits the same.
+#[derive(Drop)]
 pub struct Schedule {
     pub order: Vec<usize>,
     pub readers: Groups,
@@ -28,20 +29,6 @@ pub struct Schedule {
     pub wholes: Vec<Option<usize>>,
     pub edges: Vec<Option<ClockEdge>>,
     pub leaders: Vec<usize>,
-}
-
-impl Drop for Schedule {
-    fn drop(self) {
-        let Schedule {
-            order: _,
-            readers: _,
-            clocked: _,
-            cuts: _,
-            wholes: _,
-            edges: _,
-            leaders: _,
-        } = self;
-    }
 }
 
 impl Schedule {

@@ -9,20 +9,11 @@ use std::alloc::{AllocError, Global};
 
 /// The values of all nets, as codes, with marks of the combinational processes that are to run, by
 /// rank, and of the chunks of the nets that the last step, or the one under way, may have changed.
+#[derive(Drop)]
 pub struct State {
     pub values: Vec<u8>,
     pub dirty: Vec<bool>,
     pub touched: Touched,
-}
-
-impl Drop for State {
-    fn drop(self) {
-        let State {
-            values: _,
-            dirty: _,
-            touched: _,
-        } = self;
-    }
 }
 
 impl State {
@@ -55,8 +46,8 @@ impl State {
         self.touched.mark_run(net, net + 1);
     }
 
-    /// Gives nets that stand one behind the other in one group these values. If one of these is new,
-    /// marks the nets' readers and their chunks.
+    /// Gives nets that stand one behind the other in one group these values. If one of these is
+    /// new, marks the nets' readers and their chunks.
     #[inline(always)]
     fn set_here(&mut self, readers: &Groups, first: usize, given: &[u8])
         requires { StandTogether readers.now first (length given.now) self.old }

@@ -1,6 +1,8 @@
 //! The laws of bodies, over `specs/bodies`.
 
-ghost use Rattle.rtl_model.specs.bodies.Laws.{EachRunAssigns, LooksAtReads, NothingIsKept, CaseTakesABranch, EachLaterReplaces, SequencesAddUp, EachKindIsAsSaid, FollowsItsEdge, LeavesTell, ResetsReadNothing, HasItsWidth, EachPartIsSafe, EachReadIsThere, EntriesKeepTypes};
+ghost use Rattle.rtl_model.specs.bodies.Laws.{EachRunAssigns, LooksAtReads, NothingIsKept, CaseTakesABranch, EachLaterReplaces};
+ghost use Rattle.rtl_model.specs.bodies.Laws.{SequencesAddUp, EachKindIsAsSaid, FollowsItsEdge, LeavesTell, ResetsReadNothing};
+ghost use Rattle.rtl_model.specs.bodies.Laws.{HasItsWidth, EachPartIsSafe, EachReadIsThere, EntriesKeepTypes};
 
 /// What a body assigns on every syntactic path has an entry on every run.
 pub fn each_run_assigns()

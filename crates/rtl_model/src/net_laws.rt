@@ -1,6 +1,7 @@
 //! What flat netlists are to the laws of simulation, over `specs/nets`.
 
-ghost use Rattle.rtl_model.specs.nets.Laws.{EachHasValues, EachHasBodies, EachKindIsOfBody, EachForgets, InRangeIsSafe, EachKeepsRange, EachIsElaborated, EachSourceKeepsRange, EachStateIsInRange, EachSimulatesTheMachine, EachHasOneSolution};
+ghost use Rattle.rtl_model.specs.nets.Laws.{EachHasValues, EachHasBodies, EachKindIsOfBody, EachForgets, InRangeIsSafe, EachKeepsRange};
+ghost use Rattle.rtl_model.specs.nets.Laws.{EachIsElaborated, EachSourceKeepsRange, EachStateIsInRange, EachSimulatesTheMachine, EachHasOneSolution};
 
 /// Resolution, edges and bodies of each flat netlist have what the laws of simulation ask of them.
 pub fn bodies_have_what_is_asked()

@@ -1,7 +1,10 @@
 //! The laws of simulation (`specs/simulation/Laws.antt`), each the contract of a function that does
 //! nothing.
 
-ghost use Rattle.rtl_model.specs.simulation.Laws.{EachChangeIsMade, EachClockShowsRaces, EachDependsOnPast, EachEndsAtLast, EachFaultIsListed, EachInputHolds, EachMomentComes, EachRunShows, EachStaysConsistent, EachTakesInputsAlone, EveryOrderIsOne, IsTheMachine, LevelsAreShown, LevelsExist, OneGreatestCount, OneMachineRun, OneReport, OneSolution, OrderIsFree, ReportsAreShown, ReportsLeadDown, RunsInRange, SettlesInBound, SettlesOrNot, SolutionsInRange, StatesInRange};
+ghost use Rattle.rtl_model.specs.simulation.Laws.{EachChangeIsMade, EachClockShowsRaces, EachDependsOnPast, EachEndsAtLast, EachFaultIsListed, EachInputHolds, EachMomentComes};
+ghost use Rattle.rtl_model.specs.simulation.Laws.{EachRunShows, EachStaysConsistent, EachTakesInputsAlone, EveryOrderIsOne, IsTheMachine, LevelsAreShown, LevelsExist};
+ghost use Rattle.rtl_model.specs.simulation.Laws.{OneGreatestCount, OneMachineRun, OneReport, OneSolution, OrderIsFree, ReportsAreShown, ReportsLeadDown};
+ghost use Rattle.rtl_model.specs.simulation.Laws.{RunsInRange, SettlesInBound, SettlesOrNot, SolutionsInRange, StatesInRange};
 
 /// Two orders of one cycle's Runs end in the same state, in every netlist.
 pub fn order_is_free()

@@ -1,4 +1,4 @@
-//! Whether values differ, sixteen, eight and one at a time.
+//! Whether values differ, many at a time.
 
 ghost use Rattle.std.specs.Prelude.{◌≡◌, ◌+◌, ◌≤◌, ◌<◌, not, length, take, IfSome, IfNone};
 ghost use Rattle.std.specs.Str.{bytes_eq};
@@ -12,8 +12,11 @@ pub fn are_other(old: &[u8], new: &[u8]) -> bool
     ensures { result ≡ not (bytes_eq old.now new.now) }
 {
     let many = old.len();
-    if many > 32 {
+    if many > 64 {
         return are_any_other(old, new);
+    }
+    if many >= 32 {
+        return are_ends_other::<32>(old, new);
     }
     if many >= 16 {
         return are_ends_other::<16>(old, new);

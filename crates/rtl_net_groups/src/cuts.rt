@@ -19,18 +19,10 @@ pub struct Cut {
 }
 
 /// The cuts of each process's drivers.
+#[derive(Drop)]
 pub struct Cuts {
     cuts: Lists<Cut>,
     numbers: Lists<usize>,
-}
-
-impl Drop for Cuts {
-    fn drop(self) {
-        let Cuts {
-            cuts: _,
-            numbers: _,
-        } = self;
-    }
 }
 
 impl Model for Cuts {
@@ -80,18 +72,10 @@ impl Cuts {
 }
 
 /// The cuts of one process, and for each place the number of its cut.
+#[derive(Drop)]
 struct CutRow {
     cuts: Vec<Cut>,
     numbers: Vec<usize>,
-}
-
-impl Drop for CutRow {
-    fn drop(self) {
-        let CutRow {
-            cuts: _,
-            numbers: _,
-        } = self;
-    }
 }
 
 impl CutRow {

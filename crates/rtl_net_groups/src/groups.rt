@@ -11,15 +11,10 @@ use std::alloc::{AllocError, Global};
 use std::marker::Model;
 
 /// The groups of a design's nets.
+#[derive(Drop)]
 pub struct Groups {
     runs: Runs,
     listed: Lists<usize>,
-}
-
-impl Drop for Groups {
-    fn drop(self) {
-        let Groups { runs: _, listed: _ } = self;
-    }
 }
 
 impl Model for Groups {

@@ -7,18 +7,10 @@ ghost use Rattle.rtl_net_groups.specs.steps.Numbered.{IsNumbered};
 use std::alloc::{AllocError, Global};
 
 /// Of each net its group, and of each group its first net.
+#[derive(Drop)]
 pub struct Runs {
     pub of_net: Vec<usize>,
     pub first: Vec<usize>,
-}
-
-impl Drop for Runs {
-    fn drop(self) {
-        let Runs {
-            of_net: _,
-            first: _,
-        } = self;
-    }
 }
 
 impl Runs {

@@ -1,6 +1,7 @@
 //! Marks of nets that may have changed.
 
-ghost use Rattle.std.specs.Prelude.{◌≡◌, ℕ, ◌+◌, ◌-◌, ◌*◌, ◌/◌, ◌%◌, ◌<◌, ◌≤◌, ◌⊎◌, Contains, true, false, length, slice_index, slice_index_or, replicate, IfOk};
+ghost use Rattle.std.specs.Prelude.{◌≡◌, ℕ, ◌+◌, ◌-◌, ◌*◌, ◌/◌, ◌%◌, ◌<◌, ◌≤◌};
+ghost use Rattle.std.specs.Prelude.{◌⊎◌, Contains, true, false, length, slice_index, slice_index_or, replicate, IfOk};
 ghost use Rattle.rtl_net_groups.specs.Touching.{IsLeft, AreLeft, KeepsLeft, MarksRun};
 ghost use Rattle.rtl_net_groups.specs.Groups.{IsListed};
 
@@ -17,15 +18,10 @@ pub const PLACES: usize = 1024;
 
 /// For each chunk of nets a mark, which one of them gets where it may have changed. So what follows
 /// a few changes needn't look at all nets. All memory is taken by `new`.
+#[derive(Drop)]
 pub struct Touched {
     nets: usize,
     marks: Vec<bool>,
-}
-
-impl Drop for Touched {
-    fn drop(self) {
-        let Touched { nets: _, marks: _ } = self;
-    }
 }
 
 impl Model for Touched {

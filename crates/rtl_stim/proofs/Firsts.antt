@@ -115,9 +115,6 @@ module _ (inputs : List Input) (firsts : List ℕ) (are : firsts ≡ map first_n
       let early = at.1 (suc q) more in absurd (omega (arith, less, early)))
       (eq-or-lt_of_le low)
 
-  pub behind_within : (net b : ℕ) → IsBinarySearchResult (λ y. nat_cmp y net) firsts (Err b) → b ≤ length inputs
-  behind_within net b result = let at = searched firsts net (Err b) result up in omega (arith, at.0, as_many)
-
   pub not_found : (net b : ℕ) → IsBinarySearchResult (λ y. nat_cmp y net) firsts (Err b) → (p : ℕ) → p < length inputs → net ≡ first_net (input_at inputs p) → ⊥
   not_found net b result p within is =
       let at = searched firsts net (Err b) result up in

@@ -1,6 +1,7 @@
 -- The elements of the input at a place.
 use Rattle.std.proofs.Common.{◌≡◌, ◌≢◌, ℕ, suc, zero, ◌<◌, List, [], ◌∷◌, length, map, refl, sym, ap, subst, ◌∙◌, arith}
-use Rattle.std.specs.Prelude.{Contains, AllPairs, slice_get, option_map, Some}
+use Rattle.std.specs.Prelude.{Contains, AllPairs, slice_get, slice_index_or, option_map, Some}
+use Rattle.std.proofs.lemmas.List.{length-map}
 use Rattle.std.proofs.lemmas.List.Elements.{Contains-get_or, Contains-append_left, Contains-append_right}
 use Rattle.std.proofs.lemmas.Option.{slice_get-get_or}
 use Rattle.rtl_agenda.specs.Agenda.{Change}
@@ -9,7 +10,13 @@ use Rattle.rtl_stim_lines.specs.Inputs.{Input, Element, input_at, no_input}
 use Rattle.rtl_stim_lines.specs.Reading.{Schedule}
 use Rattle.rtl_stim_lines.specs.Times.{nets_of, all_nets}
 use Rattle.rtl_stim_lines.specs.Filling.{HaveOwnNets}
-use Rattle.rtl_stim_lines.specs.View.{element_view, course_in}
+use Rattle.rtl_stim_lines.specs.View.{element_view, course_in, course_view}
+use Rattle.rtl_stim_lines.specs.declared.courses.Course.{Course as KeptCourse}
+use Rattle.rtl_stim_lines.proofs.Saying.{course_there}
+use Rattle.rtl_stim.specs.declared.stimulus.Stimulus.TheInside.{Inside}
+use Rattle.rtl_stim.specs.Kept.{stimulus_view, IsKept}
+use Rattle.rtl_stim.specs.Moments.{IsStimulus}
+use Rattle.rtl_stim.specs.Stimuli.{StimulusView}
 use Rattle.rtl_stim.specs.Pushes.{Push, element_pushes, due, place_pushes}
 use Rattle.rtl_stim.proofs.Values.{Own, own_of, own_left, own_right, own_apart, net_there}
 use Rattle.rtl_stim.proofs.Adding.{gathered_from, pushed_from}
@@ -28,6 +35,25 @@ module _ (inputs : List Input) (place : ℕ) (within : place < length inputs) wh
         same : (xs : List KeptElement) → map (λ (e : Element). e.net) (map element_view xs) ≡ map (λ (e : KeptElement). e.net) xs
         same [] = refl
         same (x ∷ xs) = ap (λ ns. x.net ∷ ns) (same xs)
+
+-- an input of a stimulus, by what is kept of it
+pub record IsKeptInput (v : StimulusView) (s : Inside) (place : ℕ) : Type 0 where
+  pub stimulus : IsStimulus v
+  pub there : place < length s.schedule.courses.items
+  pub course : (x : KeptCourse) → x ≡ slice_index_or s.schedule.courses.items place x → course_in v.schedule place ≡ course_view x
+  pub nets : (es : List KeptElement) → option_map (λ input. input.elements) (slice_get (stimulus_view s).inputs place) ≡ Some (map element_view es)
+      → nets_of (input_at v.inputs place) ≡ map (λ e. e.net) es
+
+pub kept_input : (v : StimulusView) (s : Inside) (place : ℕ) → v ≡ stimulus_view s → IsKept s → place < length v.inputs → IsKeptInput v s place
+kept_input v s place view k within =
+    let inside : place < length (stimulus_view s).inputs = subst (λ (w : StimulusView). place < length w.inputs) view within in
+    let there : place < length s.schedule.courses.items = omega (arith, inside, k.stimulus.each_course, length-map s.schedule.courses.items course_view) in
+    record {
+      stimulus = subst IsStimulus (sym view) k.stimulus;
+      there = there;
+      course = λ x is. ap (λ (w : StimulusView). course_in w.schedule place) view ∙ course_there s.schedule.courses.items place x there ∙ ap course_view (sym is);
+      nets = λ es are. ap (λ (w : StimulusView). nets_of (input_at w.inputs place)) view ∙ nets_seen (stimulus_view s).inputs place inside es are;
+    }
 
 pub pairs_of_own : (ns : List ℕ) → Own ns → AllPairs (λ n m. n ≢ m) ns
 pairs_of_own [] own i j d before within same = absurd (omega (arith, within))

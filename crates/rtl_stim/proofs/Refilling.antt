@@ -36,9 +36,6 @@ gathered_more f xs x = gathered-append f xs (x ∷ []) ∙ ap (λ ys. gathered f
 
 -- ---- the places so far
 
-pub no_places : (inputs : List Input) (taken : List Change) → ArePlaces inputs taken 0 []
-no_places inputs taken place = (λ there. absurd (omega (arith, there.1)), λ has. absurd (omega (arith, has.2)))
-
 module _ (inputs : List Input) (taken : List Change) (i : ℕ) (places : List ℕ) (are : ArePlaces inputs taken i places) where
   -- the change is of no first net
   pub same_places : ((place : ℕ) → place < length inputs → changed_net taken i ≡ first_net (input_at inputs place) → ⊥) → ArePlaces inputs taken (i + 1) places

@@ -14,23 +14,13 @@ use std::marker::Model;
 use vhdl_values::Nine;
 
 /// A stimulus of a netlist: the value of each input at each time, in ns, up to a stop.
+#[derive(Drop)]
 pub struct Stimulus {
     pub(crate) inputs: InputTable,
     pub(crate) schedule: Schedule,
     pub(crate) initial: Vec<Nine>,
     /// The net of each input's first element. The nets of the inputs rise.
     pub(crate) firsts: Vec<usize>,
-}
-
-impl Drop for Stimulus {
-    fn drop(self) {
-        let Stimulus {
-            inputs: _,
-            schedule: _,
-            initial: _,
-            firsts: _,
-        } = self;
-    }
 }
 
 impl Model for Stimulus {

@@ -5,7 +5,7 @@ ghost use lib.Lanes.{Each1};
 ghost use Rattle.rtl_vcd.specs.Values.{character};
 ghost use Rattle.rtl_vcd.specs.Puts.{plain, PrintsDigit, IsPut};
 
-use rtl_net_groups::are_different;
+use rtl_net_groups::{are_different, are_other};
 use std::simd::prelude::*;
 
 /// Puts what so many new values from this place on print as behind the first bytes of the room.
@@ -82,36 +82,7 @@ pub(crate) fn are_same(old: &[u8], new: &[u8]) -> bool
     requires { length old.now ≡ length new.now }
     ensures { result ≡ true → old.now ≡ new.now }
 {
-    let many = old.len();
-    if many > 64 {
-        return old == new;
-    }
-    if many < 4 {
-        return old == new;
-    }
-    if many >= 32 {
-        return are_same_ends::<32>(old, new);
-    }
-    if many >= 16 {
-        return are_same_ends::<16>(old, new);
-    }
-    if many >= 8 {
-        return are_same_ends::<8>(old, new);
-    }
-    are_same_ends::<4>(old, new)
-}
-
-/// Whether the first so many values and the last so many, which together are all, are the same in
-/// both.
-fn are_same_ends<const LANES: usize>(old: &[u8], new: &[u8]) -> bool
-    requires most { LANES ≤ 64 }
-    requires as_many { length old.now ≡ length new.now }
-    requires some { LANES ≤ length old.now }
-    requires all { length old.now ≤ LANES + LANES }
-    ensures { result ≡ true → old.now ≡ new.now }
-{
-    let last = old.len() - LANES;
-    are_same_lanes::<LANES>(old, new) && are_same_lanes::<LANES>(&old[last..], &new[last..])
+    !are_other(old, new)
 }
 
 /// Whether the first so many values are the same in both.

@@ -24,23 +24,13 @@ use std::marker::Model;
 
 /// The names of a netlist in blocks, so that a moment passes over those whose nets keep their
 /// values. Contracts see the netlist.
+#[derive(Drop)]
 pub struct Blocks<'a> {
     net: &'a Net,
     blocks: Vec<Block>,
     runs: Vec<Run>,
     /// The blocks by their nets, where there are many.
     listed: Option<Groups>,
-}
-
-impl Drop for Blocks<'_> {
-    fn drop(self) {
-        let Blocks {
-            net: _,
-            blocks: _,
-            runs: _,
-            listed: _,
-        } = self;
-    }
 }
 
 impl<'a> Model for Blocks<'a> {

@@ -13,15 +13,10 @@ use std::marker::Model;
 pub(crate) const PAGE: usize = 1024;
 
 /// A page: so many bytes, the first of these. Contracts see the bytes.
+#[derive(Drop)]
 pub(crate) struct Page {
     bytes: [u8; 1024],
     len: usize,
-}
-
-impl Drop for Page {
-    fn drop(self) {
-        let Page { bytes: _, len: _ } = self;
-    }
 }
 
 impl Model for Page {

@@ -156,7 +156,6 @@ no_slash_star : (b : ℕ) (rest : List ℕ) → opens_comment (b ∷ rest) ≡ f
 no_slash_star b rest h = (either_false (b == dash && begins dash rest) (b == slash && begins star rest) h).1
 
 delimiter_complete : (at : ℕ) → (last : Option TokenKind) (kind : TokenKind) (slice rest : List ℕ) → IsDelimiter last kind slice rest → opens_comment (slice ++ rest) ≡ false → front at last (slice ++ rest) ≡ Ok (kind, length slice)
-delimiter_complete at last kind [] rest d o = let never : ◌≡◌ {A = Option TokenKind} None (Some kind) = d.0 in absurd (cc)
 delimiter_complete at last kind (b ∷ []) rest d o = by_test (b == tick) refl
   where
     by_test : (t : Bool) → (b == tick) ≡ t → front at last (b ∷ rest) ≡ Ok (kind, 1)
@@ -164,7 +163,7 @@ delimiter_complete at last kind (b ∷ []) rest d o = by_test (b == tick) refl
     by_test false e = front_single at last b kind rest d.0 e ∙ mark_one at b rest (Some kind) (no_slash_star b rest o) (no_longer b rest d.1) d.0
 delimiter_complete at last kind (b ∷ c ∷ []) rest d o =
     front_pair at last b c kind (c ∷ rest) d.0 ∙ mark_two at b (c ∷ rest) kind (no_slash_star b (c ∷ rest) o) d.0
-delimiter_complete at last kind (b ∷ c ∷ x ∷ slice) rest d o = let never : ◌≡◌ {A = Option TokenKind} None (Some kind) = d.0 in absurd (cc)
+delimiter_complete at last kind _ rest d o = let never : ◌≡◌ {A = Option TokenKind} None (Some kind) = d.0 in absurd (cc)
 
 -- ---- the front
 

@@ -220,5 +220,4 @@ fault_found last (BadNumber at) (b ∷ after) (inl i) = front_digit at last b af
 fault_found last (BadNumber at) text (inr s) =
     ap (front at last) s.3.1 ∙ front_bits at last s.3.0 s.0 (s.1 ++ quote ∷ s.2) s.3.2 ∙ bit_string_closed at s.0 (s.1 ++ quote ∷ s.2) s.1 s.2 refl s.3.3
     ∙ ap (λ t. cond t (Ok (k.BitString, length s.1 + 3)) (Err (BadNumber at))) s.4
-fault_found last (TooLong at) text f = absurd f
-fault_found last NoMemory text f = absurd f
+fault_found last _ _ x = absurd x

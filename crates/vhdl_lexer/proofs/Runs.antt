@@ -32,9 +32,7 @@ letter_word b e = alphanumeric_word b (by_case (is_in_range 48 57 b) (is_in_rang
 class_word : (class : ByteClass) (b : ℕ) → has_class class b ≡ true → is_word_byte b ≡ true
 class_word LetterOrDigit b e = alphanumeric_word b e
 class_word Decimal b e = alphanumeric_word b (ap (λ t. (t || is_in_range 65 90 b) || is_in_range 97 122 b) e)
-class_word Hexadecimal b e = grind (arith, nat_tests)
-class_word Octal b e = grind (arith, nat_tests)
-class_word Binary b e = grind (arith, nat_tests)
+class_word _ b e = grind (arith, nat_tests)
 
 pub begins_word-word : (b : ℕ) → begins_word b ≡ true → is_word_byte b ≡ true
 begins_word-word b e = ⊎_elim (letter_word b) (underscore_word b) (either_true _ _ e)

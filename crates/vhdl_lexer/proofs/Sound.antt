@@ -247,8 +247,7 @@ no_comment at last (b ∷ after) x s h = ap (λ t. t || b == slash && begins sta
 
     by_test : (t : Bool) → (b == slash) ≡ t → (u : Bool) → begins star after ≡ u → (t && u) ≡ false
     by_test true e true f = err_ok (OpenComment at) x (sym (comment (eqb-true b slash e) f) ∙ h)
-    by_test true e false f = refl
-    by_test false e u f = refl
+    by_test _ e _ f = refl
 
 pub front_stands : (at : ℕ) → (last : Option TokenKind) (text : List ℕ) (kind : TokenKind) (n : ℕ) → Stands text → front at last text ≡ Ok (kind, n) → IsFront last kind n text
 front_stands at last text kind n s h =

@@ -57,10 +57,9 @@ element_starts last kind slice rest (inr (inr (inl c))) = subst (λ x. NoSeparat
 element_starts last kind slice rest (inr (inr (inr (inl s)))) = subst (λ x. NoSeparator (x ++ rest)) (sym s.1) refl
 element_starts last kind slice rest (inr (inr (inr (inr (inl s))))) =
     subst (λ x. NoSeparator (x ++ rest)) (sym s.3) (word_separator s.0 (begins_word-word s.0 (base_begins s.0 s.1 s.4)))
-element_starts last kind [] rest (inr (inr (inr (inr (inr d))))) = let never : ◌≡◌ {A = Option TokenKind} None (Some kind) = d.0 in absurd (cc)
 element_starts last kind (b ∷ []) rest (inr (inr (inr (inr (inr d))))) = fails (is_separator b) (single b) kind d.0 (separator_single b)
 element_starts last kind (b ∷ c ∷ []) rest (inr (inr (inr (inr (inr d))))) = fails (is_separator b) (pair b c) kind d.0 (separator_pair b c)
-element_starts last kind (b ∷ c ∷ x ∷ slice) rest (inr (inr (inr (inr (inr d))))) = let never : ◌≡◌ {A = Option TokenKind} None (Some kind) = d.0 in absurd (cc)
+element_starts last kind _ rest (inr (inr (inr (inr (inr d))))) = let never : ◌≡◌ {A = Option TokenKind} None (Some kind) = d.0 in absurd (cc)
 
 starts_stand : (text : List ℕ) → NoSeparator text → opens_comment text ≡ false → Stands text
 unfolding NoSeparator
@@ -118,5 +117,4 @@ fault_stands (fault.BadIdentifier at) text i = begun_stands text i.0
 fault_stands (fault.BadNumber at) text (inl i) = digits_stand text i.0
 fault_stands (fault.BadNumber at) text (inr s) =
     subst Stands (sym s.3.1) (word_stands s.3.0 (quote ∷ (s.1 ++ quote ∷ s.2)) (begins_word-word s.3.0 (base_begins s.3.0 s.0 s.3.2)))
-fault_stands (fault.TooLong at) text f = absurd f
-fault_stands fault.NoMemory text f = absurd f
+fault_stands _ text x = absurd x

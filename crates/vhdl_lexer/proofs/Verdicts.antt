@@ -20,22 +20,14 @@ no_bytes [] e = refl
 no_bytes (x ∷ xs) e = absurd (omega (arith, e))
 
 pub has_fault : (p : LexFault) (source : List ℕ) → StartsFirst p source → HasFault p source
-has_fault (fault.BadByte at) source s = s
-has_fault (fault.OpenComment at) source s = s
-has_fault (fault.OpenString at) source s = s
-has_fault (fault.BadIdentifier at) source s = s
-has_fault (fault.BadNumber at) source s = s
 has_fault (fault.TooLong at) source s = absurd s.faulty
 has_fault fault.NoMemory source s = absurd s.faulty
+has_fault _ source s = s
 
 fault_starts : (e : LexFault) (source : List ℕ) → IsRefusal e → HasFault e source → StartsFirst e source
-fault_starts (fault.BadByte at) source r h = h
-fault_starts (fault.OpenComment at) source r h = h
-fault_starts (fault.OpenString at) source r h = h
-fault_starts (fault.BadIdentifier at) source r h = h
-fault_starts (fault.BadNumber at) source r h = h
 fault_starts (fault.TooLong at) source r h = absurd r
 fault_starts fault.NoMemory source r h = absurd r
+fault_starts _ source r h = h
 
 -- ---- where the front is a fault
 
@@ -134,8 +126,7 @@ faulty_some (fault.OpenString at) (inr s) = let never : ◌≡◌ {A = Option By
 faulty_some (fault.BadIdentifier at) i = i.0
 faulty_some (fault.BadNumber at) (inl i) = true≢false (sym i.0)
 faulty_some (fault.BadNumber at) (inr s) = no_nil s.3.0 (quote ∷ (s.1 ++ quote ∷ s.2)) s.3.1
-faulty_some (fault.TooLong at) f = f
-faulty_some fault.NoMemory f = f
+faulty_some _ x = x
 
 starts_some : (p : LexFault) (source : List ℕ) (s : StartsFirst p source) → skip s.left ≡ [] → ⊥
 starts_some p source s e = faulty_some p (subst (Faulty p) (sym (starts_ahead p source s) ∙ e) s.faulty)

@@ -16,7 +16,7 @@ use Rattle.vhdl_names_rules.specs.sound.Expressions.{Inside, range_fits, static_
 use Rattle.vhdl_names_rules.specs.sound.Units as w
 use Rattle.vhdl_names_rules.specs.sound.Units.{concurrent_fits, concurrents_fit}
 use Rattle.vhdl_names_laws.specs.Meanings.{Counts, IsInside}
-use Rattle.vhdl_names_laws.proofs.Statics.{some_same, HasMore, keeps_all, all_more}
+use Rattle.vhdl_names_laws.proofs.Statics.{some_same, HasMore, more_of, keeps_all, all_more}
 use Rattle.vhdl_names_laws.proofs.Operators.{mapped}
 use Rattle.vhdl_names_laws.proofs.Expressions.{typed_fits, static_range_fits}
 use Rattle.vhdl_names_laws.proofs.Values.{static_condition_fits}
@@ -32,14 +32,9 @@ inside_scheme i (t.for_each n r) = w.within_generate i
 inside_scheme i (t.if_holds d) = i
 
 more_generates : (i : Inside) (counts : Counts) → HasMore i (w.within_generate i) counts counts
-more_generates i counts = record {
-  numbers = record { generics = omega arith; integers = omega arith; generates = omega arith; loops = omega arith };
-  constants = keeps_all i.constants;
-  ports = keeps_all i.ports;
-  signals = keeps_all i.signals;
-  variables = keeps_all i.variables;
-  counts = keeps_all counts;
-}
+more_generates i counts =
+    more_of i (w.within_generate i) counts (record { generics = omega arith; integers = omega arith; generates = omega arith; loops = omega arith })
+    (keeps_all i.constants) (keeps_all i.ports) (keeps_all i.signals) (keeps_all i.variables)
 
 inside_generate : (i : Inside) (counts : Counts) (sight : Sight) (n : Ident) → IsInside i counts sight → IsInside (w.within_generate i) counts (visibility.within_generate sight n)
 inside_generate i counts sight n h =

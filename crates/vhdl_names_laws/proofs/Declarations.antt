@@ -28,7 +28,7 @@ use Rattle.vhdl_names_rules.specs.Files.{declaration}
 use Rattle.vhdl_names_rules.specs.sound.Expressions.{Inside, static_fits, shape_of}
 use Rattle.vhdl_names_rules.specs.sound.Units.{form_fits, fixed_fits, object_fits, declaration_fits, with_declaration}
 use Rattle.vhdl_names_laws.specs.Meanings.{Counts, kind_shape, type_shape, IsCounted, AllFit}
-use Rattle.vhdl_names_laws.proofs.Statics.{some_same, get_last, HasMore, keeps_all, keeps_before, same_numbers, static_more, literal_of_more}
+use Rattle.vhdl_names_laws.proofs.Statics.{some_same, get_last, HasMore, more_of, keeps_all, keeps_before, same_numbers, static_more, literal_of_more}
 use Rattle.vhdl_names_laws.proofs.Expressions.{static_integer_fits}
 use Rattle.vhdl_names_laws.proofs.Subtypes.{form_more, fixed_more, object_more, subtype_fits, fixed_value_fits, no_name, object_is, declaring_fits}
 use Rattle.vhdl_names_laws.proofs.InOrder as r
@@ -43,14 +43,9 @@ abbrev pub DeclarationStep : Inside → Sight → Declares u.Declaration → Typ
 DeclarationStep = r.Step with_declaration declaration_fits with_declared IsKnown
 
 more_signals : (i : Inside) (counts : Counts) (f : Form) → HasMore i (record i { signals = i.signals ++ f ∷ [] }) counts counts
-more_signals i counts f = record {
-  numbers = record { generics = omega arith; integers = omega arith; generates = omega arith; loops = omega arith };
-  constants = keeps_all i.constants;
-  ports = keeps_all i.ports;
-  signals = keeps_before i.signals (f ∷ []);
-  variables = keeps_all i.variables;
-  counts = keeps_all counts;
-}
+more_signals i counts f =
+    more_of i (record i { signals = i.signals ++ f ∷ [] }) counts (record { generics = omega arith; integers = omega arith; generates = omega arith; loops = omega arith })
+    (keeps_all i.constants) (keeps_all i.ports) (keeps_before i.signals (f ∷ [])) (keeps_all i.variables)
 
 pub signals_step : (i : Inside) (counts : Counts) (sight : Sight) (d : t.Signals) (x : Declares u.Declaration) → IsKnown i counts sight → signals sight d ≡ Some x → DeclarationStep i sight x
 unfolding signals
@@ -91,24 +86,14 @@ signals_step i counts sight d x h q =
 -- ---- constants
 
 more_integers : (i : Inside) (counts : Counts) → HasMore i (record i { integers = suc i.integers }) counts counts
-more_integers i counts = record {
-  numbers = record { generics = omega arith; integers = omega arith; generates = omega arith; loops = omega arith };
-  constants = keeps_all i.constants;
-  ports = keeps_all i.ports;
-  signals = keeps_all i.signals;
-  variables = keeps_all i.variables;
-  counts = keeps_all counts;
-}
+more_integers i counts =
+    more_of i (record i { integers = suc i.integers }) counts (record { generics = omega arith; integers = omega arith; generates = omega arith; loops = omega arith })
+    (keeps_all i.constants) (keeps_all i.ports) (keeps_all i.signals) (keeps_all i.variables)
 
 more_constants : (i : Inside) (counts : Counts) (f : Form) → HasMore i (record i { constants = i.constants ++ f ∷ [] }) counts counts
-more_constants i counts f = record {
-  numbers = record { generics = omega arith; integers = omega arith; generates = omega arith; loops = omega arith };
-  constants = keeps_before i.constants (f ∷ []);
-  ports = keeps_all i.ports;
-  signals = keeps_all i.signals;
-  variables = keeps_all i.variables;
-  counts = keeps_all counts;
-}
+more_constants i counts f =
+    more_of i (record i { constants = i.constants ++ f ∷ [] }) counts (record { generics = omega arith; integers = omega arith; generates = omega arith; loops = omega arith })
+    (keeps_before i.constants (f ∷ [])) (keeps_all i.ports) (keeps_all i.signals) (keeps_all i.variables)
 
 integers_step : (i : Inside) (counts : Counts) (sight : Sight) (d : t.Constants) (type : IntegerType) (x : Declares u.Declaration) → IsKnown i counts sight
     → integer_constants sight d type ≡ Some x → DeclarationStep i sight x

@@ -18,7 +18,7 @@ use Rattle.vhdl_names_rules.specs.Declarations.{as_kind, mode_of, generic, port}
 use Rattle.vhdl_names_rules.specs.sound.Expressions.{Inside, shape_of, is_elements}
 use Rattle.vhdl_names_rules.specs.sound.Units.{object_fits, port_fits, static_default_fits}
 use Rattle.vhdl_names_laws.specs.Meanings.{Counts, kind_shape, type_shape}
-use Rattle.vhdl_names_laws.proofs.Statics.{some_same, get_last, HasMore, keeps_all, keeps_before}
+use Rattle.vhdl_names_laws.proofs.Statics.{some_same, get_last, HasMore, more_of, keeps_all, keeps_before}
 use Rattle.vhdl_names_laws.proofs.Operators.{shape_elements}
 use Rattle.vhdl_names_laws.proofs.Subtypes.{object_more, static_default_more, subtype_fits, any_static_fits, no_name, object_is}
 use Rattle.vhdl_names_laws.proofs.InOrder as r
@@ -35,14 +35,9 @@ abbrev pub generic_fits : Inside → u.Generic → Bool
 generic_fits i g = static_default_fits i g.default
 
 more_generics : (i : Inside) (counts : Counts) → HasMore i (record i { generics = suc i.generics }) counts counts
-more_generics i counts = record {
-  numbers = record { generics = omega arith; integers = omega arith; generates = omega arith; loops = omega arith };
-  constants = keeps_all i.constants;
-  ports = keeps_all i.ports;
-  signals = keeps_all i.signals;
-  variables = keeps_all i.variables;
-  counts = keeps_all counts;
-}
+more_generics i counts =
+    more_of i (record i { generics = suc i.generics }) counts (record { generics = omega arith; integers = omega arith; generates = omega arith; loops = omega arith })
+    (keeps_all i.constants) (keeps_all i.ports) (keeps_all i.signals) (keeps_all i.variables)
 
 pub generic_step : (i : Inside) (counts : Counts) (sight : Sight) (g : t.Generic) (x : Declares u.Generic) → IsKnown i counts sight → generic sight g ≡ Some x
     → r.Step with_generic generic_fits with_declared IsKnown i sight x
@@ -90,14 +85,9 @@ abbrev pub port_is : Inside → u.Port → Bool
 port_is i p = object_fits i p.object && port_fits p
 
 more_ports : (i : Inside) (counts : Counts) (p : u.Port) → HasMore i (with_port i p) counts counts
-more_ports i counts p = record {
-  numbers = record { generics = omega arith; integers = omega arith; generates = omega arith; loops = omega arith };
-  constants = keeps_all i.constants;
-  ports = keeps_before i.ports (p ∷ []);
-  signals = keeps_all i.signals;
-  variables = keeps_all i.variables;
-  counts = keeps_all counts;
-}
+more_ports i counts p =
+    more_of i (with_port i p) counts (record { generics = omega arith; integers = omega arith; generates = omega arith; loops = omega arith })
+    (keeps_all i.constants) (keeps_before i.ports (p ∷ [])) (keeps_all i.signals) (keeps_all i.variables)
 
 pub elements_kind : (type : ObjectType) (kind : ElementKind) → as_kind type ≡ Some kind → type_shape type ≡ kind_shape kind
 elements_kind (Elements k) kind q = ap kind_shape (some_same k kind q)

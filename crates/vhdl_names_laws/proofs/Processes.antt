@@ -25,7 +25,7 @@ use Rattle.vhdl_names_rules.specs.sound.Statements.{selector_fits, statement_fit
 use Rattle.vhdl_names_rules.specs.sound.Units.{object_fits, objects_fit, sensitivity_fits, process_fits, concurrent_fits}
 use Rattle.vhdl_names_rules.specs.units.Units.{Units}
 use Rattle.vhdl_names_laws.specs.Meanings.{Counts, type_shape, IsCounted, IsInside}
-use Rattle.vhdl_names_laws.proofs.Statics.{some_same, HasNumbers, HasMore, Keeps, keeps_all, keeps_before}
+use Rattle.vhdl_names_laws.proofs.Statics.{some_same, HasNumbers, HasMore, more_of, Keeps, keeps_all, keeps_before}
 use Rattle.vhdl_names_laws.proofs.Operators.{mapped}
 use Rattle.vhdl_names_laws.proofs.Expressions.{typed_fits}
 use Rattle.vhdl_names_laws.proofs.Values.{given_is, condition_fits}
@@ -53,14 +53,9 @@ more_twice : (sight : Sight) (ds es : List Declared) → with_variables (with_va
 more_twice sight ds es = ap (λ ds. record sight { variables = ds }) (append_assoc sight.variables ds es)
 
 more_variables : (i : Inside) (counts : Counts) (f : Form) → HasMore i (record i { variables = i.variables ++ f ∷ [] }) counts counts
-more_variables i counts f = record {
-  numbers = record { generics = omega arith; integers = omega arith; generates = omega arith; loops = omega arith };
-  constants = keeps_all i.constants;
-  ports = keeps_all i.ports;
-  signals = keeps_all i.signals;
-  variables = keeps_before i.variables (f ∷ []);
-  counts = keeps_all counts;
-}
+more_variables i counts f =
+    more_of i (record i { variables = i.variables ++ f ∷ [] }) counts (record { generics = omega arith; integers = omega arith; generates = omega arith; loops = omega arith })
+    (keeps_all i.constants) (keeps_all i.ports) (keeps_all i.signals) (keeps_before i.variables (f ∷ []))
 
 variables_step : (i : Inside) (counts : Counts) (sight : Sight) (d : t.Variables) (x : Declares u.Object) → HasVariables i counts sight → variables sight d ≡ Some x
     → r.Step with_variable object_fits with_variables HasVariables i sight x

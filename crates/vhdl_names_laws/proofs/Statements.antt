@@ -24,7 +24,7 @@ use Rattle.vhdl_names_rules.specs.sound.Expressions.{Inside, Shape, range_fits, 
 use Rattle.vhdl_names_rules.specs.sound.Statements as w
 use Rattle.vhdl_names_rules.specs.sound.Statements.{given_fits, given_fits_target, is_out, is_driven, selector_fits, statement_fits, statements_fit, branches_fit, alternatives_fit}
 use Rattle.vhdl_names_laws.specs.Meanings.{Counts, type_shape, IsCounted, IsPort, MeaningFits, IsInside}
-use Rattle.vhdl_names_laws.proofs.Statics.{some_same, HasMore, keeps_all, all_more, meant}
+use Rattle.vhdl_names_laws.proofs.Statics.{some_same, HasMore, more_of, keeps_all, all_more, meant}
 use Rattle.vhdl_names_laws.proofs.Operators.{mapped}
 use Rattle.vhdl_names_laws.proofs.Names.{SuffixFits, part_of_fits, port_form_is, the_form}
 use Rattle.vhdl_names_laws.proofs.Expressions.{typed_fits, suffix_fits, static_range_fits}
@@ -111,14 +111,9 @@ variable_fits i counts sight n x h q =
 -- ---- loops
 
 more_loops : (i : Inside) (counts : Counts) → HasMore i (w.within_loop i) counts counts
-more_loops i counts = record {
-  numbers = record { generics = omega arith; integers = omega arith; generates = omega arith; loops = omega arith };
-  constants = keeps_all i.constants;
-  ports = keeps_all i.ports;
-  signals = keeps_all i.signals;
-  variables = keeps_all i.variables;
-  counts = keeps_all counts;
-}
+more_loops i counts =
+    more_of i (w.within_loop i) counts (record { generics = omega arith; integers = omega arith; generates = omega arith; loops = omega arith })
+    (keeps_all i.constants) (keeps_all i.ports) (keeps_all i.signals) (keeps_all i.variables)
 
 inside_loop : (i : Inside) (counts : Counts) (sight : Sight) (n : Ident) → IsInside i counts sight → IsInside (w.within_loop i) counts (visibility.within_loop sight n)
 inside_loop i counts sight n h =

@@ -126,6 +126,11 @@ keeps_all xs k x h = h
 pub keeps_before : {A : Type 0} (xs ys : List A) → Keeps xs (xs ++ ys)
 keeps_before xs ys k x h = get_before xs ys k x h
 
+-- nothing less of each class, and the same enumerations
+pub more_of : (i j : Inside) (counts : Counts) → HasNumbers i j → Keeps i.constants j.constants → Keeps i.ports j.ports → Keeps i.signals j.signals → Keeps i.variables j.variables
+    → HasMore i j counts counts
+more_of i j counts n c p s v = record { numbers = n; constants = c; ports = p; signals = s; variables = v; counts = keeps_all counts }
+
 pub same_numbers : (i : Inside) → HasNumbers i i
 same_numbers i = record { generics = omega arith; integers = omega arith; generates = omega arith; loops = omega arith }
 

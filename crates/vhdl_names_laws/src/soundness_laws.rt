@@ -1,6 +1,8 @@
 //! Laws of soundness (`specs/Laws`), each the contract of a function that does nothing.
 
-ghost use Rattle.vhdl_names_laws.specs.Laws.{ExpressionsFit, StatementsFit, UnitsAreSound, PortsAreDistinct, UnitsAreNamed, SmallPortsAreDistinct, SpelledFilesHaveWords, ComponentsAreTexts, WellTypedFilesBreakNoRule, IllTypedFilesBreakARule, FaultsStandAtTokens, FaultsLieInTheText, UnitsStandAtTokens, UnitsLieInTheText};
+ghost use Rattle.vhdl_names_laws.specs.Laws.{ExpressionsFit, StatementsFit, UnitsAreSound, PortsAreDistinct, UnitsAreNamed};
+ghost use Rattle.vhdl_names_laws.specs.Laws.{SmallPortsAreDistinct, SpelledFilesHaveWords, ComponentsAreTexts, WellTypedFilesBreakNoRule, IllTypedFilesBreakARule};
+ghost use Rattle.vhdl_names_laws.specs.Laws.{FaultsStandAtTokens, FaultsLieInTheText, UnitsStandAtTokens, UnitsLieInTheText};
 
 /// Each expression is what its type says: integers are in range, vectors have the shape of their
 /// kind, literals of an enumeration are below its count, and tests compare values of one shape.

@@ -1,11 +1,9 @@
 -- What is told of a part is told of the whole, where the parts before it break nothing.
-use Rattle.std.proofs.Common.{◌≡◌, ◌≢◌, ℕ, zero, suc, ◌<◌, Bool, true, false, List, [], ◌∷◌, ◌++◌, map, take, length, get_or, Option, Some, None, Result, Ok, Err, IfErr, refl, sym, ap, ◌∙◌, true≢false, arith}
-use Rattle.std.specs.List.{slice_get}
-use Rattle.std.proofs.Math.ListN.{drop}
+use Rattle.std.proofs.Common.{◌≡◌, ◌≢◌, ℕ, ◌<◌, Bool, true, false, List, [], ◌∷◌, ◌++◌, Option, Some, None, Result, Ok, Err, IfErr, refl, sym, ap, ◌∙◌, true≢false}
 use Rattle.vhdl_names_rules.specs.declared.fault.NameFault.{NameFault}
 use Rattle.vhdl_names_rules.specs.declared.fault.NameFault.TheVariants.{At, NoMemory}
 use Rattle.vhdl_names_rules.specs.declared.fault.NameProblem.{NameProblem}
-use Rattle.vhdl_names_rules.specs.problems.Broken.{Broken, Tells, nothing, refused, ◌▸◌, unless, lacking, where_given, any_of, of_any}
+use Rattle.vhdl_names_rules.specs.problems.Broken.{Broken, Tells, nothing, refused, ◌▸◌, unless, lacking, where_given, any_of}
 
 -- ---- parts that break nothing
 
@@ -82,28 +80,10 @@ told_lacking p at o NoMemory none h = tt
 pub told_given : {A : Type 0} (b : A → Broken) (o : Option A) (x : A) (f : NameFault) → o ≡ Some x → Tells (b x) f → Tells (where_given o b) f
 told_given b o x f is h = told_same (b x) (where_given o b) f (sym (ap (λ y. where_given y b) is)) h
 
--- of one of several things, where those before it break nothing
-pub told_any : {A B : Type 0} (b : B → Broken) (view : A → B) (xs : List A) (i : ℕ) (x : A) (f : NameFault) →
-    i < length xs → x ≡ get_or xs i x → IsKept (any_of b (map view (take i xs))) → Tells (b (view x)) f → Tells (any_of b (map view xs)) f
-told_any b view [] i x f lt is kept h = absurd (omega (arith, lt))
-told_any b view (y ∷ ys) zero x f lt is kept h =
-    told_left (b (view y)) (any_of b (map view ys)) f (told_same (b (view x)) (b (view y)) f (ap (λ z. b (view z)) is) h)
-told_any b view (y ∷ ys) (suc i) x f lt is kept h =
-    told_right (b (view y)) (any_of b (map view ys)) f (kept_left (b (view y)) _ kept)
-    (told_any b view ys i x f (omega (arith, lt)) is (kept_right (b (view y)) _ kept) h)
-
 -- an answer that is handed on tells what it told
 pub told_on : {X : Type 0} (a b : Broken) (r : Result X NameFault) → ((f : NameFault) → Tells a f → Tells b f) → IfErr r (Tells a) → IfErr r (Tells b)
 told_on a b (Ok x) more h = tt
 told_on a b (Err f) more h = more f h
-
--- of a thing that is there
-pub told_of_any : {A : Type 0} (b : A → Broken) (o : Option A) (x : A) (f : NameFault) → o ≡ Some x → Tells (b x) f → Tells (of_any b o) f
-told_of_any b o x f is h = told_same (b x) (of_any b o) f (sym (ap (of_any b) is)) h
-
--- of what isn't given nothing is told, so what is behind it is the whole
-pub given_none : {A : Type 0} (b : A → Broken) (o : Option A) → o ≡ None → IsKept (where_given o b)
-given_none b o h = ap (λ y. where_given y b) h
 
 -- ---- lists
 
@@ -116,31 +96,3 @@ any_append b (x ∷ xs) ys = ap (λ z. b x ▸ z) (any_append b xs ys) ∙ assoc
     associative : (x y z : Broken) → (x ▸ (y ▸ z)) ≡ ((x ▸ y) ▸ z)
     associative None y z = refl
     associative (Some p) y z = refl
-
--- where those before it break nothing, what is told of the rest is told of the whole
-pub any_behind : {A : Type 0} (b : A → Broken) (xs ys : List A) → IsKept (any_of b xs) → any_of b (xs ++ ys) ≡ any_of b ys
-any_behind b xs ys kept = any_append b xs ys ∙ behind_kept (any_of b xs) (any_of b ys) kept
-
-pub any_take : {A : Type 0} (b : A → Broken) (xs : List A) (k : ℕ) → IsKept (any_of b (take k xs)) → any_of b xs ≡ any_of b (drop k xs)
-any_take b xs zero kept = refl
-any_take b [] (suc k) kept = refl
-any_take b (x ∷ xs) (suc k) kept =
-    behind_kept (b x) (any_of b xs) (kept_left (b x) (any_of b (take k xs)) kept) ∙ any_take b xs k (kept_right (b x) (any_of b (take k xs)) kept)
-
--- one more that breaks nothing
-pub any_next : {A : Type 0} (b : A → Broken) (xs : List A) (k : ℕ) (x : A) → slice_get xs k ≡ Some x → IsKept (any_of b (take k xs)) → IsKept (b x)
-    → IsKept (any_of b (take (suc k) xs))
-any_next b [] k x at kept one = absurd cc
-any_next b (y ∷ ys) zero x at kept one = both_kept (b y) nothing (let e : y ≡ x = cc in ap b e ∙ one) refl
-any_next b (y ∷ ys) (suc k) x at kept one =
-    both_kept (b y) (any_of b (take (suc k) ys)) (kept_left (b y) (any_of b (take k ys)) kept)
-    (any_next b ys k x at (kept_right (b y) (any_of b (take k ys)) kept) one)
-
--- of one of several things, where those before it break nothing
-pub told_at : {A : Type 0} (b : A → Broken) (xs : List A) (k : ℕ) (x : A) (f : NameFault) → slice_get xs k ≡ Some x → IsKept (any_of b (take k xs)) → Tells (b x) f
-    → Tells (any_of b xs) f
-told_at b [] k x f at kept h = absurd cc
-told_at b (y ∷ ys) zero x f at kept h = told_left (b y) (any_of b ys) f (told_same (b x) (b y) f (let e : x ≡ y = cc in ap b e) h)
-told_at b (y ∷ ys) (suc k) x f at kept h =
-    told_right (b y) (any_of b ys) f (kept_left (b y) (any_of b (take k ys)) kept)
-    (told_at b ys k x f at (kept_right (b y) (any_of b (take k ys)) kept) h)

@@ -5,7 +5,8 @@ ghost use Rattle.vhdl_names_rules.specs.laws.Associations.{FormalsHaveActuals};
 ghost use Rattle.vhdl_names_rules.specs.laws.Sound.{TargetsAreDriven, ActualsAreDriven, InstancesFitUnits};
 ghost use Rattle.vhdl_names_rules.specs.laws.Files.{EntitiesStandInOrder};
 ghost use Rattle.vhdl_names_rules.specs.laws.Parameters.{LoopsNumberParameters, GeneratesNumberParameters};
-ghost use Rattle.vhdl_names_rules.specs.laws.Regions.{InterfaceNamesStandOnce, ArchitectureNamesStandOnce, ProcessNamesStandOnce, GenerateLabelsStandOnce, InnermostIsMeant, MeaningsAreDeclared};
+ghost use Rattle.vhdl_names_rules.specs.laws.Regions.{InterfaceNamesStandOnce, ArchitectureNamesStandOnce, ProcessNamesStandOnce};
+ghost use Rattle.vhdl_names_rules.specs.laws.Regions.{GenerateLabelsStandOnce, InnermostIsMeant, MeaningsAreDeclared};
 
 /// No two choices of all alternatives are the same, and `others` stands nowhere but alone in the
 /// last.

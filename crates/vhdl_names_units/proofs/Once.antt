@@ -106,25 +106,11 @@ refused k ks new e t = ap (λ b. then_some b (map items ks ++ k.items ∷ [])) (
 
 not_nine : (v : Nine) → nat_eq (code_of v) 9 ≡ false
 not_nine U = refl
-not_nine X = refl
-not_nine Zero = refl
-not_nine One = refl
-not_nine Z = refl
-not_nine W = refl
-not_nine L = refl
-not_nine H = refl
-not_nine Dash = refl
+not_nine _ = refl
 
 nine_not : (v : Nine) → nat_eq 9 (code_of v) ≡ false
 nine_not U = refl
-nine_not X = refl
-nine_not Zero = refl
-nine_not One = refl
-nine_not Z = refl
-nine_not W = refl
-nine_not L = refl
-nine_not H = refl
-nine_not Dash = refl
+nine_not _ = refl
 
 pub same_key : (c d : Choice) → bytes_eq (key_of c) (key_of d) ≡ same_choice c d
 same_key (values vs) (values ws) = refl

@@ -28,37 +28,17 @@ weight (t.binary begins op at left right) = rank op + rank op / 4
 -- what binds more tightly than an operator of rank r
 tighter : (r : ℕ) (x : t.Expr) → r < binding x → r + r / 4 < weight x
 tighter r (t.integer at text) h = omega (arith, h)
-tighter r (t.character at code) h = omega (arith, h)
-tighter r (t.string at text) h = omega (arith, h)
-tighter r (t.bits at text) h = omega (arith, h)
-tighter r (t.named n suffix attribute) h = omega (arith, h)
-tighter r (t.parens at inner) h = omega (arith, h)
-tighter r (t.negation at operand) h = omega (arith, h)
-tighter r (t.signed sign at operand) h = omega (arith, h)
-tighter r (t.binary begins op at left right) h = omega (arith, h)
+tighter r _ h = omega (arith, h)
 
 -- what stands behind a sign
 signed_operand : (x : t.Expr) → 3 < binding x → 4 < weight x
-signed_operand (t.integer at text) h = omega arith
-signed_operand (t.character at code) h = omega arith
-signed_operand (t.string at text) h = omega arith
-signed_operand (t.bits at text) h = omega arith
-signed_operand (t.named n suffix attribute) h = omega arith
-signed_operand (t.parens at inner) h = omega arith
-signed_operand (t.negation at operand) h = omega arith
 signed_operand (t.signed sign at operand) h = absurd (omega (arith, h))
 signed_operand (t.binary begins op at left right) h = omega (arith, h)
+signed_operand _ h = omega arith
 
 signed_first : (op : Operator) (x : t.Expr) → IsSigned op x → rank op + rank op / 4 < weight x
-signed_first op (t.integer at text) h = absurd h
-signed_first op (t.character at code) h = absurd h
-signed_first op (t.string at text) h = absurd h
-signed_first op (t.bits at text) h = absurd h
-signed_first op (t.named n suffix attribute) h = absurd h
-signed_first op (t.parens at inner) h = absurd h
-signed_first op (t.negation at operand) h = absurd h
 signed_first op (t.signed sign at operand) h = omega (arith, h)
-signed_first op (t.binary begins other at left right) h = absurd h
+signed_first op _ h = absurd h
 
 leading : (op : Operator) (x : t.Expr) → Leads true op x → rank op + rank op / 4 < weight x
 leading op x (inl h) = tighter (rank op) x h
@@ -77,15 +57,12 @@ arguments_are (t.expr x more) f = f
 
 mutual
   flat : (x : Expr) → IsExpr (view x) → height x + weight (view x) ≤ 8 * nesting (view x) + 8
-  flat (e.Integer l) f = omega arith
-  flat (e.Character at code) f = omega arith
-  flat (e.StringLiteral l) f = omega arith
-  flat (e.BitString l) f = omega arith
   flat (e.Name' identifier suffix attribute) f = omega (arith, flat_suffix suffix f)
   flat (e.Parens' at p inner) f = omega (arith, flat inner f)
   flat (e.Not' at p operand) f = omega (arith, flat operand f.1, tighter 5 (view operand) f.0)
   flat (e.Signed' sign at p operand) f = omega (arith, flat operand f.1, signed_operand (view operand) f.0)
   flat (e.Chain' p chain) f = flat_chain chain f
+  flat _ f = omega arith
 
   flat_chain : (c : Chain) → IsExpr (chain_view c) → suc (chain_height c) + weight (chain_view c) ≤ 8 * nesting (chain_view c) + 8
   flat_chain (Chain' first op at operand shape rest) f =

@@ -20,10 +20,7 @@ kind_of_piece (text_at kind at text) = kind
 
 kind_is : (p : Piece) (l : Lexeme) → Is p l → l.kind ≡ kind_of_piece p
 kind_is (some kind) l h = h
-kind_is (one_at kind at) l h = h.0
-kind_is (word_at at text) l h = h.0
-kind_is (literal_at at code) l h = h.0
-kind_is (text_at kind at text) l h = h.0
+kind_is _ l h = h.0
 
 -- what holds behind a token that opens and closes so many levels, where n may be opened before it
 abbrev Behind : ℕ → ℕ → ℕ → (ℕ → Type 0) → Type 0

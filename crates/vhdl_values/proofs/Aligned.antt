@@ -12,15 +12,9 @@ use Rattle.vhdl_values.proofs.Kept.{IsKept}
 use Rattle.vhdl_values.proofs.Parts.{part}
 
 byte-high : (word group : ℕ) → group < 8 → get_or (to_be_bytes w64 word) group 0 ≡ word / 2 ^ (56 - 8 * group) % 2 ^ 8
-byte-high word zero lt = refl
-byte-high word (suc zero) lt = refl
-byte-high word (suc (suc zero)) lt = refl
-byte-high word (suc (suc (suc zero))) lt = refl
-byte-high word (suc (suc (suc (suc zero)))) lt = refl
-byte-high word (suc (suc (suc (suc (suc zero))))) lt = refl
-byte-high word (suc (suc (suc (suc (suc (suc zero)))))) lt = refl
 byte-high word (suc (suc (suc (suc (suc (suc (suc zero))))))) lt = let same : word ≡ word / 1 = omega arith in ap (λ n. n % 2 ^ 8) same
 byte-high word (suc (suc (suc (suc (suc (suc (suc (suc n)))))))) lt = absurd (omega arith)
+byte-high word _ lt = refl
 
 shifted : (a left right n : ℕ) → n ≡ right + left → a * 2 ^ left / 2 ^ n ≡ a / 2 ^ right
 shifted a left right n e = rw (e, pow-add) (mul-div-mul_right a (2 ^ right) (pow_pos left))

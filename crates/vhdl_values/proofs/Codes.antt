@@ -9,25 +9,11 @@ use Rattle.vhdl_values.specs.Scalar.{code_of, value_of_code, is_same, are_same}
 
 pub value_of_code-code_of : (v : Nine) → value_of_code (code_of v) ≡ v
 value_of_code-code_of U = refl
-value_of_code-code_of X = refl
-value_of_code-code_of Zero = refl
-value_of_code-code_of One = refl
-value_of_code-code_of Z = refl
-value_of_code-code_of W = refl
-value_of_code-code_of L = refl
-value_of_code-code_of H = refl
-value_of_code-code_of Dash = refl
+value_of_code-code_of _ = refl
 
 pub code_of_below : (v : Nine) → code_of v < 9
 code_of_below U = omega arith
-code_of_below X = omega arith
-code_of_below Zero = omega arith
-code_of_below One = omega arith
-code_of_below Z = omega arith
-code_of_below W = omega arith
-code_of_below L = omega arith
-code_of_below H = omega arith
-code_of_below Dash = omega arith
+code_of_below _ = omega arith
 
 -- two values of one code are one value
 pub code_of_injective : (a b : Nine) → code_of a ≡ code_of b → a ≡ b
@@ -35,14 +21,13 @@ code_of_injective a b e = sym (value_of_code-code_of a) ∙ ap value_of_code e �
 
 pub map-code_of_injective : (as' bs : List Nine) → map code_of as' ≡ map code_of bs → as' ≡ bs
 map-code_of_injective [] [] e = refl
-map-code_of_injective [] (b ∷ bs) e = cc
-map-code_of_injective (a ∷ as') [] e = cc
 map-code_of_injective (a ∷ as') (b ∷ bs) e =
     let first : code_of a ≡ code_of b = cc in
     let rest : map code_of as' ≡ map code_of bs = cc in
     let here = code_of_injective a b first in
     let there = map-code_of_injective as' bs rest in
     cc
+map-code_of_injective _ _ e = cc
 
 -- the tests say what they are named for
 pub is_same-Decides : (a b : Nine) → Decides (is_same a b) (a ≡ b)

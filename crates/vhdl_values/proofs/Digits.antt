@@ -12,14 +12,7 @@ use Rattle.vhdl_values.specs.Arithmetic.{sum_of, difference_of}
 
 pub bit_of_le : (v : Nine) → bit_of v ≤ 1
 bit_of_le U = omega arith
-bit_of_le X = omega arith
-bit_of_le Zero = omega arith
-bit_of_le One = omega arith
-bit_of_le Z = omega arith
-bit_of_le W = omega arith
-bit_of_le L = omega arith
-bit_of_le H = omega arith
-bit_of_le Dash = omega arith
+bit_of_le _ = omega arith
 
 -- a vector's number is below 2 to the power of its length
 pub number_of_below : (vs : List Nine) → number_of vs < 2 ^ length vs
@@ -104,9 +97,8 @@ good-digit_of zero = refl
 good-digit_of (suc d) = grind (arith, nat_tests)
 
 bit_of-digit_of : (d : ℕ) → d < 2 → bit_of (digit_of d) ≡ d
-bit_of-digit_of zero lt = refl
-bit_of-digit_of (suc zero) lt = refl
 bit_of-digit_of (suc (suc d)) lt = absurd (omega arith)
+bit_of-digit_of _ lt = refl
 
 -- the vector of a number is good
 pub good-digits_of : (len n : ℕ) → all_good (digits_of len n) ≡ true

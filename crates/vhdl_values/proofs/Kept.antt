@@ -33,14 +33,7 @@ bit_at-top false n w lt = ap (λ m. m % 2) (shr_high 0 n w lt)
 
 code_of-bits : (v : Nine) → bit (has_bit 0 v) + 2 * bit (has_bit 1 v) + 4 * bit (has_bit 2 v) + 8 * bit (has_bit 3 v) ≡ code_of v
 code_of-bits U = refl
-code_of-bits X = refl
-code_of-bits Zero = refl
-code_of-bits One = refl
-code_of-bits Z = refl
-code_of-bits W = refl
-code_of-bits L = refl
-code_of-bits H = refl
-code_of-bits Dash = refl
+code_of-bits _ = refl
 
 -- the code that a list's planes have at a place
 code_in : List Nine → ℕ → ℕ

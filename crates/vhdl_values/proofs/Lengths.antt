@@ -51,5 +51,4 @@ length-counted_of ShiftRight count vs = length-shifted_right count vs
 -- what is 1 to 64 elements long stays so
 pub counted_within : (op : Counted) (count len : ℕ) → IsCount op count → (1 ≤ len) × (len ≤ 64) → (1 ≤ counted_length op count len) × (counted_length op count len ≤ 64)
 counted_within Resize count len h k = h
-counted_within ShiftLeft count len h k = k
-counted_within ShiftRight count len h k = k
+counted_within _ count len h k = k

@@ -50,15 +50,11 @@ marks-all (x ∷ xs) = let pos : 0 < 2 ^ length xs = pow_pos (length xs) in rw (
 -- two words, mark by mark
 bit-and : (a b : Bool) → bit_and (bit a) (bit b) ≡ bit (a && b)
 bit-and true true = refl
-bit-and true false = refl
-bit-and false true = refl
-bit-and false false = refl
+bit-and _ _ = refl
 
 bit-or : (a b : Bool) → bit_or (bit a) (bit b) ≡ bit (a || b)
 bit-or true true = refl
-bit-or true false = refl
-bit-or false true = refl
-bit-or false false = refl
+bit-or _ _ = refl
 
 pub marks-and : {A : Type 0} (f g : A → Bool) (xs : List A) → bit_and (marks f xs) (marks g xs) ≡ marks (λ x. f x && g x) xs
 unfolding marks

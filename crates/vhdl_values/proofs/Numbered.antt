@@ -57,15 +57,11 @@ bad_elsewhere vs len a b c d h ne = elsewhere (all_good vs) (λ good. ne (h.seco
 
 -- and the number is then the first plane
 good-digit : (v : Nine) → is_good v ≡ true → bit_of v ≡ bit (has_bit 0 v)
-good-digit U e = cc
-good-digit X e = cc
 good-digit Zero e = refl
 good-digit One e = refl
-good-digit Z e = cc
-good-digit W e = cc
 good-digit L e = refl
 good-digit H e = refl
-good-digit Dash e = cc
+good-digit _ e = cc
 
 pub number_of-good : (vs : List Nine) → all_good vs ≡ true → number_of vs ≡ plane_of 0 vs
 unfolding marks
@@ -76,9 +72,8 @@ number_of-good (v ∷ vs) e =
 
 -- the planes of the digits of a number
 digit-bits : (d : ℕ) → d < 2 → (bit (has_bit 0 (digit_of d)) ≡ d) × (bit (has_bit 2 (digit_of d)) ≡ 0) × (bit (has_bit 3 (digit_of d)) ≡ 0)
-digit-bits zero lt = (refl, refl, refl)
-digit-bits (suc zero) lt = (refl, refl, refl)
 digit-bits (suc (suc d)) lt = absurd (omega arith)
+digit-bits _ lt = (refl, refl, refl)
 
 plane-digits : (len n : ℕ) → plane_of 0 (digits_of len n) ≡ n % 2 ^ len
 unfolding marks digits_of

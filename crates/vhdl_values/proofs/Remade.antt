@@ -89,18 +89,13 @@ pairs_stripped h table v w =
 
 logic-stripped : (kind : Logic) (v w : Nine) → strip (logic_of kind v w) ≡ logic_of kind v w
 logic-stripped And v w = pairs_stripped (logic_of And) refl v w
-logic-stripped Or v w = pairs_stripped (logic_of Or) refl v w
-logic-stripped Nand v w = pairs_stripped (logic_of Nand) refl v w
-logic-stripped Nor v w = pairs_stripped (logic_of Nor) refl v w
-logic-stripped Xor v w = pairs_stripped (logic_of Xor) refl v w
-logic-stripped Xnor v w = pairs_stripped (logic_of Xnor) refl v w
+logic-stripped kind v w = pairs_stripped (logic_of kind) refl v w
 
 pub map-strip-not : (vs : List Nine) → map strip (not_of_all vs) ≡ not_of_all vs
 map-strip-not [] = refl
 map-strip-not (v ∷ vs) = ap (λ w. w ∷ map strip (not_of_all vs)) (not-stripped v) ∙ ap (λ ws. not_of v ∷ ws) (map-strip-not vs)
 
 pub map-strip-logic : (kind : Logic) (vs ws : List Nine) → map strip (logic_of_all kind vs ws) ≡ logic_of_all kind vs ws
-map-strip-logic kind [] ws = refl
-map-strip-logic kind (v ∷ vs) [] = refl
 map-strip-logic kind (v ∷ vs) (w ∷ ws) =
     ap (λ x. x ∷ map strip (logic_of_all kind vs ws)) (logic-stripped kind v w) ∙ ap (λ l. logic_of kind v w ∷ l) (map-strip-logic kind vs ws)
+map-strip-logic kind _ _ = refl

@@ -6,6 +6,5 @@ use Rattle.vhdl_values.specs.declared.scalar.Nine.TheVariants.{Z}
 use Rattle.vhdl_values.specs.Resolution.{resolution_table, resolved}
 
 pub resolved-several : (vs : List Nine) → length vs ≢ 1 → fold resolution_table Z vs ≡ resolved vs
-resolved-several [] ne = refl
 resolved-several (v ∷ []) ne = absurd (ne refl)
-resolved-several (v ∷ w ∷ vs) ne = refl
+resolved-several _ ne = refl

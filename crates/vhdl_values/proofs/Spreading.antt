@@ -36,14 +36,7 @@ spread-plane f vs plane word le none e put =
 
 code_of-planes : (v : Nine) → bit (has_bit 0 v) + 2 * bit (has_bit 1 v) + 4 * (bit (has_bit 2 v) + 2 * bit (has_bit 3 v)) ≡ code_of v
 code_of-planes U = refl
-code_of-planes X = refl
-code_of-planes Zero = refl
-code_of-planes One = refl
-code_of-planes Z = refl
-code_of-planes W = refl
-code_of-planes L = refl
-code_of-planes H = refl
-code_of-planes Dash = refl
+code_of-planes _ = refl
 
 codes_small : (vs : List Nine) → All (λ c. c < 256) (map code_of vs)
 codes_small [] k d lt = absurd (omega arith)

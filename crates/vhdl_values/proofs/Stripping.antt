@@ -37,15 +37,13 @@ map-left (v ∷ vs) (w ∷ ws) e = ap (λ l. v ∷ l) (map-left vs ws (omega ari
 map-right : (vs ws : List Nine) → length vs ≡ length ws → map (λ p. p.1) (pairs vs ws) ≡ ws
 unfolding pairs
 map-right [] [] e = refl
-map-right [] (w ∷ ws) e = cc
-map-right (v ∷ vs) [] e = cc
 map-right (v ∷ vs) (w ∷ ws) e = ap (λ l. w ∷ l) (map-right vs ws (omega arith))
+map-right _ _ e = cc
 
 map-both : (h : Nine → Nine → Nine) (vs ws : List Nine) → map (λ p. h p.0 p.1) (pairs vs ws) ≡ zip_with h vs ws
 unfolding pairs
-map-both h [] ws = refl
-map-both h (v ∷ vs) [] = refl
 map-both h (v ∷ vs) (w ∷ ws) = ap (λ l. h v w ∷ l) (map-both h vs ws)
+map-both h _ _ = refl
 
 pub marks-left : (f : Nine → Bool) (vs ws : List Nine) → length vs ≡ length ws → marks f vs ≡ marks_of_pairs (λ v w. f v) vs ws
 unfolding marks_of_pairs
@@ -139,9 +137,8 @@ IsMarked-not vs a b c h = record {
 
 -- `not` of an operator's results, element by element
 not-zip_with : (h : Nine → Nine → Nine) (vs ws : List Nine) → not_of_all (zip_with h vs ws) ≡ zip_with (λ v w. not_of (h v w)) vs ws
-not-zip_with h [] ws = refl
-not-zip_with h (v ∷ vs) [] = refl
 not-zip_with h (v ∷ vs) (w ∷ ws) = ap (λ l. not_of (h v w) ∷ l) (not-zip_with h vs ws)
+not-zip_with h _ _ = refl
 
 pub IsMarked-nand : (vs ws : List Nine) (a b c : ℕ) → IsMarked (not_of_all (logic_of_all And vs ws)) a b c → IsMarked (logic_of_all Nand vs ws) a b c
 IsMarked-nand vs ws a b c h = rw (not-zip_with and_of vs ws) at h

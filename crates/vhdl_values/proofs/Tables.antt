@@ -13,10 +13,9 @@ agree false true = false
 agree false false = true
 
 agree-same : (a b : Bool) → agree a b ≡ true → a ≡ b
-agree-same true true e = refl
 agree-same true false e = cc
 agree-same false true e = cc
-agree-same false false e = refl
+agree-same _ _ e = refl
 
 pub both-first : (a b : Bool) → (a && b) ≡ true → a ≡ true
 both-first true b e = refl

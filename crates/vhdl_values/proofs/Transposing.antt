@@ -195,16 +195,8 @@ packed-sum f g h i (x ∷ xs) = omega (arith, packed-sum f g h i xs)
 -- ---- words and their bytes
 
 eight : (cs : List ℕ) → length cs ≡ 8 → cs ≡ get_or cs 0 0 ∷ get_or cs 1 0 ∷ get_or cs 2 0 ∷ get_or cs 3 0 ∷ get_or cs 4 0 ∷ get_or cs 5 0 ∷ get_or cs 6 0 ∷ get_or cs 7 0 ∷ []
-eight [] e = absurd (omega arith)
-eight (a ∷ []) e = absurd (omega arith)
-eight (a ∷ b ∷ []) e = absurd (omega arith)
-eight (a ∷ b ∷ c ∷ []) e = absurd (omega arith)
-eight (a ∷ b ∷ c ∷ d ∷ []) e = absurd (omega arith)
-eight (a ∷ b ∷ c ∷ d ∷ f ∷ []) e = absurd (omega arith)
-eight (a ∷ b ∷ c ∷ d ∷ f ∷ g ∷ []) e = absurd (omega arith)
-eight (a ∷ b ∷ c ∷ d ∷ f ∷ g ∷ h ∷ []) e = absurd (omega arith)
 eight (a ∷ b ∷ c ∷ d ∷ f ∷ g ∷ h ∷ i ∷ []) e = refl
-eight (a ∷ b ∷ c ∷ d ∷ f ∷ g ∷ h ∷ i ∷ j ∷ cs) e = absurd (omega arith)
+eight _ e = absurd (omega arith)
 
 from-bytes : (a b c d e f g h : ℕ) → from_be_bytes w64 (a ∷ b ∷ c ∷ d ∷ e ∷ f ∷ g ∷ h ∷ []) ≡ packed (a ∷ b ∷ c ∷ d ∷ e ∷ f ∷ g ∷ h ∷ [])
 unfolding packed

@@ -72,22 +72,13 @@ length-values_at (suc k) a b c d = ap suc (length-values_at k a b c d)
 
 -- the code of the value of a code
 pub code_of-value_of_code : (code : ℕ) → code < 9 → code_of (value_of_code code) ≡ code
-code_of-value_of_code zero lt = refl
-code_of-value_of_code (suc zero) lt = refl
-code_of-value_of_code (suc (suc zero)) lt = refl
-code_of-value_of_code (suc (suc (suc zero))) lt = refl
-code_of-value_of_code (suc (suc (suc (suc zero)))) lt = refl
-code_of-value_of_code (suc (suc (suc (suc (suc zero))))) lt = refl
-code_of-value_of_code (suc (suc (suc (suc (suc (suc zero)))))) lt = refl
-code_of-value_of_code (suc (suc (suc (suc (suc (suc (suc zero))))))) lt = refl
-code_of-value_of_code (suc (suc (suc (suc (suc (suc (suc (suc zero)))))))) lt = refl
 code_of-value_of_code (suc (suc (suc (suc (suc (suc (suc (suc (suc n))))))))) lt = absurd (omega arith)
+code_of-value_of_code _ lt = refl
 
 -- a bit as a test and back
 pub bit-test : (n : ℕ) → n < 2 → bit (n == 1) ≡ n
-bit-test zero lt = refl
-bit-test (suc zero) lt = refl
 bit-test (suc (suc n)) lt = absurd (omega arith)
+bit-test _ lt = refl
 
 -- the bits of a code
 bit-code : (a b c d k : ℕ) →

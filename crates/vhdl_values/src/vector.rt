@@ -1,6 +1,7 @@
 //! Vectors of 1 to 64 values.
 
-ghost use Rattle.std.specs.Prelude.{◌≡◌, ◌+◌, ◌%◌, ◌^◌, ◌<◌, ◌≤◌, ◌++◌, ◌↔◌, if◌then◌else◌, IsTrue, Some, None, true, List, length, map, max, replicate, slice_get, slice_set, take, drop};
+ghost use Rattle.std.specs.Prelude.{◌≡◌, ◌+◌, ◌%◌, ◌^◌, ◌<◌, ◌≤◌, ◌++◌, ◌↔◌, if◌then◌else◌, IsTrue, Some};
+ghost use Rattle.std.specs.Prelude.{None, true, List, length, map, max, replicate, slice_get, slice_set, take, drop};
 ghost use Rattle.vhdl_values.specs.Scalar.{are_same};
 ghost use Rattle.vhdl_values.specs.Logic.{strip, logic_of_all, not_of_all};
 ghost use Rattle.vhdl_values.specs.Numbers.{all_good, number_of, digits_of};
@@ -41,7 +42,8 @@ pub struct Vec9 {
 impl Model for Vec9 {
     ghost use Rattle.std.specs.Prelude.{List, length, refl};
     ghost use Rattle.vhdl_values.specs.declared.scalar.Nine.{Nine};
-    ghost use Rattle.vhdl_values.specs.Planes.{values_at, plane_of, IsPlanes, length-values_at, plane_of-first, plane_of-second, plane_of-third, plane_of-fourth};
+    ghost use Rattle.vhdl_values.specs.Planes.{values_at, plane_of, IsPlanes, length-values_at};
+    ghost use Rattle.vhdl_values.specs.Planes.{plane_of-first, plane_of-second, plane_of-third, plane_of-fourth};
 
     ghost Value = { List Nine };
 

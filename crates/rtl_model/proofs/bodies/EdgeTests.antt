@@ -104,28 +104,12 @@ past : (c v : ℕ) → v < 4 → false ≡ (suc (suc (suc (suc (suc (suc (suc (s
 past c v l = sym (ne_eqb (suc (suc (suc (suc (suc (suc (suc (suc (suc c))))))))) v (λ h. omega arith))
 
 exact_zero : IsExact 2
-exact_zero zero = refl
-exact_zero (suc zero) = refl
-exact_zero (suc (suc zero)) = refl
-exact_zero (suc (suc (suc zero))) = refl
-exact_zero (suc (suc (suc (suc zero)))) = refl
-exact_zero (suc (suc (suc (suc (suc zero))))) = refl
-exact_zero (suc (suc (suc (suc (suc (suc zero)))))) = refl
-exact_zero (suc (suc (suc (suc (suc (suc (suc zero))))))) = refl
-exact_zero (suc (suc (suc (suc (suc (suc (suc (suc zero)))))))) = refl
 exact_zero (suc (suc (suc (suc (suc (suc (suc (suc (suc c))))))))) = past c 2 (omega arith)
+exact_zero _ = refl
 
 exact_one : IsExact 3
-exact_one zero = refl
-exact_one (suc zero) = refl
-exact_one (suc (suc zero)) = refl
-exact_one (suc (suc (suc zero))) = refl
-exact_one (suc (suc (suc (suc zero)))) = refl
-exact_one (suc (suc (suc (suc (suc zero))))) = refl
-exact_one (suc (suc (suc (suc (suc (suc zero)))))) = refl
-exact_one (suc (suc (suc (suc (suc (suc (suc zero))))))) = refl
-exact_one (suc (suc (suc (suc (suc (suc (suc (suc zero)))))))) = refl
 exact_one (suc (suc (suc (suc (suc (suc (suc (suc (suc c))))))))) = past c 3 (omega arith)
+exact_one _ = refl
 
 exact : (v : Nine) (edge : Edge) → edge_to v ≡ Some edge → IsExact (code_of v)
 exact Zero edge h = exact_zero

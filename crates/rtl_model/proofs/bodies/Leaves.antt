@@ -32,32 +32,25 @@ or_none false = refl
 
 expr_reads_are : (e : Expr) → expr_reads e ≡ flat_map read_of (expr_leaves e)
 expr_reads_are (signal nets) = sym (append-nil nets)
-expr_reads_are (variable es) = refl
-expr_reads_are (constant values) = refl
 expr_reads_are (inverse e) = expr_reads_are e
 expr_reads_are (filled len e) = expr_reads_are e
 expr_reads_are (binary op d e) = both read_of (expr_leaves d) (expr_leaves e) _ _ (expr_reads_are d) (expr_reads_are e)
 expr_reads_are (counted op count e) = expr_reads_are e
+expr_reads_are _ = refl
 
 value_reads_are : (v : Value) → value_reads v ≡ flat_map read_of (value_leaves v)
 value_reads_are (elements e) = expr_reads_are e
-value_reads_are (position n) = refl
-value_reads_are (position_of net) = refl
-value_reads_are (position_in element) = refl
+value_reads_are _ = refl
 
 test_reads_are : (t : Test) → test_reads t ≡ flat_map read_of (test_leaves t)
 test_reads_are (condition e) = expr_reads_are e
-test_reads_are (decided b) = refl
 test_reads_are (equal v w) = both read_of (value_leaves v) (value_leaves w) _ _ (value_reads_are v) (value_reads_are w)
 test_reads_are (unequal v w) = both read_of (value_leaves v) (value_leaves w) _ _ (value_reads_are v) (value_reads_are w)
-test_reads_are (level plain net v) = refl
 test_reads_are (compared op d e) = both read_of (expr_leaves d) (expr_leaves e) _ _ (expr_reads_are d) (expr_reads_are e)
 test_reads_are (compared_to op e n) = expr_reads_are e
-test_reads_are (rising net) = refl
-test_reads_are (falling net) = refl
-test_reads_are (event net) = refl
 test_reads_are (negated t) = test_reads_are t
 test_reads_are (combined op s t) = both read_of (test_leaves s) (test_leaves t) _ _ (test_reads_are s) (test_reads_are t)
+test_reads_are _ = refl
 
 mutual
   stmt_reads_are : (s : Stmt) → stmt_reads s ≡ flat_map read_of (stmt_leaves s)
@@ -85,33 +78,25 @@ mutual
 -- ---- edge tests and `'event`
 
 expr_events_are : (e : Expr) → [] ≡ flat_map event_of (expr_leaves e)
-expr_events_are (signal nets) = refl
-expr_events_are (variable es) = refl
-expr_events_are (constant values) = refl
 expr_events_are (inverse e) = expr_events_are e
 expr_events_are (filled len e) = expr_events_are e
 expr_events_are (binary op d e) = both event_of (expr_leaves d) (expr_leaves e) [] [] (expr_events_are d) (expr_events_are e)
 expr_events_are (counted op count e) = expr_events_are e
+expr_events_are _ = refl
 
 value_events_are : (v : Value) → [] ≡ flat_map event_of (value_leaves v)
 value_events_are (elements e) = expr_events_are e
-value_events_are (position n) = refl
-value_events_are (position_of net) = refl
-value_events_are (position_in element) = refl
+value_events_are _ = refl
 
 test_events_are : (t : Test) → test_events t ≡ flat_map event_of (test_leaves t)
 test_events_are (condition e) = expr_events_are e
-test_events_are (decided b) = refl
 test_events_are (equal v w) = both event_of (value_leaves v) (value_leaves w) [] [] (value_events_are v) (value_events_are w)
 test_events_are (unequal v w) = both event_of (value_leaves v) (value_leaves w) [] [] (value_events_are v) (value_events_are w)
-test_events_are (level plain net v) = refl
 test_events_are (compared op d e) = both event_of (expr_leaves d) (expr_leaves e) [] [] (expr_events_are d) (expr_events_are e)
 test_events_are (compared_to op e n) = expr_events_are e
-test_events_are (rising net) = refl
-test_events_are (falling net) = refl
-test_events_are (event net) = refl
 test_events_are (negated t) = test_events_are t
 test_events_are (combined op s t) = both event_of (test_leaves s) (test_leaves t) _ _ (test_events_are s) (test_events_are t)
+test_events_are _ = refl
 
 mutual
   stmt_events_are : (s : Stmt) → stmt_events s ≡ flat_map event_of (stmt_leaves s)
@@ -140,33 +125,27 @@ mutual
 
 module _ (k : ℕ) where
   expr_looks_are : (e : Expr) → expr_looks_at k e ≡ list_any (leaf_looks_at k) (expr_leaves e)
-  expr_looks_are (signal nets) = refl
   expr_looks_are (variable es) = sym (or_none (list_any (λ d. d == k) es))
-  expr_looks_are (constant values) = refl
   expr_looks_are (inverse e) = expr_looks_are e
   expr_looks_are (filled len e) = expr_looks_are e
   expr_looks_are (binary op d e) = either (leaf_looks_at k) (expr_leaves d) (expr_leaves e) _ _ (expr_looks_are d) (expr_looks_are e)
   expr_looks_are (counted op count e) = expr_looks_are e
+  expr_looks_are _ = refl
 
   value_looks_are : (v : Value) → value_looks_at k v ≡ list_any (leaf_looks_at k) (value_leaves v)
   value_looks_are (elements e) = expr_looks_are e
-  value_looks_are (position n) = refl
-  value_looks_are (position_of net) = refl
   value_looks_are (position_in element) = sym (or_none ((element == k) || false) ∙ or_none (element == k))
+  value_looks_are _ = refl
 
   test_looks_are : (t : Test) → test_looks_at k t ≡ list_any (leaf_looks_at k) (test_leaves t)
   test_looks_are (condition e) = expr_looks_are e
-  test_looks_are (decided b) = refl
   test_looks_are (equal v w) = either (leaf_looks_at k) (value_leaves v) (value_leaves w) _ _ (value_looks_are v) (value_looks_are w)
   test_looks_are (unequal v w) = either (leaf_looks_at k) (value_leaves v) (value_leaves w) _ _ (value_looks_are v) (value_looks_are w)
-  test_looks_are (level plain net v) = refl
   test_looks_are (compared op d e) = either (leaf_looks_at k) (expr_leaves d) (expr_leaves e) _ _ (expr_looks_are d) (expr_looks_are e)
   test_looks_are (compared_to op e n) = expr_looks_are e
-  test_looks_are (rising net) = refl
-  test_looks_are (falling net) = refl
-  test_looks_are (event net) = refl
   test_looks_are (negated t) = test_looks_are t
   test_looks_are (combined op s t) = either (leaf_looks_at k) (test_leaves s) (test_leaves t) _ _ (test_looks_are s) (test_looks_are t)
+  test_looks_are _ = refl
 
 pub leaves_tell : LeavesTell
 leaves_tell = record { reads_are = reads_are; events_are = events_are; value_reads_are = value_reads_are; value_looks_are = value_looks_are; test_looks_are = test_looks_are }

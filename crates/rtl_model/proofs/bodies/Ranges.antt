@@ -40,10 +40,7 @@ module _ (scope : Scope) where
   of_value (enumeration n) (position k) seen sees h = one_below n k h
   of_value (enumeration n) (position_of net) seen sees h = one_below n _ (sees.nets net (enumeration n) h)
   of_value (enumeration n) (position_in element) seen sees h = one_below n _ (sees.variables element (enumeration n) h)
-  of_value nine_valued (position k) seen sees h = elim h [ ]
-  of_value nine_valued (position_of net) seen sees h = elim h [ ]
-  of_value nine_valued (position_in element) seen sees h = elim h [ ]
-  of_value (enumeration n) (elements e) seen sees h = elim h [ ]
+  of_value _ _ seen sees h = elim h [ ]
 
   -- ---- entries
 

@@ -25,13 +25,10 @@ length-operated minus a b h = length-difference_of a b
 length-operated times a b h = length-product_of a b
 
 is_width : (scope : Scope) (e : Expr) → FitsExpr scope e → IsWidth (width e)
-is_width scope (signal nets) h = h.0
-is_width scope (variable es) h = h.0
 is_width scope (constant values) h = h
 is_width scope (inverse e) h = is_width scope e h
-is_width scope (filled len e) h = h.0
-is_width scope (binary op d e) h = h.0
 is_width scope (counted op count e) h = counted_within op count (width e) h.0 (is_width scope e h.1)
+is_width scope _ h = h.0
 
 module _ (scope : Scope) (seen : Seen) where
   length-elements_of : (e : Expr) → FitsExpr scope e → length (elements_of seen e) ≡ width e
@@ -49,10 +46,8 @@ module _ (scope : Scope) (seen : Seen) where
 
   pub length-value_of : (t : ElementType) (v : Value) → FitsAs scope t v → length (value_of seen v) ≡ value_width v
   length-value_of nine_valued (elements e) h = length-map (elements_of seen e) code_of ∙ length-elements_of e h
-  length-value_of t (position n) h = refl
-  length-value_of t (position_of net) h = refl
-  length-value_of t (position_in element) h = refl
   length-value_of (enumeration literals) (elements e) h = elim h [ ]
+  length-value_of _ _ h = refl
 
   of_one_type : (t : ElementType) (v w : Value) → FitsAs scope t v → FitsAs scope t w → is_of_elements v ≡ is_of_elements w
   of_one_type t v w h g = of_type t v h ∙ sym (of_type t w g)

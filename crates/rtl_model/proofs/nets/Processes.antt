@@ -70,9 +70,8 @@ module _ (inputs : List ℕ) (p : FlatProcess) where
 
   -- a combinational body has no edge test and no `'event`
   combinational_is : (o : Option Clocking) (ns : List ℕ) → core_kind p o ns ≡ c.Combinational → ns ≡ []
-  combinational_is (Some k) ns h = absurd cc
   combinational_is None [] h = refl
-  combinational_is None (n ∷ ns) h = absurd cc
+  combinational_is _ _ h = absurd cc
 
   effect_reads : (before now before' now' : List ℕ) → (core_process inputs p).kind ≡ c.Combinational → AgreeOn (core_process inputs p).reads now now'
       → (core_process inputs p).effect before now ≡ (core_process inputs p).effect before' now'
@@ -211,9 +210,8 @@ module _ (p : FlatProcess) where
   plain_kind inputs (Some k) ns a b e = absurd ((each_kind_is_as_said inputs).has_event p.body k a (b ∙ e))
 
   mixed_parts : (o : Option Clocking) (ns : List ℕ) → core_kind p o ns ≡ c.Mixed → (o ≡ None) × (ns ≡ [] → ⊥)
-  mixed_parts None [] h = absurd cc
   mixed_parts None (n ∷ ns) h = (refl, λ e. cc)
-  mixed_parts (Some k) ns h = absurd cc
+  mixed_parts _ _ h = absurd cc
 
   mixed_kind : (o : Option Clocking) (ns : List ℕ) → o ≡ None → (ns ≡ [] → ⊥) → core_kind p o ns ≡ c.Mixed
   mixed_kind None [] e h = absurd (h refl)

@@ -9,9 +9,7 @@ use Rattle.rtl_model.specs.nets.CoreNetlist.{core_edges, core_netlist}
 
 edges_differ : (edge : Edge) (v : ℕ) → core_edges edge v v ≡ false
 edges_differ Rising v = rw (eq-eqb (code_of (value_of_code v)) (code_of (value_of_code v)) refl) refl
-edges_differ Falling v = rw (eq-eqb (code_of (value_of_code v)) (code_of (value_of_code v)) refl) refl
-edges_differ To1 v = rw (eq-eqb (code_of (value_of_code v)) (code_of (value_of_code v)) refl) refl
-edges_differ To0 v = rw (eq-eqb (code_of (value_of_code v)) (code_of (value_of_code v)) refl) refl
+edges_differ _ v = rw (eq-eqb (code_of (value_of_code v)) (code_of (value_of_code v)) refl) refl
 
 pub has_values : (net : FlatNetlist) → HasValues (core_netlist net)
 has_values net = record { one_resolves = λ v. refl; edges_differ = edges_differ }

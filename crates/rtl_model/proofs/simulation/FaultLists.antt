@@ -13,15 +13,8 @@ one_of net among faults other a b = same_elements fault_key faults other a.rise 
 
 -- no fault but loops, or a loop
 loop_or_not : (f : Fault) → (is_no_loop f ≡ true) ⊎ ((processes : List ℕ) × (f ≡ Loop processes))
-loop_or_not (TwoDrivers net first second) = inl refl
-loop_or_not (MixedProcess p) = inl refl
-loop_or_not (ClockNotInput p net) = inl refl
-loop_or_not (EdgeNotSensitive p net) = inl refl
-loop_or_not (ClockAsData p net) = inl refl
-loop_or_not (MissingSensitivity p net) = inl refl
-loop_or_not (Latch p net) = inl refl
 loop_or_not (Loop ps) = inr (ps, refl)
-loop_or_not (StoredVariable p v place) = inl refl
+loop_or_not _ = inl refl
 
 module _ (net : Netlist) where
   none_listed : (among : Fault → Bool) → ((f : Fault) → IsFault net f → IsTrue (among f) → ⊥) → AreFaultsOf net among []

@@ -105,8 +105,6 @@ greatest_of (Some v ∷ xs) = cond (ltb v (greatest_of xs)) (greatest_of xs) v
 
 none_above : (xs : List (Option ℕ)) (k v : ℕ) → get_or xs k None ≡ Some v → v ≤ greatest_of xs
 unfolding greatest_of
-none_above [] k v e = cc
-none_above (None ∷ xs) zero v e = cc
 none_above (None ∷ xs) (suc k) v e = none_above xs k v e
 none_above (Some w ∷ xs) zero v e = go (cases_lt w (greatest_of xs))
   where
@@ -118,6 +116,7 @@ none_above (Some w ∷ xs) (suc k) v e = go (none_above xs k v e) (cases_lt w (g
     go : v ≤ greatest_of xs → (w < greatest_of xs) ⊎ (greatest_of xs ≤ w) → v ≤ cond (ltb w (greatest_of xs)) (greatest_of xs) w
     go h (inl l) = rw (lt-ltb w (greatest_of xs) l) h
     go h (inr l) = rw (le-ltb w (greatest_of xs) l) (omega arith)
+none_above _ _ v e = cc
 
 met : (xs : List (Option ℕ)) → greatest_of xs ≢ 0 → (k : ℕ) × (get_or xs k None ≡ Some (greatest_of xs))
 unfolding greatest_of

@@ -20,47 +20,40 @@ abbrev pub out : State → ℕ → ℕ → ℕ
 out s p place = entry_or (transaction s p place) (value s p place)
 
 pub get_or-map : {X Y : Type 0} (f : X → Y) (xs : List X) (k : ℕ) (d : X) → get_or (map f xs) k (f d) ≡ f (get_or xs k d)
-get_or-map f [] k d = refl
-get_or-map f (x ∷ xs) zero d = refl
 get_or-map f (x ∷ xs) (suc k) d = get_or-map f xs k d
+get_or-map f _ _ d = refl
 
 pub driven_all_at : (ps : List (List (Option ℕ))) (rows : List (List ℕ)) (p : ℕ) → get_or (all_driver_values ps rows) p [] ≡ driver_values (get_or ps p []) (get_or rows p [])
-driven_all_at [] rows p = refl
 driven_all_at (a ∷ ps) [] p = none (get_or (a ∷ ps) p [])
   where
     none : (a : List (Option ℕ)) → [] ≡ driver_values a []
     none [] = refl
     none (x ∷ a) = refl
-driven_all_at (a ∷ ps) (row ∷ rows) zero = refl
 driven_all_at (a ∷ ps) (row ∷ rows) (suc p) = driven_all_at ps rows p
+driven_all_at _ _ _ = refl
 
 pub length-driven : (a : List (Option ℕ)) (xs : List ℕ) → length (driver_values a xs) ≡ length xs
-length-driven [] xs = refl
-length-driven (o ∷ a) [] = refl
 length-driven (Some v ∷ a) (x ∷ xs) = ap suc (length-driven a xs)
 length-driven (None ∷ a) (x ∷ xs) = ap suc (length-driven a xs)
+length-driven _ _ = refl
 
 pub driven_at : (a : List (Option ℕ)) (xs : List ℕ) (k : ℕ) → k < length xs → get_or (driver_values a xs) k 0 ≡ entry_or (get_or a k None) (get_or xs k 0)
-driven_at [] xs k l = refl
 driven_at (o ∷ a) [] k l = absurd (omega arith)
-driven_at (Some v ∷ a) (x ∷ xs) zero l = refl
-driven_at (None ∷ a) (x ∷ xs) zero l = refl
 driven_at (Some v ∷ a) (x ∷ xs) (suc k) l = driven_at a xs k (omega arith)
 driven_at (None ∷ a) (x ∷ xs) (suc k) l = driven_at a xs k (omega arith)
+driven_at _ _ _ l = refl
 
 -- over a map with nothing at the place
 pub over_none : (as' bs : List (Option ℕ)) (k : ℕ) → get_or bs k None ≡ None → get_or (over as' bs) k None ≡ get_or as' k None
-over_none [] bs k e = e
 over_none (a ∷ as') [] k e = refl
 over_none (Some v ∷ as') (b ∷ bs) zero e = refl
-over_none (None ∷ as') (b ∷ bs) zero e = e
 over_none (Some v ∷ as') (b ∷ bs) (suc k) e = over_none as' bs k e
 over_none (None ∷ as') (b ∷ bs) (suc k) e = over_none as' bs k e
+over_none _ _ _ e = e
 
 pub no_entries : {X : Type 0} (xs : List X) (k : ℕ) → get_or (map {B = Option ℕ} (λ (x : X). None) xs) k None ≡ None
-no_entries [] k = refl
-no_entries (x ∷ xs) zero = refl
 no_entries (x ∷ xs) (suc k) = no_entries xs k
+no_entries _ _ = refl
 
 pub none_pending_at : (pend : List (List (Option ℕ))) (p place : ℕ) → get_or (get_or (none_pending pend) p []) place None ≡ None
 none_pending_at pend p place = rw (get_or-map (map {B = Option ℕ} (λ (x : Option ℕ). None)) pend p []) (no_entries (get_or pend p []) place)

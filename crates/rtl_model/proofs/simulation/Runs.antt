@@ -54,15 +54,13 @@ module _ (net : Netlist) (E : IsElaborated net) (A : Faultless net) where
     edge_of v inputs Mixed = false
 
     next_from : List ℕ → (ℕ → ℕ) → ℕ → List Source → ℕ
-    next_from v inputs n [] = 0
-    next_from v inputs n (Idle x ∷ more) = 0
     next_from v inputs n (Driver p place ∷ more) =
         entry_or (clocked_entry (resets (reset_of net p) inputs) (edge_of v inputs (process net p).kind) (reset_entry (reset_of net p) place) (get_or ((process net p).acting_effect v) place None)) (get_or v n 0)
+    next_from v inputs n _ = 0
 
     first_from : (ℕ → ℕ) → ℕ → List Source → ℕ
-    first_from inputs n [] = 0
-    first_from inputs n (Idle x ∷ more) = 0
     first_from inputs n (Driver p place ∷ more) = entry_or (clocked_entry (resets (reset_of net p) inputs) false (reset_entry (reset_of net p) place) None) (get_or net.start n 0)
+    first_from inputs n _ = 0
 
     at_sole : (f : List Source → ℕ) (p place : ℕ) → HasPlace net p place → f (sources_of net (target net p place)) ≡ f (Driver p place ∷ [])
     at_sole f p place h = ap f (sole net (leveled net E A) p place h)

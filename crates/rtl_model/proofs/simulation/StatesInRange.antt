@@ -17,12 +17,11 @@ use Rattle.rtl_model.proofs.simulation.Range.{EntryBelow, entry_or_below, none_b
 
 -- entries laid over others
 over_below : (most : ℕ) (as' bs : List (Option ℕ)) (k : ℕ) → EntryBelow most (get_or as' k None) → EntryBelow most (get_or bs k None) → EntryBelow most (get_or (over as' bs) k None)
-over_below most [] bs k a b = b
 over_below most (x ∷ as') [] k a b = a
 over_below most (Some v ∷ as') (y ∷ bs) zero a b = a
-over_below most (None ∷ as') (y ∷ bs) zero a b = b
 over_below most (Some v ∷ as') (y ∷ bs) (suc k) a b = over_below most as' bs k a b
 over_below most (None ∷ as') (y ∷ bs) (suc k) a b = over_below most as' bs k a b
+over_below most _ _ _ a b = b
 
 module _ (net : Netlist) (W : IsWired net) (K : KeepsRange net) (S : SourcesKeepRange net) where
   -- what a net's sources give

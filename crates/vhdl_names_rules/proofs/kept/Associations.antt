@@ -26,9 +26,8 @@ first_is_for [] None n e = absurd cc
 first_is_for (f ∷ fs) None n e = e
 
 later_is_for : (formals : List Name) (k : ℕ) (o : Option Ident) (n : Name) → IsFor (drop 1 formals) k o n → IsFor formals (suc k) o n
-later_is_for formals k (Some i) n e = e
 later_is_for [] k None n e = absurd cc
-later_is_for (f ∷ fs) k None n e = e
+later_is_for _ k _ n e = e
 
 -- the formal at a place is that of the association there
 pub is_for : (as' : List Association) (formals fs : List Name) (k : ℕ) (n : Name) (a : Association) → formals_of formals as' ≡ Some fs → slice_get fs k ≡ Some n

@@ -66,8 +66,7 @@ branches_kept sight n x (b ∷ bs) o y is h =
 pub body_kept : (sight : Sight) (at : ℕ) (n : t.Name) (x : SignalName) (bs : List t.Branch) (o : Option t.Value) (y : s.Statement) → target sight n ≡ Some x
     → are.assignment_body sight at x bs o ≡ Some y → BranchesKept sight n bs o
 body_kept sight at n x [] (Some v) y is h = record { branches = nothing_kept; last = value_kept sight n x v y is h }
-body_kept sight at n x [] None y is h = let m = mapped (s.if_of at) (are.branches sight x [] None) y h in branches_kept sight n x [] None m.value is m.from
-body_kept sight at n x (b ∷ bs) o y is h = let m = mapped (s.if_of at) (are.branches sight x (b ∷ bs) o) y h in branches_kept sight n x (b ∷ bs) o m.value is m.from
+body_kept sight at n x bs o y is h = let m = mapped (s.if_of at) (are.branches sight x bs o) y h in branches_kept sight n x bs o m.value is m.from
 
 pub assignment_kept : (sight : Sight) (a : t.Assignment) (y : u.Concurrent) → are.assignment sight a ≡ Some y → IsKept (broken.assignment sight a)
 unfolding are.assignment

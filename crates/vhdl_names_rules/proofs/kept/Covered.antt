@@ -39,8 +39,6 @@ names_sym as' bs =
 
 pub choice_sym : (c d : Choice) → same_choice c d ≡ same_choice d c
 choice_sym (values vs) (values ws) = names_sym (map code_of vs) (map code_of ws)
-choice_sym (values vs) (position q) = refl
-choice_sym (position p) (values ws) = refl
 choice_sym (position p) (position q) = number_sym p q (p == q) refl (q == p) refl
   where
     number_sym : (p q : ℕ) (a : Bool) → (p == q) ≡ a → (b : Bool) → (q == p) ≡ b → (p == q) ≡ (q == p)
@@ -48,6 +46,7 @@ choice_sym (position p) (position q) = number_sym p q (p == q) refl (q == p) ref
     number_sym p q false e false f = e ∙ sym f
     number_sym p q true e false f = absurd (eqb-false q p f (sym (eqb-true p q e)))
     number_sym p q false e true f = absurd (eqb-false p q e (sym (eqb-true q p f)))
+choice_sym _ _ = refl
 
 none_at : {A : Type 0} (f : A → Bool) (xs : List A) (x : A) (rest : List A) → list_any f (xs ++ x ∷ rest) ≡ false → f x ≡ false
 none_at f [] x rest e = (neither (f x) (list_any f rest) e).0

@@ -50,8 +50,7 @@ no_value_kept d plain a h = go (is_no_value d) h
     go : (b : Bool) → IsKept (broken.attribute a) → IsKept (cond b (broken.attribute a) nothing)
     go true h = h
     go false h = nothing_kept
-no_value_kept d (arguments b xs) a h = nothing_kept
-no_value_kept d (range r) a h = nothing_kept
+no_value_kept d _ a h = nothing_kept
 
 pub with_suffix_kept : (at : ℕ) (a : Option Ident) (d : Meaning) (s : Suffix) (x y : Typed) → denoted at d s ≡ Some x → attributed a x ≡ Some y
     → IsKept (broken.with_suffix at a d s)

@@ -103,8 +103,6 @@ port_actual_kept sight f e x h =
 -- the actual of each formal is given
 actual_given : (sight : Sight) (fs : List Formal) (es : List (Option Expr)) (ps : List (Option SignalPart)) (j : ℕ) (f : Formal) (e : Option Expr)
     → port_actuals sight fs es ≡ Some ps → slice_get fs j ≡ Some f → slice_get es j ≡ Some e → IsKept (of_any (broken.port_actual sight f) e)
-actual_given sight [] es ps j f e h p q = absurd cc
-actual_given sight (g ∷ fs) [] ps j f e h p q = absurd cc
 actual_given sight (g ∷ fs) (d ∷ es) ps zero f e h p q =
     let c = comes (if_any (are.port_actual sight g) d) _ ps h in
     let is : if_any (are.port_actual sight f) e ≡ Some c.value =
@@ -114,6 +112,7 @@ actual_given sight (g ∷ fs) (d ∷ es) ps (suc j) f e h p q =
     let c = comes (if_any (are.port_actual sight g) d) _ ps h in
     let d = comes (port_actuals sight fs es) _ ps c.rest in
     actual_given sight fs es d.value j f e d.is p q
+actual_given sight _ _ ps _ f e h p q = absurd cc
 
 -- a port of a name is a formal of the name
 pub port_at : (n : Name) (fs : List Formal) (i : ℕ) (f : Formal) → slice_get (ports_named fs n) i ≡ Some f → (j : ℕ) × (slice_get fs j ≡ Some f) × (f.name ≡ n)

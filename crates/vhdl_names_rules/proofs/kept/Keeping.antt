@@ -1,5 +1,5 @@
 -- What keeps the rules of its parts breaks no rule.
-use Rattle.std.proofs.Common.{◌≡◌, ℕ, zero, suc, Bool, true, false, cond, List, [], ◌∷◌, map, take, Option, Some, None, refl}
+use Rattle.std.proofs.Common.{◌≡◌, ℕ, zero, suc, Bool, true, false, cond, List, [], ◌∷◌, Option, Some, None, refl}
 use Rattle.std.specs.Prelude.{option_map, nat_le}
 use Rattle.std.specs.List.{slice_get}
 use Rattle.vhdl_names_rules.specs.declared.fault.NameProblem.{NameProblem}
@@ -39,16 +39,6 @@ each_kept f g one (x ∷ xs) ys h =
     let d = comes (each g xs) _ ys c.rest in
     both_kept (f x) (any_of f xs) (one x c.value c.is) (each_kept f g one xs d.value d.is)
 
--- of the first ones of the views
-pub each_view_kept : {X A B : Type 0} (f : A → Broken) (g : A → Option B) → ((x : A) (y : B) → g x ≡ Some y → IsKept (f x))
-    → (view : X → A) (xs : List X) (k : ℕ) (ys : List B) → each (λ x. g (view x)) (take k xs) ≡ Some ys → IsKept (any_of f (map view (take k xs)))
-each_view_kept f g one view xs zero ys h = nothing_kept
-each_view_kept f g one view [] (suc k) ys h = nothing_kept
-each_view_kept f g one view (x ∷ xs) (suc k) ys h =
-    let c = comes (g (view x)) _ ys h in
-    let d = comes (each (λ x. g (view x)) (take k xs)) _ ys c.rest in
-    both_kept (f (view x)) (any_of f (map view (take k xs))) (one (view x) c.value c.is) (each_view_kept f g one view xs k d.value d.is)
-
 -- each of several things breaks no rule, wherever it stands
 pub at_each_kept : {A : Type 0} (f : A → Broken) (xs : List A) → ((k : ℕ) (x : A) → slice_get xs k ≡ Some x → IsKept (f x)) → IsKept (any_of f xs)
 at_each_kept f [] h = nothing_kept
@@ -77,13 +67,6 @@ unfolding earlier
 among_right None b h = h
 among_right (Some x) None h = absurd cc
 among_right (Some x) (Some y) h = absurd (one_of (nat_le x.1 y.1) x y h)
-
--- where one of them breaks nothing the other is the whole
-pub among_first : (a b : Broken) → IsKept b → earlier a b ≡ a
-unfolding earlier
-among_first None b h = h
-among_first (Some x) None h = refl
-among_first (Some x) (Some y) h = absurd cc
 
 pub among_second : (a b : Broken) → IsKept a → earlier a b ≡ b
 unfolding earlier

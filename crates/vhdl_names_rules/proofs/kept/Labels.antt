@@ -20,8 +20,7 @@ concurrent_named : (c : t.Concurrent) → names_of (label_of c) ≡ concurrent_l
 concurrent_named (t.assignment a) = label_named a.label
 concurrent_named (t.selected label a) = label_named label
 concurrent_named (t.process label p) = label_named label
-concurrent_named (t.instance label i) = refl
-concurrent_named (t.generated label at scheme word cs end) = refl
+concurrent_named _ = refl
 
 pub labels_named : (cs : t.Concurrents) → names_of (labels_of cs) ≡ concurrent_labels cs
 labels_named t.no_concurrents = refl
@@ -29,13 +28,11 @@ labels_named (t.concurrent c cs) = both_named (label_of c) (labels_of cs) (concu
 
 mutual
   inner_named : (s : t.Statement) → names_of (inner_labels s) ≡ are.inner_labels s
-  inner_named (t.null_of at) = refl
-  inner_named (t.assigned n v) = refl
-  inner_named (t.variable_assigned n v) = refl
   inner_named (t.if_of at bs o end) =
       both_named (conditional_labels bs) (otherwise_labels o) (are.conditional_labels bs) (are.otherwise_labels o) (conditionals_named bs) (otherwise_named o)
   inner_named (t.case_of at e alts end) = alternatives_named alts
   inner_named (t.for_of at n r body end) = statements_named body
+  inner_named _ = refl
 
   pub statements_named : (xs : t.Statements) → names_of (statement_labels xs) ≡ are.statement_labels xs
   statements_named t.done = refl

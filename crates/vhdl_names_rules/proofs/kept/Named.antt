@@ -1,21 +1,17 @@
 -- The names that declarations declare are those that stand in them.
 use Rattle.std.proofs.Common.{◌≡◌, ℕ, suc, ◌&&◌, List, [], ◌∷◌, ◌++◌, length, Option, Some, None, refl, ap, sym, ◌∙◌}
 use Rattle.std.specs.Prelude.{nat_le, is_none}
-use Rattle.std.specs.List.{flat_map}
 use Rattle.vhdl_tree.specs.Tree as t
 use Rattle.vhdl_names_rules.specs.declared.operator.IntegerType.{IntegerType}
 use Rattle.vhdl_names_rules.specs.units.Units as u
 use Rattle.vhdl_names_rules.specs.Rules.{◌>>=◌, if_any}
-use Rattle.vhdl_names_rules.specs.Visibility.{ends, Name, Meaning, Declared, names_of, numbered, Sight, meaning, Declares, followed_by}
+use Rattle.vhdl_names_rules.specs.Visibility.{ends, Name, Meaning, names_of, numbered, Sight, meaning, Declares}
 use Rattle.vhdl_names_rules.specs.Subtypes.{subtype, as_integer_type, fixed_value}
 use Rattle.vhdl_names_rules.specs.Expressions.{static}
-use Rattle.vhdl_names_rules.specs.Declarations.{in_order, within, within_variables, as_kind, single_expression, literals, generic, port, signals, variables, constants, constants_by, enumeration}
+use Rattle.vhdl_names_rules.specs.Declarations.{within, within_variables, as_kind, single_expression, literals, generic, port, signals, variables, constants, constants_by, enumeration}
 use Rattle.vhdl_names_rules.specs.Interfaces.{EntityView, declared_names, interface, entity_named, component}
 use Rattle.vhdl_names_rules.specs.SameText.{same_generics, same_ports}
-use Rattle.vhdl_names_rules.specs.Files.{declaration}
-use Rattle.vhdl_names_rules.specs.laws.Regions.{names_in}
 use Rattle.vhdl_names_rules.proofs.laws.Rules.{comes, kept, some_is}
-use Rattle.vhdl_names_rules.proofs.kept.Twice.{names_append}
 
 pub names_numbered : (f : ℕ → Meaning) (k : ℕ) (ns : List Name) → declared_names (numbered f k ns) ≡ ns
 names_numbered f k [] = refl
@@ -31,18 +27,6 @@ HasNames x ns = declared_names x.declared ≡ ns
 
 of_same : {B : Type 0} (x y : Declares B) (ns : List Name) → Some x ≡ Some y → HasNames x ns → HasNames y ns
 of_same {B} x y ns e h = ap (λ (x : Declares B). declared_names x.declared) (sym (some_is x y e)) ∙ h
-
-pub names_in_order : {A B : Type 0} (with_more : Sight → List Declared → Sight) (declares : Sight → A → Option (Declares B)) (text : A → List Name)
-    → ((sight : Sight) (a : A) (x : Declares B) → declares sight a ≡ Some x → HasNames x (text a))
-    → (as' : List A) (sight : Sight) (x : Declares B) → in_order with_more declares sight as' ≡ Some x → HasNames x (flat_map text as')
-names_in_order with_more declares text one [] sight x e = of_same _ x [] e refl
-names_in_order with_more declares text one (a ∷ as') sight x e =
-    let c = comes (declares sight a) (λ x. in_order with_more declares (with_more sight x.declared) as' >>= λ xs. Some (followed_by x xs)) x e in
-    let d = comes (in_order with_more declares (with_more sight c.value.declared) as') (λ xs. Some (followed_by c.value xs)) x c.rest in
-    of_same (followed_by c.value d.value) x (text a ++ flat_map text as') d.rest
-    (names_append c.value.declared d.value.declared
-    ∙ ap (λ ns. ns ++ declared_names d.value.declared) (one sight a c.value c.is)
-    ∙ ap (λ ns. text a ++ ns) (names_in_order with_more declares text one as' (with_more sight c.value.declared) d.value d.is))
 
 pub of_generic : (sight : Sight) (g : t.Generic) (x : Declares u.Generic) → generic sight g ≡ Some x → HasNames x (names_of g.names)
 unfolding generic
@@ -109,10 +93,3 @@ of_component entities sight c x e =
     let i = comes (interface (record sight { region = []; enclosing = sight.region ++ sight.enclosing }) c.generics c.ports) _ x b.1 in
     let h = kept (ends c.name.text c.end_name) _ x i.rest in
     of_same _ x (c.name.text ∷ []) h.1 refl
-
-pub of_declaration : (entities : List EntityView) (sight : Sight) (d : t.Declaration) (x : Declares u.Declaration)
-    → declaration entities sight d ≡ Some x → HasNames x (names_in d)
-of_declaration entities sight (t.signals d) x e = of_signals sight d x e
-of_declaration entities sight (t.constants d) x e = of_constants sight d x e
-of_declaration entities sight (t.enumeration d) x e = of_enumeration sight d x e
-of_declaration entities sight (t.component c) x e = of_component entities sight c x e

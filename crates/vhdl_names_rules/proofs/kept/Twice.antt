@@ -56,11 +56,6 @@ distinct_front (n ∷ ns) ms e =
     let b = both (not (is_among n (ns ++ ms))) (are_distinct (ns ++ ms)) e in
     and_from (not (is_among n ns)) (are_distinct ns) (ap not (among_front n ns ms (not_true (is_among n (ns ++ ms)) b.0))) (distinct_front ns ms b.1)
 
--- and the last ones
-pub distinct_back : (ns ms : List Name) → are_distinct (ns ++ ms) ≡ true → are_distinct ms ≡ true
-distinct_back [] ms e = e
-distinct_back (n ∷ ns) ms e = distinct_back ns ms (both (not (is_among n (ns ++ ms))) (are_distinct (ns ++ ms)) e).1
-
 -- distinct names, and one that is none of them
 pub distinct_next : (ns : List Name) (n : Name) → are_distinct ns ≡ true → is_among n ns ≡ false → are_distinct (ns ++ n ∷ []) ≡ true
 distinct_next [] n e h = refl

@@ -38,10 +38,9 @@ use Rattle.vhdl_names_rules.proofs.kept.Expressions.{meaning_kept, typed_suffix_
 
 -- a range is given where one stands
 pub range_given : {A B : Type 0} (f : A → Option B) (o : Option A) (p : Option B) → if_any f o ≡ Some p → is_some p ≡ is_some o
-range_given f None None h = refl
 range_given f None (Some y) h = absurd cc
 range_given f (Some x) None h = let c = comes (f x) _ None h in let e : Some (Some c.value) ≡ Some None = c.rest in absurd cc
-range_given f (Some x) (Some y) h = refl
+range_given f _ _ h = refl
 
 pub is_marked_by : (d : Meaning) (o : Option t.Range) (range : Option Range) (x : Subtype) → is_some range ≡ is_some o → marked d range ≡ Some x → is_marked d o ≡ true
 is_marked_by (visibility.element_type r) None range x s h = refl
@@ -92,9 +91,7 @@ literal_value_kept (Enumeration e count) d x h = absurd cc
 -- a name is no literal
 pub no_literal : (k : ElementKind) (n : Ident) (s : t.Suffix) (a : Option Ident) (vs : List Nine) → literal_values k (t.named n s a) ≡ Some vs → ⊥
 no_literal Element n s a vs h = cc
-no_literal LogicVector n s a vs h = cc
-no_literal Unsigned n s a vs h = cc
-no_literal OpenVector n s a vs h = cc
+no_literal _ n s a vs h = cc
 
 no_literal_value : (type : ObjectType) (n : Ident) (s : t.Suffix) (a : Option Ident) (x : Fixed) → literal_value type (t.named n s a) ≡ Some x → ⊥
 no_literal_value (Elements k) n s a x h =

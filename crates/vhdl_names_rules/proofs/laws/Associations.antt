@@ -27,9 +27,8 @@ first_is_for [] None n e = cc
 first_is_for (f ∷ fs) None n e = e
 
 later_is_for : (formals : List Name) (k : ℕ) (o : Option Ident) (n : Name) → IsFor (drop 1 formals) k o n → IsFor formals (suc k) o n
-later_is_for formals k (Some i) n e = e
 later_is_for [] k None n e = cc
-later_is_for (f ∷ fs) k None n e = e
+later_is_for _ k _ n e = e
 
 -- the name at a place of formals_of is the formal's
 record HasFormal (formals fs : List Name) (k : ℕ) (a : Association) : Type 0 where
@@ -60,8 +59,6 @@ has_formal formals (b ∷ as') fs k a e p =
 
 actual_is : (n : Name) (fs : List Name) (as' : List Association) (k : ℕ) (a : Association)
     → are_distinct fs ≡ true → slice_get fs k ≡ Some n → slice_get as' k ≡ Some a → actual_of n fs as' ≡ expression_of a.actual
-actual_is n [] as' k a e p q = cc
-actual_is n (f ∷ fs) [] k a e p q = cc
 actual_is n (f ∷ fs) (b ∷ as') zero a e p q =
     let h : f ≡ n = cc in
     let g : b ≡ a = cc in
@@ -73,16 +70,16 @@ actual_is n (f ∷ fs) (b ∷ as') (suc k) a e p q =
         → cond t (expression_of b.actual) (actual_of n fs as') ≡ expression_of a.actual
     go true h m = absurd (differs f n fs k e p (sym ((bytes_eq-Decides n f).0 h)))
     go false h m = m
+actual_is n _ _ _ a e p q = cc
 
 no_actual : (n : Name) (fs : List Name) (as' : List Association)
     → ((k : ℕ) (a : Association) → slice_get fs k ≡ Some n → slice_get as' k ≡ Some a → ⊥) → actual_of n fs as' ≡ None
-no_actual n [] as' none = refl
-no_actual n (f ∷ fs) [] none = refl
 no_actual n (f ∷ fs) (b ∷ as') none = go (bytes_eq n f) refl (no_actual n fs as' (λ k a p q. none (suc k) a p q))
   where
     go : (t : Bool) → bytes_eq n f ≡ t → actual_of n fs as' ≡ None → cond t (expression_of b.actual) (actual_of n fs as') ≡ None
     go true h m = absurd (none 0 b (ap Some (sym ((bytes_eq-Decides n f).0 h))) refl)
     go false h m = m
+no_actual n _ _ none = refl
 
 -- ---- all of them
 

@@ -68,15 +68,14 @@ alone sight type (t.otherwise b ∷ c ∷ cs) ds place at e p = absurd (no_choic
 
 is_last : (alternatives : List (List t.Choice)) (k at : ℕ) → only_last_others alternatives ≡ true
     → slice_get alternatives k ≡ Some (t.otherwise at ∷ []) → suc k ≡ length alternatives
-is_last [] k at e p = cc
 is_last (cs ∷ []) zero at e p = refl
-is_last (cs ∷ []) (suc k) at e p = cc
 is_last (cs ∷ ds ∷ rest) zero at e p =
     let h : cs ≡ t.otherwise at ∷ [] = cc in
     let o : is_others cs ≡ true = ap is_others h in
     let n = not_true (is_others cs) (both (not (is_others cs)) (only_last_others (ds ∷ rest)) e).0 in
     cc
 is_last (cs ∷ ds ∷ rest) (suc k) at e p = ap suc (is_last (ds ∷ rest) k at (both (not (is_others cs)) (only_last_others (ds ∷ rest)) e).1 p)
+is_last _ _ at e p = cc
 
 pub others_is_last : OthersIsLast
 others_is_last sight type alternatives css e k place at cs p q =

@@ -146,12 +146,11 @@ each_length f (x ∷ xs) ys e =
 ports_length : (sight : Sight) (fs : List Formal) (es : List (Option Expr)) (ps : List (Option SignalPart)) → length fs ≡ length es
     → port_actuals sight fs es ≡ Some ps → length ps ≡ length fs
 ports_length sight [] [] ps l e = ap length (sym (some_is _ ps e))
-ports_length sight [] (x ∷ es) ps l e = absurd (omega arith)
-ports_length sight (f ∷ fs) [] ps l e = absurd (omega arith)
 ports_length sight (f ∷ fs) (x ∷ es) ps l e =
     let c = comes (if_any (port_actual sight f) x) (λ p. port_actuals sight fs es >>= λ ps. Some (p ∷ ps)) ps e in
     let d = comes (port_actuals sight fs es) (λ ps. Some (c.value ∷ ps)) ps c.rest in
     ap length (sym (some_is _ ps d.rest)) ∙ ap suc (ports_length sight fs es d.value (omega arith) d.is)
+ports_length sight _ _ ps l e = absurd (omega arith)
 
 each_gives : {A B : Type 0} (f : A → Option B) (P : B → Type 0) → ((x : A) (y : B) → f x ≡ Some y → P y)
     → (xs : List A) (ys : List B) (k : ℕ) (y : B) → each f xs ≡ Some ys → slice_get ys k ≡ Some y → P y

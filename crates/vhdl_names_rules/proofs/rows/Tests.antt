@@ -64,53 +64,18 @@ chain_other op x y n end_of-TestLink = refl
 chain_other op x y n (more_of-TestLink operator operand rest) = chain_other operator (u.Test.both op x y) (test_view operand) _ rest
 
 pub not_fixed : (test : Test) → ((x : StaticTest) → test ≡ t.Fixed x → ⊥) → is_fixed (test_view test) ≡ false
-not_fixed (t.Holds x) other = refl
 not_fixed (t.Fixed x) other = absurd (other x refl)
-not_fixed (t.Alike at x y) other = refl
-not_fixed (t.Unlike at x y) other = refl
-not_fixed (t.Compared op at x y) other = refl
-not_fixed (t.ComparedTo op at x s) other = refl
-not_fixed (t.ComparedWith op at s x) other = refl
-not_fixed (t.Edge e p) other = refl
-not_fixed (t.Event p) other = refl
-not_fixed (t.Not' b x) other = refl
 not_fixed (t.Chain' b first operator operand shape rest) other = chain_other operator (test_view first) (test_view operand) _ rest
+not_fixed _ other = refl
 
 pub negated_other : (x : u.Test) → is_fixed x ≡ false → table.negated x ≡ u.Test.negated x
-negated_other (u.holds x) h = refl
 negated_other (u.Test.fixed x) h = absurd (true≢false h)
-negated_other (u.alike at x y) h = refl
-negated_other (u.unlike at x y) h = refl
-negated_other (u.Test.compared at op x y) h = refl
-negated_other (u.compared_to at op x y) h = refl
-negated_other (u.compared_with at op x y) h = refl
-negated_other (u.edge e p) h = refl
-negated_other (u.event p) h = refl
-negated_other (u.Test.negated x) h = refl
-negated_other (u.Test.both op x y) h = refl
+negated_other _ h = refl
 
 pub both_left : (op : Logic) (x y : u.Test) → is_fixed x ≡ false → table.both op x y ≡ u.Test.both op x y
-both_left op (u.holds a) y h = refl
 both_left op (u.Test.fixed a) y h = absurd (true≢false h)
-both_left op (u.alike at a b) y h = refl
-both_left op (u.unlike at a b) y h = refl
-both_left op (u.Test.compared at o a b) y h = refl
-both_left op (u.compared_to at o a b) y h = refl
-both_left op (u.compared_with at o a b) y h = refl
-both_left op (u.edge a b) y h = refl
-both_left op (u.event a) y h = refl
-both_left op (u.Test.negated a) y h = refl
-both_left op (u.Test.both o a b) y h = refl
+both_left op _ y h = refl
 
 pub both_right : (op : Logic) (x : u.StaticTest) (y : u.Test) → is_fixed y ≡ false → table.both op (u.Test.fixed x) y ≡ u.Test.both op (u.Test.fixed x) y
-both_right op x (u.holds a) h = refl
 both_right op x (u.Test.fixed a) h = absurd (true≢false h)
-both_right op x (u.alike at a b) h = refl
-both_right op x (u.unlike at a b) h = refl
-both_right op x (u.Test.compared at o a b) h = refl
-both_right op x (u.compared_to at o a b) h = refl
-both_right op x (u.compared_with at o a b) h = refl
-both_right op x (u.edge a b) h = refl
-both_right op x (u.event a) h = refl
-both_right op x (u.Test.negated a) h = refl
-both_right op x (u.Test.both o a b) h = refl
+both_right op x _ h = refl
