@@ -1,6 +1,0 @@
-use Rattle.std.proofs.Common.{◌≡◌, [], length}
-use Rattle.vhdl_connect_bodies.specs.Held.{Holds}
-use Rattle.vhdl_connect_bodies.proofs.sources.nothing.Given as goal
-
-abbrev pub invariant-loop : goal.invariant-loop
-invariant-loop l = (length l.table.items ≡ l.counter) × Holds (λ n. []) l.table.items

@@ -1,6 +1,0 @@
-use Rattle.std.proofs.Common.{ℕ, List, ◌++◌, take}
-use Rattle.vhdl_connect_bodies.specs.Uses.{AreUses}
-use Rattle.vhdl_connect_bodies.proofs.uses.mark_driven.Given as goal
-
-abbrev pub invariant-loop-element : goal.invariant-loop-element
-invariant-loop-element l = (driven read : List ℕ) → AreUses driven read l.initial.uses → AreUses (driven ++ take l.element-index l.elements) read l.uses
