@@ -13,9 +13,9 @@ use Rattle.vhdl_names_rules.specs.Files.{declaration, labelled, architecture}
 use Rattle.vhdl_names_units.proofs.Lists.{bound, inner}
 use Rattle.vhdl_names_declarations.specs.Entered.{entered, entering, more}
 use Rattle.vhdl_names_declarations.proofs.Regions.{more_split}
-use Rattle.vhdl_names_components.specs.Views.{sight_behind, named_view}
-use Rattle.vhdl_names_components.specs.declared.interface.EntityInterface.{EntityInterface}
-use Rattle.vhdl_names_components.specs.Views as i
+use Rattle.vhdl_names_interfaces.specs.Views.{sight_behind, named_view}
+use Rattle.vhdl_names_interfaces.specs.declared.interface.EntityInterface.{EntityInterface}
+use Rattle.vhdl_names_interfaces.specs.Views as i
 use Rattle.vhdl_names.specs.steps.Architectures as steps
 use Rattle.vhdl_names.specs.steps.Architectures.{with_region}
 

@@ -13,9 +13,9 @@ use Rattle.vhdl_names_rules.specs.Files.{architecture}
 use Rattle.vhdl_names_rules.specs.problems.Broken.{Broken, nothing, ◌▸◌}
 use Rattle.vhdl_names_rules.specs.problems.Declarations.{context}
 use Rattle.vhdl_names_rules.specs.problems.Files as broken
-use Rattle.vhdl_names_components.specs.declared.interface.EntityInterface.{EntityInterface}
-use Rattle.vhdl_names_components.specs.Views.{entity_view, named_view}
-use Rattle.vhdl_names_components.proofs.Named.{entry_view, joined, found, found_pair}
+use Rattle.vhdl_names_interfaces.specs.declared.interface.EntityInterface.{EntityInterface}
+use Rattle.vhdl_names_interfaces.specs.Views.{entity_view, named_view}
+use Rattle.vhdl_names_interfaces.proofs.Named.{entry_view, joined, found, found_pair}
 use Rattle.vhdl_names.specs.steps.Architectures.{with_described}
 
 -- ---- the entity of a name

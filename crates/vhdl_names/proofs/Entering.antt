@@ -17,7 +17,7 @@ use Rattle.vhdl_names_rules.specs.problems.Interfaces.{entity}
 use Rattle.vhdl_names_rules.specs.problems.Files.{with_entities}
 use Rattle.vhdl_names_rules.proofs.Telling.{behind_kept, told_same, at_is_told}
 use Rattle.vhdl_names_rules.proofs.kept.Interfaces.{entity_kept}
-use Rattle.vhdl_names_components.specs.Views.{one_more}
+use Rattle.vhdl_names_interfaces.specs.Views.{one_more}
 use Rattle.vhdl_names.specs.Finding.{Finds, HasMemory, first_of}
 use Rattle.vhdl_names.specs.Views.{Keyed}
 use Rattle.vhdl_names.specs.steps.Entities.{viewed_by, with_unit}

@@ -43,16 +43,6 @@ only_memory b y NoMemory h = tt
 
 -- ---- what is given
 
-pub gives_along : {X Y : Type 0} (view : X → Y) (given given' : Option Y) (r : Result X NameFault) → given ≡ given' → Gives view given' r → Gives view given r
-gives_along view given given' (Ok x) e h = e ∙ h
-gives_along view given given' (Err f) e h = λ n. e ∙ h n
-
--- a fault that is passed on
-pub passed_on : {X Y : Type 0} (view : X → Y) (given : Option Y) (fault : NameFault) (P : NameFault → Type 0) (r : Result X NameFault) → IsErrAnd r P →
-    ((e : NameFault) → P e → e ≡ fault) → (fault ≢ NoMemory → given ≡ None) → Gives view given r
-passed_on view given fault P (Ok x) h same f = absurd h
-passed_on view given fault P (Err e) h same f = λ n. f (λ q. n (same e h ∙ q))
-
 -- and told
 pub passed_told : {X : Type 0} (b : Broken) (fault : NameFault) (P : NameFault → Type 0) (r : Result X NameFault) → IsErrAnd r P →
     ((e : NameFault) → P e → e ≡ fault) → Tells b fault → Finds b r

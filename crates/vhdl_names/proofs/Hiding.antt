@@ -6,7 +6,7 @@ use Rattle.vhdl_tree.specs.Tree.{Ident}
 use Rattle.vhdl_names_rules.specs.declared.fault.NameFault.{NameFault}
 use Rattle.vhdl_names_rules.specs.declared.fault.NameFault.TheVariants.{At, NoMemory}
 use Rattle.vhdl_names_rules.specs.declared.fault.NameProblem.{NameProblem}
-use Rattle.vhdl_names_rules.specs.declared.fault.NameProblem.TheVariants.{Undeclared, Twice, WrongKind, TypeMismatch, NotVisible, WriteOfIn, NoOthers, ChoiceTwice, SecondArchitecture, NoSensitivity, LeftOut}
+use Rattle.vhdl_names_rules.specs.declared.fault.NameProblem.TheVariants.{Twice}
 use Rattle.vhdl_names_rules.specs.Visibility.{Name}
 use Rattle.vhdl_names_rules.specs.problems.Broken.{Broken, Tells, nothing, refused}
 use Rattle.vhdl_names_rules.specs.problems.Files.{up_to_hidden, mentions}
@@ -18,17 +18,8 @@ module _ (g : Given) (a : t.Architecture) where
   told = up_to_hidden (is_hidden g) a
 
   of_fault : (p : NameProblem) (at : ℕ) → told (Some (p, at)) ≡ (if is_undeclared p && one_is_hidden g at (mentions a) then nothing else refused p at)
-  of_fault Undeclared at = refl
   of_fault Twice at = refl
-  of_fault WrongKind at = refl
-  of_fault TypeMismatch at = refl
-  of_fault NotVisible at = refl
-  of_fault WriteOfIn at = refl
-  of_fault NoOthers at = refl
-  of_fault ChoiceTwice at = refl
-  of_fault SecondArchitecture at = refl
-  of_fault NoSensitivity at = refl
-  of_fault LeftOut at = refl
+  of_fault x at = refl
 
   pub hidden_there : (b : Broken) (f : NameFault) → is_of_hidden g a f ≡ true → Tells b f → told b ≡ nothing
   hidden_there b (At p at) h w = ap told w ∙ of_fault p at ∙ ap (λ c. if c then nothing else refused p at) h

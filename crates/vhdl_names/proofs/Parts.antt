@@ -18,7 +18,7 @@ use Rattle.vhdl_names_rules.proofs.Telling.{behind_kept, told_left, told_same}
 use Rattle.vhdl_names_rules.proofs.kept.Declarations.{context_kept}
 use Rattle.vhdl_names_rules.proofs.kept.Architectures.{declarations_kept}
 use Rattle.vhdl_names_declarations.specs.Entered.{entered, entering}
-use Rattle.vhdl_names_components.specs.Views.{sight_behind}
+use Rattle.vhdl_names_interfaces.specs.Views.{sight_behind}
 
 module _ (es : List EntityView) (e : EntityView) (items : List ContextItem) (a : t.Architecture) where
   abbrev statements : t.Concurrents

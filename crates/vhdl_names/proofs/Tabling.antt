@@ -11,8 +11,8 @@ use Rattle.vhdl_names_units.specs.Lists.{in_turn}
 use Rattle.vhdl_names_units.specs.Once.{one_name}
 use Rattle.vhdl_names_units.proofs.Once.{once}
 use Rattle.vhdl_names_instances.specs.Table.{seen}
-use Rattle.vhdl_names_components.specs.declared.interface.EntityInterface.{EntityInterface}
-use Rattle.vhdl_names_components.specs.Views.{named_view}
+use Rattle.vhdl_names_interfaces.specs.declared.interface.EntityInterface.{EntityInterface}
+use Rattle.vhdl_names_interfaces.specs.Views.{named_view}
 use Rattle.vhdl_names.specs.steps.Tables.{TableView, with_seen, no_table, table_of}
 
 abbrev pub names_in : List EntityView → List Name

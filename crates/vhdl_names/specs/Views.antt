@@ -12,7 +12,7 @@ use Rattle.vhdl_names_rules.specs.declared.fault.NameProblem.{NameProblem}
 use Rattle.vhdl_names_rules.specs.declared.fault.NameProblem.TheVariants.{Undeclared, Twice, WrongKind, TypeMismatch, NotVisible, WriteOfIn, NoOthers, ChoiceTwice, SecondArchitecture, NoSensitivity, LeftOut}
 use Rattle.vhdl_names_rules.specs.Visibility.{Name}
 use Rattle.vhdl_names_units.specs.Once.{names_view}
-use Rattle.vhdl_names_components.specs.Views.{entities_view}
+use Rattle.vhdl_names_interfaces.specs.Views.{entities_view}
 use Rattle.vhdl_names_rules.specs.problems.Files as broken
 use Rattle.vhdl_names.specs.declared.outline.Described.{Described}
 use Rattle.vhdl_names.specs.declared.outline.Outline.{Outline}

@@ -6,7 +6,7 @@ ghost use Rattle.vhdl_names.specs.Views.{is_hidden};
 ghost use Rattle.vhdl_names.specs.steps.Architectures as steps;
 ghost use Rattle.vhdl_names.specs.steps.Architectures.{options_view};
 ghost use Rattle.vhdl_names_instances.specs.Table.{AreEntities};
-ghost use Rattle.vhdl_names_components.specs.Views.{entities_view};
+ghost use Rattle.vhdl_names_interfaces.specs.Views.{entities_view};
 ghost use Rattle.vhdl_names_units.specs.Lists.{in_turn};
 ghost use Rattle.vhdl_names_units.specs.Once.{names_view};
 ghost use Rattle.vhdl_names_rules.specs.problems.Broken.{Broken, any_of};

@@ -5,7 +5,7 @@ ghost use Rattle.vhdl_names.specs.Finding.{Finds, HasMemory};
 ghost use Rattle.vhdl_names.specs.Views.{architectures_view};
 ghost use Rattle.vhdl_names.specs.steps.Entities as steps;
 ghost use Rattle.vhdl_names.specs.steps.Outlines.{described_of};
-ghost use Rattle.vhdl_names_components.specs.Views.{entities_view};
+ghost use Rattle.vhdl_names_interfaces.specs.Views.{entities_view};
 ghost use Rattle.vhdl_names_rules.specs.problems.Broken.{Tells, any_of};
 ghost use Rattle.vhdl_names_rules.specs.problems.Files.{with_entities};
 ghost use Rattle.vhdl_names_rules.specs.problems.Interfaces as broken;
@@ -19,7 +19,7 @@ use crate::faults::first_of;
 use crate::outline::{Outline, architecture_of};
 use indexmap::IndexMap;
 use std::alloc::Global;
-use vhdl_names_components::{Entities, add_entity, entity};
+use vhdl_names_interfaces::{Entities, add_entity, entity};
 use vhdl_names_rules::NameFault;
 use vhdl_tree::{ContextItem, DesignUnit, Entity, File, Identifier, LibraryUnit};
 

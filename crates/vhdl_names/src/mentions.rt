@@ -3,7 +3,7 @@
 ghost use Rattle.std.specs.Prelude.{◌≡◌, ◌&&◌, nat_eq, map, flat_map};
 ghost use Rattle.vhdl_names.specs.Views as views;
 ghost use Rattle.vhdl_names.specs.Views.{one_is_hidden};
-ghost use Rattle.vhdl_names_components.specs.Views.{entities_view};
+ghost use Rattle.vhdl_names_interfaces.specs.Views.{entities_view};
 ghost use Rattle.vhdl_names_rules.specs.problems.Files as broken;
 ghost use Rattle.vhdl_names_rules.specs.Interfaces.{EntityView};
 ghost use Rattle.vhdl_names_rules.specs.Visibility.{is_among};
@@ -12,7 +12,7 @@ ghost use Rattle.vhdl_tree.specs.View as view;
 
 use crate::outline::has_name;
 use crate::tables::Given;
-use vhdl_names_components::Entities;
+use vhdl_names_interfaces::Entities;
 use vhdl_names_rules::{NameFault, NameProblem};
 use vhdl_tree::{
     Architecture, Concurrent, Declaration, Generate, Identifier, Instance, Instantiated,

@@ -4,13 +4,13 @@ ghost use Rattle.std.specs.Prelude.{◌≡◌, Some};
 ghost use Rattle.vhdl_names.specs.steps.Tables as steps;
 ghost use Rattle.vhdl_names.specs.steps.Tables.{table_view};
 ghost use Rattle.vhdl_names_instances.specs.Table.{seen_view, seen};
-ghost use Rattle.vhdl_names_components.specs.Views.{entity_view, entities_view, named_view};
+ghost use Rattle.vhdl_names_interfaces.specs.Views.{entity_view, entities_view, named_view};
 ghost use Rattle.vhdl_names_rules.specs.Gives.{Gives};
 
 use indexmap::IndexSet;
 use std::alloc::Global;
-use vhdl_names_components::{Entities, EntityInterface};
 use vhdl_names_instances::{Formals, InstanceEntities, Names, add_name, formals_of};
+use vhdl_names_interfaces::{Entities, EntityInterface};
 use vhdl_names_rules::NameFault;
 use vhdl_names_sight::names_are_apart;
 

@@ -1,26 +1,32 @@
 -- What is told of a declaration, or of a name that stands twice, is told of the list of declarations that it stands in.
-use Rattle.std.proofs.Common.{◌≡◌, ◌≢◌, ℕ, suc, ◌+◌, ◌<◌, cond, Bool, true, false, List, [], ◌∷◌, ◌++◌, map, length, drop, get_or, Option, Some, None, Result, Ok, Err, IfErr, refl, sym, ap, subst, ◌∙◌, append_assoc, append-nil, arith}
+use Rattle.std.proofs.Common.{◌≡◌, ◌≢◌, ℕ, suc, ◌+◌, ◌<◌, cond, Bool, true, false, List, [], ◌∷◌, ◌++◌, map, length, drop, get_or, Option, Some, None, Result, IfErr, refl, sym, ap, subst, ◌∙◌, append_assoc, append-nil, arith}
 use Rattle.std.specs.Prelude.{IsErrAnd, option_map, is_none, is_some}
 use Rattle.std.proofs.Math.Seq.{drop-cons}
 use Rattle.vhdl_tree.specs.Tree as t
 use Rattle.vhdl_tree.specs.Tree.{Ident}
+use Rattle.vhdl_tree.specs.View.{ident_view}
+use Rattle.vhdl_tree.specs.declared.expression.Identifier.{Identifier}
 use Rattle.vhdl_names_rules.specs.declared.fault.NameFault.{NameFault}
 use Rattle.vhdl_names_rules.specs.declared.fault.NameFault.TheVariants.{At, NoMemory}
 use Rattle.vhdl_names_rules.specs.declared.fault.NameProblem.TheVariants.{Twice}
 use Rattle.vhdl_names_rules.specs.Rules.{◌>>=◌, met}
-use Rattle.vhdl_names_rules.specs.Visibility.{Name, Declared, Sight, Declares, names_of, is_among, are_distinct}
+use Rattle.vhdl_names_rules.specs.Visibility.{Name, Declared, Sight, Declares, names_of, is_among, are_distinct, all_declared, unfinished}
 use Rattle.vhdl_names_rules.specs.Interfaces.{declared_names}
 use Rattle.vhdl_names_rules.specs.Declarations.{single_expression}
 use Rattle.vhdl_names_rules.proofs.laws.Rules.{comes, kept}
-use Rattle.vhdl_names_rules.specs.problems.Broken.{Broken, Tells, refused, where_given}
+use Rattle.vhdl_names_rules.specs.Subtypes.{Subtype, subtype}
+use Rattle.vhdl_names_rules.specs.problems.Broken.{Broken, Tells, refused, where_given, ◌▸◌}
+use Rattle.vhdl_names_rules.specs.problems.Subtypes as subtypes_broken
+use Rattle.vhdl_names_rules.proofs.kept.Values.{subtype_kept}
+use Rattle.vhdl_names_sight.proofs.Passing.{told_first, told_second}
 use Rattle.vhdl_names_rules.specs.problems.Twice.{twice}
 use Rattle.vhdl_names_rules.specs.problems.Expressions.{static}
 use Rattle.vhdl_names_rules.specs.problems.Declarations.{in_order, standing_twice, integer_value}
 use Rattle.vhdl_names_rules.proofs.Telling.{IsKept, told_same, told_left, told_right, told_given, at_is_told}
 use Rattle.vhdl_names_rules.proofs.kept.Twice.{apart, twice_kept}
 use Rattle.vhdl_names_declarations.specs.Entered.{more}
-use Rattle.vhdl_names_declarations.proofs.Regions.{names-append}
-use Rattle.vhdl_names_declarations.proofs.Turns.{has_more, more_is}
+use Rattle.vhdl_names_declarations.proofs.Regions.{names-append, names-all}
+use Rattle.vhdl_names_declarations.proofs.Turns.{has_more, more_is, hidden}
 use Rattle.vhdl_names_declarations.proofs.Orders.{pair, first_is}
 
 -- a fault that can only be for want of memory
@@ -30,12 +36,6 @@ told_never b o x (At p at) is none = absurd (no_value x (sym is ∙ none (at_is_
     no_value : {A : Type 0} (x : A) → Some x ≡ None → ⊥
     no_value x e = cc
 told_never b o x NoMemory is none = tt
-
--- a fault that is passed on
-pub passed_on : {X : Type 0} (b : Broken) (fault : NameFault) (P : NameFault → Type 0) (r : Result X NameFault) → IsErrAnd r P →
-    ((e : NameFault) → P e → e ≡ fault) → Tells b fault → IfErr r (Tells b)
-passed_on b fault P (Ok x) h same told = tt
-passed_on b fault P (Err e) h same told = subst (Tells b) (sym (same e h)) told
 
 -- ---- names that stand twice
 
@@ -148,3 +148,30 @@ value_is s (t.single d) e h = ap (λ x. static s x) (by h)
     by : Some d ≡ Some e → e ≡ d
     by h = cc
 value_is s (t.others at d) e h = absurd cc
+
+-- what is broken behind a subtype indication that is given
+module _ {X : Type 0} (sight : Sight) (i : t.Subtype) (by : Subtype → Broken) (x : Subtype) (fault : NameFault) (P : NameFault → Type 0) (r : Result X NameFault) where
+  pub behind_subtype : IsErrAnd r P → ((e : NameFault) → P e → e ≡ fault) → subtype sight i ≡ Some x → Tells (by x) fault →
+      IfErr r (Tells (subtypes_broken.subtype sight i ▸ where_given (subtype sight i) by))
+  behind_subtype h same given told =
+      told_second (subtypes_broken.subtype sight i) (where_given (subtype sight i) by) fault P r h same (subtype_kept sight i x given)
+      (told_given by (subtype sight i) x fault given told)
+
+-- ---- names of one declaration, which the code lends
+
+module _ {X : Type 0} (ds : List Declared) (xs ys : List Identifier) (fault : NameFault) (P : NameFault → Type 0) (r : Result X NameFault) where
+  -- those that stand twice
+  pub twice_first : (b : Broken) → IsErrAnd r P → ((e : NameFault) → P e → e ≡ fault) → xs ≡ ys → Tells (standing_twice ds (map ident_view xs)) fault →
+      IfErr r (Tells (standing_twice ds (map ident_view ys) ▸ b))
+  twice_first b h same lent told = told_first (standing_twice ds (map ident_view ys)) b fault P r h same (subst (λ l. Tells (standing_twice ds (map ident_view l)) fault) lent told)
+
+  -- what is told where they are hidden
+  pub hidden_behind : (hid : List Declared) (b : List Declared → Broken) → IsErrAnd r P → ((e : NameFault) → P e → e ≡ fault) → xs ≡ ys →
+      more ds (all_declared unfinished (names_of (map ident_view xs))) ≡ Some hid → Tells (b hid) fault →
+      IfErr r (Tells (standing_twice ds (map ident_view ys) ▸ b (ds ++ all_declared unfinished (names_of (map ident_view ys)))))
+  hidden_behind hid b h same lent given told =
+      let is = map ident_view ys in
+      let es = all_declared unfinished (names_of is) in
+      let hides = hidden ds xs ys lent hid given in
+      told_second (standing_twice ds is) (b (ds ++ es)) fault P r h same (standing_once ds es is (names-all unfinished (names_of is)) hid hides)
+      (subst (λ r. Tells (b r) fault) (more_is ds es hid hides) told)

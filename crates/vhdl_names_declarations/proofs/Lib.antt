@@ -8,4 +8,3 @@ pub mod Clauses
 pub mod Orders
 pub mod Regions
 pub mod Turns
-pub mod Passing

@@ -1,9 +1,11 @@
 -- A declaration of several names: its names enter the region, and what they mean is known thereafter.
 use Rattle.std.proofs.Common.{◌≡◌, ℕ, ◌≤◌, Bool, true, false, List, ◌++◌, map, length, drop, Option, Some, None, Vec, Global, refl, sym, ap, ◌∙◌, arith}
 use Rattle.std.proofs.Math.Seq.{take-append_seam, drop-append_seam}
+use Rattle.vhdl_tree.specs.View.{ident_view}
+use Rattle.vhdl_tree.specs.declared.expression.Identifier.{Identifier}
 use Rattle.vhdl_names_rules.specs.Rules.{◌>>=◌, met}
 use Rattle.vhdl_names_rules.specs.Visibility as visibility
-use Rattle.vhdl_names_rules.specs.Visibility.{Name, Meaning, Declared, Sight, Declares, are_distinct, all_declared, numbered, count_of}
+use Rattle.vhdl_names_rules.specs.Visibility.{Name, Meaning, Declared, Sight, Declares, are_distinct, all_declared, numbered, count_of, names_of}
 use Rattle.vhdl_names_rules.specs.Interfaces.{declared_names}
 use Rattle.std.proofs.lemmas.List.{length-map, length-append}
 use Rattle.vhdl_names_sight.specs.declared.meaning.Meaning.{Meaning as CodeMeaning}
@@ -78,12 +80,26 @@ module _ (region : Sight → List Declared) (with_more : Sight → List Declared
         (ap are_distinct (same_names (f x) (k x) (region s) ns) ∙ has_more (region s) (all_declared visibility.unfinished ns) r h)
 
 -- a region once its last names have their meaning
-pub settled_region : (f : ℕ → Meaning) (k first : ℕ) (old hid new : List Declared) (ns : List Name) → first ≡ length old →
+settled_region : (f : ℕ → Meaning) (k first : ℕ) (old hid new : List Declared) (ns : List Name) → first ≡ length old →
     more old (all_declared visibility.unfinished ns) ≡ Some hid → new ≡ settled f k first hid → old ++ numbered f k ns ≡ new
 settled_region f k first old hid new ns size h e =
     sym (settled_hidden f k old ns)
     ∙ ap (λ n. settled f k n (old ++ all_declared visibility.unfinished ns)) (sym size)
     ∙ ap (settled f k first) (sym (more_is old (all_declared visibility.unfinished ns) hid h)) ∙ sym e
+
+-- names that the code lends are hidden
+pub hidden : (ds : List Declared) (xs ys : List Identifier) → xs ≡ ys → (r : List Declared) → more ds (all_declared visibility.unfinished (names_of (map ident_view xs))) ≡ Some r →
+    more ds (all_declared visibility.unfinished (names_of (map ident_view ys))) ≡ Some r
+hidden ds xs ys lent r h = ap (λ l. more ds (all_declared visibility.unfinished (names_of (map ident_view l)))) (sym lent) ∙ h
+
+-- a declaration of names, once they have their meaning
+pub settled_whole : {X B : Type 0} (region : Sight → List Declared) (with_region : Sight → List Declared → Sight) (s : Sight) (ns : List Name) (k : X → ℕ) (f : X → ℕ → Meaning) (a : X → List B)
+    (o : Option X) (x : X) (first : ℕ) (hid new : List Declared) (ys : List B) → first ≡ length (region s) → more (region s) (all_declared visibility.unfinished ns) ≡ Some hid → o ≡ Some x →
+    new ≡ settled (f x) (k x) first hid → a x ≡ ys → (declares_all ns k f a o >>= enters region (λ s ds. with_region s (region s ++ ds)) s) ≡ Some (pair (with_region s new) ys)
+settled_whole region with_region s ns k f a o x first hid new ys size hides given settles made =
+    known region (λ s ds. with_region s (region s ++ ds)) s ns k f a hid hides o x given
+    ∙ ap (λ r. Some (pair (with_region s r) (a x))) (settled_region (f x) (k x) first (region s) hid new ns size hides settles)
+    ∙ ap (λ l. Some (pair (with_region s new) l)) made
 
 -- a region that grows, and the number of what comes next
 pub grows_by : (es es' : List (Vec ℕ Global × CodeMeaning)) (ds : List Declared) → more (map entry_view es) ds ≡ Some (map entry_view es') → length es ≤ length es'

@@ -8,12 +8,13 @@ use Rattle.vhdl_names_rules.specs.views.Tests.{is_fixed}
 use Rattle.vhdl_names_rules.specs.Rules.{◌>>=◌, ◌>>◌, met, then_some}
 use Rattle.vhdl_names_rules.specs.Visibility.{Sight, Meaning, meaning}
 use Rattle.vhdl_names_rules.specs.Names.{Suffix}
-use Rattle.vhdl_names_rules.specs.Operators.{Typed, integer, elements, enumerated, truth}
+use Rattle.vhdl_names_rules.specs.Operators.{Typed, elements, truth}
 use Rattle.vhdl_names_rules.specs.declared.kind.ElementKind.{ElementKind}
-use Rattle.vhdl_names_rules.specs.declared.kind.ElementKind.TheVariants.{Element, LogicVector, Unsigned, OpenVector}
+use Rattle.vhdl_names_rules.specs.declared.kind.ElementKind.TheVariants.{Element}
 use Rattle.vhdl_names_rules.specs.declared.kind.ObjectType.TheVariants.{Elements}
 use Rattle.vhdl_names_rules.specs.units.Statements.{filled}
 use Rattle.vhdl_names_rules.specs.Expressions.{typed, typed_suffix, condition, value_given, as_test, as_static_test, as_value, as_filled, is_vector}
+use Rattle.vhdl_names_expressions.specs.Asked.{unattributed}
 use Rattle.vhdl_names_rules.specs.Statements.{signal, target, variable, as_signal, as_variable, is_input}
 
 pub condition_is : (sight : Sight) (e : t.Expr) → condition sight e ≡ (typed sight e >>= as_test)
@@ -29,37 +30,26 @@ unfolding value_given
 given_others sight type at e = refl
 
 pub not_static : (x : u.Test) → is_fixed x ≡ false → as_static_test (truth x) ≡ None
-not_static (u.holds a) h = refl
 not_static (u.Test.fixed a) h = absurd (true≢false h)
-not_static (u.alike at a b) h = refl
-not_static (u.unlike at a b) h = refl
-not_static (u.Test.compared at o a b) h = refl
-not_static (u.compared_to at o a b) h = refl
-not_static (u.compared_with at o a b) h = refl
-not_static (u.edge a b) h = refl
-not_static (u.event a) h = refl
-not_static (u.Test.negated a) h = refl
-not_static (u.Test.both o a b) h = refl
+not_static x h = refl
+
+abbrev pub both : Meaning → Suffix → Meaning × Suffix
+both d s = (d, s)
 
 -- the identifier first, and the attribute last
 turned : {A : Type 0} (b : Bool) (o : Option Suffix) (p : Option Meaning) (f : Meaning → Suffix → Option A) →
-    (met b >> (o >>= λ s. (p >>= λ d. f d s))) ≡ (p >>= λ d. (o >>= λ s. (met b >> f d s)))
+    (met b >> (o >>= λ s. (p >>= λ d. f d s))) ≡ ((p >>= λ d. (o >>= λ s. (met b >> Some (both d s)))) >>= λ m. f m.0 m.1)
 turned true None None f = refl
-turned true None (Some d) f = refl
 turned true (Some s) None f = refl
-turned true (Some s) (Some d) f = refl
 turned false None None f = refl
-turned false None (Some d) f = refl
 turned false (Some s) None f = refl
-turned false (Some s) (Some d) f = refl
+turned b o p f = refl
 
-pub signal_in_turn : (sight : Sight) (n : t.Name) →
-    signal sight n ≡ (meaning sight n.identifier.text >>= λ d. (typed_suffix sight n.suffix >>= λ s. (met (is_none n.attribute) >> as_signal n.identifier.at d s)))
+pub signal_in_turn : (sight : Sight) (n : t.Name) → signal sight n ≡ (unattributed sight n >>= λ m. as_signal n.identifier.at m.0 m.1)
 unfolding signal
 signal_in_turn sight n = turned (is_none n.attribute) (typed_suffix sight n.suffix) (meaning sight n.identifier.text) (as_signal n.identifier.at)
 
-pub variable_in_turn : (sight : Sight) (n : t.Name) →
-    variable sight n ≡ (meaning sight n.identifier.text >>= λ d. (typed_suffix sight n.suffix >>= λ s. (met (is_none n.attribute) >> as_variable n.identifier.at d s)))
+pub variable_in_turn : (sight : Sight) (n : t.Name) → variable sight n ≡ (unattributed sight n >>= λ m. as_variable n.identifier.at m.0 m.1)
 unfolding variable
 variable_in_turn sight n = turned (is_none n.attribute) (typed_suffix sight n.suffix) (meaning sight n.identifier.text) (as_variable n.identifier.at)
 
@@ -69,10 +59,5 @@ target_is sight n = refl
 
 -- what is no vector is not filled
 pub no_filled : (k : ElementKind) (x : Typed) → is_vector k ≡ false → as_filled (Elements k) x ≡ None
-no_filled k (integer s) h = refl
 no_filled k (elements Element v) h = ap (λ b. then_some b (filled v)) h
-no_filled k (elements LogicVector v) h = refl
-no_filled k (elements Unsigned v) h = refl
-no_filled k (elements OpenVector v) h = refl
-no_filled k (enumerated e n v) h = refl
-no_filled k (truth v) h = refl
+no_filled k x h = refl

@@ -79,6 +79,13 @@ pub wanted_told : {A B X : Type 0} (b : Broken) (o : Option A) (p : NameProblem)
 wanted_told b o p at place wanted see v r kept given same h k =
     asked_told b o (λ x. lacking p place (wanted x)) v r kept given (refused_told see p at place (wanted v) r same h k)
 
+-- what is wanted of an expression
+pub asked_of : {B X : Type 0} (sight : Sight) (e : t.Expr) (wanted : Typed → Option B) (see : X → B) (at : ℕ) (v : Typed) (r : Result X NameFault) →
+    are.typed sight e ≡ Some v → at ≡ start e → Gives see (wanted v) r → IfErr r (Tells (refused TypeMismatch at)) →
+    IfErr r (Tells (typed sight e ▸ where_given (are.typed sight e) (λ x. lacking TypeMismatch (start e) (wanted x))))
+asked_of sight e wanted see at v r given same h k =
+    wanted_told (typed sight e) (are.typed sight e) TypeMismatch at (start e) wanted see v r (typed_kept e sight v given) given same h k
+
 -- ---- chains
 
 operator_is : (sight : Sight) (x : t.Expr) (l : Link) (o q : Option Typed) →

@@ -47,15 +47,8 @@ chosen_by sight type (Some n) e = b.chosen sight type (t.named n.identifier n.su
 chosen_by sight type None e = literal type e
 
 pub chosen_is : (sight : Sight) (type : ObjectType) (e : t.Expr) → b.chosen sight type e ≡ chosen_by sight type (as_name e) e
-chosen_is sight type (t.integer at s) = refl
-chosen_is sight type (t.character at s) = refl
-chosen_is sight type (t.string at s) = refl
 chosen_is sight type (t.bits at s) = refl
-chosen_is sight type (t.named n s a) = refl
-chosen_is sight type (t.parens at e) = refl
-chosen_is sight type (t.negation at e) = refl
-chosen_is sight type (t.signed sign at e) = refl
-chosen_is sight type (t.binary b op at d e) = refl
+chosen_is sight type e = refl
 
 -- choices that are not others alone
 pub choices_each : (sight : Sight) (type : ObjectType) (cs : List t.Choice) → c.is_others cs ≡ false → b.choices sight type cs ≡ any_of (b.choice sight type) cs

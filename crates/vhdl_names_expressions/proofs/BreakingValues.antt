@@ -1,6 +1,6 @@
 -- What the value of a constant breaks first, form by form; names of objects, and subtype indications.
 use Rattle.std.proofs.Common.{◌≡◌, ℕ, Bool, true, false, true≢false, List, [], ◌∷◌, Option, Some, None, Result, Ok, Err, IfErr, Box, Global, refl, sym, ap, ◌∙◌}
-use Rattle.std.specs.Prelude.{is_some, option_map}
+use Rattle.std.specs.Prelude.{is_some, is_none, option_map}
 use Rattle.vhdl_values.specs.declared.scalar.Nine.{Nine}
 use Rattle.vhdl_tree.specs.Tree as t
 use Rattle.vhdl_tree.specs.View.{view}
@@ -12,7 +12,7 @@ use Rattle.vhdl_names_rules.specs.declared.fault.NameFault.TheVariants.{At, NoMe
 use Rattle.vhdl_names_rules.specs.declared.fault.NameProblem.{NameProblem}
 use Rattle.vhdl_names_rules.specs.declared.fault.NameProblem.TheVariants.{TypeMismatch, LeftOut}
 use Rattle.vhdl_names_rules.specs.declared.kind.ElementKind.{ElementKind}
-use Rattle.vhdl_names_rules.specs.declared.kind.ElementKind.TheVariants.{Element, LogicVector, Unsigned, OpenVector}
+use Rattle.vhdl_names_rules.specs.declared.kind.ElementKind.TheVariants.{Element, Unsigned}
 use Rattle.vhdl_names_rules.specs.declared.kind.ObjectType.{ObjectType}
 use Rattle.vhdl_names_rules.specs.declared.kind.ObjectType.TheVariants.{Elements, Enumeration}
 use Rattle.vhdl_names_rules.specs.Gives.{Gives}
@@ -32,55 +32,21 @@ use Rattle.vhdl_names_rules.specs.problems.Places.{start}
 use Rattle.vhdl_names_rules.specs.problems.Operators.{string_problem}
 use Rattle.vhdl_names_rules.specs.problems.Expressions.{meaning, no_attribute, typed_suffix, static_range, is_vector_type}
 use Rattle.vhdl_names_rules.specs.problems.Statements.{named}
-use Rattle.vhdl_names_rules.specs.problems.Subtypes.{fixed, fixed_value, literal, value_of, subtype, mark_problem, is_marked, is_character}
+use Rattle.vhdl_names_rules.specs.problems.Subtypes.{fixed, fixed_value, literal, value_of, suffixed_problem, subtype, mark_problem, is_marked, is_character}
 use Rattle.vhdl_names_rules.proofs.Telling.{told_same, told_left, told_right, told_given, told_on, at_is_told}
-use Rattle.vhdl_names_rules.proofs.kept.Expressions.{meaning_kept, typed_suffix_kept}
+use Rattle.vhdl_names_rules.proofs.laws.Rules.{comes, kept}
+use Rattle.vhdl_names_rules.proofs.kept.Expressions.{meaning_kept}
+use Rattle.vhdl_names_rules.proofs.kept.Statements.{named_kept}
 use Rattle.vhdl_names_sight.specs.declared.meaning.Meaning.{Meaning as DeclaredMeaning}
 use Rattle.vhdl_names_sight.specs.declared.meaning.Meaning.TheVariants as d
 use Rattle.vhdl_names_sight.specs.Views.{meaning_view}
+use Rattle.vhdl_names_expressions.specs.Asked.{unattributed}
 use Rattle.vhdl_names_expressions.specs.Chosen.{as_name, as_character, is_literal, character_values}
 use Rattle.vhdl_names_expressions.specs.Fixing.{suffixed_value, filled_with}
+use Rattle.vhdl_names_expressions.proofs.Asking.{both}
 use Rattle.vhdl_names_expressions.proofs.Breaking.{told_fault, in_turn}
 use Rattle.vhdl_names_expressions.proofs.Choosing.{chain_is_no_literal}
 use Rattle.vhdl_names_expressions.proofs.Fixing.{filled_as}
-
--- ---- names with what follows them, where no attribute is offered
-
--- none stands there
-pub none_there : {A B : Type 0} (view : A → B) (o : Option A) → ((x : A) → o ≡ Some x → ⊥) → option_map view o ≡ None
-none_there view None other = refl
-none_there view (Some x) other = absurd (other x refl)
-
-module _ (sight : Sight) (n : t.Ident) (y : t.Suffix) (a : Option t.Ident) (more : Meaning → Suffix → Broken) where
-  abbrev behind : Broken
-  behind = where_given (visibility.meaning sight n.text) (λ d. where_given (are.typed_suffix sight y) (more d))
-
-  abbrev pub with_name : Broken
-  with_name = meaning sight n ▸ typed_suffix sight y ▸ no_attribute a ▸ behind
-
-  pub name_meaning : (f : NameFault) → Tells (meaning sight n) f → Tells with_name f
-  name_meaning f h = told_left (meaning sight n) (typed_suffix sight y ▸ no_attribute a ▸ behind) f h
-
-  pub name_suffix : (d : Meaning) (f : NameFault) → visibility.meaning sight n.text ≡ Some d → Tells (typed_suffix sight y) f → Tells with_name f
-  name_suffix d f e1 h =
-      told_right (meaning sight n) (typed_suffix sight y ▸ no_attribute a ▸ behind) f (meaning_kept sight n d e1)
-      (told_left (typed_suffix sight y) (no_attribute a ▸ behind) f h)
-
-  module _ (d : Meaning) (s : Suffix) (e1 : visibility.meaning sight n.text ≡ Some d) (e2 : are.typed_suffix sight y ≡ Some s) where
-    of_attribute : (f : NameFault) → Tells (no_attribute a ▸ behind) f → Tells with_name f
-    of_attribute f h =
-        told_right (meaning sight n) (typed_suffix sight y ▸ no_attribute a ▸ behind) f (meaning_kept sight n d e1)
-        (told_right (typed_suffix sight y) (no_attribute a ▸ behind) f (typed_suffix_kept y sight s e2) h)
-
-    pub name_attribute : (i : t.Ident) (f : NameFault) → a ≡ Some i → Tells (refused LeftOut i.at) f → Tells with_name f
-    name_attribute i f is h = of_attribute f (told_left (no_attribute a) behind f (told_same (refused LeftOut i.at) (no_attribute a) f (sym (ap no_attribute is)) h))
-
-    pub name_more : {X : Type 0} (r : Result X NameFault) → a ≡ None → IfErr r (Tells (more d s)) → IfErr r (Tells with_name)
-    name_more r none =
-        told_on _ _ r (λ f h. of_attribute f
-        (told_right (no_attribute a) behind f (ap no_attribute none)
-        (told_given (λ m. where_given (are.typed_suffix sight y) (more m)) (visibility.meaning sight n.text) d f e1
-        (told_given (more d) (are.typed_suffix sight y) s f e2 h))))
 
 -- ---- literals
 
@@ -92,9 +58,8 @@ character_literal Element at c h = none_of (nine_of c) h
     none_of : (o : Option Nine) → option_map (λ v. v ∷ []) o ≡ None → lacking TypeMismatch at o ≡ refused TypeMismatch at
     none_of None h = refl
     none_of (Some v) h = absurd cc
-character_literal LogicVector at c h = refl
 character_literal Unsigned at c h = refl
-character_literal OpenVector at c h = refl
+character_literal x at c h = refl
 
 pub string_literal : (k : ElementKind) (at : ℕ) (text : List ℕ) → is_vector k ≡ true → literal (Elements k) (t.string at text) ≡ lacking (string_problem text) at (values_of_string text)
 unfolding ◌▸◌
@@ -133,15 +98,10 @@ enumerated_bits number count at text = refl
 
 -- what is no literal is left out
 pub other_literal : (type : ObjectType) (e : t.Expr) → is_literal e ≡ false → literal type e ≡ refused LeftOut (start e)
-other_literal type (t.integer at s) h = refl
 other_literal type (t.character at c) h = absurd (true≢false h)
 other_literal type (t.string at s) h = absurd (true≢false h)
 other_literal type (t.bits at s) h = absurd (true≢false h)
-other_literal type (t.named n s a) h = refl
-other_literal type (t.parens at e) h = refl
-other_literal type (t.negation at e) h = refl
-other_literal type (t.signed sign at e) h = refl
-other_literal type (t.binary b op at d e) h = refl
+other_literal type e h = refl
 
 pub chain_literal : (type : ObjectType) (e : Expr) (box : Box Chain Global) → e ≡ x.Chain box → literal type (view e) ≡ refused LeftOut (start (view e))
 chain_literal type e box is = other_literal type (view e) (chain_is_no_literal e box is)
@@ -150,34 +110,19 @@ chain_literal type e box is = other_literal type (view e) (chain_is_no_literal e
 
 pub value_is : (type : ObjectType) (d : Meaning) (s : Suffix) → suffixed_value type d s ≡ value_of type d s
 value_is type d names.plain = refl
-value_is type d (names.arguments b xs) = refl
-value_is type d (names.range x) = refl
+value_is type d s = refl
 
 abbrev pub fixed_by : Sight → ObjectType → Option t.Name → t.Expr → Broken
 fixed_by sight type (Some n) e = fixed sight type (t.named n.identifier n.suffix n.attribute)
 fixed_by sight type None e = literal type e
 
 pub fixed_is : (sight : Sight) (type : ObjectType) (e : t.Expr) → fixed sight type e ≡ fixed_by sight type (as_name e) e
-fixed_is sight type (t.integer at s) = refl
-fixed_is sight type (t.character at s) = refl
-fixed_is sight type (t.string at s) = refl
 fixed_is sight type (t.bits at s) = refl
-fixed_is sight type (t.named n s a) = refl
-fixed_is sight type (t.parens at e) = refl
-fixed_is sight type (t.negation at e) = refl
-fixed_is sight type (t.signed sign at e) = refl
-fixed_is sight type (t.binary b op at d e) = refl
+fixed_is sight type e = refl
 
 character_is : (e : t.Expr) → is_character e ≡ is_some (as_character e)
-character_is (t.integer at s) = refl
-character_is (t.character at s) = refl
-character_is (t.string at s) = refl
 character_is (t.bits at s) = refl
-character_is (t.named n s a) = refl
-character_is (t.parens at e) = refl
-character_is (t.negation at e) = refl
-character_is (t.signed sign at e) = refl
-character_is (t.binary b op at d e) = refl
+character_is e = refl
 
 -- ---- (others => e)
 
@@ -202,9 +147,7 @@ no_element type k x at place is h none =
 
 pub other_filled : (k own : ElementKind) (v : Vector) → (own ≡ Element → ⊥) → as_filled (Elements k) (elements own v) ≡ None
 other_filled k Element v other = absurd (other refl)
-other_filled k LogicVector v other = refl
-other_filled k Unsigned v other = refl
-other_filled k OpenVector v other = refl
+other_filled k own v other = refl
 
 abbrev filled_by : ObjectType → ℕ → ℕ → Option ℕ → Broken
 filled_by type at place o = unless LeftOut place (is_some o) ▸ unless TypeMismatch at (is_vector_type type) ▸ lacking TypeMismatch place (filled_with type o)
@@ -246,22 +189,35 @@ filled_breaks sight type at place e o same is =
 grouped : (a b c d : Broken) → (a ▸ b ▸ c ▸ d) ≡ ((a ▸ b ▸ c) ▸ d)
 grouped a b c d = sym (in_turn a (b ▸ c) d ∙ ap (λ z. a ▸ z) (in_turn b c d))
 
-pub object_told : (sight : Sight) (n : t.Name) (more : Meaning → Suffix → Broken) (f : NameFault) →
-    Tells (with_name sight n.identifier n.suffix n.attribute more) f →
-    Tells (named sight n ▸ where_given (visibility.meaning sight n.identifier.text) (λ d. where_given (are.typed_suffix sight n.suffix) (more d))) f
-object_told sight n more f =
-    told_same _ _ f
-    (grouped (meaning sight n.identifier) (typed_suffix sight n.suffix) (no_attribute n.attribute)
-    (where_given (visibility.meaning sight n.identifier.text) (λ d. where_given (are.typed_suffix sight n.suffix) (more d))))
+-- what an object's name breaks is that of what it means, where nothing else of it breaks a rule
+module _ (sight : Sight) (n : t.Name) (more : Meaning → Suffix → Broken) where
+  abbrev pub behind_name : Broken
+  behind_name = where_given (visibility.meaning sight n.identifier.text) (λ d. where_given (are.typed_suffix sight n.suffix) (more d))
+
+  pub name_told : {X : Type 0} (m : Meaning × Suffix) (r : Result X NameFault) → unattributed sight n ≡ Some m → IfErr r (Tells (more m.0 m.1)) →
+      IfErr r (Tells (named sight n ▸ behind_name))
+  name_told m r h =
+      let a = comes (visibility.meaning sight n.identifier.text) _ m h in
+      let b = comes (are.typed_suffix sight n.suffix) _ m a.rest in
+      let c = kept (is_none n.attribute) _ m b.rest in
+      let same : Some (both a.value b.value) ≡ Some m = c.1 in
+      let e : m ≡ both a.value b.value = cc in
+      told_on _ _ r (λ f w. told_right (named sight n) behind_name f (named_kept sight n a.value b.value a.is b.is c.0)
+      (told_given _ (visibility.meaning sight n.identifier.text) a.value f a.is
+      (told_given (more a.value) (are.typed_suffix sight n.suffix) b.value f b.is
+      (told_same (more m.0 m.1) (more a.value b.value) f (ap (λ p. more p.0 p.1) e) w))))
+
+-- the name of a value
+pub fixed_as : (sight : Sight) (type : ObjectType) (n : t.Name) →
+    (named sight n ▸ behind_name sight n (λ d s. lacking (suffixed_problem type d s) n.identifier.at (value_of type d s)))
+    ≡ fixed sight type (t.named n.identifier n.suffix n.attribute)
+fixed_as sight type n = sym (grouped (meaning sight n.identifier) (typed_suffix sight n.suffix) (no_attribute n.attribute) _)
 
 -- ---- subtype indications
 
 module _ (sight : Sight) (i : t.Subtype) where
   abbrev mark : Broken
   mark = where_given (visibility.meaning sight i.mark.text) (λ d. unless (mark_problem d) i.mark.at (is_marked d i.range))
-
-  pub subtype_meaning : (f : NameFault) → Tells (meaning sight i.mark) f → Tells (subtype sight i) f
-  subtype_meaning f h = told_left (meaning sight i.mark) (mark ▸ of_any (static_range sight) i.range) f h
 
   subtype_behind : (d : Meaning) (f : NameFault) → visibility.meaning sight i.mark.text ≡ Some d → Tells (mark ▸ of_any (static_range sight) i.range) f → Tells (subtype sight i) f
   subtype_behind d f e h = told_right (meaning sight i.mark) (mark ▸ of_any (static_range sight) i.range) f (meaning_kept sight i.mark d e) h
@@ -283,23 +239,8 @@ module _ (sight : Sight) (i : t.Subtype) where
 
 -- what is no type of vectors takes no range
 pub unmarked : (m : DeclaredMeaning) → ((kind : ElementKind) (is_resolved : Bool) → m ≡ d.VectorType kind is_resolved → ⊥) → (x : t.Range) → is_marked (meaning_view m) (Some x) ≡ false
-unmarked (d.Generic k) other x = refl
-unmarked (d.IntegerConstant k) other x = refl
-unmarked (d.GenerateParameter k) other x = refl
-unmarked (d.LoopParameter k) other x = refl
-unmarked (d.Port k mode kind) other x = refl
-unmarked (d.Signal k type) other x = refl
-unmarked (d.Variable k type) other x = refl
-unmarked (d.Constant k kind values) other x = refl
-unmarked (d.Literal number count position) other x = refl
-unmarked (d.IntegerType w) other x = refl
-unmarked (d.ElementType r) other x = refl
 unmarked (d.VectorType kind r) other x = absurd (other kind r refl)
-unmarked (d.EnumerationType number count) other x = refl
-unmarked (d.Function f) other x = refl
-unmarked (d.Component k) other x = refl
-unmarked d.Label other x = refl
-unmarked d.Unfinished other x = refl
+unmarked m other x = refl
 
 pub marked_range : (m : DeclaredMeaning) (kind : ElementKind) (is_resolved : Bool) → m ≡ d.VectorType kind is_resolved → (x : t.Range) → is_marked (meaning_view m) (Some x) ≡ true
 marked_range m kind is_resolved is x = ap (λ n. is_marked (meaning_view n) (Some x)) is

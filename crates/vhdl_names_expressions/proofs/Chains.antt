@@ -26,15 +26,8 @@ use Rattle.vhdl_names_expressions.specs.Steps.{is_parens, enclosed_if, linked, a
 -- ---- chains
 
 pub beside_if : (x : t.Expr) (y : Typed) → beside x y ≡ enclosed_if (is_parens x) y
-beside_if (t.integer at s) y = refl
-beside_if (t.character at s) y = refl
-beside_if (t.string at s) y = refl
 beside_if (t.bits at s) y = refl
-beside_if (t.named n s a) y = refl
-beside_if (t.parens at e) y = refl
-beside_if (t.negation at e) y = refl
-beside_if (t.signed sign at e) y = refl
-beside_if (t.binary b op at d e) y = refl
+beside_if x y = refl
 
 pub linked_typed : (sight : Sight) (b : Bool) (x : t.Expr) (l : Link) →
     typed sight (t.binary b l.operator l.at x (view l.operand)) ≡ linked sight (is_parens x) (typed sight x) l

@@ -10,7 +10,7 @@ use Rattle.vhdl_tree.specs.declared.expression.Chain.{Chain, out-Chain}
 use Rattle.vhdl_tree.specs.declared.operator.Operator.{Operator}
 use Rattle.vhdl_tree.proofs.Rows.{chain_is}
 use Rattle.vhdl_names_rules.specs.declared.kind.ElementKind.{ElementKind}
-use Rattle.vhdl_names_rules.specs.declared.kind.ElementKind.TheVariants.{Element, LogicVector, Unsigned, OpenVector}
+use Rattle.vhdl_names_rules.specs.declared.kind.ElementKind.TheVariants.{Element}
 use Rattle.vhdl_names_rules.specs.Expressions.{is_one_name, is_vector}
 use Rattle.vhdl_tree.specs.declared.expression.Suffix as f
 use Rattle.vhdl_tree.specs.declared.expression.Suffix.TheVariants as s
@@ -51,28 +51,12 @@ chain_is_no_name = chain_is_as is_name false (λ b op at d e. refl)
 -- ---- arguments that are one name
 
 pub one_name : (e : t.Expr) → is_one_name (t.expr e t.no_exprs) ≡ is_name e
-one_name (t.integer at s) = refl
-one_name (t.character at s) = refl
-one_name (t.string at s) = refl
-one_name (t.bits at s) = refl
 one_name (t.named n s None) = refl
-one_name (t.named n s (Some a)) = refl
-one_name (t.parens at e) = refl
-one_name (t.negation at e) = refl
-one_name (t.signed sign at e) = refl
-one_name (t.binary b op at d e) = refl
+one_name e = refl
 
 pub more_names : (d e : t.Expr) (es : t.Exprs) → is_one_name (t.expr d (t.expr e es)) ≡ false
-more_names (t.integer at s) e es = refl
-more_names (t.character at s) e es = refl
-more_names (t.string at s) e es = refl
-more_names (t.bits at s) e es = refl
 more_names (t.named n s None) e es = refl
-more_names (t.named n s (Some a)) e es = refl
-more_names (t.parens at d) e es = refl
-more_names (t.negation at d) e es = refl
-more_names (t.signed sign at d) e es = refl
-more_names (t.binary b op at d d') e es = refl
+more_names d e es = refl
 
 -- arguments that are not one alone are not one name
 pub not_one : (es : List Expr) → (length es ≡ 1 → ⊥) → is_one_name (exprs_of (map view es)) ≡ false
@@ -98,50 +82,24 @@ chain_is_no_character = chain_is_as as_character None (λ b op at d e. refl)
 
 pub literal_character : (k : ElementKind) (at c : ℕ) → literal_values k (t.character at c) ≡ character_values k c
 literal_character Element at c = refl
-literal_character LogicVector at c = refl
-literal_character Unsigned at c = refl
-literal_character OpenVector at c = refl
+literal_character k at c = refl
 
 pub literal_string : (k : ElementKind) (at : ℕ) (text : List ℕ) → literal_values k (t.string at text) ≡ (met (is_vector k) >> values_of_string text)
 literal_string Element at text = refl
-literal_string LogicVector at text = refl
-literal_string Unsigned at text = refl
-literal_string OpenVector at text = refl
+literal_string k at text = refl
 
 pub literal_bits : (k : ElementKind) (at : ℕ) (text : List ℕ) → literal_values k (t.bits at text) ≡ (met (is_vector k) >> values_of_bits text)
 literal_bits Element at text = refl
-literal_bits LogicVector at text = refl
-literal_bits Unsigned at text = refl
-literal_bits OpenVector at text = refl
+literal_bits k at text = refl
 
 pub no_literal : (k : ElementKind) (e : t.Expr) → is_literal e ≡ false → literal_values k e ≡ None
-no_literal Element (t.integer at s) h = refl
-no_literal LogicVector (t.integer at s) h = refl
-no_literal Unsigned (t.integer at s) h = refl
-no_literal OpenVector (t.integer at s) h = refl
-no_literal Element (t.named n s a) h = refl
-no_literal LogicVector (t.named n s a) h = refl
-no_literal Unsigned (t.named n s a) h = refl
-no_literal OpenVector (t.named n s a) h = refl
-no_literal Element (t.parens at e) h = refl
-no_literal LogicVector (t.parens at e) h = refl
-no_literal Unsigned (t.parens at e) h = refl
-no_literal OpenVector (t.parens at e) h = refl
-no_literal Element (t.negation at e) h = refl
-no_literal LogicVector (t.negation at e) h = refl
-no_literal Unsigned (t.negation at e) h = refl
-no_literal OpenVector (t.negation at e) h = refl
-no_literal Element (t.signed sign at e) h = refl
-no_literal LogicVector (t.signed sign at e) h = refl
-no_literal Unsigned (t.signed sign at e) h = refl
-no_literal OpenVector (t.signed sign at e) h = refl
-no_literal Element (t.binary b op at d e) h = refl
-no_literal LogicVector (t.binary b op at d e) h = refl
-no_literal Unsigned (t.binary b op at d e) h = refl
-no_literal OpenVector (t.binary b op at d e) h = refl
 no_literal k (t.character at c) h = absurd (true≢false h)
 no_literal k (t.string at s) h = absurd (true≢false h)
 no_literal k (t.bits at s) h = absurd (true≢false h)
+no_literal Element e h = refl
+no_literal k e h = refl
+
+pub ruleset literal_forms = (literal_character, literal_string, literal_bits, no_literal, chain_is_no_literal)
 
 -- ---- names as choices
 
@@ -170,15 +128,8 @@ chosen_by sight type (Some n) e = c.chosen sight type (t.named n.identifier n.su
 chosen_by sight type None e = c.literal_choice type e
 
 pub chosen_is : (sight : Sight) (type : ObjectType) (e : t.Expr) → c.chosen sight type e ≡ chosen_by sight type (as_name e) e
-chosen_is sight type (t.integer at s) = refl
-chosen_is sight type (t.character at s) = refl
-chosen_is sight type (t.string at s) = refl
 chosen_is sight type (t.bits at s) = refl
-chosen_is sight type (t.named n s a) = refl
-chosen_is sight type (t.parens at e) = refl
-chosen_is sight type (t.negation at e) = refl
-chosen_is sight type (t.signed sign at e) = refl
-chosen_is sight type (t.binary b op at d e) = refl
+chosen_is sight type e = refl
 
 -- ---- others
 

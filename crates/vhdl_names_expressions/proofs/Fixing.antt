@@ -1,5 +1,5 @@
 -- Values of constants and defaults: names with their identifier first, and calls by their two arguments.
-use Rattle.std.proofs.Common.{◌≡◌, ℕ, true, false, List, [], ◌∷◌, map, Option, Some, None, refl, sym, ap, ◌∙◌}
+use Rattle.std.proofs.Common.{◌≡◌, ℕ, Bool, true, false, List, [], ◌∷◌, map, Option, Some, None, refl, sym, ap, ◌∙◌}
 use Rattle.std.specs.Prelude.{option_map, is_none}
 use Rattle.vhdl_tree.specs.Tree as t
 use Rattle.vhdl_names_rules.specs.declared.kind.Function.TheVariants.{ToUnsigned}
@@ -11,7 +11,7 @@ use Rattle.vhdl_names_rules.specs.units.Units.{Fixed}
 use Rattle.vhdl_names_rules.specs.Rules.{◌>>=◌, ◌>>◌, met}
 use Rattle.vhdl_names_rules.specs.Visibility as visibility
 use Rattle.vhdl_names_rules.specs.Visibility.{Sight}
-use Rattle.vhdl_names_rules.specs.Names.{arguments, range}
+use Rattle.vhdl_names_rules.specs.Names.{Suffix, arguments, range}
 use Rattle.vhdl_names_rules.specs.Operators as o
 use Rattle.vhdl_names_rules.specs.Operators.{integer, elements, enumerated, truth}
 use Rattle.vhdl_names_rules.specs.Expressions.{typed, typed_each, typed_suffix, as_integer, is_one_name}
@@ -20,50 +20,23 @@ use Rattle.vhdl_names_sight.specs.declared.types.Typed.{Typed}
 use Rattle.vhdl_names_sight.specs.Steps.{two}
 use Rattle.vhdl_names_sight.specs.Views.{typed_view}
 use Rattle.vhdl_names_sight.proofs.Meant.{both_views, two_map}
+use Rattle.vhdl_names_expressions.specs.Asked.{unattributed}
 use Rattle.vhdl_names_expressions.specs.Chosen.{as_name, as_character}
 use Rattle.vhdl_names_expressions.specs.Fixing.{encoded_fixed, suffixed_value, filled_with}
+use Rattle.vhdl_names_expressions.proofs.Asking.{both}
 use Rattle.vhdl_names_expressions.proofs.Choosing.{no_literal}
 
 -- ---- to_unsigned
 
 encode_two : (xs : List o.Typed) → r.encoded_value (Elements Unsigned) (visibility.function ToUnsigned) xs ≡ encoded_fixed (two xs)
-encode_two [] = refl
-encode_two (integer s ∷ []) = refl
 encode_two (integer s ∷ integer t ∷ []) = refl
-encode_two (integer s ∷ integer t ∷ z ∷ zs) = refl
 encode_two (integer s ∷ elements k y ∷ []) = refl
-encode_two (integer s ∷ elements k y ∷ z ∷ zs) = refl
 encode_two (integer s ∷ enumerated e n y ∷ []) = refl
-encode_two (integer s ∷ enumerated e n y ∷ z ∷ zs) = refl
 encode_two (integer s ∷ truth y ∷ []) = refl
-encode_two (integer s ∷ truth y ∷ z ∷ zs) = refl
-encode_two (elements j x ∷ []) = refl
-encode_two (elements j x ∷ integer t ∷ []) = refl
-encode_two (elements j x ∷ integer t ∷ z ∷ zs) = refl
-encode_two (elements j x ∷ elements k y ∷ []) = refl
-encode_two (elements j x ∷ elements k y ∷ z ∷ zs) = refl
-encode_two (elements j x ∷ enumerated e n y ∷ []) = refl
-encode_two (elements j x ∷ enumerated e n y ∷ z ∷ zs) = refl
-encode_two (elements j x ∷ truth y ∷ []) = refl
-encode_two (elements j x ∷ truth y ∷ z ∷ zs) = refl
-encode_two (enumerated d m x ∷ []) = refl
-encode_two (enumerated d m x ∷ integer t ∷ []) = refl
-encode_two (enumerated d m x ∷ integer t ∷ z ∷ zs) = refl
-encode_two (enumerated d m x ∷ elements k y ∷ []) = refl
-encode_two (enumerated d m x ∷ elements k y ∷ z ∷ zs) = refl
-encode_two (enumerated d m x ∷ enumerated e n y ∷ []) = refl
-encode_two (enumerated d m x ∷ enumerated e n y ∷ z ∷ zs) = refl
-encode_two (enumerated d m x ∷ truth y ∷ []) = refl
-encode_two (enumerated d m x ∷ truth y ∷ z ∷ zs) = refl
-encode_two (truth x ∷ []) = refl
-encode_two (truth x ∷ integer t ∷ []) = refl
-encode_two (truth x ∷ integer t ∷ z ∷ zs) = refl
-encode_two (truth x ∷ elements k y ∷ []) = refl
-encode_two (truth x ∷ elements k y ∷ z ∷ zs) = refl
-encode_two (truth x ∷ enumerated e n y ∷ []) = refl
-encode_two (truth x ∷ enumerated e n y ∷ z ∷ zs) = refl
-encode_two (truth x ∷ truth y ∷ []) = refl
-encode_two (truth x ∷ truth y ∷ z ∷ zs) = refl
+encode_two (elements j x ∷ y ∷ []) = refl
+encode_two (enumerated d m x ∷ y ∷ []) = refl
+encode_two (truth x ∷ y ∷ []) = refl
+encode_two xs = refl
 
 pub encoding_two : (xs : List Typed) →
     r.encoded_value (Elements Unsigned) (visibility.function ToUnsigned) (map typed_view xs) ≡ encoded_fixed (option_map both_views (two xs))
@@ -82,7 +55,7 @@ broken (Some d) None f = refl
 broken (Some d) (Some s) f = refl
 
 -- the identifier first, and the attribute last
-pub fixed_named : (sight : Sight) (type : ObjectType) (n : t.Ident) (y : t.Suffix) (a : Option t.Ident) →
+fixed_named : (sight : Sight) (type : ObjectType) (n : t.Ident) (y : t.Suffix) (a : Option t.Ident) →
     r.fixed sight type (t.named n y a)
     ≡ (visibility.meaning sight n.text >>= λ d. (typed_suffix sight y >>= λ s. (met (is_none a) >> suffixed_value type d s)))
 unfolding typed_suffix
@@ -124,20 +97,24 @@ fixed_named sight type n t.plain (Some a) = name_unvalued type n t.plain (Some a
 fixed_named sight type n (t.arguments es) (Some a) = name_unvalued type n (t.arguments es) (Some a) ∙ sym (broken (visibility.meaning sight n.text) (typed_suffix sight (t.arguments es)) (suffixed_value type))
 fixed_named sight type n (t.sliced d w e) (Some a) = name_unvalued type n (t.sliced d w e) (Some a) ∙ sym (broken (visibility.meaning sight n.text) (typed_suffix sight (t.sliced d w e)) (suffixed_value type))
 
+pub name_fixed : (sight : Sight) (type : ObjectType) (n : t.Name) →
+    r.fixed sight type (t.named n.identifier n.suffix n.attribute) ≡ (unattributed sight n >>= λ m. suffixed_value type m.0 m.1)
+name_fixed sight type n =
+    fixed_named sight type n.identifier n.suffix n.attribute
+    ∙ together (visibility.meaning sight n.identifier.text) (typed_suffix sight n.suffix) (is_none n.attribute)
+  where
+    together : (p : Option visibility.Meaning) (q : Option Suffix) (b : Bool) →
+        (p >>= λ d. (q >>= λ s. (met b >> suffixed_value type d s))) ≡ ((p >>= λ d. (q >>= λ s. (met b >> Some (both d s)))) >>= λ m. suffixed_value type m.0 m.1)
+    together (Some d) (Some s) true = refl
+    together p q b = refl
+
 abbrev pub fixed_by : Sight → ObjectType → Option t.Name → t.Expr → Option Fixed
 fixed_by sight type (Some n) e = r.fixed sight type (t.named n.identifier n.suffix n.attribute)
 fixed_by sight type None e = r.literal_value type e
 
 pub fixed_is : (sight : Sight) (type : ObjectType) (e : t.Expr) → r.fixed sight type e ≡ fixed_by sight type (as_name e) e
-fixed_is sight type (t.integer at s) = refl
-fixed_is sight type (t.character at s) = refl
-fixed_is sight type (t.string at s) = refl
 fixed_is sight type (t.bits at s) = refl
-fixed_is sight type (t.named n s a) = refl
-fixed_is sight type (t.parens at e) = refl
-fixed_is sight type (t.negation at e) = refl
-fixed_is sight type (t.signed sign at e) = refl
-fixed_is sight type (t.binary b op at d e) = refl
+fixed_is sight type e = refl
 
 -- ---- values
 
@@ -146,24 +123,9 @@ unfolding r.fixed_value
 fixed_single sight type e = refl
 
 pub filled_as : (type : ObjectType) (e : t.Expr) → r.filled_value type e ≡ filled_with type (as_character e)
-filled_as (Elements k) (t.integer at s) = refl
-filled_as (Enumeration k m) (t.integer at s) = refl
 filled_as (Elements k) (t.character at s) = refl
 filled_as (Enumeration k m) (t.character at s) = refl
-filled_as (Elements k) (t.string at s) = refl
-filled_as (Enumeration k m) (t.string at s) = refl
-filled_as (Elements k) (t.bits at s) = refl
-filled_as (Enumeration k m) (t.bits at s) = refl
-filled_as (Elements k) (t.named n s a) = refl
-filled_as (Enumeration k m) (t.named n s a) = refl
-filled_as (Elements k) (t.parens at e) = refl
-filled_as (Enumeration k m) (t.parens at e) = refl
-filled_as (Elements k) (t.negation at e) = refl
-filled_as (Enumeration k m) (t.negation at e) = refl
-filled_as (Elements k) (t.signed sign at e) = refl
-filled_as (Enumeration k m) (t.signed sign at e) = refl
-filled_as (Elements k) (t.binary b op at d e) = refl
-filled_as (Enumeration k m) (t.binary b op at d e) = refl
+filled_as type e = refl
 
 pub fixed_others : (sight : Sight) (type : ObjectType) (at : ℕ) (e : t.Expr) → r.fixed_value sight type (t.others at e) ≡ filled_with type (as_character e)
 unfolding r.fixed_value

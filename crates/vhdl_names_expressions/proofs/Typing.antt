@@ -1,6 +1,7 @@
--- What expressions are by what their parts are, and faults that are passed on.
-use Rattle.std.proofs.Common.{◌≡◌, ◌≢◌, ℕ, Bool, Option, Some, None, Result, Ok, Err, IfErr, Box, Global, sym, ap, ◌∙◌, subst}
-use Rattle.std.specs.Prelude.{option_map, IsErrAnd}
+-- What expressions are by what their parts are; and faults that are passed on.
+pub use Rattle.vhdl_names_sight.proofs.Passing.{passed_on}
+use Rattle.std.proofs.Common.{◌≡◌, ◌≢◌, ℕ, Bool, Option, Some, None, Box, Global, sym, ap, ◌∙◌}
+use Rattle.std.specs.Prelude.{option_map}
 use Rattle.vhdl_tree.specs.Tree as t
 use Rattle.vhdl_tree.specs.Tree.{Ident}
 use Rattle.vhdl_tree.specs.View.{view}
@@ -9,26 +10,12 @@ use Rattle.vhdl_tree.specs.declared.expression.Expr.{Expr}
 use Rattle.vhdl_tree.specs.declared.expression.Expr.TheVariants as x
 use Rattle.vhdl_tree.specs.declared.expression.Link.{Link}
 use Rattle.vhdl_names_rules.specs.Rules.{◌>>=◌}
-use Rattle.vhdl_names_rules.specs.Gives.{Gives}
 use Rattle.vhdl_names_rules.specs.Visibility.{Sight, Meaning, meaning}
 use Rattle.vhdl_names_rules.specs.Names.{Suffix, denoted, attributed}
 use Rattle.vhdl_names_rules.specs.Operators.{Typed, integer, inverse, operated}
 use Rattle.vhdl_names_rules.specs.Expressions.{typed, typed_suffix, enclosed, as_integer, signed}
-use Rattle.vhdl_names_rules.specs.declared.fault.NameFault.{NameFault}
-use Rattle.vhdl_names_rules.specs.declared.fault.NameFault.TheVariants.{NoMemory}
-use Rattle.vhdl_names_rules.specs.problems.Broken.{Broken, Tells}
 use Rattle.vhdl_names_expressions.specs.Steps.{enclosed_if, linked}
 use Rattle.vhdl_names_expressions.proofs.Chains.{named_in_turn}
-
-pub passed_on : {X Y : Type 0} (view : X → Y) (given : Option Y) (fault : NameFault) (P : NameFault → Type 0) (r : Result X NameFault) → IsErrAnd r P
-    → ((e : NameFault) → P e → e ≡ fault) → (fault ≢ NoMemory → given ≡ None) → Gives view given r
-passed_on view given fault P (Ok x) h same f = absurd h
-passed_on view given fault P (Err e) h same f = subst (λ (y : NameFault). y ≢ NoMemory → given ≡ None) (sym (same e h)) f
-
-pub told_on : {X : Type 0} (b : Broken) (fault : NameFault) (P : NameFault → Type 0) (r : Result X NameFault) → IsErrAnd r P
-    → ((e : NameFault) → P e → e ≡ fault) → Tells b fault → IfErr r (Tells b)
-told_on b fault P (Ok x) h same told = absurd h
-told_on b fault P (Err e) h same told = subst (Tells b) (sym (same e h)) told
 
 -- ---- what stands in parentheses, or behind an operator
 

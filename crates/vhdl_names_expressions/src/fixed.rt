@@ -15,11 +15,12 @@ ghost use Rattle.vhdl_names_expressions.specs.Chosen.{as_character};
 ghost use Rattle.vhdl_names_expressions.specs.Fixing.{encoded_fixed, filled_with, suffixed_value};
 ghost use Rattle.vhdl_names_units.specs.views.Answers.{fixed_view};
 
-use crate::expressions::{start, typed_suffix};
+use crate::expressions::start;
 use crate::literals::{literal_values, name_of, no_literal};
+use crate::objects::unattributed;
 use std::alloc::Global;
 use vhdl_names_rules::{ElementKind, Function, NameFault, NameProblem, ObjectType, nine_of};
-use vhdl_names_sight::{Meaning, Sight, Typed, TypedSuffix, meaning_of, two_arguments};
+use vhdl_names_sight::{Meaning, Sight, Typed, TypedSuffix, two_arguments};
 use vhdl_names_units::Fixed;
 use vhdl_tree::{Expr, Name, Value as TreeValue};
 
@@ -136,7 +137,6 @@ fn suffixed(
 }
 
 /// The value that a name or a call is.
-#[tactic(auto, using(crate::proofs::Fixing::fixed_named))]
 fn fixed_name(sight: &Sight, object_type: ObjectType, name: &Name) -> Result<Fixed, NameFault>
     ensures given { Gives fixed_view
         (rules.fixed sight.now object_type
@@ -147,11 +147,7 @@ fn fixed_name(sight: &Sight, object_type: ObjectType, name: &Name) -> Result<Fix
         (t.named (ident_view name.now.identifier) (suffix_view name.now.suffix)
         (option_ident_view name.now.attribute)))) }
 {
-    let meaning = meaning_of(sight, &name.identifier)?;
-    let suffix = typed_suffix(sight, &name.suffix)?;
-    if let Some(attribute) = &name.attribute {
-        return Err(NameProblem::LeftOut.at(attribute.at));
-    }
+    let (meaning, suffix) = unattributed(sight, name)?;
     suffixed(object_type, meaning, suffix, name.identifier.at)
 }
 

@@ -77,7 +77,7 @@ pub(crate) fn no_literal(e: &Expr) -> NameFault
 
 /// The values of a literal as it stands: a character for one element, a string or a bit string for
 /// a vector. It takes the memory of a list.
-#[tactic(auto, using(crate::proofs::Choosing::literal_character, crate::proofs::Choosing::literal_string, crate::proofs::Choosing::literal_bits, crate::proofs::Choosing::no_literal, crate::proofs::Choosing::chain_is_no_literal))]
+#[tactic(auto, using(crate::proofs::Choosing::literal_forms))]
 pub(crate) fn literal_values(
     alloc: Global,
     kind: ElementKind,

@@ -8,6 +8,7 @@ ghost use Rattle.vhdl_names_rules.specs.Gives.{Gives};
 ghost use Rattle.vhdl_names_rules.specs.Statements as rules;
 ghost use Rattle.vhdl_tree.specs.View.{name_view};
 ghost use Rattle.vhdl_names_sight.specs.Views.{meaning_view, typed_suffix_view};
+ghost use Rattle.vhdl_names_expressions.specs.Asked.{unattributed as unattributed_name};
 ghost use Rattle.vhdl_names_units.specs.views.Answers.{signal_name_view, variable_name_view};
 
 use crate::expressions::typed_suffix;
@@ -15,6 +16,23 @@ use vhdl_names_rules::{NameFault, NameProblem, ObjectType, Signal, SignalPart};
 use vhdl_names_sight::{Meaning, Sight, TypedSuffix, meaning_of, part_of};
 use vhdl_names_units::{SignalName, VariableName};
 use vhdl_tree::{Mode, Name};
+
+/// What a name means, and what stands behind it; no attribute is offered.
+pub(crate) fn unattributed<'a>(
+    sight: &'a Sight,
+    name: &Name,
+) -> Result<(&'a Meaning, TypedSuffix), NameFault>
+    ensures given { Gives (λ m. (meaning_view m.0.now, typed_suffix_view m.1)) (unattributed_name sight.now (name_view name.now))
+        result }
+    ensures told { IfErr result (Tells (broken.named sight.now (name_view name.now))) }
+{
+    let meaning = meaning_of(sight, &name.identifier)?;
+    let suffix = typed_suffix(sight, &name.suffix)?;
+    match &name.attribute {
+        Some(attribute) => Err(NameProblem::LeftOut.at(attribute.at)),
+        None => Ok((meaning, suffix)),
+    }
+}
 
 /// The signal or port that a name at byte `at` is, or the part of one.
 fn as_signal(meaning: &Meaning, suffix: TypedSuffix, at: usize) -> Result<SignalName, NameFault>
@@ -44,11 +62,7 @@ pub fn signal(sight: &Sight, name: &Name) -> Result<SignalName, NameFault>
     ensures given { Gives signal_name_view (rules.signal sight.now (name_view name.now)) result }
     ensures told { IfErr result (Tells (broken.signal sight.now (name_view name.now))) }
 {
-    let meaning = meaning_of(sight, &name.identifier)?;
-    let suffix = typed_suffix(sight, &name.suffix)?;
-    if let Some(attribute) = &name.attribute {
-        return Err(NameProblem::LeftOut.at(attribute.at));
-    }
+    let (meaning, suffix) = unattributed(sight, name)?;
     as_signal(meaning, suffix, name.identifier.at)
 }
 
@@ -92,10 +106,6 @@ pub fn variable(sight: &Sight, name: &Name) -> Result<VariableName, NameFault>
     ensures given { Gives variable_name_view (rules.variable sight.now (name_view name.now)) result }
     ensures told { IfErr result (Tells (broken.variable sight.now (name_view name.now))) }
 {
-    let meaning = meaning_of(sight, &name.identifier)?;
-    let suffix = typed_suffix(sight, &name.suffix)?;
-    if let Some(attribute) = &name.attribute {
-        return Err(NameProblem::LeftOut.at(attribute.at));
-    }
+    let (meaning, suffix) = unattributed(sight, name)?;
     as_variable(meaning, suffix, name.identifier.at)
 }

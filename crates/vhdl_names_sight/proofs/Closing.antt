@@ -20,28 +20,10 @@ chain_kept left (l.Integer op at s) n end_of-VectorLink = refl
 chain_kept left x n (more_of-VectorLink y rest) = chain_kept (linked left x) y _ rest
 
 pub no_character : (x : Vector) → ((at : ℕ) (c : Nine) → x ≡ v.Character at c → ⊥) → closed (vector_view x) ≡ vector_view x
-no_character (v.Signal p) other = refl
-no_character (v.Variable at k p) other = refl
-no_character (v.Constant at k p) other = refl
 no_character (v.Character at x) other = absurd (other at x refl)
-no_character (v.EnclosedCharacter at x) other = refl
-no_character (v.Literal at xs) other = refl
-no_character (v.Not' at b x) other = refl
 no_character (v.Chain' b first x shape rest) other = chain_kept (vector_view first) x _ rest
-no_character (v.IntegerWith' op at s b x) other = refl
-no_character (v.Encoded at s t) other = refl
-no_character (v.Counted' at op b x s) other = refl
+no_character x other = refl
 
 pub enclosed_element : (x : u.Vector) → expressions.enclosed (elements Element x) ≡ elements Element (closed x)
 enclosed_element (u.of_signal p) = refl
-enclosed_element (u.of_variable at n p) = refl
-enclosed_element (u.of_constant at n p) = refl
-enclosed_element (u.character c) = refl
-enclosed_element (u.enclosed_character c) = refl
-enclosed_element (u.Vector.literal at cs) = refl
-enclosed_element (u.Vector.inverse y) = refl
-enclosed_element (u.Vector.binary at op y z) = refl
-enclosed_element (u.with_integer at op y s) = refl
-enclosed_element (u.integer_with at op s y) = refl
-enclosed_element (u.Vector.encoded at s t) = refl
-enclosed_element (u.counted at op y s) = refl
+enclosed_element x = refl

@@ -6,3 +6,4 @@ pub mod Memory
 pub mod Quotations
 pub mod Sights
 pub mod Operating
+pub mod Passing

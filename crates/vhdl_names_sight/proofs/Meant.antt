@@ -37,59 +37,39 @@ use Rattle.vhdl_names_sight.specs.Views.{typed_view}
 -- ---- one argument
 
 sole_map : {A B : Type 0} (f : A → B) (xs : List A) → sole (map f xs) ≡ option_map f (sole xs)
-sole_map f [] = refl
 sole_map f (x ∷ []) = refl
-sole_map f (x ∷ y ∷ xs) = refl
+sole_map f xs = refl
 
 part_sole : (k : ElementKind) (b : Bool) (xs : List o.Typed) → rules.part k (arguments b xs) ≡ indexed k (sole xs)
-part_sole Element b xs = refl
-part_sole OpenVector b xs = refl
-part_sole LogicVector b [] = refl
 part_sole LogicVector b (integer s ∷ []) = refl
-part_sole LogicVector b (integer s ∷ y ∷ ys) = refl
 part_sole LogicVector b (elements j x ∷ []) = refl
-part_sole LogicVector b (elements j x ∷ y ∷ ys) = refl
 part_sole LogicVector b (enumerated d m x ∷ []) = refl
-part_sole LogicVector b (enumerated d m x ∷ y ∷ ys) = refl
 part_sole LogicVector b (truth x ∷ []) = refl
-part_sole LogicVector b (truth x ∷ y ∷ ys) = refl
-part_sole Unsigned b [] = refl
 part_sole Unsigned b (integer s ∷ []) = refl
-part_sole Unsigned b (integer s ∷ y ∷ ys) = refl
 part_sole Unsigned b (elements j x ∷ []) = refl
-part_sole Unsigned b (elements j x ∷ y ∷ ys) = refl
 part_sole Unsigned b (enumerated d m x ∷ []) = refl
-part_sole Unsigned b (enumerated d m x ∷ y ∷ ys) = refl
 part_sole Unsigned b (truth x ∷ []) = refl
-part_sole Unsigned b (truth x ∷ y ∷ ys) = refl
+part_sole k b xs = refl
 
 pub part_indexed : (k : ElementKind) (b : Bool) (xs : List Typed) → rules.part k (arguments b (map typed_view xs)) ≡ indexed k (option_map typed_view (sole xs))
 part_indexed k b xs = part_sole k b (map typed_view xs) ∙ ap (indexed k) (sole_map typed_view xs)
 
 conversion_sole : (k : ElementKind) (b : Bool) (xs : List o.Typed) → rules.converted k (arguments b xs) ≡ conversion k (sole xs)
-conversion_sole k b [] = refl
 conversion_sole k b (integer s ∷ []) = refl
-conversion_sole k b (integer s ∷ y ∷ ys) = refl
 conversion_sole k b (elements Element x ∷ []) = refl
-conversion_sole k b (elements Element x ∷ y ∷ ys) = refl
 conversion_sole k b (elements LogicVector x ∷ []) = refl
-conversion_sole k b (elements LogicVector x ∷ y ∷ ys) = refl
 conversion_sole k b (elements Unsigned x ∷ []) = refl
-conversion_sole k b (elements Unsigned x ∷ y ∷ ys) = refl
 conversion_sole k b (elements OpenVector x ∷ []) = refl
-conversion_sole k b (elements OpenVector x ∷ y ∷ ys) = refl
 conversion_sole k b (enumerated d m x ∷ []) = refl
-conversion_sole k b (enumerated d m x ∷ y ∷ ys) = refl
 conversion_sole k b (truth x ∷ []) = refl
-conversion_sole k b (truth x ∷ y ∷ ys) = refl
+conversion_sole k b xs = refl
 
 pub converted_sole : (k : ElementKind) (b : Bool) (xs : List Typed) → rules.converted k (arguments b (map typed_view xs)) ≡ conversion k (option_map typed_view (sole xs))
 converted_sole k b xs = conversion_sole k b (map typed_view xs) ∙ ap (conversion k) (sole_map typed_view xs)
 
 edge_alone : (e : Edge) (xs : List o.Typed) → rules.edge_of e (arguments true xs) ≡ edge_by e (sole xs)
-edge_alone e [] = refl
 edge_alone e (x ∷ []) = refl
-edge_alone e (x ∷ y ∷ ys) = refl
+edge_alone e xs = refl
 
 pub edge_sole : (e : Edge) (xs : List Typed) → rules.edge_of e (arguments true (map typed_view xs)) ≡ edge_by e (option_map typed_view (sole xs))
 edge_sole e xs = edge_alone e (map typed_view xs) ∙ ap (edge_by e) (sole_map typed_view xs)
@@ -100,122 +80,38 @@ abbrev pub both_views : Typed × Typed → o.Typed × o.Typed
 both_views p = (typed_view p.0, typed_view p.1)
 
 pub two_map : (xs : List Typed) → two (map typed_view xs) ≡ option_map both_views (two xs)
-two_map [] = refl
-two_map (x ∷ []) = refl
 two_map (x ∷ y ∷ []) = refl
-two_map (x ∷ y ∷ z ∷ xs) = refl
+two_map xs = refl
 
 abbrev counted_by : (u.Vector → u.Static → u.Vector) → Option (u.Vector × u.Static) → Option o.Typed
 counted_by f = option_map (λ p. elements Unsigned (f p.0 p.1))
 
 count_two : (f : u.Vector → u.Static → u.Vector) (b : Bool) (xs : List o.Typed) → rules.counted f (arguments b xs) ≡ counted_by f (counting (two xs))
-count_two f b [] = refl
-count_two f b (integer s ∷ []) = refl
-count_two f b (integer s ∷ integer t ∷ []) = refl
-count_two f b (integer s ∷ integer t ∷ z ∷ zs) = refl
-count_two f b (integer s ∷ elements k y ∷ []) = refl
-count_two f b (integer s ∷ elements k y ∷ z ∷ zs) = refl
-count_two f b (integer s ∷ enumerated e n y ∷ []) = refl
-count_two f b (integer s ∷ enumerated e n y ∷ z ∷ zs) = refl
-count_two f b (integer s ∷ truth y ∷ []) = refl
-count_two f b (integer s ∷ truth y ∷ z ∷ zs) = refl
-count_two f b (elements Element x ∷ []) = refl
-count_two f b (elements Element x ∷ integer t ∷ []) = refl
-count_two f b (elements Element x ∷ integer t ∷ z ∷ zs) = refl
-count_two f b (elements Element x ∷ elements k y ∷ []) = refl
-count_two f b (elements Element x ∷ elements k y ∷ z ∷ zs) = refl
-count_two f b (elements Element x ∷ enumerated e n y ∷ []) = refl
-count_two f b (elements Element x ∷ enumerated e n y ∷ z ∷ zs) = refl
-count_two f b (elements Element x ∷ truth y ∷ []) = refl
-count_two f b (elements Element x ∷ truth y ∷ z ∷ zs) = refl
-count_two f b (elements LogicVector x ∷ []) = refl
-count_two f b (elements LogicVector x ∷ integer t ∷ []) = refl
-count_two f b (elements LogicVector x ∷ integer t ∷ z ∷ zs) = refl
-count_two f b (elements LogicVector x ∷ elements k y ∷ []) = refl
-count_two f b (elements LogicVector x ∷ elements k y ∷ z ∷ zs) = refl
-count_two f b (elements LogicVector x ∷ enumerated e n y ∷ []) = refl
-count_two f b (elements LogicVector x ∷ enumerated e n y ∷ z ∷ zs) = refl
-count_two f b (elements LogicVector x ∷ truth y ∷ []) = refl
-count_two f b (elements LogicVector x ∷ truth y ∷ z ∷ zs) = refl
-count_two f b (elements Unsigned x ∷ []) = refl
+count_two f b (integer s ∷ y ∷ []) = refl
+count_two f b (elements Element x ∷ y ∷ []) = refl
+count_two f b (elements LogicVector x ∷ y ∷ []) = refl
 count_two f b (elements Unsigned x ∷ integer t ∷ []) = refl
-count_two f b (elements Unsigned x ∷ integer t ∷ z ∷ zs) = refl
 count_two f b (elements Unsigned x ∷ elements k y ∷ []) = refl
-count_two f b (elements Unsigned x ∷ elements k y ∷ z ∷ zs) = refl
 count_two f b (elements Unsigned x ∷ enumerated e n y ∷ []) = refl
-count_two f b (elements Unsigned x ∷ enumerated e n y ∷ z ∷ zs) = refl
 count_two f b (elements Unsigned x ∷ truth y ∷ []) = refl
-count_two f b (elements Unsigned x ∷ truth y ∷ z ∷ zs) = refl
-count_two f b (elements OpenVector x ∷ []) = refl
-count_two f b (elements OpenVector x ∷ integer t ∷ []) = refl
-count_two f b (elements OpenVector x ∷ integer t ∷ z ∷ zs) = refl
-count_two f b (elements OpenVector x ∷ elements k y ∷ []) = refl
-count_two f b (elements OpenVector x ∷ elements k y ∷ z ∷ zs) = refl
-count_two f b (elements OpenVector x ∷ enumerated e n y ∷ []) = refl
-count_two f b (elements OpenVector x ∷ enumerated e n y ∷ z ∷ zs) = refl
-count_two f b (elements OpenVector x ∷ truth y ∷ []) = refl
-count_two f b (elements OpenVector x ∷ truth y ∷ z ∷ zs) = refl
-count_two f b (enumerated d m x ∷ []) = refl
-count_two f b (enumerated d m x ∷ integer t ∷ []) = refl
-count_two f b (enumerated d m x ∷ integer t ∷ z ∷ zs) = refl
-count_two f b (enumerated d m x ∷ elements k y ∷ []) = refl
-count_two f b (enumerated d m x ∷ elements k y ∷ z ∷ zs) = refl
-count_two f b (enumerated d m x ∷ enumerated e n y ∷ []) = refl
-count_two f b (enumerated d m x ∷ enumerated e n y ∷ z ∷ zs) = refl
-count_two f b (enumerated d m x ∷ truth y ∷ []) = refl
-count_two f b (enumerated d m x ∷ truth y ∷ z ∷ zs) = refl
-count_two f b (truth x ∷ []) = refl
-count_two f b (truth x ∷ integer t ∷ []) = refl
-count_two f b (truth x ∷ integer t ∷ z ∷ zs) = refl
-count_two f b (truth x ∷ elements k y ∷ []) = refl
-count_two f b (truth x ∷ elements k y ∷ z ∷ zs) = refl
-count_two f b (truth x ∷ enumerated e n y ∷ []) = refl
-count_two f b (truth x ∷ enumerated e n y ∷ z ∷ zs) = refl
-count_two f b (truth x ∷ truth y ∷ []) = refl
-count_two f b (truth x ∷ truth y ∷ z ∷ zs) = refl
+count_two f b (elements OpenVector x ∷ y ∷ []) = refl
+count_two f b (enumerated d m x ∷ y ∷ []) = refl
+count_two f b (truth x ∷ y ∷ []) = refl
+count_two f b xs = refl
 
 pub counted_two : (f : u.Vector → u.Static → u.Vector) (b : Bool) (xs : List Typed) →
     rules.counted f (arguments b (map typed_view xs)) ≡ counted_by f (counting (option_map both_views (two xs)))
 counted_two f b xs = count_two f b (map typed_view xs) ∙ ap (λ p. counted_by f (counting p)) (two_map xs)
 
 encode_two : (at : ℕ) (b : Bool) (xs : List o.Typed) → rules.encoding at (arguments b xs) ≡ encoded_by at (two xs)
-encode_two at b [] = refl
-encode_two at b (integer s ∷ []) = refl
 encode_two at b (integer s ∷ integer t ∷ []) = refl
-encode_two at b (integer s ∷ integer t ∷ z ∷ zs) = refl
 encode_two at b (integer s ∷ elements k y ∷ []) = refl
-encode_two at b (integer s ∷ elements k y ∷ z ∷ zs) = refl
 encode_two at b (integer s ∷ enumerated e n y ∷ []) = refl
-encode_two at b (integer s ∷ enumerated e n y ∷ z ∷ zs) = refl
 encode_two at b (integer s ∷ truth y ∷ []) = refl
-encode_two at b (integer s ∷ truth y ∷ z ∷ zs) = refl
-encode_two at b (elements j x ∷ []) = refl
-encode_two at b (elements j x ∷ integer t ∷ []) = refl
-encode_two at b (elements j x ∷ integer t ∷ z ∷ zs) = refl
-encode_two at b (elements j x ∷ elements k y ∷ []) = refl
-encode_two at b (elements j x ∷ elements k y ∷ z ∷ zs) = refl
-encode_two at b (elements j x ∷ enumerated e n y ∷ []) = refl
-encode_two at b (elements j x ∷ enumerated e n y ∷ z ∷ zs) = refl
-encode_two at b (elements j x ∷ truth y ∷ []) = refl
-encode_two at b (elements j x ∷ truth y ∷ z ∷ zs) = refl
-encode_two at b (enumerated d m x ∷ []) = refl
-encode_two at b (enumerated d m x ∷ integer t ∷ []) = refl
-encode_two at b (enumerated d m x ∷ integer t ∷ z ∷ zs) = refl
-encode_two at b (enumerated d m x ∷ elements k y ∷ []) = refl
-encode_two at b (enumerated d m x ∷ elements k y ∷ z ∷ zs) = refl
-encode_two at b (enumerated d m x ∷ enumerated e n y ∷ []) = refl
-encode_two at b (enumerated d m x ∷ enumerated e n y ∷ z ∷ zs) = refl
-encode_two at b (enumerated d m x ∷ truth y ∷ []) = refl
-encode_two at b (enumerated d m x ∷ truth y ∷ z ∷ zs) = refl
-encode_two at b (truth x ∷ []) = refl
-encode_two at b (truth x ∷ integer t ∷ []) = refl
-encode_two at b (truth x ∷ integer t ∷ z ∷ zs) = refl
-encode_two at b (truth x ∷ elements k y ∷ []) = refl
-encode_two at b (truth x ∷ elements k y ∷ z ∷ zs) = refl
-encode_two at b (truth x ∷ enumerated e n y ∷ []) = refl
-encode_two at b (truth x ∷ enumerated e n y ∷ z ∷ zs) = refl
-encode_two at b (truth x ∷ truth y ∷ []) = refl
-encode_two at b (truth x ∷ truth y ∷ z ∷ zs) = refl
+encode_two at b (elements j x ∷ y ∷ []) = refl
+encode_two at b (enumerated d m x ∷ y ∷ []) = refl
+encode_two at b (truth x ∷ y ∷ []) = refl
+encode_two at b xs = refl
 
 pub encoding_two : (at : ℕ) (b : Bool) (xs : List Typed) → rules.encoding at (arguments b (map typed_view xs)) ≡ encoded_by at (option_map both_views (two xs))
 encoding_two at b xs = encode_two at b (map typed_view xs) ∙ ap (encoded_by at) (two_map xs)
@@ -229,34 +125,13 @@ chain_other left x n (more_of-VectorLink y rest) = chain_other (linked left x) y
 
 pub no_signal : (x : Vector) → ((p : SignalPart) → x ≡ v.Signal p → ⊥) → is_signal (vector_view x) ≡ false
 no_signal (v.Signal p) other = absurd (other p refl)
-no_signal (v.Variable at k p) other = refl
-no_signal (v.Constant at k p) other = refl
-no_signal (v.Character at x) other = refl
-no_signal (v.EnclosedCharacter at x) other = refl
-no_signal (v.Literal at xs) other = refl
-no_signal (v.Not' at b x) other = refl
 no_signal (v.Chain' b first x shape rest) other = chain_other (vector_view first) x _ rest
-no_signal (v.IntegerWith' op at s b x) other = refl
-no_signal (v.Encoded at s t) other = refl
-no_signal (v.Counted' at op b x s) other = refl
+no_signal x other = refl
 
 -- what is no signal's name has no edge
 pub no_edge : (k : ElementKind) (x : u.Vector) → is_signal x ≡ false → rules.edge_signal (elements k x) ≡ None
 no_edge Element (u.of_signal p) h = absurd (true≢false h)
-no_edge Element (u.of_variable at n p) h = refl
-no_edge Element (u.of_constant at n p) h = refl
-no_edge Element (u.character c) h = refl
-no_edge Element (u.enclosed_character c) h = refl
-no_edge Element (u.Vector.literal at cs) h = refl
-no_edge Element (u.Vector.inverse y) h = refl
-no_edge Element (u.Vector.binary at op y z) h = refl
-no_edge Element (u.with_integer at op y s) h = refl
-no_edge Element (u.integer_with at op s y) h = refl
-no_edge Element (u.Vector.encoded at s t) h = refl
-no_edge Element (u.counted at op y s) h = refl
-no_edge LogicVector x h = refl
-no_edge Unsigned x h = refl
-no_edge OpenVector x h = refl
+no_edge k x h = refl
 
 -- ---- static integers
 
@@ -290,22 +165,14 @@ chain_edge left x n (more_of-VectorLink y rest) = chain_edge (linked left x) y _
 -- an element that is no variable and no constant
 pub other_edge : (x : Vector) → ((at k : ℕ) (p : Part) → x ≡ v.Variable at k p → ⊥) → ((at k : ℕ) (p : Part) → x ≡ v.Constant at k p → ⊥) →
     edge_problem (elements Element (vector_view x)) ≡ TypeMismatch
-other_edge (v.Signal p) not_variable not_constant = refl
 other_edge (v.Variable at k p) not_variable not_constant = absurd (not_variable at k p refl)
 other_edge (v.Constant at k p) not_variable not_constant = absurd (not_constant at k p refl)
-other_edge (v.Character at x) not_variable not_constant = refl
-other_edge (v.EnclosedCharacter at x) not_variable not_constant = refl
-other_edge (v.Literal at xs) not_variable not_constant = refl
-other_edge (v.Not' at b x) not_variable not_constant = refl
 other_edge (v.Chain' b first x shape rest) not_variable not_constant = chain_edge (vector_view first) x _ rest
-other_edge (v.IntegerWith' op at s b x) not_variable not_constant = refl
-other_edge (v.Encoded at s t) not_variable not_constant = refl
-other_edge (v.Counted' at op b x s) not_variable not_constant = refl
+other_edge x not_variable not_constant = refl
 
 call_problem : (e : Edge) (xs : List o.Typed) → name_problem (visibility.function (EdgeCall e)) (arguments true xs) ≡ edge_call_problem (sole xs)
-call_problem e [] = refl
 call_problem e (x ∷ []) = refl
-call_problem e (x ∷ y ∷ ys) = refl
+call_problem e xs = refl
 
 -- an edge call by the argument that stands alone
 pub call_problem_sole : (e : Edge) (xs : List Typed) →

@@ -5,7 +5,7 @@ use Rattle.vhdl_values.specs.declared.kinds.Cmp.{Cmp}
 use Rattle.vhdl_values.specs.declared.kinds.Cmp.TheVariants.{Ne}
 use Rattle.vhdl_names_rules.specs.units.Expressions as u
 use Rattle.vhdl_tree.specs.declared.operator.Sign.{Sign}
-use Rattle.vhdl_names_rules.specs.Rules.{◌>>=◌}
+use Rattle.vhdl_names_rules.specs.Rules.{◌>>=◌, ◌>>◌, rule, given_that}
 use Rattle.vhdl_names_rules.specs.Expressions.{as_integer, signed}
 use Rattle.vhdl_names_rules.specs.Literals.{number_of}
 use Rattle.std.specs.Prelude.{ℕ, Bool, true, false, List, [], ◌∷◌, Option, Some, None, option_map}
@@ -13,9 +13,11 @@ use Rattle.vhdl_values.specs.declared.kinds.Edge.{Edge}
 use Rattle.vhdl_names_rules.specs.declared.kind.ElementKind.{ElementKind}
 use Rattle.vhdl_names_rules.specs.declared.kind.ElementKind.TheVariants.{Element, LogicVector, Unsigned, OpenVector}
 use Rattle.vhdl_names_rules.specs.Names.{edge_signal}
-use Rattle.vhdl_names_rules.specs.Operators.{Typed, integer, elements, truth}
+use Rattle.vhdl_names_rules.specs.declared.operator.Arithmetic.{Arithmetic}
+use Rattle.vhdl_names_rules.specs.declared.operator.Numeric.{Numeric}
+use Rattle.vhdl_names_rules.specs.Operators.{Typed, integer, elements, truth, is_number, are_numbers, arithmetic, ordering}
 use Rattle.vhdl_names_rules.specs.declared.fault.NameProblem.{NameProblem}
-use Rattle.vhdl_names_rules.specs.declared.fault.NameProblem.TheVariants.{TypeMismatch}
+use Rattle.vhdl_names_rules.specs.declared.fault.NameProblem.TheVariants.{TypeMismatch, NotVisible}
 use Rattle.vhdl_names_rules.specs.problems.Operators.{edge_problem}
 use Rattle.vhdl_names_rules.specs.units.Expressions.{Static, Part, Vector, Value, Test}
 use Rattle.vhdl_names_sight.specs.declared.literals.Base.{Base}
@@ -25,6 +27,27 @@ use Rattle.vhdl_names_sight.specs.declared.literals.Base.TheVariants as b
 abbrev pub same_by : (at : ℕ) → Cmp → Value → Value → Test
 same_by at Ne = u.unlike at
 same_by at _ = u.alike at
+
+-- the numbers that operands are, as integers and unsigned ones; all but two integers need the operators of numeric_std in sight
+abbrev pub numbers_of : (numbers : Bool) → Typed → Typed → Option (Typed × Typed)
+numbers_of numbers (integer s) (integer t) = Some (integer s, integer t)
+numbers_of numbers (elements j x) (elements k y) = do
+  rule NotVisible numbers
+  given_that TypeMismatch (are_numbers j k) (elements Unsigned x, elements Unsigned y)
+numbers_of numbers (elements j x) (integer t) = do
+  rule NotVisible numbers
+  given_that TypeMismatch (is_number j) (elements Unsigned x, integer t)
+numbers_of numbers (integer s) (elements k y) = do
+  rule NotVisible numbers
+  given_that TypeMismatch (is_number k) (integer s, elements Unsigned y)
+numbers_of numbers _ _ = None
+
+-- what is calculated of numbers, and how they are compared
+abbrev pub calculation : (at : ℕ) → Arithmetic → Numeric → Typed × Typed → Option Typed
+calculation at op by p = arithmetic true at op by p.0 p.1
+
+abbrev pub comparing : (at : ℕ) → Cmp → Typed × Typed → Option Typed
+comparing at op p = ordering true at op p.0 p.1
 
 -- the digits of a base
 abbrev pub class_of : Base → ByteClass

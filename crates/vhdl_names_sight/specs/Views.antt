@@ -12,6 +12,9 @@ use Rattle.vhdl_names_rules.specs.views.Tests.{test_view}
 use Rattle.vhdl_names_sight.specs.declared.meaning.Meaning.{Meaning}
 use Rattle.vhdl_names_sight.specs.declared.meaning.Meaning.TheVariants as m
 use Rattle.vhdl_names_sight.specs.declared.meaning.Declared.{Declared}
+use Rattle.vhdl_names_sight.specs.declared.numbers.Numbers.{Numbers}
+use Rattle.vhdl_names_sight.specs.declared.numbers.Numbers.TheVariants as numbers
+use Rattle.vhdl_names_rules.specs.declared.kind.ElementKind.TheVariants.{Unsigned}
 use Rattle.vhdl_names_sight.specs.declared.types.Typed.{Typed}
 use Rattle.vhdl_names_sight.specs.declared.types.Typed.TheVariants as t
 use Rattle.vhdl_names_sight.specs.declared.types.TypedSuffix.{TypedSuffix}
@@ -59,3 +62,9 @@ abbrev pub typed_suffix_view : TypedSuffix → n.Suffix
 typed_suffix_view s.Plain = n.plain
 typed_suffix_view (s.Arguments b xs) = n.arguments b (map typed_view xs.items)
 typed_suffix_view (s.Range r) = n.range (range_view r.value)
+
+abbrev pub numbers_view : Numbers → o.Typed × o.Typed
+numbers_view (numbers.Integers s t) = (o.integer (static_view s), o.integer (static_view t))
+numbers_view (numbers.Vectors x y) = (o.elements Unsigned (vector_view x), o.elements Unsigned (vector_view y))
+numbers_view (numbers.IntegerSecond x t) = (o.elements Unsigned (vector_view x), o.integer (static_view t))
+numbers_view (numbers.IntegerFirst s y) = (o.integer (static_view s), o.elements Unsigned (vector_view y))

@@ -8,6 +8,7 @@ mod held;
 mod literals;
 mod meaning;
 mod names;
+mod numbers;
 mod operands;
 mod operators;
 mod parts;

@@ -43,21 +43,6 @@ fn read_signal(
     Ok(Typed::Elements(kind, Vector::Signal(SignalPart { at, signal, part })))
 }
 
-/// A variable of the nine values, or a part of it.
-fn read_variable(
-    number: usize,
-    kind: ElementKind,
-    suffix: TypedSuffix,
-    at: usize,
-) -> Result<Typed, NameFault>
-    ensures given { Gives typed_view (rules.read_by (units.of_variable at number) kind (typed_suffix_view suffix))
-        result }
-    ensures told { IfErr result (Tells (refused TypeMismatch at)) }
-{
-    let (part, kind) = part(kind, suffix, at)?;
-    Ok(Typed::Elements(kind, Vector::Variable(at, number, part)))
-}
-
 /// A constant of the nine values, or a part of it.
 fn read_constant(
     number: usize,
@@ -215,7 +200,10 @@ fn variable_of(
     ensures told { IfErr result (Tells (refused TypeMismatch at)) }
 {
     match object_type {
-        ObjectType::Elements(kind) => read_variable(number, kind, suffix, at),
+        ObjectType::Elements(kind) => {
+            let (part, kind) = part(kind, suffix, at)?;
+            Ok(Typed::Elements(kind, Vector::Variable(at, number, part)))
+        }
         ObjectType::Enumeration {
             number: enumeration,
             count,

@@ -2,21 +2,21 @@
 //! the memory of a list or a box.
 
 ghost use Rattle.vhdl_names_rules.specs.problems.Broken.{Tells, refused, lacking};
-ghost use Rattle.vhdl_names_rules.specs.problems.Operators.{is_numeric, is_unordered, arithmetic_problem, order_problem, operator_problem};
-ghost use Rattle.vhdl_names_rules.specs.declared.fault.NameProblem.TheVariants.{TypeMismatch, LeftOut, NotVisible};
-ghost use Rattle.std.specs.Prelude.{◌≡◌, ◌&&◌, ◌||◌, if◌then◌else◌, true, false, IfOk, OnErr, IfErr};
+ghost use Rattle.vhdl_names_rules.specs.problems.Operators.{is_unordered, arithmetic_problem, order_problem, operator_problem};
+ghost use Rattle.vhdl_names_rules.specs.declared.fault.NameProblem.TheVariants.{TypeMismatch, LeftOut};
+ghost use Rattle.std.specs.Prelude.{◌≡◌, ◌||◌, if◌then◌else◌, IfOk, IfErr};
 ghost use Rattle.vhdl_names_rules.specs.Gives.{Gives};
 ghost use Rattle.vhdl_names_rules.specs.Operators as table;
-ghost use Rattle.vhdl_names_rules.specs.views.Integers.{static_view};
 ghost use Rattle.vhdl_names_rules.specs.views.Vectors.{value_view};
 ghost use Rattle.vhdl_names_sight.specs.Steps.{same_by};
 ghost use Rattle.vhdl_names_sight.specs.Views.{typed_view};
 
+use crate::numbers::{as_numbers, calculated, compared, integers_compared};
 use crate::types::Typed;
 use std::alloc::{AllocError, Global};
 use vhdl_names_rules::{
-    Arithmetic, ElementKind, NameFault, NameProblem, Numeric, Static, StaticTest, Test, Value,
-    Vector, VectorLink, VectorOperator,
+    Arithmetic, ElementKind, NameFault, NameProblem, Numeric, Test, Value, Vector, VectorLink,
+    VectorOperator,
 };
 use vhdl_tree::Operator;
 use vhdl_values::{Cmp, Logic};
@@ -110,29 +110,8 @@ fn integral(
     }
 }
 
-/// What an operator of numeric_std asks for: operands that it takes for numbers, else there is this
-/// problem, and its use clause.
-fn numeric(
-    numbers: bool,
-    are_numbers: bool,
-    problem: NameProblem,
-    at: usize,
-) -> Result<(), NameFault>
-    ensures visible { IfOk result (λ _. numbers ≡ true) }
-    ensures fitting { IfOk result (λ _. are_numbers ≡ true) }
-    ensures lacks { OnErr result ((numbers && are_numbers) ≡ false) }
-    ensures told { IfErr result (Tells (refused (if are_numbers then NotVisible else problem) at)) }
-{
-    if !are_numbers {
-        return Err(problem.at(at));
-    }
-    if !numbers {
-        return Err(NameProblem::NotVisible.at(at));
-    }
-    Ok(())
-}
-
 /// + - *, at byte `at`, on integers and on numbers.
+#[tactic(auto, using(crate::proofs::Operating::arithmetic_is))]
 fn arithmetic(
     alloc: Global,
     numbers: bool,
@@ -146,40 +125,8 @@ fn arithmetic(
     ensures told { IfErr result (Tells
         (refused (arithmetic_problem (typed_view operands.0) (typed_view operands.1)) at)) }
 {
-    let (left, right) = operands;
-    let problem = NameProblem::TypeMismatch;
-    match left {
-        Typed::Integer(s) => match right {
-            Typed::Integer(t) => Ok(Typed::Integer(s.binary(alloc, operator, at, t)?)),
-            Typed::Elements(k, y) => {
-                numeric(numbers, k.is_number(), problem, at)?;
-                let made = Vector::integer_with(alloc, by, at, s, y)?;
-                Ok(Typed::Elements(ElementKind::Unsigned, made))
-            }
-            _right => Err(problem.at(at)),
-        },
-        Typed::Elements(j, x) => match right {
-            Typed::Elements(k, y) => {
-                numeric(numbers, j.is_number() && k.is_number(), problem, at)?;
-                let link = VectorLink::Vector(VectorOperator::Arithmetic(by), at, y);
-                Ok(Typed::Elements(ElementKind::Unsigned, x.with_link(alloc, link)?))
-            }
-            Typed::Integer(t) => {
-                numeric(numbers, j.is_number(), problem, at)?;
-                let link = VectorLink::Integer(by, at, t);
-                Ok(Typed::Elements(ElementKind::Unsigned, x.with_link(alloc, link)?))
-            }
-            _right => Err(problem.at(at)),
-        },
-        _left => Err(problem.at(at)),
-    }
-}
-
-/// A relation of two static integers.
-fn integers_compared(comparison: Cmp, at: usize, left: Static, right: Static) -> Typed
-    ensures { typed_view result ≡ table.integers_compared at comparison (static_view left) (static_view right) }
-{
-    Typed::Truth(Test::Fixed(StaticTest::Compared(comparison, at, left, right)))
+    let numbers = as_numbers(numbers, at, NameProblem::TypeMismatch, operands)?;
+    Ok(calculated(alloc, at, operator, by, numbers)?)
 }
 
 /// = or /= of two values, by equality.
@@ -278,47 +225,8 @@ fn unordered(operands: &(Typed, Typed)) -> NameProblem
     }
 }
 
-/// < <= > >=, at byte `at`; where the operands are no numbers, there is this problem.
-fn ordered(
-    alloc: Global,
-    numbers: bool,
-    at: usize,
-    comparison: Cmp,
-    problem: NameProblem,
-    operands: (Typed, Typed),
-) -> Result<Typed, NameFault>
-    ensures given { Gives typed_view
-        (table.ordering numbers at comparison (typed_view operands.0) (typed_view operands.1)) result }
-    ensures told { IfErr result (Tells
-        (refused (if is_numeric (typed_view operands.0) && is_numeric (typed_view operands.1) then NotVisible
-        else problem) at)) }
-{
-    let (left, right) = operands;
-    match left {
-        Typed::Integer(s) => match right {
-            Typed::Integer(t) => Ok(integers_compared(comparison, at, s, t)),
-            Typed::Elements(k, y) => {
-                numeric(numbers, k.is_number(), problem, at)?;
-                Ok(Typed::Truth(Test::compared_with(alloc, comparison, at, s, y)?))
-            }
-            _right => Err(problem.at(at)),
-        },
-        Typed::Elements(j, x) => match right {
-            Typed::Elements(k, y) => {
-                numeric(numbers, j.is_number() && k.is_number(), problem, at)?;
-                Ok(Typed::Truth(Test::compared(alloc, comparison, at, x, y)?))
-            }
-            Typed::Integer(t) => {
-                numeric(numbers, j.is_number(), problem, at)?;
-                Ok(Typed::Truth(Test::compared_to(alloc, comparison, at, x, t)?))
-            }
-            _right => Err(problem.at(at)),
-        },
-        _left => Err(problem.at(at)),
-    }
-}
-
 /// < <= > >=, at byte `at`.
+#[tactic(auto, using(crate::proofs::Operating::ordering_is))]
 fn ordering(
     alloc: Global,
     numbers: bool,
@@ -331,7 +239,8 @@ fn ordering(
     ensures told { IfErr result (Tells (refused (order_problem (typed_view operands.0) (typed_view operands.1)) at)) }
 {
     let problem = unordered(&operands);
-    ordered(alloc, numbers, at, comparison, problem, operands)
+    let numbers = as_numbers(numbers, at, problem, operands)?;
+    Ok(compared(alloc, at, comparison, numbers)?)
 }
 
 /// A binary operator, at byte `at`, on typed operands; `numbers` says whether the operators of

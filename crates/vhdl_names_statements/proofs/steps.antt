@@ -4,7 +4,6 @@ pub mod Choosing
 pub mod Completing
 pub mod Concurrent
 pub mod Covering
-pub mod Passing
 pub mod Sequential
 pub mod Told
 pub mod Turns

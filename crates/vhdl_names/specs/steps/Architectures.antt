@@ -15,7 +15,7 @@ use Rattle.vhdl_names_rules.specs.Files as rules
 use Rattle.vhdl_names_units.specs.declared.unit.Architecture.{Architecture}
 use Rattle.vhdl_names_units.specs.views.Units.{architecture_view}
 use Rattle.vhdl_names_declarations.specs.Entered.{entering, more}
-use Rattle.vhdl_names_components.specs.Views.{sight_behind}
+use Rattle.vhdl_names_interfaces.specs.Views.{sight_behind}
 use Rattle.vhdl_names.specs.Views.{Keyed}
 use Rattle.vhdl_names.specs.steps.Outlines.{described_of}
 

@@ -2,22 +2,19 @@
 use Rattle.std.proofs.Common.{◌≡◌, List, Some}
 use Rattle.vhdl_tree.specs.Tree as t
 use Rattle.vhdl_names_rules.specs.declared.kind.ObjectType.{ObjectType}
-use Rattle.vhdl_names_rules.specs.declared.fault.NameFault.{NameFault}
 use Rattle.vhdl_names_rules.specs.units.Statements as s
 use Rattle.vhdl_names_rules.specs.Rules.{each}
 use Rattle.vhdl_names_rules.specs.Visibility.{Sight}
 use Rattle.vhdl_names_rules.specs.Expressions as are
 use Rattle.vhdl_names_rules.specs.Choices as chosen
-use Rattle.vhdl_names_rules.specs.Statements.{SignalName}
 use Rattle.vhdl_names_rules.specs.Statements as objects
 use Rattle.vhdl_names_rules.proofs.laws.Rules.{comes}
-use Rattle.vhdl_names_rules.specs.problems.Broken.{Broken, Tells, where_given, any_of}
-use Rattle.vhdl_names_rules.specs.problems.Expressions.{value_given}
-use Rattle.vhdl_names_rules.specs.problems.Statements.{target, assigned, variable, variable_assigned}
+use Rattle.vhdl_names_rules.specs.problems.Broken.{any_of}
+use Rattle.vhdl_names_rules.specs.problems.Statements.{assigned}
 use Rattle.vhdl_names_rules.specs.problems.Concurrent as broken
-use Rattle.vhdl_names_rules.proofs.Telling.{IsKept, both_kept, told_left, told_right, told_given}
+use Rattle.vhdl_names_rules.proofs.Telling.{IsKept, both_kept}
 use Rattle.vhdl_names_rules.proofs.kept.Keeping.{each_kept}
-use Rattle.vhdl_names_rules.proofs.kept.Statements.{target_kept, variable_kept, assigned_kept}
+use Rattle.vhdl_names_rules.proofs.kept.Statements.{assigned_kept}
 use Rattle.vhdl_names_rules.proofs.kept.Expressions.{condition_kept}
 use Rattle.vhdl_names_rules.proofs.kept.Choices.{choices_kept}
 use Rattle.vhdl_names_units.specs.views.Sequential.{Guarded, Chosen}
@@ -26,28 +23,6 @@ use Rattle.vhdl_names_statements.specs.steps.Sequential as sequential
 
 module _ (sight : Sight) (n : t.Name) where
   -- ---- a value
-
-  module _ (v : t.Value) (f : NameFault) where
-    abbrev of_signal : Broken
-    of_signal = where_given (objects.target sight n) (λ x. value_given sight x.type v)
-
-    abbrev of_variable : Broken
-    of_variable = where_given (objects.variable sight n) (λ x. value_given sight x.type v)
-
-    pub assigned_target : Tells (target sight n) f → Tells (assigned sight n v) f
-    assigned_target h = told_left (target sight n) of_signal f h
-
-    pub assigned_value : (x : SignalName) → objects.target sight n ≡ Some x → Tells (value_given sight x.type v) f → Tells (assigned sight n v) f
-    assigned_value x is h =
-        told_right (target sight n) of_signal f (target_kept sight n x is) (told_given (λ (x : SignalName). value_given sight x.type v) (objects.target sight n) x f is h)
-
-    pub set_variable : Tells (variable sight n) f → Tells (variable_assigned sight n v) f
-    set_variable h = told_left (variable sight n) of_variable f h
-
-    pub set_value : (x : objects.VariableName) → objects.variable sight n ≡ Some x → Tells (value_given sight x.type v) f → Tells (variable_assigned sight n v) f
-    set_value x is h =
-        told_right (variable sight n) of_variable f (variable_kept sight n x is)
-        (told_given (λ (x : objects.VariableName). value_given sight x.type v) (objects.variable sight n) x f is h)
 
   pub one_kept : (v : t.Value) (y : s.Statement) → sequential.assigned sight n v ≡ Some y → IsKept (assigned sight n v)
   one_kept v y h =

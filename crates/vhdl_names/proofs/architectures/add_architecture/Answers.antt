@@ -6,7 +6,7 @@ use Rattle.vhdl_names_rules.specs.Files as rules
 use Rattle.vhdl_names_units.specs.Once.{names_view}
 use Rattle.vhdl_names_rules.specs.problems.Files as broken
 use Rattle.vhdl_names_rules.proofs.Telling.{told_same}
-use Rattle.vhdl_names_components.specs.Views.{entities_view, entity_view}
+use Rattle.vhdl_names_interfaces.specs.Views.{entities_view, entity_view}
 use Rattle.vhdl_names_units.specs.views.Units.{architecture_view}
 use Rattle.vhdl_names.proofs.Finding.{found_same, passed_told}
 use Rattle.vhdl_names.proofs.Described.{described_at, described_nowhere, with_at, with_nowhere, put_there, ok_all}

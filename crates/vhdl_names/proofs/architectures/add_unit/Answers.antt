@@ -4,7 +4,7 @@ use Rattle.vhdl_names_rules.specs.Files.{architectures_of}
 use Rattle.vhdl_names_units.specs.Once.{names_view}
 use Rattle.vhdl_names_rules.specs.problems.Broken.{any_of}
 use Rattle.vhdl_names_rules.specs.problems.Files.{described}
-use Rattle.vhdl_names_components.specs.Views.{entities_view}
+use Rattle.vhdl_names_interfaces.specs.Views.{entities_view}
 use Rattle.vhdl_names.proofs.Finding.{found_same}
 use Rattle.vhdl_names.proofs.Described.{alone_is}
 use Rattle.vhdl_names.proofs.architectures.add_unit.Goals as goal

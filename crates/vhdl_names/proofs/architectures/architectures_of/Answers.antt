@@ -4,7 +4,7 @@ use Rattle.std.proofs.lemmas.List.{with_items_is}
 use Rattle.vhdl_names_units.specs.Lists.{in_turn}
 use Rattle.vhdl_names_units.specs.Once.{names_view}
 use Rattle.vhdl_names_units.specs.views.Units.{architecture_view}
-use Rattle.vhdl_names_components.specs.Views.{entities_view}
+use Rattle.vhdl_names_interfaces.specs.Views.{entities_view}
 use Rattle.vhdl_tree.specs.View as view
 use Rattle.vhdl_names_rules.specs.Files.{architectures_of}
 use Rattle.vhdl_names_rules.specs.problems.Broken.{any_of}

@@ -2,7 +2,7 @@ use Rattle.std.proofs.Common.{◌≡◌, false, length, replicate, None}
 use Rattle.vhdl_tree.specs.View as view
 use Rattle.vhdl_names_units.specs.Lists.{in_turn}
 use Rattle.vhdl_names_units.specs.Once.{names_view}
-use Rattle.vhdl_names_components.specs.Views.{entities_view}
+use Rattle.vhdl_names_interfaces.specs.Views.{entities_view}
 use Rattle.vhdl_names_rules.specs.Visibility.{Name}
 use Rattle.vhdl_names_rules.specs.Files.{architectures_of}
 use Rattle.vhdl_names_rules.specs.problems.Broken.{any_of}

@@ -2,7 +2,7 @@ use Rattle.std.proofs.Common.{map}
 use Rattle.vhdl_tree.specs.View as view
 use Rattle.vhdl_names_rules.specs.Files as rules
 use Rattle.vhdl_names_units.specs.views.Units.{architecture_view}
-use Rattle.vhdl_names_components.specs.Views.{entities_view, entity_view}
+use Rattle.vhdl_names_interfaces.specs.Views.{entities_view, entity_view}
 use Rattle.vhdl_names_rules.specs.problems.Files as broken
 use Rattle.vhdl_names_rules.proofs.kept.Architectures.{architecture_kept}
 use Rattle.vhdl_names.proofs.Behind.{then_within}

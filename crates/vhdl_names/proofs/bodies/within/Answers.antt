@@ -8,7 +8,7 @@ use Rattle.vhdl_names_rules.specs.Files as rules
 use Rattle.vhdl_names_units.specs.views.Declarations.{declarations_view}
 use Rattle.vhdl_names_units.specs.views.Units.{architecture_view}
 use Rattle.vhdl_names_declarations.specs.Entered.{entering}
-use Rattle.vhdl_names_components.specs.Views.{entities_view}
+use Rattle.vhdl_names_interfaces.specs.Views.{entities_view}
 use Rattle.vhdl_names_rules.specs.problems.Broken.{◌▸◌}
 use Rattle.vhdl_names_rules.specs.problems.Declarations.{in_order as in_turn, end_name}
 use Rattle.vhdl_names_rules.specs.problems.Files as broken

@@ -1,5 +1,5 @@
 use Rattle.vhdl_tree.specs.View as view
-use Rattle.vhdl_names_components.specs.Views.{entities_view}
+use Rattle.vhdl_names_interfaces.specs.Views.{entities_view}
 use Rattle.vhdl_names.specs.Views.{architectures_view}
 use Rattle.vhdl_names.proofs.Entering.{Entered}
 use Rattle.vhdl_names.proofs.Passing.{left_at}

@@ -18,7 +18,8 @@ use Rattle.vhdl_names_statements.proofs.steps.Sequential.{if_is, for_is}
 use Rattle.vhdl_names.specs.steps.Labels as steps
 use Rattle.vhdl_names.proofs.Labelling.{if_labels, case_labels, loop_labels}
 use Rattle.vhdl_names.proofs.StandingTwice.{twice_before, twice_past, item_told, item_left, item_given, of_statement, of_statements, of_branch, of_branches, of_alternative, of_alternatives, statement_split, branch_split, alternative_split, statement_named, statements_listed, branches_listed}
-use Rattle.vhdl_names.proofs.Finding.{passed_err, passed_on}
+use Rattle.vhdl_names.proofs.Finding.{passed_err}
+use Rattle.vhdl_names_sight.proofs.Passing.{passed_on}
 use Rattle.vhdl_names.proofs.Turns.{none_next}
 use Rattle.vhdl_names.proofs.process_labels.+labels.Goals as goal
 

@@ -14,7 +14,8 @@ use Rattle.vhdl_names.specs.AllPlaces.{all_places_view}
 use Rattle.vhdl_names.specs.steps.Processes.{place_of}
 use Rattle.vhdl_names_sight.proofs.Memory.{memory_gives, memory_told}
 use Rattle.vhdl_names_statements.proofs.steps.Told.{more_done, none_more}
-use Rattle.vhdl_names.proofs.Finding.{passed_err, passed_on}
+use Rattle.vhdl_names.proofs.Finding.{passed_err}
+use Rattle.vhdl_names_sight.proofs.Passing.{passed_on}
 use Rattle.vhdl_names.proofs.processes.places.Goals as goal
 
 pub returns-in_err-named-clause-told : goal.returns-in_err-named-clause-told

@@ -11,7 +11,7 @@ use Rattle.vhdl_names_sight.proofs.Along.{gives_along}
 use Rattle.vhdl_names_sight.proofs.Memory.{memory_gives, memory_told}
 use Rattle.vhdl_names_statements.proofs.steps.Told.{more_done, none_more}
 use Rattle.vhdl_names_statements.proofs.steps.Turns.{none_done, all_done}
-use Rattle.vhdl_names_components.proofs.Interfacing.{told_nothing}
+use Rattle.vhdl_names_interfaces.proofs.Interfacing.{told_nothing}
 use Rattle.vhdl_names_units.specs.views.Concurrent as views
 use Rattle.vhdl_names_rules.specs.problems.Broken.{Tells}
 use Rattle.vhdl_names_rules.specs.problems.Twice.{twice}
@@ -29,7 +29,8 @@ use Rattle.vhdl_names.specs.steps.Concurrents as steps
 use Rattle.vhdl_names.specs.steps.Told as told
 use Rattle.vhdl_names.proofs.Generating.{generate_gives, no_scheme, no_body, no_end}
 use Rattle.vhdl_names.proofs.Told as by
-use Rattle.vhdl_names.proofs.Finding.{passed_err, passed_on, some_none}
+use Rattle.vhdl_names.proofs.Finding.{passed_err, some_none}
+use Rattle.vhdl_names_sight.proofs.Passing.{passed_on}
 use Rattle.vhdl_names.proofs.statements.+concurrent.Goals as goal
 
 pub generate-returns-in_err-by-clause-given : goal.generate-returns-in_err-by-clause-given

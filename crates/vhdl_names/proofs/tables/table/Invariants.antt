@@ -1,6 +1,6 @@
 use Rattle.std.proofs.Common.{◌≡◌, drop}
 use Rattle.vhdl_names_units.specs.Lists.{in_turn}
-use Rattle.vhdl_names_components.specs.Views.{entities_view}
+use Rattle.vhdl_names_interfaces.specs.Views.{entities_view}
 use Rattle.vhdl_names.specs.steps.Tables.{table_view, with_seen, no_table}
 use Rattle.vhdl_names.proofs.tables.table.Given as goal
 

@@ -2,7 +2,7 @@ use Rattle.std.proofs.Common.{◌≡◌, ◌++◌, map}
 use Rattle.std.specs.Prelude.{option_map}
 use Rattle.std.specs.Vec.Iter.{into_iter_items}
 use Rattle.vhdl_names_units.specs.views.Units as views
-use Rattle.vhdl_names_components.specs.Views.{entities_view}
+use Rattle.vhdl_names_interfaces.specs.Views.{entities_view}
 use Rattle.vhdl_names.specs.steps.Architectures.{options_view}
 use Rattle.vhdl_names.specs.steps.Units.{joined}
 use Rattle.vhdl_names.proofs.Tabling.{entry_view}

@@ -3,7 +3,7 @@ use Rattle.vhdl_tree.specs.View.{file_view}
 use Rattle.vhdl_names_rules.specs.problems.Files as broken
 use Rattle.vhdl_names_rules.specs.problems.Broken.{earlier}
 use Rattle.vhdl_names_rules.specs.Files.{units_of}
-use Rattle.vhdl_names_components.specs.Views.{entities_view}
+use Rattle.vhdl_names_interfaces.specs.Views.{entities_view}
 use Rattle.vhdl_names.specs.Views.{outline_view}
 use Rattle.vhdl_names.specs.steps.Architectures.{options_view}
 use Rattle.vhdl_names.specs.steps.Outlines.{outlined}

@@ -9,7 +9,7 @@ use Rattle.vhdl_names_rules.specs.problems.Declarations as broken
 use Rattle.vhdl_names_rules.specs.problems.Expressions as expressions_broken
 use Rattle.vhdl_names_rules.proofs.Telling.{told_same, told_left, told_right, unless_kept}
 use Rattle.vhdl_names_declarations.proofs.Breaking.{stands_there, not_there, value_is}
-use Rattle.vhdl_names_declarations.proofs.Breaking.{passed_on}
+use Rattle.vhdl_names_sight.proofs.Passing.{told_by}
 use Rattle.vhdl_names_declarations.proofs.constants.integer.Goals as goal
 
 pub returns-in_err-e-clause-told : goal.returns-in_err-e-clause-told
@@ -20,7 +20,7 @@ returns-in_err-e-clause-told c =
     let f : Tells (broken.integer_constants c.args.sight.now (tree.constants_view c.args.declaration.now)) c.in_err-e.field-0.0 =
     told_right (unless LeftOut p.subtype.mark.at (is_none p.subtype.range)) (broken.integer_value s p.value) c.in_err-e.field-0.0
     (unless_kept LeftOut p.subtype.mark.at (is_none p.subtype.range) (not_there tree.range_view c.args.declaration.now.subtype.range gone)) (c.in_err-e.ensures.told s) in
-    passed_on _ c.in_err-e.field-0.0 _ c.from_residual.result c.from_residual.ensures.1 (λ e p. p) f
+    told_by _ c.in_err-e.field-0.0 _ c.from_residual.result c.from_residual.ensures.1 (λ e p. p) f
 
 pub returns-in_err-value-clause-told : goal.returns-in_err-value-clause-told
 returns-in_err-value-clause-told c =
@@ -32,7 +32,7 @@ returns-in_err-value-clause-told c =
     told_right (unless LeftOut p.subtype.mark.at (is_none p.subtype.range)) (broken.integer_value s p.value) c.in_err-value.field-0.0
     (unless_kept LeftOut p.subtype.mark.at (is_none p.subtype.range) (not_there tree.range_view c.args.declaration.now.subtype.range gone))
     (told_same (expressions_broken.static s e) (broken.integer_value s p.value) c.in_err-value.field-0.0 (value_is s p.value e c.in_ok-e.ensures.given) c.in_err-value.ensures.told) in
-    passed_on _ c.in_err-value.field-0.0 _ c.from_residual-in_err-value.result c.from_residual-in_err-value.ensures.1 (λ e p. p) f
+    told_by _ c.in_err-value.field-0.0 _ c.from_residual-in_err-value.result c.from_residual-in_err-value.ensures.1 (λ e p. p) f
 
 pub returns-then-is_some-clause-told : goal.returns-then-is_some-clause-told
 returns-then-is_some-clause-told c =

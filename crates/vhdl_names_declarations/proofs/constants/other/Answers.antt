@@ -1,49 +1,28 @@
-use Rattle.vhdl_names_rules.specs.problems.Broken.{Tells, ◌▸◌, where_given}
+use Rattle.vhdl_names_rules.specs.problems.Broken.{◌▸◌}
 use Rattle.vhdl_names_rules.specs.problems.Declarations as broken
 use Rattle.vhdl_names_rules.specs.problems.Subtypes as subtypes_broken
-use Rattle.vhdl_names_rules.proofs.Telling.{told_left, told_right, told_given, told_lacking, lacking_kept}
-use Rattle.vhdl_names_rules.proofs.kept.Values.{subtype_kept}
+use Rattle.vhdl_names_rules.proofs.Telling.{told_left, told_right, told_lacking, lacking_kept}
 use Rattle.vhdl_names_rules.specs.declared.fault.NameProblem.TheVariants.{LeftOut}
 use Rattle.vhdl_names_rules.specs.Declarations.{as_kind}
-use Rattle.vhdl_names_rules.specs.Subtypes.{Subtype, subtype}
 use Rattle.vhdl_tree.specs.View as tree
 use Rattle.vhdl_names_units.specs.views.Answers.{subtype_view}
-use Rattle.vhdl_names_declarations.proofs.Breaking.{passed_on}
+use Rattle.vhdl_names_sight.proofs.Passing.{told_first}
+use Rattle.vhdl_names_declarations.proofs.Breaking.{behind_subtype}
 use Rattle.vhdl_names_declarations.proofs.constants.other.Goals as goal
 
 pub returns-in_err-subtype-clause-told : goal.returns-in_err-subtype-clause-told
-returns-in_err-subtype-clause-told c =
-    let s = c.args.sight.now in
-    let p = tree.constants_view c.args.declaration.now in
-    let first = subtypes_broken.subtype s p.subtype in
-    let by = λ (x : Subtype). broken.nine_valued p.subtype.mark x ▸ subtypes_broken.fixed_value s x.type p.value in
-    let last = where_given (subtype s p.subtype) by in
-    let f : Tells (broken.other_constants c.args.sight.now (tree.constants_view c.args.declaration.now)) c.in_err-subtype.field-0.0 =
-    told_left first last c.in_err-subtype.field-0.0 c.in_err-subtype.ensures.told in
-    passed_on _ c.in_err-subtype.field-0.0 _ c.from_residual.result c.from_residual.ensures.1 (λ e p. p) f
+returns-in_err-subtype-clause-told c = told_first _ _ _ _ c.from_residual.result c.from_residual.ensures.1 (λ e p. p) c.in_err-subtype.ensures.told
 
 pub returns-in_err-kind-clause-told : goal.returns-in_err-kind-clause-told
 returns-in_err-kind-clause-told c =
-    let s = c.args.sight.now in
-    let p = tree.constants_view c.args.declaration.now in
-    let first = subtypes_broken.subtype s p.subtype in
-    let by = λ (x : Subtype). broken.nine_valued p.subtype.mark x ▸ subtypes_broken.fixed_value s x.type p.value in
-    let last = where_given (subtype s p.subtype) by in
+    let d = tree.constants_view c.args.declaration.now in
     let x = subtype_view c.in_ok-subtype.subtype in
-    let value = subtypes_broken.fixed_value s x.type p.value in
-    let f : Tells (broken.other_constants c.args.sight.now (tree.constants_view c.args.declaration.now)) c.in_err-kind.field-0.0 =
-    told_right first last c.in_err-kind.field-0.0 (subtype_kept s p.subtype (subtype_view c.in_ok-subtype.subtype) c.in_ok-subtype.ensures.given) (told_given by (subtype s p.subtype) x c.in_err-kind.field-0.0 c.in_ok-subtype.ensures.given (told_left (broken.nine_valued p.subtype.mark x) value c.in_err-kind.field-0.0 (told_lacking LeftOut p.subtype.mark.at (as_kind x.type) c.in_err-kind.field-0.0 c.in_err-kind.ensures.given c.in_err-kind.ensures.told))) in
-    passed_on _ c.in_err-kind.field-0.0 _ c.from_residual-in_err-kind.result c.from_residual-in_err-kind.ensures.1 (λ e p. p) f
+    behind_subtype c.args.sight.now d.subtype (λ y. broken.nine_valued d.subtype.mark y ▸ subtypes_broken.fixed_value c.args.sight.now y.type d.value) x _ _ c.from_residual-in_err-kind.result c.from_residual-in_err-kind.ensures.1 (λ e p. p) c.in_ok-subtype.ensures.given
+    (told_left _ _ _ (told_lacking LeftOut d.subtype.mark.at (as_kind x.type) _ c.in_err-kind.ensures.given c.in_err-kind.ensures.told))
 
 pub returns-in_err-value-clause-told : goal.returns-in_err-value-clause-told
 returns-in_err-value-clause-told c =
-    let s = c.args.sight.now in
-    let p = tree.constants_view c.args.declaration.now in
-    let first = subtypes_broken.subtype s p.subtype in
-    let by = λ (x : Subtype). broken.nine_valued p.subtype.mark x ▸ subtypes_broken.fixed_value s x.type p.value in
-    let last = where_given (subtype s p.subtype) by in
+    let d = tree.constants_view c.args.declaration.now in
     let x = subtype_view c.in_ok-subtype.subtype in
-    let value = subtypes_broken.fixed_value s x.type p.value in
-    let f : Tells (broken.other_constants c.args.sight.now (tree.constants_view c.args.declaration.now)) c.in_err-value.field-0.0 =
-    told_right first last c.in_err-value.field-0.0 (subtype_kept s p.subtype (subtype_view c.in_ok-subtype.subtype) c.in_ok-subtype.ensures.given) (told_given by (subtype s p.subtype) x c.in_err-value.field-0.0 c.in_ok-subtype.ensures.given (told_right (broken.nine_valued p.subtype.mark x) value c.in_err-value.field-0.0 (lacking_kept LeftOut p.subtype.mark.at (as_kind x.type) c.in_ok-kind.kind c.in_ok-kind.ensures.given) c.in_err-value.ensures.told)) in
-    passed_on _ c.in_err-value.field-0.0 _ c.from_residual-in_err-value.result c.from_residual-in_err-value.ensures.1 (λ e p. p) f
+    behind_subtype c.args.sight.now d.subtype (λ y. broken.nine_valued d.subtype.mark y ▸ subtypes_broken.fixed_value c.args.sight.now y.type d.value) x _ _ c.from_residual-in_err-value.result c.from_residual-in_err-value.ensures.1 (λ e p. p) c.in_ok-subtype.ensures.given
+    (told_right _ _ _ (lacking_kept LeftOut d.subtype.mark.at (as_kind x.type) c.in_ok-kind.kind c.in_ok-kind.ensures.given) c.in_err-value.ensures.told)

@@ -8,7 +8,7 @@ use Rattle.vhdl_names_rules.specs.problems.Declarations as broken
 use Rattle.vhdl_names_rules.specs.problems.Expressions as expressions_broken
 use Rattle.vhdl_names_rules.proofs.Telling.{told_left, told_right, told_given, told_on}
 use Rattle.vhdl_names_rules.proofs.kept.Expressions.{meaning_kept}
-use Rattle.vhdl_names_declarations.proofs.Breaking.{passed_on}
+use Rattle.vhdl_names_sight.proofs.Passing.{told_by}
 use Rattle.vhdl_names_declarations.proofs.constants.typed_constant.Goals as goal
 
 pub returns-in_err-mark-clause-told : goal.returns-in_err-mark-clause-told
@@ -18,7 +18,7 @@ returns-in_err-mark-clause-told c =
     let by = λ (m : Meaning). broken.constants_by s d (as_integer_type m) in
     let f : Tells (broken.typed_constants c.args.sight.now (tree.constants_view c.args.declaration.now)) c.in_err-mark.field-0.0 =
     told_left (expressions_broken.meaning s d.subtype.mark) (where_given (meaning s d.subtype.mark.text) by) c.in_err-mark.field-0.0 c.in_err-mark.ensures.told in
-    passed_on _ c.in_err-mark.field-0.0 _ c.from_residual.result c.from_residual.ensures.1 (λ e p. p) f
+    told_by _ c.in_err-mark.field-0.0 _ c.from_residual.result c.from_residual.ensures.1 (λ e p. p) f
 
 pub returns-in-Some-clause-told : goal.returns-in-Some-clause-told
 returns-in-Some-clause-told c =

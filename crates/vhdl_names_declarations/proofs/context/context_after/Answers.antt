@@ -7,8 +7,7 @@ use Rattle.vhdl_names_rules.specs.problems.Broken.{Tells}
 use Rattle.vhdl_names_rules.specs.problems.Declarations as broken
 use Rattle.vhdl_names_declarations.specs.Contexts.{context_view}
 use Rattle.vhdl_names_declarations.proofs.Clauses.{item_fails, item_goes, item_told, items_told}
-use Rattle.vhdl_names_declarations.proofs.Breaking.{passed_on}
-use Rattle.vhdl_names_declarations.proofs.Passing.{gives_none}
+use Rattle.vhdl_names_sight.proofs.Passing.{passed_on, told_by}
 use Rattle.vhdl_names_declarations.proofs.context.context_after.Goals as goal
 
 pub loop-item-init : goal.loop-item-init
@@ -19,7 +18,7 @@ returns-in_err-now-clause-given c =
     let lt : c.loop-item.item-index < length c.args.items.now = omega arith in
     let f : c.in_err-now.field-0.0 ≢ NoMemory → rules.context (context_view c.args.before) (map tree.context_view c.args.items.now) ≡ None =
     λ n. c.loop-item.invariant.0 ∙ item_fails tree.context_view c.args.items.now c.loop-item.item-index c.item-item.result lt c.item-item.is (context_view c.loop-item.now) (c.in_err-now.ensures.given n) in
-    gives_none _ _ c.in_err-now.field-0.0 _ c.from_residual.result c.from_residual.ensures.1 (λ e p. p) f
+    passed_on _ _ c.in_err-now.field-0.0 _ c.from_residual.result c.from_residual.ensures.1 (λ e p. p) f
 
 pub returns-in_err-now-clause-told : goal.returns-in_err-now-clause-told
 returns-in_err-now-clause-told c =
@@ -27,7 +26,7 @@ returns-in_err-now-clause-told c =
     let f : Tells (broken.context (context_view c.args.before) (map tree.context_view c.args.items.now)) c.in_err-now.field-0.0 =
     c.loop-item.invariant.1 c.in_err-now.field-0.0
     (item_told tree.context_view c.args.items.now c.loop-item.item-index c.item-item.result lt c.item-item.is (context_view c.loop-item.now) c.in_err-now.field-0.0 c.in_err-now.ensures.told) in
-    passed_on _ c.in_err-now.field-0.0 _ c.from_residual.result c.from_residual.ensures.1 (λ e p. p) f
+    told_by _ c.in_err-now.field-0.0 _ c.from_residual.result c.from_residual.ensures.1 (λ e p. p) f
 
 pub loop-item-preserved : goal.loop-item-preserved
 loop-item-preserved c =

@@ -11,8 +11,7 @@ use Rattle.vhdl_names_sight.specs.Seen.{sight_view}
 use Rattle.vhdl_names_sight.specs.Views.{region_view}
 use Rattle.vhdl_names_declarations.specs.Entered.{more, entering}
 use Rattle.vhdl_names_declarations.proofs.Declaring.{too_many, too_many_told, few_enough, enumeration_is, in_region}
-use Rattle.vhdl_names_declarations.proofs.Breaking.{passed_on}
-use Rattle.vhdl_names_declarations.proofs.Passing.{gives_none}
+use Rattle.vhdl_names_sight.proofs.Passing.{passed_on, told_by}
 use Rattle.vhdl_names_declarations.proofs.enumeration.enumeration.Goals as goal
 use Rattle.vhdl_names_rules.specs.problems.Broken.{Tells}
 use Rattle.vhdl_names_rules.specs.problems.Declarations as broken
@@ -34,7 +33,7 @@ returns-in_err-declare-clause-given c = rw (← c.sight.view_is) (
     let f : c.in_err-declare.field-0.0 ≢ NoMemory → entering d.enumeration (sight_view c.sight.inside) (enumeration_view c.args.declaration.now) ≡ None =
     λ n. enumeration_is s d' c.args.number c.len-count.result (rw (← c.sight.view_is) at c.requires) count (omega arith)
     ∙ ap (λ o. (o >>= λ r. more r (d.literals c.args.number c.len-count.result 0 (names_of d'.literals))) >>= in_region s) (c.in_err-declare.ensures.given n) in
-    gives_none _ _ c.in_err-declare.field-0.0 _ c.from_residual.result c.from_residual.ensures.1 (λ e p. p) f)
+    passed_on _ _ c.in_err-declare.field-0.0 _ c.from_residual.result c.from_residual.ensures.1 (λ e p. p) f)
 
 pub returns-in_err-literals-clause-given : goal.returns-in_err-literals-clause-given
 returns-in_err-literals-clause-given c = rw (← c.sight.view_is) (
@@ -49,7 +48,7 @@ returns-in_err-literals-clause-given c = rw (← c.sight.view_is) (
     ∙ ap (λ k. more (region_view c.declare.new.region) (d.literals c.args.number k 0 (names_of d'.literals)) >>= in_region s) same
     ∙ ap (λ l. more (region_view c.declare.new.region) (d.literals c.args.number (length c.deref.result.now) 0 (names_of (map ident_view l))) >>= in_region s) (sym c.deref.ensures.value)
     ∙ ap (λ o. o >>= in_region s) (c.in_err-literals.ensures.given n) in
-    gives_none _ _ c.in_err-literals.field-0.0 _ c.from_residual-in_err-literals.result c.from_residual-in_err-literals.ensures.1 (λ e p. p) f)
+    passed_on _ _ c.in_err-literals.field-0.0 _ c.from_residual-in_err-literals.result c.from_residual-in_err-literals.ensures.1 (λ e p. p) f)
 
 pub returns-clause-given : goal.returns-clause-given
 returns-clause-given c = rw (← c.sight.view_is) (
@@ -79,7 +78,7 @@ returns-in_err-declare-clause-told c = rw (← c.sight.view_is) (
     let f : Tells (broken.enumeration (sight_view c.sight.inside) (enumeration_view c.args.declaration.now)) c.in_err-declare.field-0.0 =
     told_same (standing_twice s.region (d'.name ∷ d'.literals)) (broken.enumeration s d') c.in_err-declare.field-0.0 (sym (few_enough s d' few))
     (twice_more (declared_names s.region) (d'.name ∷ []) d'.literals c.in_err-declare.field-0.0 c.in_err-declare.ensures.told) in
-    passed_on _ c.in_err-declare.field-0.0 _ c.from_residual.result c.from_residual.ensures.1 (λ e p. p) f)
+    told_by _ c.in_err-declare.field-0.0 _ c.from_residual.result c.from_residual.ensures.1 (λ e p. p) f)
 
 pub returns-in_err-literals-clause-told : goal.returns-in_err-literals-clause-told
 returns-in_err-literals-clause-told c = rw (← c.sight.view_is) (
@@ -93,4 +92,4 @@ returns-in_err-literals-clause-told c = rw (← c.sight.view_is) (
     told_same (standing_twice r d'.literals) (broken.enumeration s d') c.in_err-literals.field-0.0
     (sym (few_enough s d' few ∙ standing_behind s.region (first ∷ []) (d'.name ∷ []) refl r c.in_ok-declare.ensures.given d'.literals))
     (subst (λ l. Tells (standing_twice r (map ident_view l)) c.in_err-literals.field-0.0) c.deref.ensures.value c.in_err-literals.ensures.told) in
-    passed_on _ c.in_err-literals.field-0.0 _ c.from_residual-in_err-literals.result c.from_residual-in_err-literals.ensures.1 (λ e p. p) f)
+    told_by _ c.in_err-literals.field-0.0 _ c.from_residual-in_err-literals.result c.from_residual-in_err-literals.ensures.1 (λ e p. p) f)

@@ -11,8 +11,7 @@ use Rattle.vhdl_tree.specs.View.{ident_view}
 use Rattle.vhdl_names_sight.specs.Views.{region_view}
 use Rattle.vhdl_names_declarations.specs.Entered.{more}
 use Rattle.vhdl_names_declarations.proofs.Declaring.{next_literal, no_literals}
-use Rattle.vhdl_names_declarations.proofs.Breaking.{passed_on}
-use Rattle.vhdl_names_declarations.proofs.Passing.{gives_none}
+use Rattle.vhdl_names_sight.proofs.Passing.{passed_on, told_by}
 use Rattle.vhdl_names_declarations.proofs.enumeration.literals.Goals as goal
 
 pub returns-in_err-declare-clause-given : goal.returns-in_err-declare-clause-given
@@ -25,7 +24,7 @@ returns-in_err-declare-clause-given c =
     λ n. c.loop-position.invariant.0
     ∙ next_literal (region_view c.loop-position.region) e (length xs) i xs c.index-literals-position.result lt c.index-literals-position.is
     ∙ ap (λ o. o >>= λ r. more r (d.literals e (length xs) (i + 1) (names_of (map ident_view (drop (i + 1) xs))))) (c.in_err-declare.ensures.given n) in
-    gives_none _ _ c.in_err-declare.field-0.0 _ c.from_residual.result c.from_residual.ensures.1 (λ e p. p) f
+    passed_on _ _ c.in_err-declare.field-0.0 _ c.from_residual.result c.from_residual.ensures.1 (λ e p. p) f
 
 pub loop-position-init : goal.loop-position-init
 loop-position-init c = (refl, refl)
@@ -59,4 +58,4 @@ returns-in_err-declare-clause-told c =
     let f : Tells (standing_twice (region_view c.args.region.now) (map ident_view c.args.literals.now)) c.in_err-declare.field-0.0 =
     told_same (standing_twice r (map ident_view (drop i xs))) (standing_twice (region_view c.args.region.now) (map ident_view xs)) c.in_err-declare.field-0.0 (sym c.loop-position.invariant.1)
     (name_told ident_view xs i c.index-literals-position.result lt c.index-literals-position.is r c.in_err-declare.field-0.0 c.in_err-declare.ensures.told) in
-    passed_on _ c.in_err-declare.field-0.0 _ c.from_residual.result c.from_residual.ensures.1 (λ e p. p) f
+    told_by _ c.in_err-declare.field-0.0 _ c.from_residual.result c.from_residual.ensures.1 (λ e p. p) f

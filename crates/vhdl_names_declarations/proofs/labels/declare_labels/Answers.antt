@@ -8,8 +8,7 @@ use Rattle.vhdl_names_rules.specs.problems.Broken.{Tells}
 use Rattle.vhdl_names_rules.specs.problems.Declarations.{standing_twice}
 use Rattle.vhdl_names_rules.proofs.Telling.{told_same}
 use Rattle.vhdl_names_declarations.proofs.Labelling.{label_names_of, labels_in, label_told, label_behind, next_label, no_labels}
-use Rattle.vhdl_names_declarations.proofs.Breaking.{passed_on}
-use Rattle.vhdl_names_declarations.proofs.Passing.{gives_none}
+use Rattle.vhdl_names_sight.proofs.Passing.{passed_on, told_by}
 use Rattle.vhdl_names_declarations.proofs.labels.declare_labels.Goals as goal
 
 pub returns-in_err-declare_label-clause-given : goal.returns-in_err-declare_label-clause-given
@@ -21,7 +20,7 @@ returns-in_err-declare_label-clause-given c =
     λ n. c.loop-statement.invariant.0
     ∙ next_label (region_view c.loop-statement.region) cs i c.statement-item.result lt c.statement-item.is
     ∙ ap (λ o. o >>= λ r. more r (labelled (label_names_of (drop (i + 1) cs)))) (c.in_err-declare_label.ensures.given n) in
-    gives_none _ _ c.in_err-declare_label.field-0.0 _ c.from_residual.result c.from_residual.ensures.1 (λ e p. p) f
+    passed_on _ _ c.in_err-declare_label.field-0.0 _ c.from_residual.result c.from_residual.ensures.1 (λ e p. p) f
 
 pub loop-statement-init : goal.loop-statement-init
 loop-statement-init c = (refl, refl)
@@ -52,4 +51,4 @@ returns-in_err-declare_label-clause-told c =
     let f : Tells (standing_twice (region_view c.args.region.now) (labels_in c.args.statements.now)) c.in_err-declare_label.field-0.0 =
     told_same (standing_twice r (labels_in (drop i cs))) (standing_twice old (labels_in cs)) c.in_err-declare_label.field-0.0 (sym c.loop-statement.invariant.1)
     (label_told r cs i c.statement-item.result c.in_err-declare_label.field-0.0 lt c.statement-item.is c.in_err-declare_label.ensures.told) in
-    passed_on _ c.in_err-declare_label.field-0.0 _ c.from_residual.result c.from_residual.ensures.1 (λ e p. p) f
+    told_by _ c.in_err-declare_label.field-0.0 _ c.from_residual.result c.from_residual.ensures.1 (λ e p. p) f

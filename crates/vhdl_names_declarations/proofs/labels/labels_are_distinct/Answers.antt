@@ -9,8 +9,7 @@ use Rattle.vhdl_names_rules.specs.problems.Broken.{Tells}
 use Rattle.vhdl_names_rules.specs.problems.Twice.{twice}
 use Rattle.vhdl_names_rules.specs.problems.Declarations.{standing_twice}
 use Rattle.vhdl_names_declarations.proofs.Labelling.{label_names_of, labels_in, distinct_none, distinct_some}
-use Rattle.vhdl_names_declarations.proofs.Breaking.{passed_on}
-use Rattle.vhdl_names_declarations.proofs.Passing.{gives_none}
+use Rattle.vhdl_names_sight.proofs.Passing.{passed_on, told_by}
 use Rattle.vhdl_names_declarations.proofs.labels.labels_are_distinct.Goals as goal
 
 pub returns-in_err-declare_labels-clause-given : goal.returns-in_err-declare_labels-clause-given
@@ -18,7 +17,7 @@ returns-in_err-declare_labels-clause-given c =
     let ns = label_names_of c.args.statements.now in
     let f : c.in_err-declare_labels.field-0.0 ≢ NoMemory → met (are_distinct (label_names_of c.args.statements.now)) ≡ None =
     λ n. distinct_none ns (ap (λ es. more (map entry_view es) (labelled ns)) (sym c.new-region.ensures.empty) ∙ c.in_err-declare_labels.ensures.given n) in
-    gives_none _ _ c.in_err-declare_labels.field-0.0 _ c.from_residual.result c.from_residual.ensures.1 (λ e p. p) f
+    passed_on _ _ c.in_err-declare_labels.field-0.0 _ c.from_residual.result c.from_residual.ensures.1 (λ e p. p) f
 
 pub returns-clause-given : goal.returns-clause-given
 returns-clause-given c =
@@ -30,4 +29,4 @@ returns-in_err-declare_labels-clause-told c =
     let ls = labels_in c.args.statements.now in
     let f : Tells (twice [] (labels_in c.args.statements.now)) c.in_err-declare_labels.field-0.0 =
     subst (λ es. Tells (standing_twice (map entry_view es) ls) c.in_err-declare_labels.field-0.0) c.new-region.ensures.empty c.in_err-declare_labels.ensures.told in
-    passed_on _ c.in_err-declare_labels.field-0.0 _ c.from_residual.result c.from_residual.ensures.1 (λ e p. p) f
+    told_by _ c.in_err-declare_labels.field-0.0 _ c.from_residual.result c.from_residual.ensures.1 (λ e p. p) f

@@ -1,10 +1,8 @@
-use Rattle.std.proofs.Common.{◌≡◌, ◌≢◌, length, map, option_map, Option, Some, None, ap, ◌∙◌, sym, subst}
+use Rattle.std.proofs.Common.{◌≡◌, ◌≢◌, map, option_map, Option, ap, ◌∙◌, sym}
 use Rattle.std.proofs.lemmas.List.{length-map}
-use Rattle.vhdl_names_rules.specs.declared.fault.NameFault.TheVariants.{NoMemory}
 use Rattle.vhdl_names_rules.specs.units.Units as u
 use Rattle.vhdl_names_rules.specs.units.Units.{Fixed}
 use Rattle.vhdl_names_rules.specs.Subtypes.{Subtype, object}
-use Rattle.vhdl_names_rules.specs.Declarations as d
 use Rattle.vhdl_names_rules.specs.Declarations.{for_each, within}
 use Rattle.vhdl_names_rules.specs.Visibility as visibility
 use Rattle.vhdl_names_rules.specs.Visibility.{names_of, all_declared, with_declared}
@@ -13,73 +11,47 @@ use Rattle.vhdl_tree.specs.View.{ident_view}
 use Rattle.vhdl_names_sight.specs.Seen.{sight_view}
 use Rattle.vhdl_names_sight.specs.Views.{region_view, entry_view}
 use Rattle.vhdl_names_units.specs.views.Answers.{subtype_view, fixed_view}
-use Rattle.vhdl_names_declarations.specs.Entered.{more, entering}
+use Rattle.vhdl_names_declarations.specs.Entered.{more}
 use Rattle.vhdl_names_declarations.specs.Typed.{typed_object}
 use Rattle.vhdl_names_declarations.proofs.Classes.{signals_is, signal_class, signals_of, map-map}
-use Rattle.vhdl_names_declarations.proofs.Turns.{refused, unknown, known, settled_region, more_is}
-use Rattle.vhdl_names_declarations.proofs.Breaking.{passed_on}
-use Rattle.vhdl_names_declarations.proofs.Passing.{gives_none}
+use Rattle.vhdl_names_declarations.proofs.Turns.{refused, unknown, hidden, settled_whole, more_is}
+use Rattle.vhdl_names_sight.proofs.Passing.{passed_on}
 use Rattle.vhdl_names_declarations.proofs.objects.signals.Goals as goal
-use Rattle.vhdl_names_rules.specs.problems.Broken.{Tells}
 use Rattle.vhdl_names_rules.specs.problems.Declarations as broken
-use Rattle.vhdl_names_rules.proofs.Telling.{told_left, told_right}
-use Rattle.vhdl_names_rules.specs.problems.Declarations.{standing_twice}
-use Rattle.vhdl_names_declarations.proofs.Breaking.{standing_once}
-use Rattle.vhdl_names_declarations.proofs.Regions.{names-all}
+use Rattle.vhdl_names_declarations.proofs.Breaking.{twice_first, hidden_behind}
 
 pub returns-in_err-hide-clause-given : goal.returns-in_err-hide-clause-given
 returns-in_err-hide-clause-given c = rw (← c.sight.view_is) (
     let s = sight_view c.sight.inside in
     let g = tree.signals_view c.args.declaration.now in
-    let f : c.in_err-hide.field-0.0 ≢ NoMemory → entering d.signals (sight_view c.sight.inside) (tree.signals_view c.args.declaration.now) ≡ None =
-    λ n. signals_is s g c.args.number (rw (← c.sight.view_is) at c.requires)
+    passed_on _ _ _ _ c.from_residual.result c.from_residual.ensures.1 (λ e p. p)
+    (λ n. signals_is s g c.args.number (rw (← c.sight.view_is) at c.requires)
     ∙ refused (λ s. s.region) with_declared s (names_of g.names) (λ x. c.args.number) signal_class (signals_of g)
-    (ap (λ l. more s.region (all_declared visibility.unfinished (names_of (map ident_view l)))) (sym c.deref.ensures.value) ∙ c.in_err-hide.ensures.given n) (typed_object (within s g.names) g.subtype g.default) in
-    gives_none _ _ c.in_err-hide.field-0.0 _ c.from_residual.result c.from_residual.ensures.1 (λ e p. p) f)
+    (ap (λ l. more s.region (all_declared visibility.unfinished (names_of (map ident_view l)))) (sym c.deref.ensures.value) ∙ c.in_err-hide.ensures.given n) (typed_object (within s g.names) g.subtype g.default)))
 
 pub returns-in_err-subtype-clause-given : goal.returns-in_err-subtype-clause-given
 returns-in_err-subtype-clause-given c = rw (← c.sight.view_is) (
     let s = sight_view c.sight.inside in
     let g = tree.signals_view c.args.declaration.now in
-    let hid : more (region_view c.sight.inside.region) (all_declared visibility.unfinished (names_of (tree.signals_view c.args.declaration.now).names)) ≡ Some (region_view c.hide.new.region) =
-    ap (λ l. more (region_view c.sight.inside.region) (all_declared visibility.unfinished (names_of (map ident_view l)))) (sym c.deref.ensures.value) ∙ c.in_ok-hide.ensures.given in
-    let along = ap (λ r. typed_object (record s { region = r }) g.subtype g.default) (more_is s.region (all_declared visibility.unfinished (names_of g.names)) (region_view c.hide.new.region) hid) in
-    let f : c.in_err-subtype.field-0.0 ≢ NoMemory → entering d.signals (sight_view c.sight.inside) (tree.signals_view c.args.declaration.now) ≡ None =
-    λ n. signals_is s g c.args.number (rw (← c.sight.view_is) at c.requires)
-    ∙ unknown (λ s. s.region) with_declared s (names_of g.names) (λ x. c.args.number) signal_class (signals_of g) (typed_object (within s g.names) g.subtype g.default) (sym along ∙ c.in_err-subtype.ensures.given n) in
-    gives_none _ _ c.in_err-subtype.field-0.0 _ c.from_residual-in_err-subtype.result c.from_residual-in_err-subtype.ensures.1 (λ e p. p) f)
+    passed_on _ _ _ _ c.from_residual-in_err-subtype.result c.from_residual-in_err-subtype.ensures.1 (λ e p. p)
+    (λ n. signals_is s g c.args.number (rw (← c.sight.view_is) at c.requires)
+    ∙ unknown (λ s. s.region) with_declared s (names_of g.names) (λ x. c.args.number) signal_class (signals_of g) (typed_object (within s g.names) g.subtype g.default) (ap (λ r. typed_object (record s { region = r }) g.subtype g.default) (sym (more_is s.region (all_declared visibility.unfinished (names_of g.names)) _ (hidden s.region c.deref.result.now c.args.declaration.now.names.items c.deref.ensures.value _ c.in_ok-hide.ensures.given))) ∙ c.in_err-subtype.ensures.given n)))
 
 pub returns-clause-given : goal.returns-clause-given
 returns-clause-given c = rw (← c.sight.view_is) (
     let s = sight_view c.sight.inside in
     let g = tree.signals_view c.args.declaration.now in
-    let hid : more (region_view c.sight.inside.region) (all_declared visibility.unfinished (names_of (tree.signals_view c.args.declaration.now).names)) ≡ Some (region_view c.hide.new.region) =
-    ap (λ l. more (region_view c.sight.inside.region) (all_declared visibility.unfinished (names_of (map ident_view l)))) (sym c.deref.ensures.value) ∙ c.in_ok-hide.ensures.given in
-    let along = ap (λ r. typed_object (record s { region = r }) g.subtype g.default) (more_is s.region (all_declared visibility.unfinished (names_of g.names)) (region_view c.hide.new.region) hid) in
-    let size : c.len-first.result ≡ length (region_view c.sight.inside.region) = c.len-first.ensures.len ∙ sym (length-map c.sight.inside.region.entries entry_view) in
+    let hides = hidden s.region c.deref.result.now c.args.declaration.now.names.items c.deref.ensures.value (region_view c.hide.new.region) c.in_ok-hide.ensures.given in
     let x : Subtype × Option Fixed = (subtype_view c.in_ok-subtype.subtype, option_map fixed_view c.in_ok-subtype.default) in
     signals_is s g c.args.number (rw (← c.sight.view_is) at c.requires)
-    ∙ known (λ s. s.region) with_declared s (names_of g.names) (λ x. c.args.number) signal_class (signals_of g) (region_view c.hide.new.region) hid (typed_object (within s g.names) g.subtype g.default) x (sym along ∙ c.in_ok-subtype.ensures.given)
-    ∙ ap (λ r. Some (record s { region = r }, (signals_of g) x)) (settled_region (signal_class x) c.args.number c.len-first.result s.region (region_view c.hide.new.region) (region_view c.settle.new.region) (names_of g.names) size hid c.in_ok-settle.ensures)
-    ∙ ap (λ l. Some (record s { region = region_view c.settle.new.region }, l))
+    ∙ settled_whole (λ s. s.region) (λ s r. record s { region = r }) s (names_of g.names) (λ x. c.args.number) signal_class (signals_of g) (typed_object (within s g.names) g.subtype g.default) x _ _ _ _ (c.len-first.ensures.len ∙ sym (length-map c.sight.inside.region.entries entry_view)) hides (ap (λ r. typed_object (record s { region = r }) g.subtype g.default) (sym (more_is s.region (all_declared visibility.unfinished (names_of g.names)) _ hides)) ∙ c.in_ok-subtype.ensures.given)
+    (c.in_ok-settle.ensures)
     (sym (ap (map u.signal) (c.in_ok-objects.ensures ∙ ap (λ l. for_each (object x.0 x.1) (map ident_view l)) c.deref-2.ensures.value) ∙ map-map u.signal (object x.0 x.1) g.names)))
 
 pub returns-in_err-hide-clause-told : goal.returns-in_err-hide-clause-told
-returns-in_err-hide-clause-told c = rw (← c.sight.view_is) (
-    let s = sight_view c.sight.inside in
-    let g = tree.signals_view c.args.declaration.now in
-    let f : Tells (broken.signals (sight_view c.sight.inside) (tree.signals_view c.args.declaration.now)) c.in_err-hide.field-0.0 =
-    told_left (standing_twice s.region g.names) (broken.object (within s g.names) g.subtype g.default) c.in_err-hide.field-0.0
-    (subst (λ l. Tells (standing_twice s.region (map ident_view l)) c.in_err-hide.field-0.0) c.deref.ensures.value c.in_err-hide.ensures.told) in
-    passed_on _ c.in_err-hide.field-0.0 _ c.from_residual.result c.from_residual.ensures.1 (λ e p. p) f)
+returns-in_err-hide-clause-told c = rw (← c.sight.view_is) (twice_first _ _ _ _ _ c.from_residual.result _ c.from_residual.ensures.1 (λ e p. p) c.deref.ensures.value c.in_err-hide.ensures.told)
 
 pub returns-in_err-subtype-clause-told : goal.returns-in_err-subtype-clause-told
 returns-in_err-subtype-clause-told c = rw (← c.sight.view_is) (
-    let s = sight_view c.sight.inside in
-    let g = tree.signals_view c.args.declaration.now in
-    let hid : more (region_view c.sight.inside.region) (all_declared visibility.unfinished (names_of (tree.signals_view c.args.declaration.now).names)) ≡ Some (region_view c.hide.new.region) =
-    ap (λ l. more (region_view c.sight.inside.region) (all_declared visibility.unfinished (names_of (map ident_view l)))) (sym c.deref.ensures.value) ∙ c.in_ok-hide.ensures.given in
-    let once = standing_once s.region (all_declared visibility.unfinished (names_of g.names)) g.names (names-all visibility.unfinished (names_of g.names)) (region_view c.hide.new.region) hid in
-    let f : Tells (broken.signals (sight_view c.sight.inside) (tree.signals_view c.args.declaration.now)) c.in_err-subtype.field-0.0 =
-    told_right (standing_twice s.region g.names) (broken.object (within s g.names) g.subtype g.default) c.in_err-subtype.field-0.0 once (subst (λ r. Tells (broken.object (record s { region = r }) g.subtype g.default) c.in_err-subtype.field-0.0) (more_is s.region (all_declared visibility.unfinished (names_of g.names)) (region_view c.hide.new.region) hid) c.in_err-subtype.ensures.told) in
-    passed_on _ c.in_err-subtype.field-0.0 _ c.from_residual-in_err-subtype.result c.from_residual-in_err-subtype.ensures.1 (λ e p. p) f)
+    hidden_behind _ _ c.args.declaration.now.names.items _ _ c.from_residual-in_err-subtype.result (region_view c.hide.new.region) (λ r. broken.object (record (sight_view c.sight.inside) { region = r }) (tree.signals_view c.args.declaration.now).subtype (tree.signals_view c.args.declaration.now).default)
+    c.from_residual-in_err-subtype.ensures.1 (λ e p. p) c.deref.ensures.value c.in_ok-hide.ensures.given c.in_err-subtype.ensures.told)

@@ -13,8 +13,7 @@ use Rattle.vhdl_names_rules.specs.Interfaces.{declared_names}
 use Rattle.vhdl_names_rules.specs.problems.Broken.{Tells, refused}
 use Rattle.vhdl_names_declarations.proofs.Breaking.{twice_alone}
 use Rattle.vhdl_names_declarations.proofs.Regions.{next_of, none_left}
-use Rattle.vhdl_names_declarations.proofs.Breaking.{passed_on}
-use Rattle.vhdl_names_declarations.proofs.Passing.{gives_none}
+use Rattle.vhdl_names_sight.proofs.Passing.{passed_on, told_by}
 use Rattle.vhdl_names_declarations.proofs.packages.add_rows.Goals as goal
 
 -- what the check takes for a row that is not there
@@ -30,7 +29,7 @@ returns-in_err-declare_name-clause-given c =
     ∙ next_of row_view (region_view c.loop-row.region) c.args.rows.now c.loop-row.row-index no_row lt
     ∙ ap (λ o. o >>= λ r. more r (map row_view (drop (c.loop-row.row-index + 1) c.args.rows.now)))
     (ap (λ m. more (region_view c.loop-row.region) (declare (get_or c.args.rows.now c.loop-row.row-index no_row).name.now m ∷ [])) (sym c.meaning.ensures) ∙ c.in_err-declare_name.ensures.given n) in
-    gives_none _ _ c.in_err-declare_name.field-0.0 _ c.from_residual.result c.from_residual.ensures.1 (λ e p. p) f
+    passed_on _ _ c.in_err-declare_name.field-0.0 _ c.from_residual.result c.from_residual.ensures.1 (λ e p. p) f
 
 pub returns-clause-given : goal.returns-clause-given
 returns-clause-given c =
@@ -42,4 +41,4 @@ returns-in_err-declare_name-clause-told c =
     let name = (get_or c.args.rows.now c.loop-row.row-index no_row).name.now in
     let f : Tells (refused Twice 0) c.in_err-declare_name.field-0.0 =
     twice_alone (declared_names (region_view c.loop-row.region)) (ident 0 name) c.in_err-declare_name.field-0.0 c.in_err-declare_name.ensures.told in
-    passed_on _ c.in_err-declare_name.field-0.0 _ c.from_residual.result c.from_residual.ensures.1 (λ e p. p) f
+    told_by _ c.in_err-declare_name.field-0.0 _ c.from_residual.result c.from_residual.ensures.1 (λ e p. p) f

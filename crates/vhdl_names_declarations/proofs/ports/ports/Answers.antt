@@ -12,8 +12,7 @@ use Rattle.vhdl_names_declarations.proofs.Breaking.{told_at, told_behind}
 use Rattle.vhdl_names_rules.proofs.kept.Declarations.{port_kept}
 use Rattle.vhdl_names_declarations.proofs.Listed.{in_region, left, begins, fails, goes, ends, counts_before, place_within, all_more, region_size}
 use Rattle.vhdl_names_declarations.proofs.Regions.{names_apart}
-use Rattle.vhdl_names_declarations.proofs.Breaking.{passed_on}
-use Rattle.vhdl_names_declarations.proofs.Passing.{gives_none}
+use Rattle.vhdl_names_sight.proofs.Passing.{passed_on, told_by}
 use Rattle.vhdl_names_declarations.proofs.ports.ports.Goals as goal
 
 pub loop-one-init : goal.loop-one-init
@@ -31,7 +30,7 @@ returns-in_err-next-clause-given c =
     let f : c.in_err-next.field-0.0 ≢ NoMemory → entering (in_order with_declared port) c.args.sight.now (map port_view c.args.all.now) ≡ None =
     λ n. c.loop-one.invariant.0
     ∙ fails port port_view c.loop-one.sight (all_ports_view c.loop-one.done) c.args.all.now c.loop-one.one-index c.one-item.result lt c.one-item.is (c.in_err-next.ensures.given n) in
-    gives_none _ _ c.in_err-next.field-0.0 _ c.from_residual.result c.from_residual.ensures.1 (λ e p. p) f
+    passed_on _ _ c.in_err-next.field-0.0 _ c.from_residual.result c.from_residual.ensures.1 (λ e p. p) f
 
 pub of-counts-requires-in-loop-one-clause-place : goal.of-counts-requires-in-loop-one-clause-place
 of-counts-requires-in-loop-one-clause-place c =
@@ -71,4 +70,4 @@ returns-in_err-next-clause-told c =
     let lt : c.loop-one.one-index < length c.args.all.now = omega arith in
     let f : Tells (interfaces_broken.ports c.args.sight.now (map port_view c.args.all.now)) c.in_err-next.field-0.0 =
     c.loop-one.invariant.3 c.in_err-next.field-0.0 (told_at in_region with_declared port broken.port port_kept port_view c.loop-one.sight c.args.all.now c.loop-one.one-index c.one-item.result c.in_err-next.field-0.0 lt c.one-item.is c.in_err-next.ensures.told) in
-    passed_on _ c.in_err-next.field-0.0 _ c.from_residual.result c.from_residual.ensures.1 (λ e p. p) f
+    told_by _ c.in_err-next.field-0.0 _ c.from_residual.result c.from_residual.ensures.1 (λ e p. p) f

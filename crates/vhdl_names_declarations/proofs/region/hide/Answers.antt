@@ -11,8 +11,7 @@ use Rattle.vhdl_names_declarations.proofs.Breaking.{name_told, name_behind}
 use Rattle.vhdl_names_sight.specs.Views.{region_view}
 use Rattle.vhdl_names_declarations.specs.Entered.{more}
 use Rattle.vhdl_names_declarations.proofs.Regions.{all_of_names, next_name, no_names}
-use Rattle.vhdl_names_declarations.proofs.Breaking.{passed_on}
-use Rattle.vhdl_names_declarations.proofs.Passing.{gives_none}
+use Rattle.vhdl_names_sight.proofs.Passing.{passed_on, told_by}
 use Rattle.vhdl_names_declarations.proofs.region.hide.Goals as goal
 
 pub returns-in_err-declare-clause-given : goal.returns-in_err-declare-clause-given
@@ -22,7 +21,7 @@ returns-in_err-declare-clause-given c =
     λ n. c.loop-name.invariant.0
     ∙ next_name (region_view c.loop-name.region) unfinished c.args.names.now c.loop-name.name-index c.name-item.result lt c.name-item.is
     ∙ ap (λ o. o >>= λ r. more r (all_of_names unfinished (drop (c.loop-name.name-index + 1) c.args.names.now))) (c.in_err-declare.ensures.given n) in
-    gives_none _ _ c.in_err-declare.field-0.0 _ c.from_residual.result c.from_residual.ensures.1 (λ e p. p) f
+    passed_on _ _ c.in_err-declare.field-0.0 _ c.from_residual.result c.from_residual.ensures.1 (λ e p. p) f
 
 pub loop-name-init : goal.loop-name-init
 loop-name-init c = (refl, refl)
@@ -51,4 +50,4 @@ returns-in_err-declare-clause-told c =
     let f : Tells (standing_twice (region_view c.args.region.now) (map ident_view c.args.names.now)) c.in_err-declare.field-0.0 =
     told_same (standing_twice r (map ident_view (drop c.loop-name.name-index c.args.names.now))) (standing_twice old (map ident_view c.args.names.now)) c.in_err-declare.field-0.0 (sym c.loop-name.invariant.1)
     (name_told ident_view c.args.names.now c.loop-name.name-index c.name-item.result lt c.name-item.is r c.in_err-declare.field-0.0 c.in_err-declare.ensures.told) in
-    passed_on _ c.in_err-declare.field-0.0 _ c.from_residual.result c.from_residual.ensures.1 (λ e p. p) f
+    told_by _ c.in_err-declare.field-0.0 _ c.from_residual.result c.from_residual.ensures.1 (λ e p. p) f

@@ -9,7 +9,7 @@ use Rattle.vhdl_names_rules.specs.problems.Broken.{Tells}
 use Rattle.vhdl_names_rules.specs.problems.Choices as broken
 use Rattle.vhdl_names_expressions.proofs.Breaking.{told_fault}
 use Rattle.vhdl_names_expressions.proofs.BreakingChoices.{chosen_meaning, chosen_behind, chosen_bare}
-use Rattle.vhdl_names_expressions.proofs.Typing.{told_on as told_by}
+use Rattle.vhdl_names_sight.proofs.Passing.{told_by}
 use Rattle.vhdl_names_expressions.proofs.alternatives.chosen_name.Goals as goal
 
 pub returns-in_err-meaning-clause-told : goal.returns-in_err-meaning-clause-told

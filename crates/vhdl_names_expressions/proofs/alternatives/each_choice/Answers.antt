@@ -12,7 +12,7 @@ use Rattle.vhdl_names_rules.specs.problems.Choices as broken
 use Rattle.vhdl_names_rules.proofs.Telling.{told_same}
 use Rattle.vhdl_names_rules.proofs.kept.Choices.{choice_kept}
 use Rattle.vhdl_names_expressions.proofs.BreakingChoices.{next_told, any_left}
-use Rattle.vhdl_names_expressions.proofs.Typing.{passed_on, told_on as told_by}
+use Rattle.vhdl_names_sight.proofs.Passing.{passed_on, told_by}
 use Rattle.vhdl_names_expressions.proofs.alternatives.each_choice.Goals as goal
 
 pub returns-in_err-next-clause-given : goal.returns-in_err-next-clause-given

@@ -5,45 +5,30 @@ use Rattle.vhdl_names_rules.specs.Expressions as are
 use Rattle.vhdl_names_rules.specs.Expressions.{as_value, as_filled}
 use Rattle.vhdl_names_units.specs.views.Answers.{given_view}
 use Rattle.vhdl_names_sight.specs.Views.{typed_view}
-use Rattle.vhdl_names_rules.specs.problems.Broken.{Tells, ◌▸◌, unless, lacking, where_given}
+use Rattle.vhdl_names_rules.specs.problems.Broken.{◌▸◌, unless, lacking}
 use Rattle.vhdl_names_rules.specs.problems.Places.{start}
 use Rattle.vhdl_names_rules.specs.problems.Expressions as broken
 use Rattle.vhdl_names_rules.specs.problems.Expressions.{is_vector_type}
-use Rattle.vhdl_names_rules.proofs.Telling.{told_same, told_left}
 use Rattle.vhdl_names_rules.proofs.kept.Expressions.{typed_kept}
-use Rattle.vhdl_names_expressions.proofs.Breaking.{told_as, asked_told, wanted_told}
-use Rattle.vhdl_names_expressions.proofs.Typing.{told_on as told_by}
+use Rattle.vhdl_names_sight.proofs.Passing.{told_first}
+use Rattle.vhdl_names_expressions.proofs.Breaking.{told_as, asked_told, asked_of}
 use Rattle.vhdl_names_expressions.proofs.asked.given.Goals as goal
 
 pub returns-in_err-operand-in-Expr-clause-told : goal.returns-in_err-operand-in-Expr-clause-told
 returns-in_err-operand-in-Expr-clause-told c =
-    let s = c.args.sight.now in
-    let e = view c.in-Expr.e in
-    let f : Tells (broken.value_given s c.args.object_type (value_view c.args.value.now)) c.in_err-operand-in-Expr.field-0.0 =
-    told_same _ _ c.in_err-operand-in-Expr.field-0.0 (sym (ap (λ v. broken.value_given s c.args.object_type (value_view v)) c.in-Expr.is))
-    (told_left (broken.typed s e) (where_given (are.typed s e) (λ x. lacking TypeMismatch (start e) (as_value c.args.object_type x))) c.in_err-operand-in-Expr.field-0.0
-    c.in_err-operand-in-Expr.ensures.told) in
-    told_by _ c.in_err-operand-in-Expr.field-0.0 _ c.from_residual.result c.from_residual.ensures.1 (λ e p. p) f
-
-pub returns-in_ok-operand-in-Expr-clause-told : goal.returns-in_ok-operand-in-Expr-clause-told
-returns-in_ok-operand-in-Expr-clause-told c =
-    let s = c.args.sight.now in
-    let e = view c.in-Expr.e in
-    told_as _ _ _ (sym (ap (λ v. broken.value_given s c.args.object_type (value_view v)) c.in-Expr.is))
-    (wanted_told (broken.typed s e) (are.typed s e) TypeMismatch _ (start e) (as_value c.args.object_type) given_view (typed_view c.in_ok-operand-in-Expr.operand) _
-    (typed_kept e s (typed_view c.in_ok-operand-in-Expr.operand) c.in_ok-operand-in-Expr.ensures.given) c.in_ok-operand-in-Expr.ensures.given c.start.ensures
-    c.as_value.ensures.given c.as_value.ensures.told)
+    told_as _ _ _ (sym (ap (λ v. broken.value_given c.args.sight.now c.args.object_type (value_view v)) c.in-Expr.is))
+    (told_first _ _ _ _ c.from_residual.result c.from_residual.ensures.1 (λ e p. p) c.in_err-operand-in-Expr.ensures.told)
 
 pub returns-in_err-operand-in-Others-clause-told : goal.returns-in_err-operand-in-Others-clause-told
 returns-in_err-operand-in-Others-clause-told c =
-    let s = c.args.sight.now in
-    let e = view c.in-Others.element in
-    let f : Tells (broken.value_given s c.args.object_type (value_view c.args.value.now)) c.in_err-operand-in-Others.field-0.0 =
-    told_same _ _ c.in_err-operand-in-Others.field-0.0 (sym (ap (λ v. broken.value_given s c.args.object_type (value_view v)) c.in-Others.is))
-    (told_left (broken.typed s e)
-    (where_given (are.typed s e) (λ x. unless TypeMismatch c.in-Others.at (is_vector_type c.args.object_type) ▸ lacking TypeMismatch (start e) (as_filled c.args.object_type x)))
-    c.in_err-operand-in-Others.field-0.0 c.in_err-operand-in-Others.ensures.told) in
-    told_by _ c.in_err-operand-in-Others.field-0.0 _ c.from_residual-in_err-operand-in-Others.result c.from_residual-in_err-operand-in-Others.ensures.1 (λ e p. p) f
+    told_as _ _ _ (sym (ap (λ v. broken.value_given c.args.sight.now c.args.object_type (value_view v)) c.in-Others.is))
+    (told_first _ _ _ _ c.from_residual-in_err-operand-in-Others.result c.from_residual-in_err-operand-in-Others.ensures.1 (λ e p. p) c.in_err-operand-in-Others.ensures.told)
+
+pub returns-in_ok-operand-in-Expr-clause-told : goal.returns-in_ok-operand-in-Expr-clause-told
+returns-in_ok-operand-in-Expr-clause-told c =
+    told_as _ _ _ (sym (ap (λ v. broken.value_given c.args.sight.now c.args.object_type (value_view v)) c.in-Expr.is))
+    (asked_of c.args.sight.now (view c.in-Expr.e) (as_value c.args.object_type) given_view _ (typed_view c.in_ok-operand-in-Expr.operand) _ c.in_ok-operand-in-Expr.ensures.given c.start.ensures
+    c.as_value.ensures.given c.as_value.ensures.told)
 
 pub returns-in_ok-operand-in-Others-clause-told : goal.returns-in_ok-operand-in-Others-clause-told
 returns-in_ok-operand-in-Others-clause-told c =

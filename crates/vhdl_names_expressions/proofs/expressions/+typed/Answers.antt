@@ -1,6 +1,6 @@
 use Rattle.std.proofs.Common.{arith, option_map, ◌≡◌, suc, ◌+◌, ◌<◌, ◌∷◌, [], map, length, drop, Some, refl, ap, sym, ◌∙◌}
 use Rattle.std.proofs.lemmas.List.{at_drop_all, map-append}
-use Rattle.vhdl_names_rules.specs.Expressions.{typed, typed_each, as_integer}
+use Rattle.vhdl_names_rules.specs.Expressions.{typed, typed_each, as_integer, enclosed, signed}
 use Rattle.vhdl_names_rules.specs.views.Integers.{static_view}
 use Rattle.vhdl_tree.specs.Tree.{exprs_of}
 use Rattle.vhdl_tree.specs.View.{view}
@@ -19,14 +19,14 @@ use Rattle.vhdl_names_rules.proofs.Telling.{told_same, told_on}
 use Rattle.vhdl_names_rules.proofs.kept.Expressions.{typed_kept}
 use Rattle.vhdl_names_expressions.specs.Breaking.{all_break}
 use Rattle.vhdl_names_expressions.proofs.Breaking.{told_as, wanted_told, chain_first, chain_further, link_told, rest_goes, operator_on, link_first, range_first, range_second, static_first, slice_told, parens_told, negation_first, negation_told, sign_first, sign_told, integer_told, character_told, string_told, bits_told, named_suffix, named_meaning, named_no_value, named_denoted, named_attributed, each_told, each_left, arguments_on, begun_first, begun_second}
-use Rattle.vhdl_names_rules.specs.Expressions.{enclosed, signed}
 use Rattle.vhdl_names_rules.specs.Operators.{integer, inverse, operated}
 use Rattle.vhdl_names_rules.specs.Visibility.{Sight}
 use Rattle.vhdl_names_rules.specs.problems.Broken.{lacking}
 use Rattle.vhdl_names_rules.specs.problems.Operators.{operator_problem}
 use Rattle.vhdl_names_rules.specs.Rules.{◌>>=◌}
 use Rattle.vhdl_names_expressions.proofs.Chains.{static_is}
-use Rattle.vhdl_names_expressions.proofs.Typing.{passed_on, told_on as told_by, parens_give, negation_gives, sign_gives, no_meaning, no_suffix, with_value, no_operand}
+use Rattle.vhdl_names_expressions.proofs.Typing.{parens_give, negation_gives, sign_gives, no_meaning, no_suffix, with_value, no_operand}
+use Rattle.vhdl_names_sight.proofs.Passing.{passed_on, told_by}
 use Rattle.vhdl_names_expressions.proofs.expressions.+typed.Goals as goal
 
 pub links-returns-in_err-done-clause-given : goal.links-returns-in_err-done-clause-given

@@ -8,21 +8,16 @@ use Rattle.vhdl_names_rules.specs.declared.fault.NameProblem.TheVariants.{WriteO
 use Rattle.vhdl_names_rules.specs.Statements as are
 use Rattle.vhdl_names_rules.specs.Statements.{is_input}
 use Rattle.vhdl_names_units.specs.views.Answers.{signal_name_view}
-use Rattle.vhdl_names_rules.specs.problems.Broken.{Tells, unless, where_given}
+use Rattle.vhdl_names_rules.specs.problems.Broken.{unless, where_given}
 use Rattle.vhdl_names_rules.specs.problems.Statements as broken
-use Rattle.vhdl_names_rules.proofs.Telling.{told_left, told_right, told_given}
+use Rattle.vhdl_names_rules.proofs.Telling.{told_right, told_given}
 use Rattle.vhdl_names_rules.proofs.kept.Statements.{signal_kept}
 use Rattle.vhdl_names_expressions.proofs.Breaking.{told_fault}
-use Rattle.vhdl_names_expressions.proofs.Typing.{told_on as told_by}
+use Rattle.vhdl_names_sight.proofs.Passing.{told_first}
 use Rattle.vhdl_names_expressions.proofs.objects.target.Goals as goal
 
 pub returns-in_err-target-clause-told : goal.returns-in_err-target-clause-told
-returns-in_err-target-clause-told c =
-    let s = c.args.sight.now in
-    let n = name_view c.args.name.now in
-    let f : Tells (broken.target s n) c.in_err-target.field-0.0 =
-    told_left (broken.signal s n) (where_given (are.signal s n) (λ x. unless WriteOfIn n.identifier.at (not (is_input x.mode)))) c.in_err-target.field-0.0 c.in_err-target.ensures.told in
-    told_by _ c.in_err-target.field-0.0 _ c.from_residual.result c.from_residual.ensures.1 (λ e p. p) f
+returns-in_err-target-clause-told c = told_first _ _ _ _ c.from_residual.result c.from_residual.ensures.1 (λ e p. p) c.in_err-target.ensures.told
 
 pub returns-in-Some-In-clause-told : goal.returns-in-Some-In-clause-told
 returns-in-Some-In-clause-told c =

@@ -2,7 +2,7 @@ use Rattle.std.proofs.Common.{◌≡◌, ℕ, None, refl, ap, sym, ◌∙◌, su
 use Rattle.std.specs.Prelude.{option_map}
 use Rattle.vhdl_values.specs.declared.kinds.Cmp.{Cmp}
 use Rattle.vhdl_names_rules.specs.declared.kind.ElementKind.{ElementKind}
-use Rattle.vhdl_names_rules.specs.declared.kind.ElementKind.TheVariants.{Element, LogicVector, Unsigned, OpenVector}
+use Rattle.vhdl_names_rules.specs.declared.kind.ElementKind.TheVariants.{Element, Unsigned}
 use Rattle.vhdl_names_rules.specs.declared.integer.Static.{Static}
 use Rattle.vhdl_names_rules.specs.declared.vector.Vector.{Vector}
 use Rattle.vhdl_names_rules.specs.declared.fault.NameFault.{NameFault}
@@ -27,20 +27,12 @@ behind_elements : (at : ℕ) (op : Cmp) (same : u.Value → u.Value → u.Test) 
     → o.equality at op same (o.elements j x) (typed_view y) ≡ None
 behind_elements at op same j x (t.Integer r) not_integer not_elements = absurd (not_integer r refl)
 behind_elements at op same j x (t.Elements k v) not_integer not_elements = absurd (not_elements k v refl)
-behind_elements at op same Element x (t.Enumerated number count v) not_integer not_elements = refl
-behind_elements at op same LogicVector x (t.Enumerated number count v) not_integer not_elements = refl
-behind_elements at op same Unsigned x (t.Enumerated number count v) not_integer not_elements = refl
-behind_elements at op same OpenVector x (t.Enumerated number count v) not_integer not_elements = refl
-behind_elements at op same Element x (t.Truth v) not_integer not_elements = refl
-behind_elements at op same LogicVector x (t.Truth v) not_integer not_elements = refl
-behind_elements at op same Unsigned x (t.Truth v) not_integer not_elements = refl
-behind_elements at op same OpenVector x (t.Truth v) not_integer not_elements = refl
+behind_elements at op same Element x y not_integer not_elements = refl
+behind_elements at op same j x y not_integer not_elements = refl
 
 no_number : (at : ℕ) (op : Cmp) (same : u.Value → u.Value → u.Test) (j : ElementKind) (x : u.Vector) (s : u.Static) → (j ≡ Unsigned → ⊥) → o.equality at op same (o.elements j x) (o.integer s) ≡ None
-no_number at op same Element x s not_unsigned = refl
-no_number at op same LogicVector x s not_unsigned = refl
 no_number at op same Unsigned x s not_unsigned = absurd (not_unsigned refl)
-no_number at op same OpenVector x s not_unsigned = refl
+no_number at op same j x s not_unsigned = refl
 
 pub returns-in_default-right-clause-told : goal.returns-in_default-right-clause-told
 returns-in_default-right-clause-told c = told_at TypeMismatch c.args.at c.at.result c.at.ensures

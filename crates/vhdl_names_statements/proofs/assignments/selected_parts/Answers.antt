@@ -8,24 +8,19 @@ use Rattle.vhdl_names_sight.proofs.Along.{gives_along}
 use Rattle.vhdl_names_units.specs.views.Sequential as views
 use Rattle.vhdl_names_rules.specs.problems.Broken.{Tells, nothing, any_of}
 use Rattle.vhdl_names_rules.specs.problems.Covered.{covered}
-use Rattle.vhdl_names_rules.specs.problems.Statements as broken
 use Rattle.vhdl_names_rules.specs.problems.Concurrent as problems
-use Rattle.vhdl_names_rules.proofs.Telling.{told_same, told_left, told_on}
+use Rattle.vhdl_names_rules.proofs.Telling.{told_same, told_on}
 use Rattle.vhdl_names_statements.specs.steps.Cases as cases
 use Rattle.vhdl_names_statements.specs.steps.Concurrent as steps
 use Rattle.vhdl_names_statements.specs.steps.Told as told
 use Rattle.vhdl_names_statements.proofs.steps.Told.{on_along}
 use Rattle.vhdl_names_statements.proofs.steps.Assigning.{waveforms_kept}
 use Rattle.vhdl_names_statements.proofs.steps.Covering.{on_given, waveforms_there, selected_by, selected_cover, selected_none}
-use Rattle.vhdl_names_statements.proofs.steps.Passing.{passed_on, told_by}
+use Rattle.vhdl_names_sight.proofs.Passing.{passed_on, told_by, told_first}
 use Rattle.vhdl_names_statements.proofs.assignments.selected_parts.Goals as goal
 
 pub returns-in_err-target-clause-told : goal.returns-in_err-target-clause-told
-returns-in_err-target-clause-told c =
-    let s = c.args.sight.now in
-    let a = tree.selected_assignment_view c.args.assignment.now in
-    let h : Tells (problems.waveforms s c.args.by a) c.in_err-target.field-0.0 = told_left (broken.target s a.target) _ c.in_err-target.field-0.0 c.in_err-target.ensures.told in
-    told_by _ c.in_err-target.field-0.0 _ c.from_residual.result c.from_residual.ensures.1 (λ e p. p) h
+returns-in_err-target-clause-told c = told_first _ _ _ _ c.from_residual.result c.from_residual.ensures.1 (λ e p. p) c.in_err-target.ensures.told
 
 pub returns-in_err-all-clause-given : goal.returns-in_err-all-clause-given
 returns-in_err-all-clause-given c =

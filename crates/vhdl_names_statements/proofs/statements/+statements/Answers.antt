@@ -20,7 +20,7 @@ use Rattle.vhdl_names_rules.proofs.kept.Choices.{choices_kept}
 use Rattle.vhdl_names_statements.specs.steps.Cases as cases
 use Rattle.vhdl_names_statements.specs.steps.Sequential as steps
 use Rattle.vhdl_names_statements.specs.steps.Told as told
-use Rattle.vhdl_names_statements.proofs.steps.Passing.{passed_on, told_by}
+use Rattle.vhdl_names_sight.proofs.Passing.{passed_on, told_by}
 use Rattle.vhdl_names_statements.proofs.steps.Sequential.{if_gives, loop_gives, left_loop}
 use Rattle.vhdl_names_statements.proofs.steps.Cases.{case_gives}
 use Rattle.vhdl_names_statements.proofs.steps.Told as by

@@ -1,0 +1,135 @@
+//! Numbers: static integers, and the vectors that numeric_std takes for numbers (IEEE 1076-2008,
+//! 16.8).
+
+ghost use Rattle.vhdl_names_rules.specs.problems.Broken.{Tells, refused};
+ghost use Rattle.vhdl_names_rules.specs.problems.Operators.{is_numeric};
+ghost use Rattle.vhdl_names_rules.specs.declared.fault.NameProblem.TheVariants.{NotVisible};
+ghost use Rattle.std.specs.Prelude.{◌≡◌, ◌&&◌, if◌then◌else◌, true, false, Some, IfOk, OnErr, IfErr};
+ghost use Rattle.vhdl_names_rules.specs.Gives.{Gives};
+ghost use Rattle.vhdl_names_rules.specs.Operators as table;
+ghost use Rattle.vhdl_names_rules.specs.views.Integers.{static_view};
+ghost use Rattle.vhdl_names_sight.specs.Steps.{numbers_of, calculation, comparing};
+ghost use Rattle.vhdl_names_sight.specs.Views.{typed_view, numbers_view};
+
+use crate::types::Typed;
+use std::alloc::{AllocError, Global};
+use vhdl_names_rules::{
+    Arithmetic, ElementKind, NameFault, NameProblem, Numeric, Static, StaticTest, Test, Vector,
+    VectorLink, VectorOperator,
+};
+use vhdl_values::Cmp;
+
+/// What an operator of numeric_std asks for: operands that it takes for numbers, else there is this
+/// problem, and its use clause.
+fn numeric(
+    numbers: bool,
+    are_numbers: bool,
+    problem: NameProblem,
+    at: usize,
+) -> Result<(), NameFault>
+    ensures visible { IfOk result (λ _. numbers ≡ true) }
+    ensures fitting { IfOk result (λ _. are_numbers ≡ true) }
+    ensures lacks { OnErr result ((numbers && are_numbers) ≡ false) }
+    ensures told { IfErr result (Tells (refused (if are_numbers then NotVisible else problem) at)) }
+{
+    if !are_numbers {
+        return Err(problem.at(at));
+    }
+    if !numbers {
+        return Err(NameProblem::NotVisible.at(at));
+    }
+    Ok(())
+}
+
+/// Operands of + - * and of < <= > >=: two integers, two numbers, or a number and an integer.
+#[derive(Drop)]
+pub(crate) enum Numbers {
+    Integers(Static, Static),
+    Vectors(Vector, Vector),
+    IntegerSecond(Vector, Static),
+    IntegerFirst(Static, Vector),
+}
+
+/// The numbers that operands are; where they are none, there is this problem.
+pub(crate) fn as_numbers(
+    numbers: bool,
+    at: usize,
+    problem: NameProblem,
+    operands: (Typed, Typed),
+) -> Result<Numbers, NameFault>
+    ensures given { Gives numbers_view (numbers_of numbers (typed_view operands.0) (typed_view operands.1)) result }
+    ensures told { IfErr result (Tells
+        (refused (if is_numeric (typed_view operands.0) && is_numeric (typed_view operands.1) then NotVisible
+        else problem) at)) }
+{
+    let (left, right) = operands;
+    match left {
+        Typed::Integer(s) => match right {
+            Typed::Integer(t) => Ok(Numbers::Integers(s, t)),
+            Typed::Elements(k, y) => {
+                numeric(numbers, k.is_number(), problem, at)?;
+                Ok(Numbers::IntegerFirst(s, y))
+            }
+            _right => Err(problem.at(at)),
+        },
+        Typed::Elements(j, x) => match right {
+            Typed::Elements(k, y) => {
+                numeric(numbers, j.is_number() && k.is_number(), problem, at)?;
+                Ok(Numbers::Vectors(x, y))
+            }
+            Typed::Integer(t) => {
+                numeric(numbers, j.is_number(), problem, at)?;
+                Ok(Numbers::IntegerSecond(x, t))
+            }
+            _right => Err(problem.at(at)),
+        },
+        _left => Err(problem.at(at)),
+    }
+}
+
+/// + - * of numbers.
+pub(crate) fn calculated(
+    alloc: Global,
+    at: usize,
+    operator: Arithmetic,
+    by: Numeric,
+    numbers: Numbers,
+) -> Result<Typed, AllocError>
+    ensures { IfOk result (λ t. calculation at operator by (numbers_view numbers) ≡ Some (typed_view t)) }
+{
+    let made = match numbers {
+        Numbers::Integers(s, t) => return Ok(Typed::Integer(s.binary(alloc, operator, at, t)?)),
+        Numbers::Vectors(x, y) => {
+            let operator = VectorOperator::Arithmetic(by);
+            x.with_link(alloc, VectorLink::Vector(operator, at, y))?
+        }
+        Numbers::IntegerSecond(x, t) => x.with_link(alloc, VectorLink::Integer(by, at, t))?,
+        Numbers::IntegerFirst(s, y) => Vector::integer_with(alloc, by, at, s, y)?,
+    };
+    Ok(Typed::Elements(ElementKind::Unsigned, made))
+}
+
+/// A relation of two static integers.
+pub(crate) fn integers_compared(comparison: Cmp, at: usize, left: Static, right: Static) -> Typed
+    ensures { typed_view result ≡ table.integers_compared at comparison (static_view left) (static_view right) }
+{
+    Typed::Truth(Test::Fixed(StaticTest::Compared(comparison, at, left, right)))
+}
+
+/// < <= > >= of numbers.
+pub(crate) fn compared(
+    alloc: Global,
+    at: usize,
+    comparison: Cmp,
+    numbers: Numbers,
+) -> Result<Typed, AllocError>
+    ensures { IfOk result (λ t. comparing at comparison (numbers_view numbers) ≡ Some (typed_view t)) }
+{
+    let test = match numbers {
+        Numbers::Integers(s, t) => return Ok(integers_compared(comparison, at, s, t)),
+        Numbers::Vectors(x, y) => Test::compared(alloc, comparison, at, x, y)?,
+        Numbers::IntegerSecond(x, t) => Test::compared_to(alloc, comparison, at, x, t)?,
+        Numbers::IntegerFirst(s, y) => Test::compared_with(alloc, comparison, at, s, y)?,
+    };
+    Ok(Typed::Truth(test))
+}
