@@ -10,7 +10,7 @@ use Rattle.rtl_net.specs.Nets.{type_of}
 use Rattle.vhdl_elab_rules.specs.Numbering.{Placed, Located, Numbered}
 use Rattle.vhdl_elab_rules.specs.Wiring as wiring
 use Rattle.vhdl_elab_rules.specs.Wiring.{elements_of, own_elements, is_top}
-use Rattle.vhdl_connect_bodies.specs.declared.uses.Use.{Use}
+use Rattle.vhdl_connect.specs.declared.uses.Use.{Use}
 use Rattle.vhdl_elab.specs.declared.made.Element.{Element}
 use Rattle.vhdl_elab.specs.declared.made.Made.{Made}
 use Rattle.vhdl_elab.specs.Made.{Static, element_view, static_of, statics_of, use_of, uses_of, IsLocated, IsMade}

@@ -12,8 +12,8 @@ use Rattle.vhdl_elab_rules.specs.Numbering.{Placed, Numbered, own_size, own_size
 use Rattle.vhdl_elab_rules.specs.Wiring.{Element, element_of, elements_from, elements_of, own_elements, is_top}
 use Rattle.vhdl_elab_rules.specs.laws.Scopes.{scope_views}
 use Rattle.vhdl_elab.specs.Signals.{signal_with_byte, shown_with_byte}
-use Rattle.vhdl_connect_bodies.specs.declared.uses.Use.{Use}
-use Rattle.vhdl_connect_bodies.specs.Uses as uses
+use Rattle.vhdl_connect.specs.declared.uses.Use.{Use}
+use Rattle.vhdl_connect.specs.Uses as uses
 use Rattle.vhdl_elab.specs.declared.made.Made.{Made}
 use Rattle.vhdl_elab.specs.Made.{element_view, static_of, statics_of, use_of, uses_of, IsLocated, IsMade}
 use Rattle.vhdl_elab.specs.Adding.{if_own, own_types, own_starts, statics_from, elements_count}

@@ -12,8 +12,8 @@ use Rattle.vhdl_elab_rules.specs.Numbering.{Placed}
 use Rattle.vhdl_elab_rules.specs.Wiring as wiring
 use Rattle.vhdl_elab_rules.specs.Wiring.{elements_of, is_input, is_output, is_top}
 use Rattle.vhdl_elab_rules.specs.Limits as limits
-use Rattle.vhdl_connect_bodies.specs.declared.uses.Use.{Use}
-use Rattle.vhdl_connect_bodies.specs.Uses.{sources_of}
+use Rattle.vhdl_connect.specs.declared.uses.Use.{Use}
+use Rattle.vhdl_connect.specs.Uses.{sources_of}
 use Rattle.vhdl_elab.specs.declared.made.Element.{Element}
 use Rattle.vhdl_elab.specs.Made.{Static, element_view, static_of, statics_of, use_of, uses_of}
 use Rattle.vhdl_elab.specs.Tables.{Used, is_input_of_top, inputs_in, has_no_source, is_idle, idle_in, first_at, has_several, is_two_unresolved}

@@ -26,9 +26,9 @@ use Rattle.vhdl_elab_rules.specs.Names.{scope_of, signals_of, named_process}
 use Rattle.vhdl_elab_rules.specs.Elaboration.{net_of}
 use Rattle.vhdl_elab_rules.specs.laws.Scopes.{scope_views}
 use Rattle.vhdl_elab_rules.specs.Shown.{Shown, signal_shown, process_shown, net_process_shown, shown, as_shown, net_shown}
-use Rattle.vhdl_connect_bodies.specs.Held as held
-use Rattle.vhdl_connect_bodies.specs.Held.{processes_hold, idle_hold, items_at, start_with}
-use Rattle.vhdl_connect_bodies.proofs.Sourced.{sources_hold, nets_start}
+use Rattle.vhdl_connect.specs.Held as held
+use Rattle.vhdl_connect.specs.Held.{processes_hold, idle_hold, items_at, start_with}
+use Rattle.vhdl_connect.proofs.Sourced.{sources_hold, nets_start}
 use Rattle.vhdl_elab.specs.declared.made.Made.{Made}
 use Rattle.vhdl_elab.specs.Made.{element_view, statics_of, uses_of}
 use Rattle.vhdl_elab.specs.Signals.{SignalWithByte, signal_with_byte, shown_with_byte}

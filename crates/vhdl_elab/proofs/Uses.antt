@@ -3,8 +3,8 @@ use Rattle.std.proofs.Common.{◌≡◌, ℕ, ◌+◌, ◌<◌, List, length, ma
 use Rattle.std.specs.List.{range_with_len}
 use Rattle.std.proofs.lemmas.List.{ext_get_or}
 use Rattle.std.proofs.lemmas.List.FromFn.{length-map-range_with_len, get_or-map-range_with_len}
-use Rattle.vhdl_connect_bodies.specs.declared.uses.Use.{Use}
-use Rattle.vhdl_connect_bodies.specs.Uses.{use_of, AreUses}
+use Rattle.vhdl_connect.specs.declared.uses.Use.{Use}
+use Rattle.vhdl_connect.specs.Uses.{use_of, AreUses}
 
 pub uses_listed : (driven read : List ℕ) (us : List Use) (n : ℕ) → length us ≡ n → AreUses driven read us → us ≡ map (use_of driven read) (range_with_len 0 n)
 uses_listed driven read us n count h =

@@ -9,9 +9,9 @@ use Rattle.vhdl_elab_rules.specs.Numbering.{Placed, Located, Numbered}
 use Rattle.vhdl_elab_rules.specs.Wiring as wiring
 use Rattle.vhdl_elab_rules.specs.Wiring.{elements_of, own_elements, defaults_of, is_top}
 use Rattle.vhdl_elab_rules.specs.laws.Scopes.{scope_views}
-use Rattle.vhdl_connect_bodies.specs.Located.{IsOf}
-use Rattle.vhdl_connect_bodies.specs.Uses.{sources_of}
-use Rattle.vhdl_connect_bodies.specs.declared.uses.Use.{Use}
+use Rattle.vhdl_connect.specs.Located.{IsOf}
+use Rattle.vhdl_connect.specs.Uses.{sources_of}
+use Rattle.vhdl_connect.specs.declared.uses.Use.{Use}
 use Rattle.vhdl_elab.specs.declared.made.Element.{Element}
 use Rattle.vhdl_elab.specs.declared.made.ElementRole.{ElementRole}
 use Rattle.vhdl_elab.specs.declared.made.ElementRole.TheVariants.{InputOfTop, OutputOfTop, SignalOfTop, Input, Output, Signal}

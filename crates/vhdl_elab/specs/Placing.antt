@@ -6,8 +6,8 @@ use Rattle.rtl_net.specs.Nets.{type_of}
 use Rattle.vhdl_expand_rules.specs.Tree.{Instance, instance, objects_of, Parts}
 use Rattle.vhdl_elab_rules.specs.Names.{signals_from}
 use Rattle.vhdl_elab_rules.specs.Numbering.{driven_in, read_in}
-use Rattle.vhdl_connect_bodies.specs.declared.uses.Use.{Use}
-use Rattle.vhdl_connect_bodies.specs.Uses as uses
+use Rattle.vhdl_connect.specs.declared.uses.Use.{Use}
+use Rattle.vhdl_connect.specs.Uses as uses
 use Rattle.vhdl_elab.specs.declared.made.Made.{Made}
 use Rattle.vhdl_elab.specs.declared.place.InstancePlace.{InstancePlace}
 use Rattle.vhdl_elab.specs.Signals.{signal_with_byte, shown_with_byte}

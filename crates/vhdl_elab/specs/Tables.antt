@@ -3,10 +3,10 @@ use Rattle.std.specs.Prelude.{ℕ, Bool, true, false, not, ◌&&◌, nat_le, Lis
 use Rattle.smallvec.specs.SmallVec.{SmallVec}
 use Rattle.rtl_net.specs.declared.building.IdlePort.{IdlePort}
 use Rattle.vhdl_elab_rules.specs.Wiring.{is_input, is_output}
-use Rattle.vhdl_connect_bodies.specs.declared.uses.Sources.{Sources}
-use Rattle.vhdl_connect_bodies.specs.declared.uses.Sources.TheVariants.{Zero, One, Several}
-use Rattle.vhdl_connect_bodies.specs.declared.uses.Use.{Use}
-use Rattle.vhdl_connect_bodies.specs.Held.{items_at}
+use Rattle.vhdl_connect.specs.declared.uses.Sources.{Sources}
+use Rattle.vhdl_connect.specs.declared.uses.Sources.TheVariants.{Zero, One, Several}
+use Rattle.vhdl_connect.specs.declared.uses.Use.{Use}
+use Rattle.vhdl_connect.specs.Held.{items_at}
 use Rattle.vhdl_elab.specs.declared.made.Element.{Element}
 use Rattle.vhdl_elab.specs.Made.{role_of, is_of_top}
 

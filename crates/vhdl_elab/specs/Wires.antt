@@ -4,7 +4,7 @@ use Rattle.std.specs.List.{zip, range_with_len}
 use Rattle.smallvec.specs.SmallVec.{SmallVec}
 use Rattle.vhdl_expand_rules.specs.declared.fault.ElabProblem.TheVariants.{TwoUnresolved, ReadOfShared}
 use Rattle.vhdl_expand_rules.specs.Elab.{Told}
-use Rattle.vhdl_connect_bodies.specs.Held.{Holds, processes_hold, idle_hold, items_at, start_with}
+use Rattle.vhdl_connect.specs.Held.{Holds, processes_hold, idle_hold, items_at, start_with}
 use Rattle.vhdl_elab.specs.declared.made.Made.{Made}
 use Rattle.vhdl_elab.specs.declared.wires.Wires.{Wires}
 use Rattle.vhdl_elab.specs.Tables.{Used, inputs_in, idle_in, first_at, is_two_unresolved, is_read_of_shared}

@@ -7,7 +7,7 @@ ghost use Rattle.std.specs.Prelude.{◌≡◌};
 
 use rtl_net::{NetKind, Process, Scope, Signal};
 use std::alloc::Global;
-use vhdl_connect_bodies::Use;
+use vhdl_connect::Use;
 use vhdl_expand_tree::Role;
 
 /// What an element is part of.

@@ -13,7 +13,7 @@ use crate::nets::{push_own_defaults, push_own_kinds};
 use crate::place::InstancePlace;
 use rtl_net::Scope;
 use std::alloc::AllocError;
-use vhdl_connect_bodies::uses_in;
+use vhdl_connect::uses_in;
 use vhdl_expand_tree::{Instance, Object};
 
 impl Made {

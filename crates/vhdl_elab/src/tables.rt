@@ -3,14 +3,14 @@
 
 ghost use Rattle.std.specs.Prelude.{◌≡◌, nat_le, length, IfOk};
 ghost use Rattle.std.specs.List.{zip};
-ghost use Rattle.vhdl_connect_bodies.specs.Held.{items_at};
+ghost use Rattle.vhdl_connect.specs.Held.{items_at};
 ghost use Rattle.vhdl_elab.specs.Tables as tables;
 
 use crate::made::{Element, ElementRole};
 use rtl_net::IdlePort;
 use smallvec::SmallVec;
 use std::alloc::{AllocError, Global};
-use vhdl_connect_bodies::{Sources, Use};
+use vhdl_connect::{Sources, Use};
 
 /// The nets of the top's in ports, in order. It takes the memory of the list.
 pub fn inputs(alloc: Global, elements: &[Element]) -> Result<Vec<usize>, AllocError>

@@ -10,7 +10,7 @@ use crate::made::Made;
 use crate::tables::{idle_ports, inputs, read_of_shared, two_unresolved};
 use rtl_net::IdlePort;
 use std::alloc::Global;
-use vhdl_connect_bodies::{held, starts};
+use vhdl_connect::{held, starts};
 use vhdl_expand_rules::{ElabFault, ElabProblem};
 
 /// What is told of a design as a whole.

@@ -1,10 +1,9 @@
 -- The ports of the top have names of their own, and the elements of its in ports are the inputs.
-use Rattle.std.proofs.Common.{◌≡◌, ℕ, Bool, true, false, cond, not, List, [], ◌∷◌, ◌++◌, map, Some, All, refl, sym, ap, ◌∙◌, subst}
-use Rattle.std.specs.Prelude.{◌≢◌, filter, find, flat_map, bytes_eq}
+use Rattle.std.proofs.Common.{◌≡◌, ℕ, Bool, true, false, cond, not, List, [], ◌∷◌, ◌++◌, map, All, refl, sym, ap, ◌∙◌, subst}
+use Rattle.std.specs.Prelude.{◌≢◌, filter, flat_map, bytes_eq}
 use Rattle.std.specs.Char.{to_ascii_lowercase}
-use Rattle.std.specs.List.{AllZip, list_all}
+use Rattle.std.specs.List.{AllZip}
 use Rattle.std.proofs.lemmas.Bool.{and_parts, not-true, or_parts}
-use Rattle.std.proofs.lemmas.Option.{same_Some}
 use Rattle.std.proofs.lemmas.Slice.Eq.{bytes_eq-Decides}
 use Rattle.std.proofs.lemmas.List.Elements.{All-nil, All-cons, All-head, All-tail, filter-append}
 use Rattle.rtl_net.specs.Nets.{SignalView, NetlistView}
@@ -13,7 +12,7 @@ use Rattle.rtl_stim_lines.specs.Inputs as stim
 use Rattle.rtl_stim_lines.specs.Times.{nets_of, all_nets}
 use Rattle.rtl_stim.specs.Ports.{is_in_port, element_on, input_of, inputs_of}
 use Rattle.vhdl_names_rules.specs.Visibility.{is_among, are_distinct}
-use Rattle.vhdl_names_rules.specs.units.Units.{Port, Entity, Units}
+use Rattle.vhdl_names_rules.specs.units.Units.{Port, Entity}
 use Rattle.vhdl_expand_rules.specs.Tree.{Role, input, Object}
 use Rattle.vhdl_expand_rules.specs.laws.Trees.{is_port}
 use Rattle.vhdl_elab_rules.specs.Numbering.{Placed, Numbered, numbered_design}
@@ -21,6 +20,7 @@ use Rattle.vhdl_elab_rules.specs.Wiring.{is_input}
 use Rattle.vhdl_elab_rules.specs.Elaboration.{Elaborated, net_of}
 use Rattle.vhdl_elab_rules.specs.Shown.{Shown, shown, net_shown}
 use Rattle.vhdl_elab_rules.proofs.Ordered.{IsSignal, PortOf, is-ordered}
+use Rattle.vhdl_expand_rules.proofs.Items.{all_pass, all_found}
 use Rattle.vhdl_elab_rules.proofs.Placed.{Follow}
 use Rattle.vhdl_elab_rules.proofs.Objects.{all_signals}
 use Rattle.vhdl_elab_rules.proofs.Order.{InTurn, in-pairs}
@@ -87,17 +87,6 @@ no-input [] h = refl
 no-input (o ∷ os) h =
     ap (λ (t : Bool). cond t (o ∷ filter (λ (x : Object). is_input x.role) os) (filter (λ (x : Object). is_input x.role) os)) (not-input o.role (All-head IsSignal o os h)) ∙ no-input os (All-tail IsSignal o os h)
 
-found-distinct : (f g : Entity → Bool) (units : Units) (unit : Entity) → list_all g units ≡ true → find f units ≡ Some unit → g unit ≡ true
-found-distinct f g [] unit h e = absurd cc
-found-distinct f g (x ∷ units) unit h e = by (f x) e (λ later. found-distinct f g units unit both.1 later)
-  where
-    both : (g x ≡ true) × (list_all g units ≡ true)
-    both = and_parts (g x) (list_all g units) h
-
-    by : (t : Bool) → cond t (Some x) (find f units) ≡ Some unit → (find f units ≡ Some unit → g unit ≡ true) → g unit ≡ true
-    by true e go = subst (λ (y : Entity). g y ≡ true) (same_Some x unit e) both.0
-    by false e go = go e
-
 abbrev of_input : Object → Bool
 of_input o = is_input o.role
 
@@ -150,7 +139,7 @@ each-has-own-ports units top x net sound distinct e shows =
     let o = is-ordered units top b.design b.gave in
     let objects : o.ports ++ o.signals ≡ os = sym (walked.objects_are ∙ o.are) in
     let differ : InputsDiffer os = subst InputsDiffer objects (inputs-differ o.ports o.signals o.unit.ports o.are_ports o.are_signals
-    (found-distinct (λ (y : Entity). bytes_eq y.name (map to_ascii_lowercase top)) entity_ports_are_distinct units o.unit distinct o.named)) in
+    (all_found (λ (y : Entity). entity_ports_are_distinct y ≡ true) (λ (y : Entity). bytes_eq y.name (map to_ascii_lowercase top)) units o.unit (all_pass entity_ports_are_distinct units distinct) o.named)) in
     record {
       names = in-pairs (λ (i j : Input). i.name ≢ j.name) (inputs_of net)
           (unmapped (λ (i : Input). i.name) (inputs_of net)

@@ -1,4 +1,5 @@
 pub mod Steps
+pub mod Items
 pub mod Options
 pub mod Chains
 mod Modulus

@@ -94,9 +94,7 @@ declaration_rule n = w_choose (λ next. by_next next)
 
 declaration_some : (d : Declaration) → 1 ≤ length (spell_declaration d)
 declaration_some (signals d) = omega arith
-declaration_some (constants d) = omega arith
-declaration_some (enumeration d) = omega arith
-declaration_some (component d) = omega arith
+declaration_some _ = omega arith
 
 pub declarations_rule : (n : ℕ) → Rule n 0 (declarations n) (spell_each spell_declaration) (IsEach IsDeclaration)
 unfolding declarations
@@ -145,8 +143,7 @@ component_gives n c good =
 
     no_is : (gs : Option (List Generic)) (ps : Option (List Port)) (next : Option TokenKind) → is_kind k.Is (front (spell_option spell_generics gs ++ (spell_option spell_ports ps ++ (some k.End ∷ (some k.Component ∷ (spell_option spell_ident c.end_name ++ some k.Semicolon ∷ []))))) next) ≡ false
     no_is None None next = refl
-    no_is None (Some ps) next = refl
-    no_is (Some gs) ps next = refl
+    no_is _ _ next = refl
 
 declaration_gives : (n : ℕ) (d : Declaration) → IsDeclaration d → Gives (declaration n) d (spell_declaration d) Whatever
 unfolding declaration
@@ -157,9 +154,7 @@ declaration_gives n (component d) good = g_choose (declaration_by n) (Some k.Com
 
 declaration_begins : (d : Declaration) → IsDeclaration d → (next : Option TokenKind) → begins_declaration (front (spell_declaration d) next) ≡ true
 declaration_begins (signals d) good next = refl
-declaration_begins (constants d) good next = refl
-declaration_begins (enumeration d) good next = refl
-declaration_begins (component d) good next = refl
+declaration_begins _ good next = refl
 
 -- no declaration follows
 pub declarations_gives : (n : ℕ) (ds : List Declaration) → IsEach IsDeclaration ds → Gives (declarations n) ds (spell_each spell_declaration ds) (λ next. (begins_declaration next ≡ false) × Whatever next)

@@ -71,16 +71,12 @@ assign_gives n l target branches last f g = g_then _ (name_gives n target f) (g_
 target_label : (i : Ident) (x : Suffix) (a : Option Ident) (ps : List Piece) (next : Option TokenKind) → both k.Identifier k.Colon (spell_name (record { identifier = i; suffix = x; attribute = a }) ++ (some k.LessEqual ∷ ps)) next ≡ false
 unfolding same_kind
 target_label i plain None ps next = refl
-target_label i plain (Some a) ps next = refl
-target_label i (arguments all) a ps next = refl
-target_label i (sliced left direction right) a ps next = refl
+target_label i _ _ ps next = refl
 
 target_component : (i : Ident) (x : Suffix) (a : Option Ident) (ps : List Piece) (next : Option TokenKind) → component (spell_name (record { identifier = i; suffix = x; attribute = a }) ++ (some k.LessEqual ∷ ps)) next ≡ false
 unfolding same_kind
 target_component i plain None ps next = refl
-target_component i plain (Some a) ps next = refl
-target_component i (arguments all) a ps next = refl
-target_component i (sliced left direction right) a ps next = refl
+target_component i _ _ ps next = refl
 
 assignment_ready : (n : ℕ) (inner : Parser (List Concurrent)) (l : Option Ident) (t : Name) (branches : List Branch) (last : Option Value) → IsName t → AreWaveforms branches last →
     Gives (concurrent n inner) (assignment (record { label = l; target = t; branches = branches; otherwise = last })) (spell_option spell_label l ++ spell_behind t branches last) Whatever
@@ -108,8 +104,7 @@ process_ready n inner (Some i) p f = with_label n inner i _ (spell_process p) (g
 is_component : (name : Ident) (g p : Option (List Association)) (next : Option TokenKind) → component (spell_ident name ++ (spell_option (spell_map k.Generic) g ++ (spell_option (spell_map k.Port) p ++ some k.Semicolon ∷ []))) next ≡ true
 unfolding same_kind
 is_component name None None next = refl
-is_component name None (Some p) next = refl
-is_component name (Some g) p next = refl
+is_component name _ _ next = refl
 
 instance_ready : (n : ℕ) (inner : Parser (List Concurrent)) (i : Ident) (u : Instantiated) (g p : Option (List Association)) → IsInstance (record { unit = u; generics = g; ports = p }) →
     Gives (concurrent n inner) (instance i (record { unit = u; generics = g; ports = p })) (spell_label i ++ spell_instance (record { unit = u; generics = g; ports = p })) Whatever
@@ -135,11 +130,8 @@ concurrent_begins (assignment a) next = by a.label
     by None = refl
     by (Some i) = refl
 concurrent_begins (selected None s) next = refl
-concurrent_begins (selected (Some i) s) next = refl
 concurrent_begins (process None p) next = refl
-concurrent_begins (process (Some i) p) next = refl
-concurrent_begins (instance i x) next = refl
-concurrent_begins (generated i at s w cs l) next = refl
+concurrent_begins _ next = refl
 
 abbrev pub EndsConcurrents : Option TokenKind → Type 0
 EndsConcurrents next = (begins_concurrent next ≡ false) × Whatever next
@@ -164,11 +156,8 @@ no_begin (assignment a) ps next = by a.label
     by None = refl
     by (Some i) = refl
 no_begin (selected None s) ps next = refl
-no_begin (selected (Some i) s) ps next = refl
 no_begin (process None p) ps next = refl
-no_begin (process (Some i) p) ps next = refl
-no_begin (instance i x) ps next = refl
-no_begin (generated i at s w cs l) ps next = refl
+no_begin _ ps next = refl
 
 after_begin : (cs : List Concurrent) (ps : List Piece) (next : Option TokenKind) → is_kind k.Begin (front (spelled_all cs ++ (some k.End ∷ ps)) next) ≡ false
 unfolding same_kind

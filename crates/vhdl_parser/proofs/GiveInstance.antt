@@ -39,8 +39,7 @@ map_gives n word all f = g_some (λ _. g_some (λ _. g_some (λ _. g_below _ n (
 after_unit : (g p : Option (List Association)) (next : Option TokenKind) → EndsUnit (front (spell_option (spell_map k.Generic) g ++ (spell_option (spell_map k.Port) p ++ some k.Semicolon ∷ [])) next)
 unfolding same_kind
 after_unit None None next = (refl, tt)
-after_unit None (Some p) next = (refl, tt)
-after_unit (Some g) p next = (refl, tt)
+after_unit _ _ next = (refl, tt)
 
 after_generics : (p : Option (List Association)) (next : Option TokenKind) → (is_kind k.Generic (front (spell_option (spell_map k.Port) p ++ some k.Semicolon ∷ []) next) ≡ false) × Whatever next
 unfolding same_kind

@@ -37,5 +37,4 @@ pub concurrent_long : (c : Concurrent) → 1 ≤ length (spell_concurrent c)
 concurrent_long (assignment a) = omega (arith, length-append (spell_option spell_label a.label) (spell_name a.target ++ (some k.LessEqual ∷ (spell_waveforms a.branches a.otherwise ++ some k.Semicolon ∷ []))))
 concurrent_long (selected l s) = omega (arith, length-append (spell_option spell_label l) (spell_selected s))
 concurrent_long (process l p) = omega (arith, length-append (spell_option spell_label l) (spell_process p))
-concurrent_long (instance i x) = omega arith
-concurrent_long (generated i at s w cs l) = omega arith
+concurrent_long _ = omega arith

@@ -1,26 +1,53 @@
 -- Generics and ports: what is read is spelled so, and what is spelled is read.
-use Rattle.std.proofs.Common.{◌≡◌, ℕ, Bool, true, false, List, [], ◌∷◌, Option, Some, None, refl, arith}
+use Rattle.std.proofs.Common.{◌≡◌, ℕ, Bool, true, false, List, [], ◌∷◌, ◌++◌, Option, Some, None, refl, arith}
 use Rattle.vhdl_lexer.specs.declared.token.TokenKind.{TokenKind}
 use Rattle.vhdl_lexer.specs.declared.token.TokenKind.TheVariants as k
 use Rattle.vhdl_tree.specs.declared.declaration.Mode.{Mode}
 use Rattle.vhdl_tree.specs.declared.declaration.Mode.TheVariants.{In, Out}
 use Rattle.vhdl_tree.specs.Lexeme.{same_kind}
 use Rattle.vhdl_tree.specs.Tree.{Ident, Expr, Value, Subtype, Generic, Port}
-use Rattle.vhdl_tree.specs.Pieces.{some, word_at, spell_option, spell_list, IsAny, IsList, IsOption}
+use Rattle.vhdl_tree.specs.Pieces.{Piece, some, word_at, spell_option, spell_list, IsAny, IsList, IsOption}
 use Rattle.vhdl_tree.specs.grammar.Expressions.{IsExpr, IsValue}
 use Rattle.vhdl_tree.specs.grammar.Subtypes.{IsSubtype}
 use Rattle.vhdl_tree.specs.grammar.Declarations.{spell_generic_default, spell_mode, spell_generic, spell_generics, spell_port, spell_ports, IsGeneric, AreGenerics, IsPort, ArePorts}
-use Rattle.vhdl_parser_expressions.specs.reader.Input.{is_kind}
-use Rattle.vhdl_parser.specs.reader.Declarations.{generic_default, optional_generic_default, generic, generic_list, generics, optional_generics, mode_by, mode, port, port_list, ports, optional_ports}
+use Rattle.vhdl_parser_expressions.specs.reader.Input.{Parser, is_kind}
+use Rattle.vhdl_parser.specs.reader.Declarations.{generic_default, optional_generic_default, generic, clause, generics, optional_generics, mode_by, mode, port, ports, optional_ports}
 use Rattle.vhdl_parser_expressions.proofs.Halts.{Example}
 use Rattle.vhdl_parser_expressions.proofs.Walks.{Rule, w_pure, w_then, w_last, w_rule}
-use Rattle.vhdl_parser_expressions.proofs.Rules.{w_some, w_ident, w_left, w_right, w_below, below_met, w_choose, under, word_rule, option_rule}
+use Rattle.vhdl_parser_expressions.proofs.Rules.{is_neutral, w_some, w_ident, w_left, w_right, w_below, below_met, w_choose, under, word_rule, option_rule}
 use Rattle.vhdl_parser_expressions.proofs.Repeats.{separated_rule}
 use Rattle.vhdl_parser_expressions.proofs.Gives.{Gives, Whatever, front, g_pure, g_then, g_map, g_some, g_ident, g_choose, g_below, eat_gives, option_gives, separated_gives}
 use Rattle.vhdl_parser_expressions.proofs.WalkExpressions.{expr_rule}
 use Rattle.vhdl_parser_expressions.proofs.GiveValues.{Ends, expr_gives}
 use Rattle.vhdl_parser_statements.proofs.Plain.{an_ident}
 use Rattle.vhdl_parser_statements.proofs.Subtypes.{idents_rule, idents_gives, subtype_rule, subtype_gives, optional_default_rule, optional_default_gives, EndsDefault, default_no_paren}
+
+-- ---- clauses: word ( item { ; item } ) ;
+
+abbrev spell_clause : {A : Type 0} → TokenKind → (A → List Piece) → List A → List Piece
+spell_clause word spell all = some word ∷ (some k.LeftParen ∷ (spell_list k.Semicolon spell all ++ (some k.RightParen ∷ (some k.Semicolon ∷ []))))
+
+clause_begins : {A : Type 0} (word : TokenKind) (spell : A → List Piece) (Good : A → Type 0) → same_kind word word ≡ true → (all : List A) → IsList Good all → (next : Option TokenKind)
+    → is_kind word (front (spell_clause word spell all) next) ≡ true
+clause_begins word spell Good same all good next = same
+
+module _ {A : Type 0} {item : ℕ → Parser A} {spell : A → List Piece} {Good : A → Type 0} (word : TokenKind) where
+  clause_rule : is_neutral word ≡ true → Example (λ r. some word ∷ (some k.LeftParen ∷ r)) (spell_clause word spell) (IsList Good) → ((m : ℕ) → Rule m 0 (item m) spell Good) → (n : ℕ)
+      → Rule n 0 (clause word item n) (spell_clause word spell) (IsList Good)
+  clause_rule neutral plain rule n =
+      w_some word neutral (λ _.
+      w_left plain (below_met _ n) (λ _.
+      w_below n (λ m e.
+      w_then (under e (separated_rule k.Semicolon refl (omega arith) (rule m))) (λ all good le.
+      w_right le (λ _.
+      w_some k.Semicolon refl (λ _.
+      w_pure (omega arith) refl good))))))
+
+  clause_gives : ((m : ℕ) (a : A) → Good a → Gives (item m) a (spell a) EndsDefault) → (n : ℕ) (all : List A) → IsList Good all → Gives (clause word item n) all (spell_clause word spell all) Whatever
+  unfolding same_kind
+  clause_gives each n all good =
+      g_some (λ _. g_some (λ _. g_below _ n (λ m e.
+      g_then _ (separated_gives k.Semicolon refl (refl, omega arith) (each m) all good) (g_some (λ _. g_some (λ _. g_pure))) (λ next g. (refl, (refl, omega arith))))))
 
 -- ---- defaults of generics
 
@@ -56,9 +83,6 @@ generic_rule n =
     w_ident (λ mark.
     w_last (λ d. record { constant_word = word; names = names; in_word = way; mark = mark; default = d }) (optional_generic_default_rule n) (λ d good. (refl, (several, good))))))))
 
-generic_list_rule : (n : ℕ) → Rule n 0 (generic_list n) (spell_list k.Semicolon spell_generic) AreGenerics
-generic_list_rule n = separated_rule k.Semicolon refl (omega arith) (generic_rule n)
-
 -- generic ( id : id ) ;
 plain_generics : Example (λ r. some k.Generic ∷ (some k.LeftParen ∷ r)) spell_generics AreGenerics
 plain_generics = record {
@@ -68,20 +92,9 @@ plain_generics = record {
   formed = (((tt, tt), tt), tt);
 }
 
-generics_rule : (n : ℕ) → Rule n 0 (generics n) spell_generics AreGenerics
-unfolding generics
-generics_rule n =
-    w_some k.Generic refl (λ _.
-    w_left plain_generics (below_met _ n) (λ _.
-    w_below n (λ m e.
-    w_then (under e (generic_list_rule m)) (λ all good le.
-    w_right le (λ _.
-    w_some k.Semicolon refl (λ _.
-    w_pure (omega arith) refl good))))))
-
 pub optional_generics_rule : (n : ℕ) → Rule n 0 (optional_generics n) (spell_option spell_generics) (IsOption AreGenerics)
-unfolding optional_generics
-optional_generics_rule n = option_rule (is_kind k.Generic) (omega arith) (generics_rule n)
+unfolding optional_generics generics
+optional_generics_rule n = option_rule (is_kind k.Generic) (omega arith) (clause_rule k.Generic refl plain_generics generic_rule n)
 
 generic_gives : (n : ℕ) (g : Generic) → IsGeneric g → Gives (generic n) g (spell_generic g) EndsDefault
 unfolding generic same_kind
@@ -100,21 +113,9 @@ generic_gives n g good = of g.constant_word g.names g.in_word g.mark g.default g
         (λ next g. (refl, tt)))
         (λ next g. refl)
 
-generic_list_gives : (n : ℕ) (all : List Generic) → AreGenerics all → Gives (generic_list n) all (spell_list k.Semicolon spell_generic all) (λ next. (is_kind k.Semicolon next ≡ false) × EndsDefault next)
-unfolding same_kind
-generic_list_gives n all good = separated_gives k.Semicolon refl (refl, omega arith) (generic_gives n) all good
-
-generics_gives : (n : ℕ) (all : List Generic) → AreGenerics all → Gives (generics n) all (spell_generics all) Whatever
-unfolding generics same_kind
-generics_gives n all good = g_some (λ _. g_some (λ _. g_below _ n (λ m e. g_then _ (generic_list_gives m all good) (g_some (λ _. g_some (λ _. g_pure))) (λ next g. (refl, (refl, omega arith))))))
-
-generics_begin : (all : List Generic) → AreGenerics all → (next : Option TokenKind) → is_kind k.Generic (front (spell_generics all) next) ≡ true
-unfolding same_kind
-generics_begin all good next = refl
-
 pub optional_generics_gives : (n : ℕ) (o : Option (List Generic)) → IsOption AreGenerics o → Gives (optional_generics n) o (spell_option spell_generics o) (λ next. (is_kind k.Generic next ≡ false) × Whatever next)
-unfolding optional_generics
-optional_generics_gives n o good = option_gives (is_kind k.Generic) (generics_gives n) generics_begin o good
+unfolding optional_generics generics same_kind
+optional_generics_gives n o good = option_gives (is_kind k.Generic) (clause_gives k.Generic generic_gives n) (clause_begins k.Generic spell_generic IsGeneric refl) o good
 
 -- ---- ports
 
@@ -137,9 +138,6 @@ port_rule n =
     w_then (subtype_rule n) (λ t fine _.
     w_last (λ d. record { signal_word = word; names = names; mode = way; subtype = t; default = d }) (optional_default_rule n) (λ d good. (refl, (several, fine, good))))))))
 
-port_list_rule : (n : ℕ) → Rule n 0 (port_list n) (spell_list k.Semicolon spell_port) ArePorts
-port_list_rule n = separated_rule k.Semicolon refl (omega arith) (port_rule n)
-
 -- port ( id : id ) ;
 plain_ports : Example (λ r. some k.Port ∷ (some k.LeftParen ∷ r)) spell_ports ArePorts
 plain_ports = record {
@@ -149,20 +147,9 @@ plain_ports = record {
   formed = (((tt, tt), tt, tt), tt);
 }
 
-ports_rule : (n : ℕ) → Rule n 0 (ports n) spell_ports ArePorts
-unfolding ports
-ports_rule n =
-    w_some k.Port refl (λ _.
-    w_left plain_ports (below_met _ n) (λ _.
-    w_below n (λ m e.
-    w_then (under e (port_list_rule m)) (λ all good le.
-    w_right le (λ _.
-    w_some k.Semicolon refl (λ _.
-    w_pure (omega arith) refl good))))))
-
 pub optional_ports_rule : (n : ℕ) → Rule n 0 (optional_ports n) (spell_option spell_ports) (IsOption ArePorts)
-unfolding optional_ports
-optional_ports_rule n = option_rule (is_kind k.Port) (omega arith) (ports_rule n)
+unfolding optional_ports ports
+optional_ports_rule n = option_rule (is_kind k.Port) (omega arith) (clause_rule k.Port refl plain_ports port_rule n)
 
 -- neither `in` nor `out` follows
 mode_gives : (way : Option Mode) → Gives mode way (spell_option spell_mode way) (λ next. next ≡ Some k.Identifier)
@@ -188,18 +175,6 @@ port_gives n p good = of p.signal_word p.names p.mode p.subtype p.default good.0
         (λ next g. (refl, tt)))
         (λ next g. refl)
 
-port_list_gives : (n : ℕ) (all : List Port) → ArePorts all → Gives (port_list n) all (spell_list k.Semicolon spell_port all) (λ next. (is_kind k.Semicolon next ≡ false) × EndsDefault next)
-unfolding same_kind
-port_list_gives n all good = separated_gives k.Semicolon refl (refl, omega arith) (port_gives n) all good
-
-ports_gives : (n : ℕ) (all : List Port) → ArePorts all → Gives (ports n) all (spell_ports all) Whatever
-unfolding ports same_kind
-ports_gives n all good = g_some (λ _. g_some (λ _. g_below _ n (λ m e. g_then _ (port_list_gives m all good) (g_some (λ _. g_some (λ _. g_pure))) (λ next g. (refl, (refl, omega arith))))))
-
-ports_begin : (all : List Port) → ArePorts all → (next : Option TokenKind) → is_kind k.Port (front (spell_ports all) next) ≡ true
-unfolding same_kind
-ports_begin all good next = refl
-
 pub optional_ports_gives : (n : ℕ) (o : Option (List Port)) → IsOption ArePorts o → Gives (optional_ports n) o (spell_option spell_ports o) (λ next. (is_kind k.Port next ≡ false) × Whatever next)
-unfolding optional_ports
-optional_ports_gives n o good = option_gives (is_kind k.Port) (ports_gives n) ports_begin o good
+unfolding optional_ports ports same_kind
+optional_ports_gives n o good = option_gives (is_kind k.Port) (clause_gives k.Port port_gives n) (clause_begins k.Port spell_port IsPort refl) o good

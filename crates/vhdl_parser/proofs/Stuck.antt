@@ -101,5 +101,4 @@ is_stuck source tokens (f.EndOfFile byte) met why at le m refused =
     none : (us : List Lexeme) → length us ≤ 0 → us ≡ []
     none [] h = refl
     none (u ∷ us) h = absurd (omega (arith, h))
-is_stuck source tokens (f.TooDeep byte) met why at le m refused = tt
-is_stuck source tokens f.NoMemory met why at le m refused = tt
+is_stuck source tokens _ met why at _ m refused = tt

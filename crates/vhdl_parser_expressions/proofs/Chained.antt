@@ -18,9 +18,7 @@ no_operator Logical last = by_test (repeats last)
     by_test : (b : Bool) → ◌≡◌ {A = Option Operator} (cond b None None) None
     by_test true = refl
     by_test false = refl
-no_operator Relation last = refl
-no_operator Adding last = refl
-no_operator Multiplying last = refl
+no_operator _ last = refl
 
 module _ {operand : Parser Expr} (each : Steady operand) where
   pair_steady : (op : Operator) → Steady (pair operand op)

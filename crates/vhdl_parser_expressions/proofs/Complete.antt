@@ -102,10 +102,9 @@ below_adding e b o Adding le = o
 below_adding e b o Multiplying le = absurd (omega (arith, le))
 
 below_multiplying : (e : Expr) → 3 < binding e → Unsigned e → Opens Multiplying e → (level : Level) → Opens level e
-below_multiplying e b u o Logical = below_adding e (omega (arith, b)) (to_adding e b u o) Logical (omega arith)
-below_multiplying e b u o Relation = below_adding e (omega (arith, b)) (to_adding e b u o) Relation (omega arith)
 below_multiplying e b u o Adding = to_adding e b u o
 below_multiplying e b u o Multiplying = o
+below_multiplying e b u o level = below_adding e (omega (arith, b)) (to_adding e b u o) level (omega arith)
 
 pub of_factor : (e : Expr) → 4 < binding e → Unsigned e → Reading 5 (λ n. factor (inside n)) e → (level : Level) → Opens level e
 of_factor e b u f = below_multiplying e (omega (arith, b)) u (from_first Multiplying e (tight_alone Multiplying e b) f)
@@ -243,15 +242,11 @@ module _ (b : Bool) (op : Operator) (at : ℕ) (left right : Expr) (cl : Complet
 -- an operator's own level, and each looser one
 below : (own : Level) (e : Expr) → level_rank own ≤ binding e → (3 < level_rank own → Unsigned e) → Opens own e → (level : Level) → level_rank level ≤ level_rank own → Opens level e
 below Logical e b u o Logical le = o
-below Logical e b u o Relation le = absurd (omega (arith, le))
-below Logical e b u o Adding le = absurd (omega (arith, le))
-below Logical e b u o Multiplying le = absurd (omega (arith, le))
 below Relation e b u o Logical le = to_logical e (omega (arith, b)) o
 below Relation e b u o Relation le = o
-below Relation e b u o Adding le = absurd (omega (arith, le))
-below Relation e b u o Multiplying le = absurd (omega (arith, le))
 below Adding e b u o level le = below_adding e (omega (arith, b)) o level le
 below Multiplying e b u o level le = below_multiplying e (omega (arith, b)) (u (omega arith)) o level
+below _ e b u o _ le = absurd (omega (arith, le))
 
 pub binary_complete : (b : Bool) (op : Operator) (at : ℕ) (left right : Expr) → Complete left → Complete right → Complete (binary b op at left right)
 binary_complete b op at left right cl cr = record {

@@ -71,15 +71,8 @@ head (signed sign at operand) = sign_kind sign
 head (binary b op at left right) = head left
 
 head_is : (e : Expr) (ps : List Piece) (next : Option TokenKind) → front (spell e ++ ps) next ≡ Some (head e)
-head_is (integer at text) ps next = refl
-head_is (character at code) ps next = refl
-head_is (string at text) ps next = refl
-head_is (bits at text) ps next = refl
-head_is (named n suffix attribute) ps next = refl
-head_is (parens at inner) ps next = refl
-head_is (negation at operand) ps next = refl
-head_is (signed sign at operand) ps next = refl
 head_is (binary b op at left right) ps next = ap (λ qs. front qs next) (append_assoc (spell left) (one_at (kind_of op) at ∷ spell right) ps) ∙ head_is left ((one_at (kind_of op) at ∷ spell right) ++ ps) next
+head_is _ ps next = refl
 
 abbrev begins : TokenKind → Bool
 begins k.Others = false
@@ -155,24 +148,7 @@ no_others (binary b op at left right) f = no_others left (Some (kind_of op))
 operator_no_arrow : (op : Operator) → is_kind k.Arrow (Some (kind_of op)) ≡ false
 unfolding same_kind
 operator_no_arrow And = refl
-operator_no_arrow Or = refl
-operator_no_arrow Xor = refl
-operator_no_arrow Xnor = refl
-operator_no_arrow Nand = refl
-operator_no_arrow Nor = refl
-operator_no_arrow Equal = refl
-operator_no_arrow NotEqual = refl
-operator_no_arrow Less = refl
-operator_no_arrow LessEqual = refl
-operator_no_arrow Greater = refl
-operator_no_arrow GreaterEqual = refl
-operator_no_arrow Add = refl
-operator_no_arrow Subtract = refl
-operator_no_arrow Concatenate = refl
-operator_no_arrow Multiply = refl
-operator_no_arrow Divide = refl
-operator_no_arrow Modulo = refl
-operator_no_arrow Remainder = refl
+operator_no_arrow _ = refl
 
 -- nor with id =>, where no => follows it
 no_formal : (e : Expr) (f : Option TokenKind) → is_kind k.Arrow f ≡ false → same_kind (head e) k.Identifier && is_kind k.Arrow (second e f) ≡ false
@@ -192,15 +168,8 @@ no_formal (signed Minus at operand) f s = refl
 no_formal (binary b op at left right) f s = no_formal left (Some (kind_of op)) (operator_no_arrow op)
 
 spell_long : (e : Expr) → 1 ≤ length (spell e)
-spell_long (integer at text) = omega arith
-spell_long (character at code) = omega arith
-spell_long (string at text) = omega arith
-spell_long (bits at text) = omega arith
-spell_long (named n suffix attribute) = omega arith
-spell_long (parens at inner) = omega arith
-spell_long (negation at operand) = omega arith
-spell_long (signed sign at operand) = omega arith
 spell_long (binary b op at left right) = omega (arith, spell_long left, length-append (spell left) (one_at (kind_of op) at ∷ spell right))
+spell_long _ = omega arith
 
 -- ---- choices by two tokens
 

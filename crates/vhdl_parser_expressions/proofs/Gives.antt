@@ -35,10 +35,7 @@ front (p ∷ ps) next = Some (kind_at p)
 
 is_kind_at : (p : Piece) (l : Lexeme) → Is p l → l.kind ≡ kind_at p
 is_kind_at (some kind) l i = i
-is_kind_at (one_at kind at) l i = i.0
-is_kind_at (word_at at text) l i = i.0
-is_kind_at (literal_at at code) l i = i.0
-is_kind_at (text_at kind at text) l i = i.0
+is_kind_at _ l i = i.0
 
 pub front_is : (ps : List Piece) (ts rest : List Lexeme) → Spells ps ts rest → next_kind ts ≡ front ps (next_kind rest)
 unfolding next_kind

@@ -19,9 +19,7 @@ token_for (text_at kind at text) = record { kind = kind; at = at; text = text }
 is_for : (p : Piece) → Is p (token_for p)
 is_for (some kind) = refl
 is_for (one_at kind at) = (refl, refl)
-is_for (word_at at text) = (refl, refl, refl)
-is_for (literal_at at code) = (refl, refl, refl)
-is_for (text_at kind at text) = (refl, refl, refl)
+is_for _ = (refl, refl, refl)
 
 -- some tokens are spelled by any pieces
 tokens_for : (ps : List Piece) → (ts : List Lexeme) × Spells ps ts []

@@ -47,24 +47,7 @@ grip _ = 0
 
 pub grip-kind_of : (op : Operator) → grip (Some (kind_of op)) ≡ rank op
 grip-kind_of And = refl
-grip-kind_of Or = refl
-grip-kind_of Xor = refl
-grip-kind_of Xnor = refl
-grip-kind_of Nand = refl
-grip-kind_of Nor = refl
-grip-kind_of Equal = refl
-grip-kind_of NotEqual = refl
-grip-kind_of Less = refl
-grip-kind_of LessEqual = refl
-grip-kind_of Greater = refl
-grip-kind_of GreaterEqual = refl
-grip-kind_of Add = refl
-grip-kind_of Subtract = refl
-grip-kind_of Concatenate = refl
-grip-kind_of Multiply = refl
-grip-kind_of Divide = refl
-grip-kind_of Modulo = refl
-grip-kind_of Remainder = refl
+grip-kind_of _ = refl
 
 abbrev pub level_of : Operator → Level
 level_of And = Logical
@@ -89,50 +72,22 @@ level_of Remainder = Multiplying
 
 pub rank-level_of : (op : Operator) → rank op ≡ level_rank (level_of op)
 rank-level_of And = refl
-rank-level_of Or = refl
-rank-level_of Xor = refl
-rank-level_of Xnor = refl
-rank-level_of Nand = refl
-rank-level_of Nor = refl
-rank-level_of Equal = refl
-rank-level_of NotEqual = refl
-rank-level_of Less = refl
-rank-level_of LessEqual = refl
-rank-level_of Greater = refl
-rank-level_of GreaterEqual = refl
-rank-level_of Add = refl
-rank-level_of Subtract = refl
-rank-level_of Concatenate = refl
-rank-level_of Multiply = refl
-rank-level_of Divide = refl
-rank-level_of Modulo = refl
-rank-level_of Remainder = refl
+rank-level_of _ = refl
 
 level_most : (level : Level) → level_rank level ≤ 4
 level_most Logical = omega arith
-level_most Relation = omega arith
-level_most Adding = omega arith
-level_most Multiplying = omega arith
+level_most _ = omega arith
 
 level_least : (level : Level) → 1 ≤ level_rank level
 level_least Logical = omega arith
-level_least Relation = omega arith
-level_least Adding = omega arith
-level_least Multiplying = omega arith
+level_least _ = omega arith
 
 pub rank_most : (op : Operator) → rank op ≤ 4
 rank_most op = omega (arith, rank-level_of op, level_most (level_of op))
 
 pub binding_least : (e : Expr) → 1 ≤ binding e
 binding_least (binary b op at left right) = omega (arith, rank-level_of op, level_least (level_of op))
-binding_least (signed sign at e) = omega arith
-binding_least (negation at e) = omega arith
-binding_least (integer at text) = omega arith
-binding_least (character at code) = omega arith
-binding_least (string at text) = omega arith
-binding_least (bits at text) = omega arith
-binding_least (named n s a) = omega arith
-binding_least (parens at e) = omega arith
+binding_least _ = omega arith
 
 -- the token is this operator, which is of this level
 pub record At (level : Level) (next : Option TokenKind) (op : Operator) : Type 0 where
@@ -264,8 +219,7 @@ can_after Logical b op at left right r next s chain =
     ⊎_elim (λ great. absurd (omega (arith, great, s))) (λ again. repeated op next again.0 again.1) chain.1
 can_after Relation b op at left right r next s chain =
     ⊎_elim (λ great. absurd (omega (arith, great, s))) (λ again. absurd (omega (arith, repeated_rank next again.1, s))) chain.1
-can_after Adding b op at left right r next s chain = reads_operator Adding next s
-can_after Multiplying b op at left right r next s chain = reads_operator Multiplying next s
+can_after level b op at left right r next s chain = reads_operator level next s
 
 -- ---- a tree that no operator of the level goes on with
 
@@ -274,14 +228,7 @@ Alone level e = (op : Operator) → rank op ≡ level_rank level → GoesOn op e
 
 pub tight_alone : (level : Level) (e : Expr) → level_rank level < binding e → Alone level e
 tight_alone level (binary b first at l r) h op s g = absurd (omega (arith, h, s, g.0))
-tight_alone level (signed sign at e) h op s g = g
-tight_alone level (negation at e) h op s g = g
-tight_alone level (integer at text) h op s g = g
-tight_alone level (character at code) h op s g = g
-tight_alone level (string at text) h op s g = g
-tight_alone level (bits at text) h op s g = g
-tight_alone level (named n x a) h op s g = g
-tight_alone level (parens at e) h op s g = g
+tight_alone level _ h op s g = g
 
 -- ---- what is read after a tree may follow it
 
@@ -323,25 +270,11 @@ fits_after Multiplying b op at left right r next found h =
 -- what stands before an operator binds as tightly at least
 pub goes_on_binding : (op : Operator) (left : Expr) → GoesOn op left → rank op ≤ binding left
 goes_on_binding op (binary b first at l r) g = omega (arith, g.0)
-goes_on_binding op (signed sign at e) g = absurd g
-goes_on_binding op (negation at e) g = absurd g
-goes_on_binding op (integer at text) g = absurd g
-goes_on_binding op (character at code) g = absurd g
-goes_on_binding op (string at text) g = absurd g
-goes_on_binding op (bits at text) g = absurd g
-goes_on_binding op (named n s a) g = absurd g
-goes_on_binding op (parens at e) g = absurd g
+goes_on_binding op _ g = absurd g
 
 signed_binding : (op : Operator) (left : Expr) → IsSigned op left → rank op ≤ binding left
 signed_binding op (signed sign at e) g = omega (arith, g)
-signed_binding op (binary b first at l r) g = absurd g
-signed_binding op (negation at e) g = absurd g
-signed_binding op (integer at text) g = absurd g
-signed_binding op (character at code) g = absurd g
-signed_binding op (string at text) g = absurd g
-signed_binding op (bits at text) g = absurd g
-signed_binding op (named n s a) g = absurd g
-signed_binding op (parens at e) g = absurd g
+signed_binding op _ g = absurd g
 
 pub leads_binding : (b : Bool) (op : Operator) (left : Expr) → Leads b op left → rank op ≤ binding left
 leads_binding true op left (inl b) = omega (arith, b)

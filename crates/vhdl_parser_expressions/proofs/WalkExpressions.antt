@@ -47,24 +47,7 @@ inside_met f (suc m) a x = omega arith
 
 operator_neutral : (op : Operator) → is_neutral (kind_of op) ≡ true
 operator_neutral And = refl
-operator_neutral Or = refl
-operator_neutral Xor = refl
-operator_neutral Xnor = refl
-operator_neutral Nand = refl
-operator_neutral Nor = refl
-operator_neutral Equal = refl
-operator_neutral NotEqual = refl
-operator_neutral Less = refl
-operator_neutral LessEqual = refl
-operator_neutral Greater = refl
-operator_neutral GreaterEqual = refl
-operator_neutral Add = refl
-operator_neutral Subtract = refl
-operator_neutral Concatenate = refl
-operator_neutral Multiply = refl
-operator_neutral Divide = refl
-operator_neutral Modulo = refl
-operator_neutral Remainder = refl
+operator_neutral _ = refl
 
 sign_neutral : (sign : Sign) → is_neutral (sign_kind sign) ≡ true
 sign_neutral Plus = refl

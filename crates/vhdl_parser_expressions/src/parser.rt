@@ -26,21 +26,12 @@ use vhdl_tree::{Identifier, Literal};
 ///   token is left and one has to stand.
 /// - `TooDeep` where one level more would open than may.
 /// - `NoMemory` where memory was refused.
+#[derive(Drop)]
 pub struct Parser<'a> {
     /// What trees are made with.
     pub alloc: Global,
     source: &'a [u8],
     tokens: &'a [Token],
-}
-
-impl Drop for Parser<'_> {
-    fn drop(self) {
-        let Parser {
-            alloc: _,
-            source: _,
-            tokens: _,
-        } = self;
-    }
 }
 
 impl<'a> Model for Parser<'a> {

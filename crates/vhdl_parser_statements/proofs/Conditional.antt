@@ -165,8 +165,7 @@ else_part_gives n v c held good = g_some (λ _. part_gives n v c held good)
 part_ends : (more : List Branch) (o : Option Value) (next : Option TokenKind) → AtEnd next → EndsPart (front (spell_otherwise more o) next)
 unfolding same_kind
 part_ends [] None next g = (at_end next g k.When refl, ends_at next g)
-part_ends [] (Some v) next g = (refl, omega arith)
-part_ends (b ∷ more) o next g = (refl, omega arith)
+part_ends _ _ next g = (refl, omega arith)
 
 from_gives : (n : ℕ) (more : List Branch) (o : Option Value) → IsEach IsBranch more → IsOption IsValue o → (turns : ℕ) (found : List Branch) → length more + 1 ≤ turns →
     Gives (more_branches_from n turns found) (record { branches = found ++ more; otherwise = o }) (spell_otherwise more o) AtEnd

@@ -25,26 +25,17 @@ name_first : (word : TokenKind) → same_kind word k.Colon ≡ false → (n : Id
     both k.Identifier k.Colon (spell_name (record { identifier = n; suffix = x; attribute = a }) ++ (some word ∷ ps)) next ≡ false
 unfolding same_kind
 name_first word other n plain None ps next = other
-name_first word other n plain (Some a) ps next = refl
-name_first word other n (arguments all) a ps next = refl
-name_first word other n (sliced left direction right) a ps next = refl
+name_first word other n _ _ ps next = refl
 
 no_label : (s : Statement) (next : Option TokenKind) → both k.Identifier k.Colon (spell_statement s) next ≡ false
 unfolding same_kind
-no_label (null_of _) next = refl
 no_label (assigned target value) next = name_first k.LessEqual refl target.identifier target.suffix target.attribute (spell_value value ++ some k.Semicolon ∷ []) next
 no_label (variable_assigned target value) next = name_first k.Assign refl target.identifier target.suffix target.attribute (spell_value value ++ some k.Semicolon ∷ []) next
-no_label (if_of _ _ _ _) next = refl
-no_label (case_of _ _ _ _) next = refl
-no_label (for_of _ _ _ _ _) next = refl
+no_label _ next = refl
 
 statement_begins : (s : Statement) (next : Option TokenKind) → begins_sequential (front (spell_statement s) next) ≡ true
 statement_begins (null_of _) next = refl
-statement_begins (assigned _ _) next = refl
-statement_begins (variable_assigned _ _) next = refl
-statement_begins (if_of _ _ _ _) next = refl
-statement_begins (case_of _ _ _ _) next = refl
-statement_begins (for_of _ _ _ _ _) next = refl
+statement_begins _ next = refl
 
 pub label_gives : (i : Ident) → Gives optional_label (Some i) (spell_label i) Whatever
 unfolding optional_label label same_kind

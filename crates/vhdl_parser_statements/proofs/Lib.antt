@@ -9,3 +9,4 @@ pub mod Deeper
 mod Started
 pub mod Alone
 pub mod Branched
+pub mod Taken

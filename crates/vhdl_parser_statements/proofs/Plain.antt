@@ -55,11 +55,7 @@ plain_for at = record {
 
 pub statement_long : (s : Statement) → 1 ≤ length (spell_statement s)
 statement_long (null_of _) = omega arith
-statement_long (assigned _ _) = omega arith
-statement_long (variable_assigned _ _) = omega arith
-statement_long (if_of _ _ _ _) = omega arith
-statement_long (case_of _ _ _ _) = omega arith
-statement_long (for_of _ _ _ _ _) = omega arith
+statement_long _ = omega arith
 
 pub sequential_long : (s : Sequential) → 1 ≤ length (spell_sequential s)
 sequential_long s = omega (arith, statement_long s.statement, length-append (spell_option spell_label s.label) (spell_statement s.statement))

@@ -37,8 +37,7 @@ inner_rule m = w_test (is_kind k.All) (w_some k.All refl (λ _. w_pure (omega ar
 
 inner_spelled : (s : Sensitivity) → IsInner s → spell_sensitivity s ≡ some k.LeftParen ∷ (spell_inner s ++ (some k.RightParen ∷ []))
 inner_spelled absent f = absurd f
-inner_spelled every f = refl
-inner_spelled (listed names) f = refl
+inner_spelled _ f = refl
 
 inner_formed : (s : Sensitivity) → IsInner s → IsSensitivity s
 inner_formed absent f = absurd f

@@ -2,7 +2,8 @@
 
 ghost use Rattle.std.specs.Prelude.{◌≡◌};
 ghost use Rattle.vhdl_lexer.specs.declared.token.TokenKind.TheVariants as k;
-ghost use Rattle.vhdl_tree.specs.View.{option_ident_view, value_view, statement_view, sequential_view, sequentials_view, option_sequentials_view, conditional_view, conditionals_view, alternative_view, alternatives_view};
+ghost use Rattle.vhdl_tree.specs.View.{option_ident_view, value_view, statement_view, sequential_view, sequentials_view};
+ghost use Rattle.vhdl_tree.specs.View.{option_sequentials_view, conditional_view, conditionals_view, alternative_view, alternatives_view};
 ghost use Rattle.vhdl_parser_expressions.specs.reader.Input as input;
 ghost use Rattle.vhdl_parser_expressions.specs.reader.Input.{Reads};
 ghost use Rattle.vhdl_parser_statements.specs.reader.Sequential as read;
@@ -87,7 +88,7 @@ fn assignment(parser: &mut Parser<'_>, levels: usize) -> Result<Statement, Stop>
 
 /// Sequential statements, in which so many levels may be opened.
 #[cycle(statement)]
-#[tactic(auto, unfolding(crate::specs::reader::Sequential::statements_with))]
+#[tactic(auto, unfolding(crate::specs::reader::Sequential::statements_with), using(crate::proofs::Taken::each_turn))]
 pub fn statements(parser: &mut Parser<'_>, levels: usize) -> Result<Vec<Sequential>, Stop>
     ensures { Reads sequentials_view (read.statements levels parser.old) result parser.new }
 {
@@ -149,6 +150,7 @@ fn if_rest(parser: &mut Parser<'_>, levels: usize, at: usize) -> Result<Statemen
 
 /// As `separated`, which a cycle of calls can't pass itself to.
 #[cycle(statement)]
+#[tactic(auto, unfolding(vhdl_parser_expressions::specs::reader::Input::separated), using(crate::proofs::Taken::each_turn))]
 fn branches(parser: &mut Parser<'_>, levels: usize) -> Result<Vec<Conditional>, Stop>
     ensures { Reads conditionals_view (read.branches levels (read.statements levels) parser.old) result parser.new }
 {
@@ -214,6 +216,7 @@ fn case_rest(parser: &mut Parser<'_>, levels: usize, at: usize) -> Result<Statem
 
 /// As `separated`, which a cycle of calls can't pass itself to.
 #[cycle(statement)]
+#[tactic(auto, unfolding(vhdl_parser_expressions::specs::reader::Input::separated), using(crate::proofs::Taken::each_turn))]
 fn alternatives(parser: &mut Parser<'_>, levels: usize) -> Result<Vec<Alternative>, Stop>
     ensures { Reads alternatives_view (read.alternatives levels (read.statements levels) parser.old) result parser.new }
 {

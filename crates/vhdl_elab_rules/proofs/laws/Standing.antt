@@ -1,26 +1,25 @@
 -- What elaboration refuses of units is told at one of their bytes, or at 0: the objects of an expanded tree are declared at bytes of the units.
-use Rattle.std.proofs.Common.{◌≡◌, ℕ, zero, suc, ◌+◌, Bool, true, false, cond, not, ◌||◌, List, [], ◌∷◌, ◌++◌, map, Option, Some, None, Ok, All, subst, inl, inr}
-use Rattle.std.specs.Prelude.{⊤, slice_get, find, flat_map, bytes_eq, is_some, length, Contains}
-use Rattle.std.specs.Char.{to_ascii_lowercase}
-use Rattle.std.specs.List.{range_with_len}
-use Rattle.std.proofs.lemmas.Option.{same_Some}
-use Rattle.std.proofs.lemmas.List.Elements.{All-append, All-cons, All-nil, All-head, All-tail, All-contains_itself, Contains-append_right}
+use Rattle.std.proofs.Common.{◌≡◌, ℕ, ◌+◌, Bool, true, false, cond, not, ◌||◌, List, [], ◌∷◌, ◌++◌, map, Option, Some, None, Ok, All, subst, inl, inr}
+use Rattle.std.specs.Prelude.{⊤, find, flat_map, is_some, length, Contains}
+use Rattle.std.specs.List.{AllZip, range_with_len}
+use Rattle.std.proofs.lemmas.List.Elements.{All-append, All-cons, All-nil, All-head, All-tail, All-weaker, All-contains_itself, Contains-append_right}
 use Rattle.vhdl_names_rules.specs.units.Expressions.{Static, SignalPart}
 use Rattle.vhdl_names_rules.specs.units.Units as u
 use Rattle.vhdl_names_rules.specs.units.Units.{Port, Declaration, Entity, Units, Architecture}
 use Rattle.vhdl_names_rules.specs.units.Bytes.{if_any_bytes, form_bytes, fixed_bytes, port_bytes, declaration_bytes, concurrents_bytes, architecture_bytes, entity_bytes, units_bytes}
-use Rattle.vhdl_expand_rules.specs.declared.fault.ElabProblem.TheVariants.{NoTop, TooMany, TwoUnresolved, ReadOfShared, Unassociated}
-use Rattle.vhdl_expand_rules.specs.Elab.{Elab, unless, item_or, each, same_length}
-use Rattle.vhdl_expand_rules.specs.Integers.{Integers, integer_of, decision, turns}
-use Rattle.vhdl_expand_rules.specs.Kinds.{size, kind_of}
-use Rattle.vhdl_expand_rules.specs.Site.{Site, no_integers, no_site, place_elements}
+use Rattle.vhdl_expand_rules.specs.declared.fault.ElabProblem.TheVariants.{TooMany, TwoUnresolved, ReadOfShared, Unassociated}
+use Rattle.vhdl_expand_rules.specs.Elab.{unless, same_length}
+use Rattle.vhdl_expand_rules.specs.Integers.{Integers}
+use Rattle.vhdl_expand_rules.specs.Kinds.{size}
+use Rattle.vhdl_expand_rules.specs.Site.{Site, place_elements}
 use Rattle.vhdl_expand_rules.specs.Tree.{Role, internal, Object, Instance, Parts, no_parts, inner, followed_by}
 use Rattle.vhdl_expand_rules.specs.Tree as t
-use Rattle.vhdl_expand_rules.specs.Declarations.{first_of, rest_of, generics, fixed_values, starts, object, role_of, InstanceObjects, with_port, with_signal, ports, interface, declaration, declarations, is_input, association, associations}
-use Rattle.vhdl_expand_rules.specs.Expansion.{Spot, in_turn, in_branch, process, joined_parts, instance, concurrent, concurrents, concurrents_turns, instance_of, entity_named, Design, expanded_design}
-use Rattle.vhdl_expand_rules.proofs.Steps.{ok, bound, each-all}
+use Rattle.vhdl_expand_rules.specs.Declarations.{first_of, rest_of, object, role_of, InstanceObjects, interface, declarations, is_input, association, associations}
+use Rattle.vhdl_expand_rules.specs.Expansion.{Design, expanded_design}
+use Rattle.vhdl_expand_rules.proofs.Steps.{ok, bound}
+use Rattle.vhdl_expand_rules.proofs.Items.{all_of_zip}
+use Rattle.vhdl_expand_rules.proofs.laws.Expanded.{object_made, OfObjects, interface_holds, with_signals, OfSignal, declarations_add, AnyAt, any_parts, Filled, OfUnits, design_filled}
 use Rattle.vhdl_expand_rules.proofs.Tells.{Tells, tells_none, tells_then, tells_with, tells_unless, all_flat}
-use Rattle.vhdl_expand_rules.proofs.laws.Names.{was_found}
 use Rattle.vhdl_expand_rules.proofs.laws.Targets.{all_left}
 use Rattle.vhdl_expand_rules.proofs.laws.told.Declarations.{MayStand, EntityStands, entity_stands}
 use Rattle.vhdl_expand_rules.proofs.laws.told.Designs.{designs_are_told}
@@ -37,28 +36,38 @@ module _ (P : ℕ → Type 0) where
   Stands o = P o.at
 
   object-stands : (here : Site) (role : Role) (o : u.Object) (x : Object) → P o.at → object here role o ≡ Ok x → Stands x
-  unfolding object
-  object-stands here role o x h g =
-      let k = bound (kind_of here.integers o.at o.form) _ x g in
-      let vs = bound (starts here o.at k.x o.default) _ x k.then_gave in
-      subst Stands (ok _ x vs.then_gave) h
+  object-stands here role o x h g = subst Stands (object_made here role o x g).is h
 
-  ports-stand : (ps : List Port) (d e : InstanceObjects) → All Stands d.objects → All (λ (p : Port). All P (port_bytes p)) ps → ports d ps ≡ Ok e → All Stands e.objects
-  unfolding ports
-  ports-stand [] d e h k g = subst (λ (x : InstanceObjects). All Stands x.objects) (ok d e g) h
-  ports-stand (p ∷ ps) d e h k g =
-      let o = bound (object d.site (role_of p.mode) p.object) _ e g in
-      let at : P p.object.at =
-      All-head P p.object.at (form_bytes p.object.form ++ if_any_bytes fixed_bytes p.object.default) (All-head (λ (q : Port). All P (port_bytes q)) p ps k) in
-      ports-stand ps (with_port d o.x) e
-      (All-append Stands d.objects (o.x ∷ []) h (All-cons Stands o.x [] (object-stands d.site (role_of p.mode) p.object o.x at o.gave) (All-nil Stands)))
-      (All-tail (λ (q : Port). All P (port_bytes q)) p ps k) o.then_gave
+  abbrev IsThere : u.Object → Type 0
+  IsThere o = P o.at
+
+  abbrev PortStands : Port → Object → Type 0
+  PortStands p o = P o.at
+
+  objects : OfObjects IsThere PortStands Stands
+  objects = record {
+    of_port = λ here p x s h. object-stands here (role_of p.mode) p.object x s h;
+    of_actual = λ p o es h e. h;
+    of_signal = λ here o x s h. object-stands here internal o x s h;
+  }
+
+  ports-there : (unit : Entity) → EntityStands P unit → All (λ (p : Port). IsThere p.object) unit.ports
+  ports-there unit k =
+      All-weaker (λ (p : Port). All P (port_bytes p)) (λ (p : Port). IsThere p.object)
+      (λ p h. All-head P p.object.at (form_bytes p.object.form ++ if_any_bytes fixed_bytes p.object.default) h) unit.ports k.ports
+
+  abbrev DeclarationStands : Declaration → Type 0
+  DeclarationStands x = All P (declaration_bytes x)
+
+  signal-there : (x : Declaration) → DeclarationStands x → OfSignal IsThere x
+  signal-there (u.Declaration.signal o) h = All-head P o.at (form_bytes o.form ++ if_any_bytes fixed_bytes o.default) h
+  signal-there _ h = tt
+
+  ports-stand : (unit : Entity) (os : List Object) → AllZip PortStands unit.ports os → All Stands os
+  ports-stand unit os h = all_of_zip PortStands Stands (λ p o s. s) unit.ports os h
 
   pub interface_stands : (above : Integers) (actuals : List (Option Static)) (unit : Entity) (d : InstanceObjects) → EntityStands P unit → interface above actuals unit ≡ Ok d → All Stands d.objects
-  unfolding interface
-  interface_stands above actuals unit d k g =
-      let i = bound (generics above no_integers actuals unit.generics) _ d g in
-      ports-stand unit.ports (record { site = record no_site { integers = i.x }; objects = [] }) d (All-nil Stands) k.ports i.then_gave
+  interface_stands above actuals unit d k g = ports-stand unit d.objects (interface_holds IsThere PortStands Stands objects above actuals unit d (ports-there unit k) g)
 
   association-stands : (above : Site) (at : ℕ) (p : Port) (actual : Option SignalPart) (o x : Object) → Stands o → association above at p actual o ≡ Ok x → Stands x
   unfolding association
@@ -72,37 +81,18 @@ module _ (P : ℕ → Type 0) where
 
   pub associations_stand : (above : Site) (at : ℕ) (ps : List Port) (actuals : List (Option SignalPart)) (os xs : List Object) → All Stands os → associations above at ps actuals os ≡ Ok xs → All Stands xs
   unfolding associations
-  associations_stand above at [] actuals os xs h k = subst (λ (ys : List Object). All Stands ys) (ok [] xs k) (All-nil Stands)
-  associations_stand above at (p ∷ ps) actuals [] xs h k = subst (λ (ys : List Object). All Stands ys) (ok [] xs k) (All-nil Stands)
+  associations_stand above at [] actuals os xs h k = subst (All Stands) (ok [] xs k) (All-nil Stands)
+  associations_stand above at (p ∷ ps) actuals [] xs h k = subst (All Stands) (ok [] xs k) (All-nil Stands)
   associations_stand above at (p ∷ ps) actuals (o ∷ os) xs h k =
       let y = bound (association above at p (first_of actuals) o) _ xs k in
       let ys = bound (associations above at ps (rest_of actuals) os) _ xs y.then_gave in
-      subst (λ (zs : List Object). All Stands zs) (ok (y.x ∷ ys.x) xs ys.then_gave)
+      subst (All Stands) (ok (y.x ∷ ys.x) xs ys.then_gave)
       (All-cons Stands y.x ys.x (association-stands above at p (first_of actuals) o y.x (All-head Stands o os h) y.gave)
       (associations_stand above at ps (rest_of actuals) os ys.x (All-tail Stands o os h) ys.gave))
 
-  declaration-stands : (x : Declaration) (d e : InstanceObjects) → All Stands d.objects → All P (declaration_bytes x) → declaration d x ≡ Ok e → All Stands e.objects
-  unfolding declaration
-  declaration-stands (u.integer at type s) d e h w k =
-      let x = bound (integer_of type d.site.integers at s) _ e k in
-      subst (λ (y : InstanceObjects). All Stands y.objects) (ok _ e x.then_gave) h
-  declaration-stands (u.Declaration.constant at form f) d e h w k =
-      let x = bound (kind_of d.site.integers at form) _ e k in
-      let vs = bound (fixed_values d.site at (size x.x) f) _ e x.then_gave in
-      subst (λ (y : InstanceObjects). All Stands y.objects) (ok _ e vs.then_gave) h
-  declaration-stands (u.Declaration.signal o) d e h w k =
-      let x = bound (object d.site internal o) _ e k in
-      let at : P o.at = All-head P o.at (form_bytes o.form ++ if_any_bytes fixed_bytes o.default) w in
-      subst (λ (y : InstanceObjects). All Stands y.objects) (ok (with_signal d x.x) e x.then_gave)
-      (All-append Stands d.objects (x.x ∷ []) h (All-cons Stands x.x [] (object-stands d.site internal o x.x at x.gave) (All-nil Stands)))
-
-  pub declarations_stand : (xs : List Declaration) (d e : InstanceObjects) → All Stands d.objects → All (λ (x : Declaration). All P (declaration_bytes x)) xs → declarations d xs ≡ Ok e → All Stands e.objects
-  unfolding declarations
-  declarations_stand [] d e h w k = subst (λ (y : InstanceObjects). All Stands y.objects) (ok d e k) h
-  declarations_stand (x ∷ xs) d e h w k =
-      let y = bound (declaration d x) _ e k in
-      declarations_stand xs y.x e (declaration-stands x d y.x h (All-head (λ (z : Declaration). All P (declaration_bytes z)) x xs w) y.gave)
-      (All-tail (λ (z : Declaration). All P (declaration_bytes z)) x xs w) y.then_gave
+  pub declarations_stand : (xs : List Declaration) (d e : InstanceObjects) → All Stands d.objects → All DeclarationStands xs → declarations d xs ≡ Ok e → All Stands e.objects
+  declarations_stand xs d e h w k =
+      with_signals Stands d.objects e.objects h (declarations_add IsThere PortStands Stands objects xs d e (All-weaker DeclarationStands (OfSignal IsThere) signal-there xs w) k)
 
   -- ---- the tree
 
@@ -120,95 +110,31 @@ module _ (P : ℕ → Type 0) where
   followed-stand (t.process p rest) b h k = followed-stand rest b h k
   followed-stand (inner label i rest) b h k = (h.0, followed-stand rest b h.1 k)
 
-  joined-stand : (ps : List Parts) → All PartsStand ps → PartsStand (joined_parts ps)
-  joined-stand [] h = tt
-  joined-stand (p ∷ ps) h = followed-stand p (joined_parts ps) (All-head PartsStand p ps h) (joined-stand ps (All-tail PartsStand p ps h))
+  instance-stands : (unit : Entity) (i : Instance) → Filled PortStands Stands PartsStand unit i → InstanceStands i
+  instance-stands unit i f =
+      subst InstanceStands {x = t.instance (f.ports ++ f.signals) f.turns f.parts} f.is
+      (All-append Stands f.ports f.signals (ports-stand unit f.ports f.of_ports) f.of_signals, f.of_parts)
 
-  unit-stands : (units : Units) (n : ℕ) (unit : Entity) → All (λ (x : Entity). All P (entity_bytes x)) units → slice_get units n ≡ Some unit → All P (entity_bytes unit)
-  unit-stands [] n unit h e = absurd cc
-  unit-stands (x ∷ units) zero unit h e = subst (λ (y : Entity). All P (entity_bytes y)) (same_Some x unit e) (All-head (λ (y : Entity). All P (entity_bytes y)) x units h)
-  unit-stands (x ∷ units) (suc n) unit h e = unit-stands units n unit (All-tail (λ (y : Entity). All P (entity_bytes y)) x units h) e
+  declarations-there : (unit : Entity) (a : Architecture) → EntityStands P unit → unit.architecture ≡ Some a → All (OfSignal IsThere) a.declarations
+  declarations-there unit a k there =
+      let ds : List ℕ = flat_map declaration_bytes a.declarations in
+      let whole : All P (ds ++ concurrents_bytes a.statements) = subst (λ (o : Option Architecture). MayStand P architecture_bytes o) there k.architecture in
+      All-weaker DeclarationStands (OfSignal IsThere) signal-there a.declarations (all_flat P declaration_bytes a.declarations (all_left P ds (concurrents_bytes a.statements) whole))
 
-  module _ (units : Units) (stand : All (λ (x : Entity). All P (entity_bytes x)) units) (go : (at : ℕ) → Entity → InstanceObjects → Elab Instance)
-      (go-stands : (at : ℕ) (unit : Entity) (d : InstanceObjects) (i : Instance) → EntityStands P unit → All Stands d.objects → go at unit d ≡ Ok i → InstanceStands i) where
-    instance-stands : (here : Spot) (x : u.Instance) (i : Instance) → instance units go here x ≡ Ok i → InstanceStands i
-    unfolding instance
-    instance-stands here x i h =
-        let unit = bound (item_or NoTop x.at (slice_get units x.unit)) _ i h in
-        let d = bound (interface here.site.integers x.generics unit.x) _ i unit.then_gave in
-        let os = bound (associations here.site x.at unit.x.ports x.ports d.x.objects) _ i d.then_gave in
-        let there : EntityStands P unit.x = entity_stands P unit.x (unit-stands units x.unit unit.x stand (was_found NoTop x.at (slice_get units x.unit) unit.x unit.gave)) in
-        go-stands x.at unit.x (record d.x { objects = os.x }) i there
-        (associations_stand here.site x.at unit.x.ports x.ports d.x.objects os.x (interface_stands here.site.integers x.generics unit.x d.x there d.gave) os.gave) os.then_gave
-
-    chosen-stands : (b : Bool) (r : Elab Parts) (ps : Parts) → ((qs : Parts) → r ≡ Ok qs → PartsStand qs) → cond b r (Ok no_parts) ≡ Ok ps → PartsStand ps
-    chosen-stands true r ps h k = h ps k
-    chosen-stands false r ps h k = subst PartsStand (ok no_parts ps k) tt
-
-    mutual
-      unfolding concurrent
-
-      concurrent-stands : (x : u.Concurrent) (here : Spot) (ps : Parts) → concurrent units go here x ≡ Ok ps → PartsStand ps
-      concurrent-stands (u.process p) here ps h =
-          let q = bound (process here p) _ ps h in
-          subst PartsStand (ok (t.process q.x no_parts) ps q.then_gave) tt
-      concurrent-stands (u.instance x) here ps h =
-          let i = bound (instance units go here x) _ ps h in
-          subst PartsStand (ok _ ps i.then_gave) (instance-stands here x i.x i.gave, tt)
-      concurrent-stands (u.generate_for at label r body) here ps h =
-          let is = bound (turns here.site.integers at r) _ ps h in
-          let qs = bound (each (λ i. concurrents units go (in_turn here label i) body) is.x) _ ps is.then_gave in
-          subst PartsStand (ok (joined_parts qs.x) ps qs.then_gave)
-          (joined-stand qs.x (each-all PartsStand (λ i. concurrents units go (in_turn here label i) body) is.x qs.x (λ i q. concurrents-stand body (in_turn here label i) q) qs.gave))
-      concurrent-stands (u.generate_if at label r body) here ps h =
-          let b = bound (decision here.site.integers r) _ ps h in
-          chosen-stands b.x (concurrents units go (in_branch here label) body) ps (λ qs. concurrents-stand body (in_branch here label) qs) b.then_gave
-
-      concurrents-stand : (xs : u.Concurrents) (here : Spot) (ps : Parts) → concurrents units go here xs ≡ Ok ps → PartsStand ps
-      concurrents-stand u.no_concurrents here ps h = subst PartsStand (ok no_parts ps h) tt
-      concurrents-stand (u.concurrent x rest) here ps h =
-          let a = bound (concurrent units go here x) _ ps h in
-          let b = bound (concurrents units go here rest) _ ps a.then_gave in
-          subst PartsStand (ok (followed_by a.x b.x) ps b.then_gave) (followed-stand a.x b.x (concurrent-stands x here a.x a.gave) (concurrents-stand rest here b.x b.gave))
-
-  instance_of-stands : (units : Units) (levels : ℕ) → All (λ (x : Entity). All P (entity_bytes x)) units → (at : ℕ) (unit : Entity) (d : InstanceObjects) (i : Instance) → EntityStands P unit → All Stands d.objects
-      → instance_of units levels at unit d ≡ Ok i → InstanceStands i
-  unfolding instance_of
-  instance_of-stands units zero stand at unit d i w h k = absurd cc
-  instance_of-stands units (suc n) stand at unit d i w h k =
-      let a = bound (item_or NoTop at unit.architecture) _ i k in
-      let e = bound (declarations d a.x.declarations) _ i a.then_gave in
-      let spot : Spot = record { site = e.x.site; prefix = [] } in
-      let ps = bound (concurrents units (instance_of units n) spot a.x.statements) _ i e.then_gave in
-      let ts = bound (concurrents_turns spot a.x.statements) _ i ps.then_gave in
-      let ds : List ℕ = flat_map declaration_bytes a.x.declarations in
-      let whole : All P (ds ++ concurrents_bytes a.x.statements) =
-      subst (λ (o : Option Architecture). MayStand P architecture_bytes o) (was_found NoTop at unit.architecture a.x a.gave) w.architecture in
-      subst InstanceStands {x = t.instance e.x.objects ts.x ps.x} (ok (t.instance e.x.objects ts.x ps.x) i ts.then_gave) (
-        declarations_stand a.x.declarations d e.x h (all_flat P declaration_bytes a.x.declarations (all_left P ds (concurrents_bytes a.x.statements) whole)) e.gave,
-        concurrents-stand units stand (instance_of units n) (instance_of-stands units n stand) a.x.statements spot ps.x ps.gave,
-      )
-
-  found-stands : (f : Entity → Bool) (units : Units) (unit : Entity) → All (λ (x : Entity). All P (entity_bytes x)) units → find f units ≡ Some unit → All P (entity_bytes unit)
-  found-stands f [] unit h e = absurd cc
-  found-stands f (x ∷ units) unit h e = by (f x) e (λ later. found-stands f units unit (All-tail (λ (y : Entity). All P (entity_bytes y)) x units h) later)
-    where
-      by : (t : Bool) → cond t (Some x) (find f units) ≡ Some unit → (find f units ≡ Some unit → All P (entity_bytes unit)) → All P (entity_bytes unit)
-      by true e go = subst (λ (y : Entity). All P (entity_bytes y)) (same_Some x unit e) (All-head (λ (y : Entity). All P (entity_bytes y)) x units h)
-      by false e go = go e
+  each-unit : OfUnits (EntityStands P) IsThere PortStands Stands AnyAt AnyAt PartsStand
+  each-unit = record {
+    objects = objects;
+    parts = any_parts PartsStand tt followed-stand (λ p. tt);
+    of_unit = ports-there;
+    of_architecture = λ unit a site k there. (declarations-there unit a k there, tt);
+    of_instance = λ here x unit i s f. (instance-stands unit i f, tt);
+  }
 
   design-stands : (units : Units) (top : List ℕ) (design : Design) → All P (units_bytes units) → expanded_design units top ≡ Ok design → InstanceStands design.top
-  unfolding expanded_design
   design-stands units top design k h =
-      let stand : All (λ (x : Entity). All P (entity_bytes x)) units = all_flat P entity_bytes units k in
-      let unit = bound (item_or NoTop 0 (entity_named units top)) _ design h in
-      let d = bound (interface no_integers [] unit.x) _ design unit.then_gave in
-      let i = bound (instance_of units 32 unit.x.at unit.x d.x) _ design d.then_gave in
-      let there : EntityStands P unit.x =
-      entity_stands P unit.x
-      (found-stands (λ (x : Entity). bytes_eq x.name (map to_ascii_lowercase top)) units unit.x stand (was_found NoTop 0 (entity_named units top) unit.x unit.gave)) in
-      subst (λ (x : Design). InstanceStands x.top) (ok (record { name = unit.x.name; top = i.x }) design i.then_gave)
-      (instance_of-stands units 32 stand unit.x.at unit.x d.x i.x there (interface_stands no_integers [] unit.x d.x there d.gave) i.gave)
+      let known : All (EntityStands P) units = All-weaker (λ (x : Entity). All P (entity_bytes x)) (EntityStands P) (entity_stands P) units (all_flat P entity_bytes units k) in
+      let m = design_filled (EntityStands P) IsThere PortStands Stands AnyAt AnyAt PartsStand each-unit units known top design h in
+      subst (λ (x : Design). InstanceStands x.top) m.is (instance-stands m.unit m.tree m.filled)
 
   -- ---- instances in order, and their elements
 

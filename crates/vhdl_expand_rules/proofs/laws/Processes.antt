@@ -21,15 +21,15 @@ use Rattle.vhdl_names_rules.specs.sound.Units.{form_fits, default_fits, may_be_r
 use Rattle.vhdl_expand_rules.specs.Elab.{Elab, each}
 use Rattle.vhdl_expand_rules.specs.Kinds.{ObjectKind, kind_of}
 use Rattle.vhdl_expand_rules.specs.Site.{Site, elements_count, place_elements}
-use Rattle.vhdl_expand_rules.specs.Statements.{statements, statements_turns}
 use Rattle.vhdl_expand_rules.specs.Prefixes.{targets, is_static_part, prefix, prefixes_elements, concatenation_of, is_among, in_order}
 use Rattle.vhdl_expand_rules.specs.Declarations.{starts, variable}
 use Rattle.vhdl_expand_rules.specs.Tree.{Object, Variable}
 use Rattle.vhdl_expand_rules.specs.Tree as t
-use Rattle.vhdl_expand_rules.specs.Expansion.{Spot, sensitivity, with_variables, process}
+use Rattle.vhdl_expand_rules.specs.Expansion.{Spot, with_variables, process}
 use Rattle.vhdl_expand_rules.specs.laws.Sites.{IsOf, IsSite, kinds_types}
 use Rattle.vhdl_expand_rules.specs.laws.Trees.{object_kinds, object_types, object_roles, MayBeDriven, VariableIsSound, ProcessIsSound}
 use Rattle.vhdl_expand_rules.proofs.Steps.{ok, bound}
+use Rattle.vhdl_expand_rules.proofs.laws.Expanded.{process_made}
 use Rattle.vhdl_expand_rules.proofs.laws.Lengths.{starts-length}
 use Rattle.vhdl_expand_rules.proofs.laws.Kinds.{kind_is_of, is_kind, starts_below}
 use Rattle.vhdl_expand_rules.proofs.laws.Statements.{each-body-fits}
@@ -128,34 +128,29 @@ with-variables : (i : Inside) (here : Site) (os : List u.Object) (vs : List Vari
 with-variables i here os vs h k = record { constants = h.constants; ports = h.ports; signals = h.signals; variables = k }
 
 pub process-sound : (i : Inside) (here : Spot) (os ss : List Object) (p : u.Process) (q : t.Process) → IsDeclared i here.site os ss → process_fits i p ≡ true → process here p ≡ Ok q → ProcessIsSound (os ++ ss) q
-unfolding process
 process-sound i here os ss p q h fit g =
     let fs : List Form = map (λ (o : u.Object). o.form) p.variables in
     let both = and_parts (sensitivity_fits i p.sensitivity && objects_fit i p.variables) (statements_fit (record i { variables = fs }) p.body) fit in
     let first = and_parts (sensitivity_fits i p.sensitivity) (objects_fit i p.variables) both.0 in
-    let vs = bound (each (variable here.site) p.variables) _ q g in
-    let ds = bound (prefixes_elements here.site (targets p.body)) _ q vs.then_gave in
-    let on = bound (sensitivity here.site p.sensitivity p.body) _ q ds.then_gave in
-    let n = bound (statements_turns here.site p.body) _ q on.then_gave in
-    let body = bound (statements (with_variables here.site vs.x) p.body) _ q n.then_gave in
+    let m = process_made here p q g in
     let all : List Object = os ++ ss in
     let count : ℕ = elements_count here.site.ports + elements_count here.site.signals in
-    let drives : List ℕ = in_order count ds.x in
-    let declared = variables-declare i here.site p.variables vs.x first.1 vs.gave in
+    let drives : List ℕ = in_order count m.driven in
+    let declared = variables-declare i here.site p.variables m.variables first.1 m.declares in
     let driven : All (IsDriven i) (targets p.body) =
     All-weaker (IsDriven (record i { variables = fs })) (IsDriven i) (λ x k. same-driven i fs x.signal k) (targets p.body) (targets_are_driven p.body (record i { variables = fs }) both.1) in
-    let prefixes = prefixes-driven i here.site os ss (targets p.body) ds.x h driven ds.gave in
-    let fits = each-body-fits (record i { variables = fs }) (with_variables here.site vs.x) p.body body.x (with-variables i here.site p.variables vs.x h.site declared.kinds) both.1 body.gave in
-    let kept : (e : ℕ) → Contains ds.x e → Contains drives e =
-    λ e c. in_order_has count ds.x e (is-below all count e (site-count i here.site os ss h) (All-contains (MayBeDriven all) ds.x e prefixes.driven c)) c in
-    subst (ProcessIsSound all) (ok _ q body.then_gave) (record {
-      body = body-stands (kinds_types here.site.ports ++ kinds_types here.site.signals) (object_types all) count (elements_count (object_kinds all)) (kinds_types (kinds_of vs.x)) body.x
+    let prefixes = prefixes-driven i here.site os ss (targets p.body) m.driven h driven m.drives in
+    let fits = each-body-fits (record i { variables = fs }) (with_variables here.site m.variables) p.body m.body (with-variables i here.site p.variables m.variables h.site declared.kinds) both.1 m.gave in
+    let kept : (e : ℕ) → Contains m.driven e → Contains drives e =
+    λ e c. in_order_has count m.driven e (is-below all count e (site-count i here.site os ss h) (All-contains (MayBeDriven all) m.driven e prefixes.driven c)) c in
+    subst (ProcessIsSound all) m.is (record {
+      body = body-stands (kinds_types here.site.ports ++ kinds_types here.site.signals) (object_types all) count (elements_count (object_kinds all)) (kinds_types (kinds_of m.variables)) m.body
           (site-types i here.site os ss h) (site-count i here.site os ss h) fits;
-      assigned = body_assigns here.site (kinds_of vs.x) (Contains drives) p.body here.site.integers.loops body.x
-          (All-weaker (λ (x : SignalPart). (es : List ℕ) × (place_elements here.site (prefix x) ≡ Ok es) × All (Contains ds.x) es) (λ (x : SignalPart). (es : List ℕ) × (place_elements here.site (prefix x) ≡ Ok es) × All (Contains drives) es)
-          (λ x w. (w.0, w.1, All-weaker (Contains ds.x) (Contains drives) kept w.0 w.2)) (targets p.body) prefixes.among) body.gave;
-      drives = in_order_all (MayBeDriven all) count ds.x prefixes.driven;
-      drives_rise = in-order-rises count ds.x;
+      assigned = body_assigns here.site (kinds_of m.variables) (Contains drives) p.body here.site.integers.loops m.body
+          (All-weaker (λ (x : SignalPart). (es : List ℕ) × (place_elements here.site (prefix x) ≡ Ok es) × All (Contains m.driven) es) (λ (x : SignalPart). (es : List ℕ) × (place_elements here.site (prefix x) ≡ Ok es) × All (Contains drives) es)
+          (λ x w. (w.0, w.1, All-weaker (Contains m.driven) (Contains drives) kept w.0 w.2)) (targets p.body) prefixes.among) m.gave;
+      drives = in_order_all (MayBeDriven all) count m.driven prefixes.driven;
+      drives_rise = in-order-rises count m.driven;
       variables = declared.sound;
     })
   where

@@ -12,6 +12,17 @@ use Rattle.vhdl_parser_statements.specs.reader.Subtypes.{idents, subtype, option
 
 -- ---- generics and ports
 
+-- word ( item { ; item } ) ;
+abbrev pub clause : {A : Type 0} → TokenKind → (ℕ → Parser A) → ℕ → Parser (List A)
+clause word item n = do
+  expect word
+  expect k.LeftParen
+  inner ← below n
+  found ← separated k.Semicolon (item inner)
+  expect k.RightParen
+  expect k.Semicolon
+  pure found
+
 unfoldable pub generic_default : ℕ → Parser Expr
 generic_default n = expect k.Assign >> expr n
 
@@ -32,14 +43,7 @@ abbrev pub generic_list : ℕ → Parser (List Generic)
 generic_list n = separated k.Semicolon (generic n)
 
 unfoldable pub generics : ℕ → Parser (List Generic)
-generics n = do
-  expect k.Generic
-  expect k.LeftParen
-  inner ← below n
-  found ← generic_list inner
-  expect k.RightParen
-  expect k.Semicolon
-  pure found
+generics n = clause k.Generic generic n
 
 unfoldable pub optional_generics : ℕ → Parser (Option (List Generic))
 optional_generics n = optional (is_kind k.Generic) (generics n)
@@ -66,14 +70,7 @@ abbrev pub port_list : ℕ → Parser (List Port)
 port_list n = separated k.Semicolon (port n)
 
 unfoldable pub ports : ℕ → Parser (List Port)
-ports n = do
-  expect k.Port
-  expect k.LeftParen
-  inner ← below n
-  found ← port_list inner
-  expect k.RightParen
-  expect k.Semicolon
-  pure found
+ports n = clause k.Port port n
 
 unfoldable pub optional_ports : ℕ → Parser (Option (List Port))
 optional_ports n = optional (is_kind k.Port) (ports n)

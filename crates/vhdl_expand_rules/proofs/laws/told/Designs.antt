@@ -1,8 +1,7 @@
 -- What is refused of processes, instances and whole designs is told at one of their bytes, or at 0.
-use Rattle.std.proofs.Common.{◌≡◌, ℕ, zero, suc, Bool, true, false, cond, List, [], ◌∷◌, ◌++◌, map, Option, Some, Ok, All, subst}
-use Rattle.std.specs.Prelude.{slice_get, find, flat_map, bytes_eq, Contains}
+use Rattle.std.proofs.Common.{ℕ, zero, suc, Bool, true, false, cond, List, [], ◌∷◌, ◌++◌, map, Option, Ok, All, subst}
+use Rattle.std.specs.Prelude.{slice_get, flat_map, bytes_eq, Contains}
 use Rattle.std.specs.Char.{to_ascii_lowercase}
-use Rattle.std.proofs.lemmas.Option.{same_Some}
 use Rattle.std.proofs.lemmas.List.Elements.{All-nil, All-head, All-tail, All-contains_itself}
 use Rattle.vhdl_names_rules.specs.units.Statements.{Statements}
 use Rattle.vhdl_names_rules.specs.units.Units as u
@@ -20,24 +19,12 @@ use Rattle.vhdl_expand_rules.specs.Expansion.{Spot, in_turn, in_branch, sensitiv
 use Rattle.vhdl_expand_rules.specs.laws.Bytes.{EachBodyIsToldAtItsBytes, EachProcessIsToldAtItsBytes, EachDesignIsToldAtBytesOfUnits}
 use Rattle.vhdl_expand_rules.proofs.Tells.{Tells, tells_none, tells_one, tells_then, tells_with, tells_item, tells_each, tells_all, all_flat}
 use Rattle.vhdl_expand_rules.proofs.laws.Names.{was_found}
+use Rattle.vhdl_expand_rules.proofs.Items.{all_get, all_found}
 use Rattle.vhdl_expand_rules.proofs.laws.Targets.{all_left, all_right}
 use Rattle.vhdl_expand_rules.proofs.laws.told.Static.{turns_tells, decision_tells}
 use Rattle.vhdl_expand_rules.proofs.laws.told.Statements.{statements_tells, turns_of_statements_tells}
 use Rattle.vhdl_expand_rules.proofs.laws.told.Names.{targets_stand, names_stand, names_tell, prefixes_tell}
 use Rattle.vhdl_expand_rules.proofs.laws.told.Declarations.{MayStand, EntityStands, entity_stands, interface_tells, declarations_tell, variable_tells, associations_tell}
-
-all-get : {A : Type 0} (Q : A → Type 0) (xs : List A) (n : ℕ) (x : A) → All Q xs → slice_get xs n ≡ Some x → Q x
-all-get {A} Q [] n x h e = absurd cc
-all-get {A} Q (y ∷ ys) zero x h e = subst Q (same_Some y x e) (All-head Q y ys h)
-all-get {A} Q (y ∷ ys) (suc n) x h e = all-get Q ys n x (All-tail Q y ys h) e
-
-all-found : {A : Type 0} (Q : A → Type 0) (f : A → Bool) (xs : List A) (x : A) → All Q xs → find f xs ≡ Some x → Q x
-all-found {A} Q f [] x h e = absurd cc
-all-found {A} Q f (y ∷ ys) x h e = by (f y) e (λ later. all-found Q f ys x (All-tail Q y ys h) later)
-  where
-    by : (t : Bool) → cond t (Some y) (find f ys) ≡ Some x → (find f ys ≡ Some x → Q x) → Q x
-    by true e go = subst Q (same_Some y x e) (All-head Q y ys h)
-    by false e go = go e
 
 module _ (P : ℕ → Type 0) where
   chosen-tells : {A : Type 0} (test : Bool) (r : Elab A) (x : A) → Tells P r → Tells P (cond test r (Ok x))
@@ -79,7 +66,7 @@ module _ (P : ℕ → Type 0) where
         let own : P x.at = All-head P x.at (gs ++ ps) k in
         let rest : All P (gs ++ ps) = All-tail P x.at (gs ++ ps) k in
         tells_with P (item_or NoTop x.at (slice_get units x.unit)) _ (tells_item P NoTop x.at (slice_get units x.unit) own) (λ unit is.
-        let there : EntityStands P unit = entity_stands P unit (all-get (λ y. All P (entity_bytes y)) units x.unit unit stand (was_found NoTop x.at (slice_get units x.unit) unit is)) in
+        let there : EntityStands P unit = entity_stands P unit (all_get (λ y. All P (entity_bytes y)) units x.unit unit stand (was_found NoTop x.at (slice_get units x.unit) unit is)) in
         tells_then P (interface here.site.integers x.generics unit) _ (interface_tells P here.site.integers x.generics unit (all_flat P (if_any_bytes static_bytes) x.generics (all_left P gs ps rest)) there) (λ d.
         tells_then P (associations here.site x.at unit.ports x.ports d.objects) _ (associations_tell P here.site x.at unit.ports x.ports d.objects own (all_flat P (if_any_bytes place_bytes) x.ports (all_right P gs ps rest))) (λ os.
         go-tells x.at unit (record d { objects = os }) own there)))
@@ -153,7 +140,7 @@ module _ (P : ℕ → Type 0) where
       let stand : All (λ unit. All P (entity_bytes unit)) units = all_flat P entity_bytes units k in
       tells_with P (item_or NoTop 0 (entity_named units top)) _ (tells_item P NoTop 0 (entity_named units top) nought) (λ unit is.
       let there : EntityStands P unit =
-      entity_stands P unit (all-found (λ y. All P (entity_bytes y)) (λ (x : Entity). bytes_eq x.name (map to_ascii_lowercase top)) units unit stand (was_found NoTop 0 (entity_named units top) unit is)) in
+      entity_stands P unit (all_found (λ y. All P (entity_bytes y)) (λ (x : Entity). bytes_eq x.name (map to_ascii_lowercase top)) units unit stand (was_found NoTop 0 (entity_named units top) unit is)) in
       tells_then P (interface no_integers [] unit) _ (interface_tells P no_integers [] unit (All-nil (MayStand P static_bytes)) there) (λ d.
       tells_then P (instance_of units 32 unit.at unit d) _ (instance_of-tells nought units 32 stand unit.at unit d there.at there) (λ i. tells_none P _)))
 

@@ -32,23 +32,22 @@ returns-in-Ok-clause-low c =
     let made = file_made _ _ _ c.in-Ok.ensures in
     file_height_bounded c.in-Ok.file 64 _ made.formed made.spelled made.shallow
 
-pub returns-clause-refused : goal.returns-clause-refused
-returns-clause-refused c r other good s =
+pub returns-in-Err-clause-refused : goal.returns-in-Err-clause-refused
+returns-in-Err-clause-refused c r other good s =
     let why = c.fault_at.ensures.refusal r in
     file_refused _ _ _ (c.in-Err.ensures why.0) why.1 other good (rw c.new-parser.ensures s)
 
-pub returns-clause-deep : goal.returns-clause-deep
-returns-clause-deep c d =
+pub returns-in-Err-clause-deep : goal.returns-in-Err-clause-deep
+returns-in-Err-clause-deep c d =
     let is = c.fault_at.ensures.deep d in
     subst (IsDeep 64) c.new-parser.ensures (file_deep _ _ (c.in-Err.ensures (λ e. not_memory (sym is ∙ e)) ∙ ap (λ s. Err (s, c.file.new.parser)) is))
 
 refused_is : (why : Stop) → (why ≡ NoMemory → ⊥) → (why ≡ TooDeep → ⊥) → IsRefused why
-refused_is Unexpected enough shallow = tt
-refused_is EndOfFile enough shallow = tt
 refused_is TooDeep enough shallow = absurd (shallow refl)
 refused_is NoMemory enough shallow = absurd (enough refl)
+refused_is _ enough shallow = tt
 
-pub returns-clause-stuck : goal.returns-clause-stuck
-returns-clause-stuck c =
+pub returns-in-Err-clause-stuck : goal.returns-in-Err-clause-stuck
+returns-in-Err-clause-stuck c =
     is_stuck _ _ _ _ _ _ c.fault_at.ensures.behind (omega (arith, c.saturating_sub-met.ensures, c.left.ensures))
     (λ r. let why = c.fault_at.ensures.refusal r in (refused_is _ why.0 why.1, subst (λ ts. file ts ≡ Err (c.in-Err.stop, c.file.new.parser)) c.new-parser.ensures (c.in-Err.ensures why.0)))

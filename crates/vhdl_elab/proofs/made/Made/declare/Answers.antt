@@ -1,7 +1,7 @@
 use Rattle.std.proofs.Common.{◌∷◌, [], ◌++◌, map, ap, ◌∙◌, subst}
 use Rattle.vhdl_elab_rules.specs.Numbering.{driven_in, read_in}
 use Rattle.vhdl_expand_tree.specs.Views.{object_view, parts_of}
-use Rattle.vhdl_connect_bodies.specs.Uses.{AreUses}
+use Rattle.vhdl_connect.specs.Uses.{AreUses}
 use Rattle.vhdl_elab.specs.Adding.{Declares, elements_count}
 use Rattle.vhdl_elab.proofs.Uses.{uses_listed}
 use Rattle.vhdl_elab.proofs.made.Made.declare.Goals as goal

@@ -1,0 +1,378 @@
+-- What expansion keeps: of the objects of an instance, in its declarations and associations; and of parts, over concurrent statements.
+use Rattle.std.proofs.Common.{◌≡◌, ℕ, zero, suc, ◌+◌, Bool, true, false, cond, not, ◌||◌, ◌==◌, List, [], ◌∷◌, ◌++◌, length, map, Option, Some, None, Ok, All, refl, sym, ap, ◌∙◌, subst, append_assoc, append-nil}
+use Rattle.std.specs.Prelude.{⊤, ℤ, is_some, slice_get, bytes_eq}
+use Rattle.std.specs.Char.{to_ascii_lowercase}
+use Rattle.std.specs.List.{AllZip}
+use Rattle.std.proofs.lemmas.Bool.{eqb-true}
+use Rattle.std.proofs.lemmas.List.Elements.{All-append, All-cons, All-nil, All-head, All-tail}
+use Rattle.vhdl_names_rules.specs.units.Expressions.{Range, Static, StaticTest, SignalPart}
+use Rattle.vhdl_names_rules.specs.units.Units as u
+use Rattle.vhdl_names_rules.specs.units.Units.{Port, Declaration, Architecture, Entity, Units}
+use Rattle.rtl_model.specs.bodies.Body.{Stmts}
+use Rattle.vhdl_expand_rules.specs.declared.fault.ElabProblem.TheVariants.{NoTop, Length, Unassociated}
+use Rattle.vhdl_expand_rules.specs.Elab.{Elab, unless, item_or, each, same_length}
+use Rattle.vhdl_expand_rules.specs.Integers.{Integers, integer_of, decision, turns}
+use Rattle.vhdl_expand_rules.specs.Kinds.{ObjectKind, size, kind_of}
+use Rattle.vhdl_expand_rules.specs.Site.{Site, no_integers, no_site, place_elements, elements_count}
+use Rattle.vhdl_expand_rules.specs.Tree.{Role, internal, Object, Variable, Sensitivity, Instance, Parts, no_parts, inner, followed_by}
+use Rattle.vhdl_expand_rules.specs.Tree as t
+use Rattle.vhdl_expand_rules.specs.Declarations.{first_of, rest_of, generics, fixed_values, starts, object, role_of, InstanceObjects, with_port, with_signal, ports, interface, declaration, declarations, variable, is_input, association, associations}
+use Rattle.vhdl_expand_rules.specs.Statements.{statements, statements_turns}
+use Rattle.vhdl_expand_rules.specs.Prefixes.{targets, prefixes_elements, in_order}
+use Rattle.vhdl_expand_rules.specs.Expansion.{Spot, in_turn, in_branch, sensitivity, with_variables, process, joined_parts, instance, concurrent, concurrents, concurrents_turns, instance_of, entity_named, Design, expanded_design}
+use Rattle.vhdl_expand_rules.proofs.Steps.{ok, bound, kept, each-all}
+use Rattle.vhdl_expand_rules.proofs.Items.{all_any, all_get, all_found}
+use Rattle.vhdl_expand_rules.proofs.laws.Names.{was_found, zip_push}
+
+-- ---- objects
+
+-- what an object was made of
+pub record MadeObject (here : Site) (role : Role) (o : u.Object) (x : Object) : Type 0 where
+  pub kind : ObjectKind
+  pub values : List ℕ
+  pub gave : starts here o.at kind o.default ≡ Ok values
+  pub is : ◌≡◌ {A = Object} (record { at = o.at; name = o.name; role = role; kind = kind; is_resolved = o.is_resolved; starts = values; actual = None }) x
+
+pub object_made : (here : Site) (role : Role) (o : u.Object) (x : Object) → object here role o ≡ Ok x → MadeObject here role o x
+unfolding object
+object_made here role o x h =
+    let k = bound (kind_of here.integers o.at o.form) _ x h in
+    let vs = bound (starts here o.at k.x o.default) _ x k.then_gave in
+    record { kind = k.x; values = vs.x; gave = vs.gave; is = ok _ x vs.then_gave }
+
+-- Where S holds of what ports and signals declare: R holds of each port and its object, also once that is joined, and P of each signal.
+pub record OfObjects (S : u.Object → Type 0) (R : Port → Object → Type 0) (P : Object → Type 0) : Type 0 where
+  pub of_port : (here : Site) (p : Port) (x : Object) → S p.object → object here (role_of p.mode) p.object ≡ Ok x → R p x
+  pub of_actual : (p : Port) (o : Object) (es : List ℕ) → R p o → length es ≡ size o.kind → R p (record o { actual = Some es })
+  pub of_signal : (here : Site) (o : u.Object) (x : Object) → S o → object here internal o ≡ Ok x → P x
+
+-- more objects, which are signals
+pub record WithSignals (P : Object → Type 0) (before after : List Object) : Type 0 where
+  pub signals : List Object
+  pub are : after ≡ before ++ signals
+  pub hold : All P signals
+
+pub with_signals : (P : Object → Type 0) (before after : List Object) → All P before → WithSignals P before after → All P after
+with_signals P before after h w = subst (All P) (sym w.are) (All-append P before w.signals h w.hold)
+
+-- of the object of a signal's declaration
+abbrev pub OfSignal : (u.Object → Type 0) → Declaration → Type 0
+OfSignal S (u.Declaration.signal o) = S o
+OfSignal S _ = ⊤
+
+-- nothing needs to be known of what is declared
+abbrev pub Any : {A : Type 0} → A → Type 0
+Any x = ⊤
+
+pub any_ports : (ps : List Port) → All (λ (p : Port). Any p.object) ps
+any_ports ps = all_any (λ (p : Port). Any p.object) (λ p. tt) ps
+
+pub any_signals : (xs : List Declaration) → All (OfSignal Any) xs
+any_signals xs = all_any (OfSignal Any) any xs
+  where
+    any : (x : Declaration) → OfSignal Any x
+    any (u.Declaration.signal o) = tt
+    any _ = tt
+
+no-signals : (P : Object → Type 0) (os : List Object) → WithSignals P os os
+no-signals P os = record { signals = []; are = sym (append-nil os); hold = All-nil P }
+
+module _ (S : u.Object → Type 0) (R : Port → Object → Type 0) (P : Object → Type 0) (of : OfObjects S R P) where
+  ports-hold : (before ps : List Port) (d e : InstanceObjects) → AllZip R before d.objects → All (λ (p : Port). S p.object) ps → ports d ps ≡ Ok e → AllZip R (before ++ ps) e.objects
+  unfolding ports
+  ports-hold before [] d e h s k =
+      subst (λ (x : InstanceObjects). AllZip R (before ++ []) x.objects) (ok d e k) (subst (λ (fs : List Port). AllZip R fs d.objects) (sym (append-nil before)) h)
+  ports-hold before (p ∷ ps) d e h s k =
+      let o = bound (object d.site (role_of p.mode) p.object) _ e k in
+      let fits = of.of_port d.site p o.x (All-head (λ (q : Port). S q.object) p ps s) o.gave in
+      subst (λ (fs : List Port). AllZip R fs e.objects) (append_assoc before (p ∷ []) ps)
+      (ports-hold (before ++ p ∷ []) ps (with_port d o.x) e (zip_push R before d.objects p o.x h fits) (All-tail (λ (q : Port). S q.object) p ps s) o.then_gave)
+
+  pub interface_holds : (above : Integers) (actuals : List (Option Static)) (unit : Entity) (d : InstanceObjects) → All (λ (p : Port). S p.object) unit.ports → interface above actuals unit ≡ Ok d → AllZip R unit.ports d.objects
+  unfolding interface
+  interface_holds above actuals unit d s h =
+      let i = bound (generics above no_integers actuals unit.generics) _ d h in
+      ports-hold [] unit.ports (record { site = record no_site { integers = i.x }; objects = [] }) d tt s i.then_gave
+
+  association-holds : (above : Site) (at : ℕ) (p : Port) (actual : Option SignalPart) (o x : Object) → R p o → association above at p actual o ≡ Ok x → R p x
+  unfolding association
+  association-holds above at p None o x h k =
+      let a = bound (unless Unassociated at (not (is_input o.role) || is_some p.object.default)) _ x k in
+      subst (R p) (ok o x a.then_gave) h
+  association-holds above at p (Some place) o x h k =
+      let es = bound (place_elements above place) _ x k in
+      let a = bound (same_length place.at (length es.x) (size o.kind)) _ x es.then_gave in
+      subst (R p) (ok (record o { actual = Some es.x }) x a.then_gave)
+      (of.of_actual p o es.x h (eqb-true (length es.x) (size o.kind) (kept (Length (length es.x) (size o.kind)) place.at (length es.x == size o.kind) a.x a.gave)))
+
+  pub associations_hold : (above : Site) (at : ℕ) (ps : List Port) (actuals : List (Option SignalPart)) (os xs : List Object) → AllZip R ps os → associations above at ps actuals os ≡ Ok xs → AllZip R ps xs
+  unfolding associations
+  associations_hold above at [] actuals [] xs h k = subst (λ (ys : List Object). AllZip R [] ys) (ok [] xs k) tt
+  associations_hold above at (p ∷ ps) actuals (o ∷ os) xs h k =
+      let y = bound (association above at p (first_of actuals) o) _ xs k in
+      let ys = bound (associations above at ps (rest_of actuals) os) _ xs y.then_gave in
+      subst (λ (zs : List Object). AllZip R (p ∷ ps) zs) (ok (y.x ∷ ys.x) xs ys.then_gave)
+      (association-holds above at p (first_of actuals) o y.x h.0 y.gave, associations_hold above at ps (rest_of actuals) os ys.x h.1 ys.gave)
+  associations_hold above at _ actuals _ xs h k = elim h [ ]
+
+  declaration-adds : (x : Declaration) (d e : InstanceObjects) → OfSignal S x → declaration d x ≡ Ok e → WithSignals P d.objects e.objects
+  unfolding declaration
+  declaration-adds (u.integer at type s) d e w k =
+      let x = bound (integer_of type d.site.integers at s) _ e k in
+      subst (λ (y : InstanceObjects). WithSignals P d.objects y.objects) (ok _ e x.then_gave) (no-signals P d.objects)
+  declaration-adds (u.Declaration.constant at form f) d e w k =
+      let x = bound (kind_of d.site.integers at form) _ e k in
+      let vs = bound (fixed_values d.site at (size x.x) f) _ e x.then_gave in
+      subst (λ (y : InstanceObjects). WithSignals P d.objects y.objects) (ok _ e vs.then_gave) (no-signals P d.objects)
+  declaration-adds (u.Declaration.signal o) d e w k =
+      let x = bound (object d.site internal o) _ e k in
+      subst (λ (y : InstanceObjects). WithSignals P d.objects y.objects) (ok (with_signal d x.x) e x.then_gave)
+      (record { signals = x.x ∷ []; are = refl; hold = All-cons P x.x [] (of.of_signal d.site o x.x w x.gave) (All-nil P) })
+
+  pub declarations_add : (xs : List Declaration) (d e : InstanceObjects) → All (OfSignal S) xs → declarations d xs ≡ Ok e → WithSignals P d.objects e.objects
+  unfolding declarations
+  declarations_add [] d e w k = subst (λ (y : InstanceObjects). WithSignals P d.objects y.objects) (ok d e k) (no-signals P d.objects)
+  declarations_add (x ∷ xs) d e w k =
+      let y = bound (declaration d x) _ e k in
+      let a = declaration-adds x d y.x (All-head (OfSignal S) x xs w) y.gave in
+      let b = declarations_add xs y.x e (All-tail (OfSignal S) x xs w) y.then_gave in
+      record {
+        signals = a.signals ++ b.signals;
+        are = b.are ∙ ap (λ (os : List Object). os ++ b.signals) a.are ∙ append_assoc d.objects a.signals b.signals;
+        hold = All-append P a.signals b.signals a.hold b.hold;
+      }
+
+-- ---- concurrent statements
+
+-- Where One is known of a statement at its spot, and Many of several: Holds is kept by the parts that they become.
+pub record OfParts (One : Spot → u.Concurrent → Type 0) (Many : Spot → u.Concurrents → Type 0) (Holds : Parts → Type 0) : Type 0 where
+  pub none : Holds no_parts
+  pub followed : (a b : Parts) → Holds a → Holds b → Holds (followed_by a b)
+  pub split : (here : Spot) (x : u.Concurrent) (rest : u.Concurrents) → Many here (u.concurrent x rest) → One here x × Many here rest
+  pub of_process : (here : Spot) (p : u.Process) (q : t.Process) → One here (u.process p) → process here p ≡ Ok q → Holds (t.process q no_parts)
+  pub in_for : (here : Spot) (at : ℕ) (label : List ℕ) (r : Range) (body : u.Concurrents) (j : ℤ) → One here (u.generate_for at label r body) → Many (in_turn here label j) body
+  pub in_if : (here : Spot) (at : ℕ) (label : List ℕ) (r : StaticTest) (body : u.Concurrents) → One here (u.generate_if at label r body) → Many (in_branch here label) body
+
+-- nothing needs to be known of a statement
+abbrev pub AnyAt : {A : Type 0} → Spot → A → Type 0
+AnyAt here x = ⊤
+
+pub any_parts : (Holds : Parts → Type 0) → Holds no_parts → ((a b : Parts) → Holds a → Holds b → Holds (followed_by a b)) → ((q : t.Process) → Holds (t.process q no_parts)) → OfParts AnyAt AnyAt Holds
+any_parts Holds none followed processes = record {
+  none = none;
+  followed = followed;
+  split = λ here x rest s. (tt, tt);
+  of_process = λ here p q s h. processes q;
+  in_for = λ here at label r body j s. tt;
+  in_if = λ here at label r body s. tt;
+}
+
+module _ (units : Units) (go : ℕ → Entity → InstanceObjects → Elab Instance) (One : Spot → u.Concurrent → Type 0) (Many : Spot → u.Concurrents → Type 0) (Holds : Parts → Type 0) (of : OfParts One Many Holds)
+    (of-instance : (here : Spot) (x : u.Instance) (i : Instance) → One here (u.instance x) → instance units go here x ≡ Ok i → Holds (inner (here.prefix ++ x.label) i no_parts)) where
+  joined-hold : (ps : List Parts) → All Holds ps → Holds (joined_parts ps)
+  joined-hold [] h = of.none
+  joined-hold (p ∷ ps) h = of.followed p (joined_parts ps) (All-head Holds p ps h) (joined-hold ps (All-tail Holds p ps h))
+
+  chosen-holds : (b : Bool) (r : Elab Parts) (ps : Parts) → ((qs : Parts) → r ≡ Ok qs → Holds qs) → cond b r (Ok no_parts) ≡ Ok ps → Holds ps
+  chosen-holds true r ps h k = h ps k
+  chosen-holds false r ps h k = subst Holds (ok no_parts ps k) of.none
+
+  mutual
+    unfolding concurrent
+
+    concurrent-holds : (x : u.Concurrent) (here : Spot) (ps : Parts) → One here x → concurrent units go here x ≡ Ok ps → Holds ps
+    concurrent-holds (u.process p) here ps s h =
+        let q = bound (process here p) _ ps h in
+        subst Holds (ok (t.process q.x no_parts) ps q.then_gave) (of.of_process here p q.x s q.gave)
+    concurrent-holds (u.instance x) here ps s h =
+        let i = bound (instance units go here x) _ ps h in
+        subst Holds (ok _ ps i.then_gave) (of-instance here x i.x s i.gave)
+    concurrent-holds (u.generate_for at label r body) here ps s h =
+        let is = bound (turns here.site.integers at r) _ ps h in
+        let qs = bound (each (λ i. concurrents units go (in_turn here label i) body) is.x) _ ps is.then_gave in
+        subst Holds (ok (joined_parts qs.x) ps qs.then_gave)
+        (joined-hold qs.x (each-all Holds (λ i. concurrents units go (in_turn here label i) body) is.x qs.x
+        (λ i q. concurrents_hold body (in_turn here label i) q (of.in_for here at label r body i s)) qs.gave))
+    concurrent-holds (u.generate_if at label r body) here ps s h =
+        let b = bound (decision here.site.integers r) _ ps h in
+        chosen-holds b.x (concurrents units go (in_branch here label) body) ps (λ qs. concurrents_hold body (in_branch here label) qs (of.in_if here at label r body s)) b.then_gave
+
+    pub concurrents_hold : (xs : u.Concurrents) (here : Spot) (ps : Parts) → Many here xs → concurrents units go here xs ≡ Ok ps → Holds ps
+    concurrents_hold u.no_concurrents here ps s h = subst Holds (ok no_parts ps h) of.none
+    concurrents_hold (u.concurrent x rest) here ps s h =
+        let both = of.split here x rest s in
+        let a = bound (concurrent units go here x) _ ps h in
+        let b = bound (concurrents units go here rest) _ ps a.then_gave in
+        subst Holds (ok (followed_by a.x b.x) ps b.then_gave) (of.followed a.x b.x (concurrent-holds x here a.x both.0 a.gave) (concurrents_hold rest here b.x both.1 b.gave))
+
+-- ---- processes, instances and the top
+
+pub record MadeProcess (here : Spot) (p : u.Process) (q : t.Process) : Type 0 where
+  pub variables : List Variable
+  pub declares : each (variable here.site) p.variables ≡ Ok variables
+  pub driven : List ℕ
+  pub drives : prefixes_elements here.site (targets p.body) ≡ Ok driven
+  pub on : Sensitivity
+  pub body : Stmts
+  pub gave : statements (with_variables here.site variables) p.body ≡ Ok body
+  pub turns : ℕ
+  pub is : ◌≡◌ {A = t.Process} (record {
+    at = p.at;
+    prefix = here.prefix;
+    label = p.label;
+    drives = in_order (elements_count here.site.ports + elements_count here.site.signals) driven;
+    sensitivity = on;
+    variables = variables;
+    body = body;
+    turns = turns;
+  }) q
+
+pub process_made : (here : Spot) (p : u.Process) (q : t.Process) → process here p ≡ Ok q → MadeProcess here p q
+unfolding process
+process_made here p q h =
+    let vs = bound (each (variable here.site) p.variables) _ q h in
+    let ds = bound (prefixes_elements here.site (targets p.body)) _ q vs.then_gave in
+    let on = bound (sensitivity here.site p.sensitivity p.body) _ q ds.then_gave in
+    let m = bound (statements_turns here.site p.body) _ q on.then_gave in
+    let body = bound (statements (with_variables here.site vs.x) p.body) _ q m.then_gave in
+    record {
+      variables = vs.x;
+      declares = vs.gave;
+      driven = ds.x;
+      drives = ds.gave;
+      on = on.x;
+      body = body.x;
+      gave = body.gave;
+      turns = m.x;
+      is = ok _ q body.then_gave;
+    }
+
+-- an instance of a unit, with its ports declared and joined
+pub record MadeInstance (units : Units) (go : ℕ → Entity → InstanceObjects → Elab Instance) (here : Spot) (x : u.Instance) (i : Instance) : Type 0 where
+  pub unit : Entity
+  pub there : slice_get units x.unit ≡ Some unit
+  pub declared : InstanceObjects
+  pub declares : interface here.site.integers x.generics unit ≡ Ok declared
+  pub objects : List Object
+  pub joins : associations here.site x.at unit.ports x.ports declared.objects ≡ Ok objects
+  pub gave : go x.at unit (record declared { objects = objects }) ≡ Ok i
+
+pub instance_made : (units : Units) (go : ℕ → Entity → InstanceObjects → Elab Instance) (here : Spot) (x : u.Instance) (i : Instance) → instance units go here x ≡ Ok i → MadeInstance units go here x i
+unfolding instance
+instance_made units go here x i h =
+    let unit = bound (item_or NoTop x.at (slice_get units x.unit)) _ i h in
+    let d = bound (interface here.site.integers x.generics unit.x) _ i unit.then_gave in
+    let os = bound (associations here.site x.at unit.x.ports x.ports d.x.objects) _ i d.then_gave in
+    record { unit = unit.x; there = was_found NoTop x.at (slice_get units x.unit) unit.x unit.gave; declared = d.x; declares = d.gave; objects = os.x; joins = os.gave; gave = os.then_gave }
+
+-- a unit's architecture, with its declarations and its statements
+pub record BuiltInstance (units : Units) (levels : ℕ) (unit : Entity) (d : InstanceObjects) (i : Instance) : Type 0 where
+  pub architecture : Architecture
+  pub there : unit.architecture ≡ Some architecture
+  pub inside : InstanceObjects
+  pub declares : declarations d architecture.declarations ≡ Ok inside
+  pub parts : Parts
+  pub gave : concurrents units (instance_of units levels) (record { site = inside.site; prefix = [] }) architecture.statements ≡ Ok parts
+  pub turns : ℕ
+  pub is : t.instance inside.objects turns parts ≡ i
+
+pub instance_built : (units : Units) (levels at : ℕ) (unit : Entity) (d : InstanceObjects) (i : Instance) → instance_of units (suc levels) at unit d ≡ Ok i → BuiltInstance units levels unit d i
+unfolding instance_of
+instance_built units levels at unit d i k =
+    let a = bound (item_or NoTop at unit.architecture) _ i k in
+    let e = bound (declarations d a.x.declarations) _ i a.then_gave in
+    let spot : Spot = record { site = e.x.site; prefix = [] } in
+    let ps = bound (concurrents units (instance_of units levels) spot a.x.statements) _ i e.then_gave in
+    let ts = bound (concurrents_turns spot a.x.statements) _ i ps.then_gave in
+    record {
+      architecture = a.x;
+      there = was_found NoTop at unit.architecture a.x a.gave;
+      inside = e.x;
+      declares = e.gave;
+      parts = ps.x;
+      gave = ps.gave;
+      turns = ts.x;
+      is = ok (t.instance e.x.objects ts.x ps.x) i ts.then_gave;
+    }
+
+-- the unit of the top
+pub record MadeDesign (units : Units) (top : List ℕ) (design : Design) : Type 0 where
+  pub unit : Entity
+  pub there : entity_named units top ≡ Some unit
+  pub declared : InstanceObjects
+  pub declares : interface no_integers [] unit ≡ Ok declared
+  pub tree : Instance
+  pub gave : instance_of units 32 unit.at unit declared ≡ Ok tree
+  pub is : ◌≡◌ {A = Design} (record { name = unit.name; top = tree }) design
+
+pub design_made : (units : Units) (top : List ℕ) (design : Design) → expanded_design units top ≡ Ok design → MadeDesign units top design
+unfolding expanded_design
+design_made units top design h =
+    let unit = bound (item_or NoTop 0 (entity_named units top)) _ design h in
+    let d = bound (interface no_integers [] unit.x) _ design unit.then_gave in
+    let i = bound (instance_of units 32 unit.x.at unit.x d.x) _ design d.then_gave in
+    record { unit = unit.x; there = was_found NoTop 0 (entity_named units top) unit.x unit.gave; declared = d.x; declares = d.gave; tree = i.x; gave = i.gave; is = ok (record { name = unit.x.name; top = i.x }) design i.then_gave }
+
+-- ---- whole trees
+
+-- an instance of a unit: of its ports, its signals and its parts
+pub record Filled (R : Port → Object → Type 0) (P : Object → Type 0) (Holds : Parts → Type 0) (unit : Entity) (i : Instance) : Type 0 where
+  pub ports : List Object
+  pub signals : List Object
+  pub turns : ℕ
+  pub parts : Parts
+  pub is : t.instance (ports ++ signals) turns parts ≡ i
+  pub of_ports : AllZip R unit.ports ports
+  pub of_signals : All P signals
+  pub of_parts : Holds parts
+
+-- where Known holds of each unit
+pub record OfUnits (Known : Entity → Type 0) (S : u.Object → Type 0) (R : Port → Object → Type 0) (P : Object → Type 0)
+    (One : Spot → u.Concurrent → Type 0) (Many : Spot → u.Concurrents → Type 0) (Holds : Parts → Type 0) : Type 0 where
+  pub objects : OfObjects S R P
+  pub parts : OfParts One Many Holds
+  pub of_unit : (unit : Entity) → Known unit → All (λ (p : Port). S p.object) unit.ports
+  pub of_architecture : (unit : Entity) (a : Architecture) (site : Site) → Known unit → unit.architecture ≡ Some a
+      → All (OfSignal S) a.declarations × Many (record { site = site; prefix = [] }) a.statements
+  pub of_instance : (here : Spot) (x : u.Instance) (unit : Entity) (i : Instance) → One here (u.instance x) → Filled R P Holds unit i → Holds (inner (here.prefix ++ x.label) i no_parts)
+
+pub record FilledDesign (Known : Entity → Type 0) (R : Port → Object → Type 0) (P : Object → Type 0) (Holds : Parts → Type 0) (units : Units) (top : List ℕ) (design : Design) : Type 0 where
+  pub unit : Entity
+  pub known : Known unit
+  pub there : entity_named units top ≡ Some unit
+  pub tree : Instance
+  pub filled : Filled R P Holds unit tree
+  pub is : ◌≡◌ {A = Design} (record { name = unit.name; top = tree }) design
+
+module _ (Known : Entity → Type 0) (S : u.Object → Type 0) (R : Port → Object → Type 0) (P : Object → Type 0) (One : Spot → u.Concurrent → Type 0) (Many : Spot → u.Concurrents → Type 0) (Holds : Parts → Type 0)
+    (of : OfUnits Known S R P One Many Holds) (units : Units) (known : All Known units) where
+  instance-fills : (levels at : ℕ) (unit : Entity) (d : InstanceObjects) (i : Instance) → Known unit → AllZip R unit.ports d.objects → instance_of units levels at unit d ≡ Ok i → Filled R P Holds unit i
+  unfolding instance_of
+  instance-fills zero at unit d i k h e = absurd cc
+  instance-fills (suc levels) at unit d i k h e =
+      let m = instance_built units levels at unit d i e in
+      let spot : Spot = record { site = m.inside.site; prefix = [] } in
+      let both = of.of_architecture unit m.architecture m.inside.site k m.there in
+      let added = declarations_add S R P of.objects m.architecture.declarations d m.inside both.0 m.declares in
+      record {
+        ports = d.objects;
+        signals = added.signals;
+        turns = m.turns;
+        parts = m.parts;
+        is = ap (λ (os : List Object). t.instance os m.turns m.parts) (sym added.are) ∙ m.is;
+        of_ports = h;
+        of_signals = added.hold;
+        of_parts = concurrents_hold units (instance_of units levels) One Many Holds of.parts (λ here x j s g.
+            let n = instance_made units (instance_of units levels) here x j g in
+            let there : Known n.unit = all_get Known units x.unit n.unit known n.there in
+            let declared = interface_holds S R P of.objects here.site.integers x.generics n.unit n.declared (of.of_unit n.unit there) n.declares in
+            let joined = associations_hold S R P of.objects here.site x.at n.unit.ports x.ports n.declared.objects n.objects declared n.joins in
+            of.of_instance here x n.unit j s (instance-fills levels x.at n.unit (record n.declared { objects = n.objects }) j there joined n.gave)) m.architecture.statements spot m.parts both.1 m.gave;
+      }
+
+  pub design_filled : (top : List ℕ) (design : Design) → expanded_design units top ≡ Ok design → FilledDesign Known R P Holds units top design
+  design_filled top design h =
+      let m = design_made units top design h in
+      let there : Known m.unit = all_found Known (λ (x : Entity). bytes_eq x.name (map to_ascii_lowercase top)) units m.unit known m.there in
+      let declared = interface_holds S R P of.objects no_integers [] m.unit m.declared (of.of_unit m.unit there) m.declares in
+      record { unit = m.unit; known = there; there = m.there; tree = m.tree; filled = instance-fills 32 m.unit.at m.unit m.declared m.tree there declared m.gave; is = m.is }
