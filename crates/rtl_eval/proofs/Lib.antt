@@ -7,6 +7,7 @@ pub mod Places
 pub mod Reading
 pub mod Chains
 pub mod Values
+pub mod Totals
 pub mod Weights
 pub mod OneByOne
 pub mod Codes

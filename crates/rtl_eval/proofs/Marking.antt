@@ -54,7 +54,3 @@ none_before first len marks none place = by (get_or marks place false) refl
 
 pub all_off : (marks : List Bool) → HasNoMark marks → marks ≡ replicate (length marks) false
 all_off marks none = unmarked marks (λ place h. let n = none place in absurd cc)
-
--- an empty span
-pub marked_none : (first len : ℕ) (marks : List Bool) → len ≡ 0 → marked first len marks ≡ marks
-marked_none first len marks none = ap (λ (n : ℕ). marked first n marks) none

@@ -1,7 +1,7 @@
 -- Assignments one by one.
-use Rattle.std.proofs.Common.{◌≡◌, ℕ, ◌+◌, ◌<◌, List, [], ◌∷◌, length, drop, slice_index, slice_set, Option, Some, refl, sym}
+use Rattle.std.proofs.Common.{◌≡◌, ℕ, ◌+◌, ◌<◌, ◌≤◌, List, [], ◌∷◌, length, drop, slice_index, slice_set, Option, Some, ap, refl, sym}
 use Rattle.std.specs.List.{range_with_len}
-use Rattle.std.proofs.lemmas.List.{at_drop_more}
+use Rattle.std.proofs.lemmas.List.{at_drop_more, drop_all}
 use Rattle.rtl_eval.specs.Spans.{written}
 use Rattle.rtl_model.specs.bodies.Variables.{values_put}
 use Rattle.rtl_eval.specs.Running.{assigned}
@@ -17,6 +17,9 @@ assigned_more ns vs i old l m =
     let q = number_first vs i m in
     sym (λ k. assigned (p k) (q k) old)
 
+pub none_to_assign : (ns vs : List ℕ) (i : ℕ) (old : _) → length ns ≤ i → old ≡ assigned (drop i ns) (drop i vs) old
+none_to_assign ns vs i old l = sym (ap (λ ps. assigned ps (drop i vs) old) (drop_all i ns l))
+
 -- at places one after another
 pub assigned_span : (first : ℕ) (vs : List ℕ) (old : List (Option ℕ)) → assigned (range_with_len first (length vs)) vs old ≡ written first vs old
 assigned_span first [] old = refl
@@ -28,3 +31,6 @@ put_more ns vs i old l m =
     let p = number_first ns i l in
     let q = number_first vs i m in
     sym (λ k. values_put (p k) (q k) old)
+
+pub none_to_put : (ns vs : List ℕ) (i : ℕ) (old : List ℕ) → length ns ≤ i → old ≡ values_put (drop i ns) (drop i vs) old
+none_to_put ns vs i old l = sym (ap (λ es. values_put es (drop i vs) old) (drop_all i ns l))

@@ -2,11 +2,11 @@
 
 ghost use Rattle.std.specs.Prelude.{◌≡◌, ◌+◌, ◌<◌, ◌≤◌, List, length, map, take, drop, true};
 ghost use Rattle.vhdl_values.specs.Scalar.{value_of_code};
-ghost use Rattle.vhdl_values.specs.Logic.{logic_of_all, not_of_all};
+ghost use Rattle.vhdl_values.specs.Logic.{not_of_all};
 ghost use Rattle.vhdl_values.specs.Numbers.{all_good};
 ghost use Rattle.vhdl_values.specs.declared.kinds.Logic.TheVariants.{And, Or, Xor};
 ghost use Rattle.vhdl_values.specs.declared.scalar.Nine.{Nine};
-ghost use Rattle.rtl_eval.specs.Combined.{combined, AreStripped};
+ghost use Rattle.rtl_eval.specs.Combined.{combined, AreStripped, Operates};
 
 use crate::making::Maker;
 use std::simd::prelude::*;
@@ -161,7 +161,8 @@ fn of_digits<const LANES: usize>(
 /// What the operators look at: so many codes from a place on, as those of U, X, 0 or 1.
 fn stripped<const LANES: usize>(codes: &[u8], at: usize) -> Simd<u8, LANES>
     requires { at + LANES ≤ length codes.now }
-    ensures { AreStripped (map value_of_code (take LANES (drop at codes.now))) result }
+    ensures many { length result ≡ LANES }
+    ensures values { AreStripped (map value_of_code (take LANES (drop at codes.now))) result }
 {
     let codes = Simd::<u8, LANES>::from_slice(&codes[at..]);
     let are_digits = (codes & Simd::splat(0xFA)).simd_eq(Simd::splat(2));
@@ -174,8 +175,7 @@ fn stripped<const LANES: usize>(codes: &[u8], at: usize) -> Simd<u8, LANES>
 fn and<const LANES: usize>(left: Simd<u8, LANES>, right: Simd<u8, LANES>) -> Simd<u8, LANES>
     requires left { length left ≡ LANES }
     requires right { length right ≡ LANES }
-    ensures { (ls rs : List Nine) → AreStripped ls left.entry → AreStripped rs right.entry
-        → AreStripped (logic_of_all And ls rs) result }
+    ensures { Operates And left.entry right.entry result }
 {
     let zero = Simd::splat(2);
     let others = right.simd_eq(zero).select(zero, left & right);
@@ -186,8 +186,7 @@ fn and<const LANES: usize>(left: Simd<u8, LANES>, right: Simd<u8, LANES>) -> Sim
 fn or<const LANES: usize>(left: Simd<u8, LANES>, right: Simd<u8, LANES>) -> Simd<u8, LANES>
     requires left { length left ≡ LANES }
     requires right { length right ≡ LANES }
-    ensures { (ls rs : List Nine) → AreStripped ls left.entry → AreStripped rs right.entry
-        → AreStripped (logic_of_all Or ls rs) result }
+    ensures { Operates Or left.entry right.entry result }
 {
     let one = Simd::splat(3);
     let least = left.simd_lt(right).select(left, right);
@@ -199,8 +198,7 @@ fn or<const LANES: usize>(left: Simd<u8, LANES>, right: Simd<u8, LANES>) -> Simd
 fn xor<const LANES: usize>(left: Simd<u8, LANES>, right: Simd<u8, LANES>) -> Simd<u8, LANES>
     requires left { length left ≡ LANES }
     requires right { length right ≡ LANES }
-    ensures { (ls rs : List Nine) → AreStripped ls left.entry → AreStripped rs right.entry
-        → AreStripped (logic_of_all Xor ls rs) result }
+    ensures { Operates Xor left.entry right.entry result }
 {
     let digit = Simd::splat(2);
     let are_digits = (left & right & digit).simd_eq(digit);

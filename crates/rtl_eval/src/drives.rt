@@ -20,6 +20,7 @@ use vhdl_values::Vec9;
 /// and what a run lays aside while it evaluates expressions.
 ///
 /// All memory is taken by `new`.
+#[derive(Drop)]
 pub struct Drives {
     marks: Marks,
     values: Vec<u8>,
@@ -29,21 +30,6 @@ pub struct Drives {
     room: usize,
     laid: Vec<Vec9>,
     bits: Vec<u8>,
-}
-
-impl Drop for Drives {
-    fn drop(self) {
-        let Drives {
-            marks: _,
-            values: _,
-            assigned: _,
-            starts: _,
-            variables: _,
-            room: _,
-            laid: _,
-            bits: _,
-        } = self;
-    }
 }
 
 impl Model for Drives {

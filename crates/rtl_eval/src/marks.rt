@@ -11,15 +11,10 @@ use std::marker::Model;
 
 /// A mark for each place. A span that is marked while nothing else is marked is kept as it is, and
 /// marked place by place once there is more to mark or to look at. Contracts see the marks.
+#[derive(Drop)]
 pub(crate) struct Marks {
     marks: Vec<bool>,
     alone: Span,
-}
-
-impl Drop for Marks {
-    fn drop(self) {
-        let Marks { marks: _, alone: _ } = self;
-    }
 }
 
 impl Model for Marks {

@@ -5,7 +5,8 @@ ghost use Rattle.rtl_model.specs.bodies.Fits.{FitsTest, FitsStmt, Fits, FitsBran
 ghost use Rattle.rtl_net.specs.Bodies.{test_view, statement_view, statements_of, branches_of, alternatives_of};
 ghost use Rattle.rtl_net.specs.declared.body.Branch.{Branch};
 ghost use Rattle.rtl_eval.specs.Evaluations.{codes_of};
-ghost use Rattle.rtl_eval.specs.Running.{IsReady, RunsBody, RunsStatement, RunsBranches, RunsAlternatives, IsPlaceOfFirst, else_of, met_by, chosen_by, FitsSomehow};
+ghost use Rattle.rtl_eval.specs.Running.{IsReady, RunsBody, RunsStatement, RunsBranches, RunsAlternatives};
+ghost use Rattle.rtl_eval.specs.Running.{IsPlaceOfFirst, else_of, met_by, chosen_by, FitsSomehow};
 ghost use Rattle.rtl_eval.specs.Seeing.{seen_of, Within};
 
 use crate::assigning::{assign, set};

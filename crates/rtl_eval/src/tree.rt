@@ -13,15 +13,10 @@ use std::marker::Model;
 
 /// The body of one process of a netlist, as something that runs: it goes over the statements and
 /// expressions as the netlist has them.
+#[derive(Drop)]
 pub struct Tree<'a> {
     net: &'a Net,
     number: usize,
-}
-
-impl Drop for Tree<'_> {
-    fn drop(self) {
-        let Tree { net: _, number: _ } = self;
-    }
 }
 
 impl<'a> Model for Tree<'a> {

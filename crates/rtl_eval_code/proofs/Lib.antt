@@ -5,6 +5,7 @@ pub mod Places
 pub mod Lengths
 pub mod Expressions
 pub mod Elements
+pub mod Tails
 pub mod Tests
 pub mod Values
 pub mod Jumps

@@ -3,7 +3,7 @@ use Rattle.std.proofs.Common.{◌≡◌, ℕ, ◌<◌, ◌≤◌, false, not, �
 use Rattle.std.specs.List.{list_any}
 use Rattle.std.specs.Option.{is_some}
 use Rattle.std.proofs.lemmas.Bool.{cases_eq, cases_lt, ne_eqb}
-use Rattle.std.proofs.lemmas.List.{get_or-set_same, get_or-set_other, get_or_past, length-map, map-set}
+use Rattle.std.proofs.lemmas.List.{get_or-set_same, get_or-set_other, get_or_past, length-map, length-set, map-set}
 use Rattle.std.proofs.lemmas.List.Elements.{Contains-get_or}
 use Rattle.rtl_eval.specs.Runs.{Outcome}
 use Rattle.rtl_eval.specs.Tracked.{AreAssigned}
@@ -11,7 +11,8 @@ use Rattle.rtl_model.proofs.basics.Lists.{all_none, any_true, Contains-none}
 use Rattle.rtl_kernel.specs.worklists.Numbers.{Numbers, IsWith}
 use Rattle.rtl_model.specs.simulation.Cycle.{all_driver_values}
 use Rattle.rtl_model.proofs.simulation.Rows.{driven_all_at, get_or-map, length-driven, none_pending_at}
-use Rattle.rtl_kernel.specs.drivers.Transactions.{IsActive, pending_of, transaction_at, without_entries}
+use Rattle.rtl_kernel.specs.drivers.Tracked.{AreTracked}
+use Rattle.rtl_kernel.specs.drivers.Transactions.{Transactions, IsActive, pending_of, transaction_at, without_entries}
 use Rattle.rtl_kernel.proofs.Updating.{length-driven_all, pending_without}
 
 -- ---- whether there is one
@@ -51,7 +52,7 @@ quiet_is outcomes (p ∷ active) all_active no_other =
 -- ---- once a process has run
 
 module _ (outcomes : List Outcome) (p : ℕ) (o : Outcome) (there : p < length outcomes) where
-  pub pending-set : pending_of (set outcomes p o) ≡ set (pending_of outcomes) p o.entries
+  pending-set : pending_of (set outcomes p o) ≡ set (pending_of outcomes) p o.entries
   pending-set = map-set (λ (x : Outcome). x.entries) outcomes p o
 
   at_p : get_or (pending_of (set outcomes p o)) p [] ≡ o.entries
@@ -63,7 +64,7 @@ module _ (outcomes : List Outcome) (p : ℕ) (o : Outcome) (there : p < length o
   same_active : (q : ℕ) → (q ≡ p → ⊥) → (x y : List (Option ℕ)) → x ≡ y → (place : ℕ) × IsSome (get_or x place None) → (place : ℕ) × IsSome (get_or y place None)
   same_active q n x y e (place, some) = (place, sym (ap (λ (r : List (Option ℕ)). is_some (get_or r place None)) e) ∙ some)
 
-  pub each_driver_ran : (rows : List (List ℕ)) → length o.entries ≡ length (get_or (pending_of outcomes) p []) → ((q : ℕ) → length (get_or rows q []) ≡ length (get_or (pending_of outcomes) q []))
+  each_driver_ran : (rows : List (List ℕ)) → length o.entries ≡ length (get_or (pending_of outcomes) p []) → ((q : ℕ) → length (get_or rows q []) ≡ length (get_or (pending_of outcomes) q []))
       → (q : ℕ) → length (get_or rows q []) ≡ length (get_or (pending_of (set outcomes p o)) q [])
   each_driver_ran rows as_many each q = each q ∙ by (cases_eq q p)
     where
@@ -74,7 +75,7 @@ module _ (outcomes : List Outcome) (p : ℕ) (o : Outcome) (there : p < length o
   module _ (assigned : List ℕ) (A : AreAssigned o.entries assigned) (old : List ℕ) (all_active : (q : ℕ) → IsActive (pending_of outcomes) q → Contains old q)
       (no_other : (q : ℕ) → Contains old q → IsActive (pending_of outcomes) q) (quiet : IsActive (pending_of outcomes) p → ⊥) where
     -- it has assigned nothing
-    pub none_more : length assigned ≡ 0 → (q : ℕ) → IsActive (pending_of (set outcomes p o)) q → Contains old q
+    none_more : length assigned ≡ 0 → (q : ℕ) → IsActive (pending_of (set outcomes p o)) q → Contains old q
     none_more none q (place, some) = by (cases_eq q p)
       where
         by : (q ≡ p) ⊎ (q ≡ p → ⊥) → Contains old q
@@ -83,7 +84,7 @@ module _ (outcomes : List Outcome) (p : ℕ) (o : Outcome) (there : p < length o
             let (k, l, is) = A.are_all place here in absurd (omega (arith, l, none))
         by (inr n) = all_active q (same_active q n _ _ (at_other q n) (place, some))
 
-    pub still_active : (q : ℕ) → Contains old q → IsActive (pending_of (set outcomes p o)) q
+    still_active : (q : ℕ) → Contains old q → IsActive (pending_of (set outcomes p o)) q
     still_active q h = by (cases_eq q p)
       where
         by : (q ≡ p) ⊎ (q ≡ p → ⊥) → IsActive (pending_of (set outcomes p o)) q
@@ -92,19 +93,40 @@ module _ (outcomes : List Outcome) (p : ℕ) (o : Outcome) (there : p < length o
 
     -- it has assigned something
     module _ (old_set new : Numbers) (old_is : old ≡ old_set.members) (some : 0 < length assigned) (W : IsWith p old_set new) where
-      pub one_more : (q : ℕ) → IsActive (pending_of (set outcomes p o)) q → Contains new.members q
+      one_more : (q : ℕ) → IsActive (pending_of (set outcomes p o)) q → Contains new.members q
       one_more q a = by (cases_eq q p)
         where
           by : (q ≡ p) ⊎ (q ≡ p → ⊥) → Contains new.members q
           by (inl e) = rw e W.added
           by (inr n) = W.kept q (rw (← old_is) (all_active q (same_active q n _ _ (at_other q n) a)))
 
-      pub all_are_active : (q : ℕ) → Contains new.members q → IsActive (pending_of (set outcomes p o)) q
+      all_are_active : (q : ℕ) → Contains new.members q → IsActive (pending_of (set outcomes p o)) q
       all_are_active q h = by (W.no_other q h)
         where
           by : Contains old_set.members q ⊎ (q ≡ p) → IsActive (pending_of (set outcomes p o)) q
           by (inl there) = still_active q (rw old_is there)
           by (inr e) = rw e (get_or assigned 0 0, ap (λ (r : List (Option ℕ)). is_some (get_or r (get_or assigned 0 0) None)) at_p ∙ A.pass 0 some)
+
+-- what is kept of the drivers once a process with no active one has run
+module _ (t : Transactions) (active : Numbers) (T : AreTracked t active) (p : ℕ) (o : Outcome) (there : p < length t.outcomes) (as_many : length o.entries ≡ length (get_or (pending_of t.outcomes) p []))
+    (assigned : List ℕ) (A : AreAssigned o.entries assigned) (quiet : IsActive (pending_of t.outcomes) p → ⊥) where
+  pub tracked_idle : length assigned ≡ 0 → AreTracked (record t { outcomes = set t.outcomes p o }) active
+  tracked_idle none = record {
+    as_many = T.as_many ∙ sym (length-set t.outcomes p o);
+    bound = T.bound ∙ sym (length-set t.outcomes p o);
+    each_driver = each_driver_ran t.outcomes p o there t.drivers as_many T.each_driver;
+    all_active = none_more t.outcomes p o there assigned A active.members T.all_active T.no_other quiet none;
+    no_other = still_active t.outcomes p o there assigned A active.members T.all_active T.no_other quiet;
+  }
+
+  pub tracked_active : (new : Numbers) → 0 < length assigned → IsWith p active new → AreTracked (record t { outcomes = set t.outcomes p o }) new
+  tracked_active new some W = record {
+    as_many = T.as_many ∙ sym (length-set t.outcomes p o);
+    bound = W.bound_stays ∙ T.bound ∙ sym (length-set t.outcomes p o);
+    each_driver = each_driver_ran t.outcomes p o there t.drivers as_many T.each_driver;
+    all_active = one_more t.outcomes p o there assigned A active.members T.all_active T.no_other quiet active new refl some W;
+    no_other = all_are_active t.outcomes p o there assigned A active.members T.all_active T.no_other quiet active new refl some W;
+  }
 
 -- ---- once all transactions are taken
 

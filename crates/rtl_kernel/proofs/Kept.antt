@@ -21,7 +21,7 @@ use Rattle.rtl_kernel.specs.drivers.Resolved.{AreResolved, NotedAreResolved}
 use Rattle.rtl_kernel.specs.drivers.Rows.{IsSourceThere}
 use Rattle.rtl_kernel.specs.drivers.Brought.{NotedNets, IsDriverOf, IsBrought, BringsAll, begun}
 use Rattle.rtl_kernel.specs.drivers.Transactions.{Transactions, IsActive, HasRunOf, HaveEntries, driver_at, pending_of, without_entries, no_outcome}
-use Rattle.rtl_kernel.specs.kernel.Kept.{AreOfNet, IsKernel, IsSound, Parts, state_of}
+use Rattle.rtl_kernel.specs.kernel.Kept.{AreOfNet, standing_of, IsKernel, IsSound, Parts, state_of}
 use Rattle.rtl_kernel.specs.kernel.Given.{AreGiven}
 use Rattle.rtl_kernel.specs.kernel.Simulation.{changes_of}
 use Rattle.rtl_kernel.specs.values.TwoValues.{TwoValues}
@@ -150,8 +150,8 @@ module _ {E : Type 0} {process : E → FlatProcess} {types : E → List ElementT
   -- ---- new values
 
   -- what stays fits on
-  of_same : (groups : Grouping) → groups ≡ v.groups → AreOfNet process types net groups bodies k.cuts k.awaited k.await_it
-  of_same groups same = subst (λ (g : Grouping). AreOfNet process types net g bodies k.cuts k.awaited k.await_it) (sym same) K.of_net
+  of_same : (groups : Grouping) → groups ≡ v.groups → AreOfNet process types bodies net (record (standing_of k) { groups = groups })
+  of_same groups same = subst (λ (g : Grouping). AreOfNet process types bodies net (record (standing_of k) { groups = g })) (sym same) K.of_net
 
   wakes_same : (groups : Grouping) (before now : List ℕ) (waiting : List Bool) → groups ≡ v.groups → length waiting ≡ length r.waiting → AreWoken (wakers_of groups) before now waiting
       → waiting ≡ resumed_processes core_net before now

@@ -28,20 +28,11 @@ use std::marker::Model;
 /// The drivers' values and transactions: a row for each process, with the processes that have an
 /// active driver, so that an update looks at the drivers that are active and at no others. All
 /// memory is taken by `new`.
+#[derive(Drop)]
 pub struct Drivers {
     drivers: Vec<Vec<u8>>,
     outcomes: Vec<Drives>,
     active: Worklist,
-}
-
-impl Drop for Drivers {
-    fn drop(self) {
-        let Drivers {
-            drivers: _,
-            outcomes: _,
-            active: _,
-        } = self;
-    }
 }
 
 impl Model for Drivers {

@@ -26,23 +26,13 @@ use vhdl_values::Nine;
 
 /// The nets of a netlist: their values, and the groups whose nets an update is to resolve. All
 /// memory is taken by `new`.
+#[derive(Drop)]
 pub struct Nets<'a> {
     wiring: &'a Net,
     /// For each group whether its nets have one source each.
     alone: Vec<bool>,
     values: Values,
     noted: Worklist,
-}
-
-impl Drop for Nets<'_> {
-    fn drop(self) {
-        let Nets {
-            wiring: _,
-            alone: _,
-            values: _,
-            noted: _,
-        } = self;
-    }
 }
 
 impl<'a> Model for Nets<'a> {

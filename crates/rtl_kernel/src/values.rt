@@ -15,6 +15,7 @@ use vhdl_values::Nine;
 /// The nets' values before the last update and now, as codes, with the groups whose nets may differ
 /// in the two: so what a cycle costs here goes by the groups of the nets that it changes. All
 /// memory is taken by `new`.
+#[derive(Drop)]
 pub struct Values {
     groups: Groups,
     before: Vec<u8>,
@@ -22,18 +23,6 @@ pub struct Values {
     changed: Worklist,
     /// Whether each of the groups has been given values once, so that one of its nets has an event.
     once: bool,
-}
-
-impl Drop for Values {
-    fn drop(self) {
-        let Values {
-            groups: _,
-            before: _,
-            current: _,
-            changed: _,
-            once: _,
-        } = self;
-    }
 }
 
 /// Groups among whose nets are all that have an event.

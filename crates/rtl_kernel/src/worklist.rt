@@ -9,18 +9,10 @@ use std::marker::Model;
 
 /// A set of numbers below a bound: a mark for each number, and a list of the marked ones. All
 /// memory is taken by `new`.
+#[derive(Drop)]
 pub struct Worklist {
     marks: Vec<bool>,
     members: Vec<usize>,
-}
-
-impl Drop for Worklist {
-    fn drop(self) {
-        let Worklist {
-            marks: _,
-            members: _,
-        } = self;
-    }
 }
 
 impl Model for Worklist {

@@ -20,20 +20,11 @@ use std::alloc::Global;
 
 /// A stimulus without a race, of an accepted netlist, whose processes have these levels and whose
 /// moments settle within the bound.
+#[derive(Drop)]
 pub struct Admitted {
     pub stimulus: Stimulus,
     pub bound: u32,
     pub levels: Vec<Option<u32>>,
-}
-
-impl Drop for Admitted {
-    fn drop(self) {
-        let Admitted {
-            stimulus: _,
-            bound: _,
-            levels: _,
-        } = self;
-    }
 }
 
 /// Checks a netlist, reads the text of a stimulus for it, and looks for a race. It takes the

@@ -54,17 +54,10 @@ named None = None
 
 pub same_named : (o : Option Form) (k : Option KeptForm) → IsFormOf o k → named k ≡ name_in o
 same_named None None h = refl
-same_named None (Some k) h = absurd h
-same_named (Some x) None h = absurd h
 same_named (Some (At t n v)) (Some (kept.At t' n' v')) h = ap Some h.1
-same_named (Some (At t n v)) (Some (kept.Clock n' f' d')) h = absurd h
-same_named (Some (At t n v)) (Some (kept.Stop t')) h = absurd h
-same_named (Some (Clock n f d)) (Some (kept.At t' n' v')) h = absurd h
 same_named (Some (Clock n f d)) (Some (kept.Clock n' f' d')) h = ap Some h.0
-same_named (Some (Clock n f d)) (Some (kept.Stop t')) h = absurd h
-same_named (Some (Stop t)) (Some (kept.At t' n' v')) h = absurd h
-same_named (Some (Stop t)) (Some (kept.Clock n' f' d')) h = absurd h
 same_named (Some (Stop t)) (Some (kept.Stop t')) h = refl
+same_named _ _ h = absurd h
 
 -- ---- lines
 

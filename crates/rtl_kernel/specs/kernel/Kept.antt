@@ -61,20 +61,30 @@ pub record Parts : Type 0 where
   pub awaited : Option ClockEdge
   pub await_it : List Bool
 
--- what stays as it is from step to step is of this netlist, whose nets are in these groups
-pub record AreOfNet {E : Type 0} (process : E → FlatProcess) (types : E → List ElementType) (net : NetlistView) (groups : Grouping)
-    (bodies : List E) (cuts : Cutting) (awaited : Option ClockEdge) (await_it : List Bool) : Type 0 where
+-- what stays as it is from step to step
+pub record Standing : Type 0 where
+  pub groups : Grouping
+  pub cuts : Cutting
+  pub awaited : Option ClockEdge
+  pub await_it : List Bool
+
+abbrev pub standing_of : Parts → Standing
+standing_of k = record { groups = k.nets.values.groups; cuts = k.cuts; awaited = k.awaited; await_it = k.await_it }
+
+-- it is of this netlist
+pub record AreOfNet {E : Type 0} (process : E → FlatProcess) (types : E → List ElementType) (bodies : List E) (net : NetlistView)
+    (s : Standing) : Type 0 where
   pub in_range : IsInRange (flat net)
   pub connected : IsConnected (flat net)
   pub run_bodies : RunBodies process types (flat net) bodies
-  pub is_index : IsIndex (map (λ (p : Process). p.wakes.items) net.processes) (wakers_of groups)
-  pub are_cuts : AreDriverCuts net groups cuts
-  pub awaits : AwaitFirst (core net) awaited await_it
+  pub is_index : IsIndex (map (λ (p : Process). p.wakes.items) net.processes) (wakers_of s.groups)
+  pub are_cuts : AreDriverCuts net s.groups s.cuts
+  pub awaits : AwaitFirst (core net) s.awaited s.await_it
 
 -- what a kernel keeps is of its netlist, and fits together
 pub record IsKernel {E : Type 0} (process : E → FlatProcess) (types : E → List ElementType) (most : E → ℕ) (bodies : List E)
     (k : Parts) : Type 0 where
-  pub of_net : AreOfNet process types k.nets.net k.nets.values.groups bodies k.cuts k.awaited k.await_it
+  pub of_net : AreOfNet process types bodies k.nets.net (standing_of k)
   pub room : HaveRoom most (flat k.nets.net) bodies k.drivers.outcomes
   pub sound : IsSound (flat k.nets.net) (state_of k.nets.values k.drivers k.resumed)
   -- no group is left over from an update

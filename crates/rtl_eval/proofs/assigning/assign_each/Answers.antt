@@ -1,8 +1,8 @@
-use Rattle.std.proofs.Common.{◌<◌, ◌+◌, drop, length, slice_index, Some, ap, ◌∙◌, arith}
+use Rattle.std.proofs.Common.{◌<◌, ◌+◌, List, Option, ℕ, drop, length, slice_index, Some, ap, ◌∙◌, arith}
 use Rattle.std.proofs.lemmas.List.{length-set}
 use Rattle.rtl_eval.specs.Runs.{Outcome}
 use Rattle.rtl_eval.specs.Running.{assigned}
-use Rattle.rtl_eval.proofs.OneByOne.{assigned_more}
+use Rattle.rtl_eval.proofs.OneByOne.{assigned_more, none_to_assign}
 use Rattle.rtl_eval.proofs.assigning.assign_each.Goals as goal
 
 pub loop-at-preserved : goal.loop-at-preserved
@@ -10,17 +10,17 @@ loop-at-preserved c =
     let ns = c.args.places.now in
     let vs = c.args.codes.now in
     let i = c.loop-at.at in
-    let I = c.loop-at.invariant in
+    let o = c.loop-at.out in
     let m : i < length vs = omega (arith, c.loop-at-test.true) in
-    let l : i < length ns = omega (arith, m, c.requires.as_many) in
+    let with : List (Option ℕ) → Outcome = λ es. record o { entries = es } in
     record {
-      each_driver = ap (λ (o : Outcome). length o.entries) c.set.ensures ∙ length-set c.loop-at.out.entries (slice_index ns i) (Some (slice_index vs i)) ∙ I.each_driver;
-      entries_are =
-          ap (λ (o : Outcome). assigned (drop (i + 1) ns) (drop (i + 1) vs) o.entries) c.set.ensures
-          ∙ assigned_more ns vs i c.loop-at.out.entries l m ∙ I.entries_are;
-      variables_stay = ap (λ (o : Outcome). o.variables) c.set.ensures ∙ I.variables_stay;
-      starts_stay = ap (λ (o : Outcome). o.starts) c.set.ensures ∙ I.starts_stay;
-      room_stays = ap (λ (o : Outcome). o.room) c.set.ensures ∙ I.room_stays;
-      laid_stay = ap (λ (o : Outcome). o.laid) c.set.ensures ∙ I.laid_stay;
-      bits_stay = ap (λ (o : Outcome). o.bits) c.set.ensures ∙ I.bits_stay;
+      each_driver = ap (λ (o : Outcome). length o.entries) c.set.ensures ∙ length-set o.entries (slice_index ns i) (Some (slice_index vs i)) ∙ c.loop-at.invariant.each_driver;
+      whole = ap (λ (o : Outcome). record o { entries = assigned (drop (i + 1) ns) (drop (i + 1) vs) o.entries }) c.set.ensures
+          ∙ ap with (assigned_more ns vs i o.entries (omega (arith, m, c.requires.as_many)) m) ∙ c.loop-at.invariant.whole;
     }
+
+pub returns : goal.returns
+returns c =
+    let o = c.loop-at.out in
+    let with : List (Option ℕ) → Outcome = λ es. record o { entries = es } in
+    ap with (none_to_assign c.args.places.now c.args.codes.now c.loop-at.at o.entries (omega (arith, c.loop-at-test.false, c.requires.as_many))) ∙ c.loop-at.invariant.whole

@@ -6,10 +6,6 @@ use Rattle.rtl_eval.proofs.assigning.assign_each.Given as goal
 abbrev pub invariant-loop-at : goal.invariant-loop-at
 invariant-loop-at l = record {
   each_driver : length l.out.entries ≡ length l.initial.out.entries;
-  entries_are : assigned (drop l.at l.places) (drop l.at l.codes) l.out.entries ≡ assigned l.places l.codes l.initial.out.entries;
-  variables_stay : l.out.variables ≡ l.initial.out.variables;
-  starts_stay : l.out.starts ≡ l.initial.out.starts;
-  room_stays : l.out.room ≡ l.initial.out.room;
-  laid_stay : l.out.laid ≡ l.initial.out.laid;
-  bits_stay : l.out.bits ≡ l.initial.out.bits;
+  whole : record (l.out) { entries = assigned (drop l.at l.places) (drop l.at l.codes) l.out.entries }
+      ≡ record (l.initial.out) { entries = assigned l.places l.codes l.initial.out.entries };
 }

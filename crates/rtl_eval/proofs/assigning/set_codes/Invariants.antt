@@ -7,10 +7,6 @@ use Rattle.rtl_eval.proofs.assigning.set_codes.Given as goal
 abbrev pub invariant-loop-at : goal.invariant-loop-at
 invariant-loop-at l = record {
   each_element : length l.out.variables ≡ length l.initial.out.variables;
-  variables_are : values_put (drop l.at (numbers l.elements)) (drop l.at l.codes) l.out.variables ≡ values_put (numbers l.elements) l.codes l.initial.out.variables;
-  entries_stay : l.out.entries ≡ l.initial.out.entries;
-  starts_stay : l.out.starts ≡ l.initial.out.starts;
-  room_stays : l.out.room ≡ l.initial.out.room;
-  laid_stay : l.out.laid ≡ l.initial.out.laid;
-  bits_stay : l.out.bits ≡ l.initial.out.bits;
+  whole : record (l.out) { variables = values_put (drop l.at (numbers l.elements)) (drop l.at l.codes) l.out.variables }
+      ≡ record (l.initial.out) { variables = values_put (numbers l.elements) l.codes l.initial.out.variables };
 }

@@ -8,10 +8,9 @@ use Rattle.rtl_eval.proofs.combining.and.Goals as goal
 
 pub returns : goal.returns
 returns g c = λ ls rs a b.
-    let n = g.row.LANES in
     let ps = paired ls rs in
-    let P = pairs n ls rs c.args.left c.args.right c.requires.left c.requires.right a b in
-    let two = splat_is_map ps n 2 P.long in
+    let P = pairs g.row.LANES ls rs c.args.left c.args.right c.requires.left c.requires.right a b in
+    let two = splat_is_map ps g.row.LANES 2 P.long in
     let right_zero = tops _ ps (zip2_of_maps _ _ _ ps P.right_are two) in
     let left_zero = tops _ ps (zip2_of_maps _ _ _ ps P.left_are two) in
     let others = chosen _ _ _ ps right_zero two (zip2_of_maps _ _ _ ps P.left_are P.right_are) in

@@ -1,30 +1,22 @@
-use Rattle.std.proofs.Common.{◌≡◌, arith, ◌+◌, List, length, drop, ap, sym, ◌∙◌, subst}
+use Rattle.std.proofs.Common.{◌≡◌, arith, ◌+◌, List, drop, ap, sym, ◌∙◌, subst}
 use Rattle.vhdl_values.specs.declared.scalar.Nine.{Nine}
 use Rattle.rtl_model.specs.bodies.Body as bodies
 use Rattle.rtl_model.specs.bodies.Values.{operation_result, elements_of}
-use Rattle.rtl_model.specs.bodies.Fits.{IsWidth, operated_width, FitsOperands, FitsExpr}
+use Rattle.rtl_model.specs.bodies.Fits.{FitsExpr}
 use Rattle.rtl_net.specs.declared.body.Expr.{Expr}
 use Rattle.rtl_net.specs.declared.body.Link.{Link}
 use Rattle.rtl_net.specs.Bodies.{operator_view, expr_view, links_of}
 use Rattle.rtl_net.proofs.Rows.{view_chain}
 use Rattle.rtl_eval.specs.Seeing.{seen_of, Within}
-use Rattle.rtl_eval.proofs.Chains.{within-map, same_value, fits_first, fits_reduced, operands_fit, rest_at, chain_at, within_link, within_first, within_rest}
-use Rattle.rtl_eval.proofs.Weights.{weight, links_weight, chain_weight, link_lighter}
+use Rattle.rtl_eval.proofs.Chains.{within-map, same_value, fits_reduced, link_fits, rest_at, chain_at, within_link, within_first, within_rest}
+use Rattle.rtl_eval.proofs.Weights.{weight, links_weight, operand_weight, chain_weight}
+use Rattle.rtl_eval.proofs.Totals.{lighter}
 use Rattle.rtl_eval.proofs.expressions.+expression.Goals as goal
 
-pub chain-operate-left-requires-clause-operands : goal.chain-operate-left-requires-clause-operands
-chain-operate-left-requires-clause-operands t c =
-    let x = c.link-item.result in
-    let now = chain_at (seen_of c.args.seen) c.loop-link.left c.args.links.now c.loop-link.link-index x c.loop-link-test.true c.link-item.is c.loop-link.invariant.1 in
-    let fit = operands_fit (seen_of c.args.seen) now.scope (operator_view x.operator) (bodies.constant c.loop-link.left) (expr_view x.operand) (fits_first now.scope (bodies.binary (operator_view x.operator) (bodies.constant c.loop-link.left) (expr_view x.operand)) (drop (c.loop-link.link-index + 1) c.args.links.now) now.fits) in
-    subst (λ (v : List Nine). FitsOperands (operator_view x.operator) (length c.loop-link.left) (length v)) (sym c.value.ensures) fit.0
-
-pub chain-operate-left-requires-clause-width : goal.chain-operate-left-requires-clause-width
-chain-operate-left-requires-clause-width t c =
-    let x = c.link-item.result in
-    let now = chain_at (seen_of c.args.seen) c.loop-link.left c.args.links.now c.loop-link.link-index x c.loop-link-test.true c.link-item.is c.loop-link.invariant.1 in
-    let fit = operands_fit (seen_of c.args.seen) now.scope (operator_view x.operator) (bodies.constant c.loop-link.left) (expr_view x.operand) (fits_first now.scope (bodies.binary (operator_view x.operator) (bodies.constant c.loop-link.left) (expr_view x.operand)) (drop (c.loop-link.link-index + 1) c.args.links.now) now.fits) in
-    subst (λ (v : List Nine). IsWidth (operated_width (operator_view x.operator) (length c.loop-link.left) (length v))) (sym c.value.ensures) fit.1
+pub chain-operate-left-requires : goal.chain-operate-left-requires
+chain-operate-left-requires t c =
+    let fit = link_fits (seen_of c.args.seen) c.loop-link.left c.args.links.now c.loop-link.link-index c.link-item.result c.loop-link-test.true c.link-item.is c.loop-link.invariant.1 c.value.ensures in
+    record { operands = fit.0; width = fit.1 }
 
 pub chain-loop-link-preserved : goal.chain-loop-link-preserved
 chain-loop-link-preserved t c =
@@ -57,7 +49,7 @@ value-returns-in-Chain t c =
 pub chain-value-requires : goal.chain-value-requires
 chain-value-requires t c =
     let w = within_link (seen_of c.args.seen) c.loop-link.left c.args.links.now c.loop-link.link-index c.link-item.result c.loop-link.invariant.1 c.loop-link-test.true c.link-item.is in
-    (omega (arith, c.decreases, link_lighter c.args.links.now c.loop-link.link-index c.link-item.result c.loop-link-test.true c.link-item.is), w)
+    (omega (arith, c.decreases, lighter operand_weight c.args.links.now c.loop-link.link-index c.link-item.result c.loop-link-test.true c.link-item.is), w)
 
 pub value-value-requires-in-Chain : goal.value-value-requires-in-Chain
 value-value-requires-in-Chain t c =

@@ -10,24 +10,19 @@ use Rattle.rtl_eval.specs.Running.{seen_by, IsFirstTrue, NoneIsTrue, else_of, me
 use Rattle.rtl_eval.proofs.Doing.{does_assign, places_fit, elements_fit}
 use Rattle.rtl_eval.proofs.Ready.{part, whole, if_ready, if_done, else_ready, else_done, no_else_done, case_ready, case_done, first_ready, rest_ready, all_done, none_left}
 use Rattle.rtl_eval.proofs.Ready.{tests_ready, branch_ready, last_ready, branch_done, last_done, alternative_ready, others_ready, alternative_done, others_done}
-use Rattle.rtl_eval.proofs.StatementWeights.{weight, weight_of, branches_weight, otherwise_weight, alternatives_weight, if_weight, case_weight, lighter, branch_lighter, alternative_lighter}
+use Rattle.rtl_eval.proofs.StatementWeights.{weight, weight_of, branches_weight, otherwise_weight, alternatives_weight, branch_weight, alternative_weight, if_weight, case_weight}
+use Rattle.rtl_eval.proofs.Totals.{lighter, lighter_at}
 use Rattle.rtl_eval.proofs.statements.+statement.Goals as goal
 
 -- ---- assignments
 
-pub run-assign-requires-clause-as_many : goal.run-assign-requires-clause-as_many
-run-assign-requires-clause-as_many t c =
+pub run-assign-requires : goal.run-assign-requires
+run-assign-requires t c =
     let o = c.args.out.now in
     let v = value_view c.in-Assign.value in
     let codes = c.evaluate-value.ensures ∙ ap (λ (seen : Seen). value_of seen v) c.seeing.ensures in
-    (places_fit c.args.nets o (numbers c.in-Assign.places) (codes_of c.evaluate-value.result) v (part c.args.nets o c.args.statement.now (bodies.assign (numbers c.in-Assign.places) v) c.requires (ap statement_view c.in-Assign.is)) codes).0
-
-pub run-assign-requires-clause-there : goal.run-assign-requires-clause-there
-run-assign-requires-clause-there t c =
-    let o = c.args.out.now in
-    let v = value_view c.in-Assign.value in
-    let codes = c.evaluate-value.ensures ∙ ap (λ (seen : Seen). value_of seen v) c.seeing.ensures in
-    (places_fit c.args.nets o (numbers c.in-Assign.places) (codes_of c.evaluate-value.result) v (part c.args.nets o c.args.statement.now (bodies.assign (numbers c.in-Assign.places) v) c.requires (ap statement_view c.in-Assign.is)) codes).1
+    let fit = places_fit c.args.nets o (numbers c.in-Assign.places) (codes_of c.evaluate-value.result) v (part c.args.nets o c.args.statement.now (bodies.assign (numbers c.in-Assign.places) v) c.requires (ap statement_view c.in-Assign.is)) codes in
+    record { as_many = fit.0; there = fit.1 }
 
 pub run-returns-in-Assign : goal.run-returns-in-Assign
 run-returns-in-Assign t c =
@@ -37,19 +32,13 @@ run-returns-in-Assign t c =
     whole c.args.nets o c.args.statement.now (bodies.assign (numbers c.in-Assign.places) v) c.assign.new.out (ap statement_view c.in-Assign.is)
     (does_assign (numbers c.in-Assign.places) (value_of (seen_by c.args.nets o) v) (codes_of c.evaluate-value.result) o c.assign.new.out codes c.assign.ensures)
 
-pub run-set-requires-clause-as_many : goal.run-set-requires-clause-as_many
-run-set-requires-clause-as_many t c =
+pub run-set-requires : goal.run-set-requires
+run-set-requires t c =
     let o = c.args.out.now in
     let v = value_view c.in-Set.value in
     let codes = c.evaluate-value-in-Set.ensures ∙ ap (λ (seen : Seen). value_of seen v) c.seeing-in-Set.ensures in
-    (elements_fit c.args.nets o (numbers c.in-Set.elements) (codes_of c.evaluate-value-in-Set.result) v (part c.args.nets o c.args.statement.now (bodies.set (numbers c.in-Set.elements) v) c.requires (ap statement_view c.in-Set.is)) codes).0
-
-pub run-set-requires-clause-there : goal.run-set-requires-clause-there
-run-set-requires-clause-there t c =
-    let o = c.args.out.now in
-    let v = value_view c.in-Set.value in
-    let codes = c.evaluate-value-in-Set.ensures ∙ ap (λ (seen : Seen). value_of seen v) c.seeing-in-Set.ensures in
-    (elements_fit c.args.nets o (numbers c.in-Set.elements) (codes_of c.evaluate-value-in-Set.result) v (part c.args.nets o c.args.statement.now (bodies.set (numbers c.in-Set.elements) v) c.requires (ap statement_view c.in-Set.is)) codes).1
+    let fit = elements_fit c.args.nets o (numbers c.in-Set.elements) (codes_of c.evaluate-value-in-Set.result) v (part c.args.nets o c.args.statement.now (bodies.set (numbers c.in-Set.elements) v) c.requires (ap statement_view c.in-Set.is)) codes in
+    record { as_many = fit.0; there = fit.1 }
 
 -- ---- an if
 
@@ -71,7 +60,7 @@ run_if-run_all-requires t c =
     let b = c.index-branches-at.result in
     let bs = c.args.branches.now in
     let l : c.in-Some.at < length bs = let h = c.in-Some.ensures.there in omega (arith, h, length-map bs (met_by (seen_of c.seeing.result))) in (
-      omega (arith, c.decreases, branch_lighter bs c.in-Some.at b l, ap weight_of c.deref.ensures.value),
+      omega (arith, c.decreases, lighter_at branch_weight bs c.in-Some.at b l, ap weight_of c.deref.ensures.value),
       branch_ready c.args.nets c.args.out.now (else_of c.args.otherwise.now) bs c.in-Some.at b c.deref.result.now l c.deref.ensures.value c.requires,
     )
 
@@ -122,7 +111,7 @@ run_case-run_all-requires t c =
     let a = c.index-alternatives-at.result in
     let xs = c.args.alternatives.now in
     let l : c.in-Some.at < length xs = let h = c.in-Some.ensures.there in omega (arith, h, length-map xs (chosen_by (codes_of c.args.value.now))) in (
-      omega (arith, c.decreases, alternative_lighter xs c.in-Some.at a l, ap weight_of c.deref.ensures.value),
+      omega (arith, c.decreases, lighter_at alternative_weight xs c.in-Some.at a l, ap weight_of c.deref.ensures.value),
       alternative_ready c.args.nets c.args.out.now (statements_of c.args.others.now) xs c.in-Some.at a c.deref.result.now l c.deref.ensures.value c.requires,
     )
 
@@ -145,7 +134,7 @@ run_all-run-requires t c =
     let x = c.statement-item.result in
     let ss = c.args.statements.now in
     let i = c.loop-statement.statement-index in (
-      omega (arith, c.decreases, lighter ss i x c.loop-statement-test.true c.statement-item.is),
+      omega (arith, c.decreases, lighter weight ss i x c.loop-statement-test.true c.statement-item.is),
       first_ready c.args.nets c.loop-statement.out ss i x c.loop-statement-test.true c.statement-item.is c.loop-statement.invariant.ready,
     )
 

@@ -8,7 +8,8 @@ use Rattle.rtl_net.specs.Bodies.{test_view, test_links_of}
 use Rattle.rtl_net.proofs.Rows.{view_combined}
 use Rattle.rtl_eval.specs.Seeing.{seen_of}
 use Rattle.rtl_eval.proofs.Chains.{within-map, same_met, test_fits_too, test_chain_at, rest_at, test_within_link, test_within_first, test_within_rest}
-use Rattle.rtl_eval.proofs.Weights.{test_weight, test_links_weight, combined_weight, test_link_lighter}
+use Rattle.rtl_eval.proofs.Weights.{test_weight, test_links_weight, tested_weight, combined_weight}
+use Rattle.rtl_eval.proofs.Totals.{lighter}
 use Rattle.rtl_eval.proofs.tests.+condition.Goals as goal
 
 pub is_met-returns-in-Combined : goal.is_met-returns-in-Combined
@@ -41,7 +42,7 @@ chain-loop-link-preserved t c =
 pub chain-is_met-requires : goal.chain-is_met-requires
 chain-is_met-requires t c =
     let w = test_within_link (seen_of c.args.seen) c.loop-link.left c.args.links.now c.loop-link.link-index c.link-item.result c.loop-link.invariant.1 c.loop-link-test.true c.link-item.is in
-    (omega (arith, c.decreases, test_link_lighter c.args.links.now c.loop-link.link-index c.link-item.result c.loop-link-test.true c.link-item.is), w)
+    (omega (arith, c.decreases, lighter tested_weight c.args.links.now c.loop-link.link-index c.link-item.result c.loop-link-test.true c.link-item.is), w)
 
 pub is_met-is_met-requires-in-Combined : goal.is_met-is_met-requires-in-Combined
 is_met-is_met-requires-in-Combined t c =

@@ -1,22 +1,14 @@
-use Rattle.std.proofs.Common.{ap, sym, ◌∙◌}
-use Rattle.vhdl_values.specs.declared.kinds.Edge.{Edge}
-use Rattle.vhdl_values.specs.Edges.{has_edge}
-use Rattle.vhdl_values.specs.Scalar.{value_of_code}
 use Rattle.rtl_eval.proofs.Edged.{rising, falling, to_1, to_0}
 use Rattle.rtl_eval.proofs.tests.is_edge.Goals as goal
 
 pub returns-in-Rising : goal.returns-in-Rising
-returns-in-Rising c = rising c.args.before c.args.now c.ranges.before.fits c.ranges.now.fits
-    ∙ ap (λ (kind : Edge). has_edge kind (value_of_code c.args.before) (value_of_code c.args.now)) (sym c.in-Rising.is)
+returns-in-Rising c = rising c.args.before c.args.now c.ranges.before.fits c.ranges.now.fits c.args.kind c.in-Rising.is
 
 pub returns-in-Falling : goal.returns-in-Falling
-returns-in-Falling c = falling c.args.before c.args.now c.ranges.before.fits c.ranges.now.fits
-    ∙ ap (λ (kind : Edge). has_edge kind (value_of_code c.args.before) (value_of_code c.args.now)) (sym c.in-Falling.is)
+returns-in-Falling c = falling c.args.before c.args.now c.ranges.before.fits c.ranges.now.fits c.args.kind c.in-Falling.is
 
 pub returns-in-To1 : goal.returns-in-To1
-returns-in-To1 c = to_1 c.args.before c.args.now c.ranges.before.fits c.ranges.now.fits
-    ∙ ap (λ (kind : Edge). has_edge kind (value_of_code c.args.before) (value_of_code c.args.now)) (sym c.in-To1.is)
+returns-in-To1 c = to_1 c.args.before c.args.now c.ranges.before.fits c.ranges.now.fits c.args.kind c.in-To1.is
 
 pub returns-in-To0 : goal.returns-in-To0
-returns-in-To0 c = to_0 c.args.before c.args.now c.ranges.before.fits c.ranges.now.fits
-    ∙ ap (λ (kind : Edge). has_edge kind (value_of_code c.args.before) (value_of_code c.args.now)) (sym c.in-To0.is)
+returns-in-To0 c = to_0 c.args.before c.args.now c.ranges.before.fits c.ranges.now.fits c.args.kind c.in-To0.is

@@ -6,7 +6,9 @@ use Rattle.rtl_model.specs.simulation.Moments.{Delta, IsUnsettled, SettlesTo}
 use Rattle.rtl_kernel.specs.kernel.Picked.{HasRunAsPicked, HasDeltasAsPicked}
 use Rattle.rtl_kernel.proofs.Picking as picking
 use Rattle.rtl_kernel.proofs.Settling.{no_delta, none_before, more_deltas, busy_still, settled_here, unsettled_here}
+use Rattle.rtl_kernel.proofs.kernel.Kernel.settle.Given.{Over}
 use Rattle.rtl_kernel.proofs.kernel.Kernel.settle.Goals as goal
+use Rattle.rtl_kernel.proofs.kernel.Kernel.settle.Goals.{After-is_quiet-2}
 
 pub loop-deltas-init : goal.loop-deltas-init
 loop-deltas-init g c =
@@ -40,32 +42,41 @@ returns-then-is_quiet g c =
       picked = I.picked;
     }
 
+-- after as many deltas as are allowed
+module _ (g : Over) (c : After-is_quiet-2 g) where
+  all : c.loop-deltas.deltas ≡ c.args.limit
+  all = omega (arith, c.loop-deltas-test.false, c.loop-deltas.auto.deltas-end)
+
+  picked : HasDeltasAsPicked g.P.Pick.picks (core_netlist (flat c.args.self.now.net)) c.args.limit c.args.pick.now c.loop-deltas.pick c.args.self.now.state c.loop-deltas.self.state
+  picked =
+      subst (λ (k : ℕ). HasDeltasAsPicked g.P.Pick.picks (core_netlist (flat c.args.self.now.net)) k c.args.pick.now c.loop-deltas.pick c.args.self.now.state c.loop-deltas.self.state) all
+      c.loop-deltas.invariant.picked
+
 pub returns-then-is_quiet-2 : goal.returns-then-is_quiet-2
 returns-then-is_quiet-2 g c =
+    let at = (goal.at.returns-then-is_quiet-2 g c).After-is_quiet-2 in
     let net = core_netlist (flat c.args.self.now.net) in
-    let s = c.args.self.now.state in
-    let t = c.loop-deltas.self.state in
     let I = c.loop-deltas.invariant in
-    let all : c.loop-deltas.deltas ≡ c.args.limit = omega (arith, c.loop-deltas-test.false, c.loop-deltas.auto.deltas-end) in
-    let quiet = sym c.is_quiet-2.ensures ∙ c.if-is_quiet-2.true in
     record {
+      settled = (
+        subst (λ (k : ℕ). SettlesTo net c.args.self.now.state k c.loop-deltas.self.state) (all g at)
+            (settled_here net c.args.self.now.state c.loop-deltas.deltas c.loop-deltas.self.state I.deltas I.busy c.requires.ready (sym c.is_quiet-2.ensures ∙ c.if-is_quiet-2.true)),
+        omega arith,
+      );
       net = I.net;
       ready = I.ready;
-      settled = (subst (λ (k : ℕ). SettlesTo net s k t) all (settled_here net s c.loop-deltas.deltas t I.deltas I.busy c.requires.ready quiet), omega arith);
-      picked = subst (λ (k : ℕ). HasDeltasAsPicked g.P.Pick.picks net k c.args.pick.now c.loop-deltas.pick s t) all I.picked;
+      picked = picked g at;
     }
 
 pub returns-else-is_quiet-2 : goal.returns-else-is_quiet-2
 returns-else-is_quiet-2 g c =
     let net = core_netlist (flat c.args.self.now.net) in
-    let s = c.args.self.now.state in
-    let t = c.loop-deltas.self.state in
     let I = c.loop-deltas.invariant in
-    let all : c.loop-deltas.deltas ≡ c.args.limit = omega (arith, c.loop-deltas-test.false, c.loop-deltas.auto.deltas-end) in
-    let busy = sym c.is_quiet-2.ensures ∙ c.if-is_quiet-2.false in
+    let at = (goal.at.returns-else-is_quiet-2 g c).After-is_quiet-2 in
     record {
       net = I.net;
       ready = I.ready;
-      settled = subst (λ (k : ℕ). IsUnsettled net s k t) all (unsettled_here net s c.loop-deltas.deltas t I.deltas I.busy c.requires.ready busy);
-      picked = subst (λ (k : ℕ). HasDeltasAsPicked g.P.Pick.picks net k c.args.pick.now c.loop-deltas.pick s t) all I.picked;
+      settled = subst (λ (k : ℕ). IsUnsettled net c.args.self.now.state k c.loop-deltas.self.state) (all g at)
+          (unsettled_here net c.args.self.now.state c.loop-deltas.deltas c.loop-deltas.self.state I.deltas I.busy c.requires.ready (sym c.is_quiet-2.ensures ∙ c.if-is_quiet-2.false));
+      picked = picked g at;
     }
